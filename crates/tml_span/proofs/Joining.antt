@@ -1,0 +1,30 @@
+-- Cutting a source unit by unit.
+use Rattle.std.proofs.Common.{◌≡◌, ℕ, ◌+◌, ◌-◌, List, [], ◌∷◌, ◌++◌, length, refl, sym, ap, subst, ◌∙◌, append_assoc, arith, length-append}
+use Rattle.std.proofs.lemmas.List.{append-nil, nil_from_length}
+use Rattle.tml_span.specs.Units.{PlainUnit, Kind, text, start_tag, end_tag, SpelledKind, Spelled}
+use Rattle.tml_span.specs.Cutting.{Stops, CutsFrom, Finds}
+
+-- what a cut of the rest does to a cut of the source
+abbrev pub GoesOn : List ℕ → List PlainUnit → ℕ → List ℕ → Type 0
+GoesOn source done place rest = (more : List PlainUnit) (end : List ℕ) → CutsFrom place rest more end → CutsFrom 0 source (done ++ more) end
+
+pub goes_on : (source rest after : List ℕ) (done : List PlainUnit) (place : ℕ) (u : PlainUnit) → GoesOn source done place rest → Finds place rest u after → GoesOn source (done ++ u ∷ []) (place + (length rest - length after)) after
+goes_on source rest after done place u so_far found more end h =
+    let len : length rest - length after ≡ length found.0 = omega (arith, ap length found.1, length-append found.0 after) in
+    rw append_assoc (so_far (u ∷ more) end (found.0, after, found.1, found.2, found.3, subst (λ (n : ℕ). CutsFrom (place + n) after more end) len h))
+
+pub stops_here : (source rest : List ℕ) (done : List PlainUnit) (place : ℕ) → GoesOn source done place rest → Stops place rest → CutsFrom 0 source done rest
+stops_here source rest done place so_far stops = subst (λ (units : List PlainUnit). CutsFrom 0 source units rest) (append-nil done) (so_far [] rest (refl, stops))
+
+no_kind : (place : ℕ) (k : Kind) (front back : List ℕ) → [] ≡ front ++ back → SpelledKind place k front → ⊥
+no_kind place (text t) front back e h = h.1 (nil_from_length _ (omega (arith, ap length h.0, ap length e, length-append front back)))
+no_kind place (start_tag name attrs) front back e h = cc (e ∙ ap (λ (x : List ℕ). x ++ back) h.2)
+no_kind place (end_tag name) front back e h = cc (e ∙ ap (λ (x : List ℕ). x ++ back) h.1)
+
+pub empty_stops : (place : ℕ) → Stops place []
+empty_stops place u front back e h = no_kind place u.kind front back e h.kind
+
+pub whole_here : (source rest : List ℕ) (done : List PlainUnit) (place : ℕ) → GoesOn source done place rest → length rest ≡ 0 → CutsFrom 0 source done []
+whole_here source rest done place so_far none =
+    let nil : rest ≡ [] = nil_from_length rest none in
+    subst (λ (r : List ℕ). CutsFrom 0 source done r) nil (stops_here source rest done place so_far (subst (Stops place) (sym nil) (empty_stops place)))

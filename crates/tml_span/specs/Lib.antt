@@ -1,0 +1,9 @@
+pub mod Bytes
+pub mod Units
+pub mod Cutting
+pub mod Faults
+pub mod Slices
+pub mod View
+pub mod Whole
+pub mod Reader
+pub mod Reading

@@ -1,0 +1,12 @@
+-- A source with all its units.
+use Rattle.std.specs.Prelude.{ℕ, List, [], IsUtf8}
+use Rattle.tml_span.specs.Units.{PlainUnit}
+use Rattle.tml_span.specs.Cutting.{Cuts}
+
+pub record Cutting : Type 0 where
+  pub source : List ℕ
+  pub units : List PlainUnit
+
+-- the source has no fault, and these are all its units
+abbrev pub IsWhole : Cutting → Type 0
+IsWhole c = IsUtf8 c.source × Cuts c.source c.units []

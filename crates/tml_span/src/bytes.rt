@@ -1,0 +1,68 @@
+//! Kinds of bytes, and how long the run of one kind is at the front.
+ghost use Rattle.std.specs.Prelude.{◌≡◌, ◌≤◌, length};
+ghost use Rattle.std.specs.List.{prefix_len};
+ghost use Rattle.tml_span.specs.Bytes as kinds;
+
+/// Space, tab, carriage return or line feed.
+fn is_white(b: u8) -> bool
+    ensures { result ≡ kinds.is_white b }
+{
+    b == b' ' || b == b'\t' || b == b'\r' || b == b'\n'
+}
+
+/// A byte that a name may begin with.
+pub fn is_name_start(b: u8) -> bool
+    ensures { result ≡ kinds.is_name_start b }
+{
+    matches!(b, b'A'..=b'Z' | b'a'..=b'z' | b'_' | b':') || b >= 128
+}
+
+/// A byte that a name may go on with.
+fn is_name_byte(b: u8) -> bool
+    ensures { result ≡ kinds.is_name_byte b }
+{
+    is_name_start(b) || matches!(b, b'0'..=b'9' | b'-' | b'.')
+}
+
+/// A byte of a text.
+pub fn is_text_byte(b: u8) -> bool
+    ensures { result ≡ kinds.is_text_byte b }
+{
+    b != b'<' && b != b'&'
+}
+
+pub fn white_len(bytes: &[u8]) -> usize
+    ensures within { result ≤ length bytes.now }
+    ensures len { result ≡ prefix_len kinds.is_white bytes.now }
+{
+    bytes.iter().take_while(|b| is_white(**b)).count()
+}
+
+pub fn name_len(bytes: &[u8]) -> usize
+    ensures within { result ≤ length bytes.now }
+    ensures len { result ≡ prefix_len kinds.is_name_byte bytes.now }
+{
+    bytes.iter().take_while(|b| is_name_byte(**b)).count()
+}
+
+/// A text is mostly long, so it is searched for the first byte that ends it.
+pub fn text_len(bytes: &[u8]) -> usize
+    ensures within { result ≤ length bytes.now }
+    ensures len { result ≡ prefix_len kinds.is_text_byte bytes.now }
+{
+    match memchr::memchr2(b'<', b'&', bytes) {
+        Some(len) => len,
+        None => bytes.len(),
+    }
+}
+
+/// How long a value is that is closed by that quote.
+pub fn value_len(quote: u8, bytes: &[u8]) -> usize
+    ensures within { result ≤ length bytes.now }
+    ensures len { result ≡ prefix_len (kinds.is_value_byte quote) bytes.now }
+{
+    bytes
+        .iter()
+        .take_while(|b| **b != quote && **b != b'<' && **b != b'&')
+        .count()
+}

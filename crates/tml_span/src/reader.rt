@@ -1,0 +1,82 @@
+//! The units of a source, one by one.
+ghost use Rattle.std.specs.Prelude.{◌≡◌, ◌≢◌, ◌∷◌, ◌++◌, [], ℕ, ◌+◌, ◌<◌, ◌^◌, List as ListOf, length, drop, IfOk, IfErr, OnErr, MatchOption};
+ghost use Rattle.tml_span.specs.Units.{PlainUnit};
+ghost use Rattle.tml_span.specs.Cutting.{Cuts};
+ghost use Rattle.tml_span.specs.Faults.{HasFault};
+ghost use Rattle.tml_span.specs.View.{unit_of};
+
+use crate::Unit;
+use crate::scan::unit_at;
+use std::alloc::Global;
+use std::marker::Model;
+
+/// Why a source is not cut into units whole.
+#[derive(Clone, Copy, Debug, PartialEq, Eq)]
+pub enum Cut {
+    /// The source is not UTF-8: its longest valid front has `place` bytes.
+    NotUtf8 { place: u32 },
+    /// No unit begins at that place.
+    BadMarkup { place: u32 },
+    /// Memory is wanting.
+    Memory,
+}
+
+/// Gives the units of a source one by one, from the first on.
+#[derive(Drop)]
+pub struct UnitReader<'s> {
+    source: &'s [u8],
+    rest: &'s [u8],
+    place: u32,
+}
+
+impl<'s> Model for UnitReader<'s> {
+    ghost use Rattle.std.specs.Prelude.{◌≡◌, ◌+◌, ◌<◌, ◌^◌, length, drop, IsUtf8, List, ℕ};
+    ghost use Rattle.tml_span.specs.Units.{PlainUnit};
+    ghost use Rattle.tml_span.specs.Reader.{Progress, IsProgress};
+
+    ghost Value = { Progress };
+
+    ghost view = { λ a. record { source = a.source.now; place = a.place; rest = a.rest.now } };
+
+    ghost invariant = { λ a. IsProgress (record { source = a.source.now; place = a.place; rest = a.rest.now }) };
+}
+
+impl<'s> UnitReader<'s> {
+    ghost use Rattle.tml_span.specs.Reader.{IsProgress, Gives};
+
+    /// A reader that has given no unit. The source has fewer than 2^32 bytes.
+    pub fn new(source: &'s [u8]) -> Result<UnitReader<'s>, Cut>
+        requires { length source.now < 2 ^ 32 }
+        ensures ok { IfOk result (λ r. (r.source ≡ source.now) × (r.place ≡ 0) × (r.rest ≡ source.now)) }
+        ensures err { IfErr result (λ e. HasFault source.now e) }
+    {
+        if let Err(e) = simdutf8::compat::from_utf8(source) {
+            return Err(Cut::NotUtf8 {
+                place: e.valid_up_to() as u32,
+            });
+        }
+        Ok(UnitReader {
+            source,
+            rest: source,
+            place: 0,
+        })
+    }
+
+    /// The next unit, or none behind the last. A refusal leaves the reader as it is.
+    pub fn pull(&mut self, alloc: Global) -> Result<Option<Unit<'s>>, Cut>
+        ensures gives { Gives self.old self.new result }
+    {
+        if self.rest.is_empty() {
+            return Ok(None);
+        }
+        let Ok(found) = unit_at(alloc, self.place, self.rest) else {
+            return Err(Cut::Memory);
+        };
+        let Some((unit, rest)) = found else {
+            return Err(Cut::BadMarkup { place: self.place });
+        };
+        self.place += (self.rest.len() - rest.len()) as u32;
+        self.rest = rest;
+        Ok(Some(unit))
+    }
+}

@@ -1,0 +1,40 @@
+//! Units and attributes, whose slices are parts of the source.
+use crate::List;
+
+/// The bytes from `start` up to `end`, counted from 0.
+#[derive(Clone, Copy, Debug, PartialEq, Eq)]
+pub struct Span {
+    pub start: u32,
+    pub end: u32,
+}
+
+/// What a value stands between: two `'` or two `"`.
+#[derive(Clone, Copy, Debug, PartialEq, Eq)]
+pub enum Quote {
+    Single,
+    Double,
+}
+
+/// An attribute of a tag. Its span runs from the first byte of the name to past the closing quote.
+#[derive(Clone, Copy)]
+pub struct Attr<'s> {
+    pub name: &'s [u8],
+    pub value: &'s [u8],
+    pub quote: Quote,
+    pub span: Span,
+}
+
+/// A unit of markup, with the bytes that it spans.
+#[derive(Drop)]
+pub enum Unit<'s> {
+    /// A longest run of bytes without markup.
+    Text { span: Span, text: &'s [u8] },
+    /// `<`, a name, attributes, `>`.
+    StartTag {
+        span: Span,
+        name: &'s [u8],
+        attrs: List<Attr<'s>>,
+    },
+    /// `</`, a name, `>`.
+    EndTag { span: Span, name: &'s [u8] },
+}
