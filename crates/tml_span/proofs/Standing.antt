@@ -1,0 +1,66 @@
+-- The slices of units stand in the source.
+use Rattle.std.proofs.Common.{◌≡◌, ℕ, ◌+◌, ◌-◌, List, [], ◌∷◌, ◌++◌, length, take, drop, refl, sym, ap, subst, ◌∙◌, append_assoc, arith, length-append}
+use Rattle.std.specs.Prelude.{slice_range}
+use Rattle.std.specs.List.{AllByRecursion}
+use Rattle.std.proofs.lemmas.List.{take_at, drop_at}
+use Rattle.tml_span.specs.Units.{Attribute, SpelledAttribute, SpelledAttributes, Kind, text, start_tag, end_tag, PlainUnit, SpelledKind, Spelled}
+use Rattle.tml_span.specs.Cutting.{CutsFrom}
+use Rattle.tml_span.specs.Slices.{StandsAt, AttributeStands, KindStands, UnitStands}
+
+-- what stands between two parts of the source stands at the length of the first
+stands : (source before slice after : List ℕ) (place : ℕ) → source ≡ before ++ (slice ++ after) → length before ≡ place → StandsAt source place slice
+stands source before slice after place e len =
+    let at : drop place source ≡ slice ++ after = ap (drop place) e ∙ drop_at before (slice ++ after) place len in
+    let width : place + length slice - place ≡ length slice = omega arith in
+    ap (λ (n : ℕ). take n (drop place source)) width ∙ ap (take (length slice)) at ∙ take_at slice after (length slice) refl
+
+attribute_stands : (before tail front : List ℕ) (place : ℕ) (a : Attribute) → length before ≡ place → SpelledAttribute place a front → AttributeStands (before ++ (front ++ tail)) a
+attribute_stands before tail front place a len h =
+    let closing = a.quote ∷ [] in
+    let valued = a.value ++ closing in
+    let whole : before ++ (front ++ tail) ≡ before ++ ((h.before ++ a.name ++ h.left ++ 61 ∷ h.right ++ a.quote ∷ a.value ++ a.quote ∷ []) ++ tail) = ap (λ (f : List ℕ). before ++ (f ++ tail)) h.whole in
+    let named : before ++ (front ++ tail) ≡ (before ++ h.before) ++ (a.name ++ (h.left ++ (61 ∷ (h.right ++ (a.quote ∷ (a.value ++ (a.quote ∷ tail))))))) = whole ∙ simp append_assoc in
+    let to_value = before ++ h.before ++ a.name ++ h.left ++ 61 ∷ h.right ++ a.quote ∷ [] in
+    let given : before ++ (front ++ tail) ≡ to_value ++ (a.value ++ (a.quote ∷ tail)) = whole ∙ simp append_assoc in
+    let total = simp length-append at (ap length h.whole) in
+    let upto : length to_value ≡ a.end - 1 - length a.value = simp length-append (omega (arith, h.end, total)) in (
+      stands _ _ a.name _ a.start named (length-append before h.before ∙ ap (λ (n : ℕ). n + length h.before) len ∙ sym h.start),
+      stands _ _ a.value _ _ given upto,
+    )
+
+attributes_stand : (source before tail inner : List ℕ) (place : ℕ) (attrs : List Attribute) → source ≡ before ++ (inner ++ tail) → length before ≡ place → SpelledAttributes place attrs inner → AllByRecursion (AttributeStands source) attrs
+attributes_stand source before tail inner place [] e len h = tt
+attributes_stand source before tail inner place (a ∷ attrs) e len h =
+    let first : source ≡ before ++ (h.0 ++ (h.1 ++ tail)) = e ∙ ap (λ (x : List ℕ). before ++ (x ++ tail)) h.2 ∙ ap (λ (x : List ℕ). before ++ x) (append_assoc h.0 h.1 tail) in
+    let others : source ≡ (before ++ h.0) ++ (h.1 ++ tail) = first ∙ sym (append_assoc before h.0 (h.1 ++ tail)) in
+    let longer : length (before ++ h.0) ≡ place + length h.0 = length-append before h.0 ∙ ap (λ (n : ℕ). n + length h.0) len in (
+      subst (λ (s : List ℕ). AttributeStands s a) (sym first) (attribute_stands before (h.1 ++ tail) h.0 place a len h.3),
+      attributes_stand source (before ++ h.0) tail h.1 (place + length h.0) attrs others longer h.4,
+    )
+
+kind_stands : (source before back front : List ℕ) (place : ℕ) (k : Kind) → source ≡ before ++ (front ++ back) → length before ≡ place → SpelledKind place k front → KindStands source place (place + length front) k
+kind_stands source before back front place (text t) e len h = stands source before front back place e len ∙ h.0
+kind_stands source before back front place (start_tag name attrs) e len h =
+    let whole : source ≡ before ++ ((60 ∷ name ++ h.0 ++ h.1 ++ 62 ∷ []) ++ back) = e ∙ ap (λ (f : List ℕ). before ++ (f ++ back)) h.2 in
+    let named : source ≡ (before ++ 60 ∷ []) ++ (name ++ (h.0 ++ (h.1 ++ (62 ∷ back)))) = whole ∙ simp append_assoc in
+    let inside : source ≡ (before ++ 60 ∷ name) ++ (h.0 ++ (h.1 ++ (62 ∷ back))) = whole ∙ simp append_assoc in (
+      stands source _ name _ _ named (omega (arith, len, length-append before (60 ∷ []))),
+      attributes_stand source (before ++ 60 ∷ name) _ h.0 _ attrs inside (omega (arith, len, length-append before (60 ∷ name))) h.4,
+    )
+kind_stands source before back front place (end_tag name) e len h =
+    let whole : source ≡ before ++ ((60 ∷ 47 ∷ name ++ h.0 ++ 62 ∷ []) ++ back) = e ∙ ap (λ (f : List ℕ). before ++ (f ++ back)) h.1 in
+    let named : source ≡ (before ++ 60 ∷ 47 ∷ []) ++ (name ++ (h.0 ++ (62 ∷ back))) = whole ∙ simp append_assoc in
+    stands source _ name _ _ named (omega (arith, len, length-append before (60 ∷ 47 ∷ [])))
+
+-- a unit that is spelled at a place stands there
+pub unit_stands : (source before back front : List ℕ) (place : ℕ) (u : PlainUnit) → source ≡ before ++ (front ++ back) → length before ≡ place → Spelled place u front → UnitStands source u
+unit_stands source before back front place u e len h =
+    subst (λ (p : ℕ × ℕ). KindStands source p.0 p.1 u.kind) (λ i. (sym h.start i, sym h.end i)) (kind_stands source before back front place u.kind e len h.kind)
+
+pub units_stand : (source before bytes rest : List ℕ) (place : ℕ) (units : List PlainUnit) → source ≡ before ++ bytes → length before ≡ place → CutsFrom place bytes units rest → AllByRecursion (UnitStands source) units
+units_stand source before bytes rest place [] e len h = tt
+units_stand source before bytes rest place (u ∷ units) e len h =
+    let first : source ≡ before ++ (h.0 ++ h.1) = e ∙ ap (λ (x : List ℕ). before ++ x) h.2 in
+    let others : source ≡ (before ++ h.0) ++ h.1 = first ∙ sym (append_assoc before h.0 h.1) in
+    let longer : length (before ++ h.0) ≡ place + length h.0 = length-append before h.0 ∙ ap (λ (n : ℕ). n + length h.0) len in
+    (unit_stands source before h.1 h.0 place u first len h.3, units_stand source (before ++ h.0) h.1 rest (place + length h.0) units others longer h.5)

@@ -1,0 +1,15 @@
+use Rattle.std.proofs.Common.{List, ℕ, [], map, refl, subst}
+use Rattle.std.specs.List.{AllByRecursion}
+use Rattle.tml_span.specs.Slices.{UnitStands}
+use Rattle.tml_span.specs.View.{unit_of}
+use Rattle.tml_span.proofs.Standing.{units_stand}
+use Rattle.tml_span.proofs.unit_list.units.Goals as goal
+
+pub returns-in-Ok-None-clause-slices : goal.returns-in-Ok-None-clause-slices
+returns-in-Ok-None-clause-slices c =
+    let reader = c.loop-unit.reader in
+    let units = map unit_of c.loop-unit.units in
+    let gives = rw c.in-Ok-None.field-0-is at c.in-Ok-None.ensures.gives in
+    let whole = gives.1 units c.loop-unit.invariant.given in
+    subst (λ (s : List ℕ). AllByRecursion (UnitStands s) units) c.loop-unit.invariant.source
+    (units_stand reader.source [] reader.source [] 0 units refl refl whole.1)
