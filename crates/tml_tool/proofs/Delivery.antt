@@ -1,0 +1,66 @@
+-- From a reply and its delivery to the outcome of a run.
+use Rattle.std.proofs.Common.{◌≡◌, ◌≢◌, ℕ, ◌<◌, Bool, true, false, List, [], ◌∷◌, ◌++◌, length, take, sym, ap, subst, ◌∙◌, refl, arith, inl, inr, Option, Some, None, Result, Ok, Err}
+use Rattle.std.specs.Prelude.{OnOk, is_err}
+use Rattle.std.specs.Io.KnownBytes.{Keeps, Appends}
+use Rattle.std.proofs.lemmas.List.{append-nil}
+use Rattle.tml_io.specs.Files.{Files}
+use Rattle.tml_span.specs.Faults.{HasFault, not_utf8, bad_markup}
+use Rattle.tml_span.specs.declared.reader.Cut.{Cut}
+use Rattle.tml_span.specs.declared.reader.Cut.TheVariants as cut
+use Rattle.tml_tool.specs.declared.status.Status.{Status}
+use Rattle.tml_tool.specs.declared.status.Status.TheVariants.{Done, DocFault, Clash, Usage, ReadFault, WriteFault, NoMemory, EvidenceFault, UnknownName, TooLong}
+use Rattle.tml_tool.specs.Words.{Form, spans, names_of}
+use Rattle.tml_tool.specs.Answer.{Answer, SpansAnswer}
+use Rattle.tml_tool.specs.Replies.{Replies, OverBytes, Refuses}
+use Rattle.tml_tool.specs.Written.{Writes, Delivers}
+use Rattle.tml_tool.specs.Outcome.{Outcome}
+use Rattle.tml_tool.specs.Texts as texts
+
+-- what holds on success, of a success
+pub when_ok : {T E : Type 0} (r : Result T E) (P : Type 0) → is_err r ≡ false → OnOk r P → P
+when_ok (Ok x) P e h = h
+when_ok (Err x) P e h = absurd cc
+
+-- the reply to a document with a fault
+pub refused : (doc : List ℕ) (fault : Cut) (status : Status) (out : List ℕ) → HasFault doc fault → Refuses fault status out → OverBytes (SpansAnswer doc) status out
+refused doc (cut.NotUtf8 place) NoMemory out has h = h
+refused doc (cut.NotUtf8 place) status out has h = subst (λ (s : Status). OverBytes (SpansAnswer doc) s out) (sym h.0) (not_utf8 place, has, h.1)
+refused doc (cut.BadMarkup place) NoMemory out has h = h
+refused doc (cut.BadMarkup place) status out has h = subst (λ (s : Status). OverBytes (SpansAnswer doc) s out) (sym h.0) (bad_markup place, has, h.1)
+refused doc cut.Memory NoMemory out has h = h
+refused doc cut.Memory status out has h = absurd h
+
+-- no answer is a fault of writing
+no_write_fault : (told : Option Files) (form : Option Form) (out : List ℕ) → Answer told form WriteFault out → ⊥
+no_write_fault told None out h = absurd cc
+no_write_fault told (Some (spans name)) out h = elim h.2 [ inl long ↦ absurd (cc long.1) | inr within ↦ within.1 ]
+
+-- of an empty text nothing is written
+keeps : (old new : Option (List ℕ)) (text : List ℕ) → text ≡ [] → Appends old new text → Keeps old new
+keeps None new text e h = tt
+keeps (Some xs) None text e h = absurd h
+keeps (Some xs) (Some ys) text e h = h ∙ ap (λ (t : List ℕ). xs ++ t) e ∙ append-nil xs
+
+writes_none : (old new : Option (List ℕ)) (before now : ℕ) (text : List ℕ) → text ≡ [] → Writes old new before now text → Keeps old new
+writes_none old new before now text e h = elim h [ inl whole ↦ keeps old new text e whole | inr less ↦ absurd (let len = ap length e in omega (arith, less.1.1)) ]
+
+done : (told : Option Files) (form : Option Form) (result : Status) (text : List ℕ) (old new : Option (List ℕ)) (before now : ℕ) → Answer told form Done text → Delivers Done text result old new before now → Outcome told form result old new before now
+done told form Done text old new before now h d = (text, h, d)
+done told form WriteFault text old new before now h d = (text, h, d)
+done told form other text old new before now h d = absurd d
+
+refusal : (told : Option Files) (form : Option Form) (status : Status) (text : List ℕ) (old new : Option (List ℕ)) (before now : ℕ) → names_of form ≢ [] → Replies told form status text → (status ≡ Done → ⊥) → Writes old new before now text → Outcome told form status old new before now
+refusal told form ReadFault text old new before now names h other w = (text, (names, h), w)
+refusal told form NoMemory text old new before now names h other w = (text, (names, h), writes_none old new before now text h w)
+refusal told form WriteFault text old new before now names h other w = absurd (no_write_fault told form text h)
+refusal told form Done text old new before now names h other w = absurd (other refl)
+refusal told form status text old new before now names h other w = (text, h, w)
+
+-- a reply to a command that reads files, delivered
+pub delivered : (told : Option Files) (form : Option Form) (status result : Status) (text : List ℕ) (old new : Option (List ℕ)) (before now : ℕ) → names_of form ≢ [] → Replies told form status text → Delivers status text result old new before now → Outcome told form result old new before now
+delivered told form Done result text old new before now names h d = done told form result text old new before now h d
+delivered told form status result text old new before now names h d = subst (λ (s : Status). Outcome told form s old new before now) (sym d.0) (refusal told form status text old new before now names h (λ e. cc e) d.1)
+
+-- usage, delivered
+pub delivered_usage : (told : Option Files) (result : Status) (text : List ℕ) (old new : Option (List ℕ)) (before now : ℕ) → text ≡ texts.usage → Delivers Usage text result old new before now → Outcome told None result old new before now
+delivered_usage told result text old new before now e d = subst (λ (s : Status). Outcome told None s old new before now) (sym d.0) (text, (refl, e), d.1)

@@ -1,0 +1,36 @@
+-- The printed texts.
+use Rattle.std.specs.Prelude.{ℕ, List, ◌++◌, codes, decimal}
+use Rattle.std.specs.List.{flat_map}
+use Rattle.tml_span.specs.Units.{Attribute, Kind, text, start_tag, end_tag, PlainUnit}
+use Rattle.tml_span.specs.Faults.{SourceFault, not_utf8, bad_markup}
+
+abbrev pub attribute_line : Attribute → List ℕ
+attribute_line a = decimal a.start ++ codes " " ++ decimal a.end ++ codes " attribute " ++ a.name ++ codes "\n"
+
+-- the kind, for tags the name, and then a line for each attribute
+abbrev pub kind_text : Kind → List ℕ
+kind_text (text bytes) = codes " text\n"
+kind_text (start_tag name attrs) = codes " start " ++ name ++ codes "\n" ++ flat_map attribute_line attrs
+kind_text (end_tag name) = codes " end " ++ name ++ codes "\n"
+
+abbrev pub unit_lines : PlainUnit → List ℕ
+unit_lines u = decimal u.start ++ codes " " ++ decimal u.end ++ kind_text u.kind
+
+-- a line for each unit, and behind a start tag one for each attribute
+abbrev pub unit_table : List PlainUnit → List ℕ
+unit_table units = flat_map unit_lines units
+
+-- the number of a fault, its name and its place
+abbrev pub fault_line : SourceFault → List ℕ
+fault_line (not_utf8 place) = codes "fault 1 NotUtf8 " ++ decimal place ++ codes "\n"
+fault_line (bad_markup place) = codes "fault 3 BadMarkup " ++ decimal place ++ codes "\n"
+
+-- one line for each command
+abbrev pub usage : List ℕ
+usage = codes "usage:\ntml spans DOC\n"
+
+abbrev pub read_fault : List ℕ
+read_fault = codes "read fault\n"
+
+abbrev pub document_too_long : List ℕ
+document_too_long = codes "too long DOC\n"

@@ -1,0 +1,16 @@
+-- The plain values that the types of the program stand for.
+use Rattle.std.specs.Prelude.{ℕ, List, None, Some}
+use Rattle.std.specs.declared.option.Option.{Option}
+use Rattle.tml_tool.specs.declared.command.Command.{Command}
+use Rattle.tml_tool.specs.declared.command.Command.TheVariants.{Usage, Spans}
+use Rattle.tml_tool.specs.declared.reply.Text.{Text}
+use Rattle.tml_tool.specs.declared.reply.Text.TheVariants.{Fixed, Made}
+use Rattle.tml_tool.specs.Words.{Form, spans}
+
+abbrev pub command_form : Command → Option Form
+command_form Usage = None
+command_form (Spans doc) = Some (spans doc.now)
+
+abbrev pub text_of : Text → List ℕ
+text_of (Fixed bytes) = bytes.now
+text_of (Made bytes) = bytes.items

@@ -1,0 +1,14 @@
+//! The commands of `tml`: what the words ask for, the answer, and its printing.
+#![tactic(auto)]
+
+mod command;
+mod reply;
+mod spans;
+mod status;
+mod table;
+#[cfg(test)]
+mod tests;
+mod top;
+
+pub use status::Status;
+pub use top::run;

@@ -1,0 +1,78 @@
+//! The printed lines of units and faults.
+ghost use Rattle.std.specs.Prelude.{◌≡◌, ◌++◌, codes, decimal, OnOk, IfOk, map};
+ghost use Rattle.std.specs.List.{flat_map};
+ghost use Rattle.tml_span.specs.View.{attribute_of, unit_of};
+ghost use Rattle.tml_tool.specs.Texts as texts;
+
+use itoa::Buffer;
+use std::alloc::{AllocError, Global};
+use tml_span::{Attr, Span, Unit};
+
+fn push_number(out: &mut Vec<u8>, n: u32) -> Result<(), AllocError>
+    ensures { OnOk result (out.new.items ≡ out.old.items ++ decimal n) }
+{
+    let mut buffer = Buffer::new();
+    out.extend_from_slice(buffer.format(n).as_bytes())
+}
+
+fn push_span(out: &mut Vec<u8>, span: Span) -> Result<(), AllocError>
+    ensures { OnOk result (out.new.items ≡ out.old.items ++ (decimal span.start ++ codes " " ++ decimal span.end)) }
+{
+    push_number(out, span.start)?;
+    out.extend_from_slice(b" ")?;
+    push_number(out, span.end)
+}
+
+/// The line of an attribute: its span, `attribute` and its name.
+fn push_attribute(out: &mut Vec<u8>, attr: &Attr) -> Result<(), AllocError>
+    ensures { OnOk result (out.new.items ≡ out.old.items ++ texts.attribute_line (attribute_of attr.now)) }
+{
+    push_span(out, attr.span)?;
+    out.extend_from_slice(b" attribute ")?;
+    out.extend_from_slice(attr.name)?;
+    out.extend_from_slice(b"\n")
+}
+
+fn push_attributes(out: &mut Vec<u8>, attrs: &[Attr]) -> Result<(), AllocError>
+    ensures { OnOk result (out.new.items ≡ out.old.items ++ flat_map texts.attribute_line (map attribute_of attrs.now)) }
+{
+    for attr in attrs {
+        push_attribute(out, attr)?;
+    }
+    Ok(())
+}
+
+/// The lines of a unit: its span, its kind and the name of a tag, and then one for each attribute.
+pub fn push_unit(out: &mut Vec<u8>, unit: &Unit) -> Result<(), AllocError>
+    ensures { OnOk result (out.new.items ≡ out.old.items ++ texts.unit_lines (unit_of unit.now)) }
+{
+    match unit {
+        Unit::Text { span, .. } => {
+            push_span(out, *span)?;
+            out.extend_from_slice(b" text\n")
+        }
+        Unit::StartTag { span, name, attrs } => {
+            push_span(out, *span)?;
+            out.extend_from_slice(b" start ")?;
+            out.extend_from_slice(name)?;
+            out.extend_from_slice(b"\n")?;
+            push_attributes(out, attrs.as_slice())
+        }
+        Unit::EndTag { span, name } => {
+            push_span(out, *span)?;
+            out.extend_from_slice(b" end ")?;
+            out.extend_from_slice(name)?;
+            out.extend_from_slice(b"\n")
+        }
+    }
+}
+
+/// The line of a fault: its number and name, which the front ends with, and its place.
+pub fn fault_line(alloc: Global, front: &[u8], place: u32) -> Result<Vec<u8>, AllocError>
+    ensures { IfOk result (λ out. out.items ≡ front.now ++ decimal place ++ codes "\n") }
+{
+    let mut out = Vec::from_slice(alloc, front)?;
+    push_number(&mut out, place)?;
+    out.extend_from_slice(b"\n")?;
+    Ok(out)
+}

@@ -1,0 +1,1 @@
+//! Worked rows, over the objects in memory.
