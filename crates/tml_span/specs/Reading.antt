@@ -48,4 +48,3 @@ attribute_at place bytes = do
 abbrev pub ReadsAttributes : ℕ → List ℕ → List Attribute → List ℕ → Type 0
 ReadsAttributes place bytes [] rest = (bytes ≡ rest) × (attribute_at place bytes ≡ None)
 ReadsAttributes place bytes (a ∷ attrs) rest = (mid : List ℕ) × (attribute_at place bytes ≡ Some (a, mid)) × ReadsAttributes (place + (length bytes - length mid)) mid attrs rest
-

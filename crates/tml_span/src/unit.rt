@@ -28,7 +28,10 @@ pub struct Attr<'s> {
 #[derive(Drop)]
 pub enum Unit<'s> {
     /// A longest run of bytes without markup.
-    Text { span: Span, text: &'s [u8] },
+    Text {
+        span: Span,
+        text: &'s [u8],
+    },
     /// `<`, a name, attributes, `>`.
     StartTag {
         span: Span,
@@ -36,5 +39,8 @@ pub enum Unit<'s> {
         attrs: List<Attr<'s>>,
     },
     /// `</`, a name, `>`.
-    EndTag { span: Span, name: &'s [u8] },
+    EndTag {
+        span: Span,
+        name: &'s [u8],
+    },
 }

@@ -13,7 +13,7 @@ returns-then-is_empty c =
     let s = c.self.inside in
     let none : length s.rest.now ≡ 0 = grind (arith, nat_tests) in record {
       gives = subst (λ (q : Progress). (q ≡ q) × ((done : List PlainUnit) → HasGiven q done → IsWhole (record { source = q.source; units = done }))) c.self.view_is
-      (refl, gives_all s.source.now s.rest.now s.place c.self.invariant none);
+          (refl, gives_all s.source.now s.rest.now s.place c.self.invariant none);
     }
 
 pub returns-in_default-found : goal.returns-in_default-found
@@ -21,7 +21,7 @@ returns-in_default-found c =
     let s = c.self.inside in
     let some : length s.rest.now ≡ 0 → ⊥ = λ z. grind (arith, nat_tests, z) in record {
       gives = subst (λ (q : Progress). (q ≡ q) × CutFault q.source (bad_markup s.place)) c.self.view_is
-      (refl, gives_fault s.source.now s.rest.now s.place c.self.invariant some (rw c.in_default-found.is at c.in-Ok.ensures.unit));
+          (refl, gives_fault s.source.now s.rest.now s.place c.self.invariant some (rw c.in_default-found.is at c.in-Ok.ensures.unit));
     }
 
 pub invariant_of-self : goal.invariant_of-self
@@ -33,5 +33,5 @@ returns c =
     let r = c.in-Some.rest.now in
     let new = at s.source.now (s.place + (length s.rest.now - length r)) r in record {
       gives = subst (λ (q : Progress). (s.source.now ≡ q.source) × (length r < length q.rest) × ((done : List PlainUnit) → HasGiven q done → HasGiven new (done ++ unit_of c.in-Some.unit ∷ []))) c.self.view_is
-      (refl, rw c.in-Some.is at c.in-Ok.ensures.shorter, gives_unit s.source.now s.rest.now r s.place _ (rw c.in-Some.is at c.in-Ok.ensures.unit));
+          (refl, rw c.in-Some.is at c.in-Ok.ensures.shorter, gives_unit s.source.now s.rest.now r s.place _ (rw c.in-Some.is at c.in-Ok.ensures.unit));
     }
