@@ -1,4 +1,4 @@
-use Rattle.std.proofs.Common.{arith, length, rules, get_or}
+use Rattle.std.proofs.Common.{arith, rules}
 use Rattle.std.proofs.lemmas.Grind.{common_steps}
 use Rattle.tml_io.proofs.Steps.{appends_more}
 use Rattle.tml_io.proofs.whole.write_all.Goals as goal
