@@ -8,7 +8,7 @@ use Rattle.tml_span.specs.Cutting.{Ends, Stops, CutsFrom}
 use Rattle.tml_span.specs.Reading.{after_white, name_at, ReadsAttributes}
 use Rattle.tml_span.proofs.Runs.{some_is, Not, prefix_len_again, white_again, name_again}
 use Rattle.tml_span.proofs.Parts.{attributes_again, one_reading}
-use Rattle.tml_span.proofs.Tags.{no_text, inner_stops, white_stops, no_attribute, start_tag_bytes, end_tag_bytes, slash_no_name}
+use Rattle.tml_span.proofs.TagUnits.{no_text, inner_stops, white_stops, no_attribute, start_tag_bytes, end_tag_bytes, slash_no_name}
 
 -- two fronts of one list with the same rest are one
 fronts : (xs ys back after : List ℕ) → xs ++ back ≡ ys ++ after → back ≡ after → xs ≡ ys

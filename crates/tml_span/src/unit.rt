@@ -24,14 +24,19 @@ pub struct Attr<'s> {
     pub span: Span,
 }
 
-/// A unit of markup, with the bytes that it spans.
+/// A unit of markup, with the bytes that it spans. A `text` is all of its bytes.
 #[derive(Drop)]
 pub enum Unit<'s> {
-    /// A longest run of bytes without markup.
-    Text {
-        span: Span,
-        text: &'s [u8],
-    },
+    /// The bytes EF BB BF at place 0.
+    Bom { span: Span },
+    /// `<?xml`, one white space, a body, and the first `?>` behind that.
+    Declaration { span: Span, text: &'s [u8] },
+    /// `<!DOCTYPE`, one white space, a body without `[`, `<` and `>`, and `>`.
+    Doctype { span: Span, text: &'s [u8] },
+    /// `<!--`, a body, and the first `-->` behind that.
+    Comment { span: Span, text: &'s [u8] },
+    /// A longest run of bytes without `<`.
+    Text { span: Span, text: &'s [u8] },
     /// `<`, a name, attributes, `>`.
     StartTag {
         span: Span,
@@ -39,8 +44,11 @@ pub enum Unit<'s> {
         attrs: List<Attr<'s>>,
     },
     /// `</`, a name, `>`.
-    EndTag {
+    EndTag { span: Span, name: &'s [u8] },
+    /// `<`, a name, attributes, `/>`.
+    EmptyTag {
         span: Span,
         name: &'s [u8],
+        attrs: List<Attr<'s>>,
     },
 }

@@ -2,7 +2,7 @@ use Rattle.std.proofs.Common.{◌≡◌, ◌+◌, ◌≤◌, List, ℕ, ◌++◌
 use Rattle.tml_span.specs.Units.{Attribute}
 use Rattle.tml_span.specs.Reading.{ReadsAttributes}
 use Rattle.tml_span.specs.View.{attribute_of}
-use Rattle.tml_span.proofs.scan.attributes_at.Given as goal
+use Rattle.tml_span.proofs.tags.attributes_at.Given as goal
 
 -- what is read of the rest goes on with what was read
 abbrev pub invariant-loop-attr : goal.invariant-loop-attr

@@ -3,7 +3,7 @@ use Rattle.std.proofs.lemmas.List.{append-nil}
 use Rattle.tml_span.specs.Units.{Attribute}
 use Rattle.tml_span.specs.Reading as reading
 use Rattle.tml_span.specs.View.{attribute_of}
-use Rattle.tml_span.proofs.scan.attributes_at.Goals as goal
+use Rattle.tml_span.proofs.tags.attributes_at.Goals as goal
 
 pub returns-clause-reads : goal.returns-clause-reads
 returns-clause-reads c =

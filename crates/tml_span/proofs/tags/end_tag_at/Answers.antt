@@ -1,7 +1,7 @@
 use Rattle.std.proofs.Common.{sym, ap, ◌∙◌}
 use Rattle.tml_span.specs.Reading.{after_byte}
-use Rattle.tml_span.proofs.Tags.{end_tag_finds, no_name_end_stops, no_close_end_stops}
-use Rattle.tml_span.proofs.scan.end_tag_at.Goals as goal
+use Rattle.tml_span.proofs.TagUnits.{end_tag_finds, no_name_end_stops, no_close_end_stops}
+use Rattle.tml_span.proofs.tags.end_tag_at.Goals as goal
 
 pub returns-in_default-clause-unit : goal.returns-in_default-clause-unit
 returns-in_default-clause-unit c = no_name_end_stops _ _ (sym c.in_default.ensures.reads)

@@ -1,7 +1,7 @@
 use Rattle.std.proofs.Common.{sym, ap, ◌∙◌}
 use Rattle.tml_span.specs.Reading.{after_byte}
-use Rattle.tml_span.proofs.Tags.{start_tag_finds, no_name_stops, no_close_stops, not_slash}
-use Rattle.tml_span.proofs.scan.start_tag_at.Goals as goal
+use Rattle.tml_span.proofs.TagUnits.{start_tag_finds, no_name_stops, no_close_stops, not_slash}
+use Rattle.tml_span.proofs.tags.tag_at.Goals as goal
 
 pub returns-in_default-clause-unit : goal.returns-in_default-clause-unit
 returns-in_default-clause-unit c = no_name_stops _ _ (not_slash c.args.bytes.now c.requires.slash) (sym c.in_default.ensures.reads)

@@ -1,0 +1,78 @@
+//! References in texts and values, and the first that is bad.
+ghost use Rattle.std.specs.Prelude.{◌≡◌, ◌↔◌, ◌<◌, ◌≤◌, ℕ, length, IsTrue, IfSome, MatchOption, map, slice_get, Some};
+ghost use Rattle.std.specs.List.{AllByRecursion};
+ghost use Rattle.tml_span.specs.References.{BeginsReference, IsBadAt, IsBadIn, IsFirst, IsNowhere, IsPlaced, IsWithin, Follows, pieces_of, value_piece};
+ghost use Rattle.tml_span.specs.View.{unit_of, attribute_of};
+
+use crate::bytes::{digits_len, hex_digits_len};
+use crate::{Attr, Unit};
+
+/// Whether the digits in front, of which at least 1 and at most `most` count, are closed by `;`.
+fn is_closed(digits: usize, most: usize, bytes: &[u8]) -> bool
+    requires { digits ≤ length bytes.now }
+    ensures { IsTrue result ↔ ((1 ≤ digits) × (digits ≤ most) × (slice_get bytes.now digits ≡ Some 59)) }
+{
+    1 <= digits && digits <= most && bytes.get(digits) == Some(&b';')
+}
+
+/// Whether a reference stands at the front of the bytes.
+fn begins_reference(bytes: &[u8]) -> bool
+    ensures { IsTrue result ↔ BeginsReference bytes.now }
+{
+    match bytes {
+        [b'&', b'#', b'x', digits @ ..] => is_closed(hex_digits_len(digits), 6, digits),
+        [b'&', b'#', digits @ ..] => is_closed(digits_len(digits), 7, digits),
+        [b'&', b'l', b't', b';', ..] => true,
+        [b'&', b'g', b't', b';', ..] => true,
+        [b'&', b'a', b'm', b'p', b';', ..] => true,
+        [b'&', b'q', b'u', b'o', b't', b';', ..] => true,
+        [b'&', b'a', b'p', b'o', b's', b';', ..] => true,
+        _ => false,
+    }
+}
+
+/// The index of the first `&` with which no reference begins.
+fn bad_reference(bytes: &[u8]) -> Option<usize>
+    ensures first { MatchOption result (IsNowhere (IsBadAt bytes.now)) (IsFirst (IsBadAt bytes.now)) }
+    ensures within { IfSome result (λ index. index < length bytes.now) }
+{
+    let mut index = 0;
+    while let Some(ahead) = memchr::memchr(b'&', &bytes[index..]) {
+        index += ahead;
+        if !begins_reference(&bytes[index..]) {
+            return Some(index);
+        }
+        index += 1;
+    }
+    None
+}
+
+/// The place of the first bad reference in the values of attributes.
+fn bad_value(attrs: &[Attr]) -> Option<u32>
+    requires within { AllByRecursion IsWithin (map attribute_of attrs.now) }
+    requires follows { (low : ℕ) × (high : ℕ) × Follows low (map value_piece (map attribute_of attrs.now)) high }
+    ensures { MatchOption result (IsNowhere (IsBadIn (map value_piece (map attribute_of attrs.now)))) (IsFirst (IsBadIn (map value_piece (map attribute_of attrs.now)))) }
+{
+    for attr in attrs {
+        if let Some(index) = bad_reference(attr.value) {
+            let start = attr.span.end - 1 - attr.value.len() as u32;
+            return Some(start + index as u32);
+        }
+    }
+    None
+}
+
+/// The place of the first bad reference in a unit.
+pub fn bad_reference_in(unit: &Unit) -> Option<u32>
+    requires { IsPlaced (unit_of unit.now) }
+    ensures { MatchOption result (IsNowhere (IsBadIn (pieces_of (unit_of unit.now)))) (IsFirst (IsBadIn (pieces_of (unit_of unit.now)))) }
+{
+    match unit {
+        Unit::Text { span, text } => match bad_reference(text) {
+            Some(index) => Some(span.start + index as u32),
+            None => None,
+        },
+        Unit::StartTag { attrs, .. } | Unit::EmptyTag { attrs, .. } => bad_value(attrs.as_slice()),
+        _ => None,
+    }
+}
