@@ -42,27 +42,41 @@ fn push_attributes(out: &mut Vec<u8>, attrs: &[Attr]) -> Result<(), AllocError>
     Ok(())
 }
 
+/// A span and its kind.
+fn push_line(out: &mut Vec<u8>, span: Span, kind: &[u8]) -> Result<(), AllocError>
+    ensures { OnOk result (out.new.items ≡ out.old.items ++ (decimal span.start ++ codes " " ++ decimal span.end ++ kind.now)) }
+{
+    push_span(out, span)?;
+    out.extend_from_slice(kind)
+}
+
+/// A span, the kind of tag and its name.
+fn push_tag(out: &mut Vec<u8>, span: Span, kind: &[u8], name: &[u8]) -> Result<(), AllocError>
+    ensures { OnOk result (out.new.items ≡ out.old.items ++ (decimal span.start ++ codes " " ++ decimal span.end ++ kind.now ++ name.now ++ codes "\n")) }
+{
+    push_line(out, span, kind)?;
+    out.extend_from_slice(name)?;
+    out.extend_from_slice(b"\n")
+}
+
 /// The lines of a unit: its span, its kind and the name of a tag, and then one for each attribute.
 pub fn push_unit(out: &mut Vec<u8>, unit: &Unit) -> Result<(), AllocError>
     ensures { OnOk result (out.new.items ≡ out.old.items ++ texts.unit_lines (unit_of unit.now)) }
 {
     match unit {
-        Unit::Text { span, .. } => {
-            push_span(out, *span)?;
-            out.extend_from_slice(b" text\n")
-        }
+        Unit::Bom { span } => push_line(out, *span, b" bom\n"),
+        Unit::Declaration { span, .. } => push_line(out, *span, b" declaration\n"),
+        Unit::Doctype { span, .. } => push_line(out, *span, b" doctype\n"),
+        Unit::Comment { span, .. } => push_line(out, *span, b" comment\n"),
+        Unit::Text { span, .. } => push_line(out, *span, b" text\n"),
         Unit::StartTag { span, name, attrs } => {
-            push_span(out, *span)?;
-            out.extend_from_slice(b" start ")?;
-            out.extend_from_slice(name)?;
-            out.extend_from_slice(b"\n")?;
+            push_tag(out, *span, b" start ", name)?;
             push_attributes(out, attrs.as_slice())
         }
-        Unit::EndTag { span, name } => {
-            push_span(out, *span)?;
-            out.extend_from_slice(b" end ")?;
-            out.extend_from_slice(name)?;
-            out.extend_from_slice(b"\n")
+        Unit::EndTag { span, name } => push_tag(out, *span, b" end ", name),
+        Unit::EmptyTag { span, name, attrs } => {
+            push_tag(out, *span, b" empty ", name)?;
+            push_attributes(out, attrs.as_slice())
         }
     }
 }
