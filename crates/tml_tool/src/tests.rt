@@ -100,7 +100,10 @@ fn rows_of_closing_texts(rt: HostRuntime) -> Result<(), Fail> {
         done(b"<!-- a-- -> --->b-->", b"0 16 comment\n16 20 text\n"),
         fault(b"<!--->", b"fault 3 BadMarkup 0\n"),
         fault(b"x<!--a--", b"fault 3 BadMarkup 1\n"),
-        done(b"<?xml ?>?><?xml\t??>", b"0 8 declaration\n8 10 text\n10 19 declaration\n"),
+        done(
+            b"<?xml ?>?><?xml\t??>",
+            b"0 8 declaration\n8 10 text\n10 19 declaration\n",
+        ),
         fault(b"<?xml?>", b"fault 3 BadMarkup 0\n"),
         fault(b"<?xmlx ?>", b"fault 3 BadMarkup 0\n"),
         fault(b"<?php ?>", b"fault 3 BadMarkup 0\n"),
@@ -145,9 +148,15 @@ fn rows_of_bad_markup(rt: HostRuntime) -> Result<(), Fail> {
 #[test]
 fn rows_of_references(rt: HostRuntime) -> Result<(), Fail> {
     let rows = [
-        done(b"&lt;&gt;&amp;&quot;&apos;&#0;&#1234567;&#xAbC9;&#x10FFFF;", b"0 57 text\n"),
+        done(
+            b"&lt;&gt;&amp;&quot;&apos;&#0;&#1234567;&#xAbC9;&#x10FFFF;",
+            b"0 57 text\n",
+        ),
         fault(b"a&b", b"fault 2 BadReference 1\n"),
-        fault(b"<a b=\"&#x1F600;\"/>&#12345678;", b"fault 2 BadReference 18\n"),
+        fault(
+            b"<a b=\"&#x1F600;\"/>&#12345678;",
+            b"fault 2 BadReference 18\n",
+        ),
         fault(b"&#;", b"fault 2 BadReference 0\n"),
         fault(b"&#x;", b"fault 2 BadReference 0\n"),
         fault(b"&#x1234567;", b"fault 2 BadReference 0\n"),
