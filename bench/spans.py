@@ -1,0 +1,128 @@
+#!/usr/bin/env python3
+"""Measures `tml spans` beside `xmllint --noout --huge` on documents of one, two and four MiB.
+
+Prints, for each document and size, the least wall time of five runs of `tml spans` and its peak memory, the
+least wall time of xmllint on the same file, and the ratio of the two times. Where xmllint (Debian's
+libxml2-utils) or GNU time (Debian's time) is missing, its columns stay empty. A run of xmllint that takes
+longer than LIMIT seconds is stopped. Build the program first, as README.md says.
+
+usage: bench/spans.py [PROGRAM]        (PROGRAM is crates/tml/out/tml if left out)
+"""
+
+import itertools
+import os
+import shutil
+import string
+import subprocess
+import sys
+import tempfile
+import time
+
+MIB = 1 << 20
+RUNS = 5
+LIMIT = 10.0
+NULL = subprocess.DEVNULL
+
+FRONT, BACK = b"<a>", b"</a>"
+
+
+def filled(piece, size):
+    """A root element that holds the piece as often as it fits."""
+    count = (size - len(FRONT) - len(BACK)) // len(piece)
+    return FRONT + piece * count + BACK
+
+
+def one_text(size):
+    body = b"The bank said on Wednesday that rates fell before the meeting. "
+    room = size - len(FRONT) - len(BACK)
+    return FRONT + (body * (room // len(body) + 1))[:room] + BACK
+
+
+def shortest_tags(size):
+    return filled(b"<a></a>", size)
+
+
+def one_tag(size):
+    """One start tag with as many attributes as fit, each with a name of its own."""
+    letters = string.ascii_letters + "_"
+    names = ("".join(t) for n in itertools.count(1) for t in itertools.product(letters, repeat=n))
+    parts, room = [b"<a"], size - len(b"<a></a>")
+    for name in names:
+        part = b' %s=""' % name.encode()
+        if len(part) > room:
+            break
+        parts.append(part)
+        room -= len(part)
+    return b"".join(parts) + b">" + BACK
+
+
+def comments_and_references(size):
+    return filled(b"<!---->&lt;", size)
+
+
+DOCUMENTS = [one_text, shortest_tags, one_tag, comments_and_references]
+
+
+def run(words):
+    """The wall time of one run in seconds, or None where it took longer than LIMIT."""
+    begin = time.perf_counter()
+    try:
+        subprocess.run(words, stdin=NULL, stdout=NULL, stderr=NULL, timeout=LIMIT, check=False)
+    except subprocess.TimeoutExpired:
+        return None
+    return time.perf_counter() - begin
+
+
+def least(words):
+    """The least time of some runs, or None where one took too long."""
+    times = []
+    for _ in range(RUNS):
+        times.append(run(words))
+        if times[-1] is None:
+            return None
+    return min(times)
+
+
+def peak_memory(words):
+    """The peak memory in KiB by GNU time, or None where that is missing."""
+    gnu_time = shutil.which("time")
+    if gnu_time is None:
+        return None
+    told = subprocess.run([gnu_time, "-f", "%M"] + words, stdin=NULL, stdout=NULL, stderr=subprocess.PIPE, check=False)
+    return int(told.stderr.split()[-1])
+
+
+def shown(number, form):
+    return "" if number is None else format(number, form)
+
+
+def main():
+    here = os.path.dirname(os.path.abspath(__file__))
+    program = sys.argv[1] if len(sys.argv) > 1 else os.path.join(here, "..", "crates", "tml", "out", "tml")
+    xmllint = shutil.which("xmllint")
+    print(f"{'document':24} {'MiB':>3} {'tml ms':>8} {'KiB':>7} {'B/byte':>6} {'xmllint ms':>10} {'ratio':>5}")
+    with tempfile.TemporaryDirectory() as folder:
+        path = os.path.join(folder, "document")
+        for make in DOCUMENTS:
+            for size in (1, 2, 4):
+                with open(path, "wb") as file:
+                    file.write(make(size * MIB))
+                words = [program, "spans", path]
+                ours, memory, theirs, ratio = least(words), peak_memory(words), None, None
+                if ours is None:
+                    sys.exit(f"{program} took longer than {LIMIT} s")
+                told = ""
+                if xmllint:
+                    theirs = least([xmllint, "--noout", "--huge", path])
+                    told = f">{LIMIT * 1e3:.0f}" if theirs is None else f"{theirs * 1e3:.1f}"
+                    ratio = None if theirs is None else ours / theirs
+                per_byte = None if memory is None else memory / (size * 1024)
+                print(
+                    f"{make.__name__:24} {size:3} {ours * 1e3:8.1f} {shown(memory, '7')} "
+                    f"{shown(per_byte, '6.1f')} {told:>10} {shown(ratio, '5.2f')}",
+                    flush=True,
+                )
+
+
+if __name__ == "__main__":
+    main()
