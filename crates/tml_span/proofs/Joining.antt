@@ -1,7 +1,7 @@
 -- Cutting a source unit by unit.
 use Rattle.std.proofs.Common.{◌≡◌, ℕ, ◌+◌, ◌-◌, List, [], ◌∷◌, ◌++◌, length, refl, sym, ap, subst, ◌∙◌, append_assoc, arith, length-append}
 use Rattle.std.proofs.lemmas.List.{append-nil, nil_from_length}
-use Rattle.tml_span.specs.Units.{PlainUnit, Kind, bom, SpelledKind, Spelled}
+use Rattle.tml_span.specs.Units.{PlainUnit, Kind, bom, SpelledKind}
 use Rattle.tml_span.specs.Cutting.{Stops, CutsFrom, Finds}
 use Rattle.tml_span.proofs.Leads.{lead, lead_of, leads, nothing}
 

@@ -1,18 +1,17 @@
 -- Texts and tags: what is read is spelled so, and where nothing is read no unit begins.
-use Rattle.std.proofs.Common.{get_or, one-add, add-one, ◌≡◌, ◌≢◌, ℕ, ◌+◌, ◌-◌, ◌<◌, ◌≤◌, Bool, true, false, cond, eqb, List, [], ◌∷◌, ◌++◌, length, take, drop, refl, sym, ap, subst, ◌∙◌, append_assoc, arith, Option, Some, None, length-append, length-take}
+use Rattle.std.proofs.Common.{get_or, add-one, ◌≡◌, ◌≢◌, ℕ, ◌+◌, ◌-◌, ◌<◌, Bool, true, false, cond, List, [], ◌∷◌, ◌++◌, length, take, drop, refl, sym, ap, subst, ◌∙◌, append_assoc, arith, Some, None, length-append, length-take}
 use Rattle.std.specs.Prelude.{nat_eq, codes}
 use Rattle.std.specs.List.{prefix_len, list_all, starts_with}
-use Rattle.std.proofs.lemmas.Bool.{eqb-true}
 use Rattle.std.proofs.lemmas.Bool.Decides.{nat_tests, Decides-eqb}
 use Rattle.std.proofs.lemmas.List.{take-append-drop}
 use Rattle.std.proofs.lemmas.Slice.Eq.{starts_is}
-use Rattle.tml_span.specs.Bytes.{is_white, is_text_byte, is_name_start, is_name_byte, is_name}
-use Rattle.tml_span.specs.Units.{Attribute, SpelledAttribute, SpelledAttributes, Kind, bom, declaration, doctype, comment, text, start_tag, end_tag, empty_tag, PlainUnit, SpelledTag, bom_bytes, BeginsWith, SpelledKind, Spelled}
+use Rattle.tml_span.specs.Bytes.{is_white, is_text_byte, is_name_start, is_name_byte}
+use Rattle.tml_span.specs.Units.{Attribute, SpelledAttribute, SpelledAttributes, Kind, bom, text, start_tag, end_tag, empty_tag, SpelledTag, bom_bytes, BeginsWith, SpelledKind}
 use Rattle.tml_span.specs.Cutting.{Ends, Stops, Finds}
-use Rattle.tml_span.specs.Reading.{◌>>=◌, run_at, after_white, after_byte, name_at, attribute_at, ReadsAttributes}
-use Rattle.tml_span.proofs.Runs.{both, when, some_is, Not, front_passes, rest_stops, white_again, white_takes, name_takes, name_again}
-use Rattle.tml_span.proofs.Parts.{byte_takes, attribute_text, white_no_name, attributes_take, attributes_again, one_reading}
-use Rattle.tml_span.proofs.Leads.{Lead, plain, ending, opening, lead, lead_of, leads, tag_parts}
+use Rattle.tml_span.specs.Reading.{after_white, after_byte, name_at, attribute_at, ReadsAttributes}
+use Rattle.tml_span.proofs.Runs.{both, some_is, Not, front_passes, rest_stops, white_again, white_takes, name_takes, name_again}
+use Rattle.tml_span.proofs.Parts.{attribute_text, white_no_name, attributes_take, attributes_again, one_reading}
+use Rattle.tml_span.proofs.Leads.{ending, opening, lead, lead_of, leads, tag_parts}
 
 -- a spelling is found, and its end is counted from what is left
 pub spelled_finds : (place : ℕ) (bytes front rest : List ℕ) (k : Kind) → bytes ≡ front ++ rest → SpelledKind place k front → Ends k rest → Finds place bytes (record { start = place; end = place + (length bytes - length rest); kind = k }) rest
@@ -199,7 +198,7 @@ pub record ReadsEndTag (bytes name rest : List ℕ) : Type 0 where
   pub closed : after_white mid ≡ 62 ∷ rest
 
 -- the parts of an end tag, and what follows it
-end_tag_parts : (front back name white : List ℕ) → front ≡ 60 ∷ 47 ∷ name ++ white ++ 62 ∷ [] → front ++ back ≡ 60 ∷ 47 ∷ (name ++ (white ++ 62 ∷ back))
+pub end_tag_parts : (front back name white : List ℕ) → front ≡ 60 ∷ 47 ∷ name ++ white ++ 62 ∷ [] → front ++ back ≡ 60 ∷ 47 ∷ (name ++ (white ++ 62 ∷ back))
 end_tag_parts front back name white e = ap (λ (x : List ℕ). x ++ back) e ∙ simp append_assoc
 
 pub end_tag_again : (place : ℕ) (bytes name front back : List ℕ) → 60 ∷ 47 ∷ bytes ≡ front ++ back → SpelledKind place (end_tag name) front → ReadsEndTag bytes name back
