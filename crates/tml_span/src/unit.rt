@@ -28,15 +28,29 @@ pub struct Attr<'s> {
 #[derive(Drop)]
 pub enum Unit<'s> {
     /// The bytes EF BB BF at place 0.
-    Bom { span: Span },
+    Bom {
+        span: Span,
+    },
     /// `<?xml`, one white space, a body, and the first `?>` behind that.
-    Declaration { span: Span, text: &'s [u8] },
+    Declaration {
+        span: Span,
+        text: &'s [u8],
+    },
     /// `<!DOCTYPE`, one white space, a body without `[`, `<` and `>`, and `>`.
-    Doctype { span: Span, text: &'s [u8] },
+    Doctype {
+        span: Span,
+        text: &'s [u8],
+    },
     /// `<!--`, a body, and the first `-->` behind that.
-    Comment { span: Span, text: &'s [u8] },
+    Comment {
+        span: Span,
+        text: &'s [u8],
+    },
     /// A longest run of bytes without `<`.
-    Text { span: Span, text: &'s [u8] },
+    Text {
+        span: Span,
+        text: &'s [u8],
+    },
     /// `<`, a name, attributes, `>`.
     StartTag {
         span: Span,
@@ -44,7 +58,10 @@ pub enum Unit<'s> {
         attrs: List<Attr<'s>>,
     },
     /// `</`, a name, `>`.
-    EndTag { span: Span, name: &'s [u8] },
+    EndTag {
+        span: Span,
+        name: &'s [u8],
+    },
     /// `<`, a name, attributes, `/>`.
     EmptyTag {
         span: Span,
