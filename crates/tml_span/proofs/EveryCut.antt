@@ -1,5 +1,5 @@
 -- Every source has a cut.
-use Rattle.std.proofs.Common.{◌≡◌, ◌⊎◌, inl, inr, ℕ, zero, suc, ◌+◌, ◌≤◌, ◌<◌, Bool, true, false, cond, List, [], ◌∷◌, ◌++◌, length, refl, sym, ap, subst, ◌∙◌, arith, length-append}
+use Rattle.std.proofs.Common.{◌≡◌, ◌⊎◌, inl, inr, ℕ, zero, suc, ◌+◌, ◌≤◌, ◌<◌, Bool, true, false, cond, List, [], ◌∷◌, length, refl, sym, ap, subst, arith, length-append}
 use Rattle.std.specs.Prelude.{nat_eq, codes}
 use Rattle.std.specs.List.{starts_with}
 use Rattle.std.proofs.lemmas.Bool.{eqb-true}
@@ -66,11 +66,11 @@ every_cut_from zero place [] h = ([], ([], (refl, empty_stops place)))
 every_cut_from zero place (b ∷ bytes) h = absurd (omega arith)
 every_cut_from (suc fuel) place bytes h = elim (unit_or_none place bytes) [
   | inl found ↦
-    let u = found.0 in
-    let rest = found.1.0 in
-    let finds = found.1.1 in
-    let shorter : length rest ≤ fuel = omega (arith, ap length finds.1, length-append finds.0 rest, spelling_some place u finds.0 finds.2) in
-    let others = every_cut_from fuel (place + length finds.0) rest shorter in
-    (u ∷ others.0, (others.1.0, (finds.0, rest, finds.1, finds.2, finds.3, others.1.1)))
+      let u = found.0 in
+      let rest = found.1.0 in
+      let finds = found.1.1 in
+      let shorter : length rest ≤ fuel = omega (arith, ap length finds.1, length-append finds.0 rest, spelling_some place u finds.0 finds.2) in
+      let others = every_cut_from fuel (place + length finds.0) rest shorter in
+      (u ∷ others.0, (others.1.0, (finds.0, rest, finds.1, finds.2, finds.3, others.1.1)))
   | inr stops ↦ ([], (bytes, (refl, stops)))
 ]

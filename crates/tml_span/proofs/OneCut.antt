@@ -1,10 +1,10 @@
 -- One source has one cut.
-use Rattle.std.proofs.Common.{◌≡◌, ◌≢◌, ℕ, ◌+◌, true, false, List, [], ◌∷◌, ◌++◌, length, take, refl, sym, ap, subst, ◌∙◌, arith, length-append}
+use Rattle.std.proofs.Common.{◌≡◌, ◌≢◌, ℕ, ◌+◌, true, List, [], ◌∷◌, ◌++◌, length, take, refl, sym, ap, subst, ◌∙◌, arith, length-append}
 use Rattle.std.proofs.lemmas.List.{take_at, append_cancel_left}
 use Rattle.tml_span.specs.Bytes.{is_text_byte}
 use Rattle.tml_span.specs.Units.{Kind, bom, declaration, doctype, comment, text, start_tag, end_tag, empty_tag, PlainUnit, bom_bytes, BeginsWith, SpelledKind, Spelled}
-use Rattle.tml_span.specs.Cutting.{Ends, Stops, CutsFrom}
-use Rattle.tml_span.proofs.Leads.{plain, ending, remark, decree, query, opening, lead, lead_of, leads}
+use Rattle.tml_span.specs.Cutting.{Ends, CutsFrom}
+use Rattle.tml_span.proofs.Leads.{plain, ending, remark, decree, query, lead, lead_of, leads}
 use Rattle.tml_span.proofs.TagCuts.{one_text, one_end_tag, one_tag}
 use Rattle.tml_span.proofs.EnclosedCuts.{one_comment, one_declaration, one_doctype}
 

@@ -1,9 +1,9 @@
 -- The pieces of a unit stand within its span.
-use Rattle.std.proofs.Common.{◌≡◌, ℕ, ◌+◌, ◌-◌, ◌<◌, ◌≤◌, List, [], ◌∷◌, ◌++◌, length, map, refl, sym, ap, subst, ◌∙◌, arith, length-append}
+use Rattle.std.proofs.Common.{ℕ, ◌+◌, ◌-◌, ◌<◌, ◌≤◌, List, [], ◌∷◌, length, map, sym, ap, subst, ◌∙◌, arith, length-append}
 use Rattle.std.specs.List.{AllByRecursion}
 use Rattle.tml_span.specs.Units.{Attribute, SpelledAttribute, SpelledAttributes, Kind, bom, declaration, doctype, comment, text, start_tag, end_tag, empty_tag, SpelledTag, PlainUnit, SpelledKind, Spelled}
 use Rattle.tml_span.specs.Cutting.{Finds}
-use Rattle.tml_span.specs.References.{value_piece, kind_pieces, pieces_of, kind_attributes, IsBadIn, Follows, IsWithin, IsPlaced}
+use Rattle.tml_span.specs.References.{value_piece, kind_pieces, kind_attributes, Follows, IsWithin, IsPlaced}
 
 -- a value stands between its place and the closing quote
 value_before_end : (place : ℕ) (a : Attribute) (bytes : List ℕ) → SpelledAttribute place a bytes → place + length a.value < a.end

@@ -1,12 +1,13 @@
 -- A reader of units, one unit further.
-use Rattle.std.proofs.Common.{◌≡◌, ◌≢◌, ◌⊎◌, inl, inr, ℕ, ◌+◌, ◌-◌, ◌<◌, ◌≤◌, List, [], ◌∷◌, ◌++◌, length, sym, ap, subst, ◌∙◌, refl, arith, length-append}
-use Rattle.tml_span.specs.Units.{PlainUnit, Spelled}
+use Rattle.std.proofs.Common.{◌≡◌, inl, inr, ℕ, ◌+◌, ◌-◌, ◌<◌, ◌≤◌, List, [], ◌∷◌, ◌++◌, length, ap, arith}
+use Rattle.tml_span.specs.Units.{PlainUnit}
 use Rattle.tml_span.specs.Cutting.{Stops, CutsFrom, Finds}
-use Rattle.tml_span.specs.References.{Piece, pieces_of, IsBadAt, IsBadIn, IsBad, IsFirst, IsNowhere, Follows, IsPlaced}
+use Rattle.tml_span.specs.References.{pieces_of, IsBadIn, IsBad, IsFirst, IsNowhere}
 use Rattle.tml_span.specs.Faults.{CutFault, bad_markup, bad_reference}
 use Rattle.tml_span.specs.Whole.{IsWhole}
 use Rattle.tml_span.specs.Reader.{Progress, HasGiven, IsProgress}
 use Rattle.tml_span.proofs.Joining.{goes_on, stops_here, whole_here}
+use Rattle.tml_span.proofs.FirstBad.{bad_in_from, bad-append, bad-append_right}
 use Rattle.tml_span.proofs.Placing.{placed}
 use Rattle.tml_span.proofs.EveryCut.{every_cut_from}
 
@@ -21,34 +22,10 @@ gives_all source rest place p none done given = (p.utf8, whole_here source rest 
 pub gives_fault : (source rest : List ℕ) (place : ℕ) → IsProgress (at source place rest) → (length rest ≡ 0 → ⊥) → Stops place rest → CutFault source (bad_markup place)
 gives_fault source rest place p some stops = (p.utf8, p.given.0, rest, stops_here source rest p.given.0 place p.given.1.cuts stops, p.given.1.sound, (λ e. some (ap length e)), p.place)
 
--- what is bad in units behind others is bad in the ones or the others
-bad_append : (us vs : List PlainUnit) (place : ℕ) → IsBad (us ++ vs) place → IsBad us place ⊎ IsBad vs place
-bad_append [] vs place h = inr h
-bad_append (u ∷ us) vs place (inl h) = inl (inl h)
-bad_append (u ∷ us) vs place (inr h) = elim (bad_append us vs place h) [ inl a ↦ inl (inr a) | inr b ↦ inr b ]
-
-bad_behind : (us vs : List PlainUnit) (place : ℕ) → IsBad vs place → IsBad (us ++ vs) place
-bad_behind [] vs place h = h
-bad_behind (u ∷ us) vs place h = inr (bad_behind us vs place h)
-
-follows_up : (low high : ℕ) (pieces : List Piece) → Follows low pieces high → low ≤ high
-follows_up low high [] f = f
-follows_up low high (piece ∷ pieces) f = omega (arith, f.0, follows_up (piece.0 + length piece.1) high pieces f.1)
-
--- what is bad in pieces stands within them
-bad_within : (low high : ℕ) (pieces : List Piece) (place : ℕ) → Follows low pieces high → IsBadIn pieces place → (low ≤ place) × (place ≤ high)
-bad_within low high [] place f h = absurd h
-bad_within low high (piece ∷ pieces) place f (inl h) =
-    let b = h.1 in
-    let up = follows_up (piece.0 + length piece.1) high pieces f.1 in
-    (omega (arith, h.2, f.0), omega (arith, h.2, b.index_is, ap length b.whole, length-append b.front (38 ∷ b.back), up))
-bad_within low high (piece ∷ pieces) place f (inr h) =
-    let rest = bad_within (piece.0 + length piece.1) high pieces place f.1 h in
-    (omega (arith, f.0, rest.0), rest.1)
-
+-- one unit more is given, where no reference in it is bad
 pub gives_unit : (source rest after : List ℕ) (place : ℕ) (u : PlainUnit) → Finds place rest u after → IsNowhere (IsBadIn (pieces_of u)) → (done : List PlainUnit) → HasGiven (at source place rest) done → HasGiven (at source (place + (length rest - length after)) after) (done ++ u ∷ [])
 gives_unit source rest after place u found good done given = record {
-  sound = λ bad h. elim (bad_append done (u ∷ []) bad h) [ inl old ↦ given.sound bad old | inr new ↦ elim new [ inl here ↦ good bad here | inr none ↦ none ] ];
+  sound = λ bad h. elim (bad-append done (u ∷ []) bad h) [ inl old ↦ given.sound bad old | inr new ↦ elim new [ inl here ↦ good bad here | inr none ↦ none ] ];
   cuts = λ more end h. goes_on source rest after done place u given.cuts found more end h;
 }
 
@@ -65,7 +42,7 @@ bad_later : (place : ℕ) (bytes : List ℕ) (units : List PlainUnit) (rest : Li
 bad_later place bytes [] rest h bad b = absurd b
 bad_later place bytes (u ∷ units) rest h bad (inl b) =
     let spelled = h.3 in
-    omega (arith, spelled.start, (bad_within u.start u.end (pieces_of u) bad (placed place u h.0 spelled).follows b).0)
+    omega (arith, spelled.start, (bad_in_from (pieces_of u) u.start u.end bad (placed place u h.0 spelled).follows b).0)
 bad_later place bytes (u ∷ units) rest h bad (inr b) = omega (arith, bad_later (place + length h.0) h.1 units rest h.5 bad b)
 
 -- the first bad reference of a unit is that of the source, where none is bad before it
@@ -76,12 +53,12 @@ gives_bad_reference source rest after place u bad p found first =
     let others = every_cut_from (length after) (place + length front) after (omega arith) in
     let units = u ∷ others.0 in
     let cut = p.given.1.cuts units others.1.0 (front, after, found.1, found.2, found.3, others.1.1) in
-    let upto = (bad_within u.start u.end (pieces_of u) bad (placed place u front found.2).follows first.0).1 in
-    let least : (other : ℕ) → IsBad (done ++ units) other → bad ≤ other = λ other h. elim (bad_append done units other h) [
+    let upto = (bad_in_from (pieces_of u) u.start u.end bad (placed place u front found.2).follows first.0).1 in
+    let least : (other : ℕ) → IsBad (done ++ units) other → bad ≤ other = λ other h. elim (bad-append done units other h) [
       | inl old ↦ absurd (p.given.1.sound other old)
       | inr new ↦ elim new [
         | inl here ↦ first.1 other here
         | inr later ↦ omega (arith, upto, found.2.end, bad_later (place + length front) after others.0 others.1.0 others.1.1 other later)
       ]
     ] in
-    (p.utf8, done ++ units, others.1.0, cut, (bad_behind done units bad (inl first.0), least))
+    (p.utf8, done ++ units, others.1.0, cut, (bad-append_right done units bad (inl first.0), least))
