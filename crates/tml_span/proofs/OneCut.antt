@@ -18,6 +18,12 @@ fronts xs ys back after e b =
 backs : (xs ys back after : List ℕ) → xs ++ back ≡ ys ++ after → xs ≡ ys → back ≡ after
 backs xs ys back after e f = append_cancel_left ys back after (ap (λ (x : List ℕ). x ++ back) (sym f) ∙ e)
 
+-- where the spellings are one, the units and what follows them are
+same_kind : (kind : List ℕ → Kind) (t s front back ahead after : List ℕ) → front ++ back ≡ ahead ++ after → front ≡ t → ahead ≡ s → (t ++ back ≡ s ++ after → t ≡ s) → (kind t ≡ kind s) × (back ≡ after)
+same_kind kind t s front back ahead after e f a one =
+    let same = one (ap (λ (x : List ℕ). x ++ back) (sym f) ∙ e ∙ ap (λ (x : List ℕ). x ++ after) a) in
+    (ap kind same, backs front ahead back after e (f ∙ same ∙ sym a))
+
 -- ---- the Bom and texts
 
 -- a text is not ended by a byte of a text
@@ -47,17 +53,10 @@ with_bom place j front back ahead after l e h g n = absurd cc
 with_text : (place : ℕ) (t : List ℕ) (j : Kind) (front back ahead after : List ℕ) → plain ≡ lead_of j → front ++ back ≡ ahead ++ after → SpelledKind place (text t) front → Ends (text t) back → SpelledKind place j ahead → Ends j after → (text t ≡ j) × (back ≡ after)
 with_text place t bom front back ahead after l e h m g n = absurd (no_text place t ahead after front back (sym e) g h m)
 with_text place t (text s) front back ahead after l e h m g n =
-    let one = one_text t s back after (ap (λ (x : List ℕ). x ++ back) (sym h.0) ∙ e ∙ ap (λ (x : List ℕ). x ++ after) g.0) h.2 g.2 m n in
-    (ap (λ (x : List ℕ). text x) one, backs front ahead back after e (h.0 ∙ one ∙ sym g.0))
+    same_kind (λ (x : List ℕ). text x) t s front back ahead after e h.0 g.0 (λ e. (one_text place t s back after e (subst (SpelledKind place (text t)) h.0 h) m (subst (SpelledKind place (text s)) g.0 g) n).0)
 with_text place t j front back ahead after l e h m g n = absurd cc
 
 -- ---- what runs up to a closing text
-
--- where the spellings are one, the units and what follows them are
-same_kind : (kind : List ℕ → Kind) (t s front back ahead after : List ℕ) → front ++ back ≡ ahead ++ after → front ≡ t → ahead ≡ s → (t ++ back ≡ s ++ after → t ≡ s) → (kind t ≡ kind s) × (back ≡ after)
-same_kind kind t s front back ahead after e f a one =
-    let same = one (ap (λ (x : List ℕ). x ++ back) (sym f) ∙ e ∙ ap (λ (x : List ℕ). x ++ after) a) in
-    (ap kind same, backs front ahead back after e (f ∙ same ∙ sym a))
 
 with_declaration : (place : ℕ) (t : List ℕ) (j : Kind) (front back ahead after : List ℕ) → query ≡ lead_of j → front ++ back ≡ ahead ++ after → SpelledKind place (declaration t) front → SpelledKind place j ahead → (declaration t ≡ j) × (back ≡ after)
 with_declaration place t (declaration s) front back ahead after l e h g =
@@ -86,9 +85,9 @@ same_lead place (declaration t) j front back ahead after l e h m g n = with_decl
 same_lead place (doctype t) j front back ahead after l e h m g n = with_doctype place t j front back ahead after l e h g
 same_lead place (comment t) j front back ahead after l e h m g n = with_comment place t j front back ahead after l e h g
 same_lead place (text t) j front back ahead after l e h m g n = with_text place t j front back ahead after l e h m g n
-same_lead place (start_tag name attrs) j front back ahead after l e h m g n = one_tag place (start_tag name attrs) j front back ahead after refl (sym l) e h g
+same_lead place (start_tag name attrs) j front back ahead after l e h m g n = one_tag place (start_tag name attrs) j front back ahead after e refl (sym l) h g
 same_lead place (end_tag name) j front back ahead after l e h m g n = with_end_tag place name j front back ahead after l e h g
-same_lead place (empty_tag name attrs) j front back ahead after l e h m g n = one_tag place (empty_tag name attrs) j front back ahead after refl (sym l) e h g
+same_lead place (empty_tag name attrs) j front back ahead after l e h m g n = one_tag place (empty_tag name attrs) j front back ahead after e refl (sym l) h g
 
 -- two units at one place of one source have the same lead
 one_kind : (place : ℕ) (k j : Kind) (front back ahead after : List ℕ) → front ++ back ≡ ahead ++ after → SpelledKind place k front → Ends k back → SpelledKind place j ahead → Ends j after → (k ≡ j) × (back ≡ after)
