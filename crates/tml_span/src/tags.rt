@@ -1,5 +1,5 @@
 //! Tags and their attributes, read from left to right.
-ghost use Rattle.std.specs.Prelude.{true, ◌≡◌, ◌≢◌, ◌+◌, ◌<◌, ◌≤◌, ◌^◌, ◌∷◌, slice_index, List as ListOf, ℕ, length, map, option_map, IfOk, IfSome, MatchOption};
+ghost use Rattle.std.specs.Prelude.{true, ◌≡◌, ◌≢◌, ◌+◌, ◌<◌, ◌≤◌, ◌^◌, ◌∷◌, ◌++◌, codes, cond, Bool, slice_index, List as ListOf, ℕ, length, map, option_map, IfOk, IfSome, MatchOption};
 ghost use Rattle.tml_span.specs.Reading as reading;
 ghost use Rattle.tml_span.specs.View.{attribute_of, unit_of, quote_byte};
 ghost use Rattle.tml_span.specs.Bytes as kinds;
@@ -124,6 +124,20 @@ fn attributes_at<'s>(
     Ok((attrs, rest))
 }
 
+/// The `>` or `/>` of a tag, where true stands for `/>`, and what follows it.
+fn close_at(bytes: &[u8]) -> Option<(bool, &[u8])>
+    ensures close { MatchOption result
+        ((is_empty : Bool) (rest : ListOf ℕ) → bytes.now ≢ cond is_empty (codes "/>") (codes ">") ++ rest)
+        (λ r. bytes.now ≡ cond r.0 (codes "/>") (codes ">") ++ r.1.now) }
+    ensures shorter { IfSome result (λ r. length r.1.now < length bytes.now) }
+{
+    match bytes {
+        [b'>', rest @ ..] => Some((false, rest)),
+        [b'/', b'>', rest @ ..] => Some((true, rest)),
+        _ => None,
+    }
+}
+
 /// A start tag or an empty tag behind its `<`, with which none of the other units begins.
 pub fn tag_at<'s>(
     alloc: Global,
@@ -141,21 +155,17 @@ pub fn tag_at<'s>(
         return Ok(None);
     };
     let (attrs, after) = attributes_at(alloc, place + 1 + name.len() as u32, mid)?;
-    let (is_empty, rest) = match after_white(after) {
-        [b'>', rest @ ..] => (false, rest),
-        [b'/', b'>', rest @ ..] => (true, rest),
-        _ => return Ok(None),
+    let Some((is_empty, rest)) = close_at(after_white(after)) else {
+        return Ok(None);
     };
     let span = Span {
         start: place,
         end: place + (bytes.len() + 1 - rest.len()) as u32,
     };
-    let unit = if is_empty {
-        Unit::EmptyTag { span, name, attrs }
-    } else {
-        Unit::StartTag { span, name, attrs }
-    };
-    Ok(Some((unit, rest)))
+    if is_empty {
+        return Ok(Some((Unit::EmptyTag { span, name, attrs }, rest)));
+    }
+    Ok(Some((Unit::StartTag { span, name, attrs }, rest)))
 }
 
 /// An end tag behind its `</`.

@@ -1,4 +1,4 @@
-use Rattle.std.proofs.Common.{◌≡◌, List, [], ◌++◌, map, refl, subst, ap, sym, ◌∙◌, None, arith}
+use Rattle.std.proofs.Common.{◌≡◌, List, [], map, refl, subst, sym, None}
 use Rattle.std.proofs.lemmas.List.{append-nil}
 use Rattle.tml_span.specs.Units.{Attribute}
 use Rattle.tml_span.specs.Reading as reading
