@@ -1,18 +1,14 @@
 -- Every source has a cut.
-use Rattle.std.proofs.Common.{◌≡◌, ◌⊎◌, inl, inr, ℕ, zero, suc, ◌+◌, ◌≤◌, ◌<◌, Bool, true, false, cond, List, [], ◌∷◌, length, refl, sym, ap, subst, arith, length-append}
+use Rattle.std.proofs.Common.{◌≡◌, inl, inr, ℕ, zero, suc, ◌+◌, ◌≤◌, ◌<◌, Bool, true, false, cond, List, [], ◌∷◌, length, refl, sym, ap, subst, arith, length-append}
 use Rattle.std.specs.Prelude.{nat_eq, codes}
 use Rattle.std.specs.List.{starts_with}
 use Rattle.std.proofs.lemmas.Bool.{eqb-true}
 use Rattle.tml_span.specs.Units.{PlainUnit, Spelled}
-use Rattle.tml_span.specs.Cutting.{Stops, Finds, CutsFrom}
+use Rattle.tml_span.specs.Cutting.{CutsFrom}
 use Rattle.tml_span.proofs.Leads.{Lead, nothing, plain, ending, remark, decree, query, opening, lead_behind}
 use Rattle.tml_span.proofs.Joining.{empty_stops}
 use Rattle.tml_span.proofs.TagCuts.{plain_found, tag_or_none, end_tag_or_none}
-use Rattle.tml_span.proofs.EnclosedCuts.{comment_or_none, declaration_or_none, doctype_or_none}
-
--- a unit stands at the front, or none begins there
-abbrev UnitOrNone : ℕ → List ℕ → Type 0
-UnitOrNone place bytes = ((u : PlainUnit) × ((rest : List ℕ) × Finds place bytes u rest)) ⊎ Stops place bytes
+use Rattle.tml_span.proofs.ClosedUnits.{FindsOrStops, comment_or_none, declaration_or_none, doctype_or_none}
 
 -- what follows `<` is told apart by its first bytes
 marked_lead : (slash bang dashes mark : Bool) → (cond slash ending (cond bang (cond dashes remark decree) (cond mark query opening)) ≡ nothing → ⊥) × (cond slash ending (cond bang (cond dashes remark decree) (cond mark query opening)) ≡ plain → ⊥)
@@ -34,13 +30,13 @@ slash_first false true false mark e = absurd cc
 slash_first false false dashes true e = absurd cc
 slash_first false false dashes false e = absurd cc
 
-slashed_or_none : (place : ℕ) (bytes : List ℕ) → lead_behind bytes ≡ ending → UnitOrNone place (60 ∷ bytes)
+slashed_or_none : (place : ℕ) (bytes : List ℕ) → lead_behind bytes ≡ ending → FindsOrStops place (60 ∷ bytes)
 slashed_or_none place [] e = absurd cc
 slashed_or_none place (b ∷ bytes) e =
     let slash = eqb-true b 47 (slash_first (nat_eq b 47) (nat_eq b 33) (starts_with nat_eq bytes (codes "--")) (nat_eq b 63) e) in
-    subst (λ (n : ℕ). UnitOrNone place (60 ∷ n ∷ bytes)) (sym slash) (end_tag_or_none place bytes)
+    subst (λ (n : ℕ). FindsOrStops place (60 ∷ n ∷ bytes)) (sym slash) (end_tag_or_none place bytes)
 
-marked_or_none : (place : ℕ) (bytes : List ℕ) (l : Lead) → lead_behind bytes ≡ l → UnitOrNone place (60 ∷ bytes)
+marked_or_none : (place : ℕ) (bytes : List ℕ) (l : Lead) → lead_behind bytes ≡ l → FindsOrStops place (60 ∷ bytes)
 marked_or_none place bytes nothing e = absurd ((no_other_lead bytes).0 e)
 marked_or_none place bytes plain e = absurd ((no_other_lead bytes).1 e)
 marked_or_none place bytes ending e = slashed_or_none place bytes e
@@ -49,10 +45,11 @@ marked_or_none place bytes decree e = doctype_or_none place (60 ∷ bytes) e
 marked_or_none place bytes query e = declaration_or_none place (60 ∷ bytes) e
 marked_or_none place bytes opening e = tag_or_none place bytes e
 
-pub unit_or_none : (place : ℕ) (bytes : List ℕ) → ((u : PlainUnit) × ((rest : List ℕ) × Finds place bytes u rest)) ⊎ Stops place bytes
+-- a unit stands at the front, or none begins there
+pub unit_or_none : (place : ℕ) (bytes : List ℕ) → FindsOrStops place bytes
 unit_or_none place [] = inr (empty_stops place)
-unit_or_none place (b ∷ bytes) = elim (nat_eq b 60) as (λ t. nat_eq b 60 ≡ t → UnitOrNone place (b ∷ bytes)) [
-  | true ↦ λ e. subst (λ (n : ℕ). UnitOrNone place (n ∷ bytes)) (sym (eqb-true b 60 e)) (marked_or_none place bytes (lead_behind bytes) refl)
+unit_or_none place (b ∷ bytes) = elim (nat_eq b 60) as (λ t. nat_eq b 60 ≡ t → FindsOrStops place (b ∷ bytes)) [
+  | true ↦ λ e. subst (λ (n : ℕ). FindsOrStops place (n ∷ bytes)) (sym (eqb-true b 60 e)) (marked_or_none place bytes (lead_behind bytes) refl)
   | false ↦ λ e. inl (plain_found place b bytes (ap (λ (t : Bool). cond t (lead_behind bytes) plain) e))
 ] refl
 

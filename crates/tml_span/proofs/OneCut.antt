@@ -6,7 +6,7 @@ use Rattle.tml_span.specs.Units.{Kind, bom, declaration, doctype, comment, text,
 use Rattle.tml_span.specs.Cutting.{Ends, CutsFrom}
 use Rattle.tml_span.proofs.Leads.{plain, ending, remark, decree, query, lead, lead_of, leads}
 use Rattle.tml_span.proofs.TagCuts.{one_text, one_end_tag, one_tag}
-use Rattle.tml_span.proofs.EnclosedCuts.{one_comment, one_declaration, one_doctype}
+use Rattle.tml_span.proofs.ClosedUnits.{one_comment, one_declaration, one_doctype}
 
 -- two fronts of one list with the same rest are one
 fronts : (xs ys back after : List ℕ) → xs ++ back ≡ ys ++ after → back ≡ after → xs ≡ ys

@@ -1,6 +1,8 @@
 //! Units that run up to their first closing text: declarations, doctypes and comments.
-ghost use Rattle.std.specs.Prelude.{true, false, ◌≡◌, ◌+◌, ◌<◌, ◌≤◌, ◌^◌, ◌++◌, codes, drop, take, length, nat_eq, IfNone, IfSome, MatchOption, List, ℕ};
+ghost use Rattle.std.specs.Prelude.{true, false, ◌≡◌, ◌+◌, ◌<◌, ◌≤◌, ◌^◌, ◌++◌, ◌∷◌, codes, drop, take, length, nat_eq, IfNone, IfSome, MatchOption, List, ℕ};
+ghost use Rattle.std.specs.Bool.{Decides};
 ghost use Rattle.std.specs.List.{starts_with};
+ghost use Rattle.tml_span.specs.Bytes as kinds;
 ghost use Rattle.tml_span.specs.Cutting.{Stops, Finds};
 ghost use Rattle.tml_span.specs.Units.{Lacks};
 ghost use Rattle.tml_span.specs.View.{unit_of};
@@ -41,6 +43,19 @@ pub fn comment_at<'s>(place: u32, bytes: &'s [u8]) -> Option<(Unit<'s>, &'s [u8]
     Some((Unit::Comment { span, text }, rest))
 }
 
+/// Whether a word and one white space stand at the front.
+fn begins_with_word(bytes: &[u8], word: &[u8]) -> bool
+    ensures { Decides result ((white : ℕ) × (back : List ℕ) × (bytes.now ≡ word.now ++ white ∷ back) × (kinds.is_white white ≡ true)) }
+{
+    let Some(rest) = bytes.strip_prefix(word) else {
+        return false;
+    };
+    match rest {
+        [white, ..] => is_white(*white),
+        [] => false,
+    }
+}
+
 /// A declaration, whose first bytes are `<?`, and what follows it.
 pub fn declaration_at<'s>(place: u32, bytes: &'s [u8]) -> Option<(Unit<'s>, &'s [u8])>
     requires fits { place + length bytes.now < 2 ^ 32 }
@@ -48,9 +63,8 @@ pub fn declaration_at<'s>(place: u32, bytes: &'s [u8]) -> Option<(Unit<'s>, &'s 
     ensures unit { MatchOption result (Stops place bytes.now) (λ r. Finds place bytes.now (unit_of r.0) r.1.now) }
     ensures shorter { IfSome result (λ r. length r.1.now < length bytes.now) }
 {
-    match bytes {
-        [b'<', b'?', b'x', b'm', b'l', white, ..] if is_white(*white) => {}
-        _ => return None,
+    if !begins_with_word(bytes, b"<?xml") {
+        return None;
     }
     let Some((text, rest)) = split_past(bytes, 6, b"?>") else {
         return None;
@@ -70,16 +84,12 @@ pub fn doctype_at<'s>(place: u32, bytes: &'s [u8]) -> Option<(Unit<'s>, &'s [u8]
     ensures unit { MatchOption result (Stops place bytes.now) (λ r. Finds place bytes.now (unit_of r.0) r.1.now) }
     ensures shorter { IfSome result (λ r. length r.1.now < length bytes.now) }
 {
-    let body = match bytes {
-        [b'<', b'!', b'D', b'O', b'C', b'T', b'Y', b'P', b'E', white, body @ ..]
-            if is_white(*white) =>
-        {
-            body
-        }
-        _ => return None,
-    };
-    let len = doctype_len(body);
-    let (_, [b'>', rest @ ..]) = body.split_at(len) else {
+    if !begins_with_word(bytes, b"<!DOCTYPE") {
+        return None;
+    }
+    let (_, inner) = bytes.split_at(10);
+    let (_, end) = inner.split_at(doctype_len(inner));
+    let Some(rest) = end.strip_prefix(b">") else {
         return None;
     };
     let (text, _) = bytes.split_at(bytes.len() - rest.len());
