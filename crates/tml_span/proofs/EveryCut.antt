@@ -11,19 +11,22 @@ use Rattle.tml_span.proofs.TagCuts.{plain_found, tag_or_none, end_tag_or_none}
 use Rattle.tml_span.proofs.ClosedUnits.{FindsOrStops, comment_or_none, declaration_or_none, doctype_or_none}
 
 -- what follows `<` is told apart by its first bytes
-marked_lead : (slash bang dashes mark : Bool) → (cond slash ending (cond bang (cond dashes remark decree) (cond mark query opening)) ≡ nothing → ⊥) × (cond slash ending (cond bang (cond dashes remark decree) (cond mark query opening)) ≡ plain → ⊥)
-marked_lead true bang dashes mark = (λ e. cc, λ e. cc)
-marked_lead false true true mark = (λ e. cc, λ e. cc)
-marked_lead false true false mark = (λ e. cc, λ e. cc)
-marked_lead false false dashes true = (λ e. cc, λ e. cc)
-marked_lead false false dashes false = (λ e. cc, λ e. cc)
+abbrev marked_lead : (slash bang dashes mark : Bool) → Lead
+marked_lead slash bang dashes mark = cond slash ending (cond bang (cond dashes remark decree) (cond mark query opening))
+
+marked_only : (slash bang dashes mark : Bool) → (marked_lead slash bang dashes mark ≡ nothing → ⊥) × (marked_lead slash bang dashes mark ≡ plain → ⊥)
+marked_only true bang dashes mark = (λ e. cc, λ e. cc)
+marked_only false true true mark = (λ e. cc, λ e. cc)
+marked_only false true false mark = (λ e. cc, λ e. cc)
+marked_only false false dashes true = (λ e. cc, λ e. cc)
+marked_only false false dashes false = (λ e. cc, λ e. cc)
 
 no_other_lead : (bytes : List ℕ) → (lead_behind bytes ≡ nothing → ⊥) × (lead_behind bytes ≡ plain → ⊥)
 no_other_lead [] = (λ e. cc, λ e. cc)
-no_other_lead (b ∷ bytes) = marked_lead (nat_eq b 47) (nat_eq b 33) (starts_with nat_eq bytes (codes "--")) (nat_eq b 63)
+no_other_lead (b ∷ bytes) = marked_only (nat_eq b 47) (nat_eq b 33) (starts_with nat_eq bytes (codes "--")) (nat_eq b 63)
 
 -- only a slash leads an end tag
-slash_first : (slash bang dashes mark : Bool) → cond slash ending (cond bang (cond dashes remark decree) (cond mark query opening)) ≡ ending → slash ≡ true
+slash_first : (slash bang dashes mark : Bool) → marked_lead slash bang dashes mark ≡ ending → slash ≡ true
 slash_first true bang dashes mark e = refl
 slash_first false true true mark e = absurd cc
 slash_first false true false mark e = absurd cc
