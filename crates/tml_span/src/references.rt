@@ -1,7 +1,7 @@
 //! References in texts and values, and the first that is bad.
-ghost use Rattle.std.specs.Prelude.{◌≡◌, ◌↔◌, ◌<◌, ◌≤◌, ℕ, length, IsTrue, IfSome, MatchOption, map, slice_get, Some};
-ghost use Rattle.std.specs.List.{AllByRecursion};
-ghost use Rattle.tml_span.specs.References.{BeginsReference, IsBadAt, IsBadIn, IsFirst, IsNowhere, IsPlaced, IsWithin, Follows, pieces_of, value_piece};
+ghost use Rattle.std.specs.Prelude.{◌≡◌, ◌↔◌, ◌<◌, ◌≤◌, ◌++◌, ℕ, List, length, Contains, IsTrue, IfSome, MatchOption, map, slice_get, nat_eq, Some};
+ghost use Rattle.std.specs.List.{AllByRecursion, list_any, starts_with};
+ghost use Rattle.tml_span.specs.References.{named_references, IsDecimalReference, IsHexReference, BeginsReference, IsBadAt, IsBadIn, IsFirst, IsNowhere, IsPlaced, IsWithin, Follows, pieces_of, value_piece};
 ghost use Rattle.tml_span.specs.View.{unit_of, attribute_of};
 
 use crate::bytes::{digits_len, hex_digits_len};
@@ -15,20 +15,42 @@ fn is_closed(digits: usize, most: usize, bytes: &[u8]) -> bool
     1 <= digits && digits <= most && bytes.get(digits) == Some(&b';')
 }
 
+/// Whether one of the named references stands at the front of the bytes.
+fn begins_named(bytes: &[u8]) -> bool
+    ensures { result ≡ list_any (starts_with nat_eq bytes.now) named_references }
+{
+    bytes.starts_with(b"&lt;")
+        || bytes.starts_with(b"&gt;")
+        || bytes.starts_with(b"&amp;")
+        || bytes.starts_with(b"&quot;")
+        || bytes.starts_with(b"&apos;")
+}
+
+/// Whether a reference by decimal digits stands at the front of the bytes.
+fn begins_decimal(bytes: &[u8]) -> bool
+    ensures { IsTrue result ↔ ((front : List ℕ) × (back : List ℕ) × (bytes.now ≡ front ++ back) × IsDecimalReference front) }
+{
+    match bytes.strip_prefix(b"&#") {
+        Some(digits) => is_closed(digits_len(digits), 7, digits),
+        None => false,
+    }
+}
+
+/// Whether a reference by hexadecimal digits stands at the front of the bytes.
+fn begins_hex(bytes: &[u8]) -> bool
+    ensures { IsTrue result ↔ ((front : List ℕ) × (back : List ℕ) × (bytes.now ≡ front ++ back) × IsHexReference front) }
+{
+    match bytes.strip_prefix(b"&#x") {
+        Some(digits) => is_closed(hex_digits_len(digits), 6, digits),
+        None => false,
+    }
+}
+
 /// Whether a reference stands at the front of the bytes.
 fn begins_reference(bytes: &[u8]) -> bool
     ensures { IsTrue result ↔ BeginsReference bytes.now }
 {
-    match bytes {
-        [b'&', b'#', b'x', digits @ ..] => is_closed(hex_digits_len(digits), 6, digits),
-        [b'&', b'#', digits @ ..] => is_closed(digits_len(digits), 7, digits),
-        [b'&', b'l', b't', b';', ..] => true,
-        [b'&', b'g', b't', b';', ..] => true,
-        [b'&', b'a', b'm', b'p', b';', ..] => true,
-        [b'&', b'q', b'u', b'o', b't', b';', ..] => true,
-        [b'&', b'a', b'p', b'o', b's', b';', ..] => true,
-        _ => false,
-    }
+    begins_named(bytes) || begins_decimal(bytes) || begins_hex(bytes)
 }
 
 /// The index of the first `&` with which no reference begins.
