@@ -7,7 +7,7 @@ use Rattle.std.proofs.lemmas.List.{length-map, take-append-drop, take_rest, drop
 use Rattle.memchr.specs.Find.{IsFirstByte, is_byte}
 use Rattle.tml_span.specs.declared.unit.Attr.{Attr}
 use Rattle.tml_span.specs.Units.{PlainUnit}
-use Rattle.tml_span.specs.References.{BeginsReference, IsBadAt, Piece, value_piece, pieces_of, IsBadIn, IsBad, IsFirst, IsNowhere, IsWithin, Follows}
+use Rattle.tml_span.specs.References.{BeginsReference, IsBadAt, Piece, value_piece, IsBadIn, IsBad, IsFirst, IsNowhere, IsWithin, Follows}
 use Rattle.tml_span.specs.View.{attribute_of}
 
 -- a bad index is one of the bytes
@@ -29,11 +29,13 @@ bad_here bytes index within is none =
 from_bad : (bytes : List ℕ) (index : ℕ) → (h : IsBadAt bytes index) → drop index bytes ≡ 38 ∷ h.back
 from_bad bytes index h = ap (drop index) h.whole ∙ drop_at h.front (38 ∷ h.back) index (sym h.index_is)
 
+-- a bad index is an `&`
 bad_is : (bytes : List ℕ) (index : ℕ) → IsBadAt bytes index → slice_index bytes index ≡ 38
 bad_is bytes index h =
     let sum : index ≡ index + 0 = omega arith in
     ap (slice_index bytes) sum ∙ sym (get_or-drop index bytes 0 0) ∙ ap (λ (x : List ℕ). slice_index x 0) (from_bad bytes index h)
 
+-- at a bad index no reference begins
 not_begun : (bytes : List ℕ) (index : ℕ) → IsBadAt bytes index → BeginsReference (drop index bytes) → ⊥
 not_begun bytes index h b = h.bad (subst BeginsReference (from_bad bytes index h) b)
 
@@ -134,6 +136,7 @@ first_at start index bytes first = (
   λ other bad. elim bad as (λ _. start + index ≤ other) [ inl here ↦ omega (arith, here.2, first.1 here.0 here.1) | inr nothing ↦ absurd nothing ],
 )
 
+-- where no index is bad, no place is
 pub nowhere_at : (start : ℕ) (bytes : List ℕ) → IsNowhere (IsBadAt bytes) → IsNowhere (IsBadIn ((start, bytes) ∷ []))
 nowhere_at start bytes none place (inl here) = none here.0 here.1
 nowhere_at start bytes none place (inr nothing) = nothing
@@ -156,11 +159,12 @@ split_at : (pieces : List Piece) (i : ℕ) (piece : Piece) → i < length pieces
 split_at pieces i piece below is =
     sym (take-append-drop i pieces) ∙ ap (λ (x : List Piece). take i pieces ++ x) (drop_more pieces i piece below ∙ ap (λ (x : Piece). x ∷ drop (i + 1) pieces) is)
 
+-- the first bad place of the first piece with a bad one, which stands at an index, is the first of all
 pub first_in_piece : (pieces : List Piece) (i : ℕ) (piece : Piece) (low high place : ℕ) → i < length pieces → get_or pieces i piece ≡ piece → Follows low pieces high → IsNowhere (IsBadIn (take i pieces)) → IsFirst (IsBadIn (piece ∷ [])) place → IsFirst (IsBadIn pieces) place
 first_in_piece pieces i piece low high place below is h none first =
     let split = split_at pieces i piece below is in
     subst (λ (x : List Piece). IsFirst (IsBadIn x) place) (sym split)
-        (first_in (take i pieces) piece (drop (i + 1) pieces) low high place (subst (λ (x : List Piece). Follows low x high) split h) none first)
+    (first_in (take i pieces) piece (drop (i + 1) pieces) low high place (subst (λ (x : List Piece). Follows low x high) split h) none first)
 
 -- one more piece with nothing bad
 pub none_in_more : (pieces : List Piece) (i : ℕ) (piece : Piece) → i < length pieces → get_or pieces i piece ≡ piece → IsNowhere (IsBadIn (take i pieces)) → IsNowhere (IsBadIn (piece ∷ [])) → IsNowhere (IsBadIn (take (i + 1) pieces))
@@ -175,6 +179,7 @@ none_in_more pieces i piece below is none here place bad =
 abbrev pub values : List Attr → List Piece
 values attrs = map value_piece (map attribute_of attrs)
 
+-- there is one piece for each attribute
 length-values : (attrs : List Attr) → length (values attrs) ≡ length attrs
 length-values attrs = length-map (map attribute_of attrs) value_piece ∙ length-map attrs attribute_of
 
@@ -184,16 +189,19 @@ value_at [] i d below = absurd (omega arith)
 value_at (a ∷ attrs) zero d below = refl
 value_at (a ∷ attrs) (suc i) d below = value_at attrs i d (omega arith)
 
+-- the value of the attribute at an index stands before its end
 pub value_within : (attrs : List Attr) (i : ℕ) (d : Attr) → i < length attrs → AllByRecursion IsWithin (map attribute_of attrs) → IsWithin (attribute_of (get_or attrs i d))
 value_within [] i d below h = absurd (omega arith)
 value_within (a ∷ attrs) zero d below h = h.0
 value_within (a ∷ attrs) (suc i) d below h = value_within attrs i d (omega arith) h.1
 
+-- the first bad place of the first value with a bad one is the first of all
 pub first_in_value : (attrs : List Attr) (i : ℕ) (d : Attr) (place : ℕ) → i < length attrs → (low : ℕ) × (high : ℕ) × Follows low (values attrs) high → IsNowhere (IsBadIn (take i (values attrs))) → IsFirst (IsBadIn (value_piece (attribute_of (get_or attrs i d)) ∷ [])) place → IsFirst (IsBadIn (values attrs)) place
 first_in_value attrs i d place below h none first =
     let piece = value_piece (attribute_of (get_or attrs i d)) in
     first_in_piece (values attrs) i piece h.0 h.1 place (omega (arith, length-values attrs, below)) (value_at attrs i d below) h.2 none first
 
+-- one more value with nothing bad
 pub none_in_value : (attrs : List Attr) (i : ℕ) (d : Attr) → i < length attrs → IsNowhere (IsBadIn (take i (values attrs))) → IsNowhere (IsBadIn (value_piece (attribute_of (get_or attrs i d)) ∷ [])) → IsNowhere (IsBadIn (take (i + 1) (values attrs)))
 none_in_value attrs i d below none here =
     let piece = value_piece (attribute_of (get_or attrs i d)) in

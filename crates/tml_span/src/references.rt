@@ -5,7 +5,7 @@ ghost use Rattle.tml_span.specs.References.{named_references, IsDecimalReference
 ghost use Rattle.tml_span.specs.View.{unit_of, attribute_of};
 
 use crate::bytes::{digits_len, hex_digits_len};
-use crate::{Attr, Unit};
+use crate::{Attr, Span, Unit};
 
 /// Whether the digits in front, of which at least 1 and at most `most` count, are closed by `;`.
 fn is_closed(digits: usize, most: usize, bytes: &[u8]) -> bool
@@ -80,6 +80,14 @@ fn bad_place(start: u32, bytes: &[u8]) -> Option<u32>
     }
 }
 
+/// The place of the first bad reference in a text.
+fn bad_place_in_text(span: Span, text: &[u8]) -> Option<u32>
+    requires { span.start + length text.now ≤ span.end }
+    ensures { MatchOption result (IsNowhere (IsBadIn ((span.start, text.now) ∷ []))) (IsFirst (IsBadIn ((span.start, text.now) ∷ []))) }
+{
+    bad_place(span.start, text)
+}
+
 /// The place of the first bad reference in the value of an attribute.
 fn bad_place_in_value(attr: &Attr) -> Option<u32>
     requires { IsWithin (attribute_of attr.now) }
@@ -108,7 +116,7 @@ pub fn bad_reference_in(unit: &Unit) -> Option<u32>
     ensures { MatchOption result (IsNowhere (IsBadIn (pieces_of (unit_of unit.now)))) (IsFirst (IsBadIn (pieces_of (unit_of unit.now)))) }
 {
     match unit {
-        Unit::Text { span, text } => bad_place(span.start, text),
+        Unit::Text { span, text } => bad_place_in_text(*span, text),
         Unit::StartTag { attrs, .. } | Unit::EmptyTag { attrs, .. } => bad_value(attrs.as_slice()),
         _ => None,
     }
