@@ -1,11 +1,14 @@
 -- Bad places in bytes, in pieces and in units, and the first of them.
-use Rattle.std.proofs.Common.{◌≡◌, ◌⊎◌, inl, inr, ℕ, ◌+◌, ◌-◌, ◌<◌, ◌≤◌, true, Some, None, List, [], ◌∷◌, ◌++◌, length, take, drop, get_or, refl, sym, ap, subst, ◌∙◌, arith, length-append, length-take, length-drop}
+use Rattle.std.proofs.Common.{◌≡◌, ◌⊎◌, inl, inr, ℕ, zero, suc, ◌+◌, ◌-◌, ◌<◌, ◌≤◌, true, Some, None, List, [], ◌∷◌, ◌++◌, length, take, drop, map, get_or, refl, sym, ap, subst, ◌∙◌, arith, length-append, length-take, length-drop}
 use Rattle.std.specs.Prelude.{slice_index}
+use Rattle.std.specs.List.{AllByRecursion}
 use Rattle.std.proofs.lemmas.Bool.{eqb-true, eq-eqb, cases_lt}
-use Rattle.std.proofs.lemmas.List.{take-append-drop, take_rest, drop_at, drop_more, get_or-drop}
+use Rattle.std.proofs.lemmas.List.{length-map, take-append-drop, take_rest, drop_at, drop_more, take_more, get_or-drop}
 use Rattle.memchr.specs.Find.{IsFirstByte, is_byte}
+use Rattle.tml_span.specs.declared.unit.Attr.{Attr}
 use Rattle.tml_span.specs.Units.{PlainUnit}
-use Rattle.tml_span.specs.References.{BeginsReference, IsBadAt, Piece, pieces_of, IsBadIn, IsBad, IsFirst, IsNowhere, Follows}
+use Rattle.tml_span.specs.References.{BeginsReference, IsBadAt, Piece, value_piece, IsBadIn, IsBad, IsFirst, IsNowhere, IsWithin, Follows}
+use Rattle.tml_span.specs.View.{attribute_of}
 
 -- a bad index is one of the bytes
 pub bad_at_within : (bytes : List ℕ) (index : ℕ) → IsBadAt bytes index → index < length bytes
@@ -26,11 +29,13 @@ bad_here bytes index within is none =
 from_bad : (bytes : List ℕ) (index : ℕ) → (h : IsBadAt bytes index) → drop index bytes ≡ 38 ∷ h.back
 from_bad bytes index h = ap (drop index) h.whole ∙ drop_at h.front (38 ∷ h.back) index (sym h.index_is)
 
+-- a bad index is an `&`
 bad_is : (bytes : List ℕ) (index : ℕ) → IsBadAt bytes index → slice_index bytes index ≡ 38
 bad_is bytes index h =
     let sum : index ≡ index + 0 = omega arith in
     ap (slice_index bytes) sum ∙ sym (get_or-drop index bytes 0 0) ∙ ap (λ (x : List ℕ). slice_index x 0) (from_bad bytes index h)
 
+-- at a bad index no reference begins
 not_begun : (bytes : List ℕ) (index : ℕ) → IsBadAt bytes index → BeginsReference (drop index bytes) → ⊥
 not_begun bytes index h b = h.bad (subst BeginsReference (from_bad bytes index h) b)
 
@@ -124,16 +129,28 @@ follows_on : (xs ys : List Piece) (low high : ℕ) → Follows low (xs ++ ys) hi
 follows_on [] ys low high h = (low, h)
 follows_on (x ∷ xs) ys low high h = follows_on xs ys (x.0 + length x.1) high h.1
 
--- the first bad index of the first piece with a bad one is the first bad place
-first_in : (xs : List Piece) (piece : Piece) (ys : List Piece) (low high index : ℕ) → Follows low (xs ++ piece ∷ ys) high → IsNowhere (IsBadIn xs) → IsFirst (IsBadAt piece.1) index → IsFirst (IsBadIn (xs ++ piece ∷ ys)) (piece.0 + index)
-first_in xs piece ys low high index h none first =
-    let later = (follows_on xs (piece ∷ ys) low high h).1.1 in
-    let within = bad_at_within piece.1 index first.0 in
-    let least = λ (other : ℕ) (bad : IsBadIn (piece ∷ ys) other). elim bad as (λ _. piece.0 + index ≤ other) [
-      | inl here ↦ omega (arith, here.2, first.1 here.0 here.1)
-      | inr behind ↦ omega (arith, within, (bad_in_from ys (piece.0 + length piece.1) high other later behind).0)
+-- the first bad index of bytes that stand at a place
+pub first_at : (start index : ℕ) (bytes : List ℕ) → IsFirst (IsBadAt bytes) index → IsFirst (IsBadIn ((start, bytes) ∷ [])) (start + index)
+first_at start index bytes first = (
+  inl (index, first.0, refl),
+  λ other bad. elim bad as (λ _. start + index ≤ other) [ inl here ↦ omega (arith, here.2, first.1 here.0 here.1) | inr nothing ↦ absurd nothing ],
+)
+
+-- where no index is bad, no place is
+pub nowhere_at : (start : ℕ) (bytes : List ℕ) → IsNowhere (IsBadAt bytes) → IsNowhere (IsBadIn ((start, bytes) ∷ []))
+nowhere_at start bytes none place (inl here) = none here.0 here.1
+nowhere_at start bytes none place (inr nothing) = nothing
+
+-- the first bad place of the first piece with a bad one is the first of all
+first_in : (xs : List Piece) (piece : Piece) (ys : List Piece) (low high place : ℕ) → Follows low (xs ++ piece ∷ ys) high → IsNowhere (IsBadIn xs) → IsFirst (IsBadIn (piece ∷ [])) place → IsFirst (IsBadIn (xs ++ piece ∷ ys)) place
+first_in xs piece ys low high place h none first =
+    let on = follows_on xs (piece ∷ ys) low high h in
+    let one = (bad_in_from (piece ∷ []) on.0 (piece.0 + length piece.1) place (on.1.0, omega arith) first.0).1 in
+    let least = λ (other : ℕ) (bad : IsBadIn ((piece ∷ []) ++ ys) other). elim (bad_in-append (piece ∷ []) ys other bad) as (λ _. place ≤ other) [
+      | inl here ↦ first.1 other here
+      | inr behind ↦ omega (arith, one, (bad_in_from ys (piece.0 + length piece.1) high other on.1.1 behind).0)
     ] in (
-      bad_in-append_right xs (piece ∷ ys) (piece.0 + index) (inl (index, first.0, refl)),
+      bad_in-append_right xs (piece ∷ ys) place (bad_in-append_left (piece ∷ []) ys place first.0),
       λ other bad. elim (bad_in-append xs (piece ∷ ys) other bad) [ inl before ↦ absurd (none other before) | inr bad' ↦ least other bad' ],
     )
 
@@ -142,20 +159,53 @@ split_at : (pieces : List Piece) (i : ℕ) (piece : Piece) → i < length pieces
 split_at pieces i piece below is =
     sym (take-append-drop i pieces) ∙ ap (λ (x : List Piece). take i pieces ++ x) (drop_more pieces i piece below ∙ ap (λ (x : Piece). x ∷ drop (i + 1) pieces) is)
 
-pub first_in_piece : (pieces : List Piece) (i : ℕ) (piece : Piece) (low high index : ℕ) → i < length pieces → get_or pieces i piece ≡ piece → Follows low pieces high → IsNowhere (IsBadIn (take i pieces)) → IsFirst (IsBadAt piece.1) index → IsFirst (IsBadIn pieces) (piece.0 + index)
-first_in_piece pieces i piece low high index below is h none first =
+-- the first bad place of the first piece with a bad one, which stands at an index, is the first of all
+pub first_in_piece : (pieces : List Piece) (i : ℕ) (piece : Piece) (low high place : ℕ) → i < length pieces → get_or pieces i piece ≡ piece → Follows low pieces high → IsNowhere (IsBadIn (take i pieces)) → IsFirst (IsBadIn (piece ∷ [])) place → IsFirst (IsBadIn pieces) place
+first_in_piece pieces i piece low high place below is h none first =
     let split = split_at pieces i piece below is in
-    subst (λ (x : List Piece). IsFirst (IsBadIn x) (piece.0 + index)) (sym split)
-        (first_in (take i pieces) piece (drop (i + 1) pieces) low high index (subst (λ (x : List Piece). Follows low x high) split h) none first)
+    subst (λ (x : List Piece). IsFirst (IsBadIn x) place) (sym split)
+    (first_in (take i pieces) piece (drop (i + 1) pieces) low high place (subst (λ (x : List Piece). Follows low x high) split h) none first)
 
 -- one more piece with nothing bad
-pub none_in_more : (pieces : List Piece) (i : ℕ) (piece : Piece) → i < length pieces → get_or pieces i piece ≡ piece → IsNowhere (IsBadIn (take i pieces)) → IsNowhere (IsBadAt piece.1) → IsNowhere (IsBadIn (take (i + 1) pieces))
+pub none_in_more : (pieces : List Piece) (i : ℕ) (piece : Piece) → i < length pieces → get_or pieces i piece ≡ piece → IsNowhere (IsBadIn (take i pieces)) → IsNowhere (IsBadIn (piece ∷ [])) → IsNowhere (IsBadIn (take (i + 1) pieces))
 none_in_more pieces i piece below is none here place bad =
-    let more : take (i + 1) pieces ≡ take i pieces ++ piece ∷ [] = ? in
+    let more : take (i + 1) pieces ≡ take i pieces ++ piece ∷ [] = take_more pieces i piece below ∙ ap (λ (x : Piece). take i pieces ++ x ∷ []) is in
     elim (bad_in-append (take i pieces) (piece ∷ []) place (subst (λ (x : List Piece). IsBadIn x place) more bad)) [
       | inl before ↦ none place before
-      | inr last ↦ elim last [ inl at ↦ here at.0 at.1 | inr nothing ↦ nothing ]
+      | inr last ↦ here place last
     ]
+
+-- the pieces that the values of attributes are
+abbrev pub values : List Attr → List Piece
+values attrs = map value_piece (map attribute_of attrs)
+
+-- there is one piece for each attribute
+length-values : (attrs : List Attr) → length (values attrs) ≡ length attrs
+length-values attrs = length-map (map attribute_of attrs) value_piece ∙ length-map attrs attribute_of
+
+-- the value of the attribute at an index is the piece there
+value_at : (attrs : List Attr) (i : ℕ) (d : Attr) → i < length attrs → get_or (values attrs) i (value_piece (attribute_of (get_or attrs i d))) ≡ value_piece (attribute_of (get_or attrs i d))
+value_at [] i d below = absurd (omega arith)
+value_at (a ∷ attrs) zero d below = refl
+value_at (a ∷ attrs) (suc i) d below = value_at attrs i d (omega arith)
+
+-- the value of the attribute at an index stands before its end
+pub value_within : (attrs : List Attr) (i : ℕ) (d : Attr) → i < length attrs → AllByRecursion IsWithin (map attribute_of attrs) → IsWithin (attribute_of (get_or attrs i d))
+value_within [] i d below h = absurd (omega arith)
+value_within (a ∷ attrs) zero d below h = h.0
+value_within (a ∷ attrs) (suc i) d below h = value_within attrs i d (omega arith) h.1
+
+-- the first bad place of the first value with a bad one is the first of all
+pub first_in_value : (attrs : List Attr) (i : ℕ) (d : Attr) (place : ℕ) → i < length attrs → (low : ℕ) × (high : ℕ) × Follows low (values attrs) high → IsNowhere (IsBadIn (take i (values attrs))) → IsFirst (IsBadIn (value_piece (attribute_of (get_or attrs i d)) ∷ [])) place → IsFirst (IsBadIn (values attrs)) place
+first_in_value attrs i d place below h none first =
+    let piece = value_piece (attribute_of (get_or attrs i d)) in
+    first_in_piece (values attrs) i piece h.0 h.1 place (omega (arith, length-values attrs, below)) (value_at attrs i d below) h.2 none first
+
+-- one more value with nothing bad
+pub none_in_value : (attrs : List Attr) (i : ℕ) (d : Attr) → i < length attrs → IsNowhere (IsBadIn (take i (values attrs))) → IsNowhere (IsBadIn (value_piece (attribute_of (get_or attrs i d)) ∷ [])) → IsNowhere (IsBadIn (take (i + 1) (values attrs)))
+none_in_value attrs i d below none here =
+    let piece = value_piece (attribute_of (get_or attrs i d)) in
+    none_in_more (values attrs) i piece (omega (arith, length-values attrs, below)) (value_at attrs i d below) none here
 
 -- what is bad in units one behind another is bad in the first of them or in the others
 pub bad-append : (us vs : List PlainUnit) (place : ℕ) → IsBad (us ++ vs) place → IsBad us place ⊎ IsBad vs place

@@ -1,11 +1,11 @@
 //! References in texts and values, and the first that is bad.
-ghost use Rattle.std.specs.Prelude.{◌≡◌, ◌↔◌, ◌<◌, ◌≤◌, ◌++◌, ℕ, List, length, Contains, IsTrue, IfSome, MatchOption, map, slice_get, nat_eq, Some};
+ghost use Rattle.std.specs.Prelude.{◌≡◌, ◌↔◌, ◌+◌, ◌<◌, ◌≤◌, ◌^◌, ◌++◌, ℕ, List, [], ◌∷◌, length, Contains, IsTrue, IfSome, MatchOption, map, slice_get, nat_eq, Some};
 ghost use Rattle.std.specs.List.{AllByRecursion, list_any, starts_with};
 ghost use Rattle.tml_span.specs.References.{named_references, IsDecimalReference, IsHexReference, BeginsReference, IsBadAt, IsBadIn, IsFirst, IsNowhere, IsPlaced, IsWithin, Follows, pieces_of, value_piece};
 ghost use Rattle.tml_span.specs.View.{unit_of, attribute_of};
 
 use crate::bytes::{digits_len, hex_digits_len};
-use crate::{Attr, Unit};
+use crate::{Attr, Span, Unit};
 
 /// Whether the digits in front, of which at least 1 and at most `most` count, are closed by `;`.
 fn is_closed(digits: usize, most: usize, bytes: &[u8]) -> bool
@@ -69,6 +69,33 @@ fn bad_reference(bytes: &[u8]) -> Option<usize>
     None
 }
 
+/// The place of the first bad reference in bytes that stand at a place.
+fn bad_place(start: u32, bytes: &[u8]) -> Option<u32>
+    requires { start + length bytes.now < 2 ^ 32 }
+    ensures { MatchOption result (IsNowhere (IsBadIn ((start, bytes.now) ∷ []))) (IsFirst (IsBadIn ((start, bytes.now) ∷ []))) }
+{
+    match bad_reference(bytes) {
+        Some(index) => Some(start + index as u32),
+        None => None,
+    }
+}
+
+/// The place of the first bad reference in a text.
+fn bad_place_in_text(span: Span, text: &[u8]) -> Option<u32>
+    requires { span.start + length text.now ≤ span.end }
+    ensures { MatchOption result (IsNowhere (IsBadIn ((span.start, text.now) ∷ []))) (IsFirst (IsBadIn ((span.start, text.now) ∷ []))) }
+{
+    bad_place(span.start, text)
+}
+
+/// The place of the first bad reference in the value of an attribute.
+fn bad_place_in_value(attr: &Attr) -> Option<u32>
+    requires { IsWithin (attribute_of attr.now) }
+    ensures { MatchOption result (IsNowhere (IsBadIn (value_piece (attribute_of attr.now) ∷ []))) (IsFirst (IsBadIn (value_piece (attribute_of attr.now) ∷ []))) }
+{
+    bad_place(attr.span.end - 1 - attr.value.len() as u32, attr.value)
+}
+
 /// The place of the first bad reference in the values of attributes.
 fn bad_value(attrs: &[Attr]) -> Option<u32>
     requires within { AllByRecursion IsWithin (map attribute_of attrs.now) }
@@ -76,9 +103,8 @@ fn bad_value(attrs: &[Attr]) -> Option<u32>
     ensures { MatchOption result (IsNowhere (IsBadIn (map value_piece (map attribute_of attrs.now)))) (IsFirst (IsBadIn (map value_piece (map attribute_of attrs.now)))) }
 {
     for attr in attrs {
-        if let Some(index) = bad_reference(attr.value) {
-            let start = attr.span.end - 1 - attr.value.len() as u32;
-            return Some(start + index as u32);
+        if let Some(place) = bad_place_in_value(attr) {
+            return Some(place);
         }
     }
     None
@@ -90,10 +116,7 @@ pub fn bad_reference_in(unit: &Unit) -> Option<u32>
     ensures { MatchOption result (IsNowhere (IsBadIn (pieces_of (unit_of unit.now)))) (IsFirst (IsBadIn (pieces_of (unit_of unit.now)))) }
 {
     match unit {
-        Unit::Text { span, text } => match bad_reference(text) {
-            Some(index) => Some(span.start + index as u32),
-            None => None,
-        },
+        Unit::Text { span, text } => bad_place_in_text(*span, text),
         Unit::StartTag { attrs, .. } | Unit::EmptyTag { attrs, .. } => bad_value(attrs.as_slice()),
         _ => None,
     }

@@ -1,4 +1,4 @@
-use Rattle.std.proofs.Common.{◌≡◌, true, false, inl, inr, sym, ◌∙◌}
+use Rattle.std.proofs.Common.{inl, inr, sym, ◌∙◌}
 use Rattle.tml_span.proofs.Referring.{named_begins, reference_begins, hex_is_left}
 use Rattle.tml_span.proofs.references.begins_reference.Goals.{then-begins_named, else-begins_named}
 use Rattle.tml_span.proofs.references.begins_reference.Goals as goal
