@@ -1,15 +1,15 @@
 -- Declarations, doctypes and comments: where none begins, that there is one or none, and that it ends in one way.
-use Rattle.std.proofs.Common.{◌≡◌, ◌≢◌, ◌⊎◌, ℕ, ◌+◌, ◌-◌, true, false, List, [], ◌∷◌, ◌++◌, length, take, drop, refl, sym, ap, subst, ◌∙◌, append_assoc, arith, inl, inr, ⊎_elim, length-append}
+use Rattle.std.proofs.Common.{◌≡◌, ◌≢◌, ◌⊎◌, ℕ, ◌+◌, ◌-◌, true, false, List, ◌∷◌, ◌++◌, length, take, drop, refl, sym, ap, subst, ◌∙◌, append_assoc, arith, inl, inr, ⊎_elim, length-append}
 use Rattle.std.specs.Prelude.{nat_eq, codes}
 use Rattle.std.specs.List.{starts_with, prefix_len, list_all}
 use Rattle.std.proofs.lemmas.Bool.{cond-false}
 use Rattle.std.proofs.lemmas.List.{take-append-drop, take_at}
 use Rattle.tml_span.specs.Bytes.{is_white, is_doctype_byte}
-use Rattle.tml_span.specs.Units.{Lacks, BeginsWith, Kind, declaration, doctype, comment, PlainUnit, SpelledKind}
+use Rattle.tml_span.specs.Units.{Lacks, Kind, declaration, doctype, comment, PlainUnit, SpelledKind}
 use Rattle.tml_span.specs.Cutting.{Stops, Finds}
 use Rattle.tml_span.specs.Reading.{run_at}
 use Rattle.tml_span.proofs.Leads.{lead, lead_of, remark, query, decree, leads}
-use Rattle.tml_span.proofs.Runs.{Not, run_again, front_passes}
+use Rattle.tml_span.proofs.Runs.{run_again, front_passes}
 use Rattle.tml_span.proofs.Closings.{BeginsWithWord, begins_true, begins_or_not, begins_with_word_or_not, find_piece, comment_apart, declaration_apart, one_body}
 
 -- what follows a unit stands behind its closing text

@@ -9,7 +9,7 @@ use Rattle.tml_span.specs.Cutting.{CutsFrom, Cuts}
 use Rattle.tml_span.specs.References.{IsBad, IsNowhere}
 use Rattle.tml_span.specs.Faults.{HasFault}
 use Rattle.tml_span.specs.View.{unit_of}
-use Rattle.tml_span.specs.Whole.{Cutting, IsWhole}
+use Rattle.tml_span.specs.Whole.{IsWhole}
 
 -- the source, the end of the last unit given, and what follows that place
 pub record Progress : Type 0 where

@@ -5,7 +5,7 @@ use Rattle.tml_span.specs.declared.unit.Quote.TheVariants.{Single, Double}
 use Rattle.tml_span.specs.declared.unit.Attr.{Attr}
 use Rattle.tml_span.specs.declared.unit.Unit.{Unit}
 use Rattle.tml_span.specs.declared.unit.Unit.TheVariants.{Bom, Declaration, Doctype, Comment, Text, StartTag, EndTag, EmptyTag}
-use Rattle.tml_span.specs.Units.{Attribute, Kind, bom, declaration, doctype, comment, text, start_tag, end_tag, empty_tag, PlainUnit}
+use Rattle.tml_span.specs.Units.{Attribute, bom, declaration, doctype, comment, text, start_tag, end_tag, empty_tag, PlainUnit}
 
 abbrev pub quote_byte : Quote → ℕ
 quote_byte Single = 39
