@@ -1,8 +1,9 @@
 -- Cutting a source unit by unit.
 use Rattle.std.proofs.Common.{◌≡◌, ℕ, ◌+◌, ◌-◌, List, [], ◌∷◌, ◌++◌, length, refl, sym, ap, subst, ◌∙◌, append_assoc, arith, length-append}
 use Rattle.std.proofs.lemmas.List.{append-nil, nil_from_length}
-use Rattle.tml_span.specs.Units.{PlainUnit, Kind, text, start_tag, end_tag, SpelledKind, Spelled}
+use Rattle.tml_span.specs.Units.{PlainUnit, Kind, bom, SpelledKind}
 use Rattle.tml_span.specs.Cutting.{Stops, CutsFrom, Finds}
+use Rattle.tml_span.proofs.Leads.{lead, lead_of, leads, nothing}
 
 -- what a cut of the rest does to a cut of the source
 abbrev pub GoesOn : List ℕ → List PlainUnit → ℕ → List ℕ → Type 0
@@ -16,10 +17,13 @@ goes_on source rest after done place u so_far found more end h =
 pub stops_here : (source rest : List ℕ) (done : List PlainUnit) (place : ℕ) → GoesOn source done place rest → Stops place rest → CutsFrom 0 source done rest
 stops_here source rest done place so_far stops = subst (λ (units : List PlainUnit). CutsFrom 0 source units rest) (append-nil done) (so_far [] rest (refl, stops))
 
+no_lead : (k : Kind) → lead_of k ≡ nothing → ⊥
+no_lead bom e = cc
+no_lead k e = cc
+
+-- an empty front is spelled by no kind
 no_kind : (place : ℕ) (k : Kind) (front back : List ℕ) → [] ≡ front ++ back → SpelledKind place k front → ⊥
-no_kind place (text t) front back e h = h.1 (nil_from_length _ (omega (arith, ap length h.0, ap length e, length-append front back)))
-no_kind place (start_tag name attrs) front back e h = cc (e ∙ ap (λ (x : List ℕ). x ++ back) h.2)
-no_kind place (end_tag name) front back e h = cc (e ∙ ap (λ (x : List ℕ). x ++ back) h.1)
+no_kind place k front back e h = no_lead k (sym (leads place k front back h) ∙ ap lead (sym e))
 
 pub empty_stops : (place : ℕ) → Stops place []
 empty_stops place u front back e h = no_kind place u.kind front back e h.kind

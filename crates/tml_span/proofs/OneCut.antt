@@ -1,14 +1,12 @@
 -- One source has one cut.
-use Rattle.std.proofs.Common.{◌≡◌, ◌≢◌, ℕ, ◌+◌, ◌≤◌, Bool, true, false, ◌&&◌, List, [], ◌∷◌, ◌++◌, length, take, drop, refl, sym, ap, subst, ◌∙◌, append_assoc, arith, Option, Some, None, length-append}
-use Rattle.std.specs.List.{prefix_len, list_all}
-use Rattle.std.proofs.lemmas.List.{take_at, drop_at}
-use Rattle.tml_span.specs.Bytes.{is_white, is_text_byte, is_name_byte, is_name}
-use Rattle.tml_span.specs.Units.{Attribute, SpelledAttributes, Kind, text, start_tag, end_tag, PlainUnit, SpelledKind, Spelled}
-use Rattle.tml_span.specs.Cutting.{Ends, Stops, CutsFrom}
-use Rattle.tml_span.specs.Reading.{after_white, name_at, ReadsAttributes}
-use Rattle.tml_span.proofs.Runs.{some_is, Not, prefix_len_again, white_again, name_again}
-use Rattle.tml_span.proofs.Parts.{attributes_again, one_reading}
-use Rattle.tml_span.proofs.Tags.{no_text, inner_stops, white_stops, no_attribute, start_tag_bytes, end_tag_bytes, slash_no_name}
+use Rattle.std.proofs.Common.{◌≡◌, ◌≢◌, ℕ, ◌+◌, true, List, [], ◌∷◌, ◌++◌, length, take, refl, sym, ap, subst, ◌∙◌, arith, length-append}
+use Rattle.std.proofs.lemmas.List.{take_at, append_cancel_left}
+use Rattle.tml_span.specs.Bytes.{is_text_byte}
+use Rattle.tml_span.specs.Units.{Kind, bom, declaration, doctype, comment, text, start_tag, end_tag, empty_tag, PlainUnit, bom_bytes, BeginsWith, SpelledKind, Spelled}
+use Rattle.tml_span.specs.Cutting.{Ends, CutsFrom}
+use Rattle.tml_span.proofs.Leads.{plain, ending, remark, decree, query, lead, lead_of, leads}
+use Rattle.tml_span.proofs.TagCuts.{one_text, one_end_tag, one_tag}
+use Rattle.tml_span.proofs.ClosedUnits.{one_comment, one_declaration, one_doctype}
 
 -- two fronts of one list with the same rest are one
 fronts : (xs ys back after : List ℕ) → xs ++ back ≡ ys ++ after → back ≡ after → xs ≡ ys
@@ -16,45 +14,84 @@ fronts xs ys back after e b =
     let len : length xs ≡ length ys = omega (arith, ap length e, ap length b, length-append xs back, length-append ys after) in
     sym (take_at xs back (length xs) refl) ∙ ap (take (length xs)) e ∙ take_at ys after (length xs) (sym len)
 
-ends_not : (bytes rest : List ℕ) → Ends (text bytes) rest → Not is_text_byte rest
-ends_not bytes [] h = tt
-ends_not bytes (b ∷ rest) h = h
+-- one list has one rest behind the same front
+backs : (xs ys back after : List ℕ) → xs ++ back ≡ ys ++ after → xs ≡ ys → back ≡ after
+backs xs ys back after e f = append_cancel_left ys back after (ap (λ (x : List ℕ). x ++ back) (sym f) ∙ e)
 
-one_text : (t s back after : List ℕ) → t ++ back ≡ s ++ after → list_all is_text_byte t ≡ true → list_all is_text_byte s ≡ true → Not is_text_byte back → Not is_text_byte after → (t ≡ s) × (back ≡ after)
-one_text t s back after e ht hs nb na =
-    let len : length t ≡ length s = sym (prefix_len_again is_text_byte t back ht nb) ∙ ap (prefix_len is_text_byte) e ∙ prefix_len_again is_text_byte s after hs na in
-    let same = sym (drop_at t back (length t) refl) ∙ ap (drop (length t)) e ∙ drop_at s after (length t) (sym len) in
-    (fronts t s back after e same, same)
+-- where the spellings are one, the units and what follows them are
+same_kind : (kind : List ℕ → Kind) (t s front back ahead after : List ℕ) → front ++ back ≡ ahead ++ after → front ≡ t → ahead ≡ s → (t ++ back ≡ s ++ after → t ≡ s) → (kind t ≡ kind s) × (back ≡ after)
+same_kind kind t s front back ahead after e f a one =
+    let same = one (ap (λ (x : List ℕ). x ++ back) (sym f) ∙ e ∙ ap (λ (x : List ℕ). x ++ after) a) in
+    (ap kind same, backs front ahead back after e (f ∙ same ∙ sym a))
 
+-- ---- the Bom and texts
+
+-- a text is not ended by a byte of a text
+no_end : (t after bytes : List ℕ) (b : ℕ) → is_text_byte b ≡ true → after ≡ b ∷ bytes → Ends (text t) after → ⊥
+no_end t [] bytes b passes e ends = cc e
+no_end t (c ∷ after) bytes b passes e ends =
+    let same : c ≡ b = cc e in
+    cc (sym passes ∙ ap is_text_byte (sym same) ∙ ends)
+
+-- a text where the Bom's bytes stand begins with them
+text_begins : (t back after : List ℕ) → bom_bytes ++ back ≡ t ++ after → t ≢ [] → Ends (text t) after → BeginsWith bom_bytes t
+text_begins [] back after e some ends = absurd (some refl)
+text_begins (a ∷ []) back after e some ends = absurd (no_end (a ∷ []) after (191 ∷ back) 187 refl (cc e) ends)
+text_begins (a ∷ b ∷ []) back after e some ends = absurd (no_end (a ∷ b ∷ []) after back 191 refl (cc e) ends)
+text_begins (a ∷ b ∷ c ∷ t) back after e some ends = (t, cc e)
+
+-- no text stands where the Bom does
+no_text : (place : ℕ) (t front back ahead after : List ℕ) → front ++ back ≡ ahead ++ after → SpelledKind place bom front → SpelledKind place (text t) ahead → Ends (text t) after → ⊥
+no_text place t front back ahead after e h g n =
+    g.3 h.0 (text_begins t back after (ap (λ (x : List ℕ). x ++ back) (sym h.1) ∙ e ∙ ap (λ (x : List ℕ). x ++ after) g.0) g.1 n)
+
+with_bom : (place : ℕ) (j : Kind) (front back ahead after : List ℕ) → plain ≡ lead_of j → front ++ back ≡ ahead ++ after → SpelledKind place bom front → SpelledKind place j ahead → Ends j after → (bom ≡ j) × (back ≡ after)
+with_bom place bom front back ahead after l e h g n = (refl, backs front ahead back after e (h.1 ∙ sym g.1))
+with_bom place (text t) front back ahead after l e h g n = absurd (no_text place t front back ahead after e h g n)
+with_bom place j front back ahead after l e h g n = absurd cc
+
+with_text : (place : ℕ) (t : List ℕ) (j : Kind) (front back ahead after : List ℕ) → plain ≡ lead_of j → front ++ back ≡ ahead ++ after → SpelledKind place (text t) front → Ends (text t) back → SpelledKind place j ahead → Ends j after → (text t ≡ j) × (back ≡ after)
+with_text place t bom front back ahead after l e h m g n = absurd (no_text place t ahead after front back (sym e) g h m)
+with_text place t (text s) front back ahead after l e h m g n =
+    same_kind (λ (x : List ℕ). text x) t s front back ahead after e h.0 g.0 (λ e. (one_text place t s back after e (subst (SpelledKind place (text t)) h.0 h) m (subst (SpelledKind place (text s)) g.0 g) n).0)
+with_text place t j front back ahead after l e h m g n = absurd cc
+
+-- ---- what runs up to a closing text
+
+with_declaration : (place : ℕ) (t : List ℕ) (j : Kind) (front back ahead after : List ℕ) → query ≡ lead_of j → front ++ back ≡ ahead ++ after → SpelledKind place (declaration t) front → SpelledKind place j ahead → (declaration t ≡ j) × (back ≡ after)
+with_declaration place t (declaration s) front back ahead after l e h g =
+    same_kind (λ (x : List ℕ). declaration x) t s front back ahead after e h.0 g.0 (λ e. one_declaration place t s back after e (subst (SpelledKind place (declaration t)) h.0 h) (subst (SpelledKind place (declaration s)) g.0 g))
+with_declaration place t j front back ahead after l e h g = absurd cc
+
+with_doctype : (place : ℕ) (t : List ℕ) (j : Kind) (front back ahead after : List ℕ) → decree ≡ lead_of j → front ++ back ≡ ahead ++ after → SpelledKind place (doctype t) front → SpelledKind place j ahead → (doctype t ≡ j) × (back ≡ after)
+with_doctype place t (doctype s) front back ahead after l e h g =
+    same_kind (λ (x : List ℕ). doctype x) t s front back ahead after e h.0 g.0 (λ e. one_doctype place t s back after e (subst (SpelledKind place (doctype t)) h.0 h) (subst (SpelledKind place (doctype s)) g.0 g))
+with_doctype place t j front back ahead after l e h g = absurd cc
+
+with_comment : (place : ℕ) (t : List ℕ) (j : Kind) (front back ahead after : List ℕ) → remark ≡ lead_of j → front ++ back ≡ ahead ++ after → SpelledKind place (comment t) front → SpelledKind place j ahead → (comment t ≡ j) × (back ≡ after)
+with_comment place t (comment s) front back ahead after l e h g =
+    same_kind (λ (x : List ℕ). comment x) t s front back ahead after e h.0 g.0 (λ e. one_comment place t s back after e (subst (SpelledKind place (comment t)) h.0 h) (subst (SpelledKind place (comment s)) g.0 g))
+with_comment place t j front back ahead after l e h g = absurd cc
+
+-- ---- all kinds
+
+with_end_tag : (place : ℕ) (name : List ℕ) (j : Kind) (front back ahead after : List ℕ) → ending ≡ lead_of j → front ++ back ≡ ahead ++ after → SpelledKind place (end_tag name) front → SpelledKind place j ahead → (end_tag name ≡ j) × (back ≡ after)
+with_end_tag place name (end_tag other) front back ahead after l e h g = one_end_tag place name other front back ahead after e h g
+with_end_tag place name j front back ahead after l e h g = absurd cc
+
+same_lead : (place : ℕ) (k j : Kind) (front back ahead after : List ℕ) → lead_of k ≡ lead_of j → front ++ back ≡ ahead ++ after → SpelledKind place k front → Ends k back → SpelledKind place j ahead → Ends j after → (k ≡ j) × (back ≡ after)
+same_lead place bom j front back ahead after l e h m g n = with_bom place j front back ahead after l e h g n
+same_lead place (declaration t) j front back ahead after l e h m g n = with_declaration place t j front back ahead after l e h g
+same_lead place (doctype t) j front back ahead after l e h m g n = with_doctype place t j front back ahead after l e h g
+same_lead place (comment t) j front back ahead after l e h m g n = with_comment place t j front back ahead after l e h g
+same_lead place (text t) j front back ahead after l e h m g n = with_text place t j front back ahead after l e h m g n
+same_lead place (start_tag name attrs) j front back ahead after l e h m g n = one_tag place (start_tag name attrs) j front back ahead after e refl (sym l) h g
+same_lead place (end_tag name) j front back ahead after l e h m g n = with_end_tag place name j front back ahead after l e h g
+same_lead place (empty_tag name attrs) j front back ahead after l e h m g n = one_tag place (empty_tag name attrs) j front back ahead after e refl (sym l) h g
+
+-- two units at one place of one source have the same lead
 one_kind : (place : ℕ) (k j : Kind) (front back ahead after : List ℕ) → front ++ back ≡ ahead ++ after → SpelledKind place k front → Ends k back → SpelledKind place j ahead → Ends j after → (k ≡ j) × (back ≡ after)
-one_kind place (text t) (text s) front back ahead after e h m g n =
-    let one = one_text t s back after (ap (λ (x : List ℕ). x ++ back) (sym h.0) ∙ e ∙ ap (λ (x : List ℕ). x ++ after) g.0) h.2 g.2 (ends_not t back m) (ends_not s after n) in
-    (ap (λ (x : List ℕ). text x) one.0, one.1)
-one_kind place (text t) (start_tag name attrs) front back ahead after e h m g n = absurd (no_text 60 _ t back refl (ap (λ (x : List ℕ). x ++ after) (sym g.2) ∙ sym e ∙ ap (λ (x : List ℕ). x ++ back) h.0) h.1 h.2)
-one_kind place (text t) (end_tag name) front back ahead after e h m g n = absurd (no_text 60 _ t back refl (ap (λ (x : List ℕ). x ++ after) (sym g.1) ∙ sym e ∙ ap (λ (x : List ℕ). x ++ back) h.0) h.1 h.2)
-one_kind place (start_tag name attrs) (text t) front back ahead after e h m g n = absurd (no_text 60 _ t after refl (ap (λ (x : List ℕ). x ++ back) (sym h.2) ∙ e ∙ ap (λ (x : List ℕ). x ++ after) g.0) g.1 g.2)
-one_kind place (end_tag name) (text t) front back ahead after e h m g n = absurd (no_text 60 _ t after refl (ap (λ (x : List ℕ). x ++ back) (sym h.1) ∙ e ∙ ap (λ (x : List ℕ). x ++ after) g.0) g.1 g.2)
-one_kind place (start_tag name attrs) (start_tag name' attrs') front back ahead after e h m g n =
-    let tail = h.1 ++ 62 ∷ back in
-    let tail' = g.1 ++ 62 ∷ after in
-    let is = start_tag_bytes (name ++ (h.0 ++ tail)) ahead after name' g.0 g.1 (sym (ap (λ (x : List ℕ). x ++ back) h.2 ∙ simp append_assoc) ∙ e) g.2 in
-    let same = some_is (sym (name_again name (h.0 ++ tail) h.3 (inner_stops _ attrs h.0 h.1 back h.4 h.5)) ∙ ap name_at is ∙ name_again name' (g.0 ++ tail') g.3 (inner_stops _ attrs' g.0 g.1 after g.4 g.5)) in
-    let reads = subst (λ (p : List ℕ × List ℕ). ReadsAttributes (place + 1 + length p.0) p.1 attrs tail) same (attributes_again (place + 1 + length name) attrs h.0 tail h.4 (no_attribute h.1 back h.5)) in
-    let one = one_reading (place + 1 + length name') (g.0 ++ tail') attrs attrs' tail tail' reads (attributes_again (place + 1 + length name') attrs' g.0 tail' g.4 (no_attribute g.1 after g.5)) in
-    let closed = sym (white_again h.1 (62 ∷ back) h.5 refl) ∙ ap after_white one.1 ∙ white_again g.1 (62 ∷ after) g.5 refl in
-    (λ i. start_tag (same i).0 (one.0 i), cc closed)
-one_kind place (end_tag name) (end_tag name') front back ahead after e h m g n =
-    let whole = end_tag_bytes (47 ∷ (name ++ (h.0 ++ 62 ∷ back))) ahead after name' g.0 (sym (ap (λ (x : List ℕ). x ++ back) h.1 ∙ simp append_assoc) ∙ e) g.1 in
-    let is : name ++ (h.0 ++ 62 ∷ back) ≡ name' ++ (g.0 ++ 62 ∷ after) = cc whole in
-    let same = some_is (sym (name_again name (h.0 ++ 62 ∷ back) h.2 (white_stops h.0 back h.3)) ∙ ap name_at is ∙ name_again name' (g.0 ++ 62 ∷ after) g.2 (white_stops g.0 after g.3)) in
-    let closed = sym (white_again h.0 (62 ∷ back) h.3 refl) ∙ ap after_white (λ i. (same i).1) ∙ white_again g.0 (62 ∷ after) g.3 refl in
-    (λ i. end_tag (same i).0, cc closed)
-one_kind place (start_tag name attrs) (end_tag name') front back ahead after e h m g n =
-    let is = end_tag_bytes (name ++ (h.0 ++ (h.1 ++ 62 ∷ back))) ahead after name' g.0 (sym (ap (λ (x : List ℕ). x ++ back) h.2 ∙ simp append_assoc) ∙ e) g.1 in
-    cc (sym (name_again name (h.0 ++ (h.1 ++ 62 ∷ back)) h.3 (inner_stops _ attrs h.0 h.1 back h.4 h.5)) ∙ ap name_at is ∙ slash_no_name (name' ++ (g.0 ++ 62 ∷ after)))
-one_kind place (end_tag name) (start_tag name' attrs') front back ahead after e h m g n =
-    let is = start_tag_bytes (47 ∷ (name ++ (h.0 ++ 62 ∷ back))) ahead after name' g.0 g.1 (sym (ap (λ (x : List ℕ). x ++ back) h.1 ∙ simp append_assoc) ∙ e) g.2 in
-    cc (sym (slash_no_name (name ++ (h.0 ++ 62 ∷ back))) ∙ ap name_at is ∙ name_again name' (g.0 ++ (g.1 ++ 62 ∷ after)) g.3 (inner_stops _ attrs' g.0 g.1 after g.4 g.5))
+one_kind place k j front back ahead after e h m g n = same_lead place k j front back ahead after (sym (leads place k front back h) ∙ ap lead e ∙ leads place j ahead after g) e h m g n
 
 one_unit : (place : ℕ) (u v : PlainUnit) (front back ahead after : List ℕ) → front ++ back ≡ ahead ++ after → Spelled place u front → Ends u.kind back → Spelled place v ahead → Ends v.kind after → (u ≡ v) × (front ≡ ahead) × (back ≡ after)
 one_unit place u v front back ahead after e h m g n =

@@ -1,5 +1,5 @@
 -- Values and attributes: what is read is spelled so, and what is spelled so is read.
-use Rattle.std.proofs.Common.{◌≡◌, ◌≢◌, ℕ, ◌+◌, ◌-◌, ◌≤◌, Bool, true, false, cond, ◌&&◌, eqb, eq-eqb, List, [], ◌∷◌, ◌++◌, length, take, drop, refl, sym, ap, subst, ◌∙◌, append_assoc, arith, Option, Some, None, rules, length-append}
+use Rattle.std.proofs.Common.{◌≡◌, ℕ, ◌+◌, ◌-◌, Bool, true, false, cond, eqb, eq-eqb, List, [], ◌∷◌, ◌++◌, length, refl, sym, ap, subst, ◌∙◌, append_assoc, arith, Option, Some, None, length-append}
 use Rattle.std.specs.List.{prefix_len, list_all}
 use Rattle.std.proofs.lemmas.Bool.{eqb-true}
 use Rattle.std.proofs.lemmas.Bool.Decides.{nat_tests}
@@ -22,9 +22,10 @@ pub when_bind : {A B : Type 0} (t : Bool) (x : A) (f : A → Option B) → t ≡
 when_bind true x f e = refl
 when_bind false x f e = absurd cc
 
-pub guard_not : {A : Type 0} (t : Bool) (x y : A) → cond t None (Some x) ≡ Some y → (t ≡ false) × (x ≡ y)
-guard_not true x y e = absurd cc
-guard_not false x y e = (refl, cc)
+-- a test with which there is nothing
+pub guard_not : {A : Type 0} (t : Bool) (o : Option A) (y : A) → cond t None o ≡ Some y → (t ≡ false) × (o ≡ Some y)
+guard_not true o y e = absurd cc
+guard_not false o y e = (refl, e)
 
 -- ---- one byte
 
@@ -107,10 +108,10 @@ spelled_parts place bytes before left right rest a whole wb wl wr name quote val
 pub attribute_takes : (place : ℕ) (bytes : List ℕ) (a : Attribute) (rest : List ℕ) → attribute_at place bytes ≡ Some (a, rest) → (front : List ℕ) × (bytes ≡ front ++ rest) × SpelledAttribute place a front
 unfolding attribute_at
 attribute_takes place bytes a rest e =
-    let n = bind_some (name_at (after_white bytes)) _ (a, rest) e in
+    let some_white = guard_not (eqb (prefix_len is_white bytes) 0) _ (a, rest) e in
+    let n = bind_some (name_at (after_white bytes)) _ (a, rest) some_white.1 in
     let r = bind_some (after_byte 61 (after_white n.0.1)) _ (a, rest) n.2 in
     let v = bind_some (value_at (after_white r.0)) _ (a, rest) r.2 in
-    let last = guard_not (eqb (prefix_len is_white bytes) 0) _ (a, rest) v.2 in
     let before = white_takes bytes in
     let name = name_takes (after_white bytes) n.0.0 n.0.1 n.1 in
     let left = white_takes n.0.1 in
@@ -119,8 +120,8 @@ attribute_takes place bytes a rest e =
     let whole =
     before.1 ∙ ap (λ (x : List ℕ). before.0 ++ x) (name.0 ∙ ap (λ (x : List ℕ). n.0.0 ++ x) (left.1 ∙ ap (λ (x : List ℕ). left.0 ++ x) (byte_takes 61 (after_white n.0.1) r.0 r.1
     ∙ ap (λ (x : List ℕ). 61 ∷ x) (right.1 ∙ ap (λ (x : List ℕ). right.0 ++ x) value.0)))) in
-    let some : length before.0 ≡ 0 → ⊥ = λ z. zero_is (prefix_len is_white bytes) (before.3 ∙ z) last.0 in
-    subst (λ (p : Attribute × List ℕ). (front : List ℕ) × (bytes ≡ front ++ p.1) × SpelledAttribute place p.0 front) last.1
+    let some : length before.0 ≡ 0 → ⊥ = λ z. zero_is (prefix_len is_white bytes) (before.3 ∙ z) some_white.0 in
+    subst (λ (p : Attribute × List ℕ). (front : List ℕ) × (bytes ≡ front ++ p.1) × SpelledAttribute place p.0 front) (some_is v.2)
     (spelled_parts place bytes before.0 left.0 right.0 v.0.2 _ whole before.2 left.2 right.2 name.1 value.1 value.2 some (ap (λ (k : ℕ). place + k) before.3) refl)
 
 name_stops : (left rest : List ℕ) → list_all is_white left ≡ true → Not is_name_byte (left ++ 61 ∷ rest)
@@ -157,12 +158,12 @@ attribute_reads place before left right rest a wb wl wr name quote value some st
     let starts = name_not_white a.name equals name in
     let len : prefix_len is_white (before ++ named) ≡ length before = prefix_len_again is_white before named wb starts in
     let test = some_len before some in
-    rw (white_again before named wb starts) (
+    rw (white_again before named wb starts, len, test) (
     bind_is (name_at named) (a.name, equals) _ (name_again a.name equals name (name_stops left (right ++ valued) wl))
     ∙ rw (white_again left (61 ∷ (right ++ valued)) wl refl) (
     rw (white_again right valued wr (quote_stops a.quote quote)) (
     bind_is (value_at valued) (a.quote, a.value, rest) _ (value_again a.quote a.value rest quote value)
-    ∙ rw (len, test) (ap (λ (x : Attribute). Some (x, rest)) (same_attribute a _ _ (sym start) (sym end))))))
+    ∙ ap (λ (x : Attribute). Some (x, rest)) (same_attribute a _ _ (sym start) (sym end)))))
 
 pub attribute_again : (place : ℕ) (a : Attribute) (front rest : List ℕ) → SpelledAttribute place a front → attribute_at place (front ++ rest) ≡ Some (a, rest)
 attribute_again place a front rest h =

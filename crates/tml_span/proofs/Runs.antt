@@ -1,7 +1,6 @@
 -- The longest front of one kind of bytes, and names.
-use Rattle.std.proofs.Common.{one-add, subst, ◌≡◌, ◌≢◌, ℕ, ◌+◌, ◌≤◌, Bool, true, false, cond, ◌&&◌, List, [], ◌∷◌, ◌++◌, length, take, drop, refl, sym, ap, ◌∙◌, arith, Option, Some, None, rules, length-take}
+use Rattle.std.proofs.Common.{one-add, subst, ◌≡◌, ℕ, ◌+◌, ◌≤◌, Bool, true, false, cond, ◌&&◌, List, [], ◌∷◌, ◌++◌, length, take, drop, refl, sym, ap, ◌∙◌, arith, Some, None, length-take}
 use Rattle.std.specs.List.{prefix_len, list_all}
-use Rattle.std.proofs.lemmas.Grind.{common_steps}
 use Rattle.std.proofs.lemmas.List.{take-append-drop, take_at, drop_at}
 use Rattle.tml_span.specs.Bytes.{is_white, is_name_start, is_name_byte, is_name}
 use Rattle.tml_span.specs.Reading.{run_at, after_white, name_at}

@@ -1,27 +1,16 @@
 -- A search for the end of a text measures the text.
-use Rattle.std.proofs.Common.{◌≡◌, ℕ, ◌<◌, ◌≤◌, Bool, true, false, ◌&&◌, ◌||◌, not, List, length, get_or, refl, sym, ap, ◌∙◌, arith, Some, None}
+use Rattle.std.proofs.Common.{◌≡◌, ℕ, Bool, true, false, not, List, length, refl, sym, ap, arith, Some, None}
 use Rattle.std.specs.List.{prefix_len}
 use Rattle.std.proofs.lemmas.List.Sums.{prefix_len_is}
-use Rattle.memchr.specs.Find.{IsFirstByte, is_byte2}
+use Rattle.memchr.specs.Find.{IsFirstByte, is_byte}
 use Rattle.tml_span.specs.Bytes.{is_text_byte}
-
-neither : (p q : Bool) → (not p && not q) ≡ not (p || q)
-neither true q = refl
-neither false q = refl
 
 not_true : (b : Bool) → (b ≡ true → ⊥) → not b ≡ true
 not_true true h = absurd (h refl)
 not_true false h = refl
 
-text_byte_is : (b : ℕ) → is_text_byte b ≡ not (is_byte2 60 38 b)
-text_byte_is b = neither _ _
+pub text_ends : (bytes : List ℕ) (n : ℕ) → IsFirstByte (is_byte 60) bytes (Some n) → n ≡ prefix_len is_text_byte bytes
+text_ends bytes n h = sym (prefix_len_is is_text_byte bytes n 0 (omega (arith, h.0.high)) (λ k l. not_true _ (h.0.before k (omega arith) l)) (λ l. ap not h.1))
 
-pub text_ends : (bytes : List ℕ) (n : ℕ) → IsFirstByte (is_byte2 60 38) bytes (Some n) → n ≡ prefix_len is_text_byte bytes
-text_ends bytes n h = sym (prefix_len_is is_text_byte bytes n 0 (omega (arith, h.0.high))
-    (λ k l. text_byte_is (get_or bytes k 0) ∙ not_true _ (h.0.before k (omega arith) l))
-    (λ l. text_byte_is (get_or bytes n 0) ∙ ap not h.1))
-
-pub all_text : (bytes : List ℕ) → IsFirstByte (is_byte2 60 38) bytes None → length bytes ≡ prefix_len is_text_byte bytes
-all_text bytes h = sym (prefix_len_is is_text_byte bytes (length bytes) 0 (omega arith)
-    (λ k l. text_byte_is (get_or bytes k 0) ∙ not_true _ (h k (omega arith) l))
-    (λ l. absurd (omega arith)))
+pub all_text : (bytes : List ℕ) → IsFirstByte (is_byte 60) bytes None → length bytes ≡ prefix_len is_text_byte bytes
+all_text bytes h = sym (prefix_len_is is_text_byte bytes (length bytes) 0 (omega arith) (λ k l. not_true _ (h k (omega arith) l)) (λ l. absurd (omega arith)))

@@ -3,7 +3,7 @@ use Rattle.std.proofs.Common.{◌≡◌, ℕ, ◌+◌, ◌-◌, List, [], ◌∷
 use Rattle.std.specs.Prelude.{slice_range}
 use Rattle.std.specs.List.{AllByRecursion}
 use Rattle.std.proofs.lemmas.List.{take_at, drop_at}
-use Rattle.tml_span.specs.Units.{Attribute, SpelledAttribute, SpelledAttributes, Kind, text, start_tag, end_tag, PlainUnit, SpelledKind, Spelled}
+use Rattle.tml_span.specs.Units.{Attribute, SpelledAttribute, SpelledAttributes, Kind, bom, declaration, doctype, comment, text, start_tag, end_tag, empty_tag, SpelledTag, PlainUnit, SpelledKind, Spelled}
 use Rattle.tml_span.specs.Cutting.{CutsFrom}
 use Rattle.tml_span.specs.Slices.{StandsAt, AttributeStands, KindStands, UnitStands}
 
@@ -38,19 +38,32 @@ attributes_stand source before tail inner place (a ∷ attrs) e len h =
       attributes_stand source (before ++ h.0) tail h.1 (place + length h.0) attrs others longer h.4,
     )
 
-kind_stands : (source before back front : List ℕ) (place : ℕ) (k : Kind) → source ≡ before ++ (front ++ back) → length before ≡ place → SpelledKind place k front → KindStands source place (place + length front) k
-kind_stands source before back front place (text t) e len h = stands source before front back place e len ∙ h.0
-kind_stands source before back front place (start_tag name attrs) e len h =
-    let whole : source ≡ before ++ ((60 ∷ name ++ h.0 ++ h.1 ++ 62 ∷ []) ++ back) = e ∙ ap (λ (f : List ℕ). before ++ (f ++ back)) h.2 in
-    let named : source ≡ (before ++ 60 ∷ []) ++ (name ++ (h.0 ++ (h.1 ++ (62 ∷ back)))) = whole ∙ simp append_assoc in
-    let inside : source ≡ (before ++ 60 ∷ name) ++ (h.0 ++ (h.1 ++ (62 ∷ back))) = whole ∙ simp append_assoc in (
+-- the name and the attributes of a tag stand behind its `<`
+tag_stands : (source before back front : List ℕ) (place : ℕ) (name : List ℕ) (attrs : List Attribute) (close : List ℕ) → source ≡ before ++ (front ++ back) → length before ≡ place → SpelledTag place name attrs close front → StandsAt source (place + 1) name × AllByRecursion (AttributeStands source) attrs
+tag_stands source before back front place name attrs close e len h =
+    let whole : source ≡ before ++ ((60 ∷ name ++ h.inner ++ h.white ++ close) ++ back) = e ∙ ap (λ (f : List ℕ). before ++ (f ++ back)) h.whole in
+    let named : source ≡ (before ++ 60 ∷ []) ++ (name ++ (h.inner ++ (h.white ++ (close ++ back)))) = whole ∙ simp append_assoc in
+    let inside : source ≡ (before ++ 60 ∷ name) ++ (h.inner ++ (h.white ++ (close ++ back))) = whole ∙ simp append_assoc in (
       stands source _ name _ _ named (omega (arith, len, length-append before (60 ∷ []))),
-      attributes_stand source (before ++ 60 ∷ name) _ h.0 _ attrs inside (omega (arith, len, length-append before (60 ∷ name))) h.4,
+      attributes_stand source (before ++ 60 ∷ name) _ h.inner _ attrs inside (omega (arith, len, length-append before (60 ∷ name))) h.attributes,
     )
+
+-- the whole bytes of a unit are the source at its span
+spans : (source before back front bytes : List ℕ) (place : ℕ) → source ≡ before ++ (front ++ back) → length before ≡ place → front ≡ bytes → slice_range source place (place + length front) ≡ bytes
+spans source before back front bytes place e len h = stands source before front back place e len ∙ h
+
+kind_stands : (source before back front : List ℕ) (place : ℕ) (k : Kind) → source ≡ before ++ (front ++ back) → length before ≡ place → SpelledKind place k front → KindStands source place (place + length front) k
+kind_stands source before back front place bom e len h = tt
+kind_stands source before back front place (declaration t) e len h = spans source before back front t place e len h.0
+kind_stands source before back front place (doctype t) e len h = spans source before back front t place e len h.0
+kind_stands source before back front place (comment t) e len h = spans source before back front t place e len h.0
+kind_stands source before back front place (text t) e len h = spans source before back front t place e len h.0
+kind_stands source before back front place (start_tag name attrs) e len h = tag_stands source before back front place name attrs _ e len h
 kind_stands source before back front place (end_tag name) e len h =
     let whole : source ≡ before ++ ((60 ∷ 47 ∷ name ++ h.0 ++ 62 ∷ []) ++ back) = e ∙ ap (λ (f : List ℕ). before ++ (f ++ back)) h.1 in
     let named : source ≡ (before ++ 60 ∷ 47 ∷ []) ++ (name ++ (h.0 ++ (62 ∷ back))) = whole ∙ simp append_assoc in
     stands source _ name _ _ named (omega (arith, len, length-append before (60 ∷ 47 ∷ [])))
+kind_stands source before back front place (empty_tag name attrs) e len h = tag_stands source before back front place name attrs _ e len h
 
 -- a unit that is spelled at a place stands there
 pub unit_stands : (source before back front : List ℕ) (place : ℕ) (u : PlainUnit) → source ≡ before ++ (front ++ back) → length before ≡ place → Spelled place u front → UnitStands source u

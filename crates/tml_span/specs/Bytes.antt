@@ -21,14 +21,25 @@ abbrev pub is_name : List ℕ → Bool
 is_name [] = false
 is_name (b ∷ bytes) = is_name_start b && list_all is_name_byte bytes
 
--- any byte but `<` and `&`
+-- any byte but `<`
 abbrev pub is_text_byte : ℕ → Bool
-is_text_byte b = not (b == 60) && not (b == 38)
+is_text_byte b = not (b == 60)
 
 -- `"` or `'`
 abbrev pub is_quote : ℕ → Bool
 is_quote b = b == 34 || b == 39
 
--- any byte but the quote, `<` and `&`
+-- any byte but the quote and `<`
 abbrev pub is_value_byte : ℕ → ℕ → Bool
-is_value_byte quote b = not (b == quote) && not (b == 60) && not (b == 38)
+is_value_byte quote b = not (b == quote) && not (b == 60)
+
+-- any byte but `[`, `<` and `>`
+abbrev pub is_doctype_byte : ℕ → Bool
+is_doctype_byte b = not (b == 91) && not (b == 60) && not (b == 62)
+
+abbrev pub is_digit : ℕ → Bool
+is_digit b = is_between 48 b 57
+
+-- a digit, or a letter from a to f of either case
+abbrev pub is_hex_digit : ℕ → Bool
+is_hex_digit b = is_digit b || is_between 65 b 70 || is_between 97 b 102

@@ -3,7 +3,7 @@ use Rattle.std.specs.Prelude.{◌≡◌, ℕ, ◌+◌, false, List, [], ◌∷�
 use Rattle.tml_span.specs.Bytes.{is_text_byte}
 use Rattle.tml_span.specs.Units.{Kind, text, PlainUnit, Spelled}
 
--- a text is as long as can be: what follows it is no byte of text
+-- a text is as long as can be: `<` follows it, or nothing
 abbrev pub Ends : Kind → List ℕ → Type 0
 Ends (text bytes) [] = Unit {0}
 Ends (text bytes) (b ∷ rest) = is_text_byte b ≡ false
@@ -29,3 +29,7 @@ Cuts source units rest = CutsFrom 0 source units rest
 -- a source is cut in one way
 abbrev pub OneCut : Type 0
 OneCut = (source : List ℕ) (units others : List PlainUnit) (rest after : List ℕ) → Cuts source units rest → Cuts source others after → (units ≡ others) × (rest ≡ after)
+
+-- every source has a cut
+abbrev pub EveryCut : Type 0
+EveryCut = (source : List ℕ) → (units : List PlainUnit) × (rest : List ℕ) × Cuts source units rest

@@ -1,6 +1,7 @@
 pub mod Bytes
 pub mod Units
 pub mod Cutting
+pub mod References
 pub mod Faults
 pub mod Slices
 pub mod View

@@ -6,9 +6,10 @@ use Rattle.tml_span.specs.declared.unit.Unit as rust
 use Rattle.tml_span.specs.declared.reader.Cut.{Cut}
 use Rattle.tml_span.specs.Units.{PlainUnit}
 use Rattle.tml_span.specs.Cutting.{CutsFrom, Cuts}
+use Rattle.tml_span.specs.References.{IsBad, IsNowhere}
 use Rattle.tml_span.specs.Faults.{HasFault}
 use Rattle.tml_span.specs.View.{unit_of}
-use Rattle.tml_span.specs.Whole.{Cutting, IsWhole}
+use Rattle.tml_span.specs.Whole.{IsWhole}
 
 -- the source, the end of the last unit given, and what follows that place
 pub record Progress : Type 0 where
@@ -16,9 +17,10 @@ pub record Progress : Type 0 where
   pub place : ℕ
   pub rest : List ℕ
 
--- these are the units given so far: with the units of the rest they are those of the source
-abbrev pub HasGiven : Progress → List PlainUnit → Type 0
-HasGiven p done = (more : List PlainUnit) (end : List ℕ) → CutsFrom p.place p.rest more end → Cuts p.source (done ++ more) end
+-- these are the units given so far: no reference in them is bad, and with the units of the rest they are those of the source
+pub record HasGiven (p : Progress) (done : List PlainUnit) : Type 0 where
+  pub sound : IsNowhere (IsBad done)
+  pub cuts : (more : List PlainUnit) (end : List ℕ) → CutsFrom p.place p.rest more end → Cuts p.source (done ++ more) end
 
 pub record IsProgress (p : Progress) : Type 0 where
   pub utf8 : IsUtf8 p.source

@@ -1,5 +1,5 @@
 -- Reading one unit from left to right.
-use Rattle.std.specs.Prelude.{◌≡◌, ℕ, zero, suc, ◌+◌, ◌-◌, ◌<◌, Bool, true, false, ◌==◌, List, [], ◌∷◌, ◌++◌, length, take, drop, Option, Some, None, option_and_then, if◌then◌else◌}
+use Rattle.std.specs.Prelude.{◌≡◌, ℕ, ◌+◌, ◌-◌, Bool, ◌==◌, List, [], ◌∷◌, length, take, drop, Option, Some, None, option_and_then, if◌then◌else◌}
 use Rattle.std.specs.List.{prefix_len}
 use Rattle.tml_span.specs.Bytes.{is_white, is_name_start, is_name_byte, is_quote, is_value_byte}
 use Rattle.tml_span.specs.Units.{Attribute}
@@ -38,11 +38,11 @@ value_at bytes = do
 
 -- an attribute behind white space, of which there is some
 unfoldable pub attribute_at : ℕ → List ℕ → Option (Attribute × List ℕ)
-attribute_at place bytes = do
+attribute_at place bytes = if prefix_len is_white bytes == 0 then None else do
   name ← name_at (after_white bytes)
   right ← after_byte 61 (after_white name.1)
   value ← value_at (after_white right)
-  if prefix_len is_white bytes == 0 then None else Some (record { start = place + prefix_len is_white bytes; end = place + (length bytes - length value.2); name = name.0; value = value.1; quote = value.0 }, value.2)
+  Some (record { start = place + prefix_len is_white bytes; end = place + (length bytes - length value.2); name = name.0; value = value.1; quote = value.0 }, value.2)
 
 -- as many attributes as there are, and what follows them
 abbrev pub ReadsAttributes : ℕ → List ℕ → List Attribute → List ℕ → Type 0

@@ -1,7 +1,7 @@
 -- Units of markup as plain values, and how they are spelled.
-use Rattle.std.specs.Prelude.{◌≡◌, ◌≢◌, ℕ, ◌+◌, true, List, [], ◌∷◌, ◌++◌, length}
+use Rattle.std.specs.Prelude.{◌≡◌, ◌≢◌, ℕ, ◌+◌, true, List, [], ◌∷◌, ◌++◌, length, codes}
 use Rattle.std.specs.List.{list_all}
-use Rattle.tml_span.specs.Bytes.{is_white, is_name, is_text_byte, is_quote, is_value_byte}
+use Rattle.tml_span.specs.Bytes.{is_white, is_name, is_text_byte, is_quote, is_value_byte, is_doctype_byte}
 
 -- an attribute, from the first byte of its name up to past its closing quote
 pub record Attribute : Type 0 where
@@ -11,10 +11,16 @@ pub record Attribute : Type 0 where
   pub value : List ℕ
   pub quote : ℕ
 
+-- The kinds of unit. A declaration, a doctype, a comment and a text have all their bytes.
 pub data Kind : Type 0 where
+  bom : Kind
+  declaration : List ℕ → Kind
+  doctype : List ℕ → Kind
+  comment : List ℕ → Kind
   text : List ℕ → Kind
   start_tag : List ℕ → List Attribute → Kind
   end_tag : List ℕ → Kind
+  empty_tag : List ℕ → List Attribute → Kind
 
 -- a unit, from its first byte up to past its last one
 pub record PlainUnit : Type 0 where
@@ -43,11 +49,37 @@ abbrev pub SpelledAttributes : ℕ → List Attribute → List ℕ → Type 0
 SpelledAttributes place [] bytes = bytes ≡ []
 SpelledAttributes place (a ∷ attrs) bytes = (front : List ℕ) × (back : List ℕ) × (bytes ≡ front ++ back) × SpelledAttribute place a front × SpelledAttributes (place + length front) attrs back
 
--- A text is some bytes of text; a start tag is `<`, a name, attributes, white space and `>`; an end tag is `</`, a name, white space and `>`.
+-- A tag that stands at a place: `<`, a name, attributes, white space, and `>` or `/>`.
+pub record SpelledTag (place : ℕ) (name : List ℕ) (attrs : List Attribute) (close spelling : List ℕ) : Type 0 where
+  pub inner : List ℕ
+  pub white : List ℕ
+  pub whole : spelling ≡ 60 ∷ name ++ inner ++ white ++ close
+  pub named : is_name name ≡ true
+  pub attributes : SpelledAttributes (place + 1 + length name) attrs inner
+  pub white_inner : list_all is_white white ≡ true
+
+-- the bytes EF BB BF
+abbrev pub bom_bytes : List ℕ
+bom_bytes = 239 ∷ 187 ∷ 191 ∷ []
+
+-- no part of the bytes is this piece
+abbrev pub Lacks : List ℕ → List ℕ → Type 0
+Lacks piece bytes = (front back : List ℕ) → bytes ≢ front ++ piece ++ back
+
+-- the bytes begin with this piece
+abbrev pub BeginsWith : List ℕ → List ℕ → Type 0
+BeginsWith piece bytes = (back : List ℕ) × (bytes ≡ piece ++ back)
+
+-- How a kind of unit is spelled at a place: a Bom at place 0 alone, where no text begins with its bytes.
 abbrev pub SpelledKind : ℕ → Kind → List ℕ → Type 0
-SpelledKind place (text bytes) spelling = (spelling ≡ bytes) × (bytes ≢ []) × (list_all is_text_byte bytes ≡ true)
-SpelledKind place (start_tag name attrs) spelling = (inner : List ℕ) × (white : List ℕ) × (spelling ≡ 60 ∷ name ++ inner ++ white ++ 62 ∷ []) × (is_name name ≡ true) × SpelledAttributes (place + 1 + length name) attrs inner × (list_all is_white white ≡ true)
+SpelledKind place bom spelling = (place ≡ 0) × (spelling ≡ bom_bytes)
+SpelledKind place (declaration bytes) spelling = (spelling ≡ bytes) × (white : ℕ) × (body : List ℕ) × (bytes ≡ codes "<?xml" ++ white ∷ body ++ codes "?>") × (is_white white ≡ true) × Lacks (codes "?>") body
+SpelledKind place (doctype bytes) spelling = (spelling ≡ bytes) × (white : ℕ) × (body : List ℕ) × (bytes ≡ codes "<!DOCTYPE" ++ white ∷ body ++ codes ">") × (is_white white ≡ true) × (list_all is_doctype_byte body ≡ true)
+SpelledKind place (comment bytes) spelling = (spelling ≡ bytes) × (body : List ℕ) × (bytes ≡ codes "<!--" ++ body ++ codes "-->") × Lacks (codes "-->") body
+SpelledKind place (text bytes) spelling = (spelling ≡ bytes) × (bytes ≢ []) × (list_all is_text_byte bytes ≡ true) × (place ≡ 0 → BeginsWith bom_bytes bytes → ⊥)
+SpelledKind place (start_tag name attrs) spelling = SpelledTag place name attrs (codes ">") spelling
 SpelledKind place (end_tag name) spelling = (white : List ℕ) × (spelling ≡ 60 ∷ 47 ∷ name ++ white ++ 62 ∷ []) × (is_name name ≡ true) × (list_all is_white white ≡ true)
+SpelledKind place (empty_tag name attrs) spelling = SpelledTag place name attrs (codes "/>") spelling
 
 -- a unit that stands at a place is spelled so
 pub record Spelled (place : ℕ) (u : PlainUnit) (spelling : List ℕ) : Type 0 where

@@ -4,7 +4,7 @@ ghost use Rattle.std.specs.List.{prefix_len};
 ghost use Rattle.tml_span.specs.Bytes as kinds;
 
 /// Space, tab, carriage return or line feed.
-fn is_white(b: u8) -> bool
+pub fn is_white(b: u8) -> bool
     ensures { result ≡ kinds.is_white b }
 {
     b == b' ' || b == b'\t' || b == b'\r' || b == b'\n'
@@ -24,13 +24,6 @@ fn is_name_byte(b: u8) -> bool
     is_name_start(b) || matches!(b, b'0'..=b'9' | b'-' | b'.')
 }
 
-/// A byte of a text.
-pub fn is_text_byte(b: u8) -> bool
-    ensures { result ≡ kinds.is_text_byte b }
-{
-    b != b'<' && b != b'&'
-}
-
 pub fn white_len(bytes: &[u8]) -> usize
     ensures within { result ≤ length bytes.now }
     ensures len { result ≡ prefix_len kinds.is_white bytes.now }
@@ -45,12 +38,12 @@ pub fn name_len(bytes: &[u8]) -> usize
     bytes.iter().take_while(|b| is_name_byte(**b)).count()
 }
 
-/// A text is mostly long, so it is searched for the first byte that ends it.
+/// A text is mostly long, so it is searched for the `<` that ends it.
 pub fn text_len(bytes: &[u8]) -> usize
     ensures within { result ≤ length bytes.now }
     ensures len { result ≡ prefix_len kinds.is_text_byte bytes.now }
 {
-    match memchr::memchr2(b'<', b'&', bytes) {
+    match memchr::memchr(b'<', bytes) {
         Some(len) => len,
         None => bytes.len(),
     }
@@ -63,6 +56,31 @@ pub fn value_len(quote: u8, bytes: &[u8]) -> usize
 {
     bytes
         .iter()
-        .take_while(|b| **b != quote && **b != b'<' && **b != b'&')
+        .take_while(|b| **b != quote && **b != b'<')
         .count()
+}
+
+/// How long the body of a doctype is.
+pub fn doctype_len(bytes: &[u8]) -> usize
+    ensures within { result ≤ length bytes.now }
+    ensures len { result ≡ prefix_len kinds.is_doctype_byte bytes.now }
+{
+    bytes
+        .iter()
+        .take_while(|b| **b != b'[' && **b != b'<' && **b != b'>')
+        .count()
+}
+
+pub fn digits_len(bytes: &[u8]) -> usize
+    ensures within { result ≤ length bytes.now }
+    ensures len { result ≡ prefix_len kinds.is_digit bytes.now }
+{
+    bytes.iter().take_while(|b| b.is_ascii_digit()).count()
+}
+
+pub fn hex_digits_len(bytes: &[u8]) -> usize
+    ensures within { result ≤ length bytes.now }
+    ensures len { result ≡ prefix_len kinds.is_hex_digit bytes.now }
+{
+    bytes.iter().take_while(|b| b.is_ascii_hexdigit()).count()
 }

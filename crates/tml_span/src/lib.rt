@@ -2,14 +2,17 @@
 #![tactic(auto)]
 
 mod bytes;
+mod enclosed;
 mod laws;
 mod list;
 mod reader;
+mod references;
 mod scan;
+mod tags;
 mod unit;
 mod unit_list;
 
-pub use laws::{one_cut, slices_stand};
+pub use laws::{every_cut, one_cut, slices_stand};
 pub use list::{List, Memory};
 pub use reader::{Cut, UnitReader};
 pub use unit::{Attr, Quote, Span, Unit};

@@ -6,6 +6,7 @@ ghost use Rattle.tml_span.specs.Faults.{HasFault};
 ghost use Rattle.tml_span.specs.View.{unit_of};
 
 use crate::Unit;
+use crate::references::bad_reference_in;
 use crate::scan::unit_at;
 use std::alloc::Global;
 use std::marker::Model;
@@ -15,6 +16,8 @@ use std::marker::Model;
 pub enum Cut {
     /// The source is not UTF-8: its longest valid front has `place` bytes.
     NotUtf8 { place: u32 },
+    /// At that place stands an `&` with which no reference begins.
+    BadReference { place: u32 },
     /// No unit begins at that place.
     BadMarkup { place: u32 },
     /// Memory is wanting.
@@ -75,6 +78,9 @@ impl<'s> UnitReader<'s> {
         let Some((unit, rest)) = found else {
             return Err(Cut::BadMarkup { place: self.place });
         };
+        if let Some(place) = bad_reference_in(&unit) {
+            return Err(Cut::BadReference { place });
+        }
         self.place += (self.rest.len() - rest.len()) as u32;
         self.rest = rest;
         Ok(Some(unit))

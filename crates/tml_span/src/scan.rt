@@ -1,177 +1,23 @@
-//! Reading one unit from left to right.
-ghost use Rattle.std.specs.Prelude.{true, ◌≡◌, ◌≢◌, ◌+◌, ◌<◌, ◌≤◌, ◌^◌, ◌∷◌, slice_index, List as ListOf, ℕ, length, map, option_map, IfOk, IfSome, MatchOption};
-ghost use Rattle.tml_span.specs.Reading as reading;
-ghost use Rattle.tml_span.specs.View.{attribute_of, unit_of, quote_byte};
+//! The unit at the front of some bytes.
+ghost use Rattle.std.specs.Prelude.{true, false, ◌≡◌, ◌+◌, ◌<◌, ◌^◌, slice_index, codes, length, nat_eq, IfOk, IfSome, MatchOption};
+ghost use Rattle.std.specs.List.{starts_with};
 ghost use Rattle.tml_span.specs.Bytes as kinds;
 ghost use Rattle.tml_span.specs.Cutting.{Stops, Finds};
+ghost use Rattle.tml_span.specs.Units.{bom_bytes};
+ghost use Rattle.tml_span.specs.View.{unit_of};
 
-use crate::bytes::{is_name_start, is_text_byte, name_len, text_len, value_len, white_len};
-use crate::{Attr, List, Memory, Quote, Span, Unit};
+use crate::bytes::text_len;
+use crate::enclosed::{comment_at, declaration_at, doctype_at};
+use crate::tags::{end_tag_at, tag_at};
+use crate::{Memory, Span, Unit};
 use std::alloc::Global;
-
-fn after_white(bytes: &[u8]) -> &[u8]
-    ensures white { result.now ≡ reading.after_white bytes.now }
-    ensures shorter { length result.now ≤ length bytes.now }
-{
-    let len = white_len(bytes);
-    &bytes[len..]
-}
-
-fn after_byte(b: u8, bytes: &[u8]) -> Option<&[u8]>
-    ensures reads { option_map (λ r. r.now) result ≡ reading.after_byte b bytes.now }
-    ensures shorter { IfSome result (λ r. length r.now < length bytes.now) }
-{
-    match bytes {
-        [first, rest @ ..] if *first == b => Some(rest),
-        _ => None,
-    }
-}
-
-/// A name, and what follows it.
-#[tactic(auto, unfolding(crate::specs::Reading::name_at))]
-fn name_at(bytes: &[u8]) -> Option<(&[u8], &[u8])>
-    ensures reads { option_map (λ r. (r.0.now, r.1.now)) result ≡ reading.name_at bytes.now }
-    ensures len { IfSome result (λ r. length r.0.now + length r.1.now ≡ length bytes.now) }
-{
-    match bytes {
-        [first, ..] if is_name_start(*first) => Some(bytes.split_at(name_len(bytes))),
-        _ => None,
-    }
-}
-
-#[tactic(auto, unfolding(crate::specs::Reading::quote_at))]
-fn quote_at(bytes: &[u8]) -> Option<(Quote, &[u8])>
-    ensures reads { option_map (λ r. (quote_byte r.0, r.1.now)) result ≡ reading.quote_at bytes.now }
-    ensures shorter { IfSome result (λ r. length r.1.now < length bytes.now) }
-{
-    match bytes {
-        [b'"', rest @ ..] => Some((Quote::Double, rest)),
-        [b'\'', rest @ ..] => Some((Quote::Single, rest)),
-        _ => None,
-    }
-}
-
-fn byte_of(quote: Quote) -> u8
-    ensures { result ≡ quote_byte quote }
-{
-    match quote {
-        Quote::Single => b'\'',
-        Quote::Double => b'"',
-    }
-}
-
-/// A value between two quotes, and what follows it.
-#[tactic(auto, unfolding(crate::specs::Reading::value_at))]
-fn value_at(bytes: &[u8]) -> Option<(Quote, &[u8], &[u8])>
-    ensures reads { option_map (λ r. (quote_byte r.0, r.1.now, r.2.now)) result ≡ reading.value_at bytes.now }
-    ensures shorter { IfSome result (λ r. length r.2.now < length bytes.now) }
-{
-    let (quote, inner) = quote_at(bytes)?;
-    let byte = byte_of(quote);
-    let (value, closing) = inner.split_at(value_len(byte, inner));
-    let rest = after_byte(byte, closing)?;
-    Some((quote, value, rest))
-}
-
-/// An attribute behind white space, and what follows it.
-#[tactic(auto, unfolding(crate::specs::Reading::attribute_at))]
-fn attribute_at<'s>(place: u32, bytes: &'s [u8]) -> Option<(Attr<'s>, &'s [u8])>
-    requires { place + length bytes.now < 2 ^ 32 }
-    ensures reads { option_map (λ r. (attribute_of r.0, r.1.now)) result ≡ reading.attribute_at place bytes.now }
-    ensures shorter { IfSome result (λ r. length r.1.now < length bytes.now) }
-{
-    let white = white_len(bytes);
-    let (name, left) = name_at(after_white(bytes))?;
-    let right = after_byte(b'=', after_white(left))?;
-    let (quote, value, rest) = value_at(after_white(right))?;
-    if white == 0 {
-        return None;
-    }
-    let span = Span {
-        start: place + white as u32,
-        end: place + (bytes.len() - rest.len()) as u32,
-    };
-    Some((
-        Attr {
-            name,
-            value,
-            quote,
-            span,
-        },
-        rest,
-    ))
-}
-
-/// As many attributes as there are, and what follows them.
-fn attributes_at<'s>(
-    alloc: Global,
-    place: u32,
-    bytes: &'s [u8],
-) -> Result<(List<Attr<'s>>, &'s [u8]), Memory>
-    requires { place + length bytes.now < 2 ^ 32 }
-    ensures reads { IfOk result (λ r. reading.ReadsAttributes place bytes.now (map attribute_of r.0) r.1.now) }
-    ensures shorter { IfOk result (λ r. length r.1.now ≤ length bytes.now) }
-{
-    let mut attrs = List::new(alloc);
-    let mut at = place;
-    let mut rest = bytes;
-    while let Some((attr, after)) = attribute_at(at, rest) {
-        attrs.push(attr)?;
-        at += (rest.len() - after.len()) as u32;
-        rest = after;
-    }
-    Ok((attrs, rest))
-}
-
-/// A start tag behind its `<`.
-fn start_tag_at<'s>(
-    alloc: Global,
-    place: u32,
-    bytes: &'s [u8],
-) -> Result<Option<(Unit<'s>, &'s [u8])>, Memory>
-    requires fits { place + length bytes.now + 1 < 2 ^ 32 }
-    requires slash { slice_index bytes.now 0 ≢ 47 }
-    ensures unit { IfOk result (λ o. MatchOption o (Stops place (60 ∷ bytes.now)) (λ r. Finds place (60 ∷ bytes.now) (unit_of r.0) r.1.now)) }
-    ensures shorter { IfOk result (λ o. IfSome o (λ r. length r.1.now ≤ length bytes.now)) }
-{
-    let Some((name, mid)) = name_at(bytes) else {
-        return Ok(None);
-    };
-    let (attrs, after) = attributes_at(alloc, place + 1 + name.len() as u32, mid)?;
-    let Some(rest) = after_byte(b'>', after_white(after)) else {
-        return Ok(None);
-    };
-    let span = Span {
-        start: place,
-        end: place + (bytes.len() + 1 - rest.len()) as u32,
-    };
-    Ok(Some((Unit::StartTag { span, name, attrs }, rest)))
-}
-
-/// An end tag behind its `</`.
-fn end_tag_at<'s>(place: u32, bytes: &'s [u8]) -> Option<(Unit<'s>, &'s [u8])>
-    requires { place + length bytes.now + 2 < 2 ^ 32 }
-    ensures unit { MatchOption result (Stops place (60 ∷ 47 ∷ bytes.now)) (λ r. Finds place (60 ∷ 47 ∷ bytes.now) (unit_of r.0) r.1.now) }
-    ensures shorter { IfSome result (λ r. length r.1.now ≤ length bytes.now) }
-{
-    let Some((name, mid)) = name_at(bytes) else {
-        return None;
-    };
-    let Some(rest) = after_byte(b'>', after_white(mid)) else {
-        return None;
-    };
-    let span = Span {
-        start: place,
-        end: place + (bytes.len() + 2 - rest.len()) as u32,
-    };
-    Some((Unit::EndTag { span, name }, rest))
-}
 
 /// The text at the front, and what follows it.
 fn text_at<'s>(place: u32, bytes: &'s [u8]) -> (Unit<'s>, &'s [u8])
     requires fits { place + length bytes.now < 2 ^ 32 }
     requires some { 0 < length bytes.now }
     requires text { kinds.is_text_byte (slice_index bytes.now 0) ≡ true }
+    requires no_bom { place ≡ 0 → starts_with nat_eq bytes.now bom_bytes ≡ false }
     ensures unit { Finds place bytes.now (unit_of result.0) result.1.now }
     ensures shorter { length result.1.now < length bytes.now }
 {
@@ -183,7 +29,37 @@ fn text_at<'s>(place: u32, bytes: &'s [u8]) -> (Unit<'s>, &'s [u8])
     (Unit::Text { span, text }, rest)
 }
 
-/// The unit at the front, and what follows it.
+/// The Bom at place 0, or the text at the front, and what follows it.
+fn plain_at<'s>(place: u32, bytes: &'s [u8]) -> (Unit<'s>, &'s [u8])
+    requires fits { place + length bytes.now < 2 ^ 32 }
+    requires some { 0 < length bytes.now }
+    requires text { kinds.is_text_byte (slice_index bytes.now 0) ≡ true }
+    ensures unit { Finds place bytes.now (unit_of result.0) result.1.now }
+    ensures shorter { length result.1.now < length bytes.now }
+{
+    if place == 0 && bytes.starts_with(b"\xEF\xBB\xBF") {
+        let (_, rest) = bytes.split_at(3);
+        let span = Span { start: 0, end: 3 };
+        return (Unit::Bom { span }, rest);
+    }
+    text_at(place, bytes)
+}
+
+/// A comment or a doctype, whose first bytes are `<!`, and what follows it.
+fn banged_at<'s>(place: u32, bytes: &'s [u8]) -> Option<(Unit<'s>, &'s [u8])>
+    requires fits { place + length bytes.now < 2 ^ 32 }
+    requires front { starts_with nat_eq bytes.now (codes "<!") ≡ true }
+    ensures unit { MatchOption result (Stops place bytes.now) (λ r. Finds place bytes.now (unit_of r.0) r.1.now) }
+    ensures shorter { IfSome result (λ r. length r.1.now < length bytes.now) }
+{
+    if bytes.starts_with(b"<!--") {
+        comment_at(place, bytes)
+    } else {
+        doctype_at(place, bytes)
+    }
+}
+
+/// The unit at the front, and what follows it. There is none where no unit begins.
 pub fn unit_at<'s>(
     alloc: Global,
     place: u32,
@@ -195,8 +71,10 @@ pub fn unit_at<'s>(
 {
     match bytes {
         [b'<', b'/', inner @ ..] => Ok(end_tag_at(place, inner)),
-        [b'<', inner @ ..] => start_tag_at(alloc, place, inner),
-        [first, ..] if is_text_byte(*first) => Ok(Some(text_at(place, bytes))),
-        _ => Ok(None),
+        [b'<', b'!', ..] => Ok(banged_at(place, bytes)),
+        [b'<', b'?', ..] => Ok(declaration_at(place, bytes)),
+        [b'<', inner @ ..] => tag_at(alloc, place, inner),
+        [_, ..] => Ok(Some(plain_at(place, bytes))),
+        [] => Ok(None),
     }
 }

@@ -24,10 +24,29 @@ pub struct Attr<'s> {
     pub span: Span,
 }
 
-/// A unit of markup, with the bytes that it spans.
+/// A unit of markup, with the bytes that it spans. A `text` is all of its bytes.
 #[derive(Drop)]
 pub enum Unit<'s> {
-    /// A longest run of bytes without markup.
+    /// The bytes EF BB BF at place 0.
+    Bom {
+        span: Span,
+    },
+    /// `<?xml`, one white space, a body, and the first `?>` behind that.
+    Declaration {
+        span: Span,
+        text: &'s [u8],
+    },
+    /// `<!DOCTYPE`, one white space, a body without `[`, `<` and `>`, and `>`.
+    Doctype {
+        span: Span,
+        text: &'s [u8],
+    },
+    /// `<!--`, a body, and the first `-->` behind that.
+    Comment {
+        span: Span,
+        text: &'s [u8],
+    },
+    /// A longest run of bytes without `<`.
     Text {
         span: Span,
         text: &'s [u8],
@@ -42,5 +61,11 @@ pub enum Unit<'s> {
     EndTag {
         span: Span,
         name: &'s [u8],
+    },
+    /// `<`, a name, attributes, `/>`.
+    EmptyTag {
+        span: Span,
+        name: &'s [u8],
+        attrs: List<Attr<'s>>,
     },
 }

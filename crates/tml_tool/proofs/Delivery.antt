@@ -4,7 +4,7 @@ use Rattle.std.specs.Prelude.{OnOk, is_err}
 use Rattle.std.specs.Io.KnownBytes.{Keeps, Appends}
 use Rattle.std.proofs.lemmas.List.{append-nil}
 use Rattle.tml_io.specs.Files.{Files}
-use Rattle.tml_span.specs.Faults.{HasFault, not_utf8, bad_markup}
+use Rattle.tml_span.specs.Faults.{HasFault, not_utf8, bad_reference, bad_markup}
 use Rattle.tml_span.specs.declared.reader.Cut.{Cut}
 use Rattle.tml_span.specs.declared.reader.Cut.TheVariants as cut
 use Rattle.tml_tool.specs.declared.status.Status.{Status}
@@ -25,6 +25,8 @@ when_ok (Err x) P e h = absurd cc
 pub refused : (doc : List ℕ) (fault : Cut) (status : Status) (out : List ℕ) → HasFault doc fault → Refuses fault status out → OverBytes (SpansAnswer doc) status out
 refused doc (cut.NotUtf8 place) NoMemory out has h = h
 refused doc (cut.NotUtf8 place) status out has h = subst (λ (s : Status). OverBytes (SpansAnswer doc) s out) (sym h.0) (not_utf8 place, has, h.1)
+refused doc (cut.BadReference place) NoMemory out has h = h
+refused doc (cut.BadReference place) status out has h = subst (λ (s : Status). OverBytes (SpansAnswer doc) s out) (sym h.0) (bad_reference place, has, h.1)
 refused doc (cut.BadMarkup place) NoMemory out has h = h
 refused doc (cut.BadMarkup place) status out has h = subst (λ (s : Status). OverBytes (SpansAnswer doc) s out) (sym h.0) (bad_markup place, has, h.1)
 refused doc cut.Memory NoMemory out has h = h

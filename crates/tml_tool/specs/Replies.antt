@@ -2,9 +2,9 @@
 use Rattle.std.specs.Prelude.{◌≡◌, ℕ, ◌+◌, ◌≤◌, List, [], None, Some}
 use Rattle.std.specs.declared.option.Option.{Option}
 use Rattle.tml_io.specs.Files.{Files}
-use Rattle.tml_span.specs.Faults.{not_utf8, bad_markup}
+use Rattle.tml_span.specs.Faults.{not_utf8, bad_reference, bad_markup}
 use Rattle.tml_span.specs.declared.reader.Cut.{Cut}
-use Rattle.tml_span.specs.declared.reader.Cut.TheVariants.{NotUtf8, BadMarkup, Memory}
+use Rattle.tml_span.specs.declared.reader.Cut.TheVariants.{NotUtf8, BadReference, BadMarkup, Memory}
 use Rattle.tml_tool.specs.declared.status.Status.{Status}
 use Rattle.tml_tool.specs.declared.status.Status.TheVariants.{DocFault, ReadFault, WriteFault, NoMemory, TooLong}
 use Rattle.tml_tool.specs.Words.{Form, spans}
@@ -26,6 +26,7 @@ OverBytes Over status out = Over status out
 abbrev pub Refuses : Cut → Status → List ℕ → Type 0
 Refuses fault NoMemory out = out ≡ []
 Refuses (NotUtf8 place) status out = (status ≡ DocFault) × (out ≡ texts.fault_line (not_utf8 place))
+Refuses (BadReference place) status out = (status ≡ DocFault) × (out ≡ texts.fault_line (bad_reference place))
 Refuses (BadMarkup place) status out = (status ≡ DocFault) × (out ≡ texts.fault_line (bad_markup place))
 Refuses Memory status out = ⊥
 

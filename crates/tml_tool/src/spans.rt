@@ -78,6 +78,7 @@ fn refusal(alloc: Global, fault: Cut) -> Reply
 {
     let line = match fault {
         Cut::NotUtf8 { place } => fault_line(alloc, b"fault 1 NotUtf8 ", place),
+        Cut::BadReference { place } => fault_line(alloc, b"fault 2 BadReference ", place),
         Cut::BadMarkup { place } => fault_line(alloc, b"fault 3 BadMarkup ", place),
         Cut::Memory => return Reply::no_memory(),
     };

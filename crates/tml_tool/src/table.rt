@@ -4,9 +4,15 @@ ghost use Rattle.std.specs.List.{flat_map};
 ghost use Rattle.tml_span.specs.View.{attribute_of, unit_of};
 ghost use Rattle.tml_tool.specs.Texts as texts;
 
-use itoa::Buffer;
+use itoa::{Buffer, write_digits};
 use std::alloc::{AllocError, Global};
 use tml_span::{Attr, Span, Unit};
+
+/// The most digits of a place.
+const MAX_DIGITS: usize = 10;
+
+/// Room for the two places of a span, each with a space behind it.
+const SPAN_ROOM: usize = 2 * MAX_DIGITS + 2;
 
 fn push_number(out: &mut Vec<u8>, n: u32) -> Result<(), AllocError>
     ensures { OnOk result (out.new.items ≡ out.old.items ++ decimal n) }
@@ -15,12 +21,15 @@ fn push_number(out: &mut Vec<u8>, n: u32) -> Result<(), AllocError>
     out.extend_from_slice(buffer.format(n).as_bytes())
 }
 
+/// The start and the end of a span, each with a space behind it. They are written from the right into an
+/// array of spaces.
 fn push_span(out: &mut Vec<u8>, span: Span) -> Result<(), AllocError>
-    ensures { OnOk result (out.new.items ≡ out.old.items ++ (decimal span.start ++ codes " " ++ decimal span.end)) }
+    ensures { OnOk result (out.new.items ≡ out.old.items ++ texts.span_front span.start span.end) }
 {
-    push_number(out, span.start)?;
-    out.extend_from_slice(b" ")?;
-    push_number(out, span.end)
+    let mut text = [b' '; SPAN_ROOM];
+    let end = write_digits(span.end as u64, &mut text, SPAN_ROOM - 1);
+    let start = write_digits(span.start as u64, &mut text, end - 1);
+    out.extend_from_slice(&text[start..])
 }
 
 /// The line of an attribute: its span, `attribute` and its name.
@@ -28,7 +37,7 @@ fn push_attribute(out: &mut Vec<u8>, attr: &Attr) -> Result<(), AllocError>
     ensures { OnOk result (out.new.items ≡ out.old.items ++ texts.attribute_line (attribute_of attr.now)) }
 {
     push_span(out, attr.span)?;
-    out.extend_from_slice(b" attribute ")?;
+    out.extend_from_slice(b"attribute ")?;
     out.extend_from_slice(attr.name)?;
     out.extend_from_slice(b"\n")
 }
@@ -42,27 +51,41 @@ fn push_attributes(out: &mut Vec<u8>, attrs: &[Attr]) -> Result<(), AllocError>
     Ok(())
 }
 
+/// A span and its kind.
+fn push_line(out: &mut Vec<u8>, span: Span, kind: &[u8]) -> Result<(), AllocError>
+    ensures { OnOk result (out.new.items ≡ out.old.items ++ (texts.span_front span.start span.end ++ kind.now)) }
+{
+    push_span(out, span)?;
+    out.extend_from_slice(kind)
+}
+
+/// A span, the kind of tag and its name.
+fn push_tag(out: &mut Vec<u8>, span: Span, kind: &[u8], name: &[u8]) -> Result<(), AllocError>
+    ensures { OnOk result (out.new.items ≡ out.old.items ++ (texts.span_front span.start span.end ++ kind.now ++ name.now ++ codes "\n")) }
+{
+    push_line(out, span, kind)?;
+    out.extend_from_slice(name)?;
+    out.extend_from_slice(b"\n")
+}
+
 /// The lines of a unit: its span, its kind and the name of a tag, and then one for each attribute.
 pub fn push_unit(out: &mut Vec<u8>, unit: &Unit) -> Result<(), AllocError>
     ensures { OnOk result (out.new.items ≡ out.old.items ++ texts.unit_lines (unit_of unit.now)) }
 {
     match unit {
-        Unit::Text { span, .. } => {
-            push_span(out, *span)?;
-            out.extend_from_slice(b" text\n")
-        }
+        Unit::Bom { span } => push_line(out, *span, b"bom\n"),
+        Unit::Declaration { span, .. } => push_line(out, *span, b"declaration\n"),
+        Unit::Doctype { span, .. } => push_line(out, *span, b"doctype\n"),
+        Unit::Comment { span, .. } => push_line(out, *span, b"comment\n"),
+        Unit::Text { span, .. } => push_line(out, *span, b"text\n"),
         Unit::StartTag { span, name, attrs } => {
-            push_span(out, *span)?;
-            out.extend_from_slice(b" start ")?;
-            out.extend_from_slice(name)?;
-            out.extend_from_slice(b"\n")?;
+            push_tag(out, *span, b"start ", name)?;
             push_attributes(out, attrs.as_slice())
         }
-        Unit::EndTag { span, name } => {
-            push_span(out, *span)?;
-            out.extend_from_slice(b" end ")?;
-            out.extend_from_slice(name)?;
-            out.extend_from_slice(b"\n")
+        Unit::EndTag { span, name } => push_tag(out, *span, b"end ", name),
+        Unit::EmptyTag { span, name, attrs } => {
+            push_tag(out, *span, b"empty ", name)?;
+            push_attributes(out, attrs.as_slice())
         }
     }
 }

@@ -74,8 +74,16 @@ fn rows_of_spans(rt: HostRuntime) -> Result<(), Fail> {
         done(b"", b""),
         done(b"a > b", b"0 5 text\n"),
         done(
-            b"\xEF\xBB\xBF<a\n b = ''></a >",
-            b"0 3 text\n3 14 start a\n7 13 attribute b\n14 19 end a\n",
+            b"<?xml version=\"1.0\"?><TimeML a=\"&lt;\"><!--x--></TimeML>",
+            b"0 21 declaration\n21 38 start TimeML\n29 37 attribute a\n38 46 comment\n46 55 end TimeML\n",
+        ),
+        done(
+            b"\xEF\xBB\xBF<a\n b = ''></a >\xEF\xBB\xBF",
+            b"0 3 bom\n3 14 start a\n7 13 attribute b\n14 19 end a\n19 22 text\n",
+        ),
+        done(
+            b"<!DOCTYPE TimeML SYSTEM \"a.dtd\"><a/><b c='>' />",
+            b"0 32 doctype\n32 36 empty a\n36 47 empty b\n39 44 attribute c\n",
         ),
         done(b"<a></b>", b"0 3 start a\n3 7 end b\n"),
     ];
@@ -86,20 +94,84 @@ fn rows_of_spans(rt: HostRuntime) -> Result<(), Fail> {
 }
 
 #[test]
-fn rows_of_faults(rt: HostRuntime) -> Result<(), Fail> {
+fn rows_of_closing_texts(rt: HostRuntime) -> Result<(), Fail> {
+    let rows = [
+        done(b"<!--a--><!---->", b"0 8 comment\n8 15 comment\n"),
+        done(b"<!-- a-- -> --->b-->", b"0 16 comment\n16 20 text\n"),
+        fault(b"<!--->", b"fault 3 BadMarkup 0\n"),
+        fault(b"x<!--a--", b"fault 3 BadMarkup 1\n"),
+        done(
+            b"<?xml ?>?><?xml\t??>",
+            b"0 8 declaration\n8 10 text\n10 19 declaration\n",
+        ),
+        fault(b"<?xml?>", b"fault 3 BadMarkup 0\n"),
+        fault(b"<?xmlx ?>", b"fault 3 BadMarkup 0\n"),
+        fault(b"<?php ?>", b"fault 3 BadMarkup 0\n"),
+        fault(b"<!DOCTYPE a [x]>", b"fault 3 BadMarkup 0\n"),
+        fault(b"<!DOCTYPE>", b"fault 3 BadMarkup 0\n"),
+        fault(b"<!DOCTYPE a<b>", b"fault 3 BadMarkup 0\n"),
+        fault(b"<![CDATA[x]]>", b"fault 3 BadMarkup 0\n"),
+        fault(b"<!-a-->", b"fault 3 BadMarkup 0\n"),
+    ];
+    for row in rows.iter() {
+        check(&rt, row)?;
+    }
+    Ok(())
+}
+
+#[test]
+fn rows_of_bad_markup(rt: HostRuntime) -> Result<(), Fail> {
     let rows = [
         fault(b"<TimeML><EVENT eid=\"e1", b"fault 3 BadMarkup 8\n"),
         fault(
             b"<TimeML><EVENT eid='e1\" class=\"STATE\">x</EVENT></TimeML>",
             b"fault 3 BadMarkup 8\n",
         ),
-        fault(b"a&b", b"fault 3 BadMarkup 1\n"),
-        fault(b"<a/>", b"fault 3 BadMarkup 0\n"),
-        fault(b"<a b=\"&lt;\">", b"fault 3 BadMarkup 0\n"),
         fault(b"<a b='1'c='2'>", b"fault 3 BadMarkup 0\n"),
+        fault(b"<a b=1>", b"fault 3 BadMarkup 0\n"),
+        fault(b"<a b='<'>", b"fault 3 BadMarkup 0\n"),
         fault(b"x<1>", b"fault 3 BadMarkup 1\n"),
+        fault(b"<a/ >", b"fault 3 BadMarkup 0\n"),
+        fault(b"</a/>", b"fault 3 BadMarkup 0\n"),
+        fault(b"</ a>", b"fault 3 BadMarkup 0\n"),
+        fault(b"a<", b"fault 3 BadMarkup 1\n"),
         fault(b"<TimeML><x\xFF", b"fault 1 NotUtf8 10\n"),
         fault(b"\x80", b"fault 1 NotUtf8 0\n"),
+        fault(b"&x<\xFF", b"fault 1 NotUtf8 3\n"),
+    ];
+    for row in rows.iter() {
+        check(&rt, row)?;
+    }
+    Ok(())
+}
+
+#[test]
+fn rows_of_references(rt: HostRuntime) -> Result<(), Fail> {
+    let rows = [
+        done(
+            b"&lt;&gt;&amp;&quot;&apos;&#0;&#1234567;&#xAbC9;&#x10FFFF;",
+            b"0 57 text\n",
+        ),
+        fault(b"a&b", b"fault 2 BadReference 1\n"),
+        fault(
+            b"<a b=\"&#x1F600;\"/>&#12345678;",
+            b"fault 2 BadReference 18\n",
+        ),
+        fault(b"&#;", b"fault 2 BadReference 0\n"),
+        fault(b"&#x;", b"fault 2 BadReference 0\n"),
+        fault(b"&#x1234567;", b"fault 2 BadReference 0\n"),
+        fault(b"&#X41;", b"fault 2 BadReference 0\n"),
+        fault(b"&#4A;", b"fault 2 BadReference 0\n"),
+        fault(b"&lt", b"fault 2 BadReference 0\n"),
+        fault(b"&LT;", b"fault 2 BadReference 0\n"),
+        fault(b"&amp;&", b"fault 2 BadReference 5\n"),
+        fault(b"<a b='&amp;' c='x&y'>&z</a>", b"fault 2 BadReference 17\n"),
+        // A bad reference before the stop outranks the bad markup there, and one behind it does not.
+        fault(b"a&b<", b"fault 2 BadReference 1\n"),
+        fault(b"ab<&c", b"fault 3 BadMarkup 2\n"),
+        fault(b"<a b='&'", b"fault 3 BadMarkup 0\n"),
+        // No reference is asked for in a comment, a declaration or a doctype.
+        done(b"<!--&--><!DOCTYPE &>", b"0 8 comment\n8 20 doctype\n"),
     ];
     for row in rows.iter() {
         check(&rt, row)?;
@@ -207,7 +279,7 @@ fn a_failing_write_leaves_what_was_written(rt: HostRuntime) -> Result<(), Fail> 
 fn a_refusal_keeps_its_status_where_its_text_fails(rt: HostRuntime) -> Result<(), Fail> {
     let alloc = rt.alloc();
     let words = words_of(alloc, SPANS)?;
-    let mut inputs = inputs_of(alloc, "d", Vec::from_slice(alloc, b"a&b")?)?;
+    let mut inputs = inputs_of(alloc, "d", Vec::from_slice(alloc, b"a<b")?)?;
     let mut sink = MemorySink::new(alloc, 6, 4096, Vec::new(alloc))?;
     let ended = run(alloc, words.as_slice(), &mut inputs, &mut sink);
     assert_eq!(&rt; ended, Status::DocFault);

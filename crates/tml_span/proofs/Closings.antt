@@ -1,0 +1,152 @@
+-- Where a piece stands first within bytes.
+use Rattle.std.proofs.Common.{◌≡◌, ◌≢◌, ◌⊎◌, ℕ, ◌+◌, ◌<◌, ◌≤◌, Bool, true, List, get_or, [], ◌∷◌, ◌++◌, length, take, drop, refl, sym, ap, ◌∙◌, append_assoc, arith, Some, None, inl, inr, ⊎_elim, length-append, length-take, length-drop}
+use Rattle.std.specs.Prelude.{nat_eq, codes}
+use Rattle.std.specs.Bool.{Decides}
+use Rattle.std.specs.List.{starts_with}
+use Rattle.std.proofs.lemmas.Bool.{cases_Bool, both_ways}
+use Rattle.std.proofs.lemmas.Bool.Decides.{Decides-eqb}
+use Rattle.std.proofs.lemmas.List.{append_cancel_left, take-append-drop, take_at, drop_at}
+use Rattle.std.proofs.lemmas.List.Prefix.{at_from_reads, at_reads}
+use Rattle.std.proofs.lemmas.Slice.Eq.{starts_is}
+use Rattle.memchr.specs.Find.{OccursAt, FindsNeedle}
+use Rattle.tml_span.specs.Bytes.{is_white}
+use Rattle.tml_span.specs.Units.{Lacks, BeginsWith}
+
+-- ---- at the front
+
+-- the test tells whether the bytes begin with the piece
+pub begins_true : (piece bytes : List ℕ) → starts_with nat_eq bytes piece ≡ true → BeginsWith piece bytes
+begins_true piece bytes e = (drop (length piece) bytes, (starts_is Decides-eqb bytes piece (starts_with nat_eq bytes piece) refl).0 e)
+
+pub begins_or_not : (piece bytes : List ℕ) → BeginsWith piece bytes ⊎ (BeginsWith piece bytes → ⊥)
+begins_or_not piece bytes = ⊎_elim
+    (λ yes_is. inl (begins_true piece bytes yes_is))
+    (λ no_is. inr (λ h. both_ways _ no_is ((starts_is Decides-eqb bytes piece (starts_with nat_eq bytes piece) refl).1 h.0 h.1)))
+    (cases_Bool (starts_with nat_eq bytes piece))
+
+-- a word and one white space stand at the front
+abbrev pub BeginsWithWord : List ℕ → List ℕ → Type 0
+BeginsWithWord word bytes = (white : ℕ) × (back : List ℕ) × (bytes ≡ word ++ white ∷ back) × (is_white white ≡ true)
+
+-- the byte that follows the word decides it
+pub word_decides : (word bytes rest : List ℕ) (r : Bool) → bytes ≡ word ++ rest → 1 ≤ length rest → r ≡ is_white (get_or rest 0 0) → Decides r (BeginsWithWord word bytes)
+word_decides word bytes [] r e some h = absurd (omega arith)
+word_decides word bytes (w ∷ rest) r e some h = (
+  λ yes_is. (w, rest, e, sym h ∙ yes_is),
+  λ k.
+      let same = append_cancel_left word (w ∷ rest) (k.0 ∷ k.1) (sym e ∙ k.2) in
+      let first : w ≡ k.0 = cc same in
+      h ∙ ap is_white first ∙ k.3,
+)
+
+word_or_not : (word bytes rest : List ℕ) → bytes ≡ word ++ rest → BeginsWithWord word bytes ⊎ (BeginsWithWord word bytes → ⊥)
+word_or_not word bytes [] e = inr (λ h. let same = append_cancel_left word [] (h.0 ∷ h.1) (sym e ∙ h.2) in cc same)
+word_or_not word bytes (w ∷ rest) e =
+    let decides = word_decides word bytes (w ∷ rest) (is_white w) e (omega arith) refl in
+    ⊎_elim (λ yes_is. inl (decides.0 yes_is)) (λ no_is. inr (λ h. both_ways _ no_is (decides.1 h))) (cases_Bool (is_white w))
+
+pub begins_with_word_or_not : (word bytes : List ℕ) → BeginsWithWord word bytes ⊎ (BeginsWithWord word bytes → ⊥)
+begins_with_word_or_not word bytes = ⊎_elim
+    (λ here. word_or_not word bytes here.0 here.1)
+    (λ not_here. inr (λ h. not_here (h.0 ∷ h.1, h.2)))
+    (begins_or_not word bytes)
+
+-- ---- the first place
+
+lacks_empty : (piece : List ℕ) → piece ≢ [] → Lacks piece []
+lacks_empty [] some front back e = some refl
+lacks_empty (p ∷ piece) some [] back e = absurd cc
+lacks_empty (p ∷ piece) some (c ∷ front) back e = absurd cc
+
+lacks_more : (piece : List ℕ) (b : ℕ) (bytes : List ℕ) → (BeginsWith piece (b ∷ bytes) → ⊥) → Lacks piece bytes → Lacks piece (b ∷ bytes)
+lacks_more piece b bytes not_here l [] back e = not_here (back, e)
+lacks_more piece b bytes not_here l (c ∷ front) back e = l front back (cc e)
+
+lacks_tail : (piece : List ℕ) (b : ℕ) (bytes : List ℕ) → Lacks piece (b ∷ bytes) → Lacks piece bytes
+lacks_tail piece b bytes l front back e = l (b ∷ front) back (ap (λ (x : List ℕ). b ∷ x) e)
+
+-- the bytes are a body that lacks the piece, the piece and a rest
+abbrev pub SplitsAt : List ℕ → List ℕ → Type 0
+SplitsAt piece bytes = (body : List ℕ) × (rest : List ℕ) × (bytes ≡ body ++ (piece ++ rest)) × Lacks piece body
+
+split_more : (piece : List ℕ) (b : ℕ) (bytes : List ℕ) → (BeginsWith piece (b ∷ bytes) → ⊥) → SplitsAt piece bytes → SplitsAt piece (b ∷ bytes)
+split_more piece b bytes not_here s = (
+  b ∷ s.0,
+  s.1,
+  ap (λ (x : List ℕ). b ∷ x) s.2,
+  lacks_more piece b s.0 (λ h. not_here (h.0 ++ (piece ++ s.1), ap (λ (x : List ℕ). b ∷ x) s.2 ∙ ap (λ (x : List ℕ). x ++ (piece ++ s.1)) h.1 ∙ append_assoc piece h.0 (piece ++ s.1))) s.3,
+)
+
+-- a piece stands in the bytes for a first time, or in no part of them
+pub find_piece : (piece bytes : List ℕ) → piece ≢ [] → SplitsAt piece bytes ⊎ Lacks piece bytes
+find_piece piece [] some = inr (lacks_empty piece some)
+find_piece piece (b ∷ bytes) some = ⊎_elim
+    (λ here. inl ([], here.0, here.1, lacks_empty piece some))
+    (λ not_here. ⊎_elim (λ s. inl (split_more piece b bytes not_here s)) (λ l. inr (lacks_more piece b bytes not_here l)) (find_piece piece bytes some))
+    (begins_or_not piece (b ∷ bytes))
+
+-- ---- one body
+
+-- the piece can't begin in bytes before it and end in it
+abbrev pub IsApart : List ℕ → Type 0
+IsApart piece = (b : ℕ) (bytes rest after : List ℕ) → piece ++ rest ≡ b ∷ bytes ++ (piece ++ after) → BeginsWith piece (b ∷ bytes)
+
+two_apart : (a z : ℕ) → (z ≡ a → ⊥) → IsApart (a ∷ z ∷ [])
+two_apart a z differ b [] rest after e = absurd (differ (cc e))
+two_apart a z differ b (c ∷ bytes) rest after e = (bytes, cc e)
+
+three_apart : (a z : ℕ) → (z ≡ a → ⊥) → IsApart (a ∷ a ∷ z ∷ [])
+three_apart a z differ b [] rest after e = absurd (differ (cc e))
+three_apart a z differ b (c ∷ []) rest after e = absurd (differ (cc e))
+three_apart a z differ b (c ∷ d ∷ bytes) rest after e = (bytes, cc e)
+
+pub comment_apart : IsApart (codes "-->")
+comment_apart = three_apart 45 62 (λ e. omega arith)
+
+pub declaration_apart : IsApart (codes "?>")
+declaration_apart = two_apart 63 62 (λ e. omega arith)
+
+-- two bodies that lack the piece and are followed by it, in one list, are one
+pub one_body : (piece : List ℕ) → IsApart piece → (body other rest after : List ℕ) → body ++ (piece ++ rest) ≡ other ++ (piece ++ after) → Lacks piece body → Lacks piece other → body ≡ other
+one_body piece apart [] [] rest after e l k = refl
+one_body piece apart [] (c ∷ other) rest after e l k = let at = apart c other rest after e in absurd (k [] at.0 at.1)
+one_body piece apart (b ∷ body) [] rest after e l k = let at = apart b body after rest (sym e) in absurd (l [] at.0 at.1)
+one_body piece apart (b ∷ body) (c ∷ other) rest after e l k =
+    let first : b ≡ c = cc e in
+    let same = one_body piece apart body other rest after (cc e) (lacks_tail piece b body l) (lacks_tail piece c other k) in
+    λ i. first i ∷ same i
+
+-- ---- what a search says
+
+pub occurs_splits : (bytes piece : List ℕ) (k : ℕ) → OccursAt bytes piece k → bytes ≡ take k bytes ++ (piece ++ drop (k + length piece) bytes)
+occurs_splits bytes piece k h = sym (take-append-drop k bytes) ∙ ap (λ (x : List ℕ). take k bytes ++ x) (at_from_reads 0 bytes piece k h.fits h.reads)
+
+pub splits_occurs : (bytes piece front back : List ℕ) → bytes ≡ front ++ piece ++ back → OccursAt bytes piece (length front)
+splits_occurs bytes piece front back e =
+    let whole : bytes ≡ front ++ (piece ++ back) = e ∙ append_assoc front piece back in record {
+      fits = omega (arith, ap length whole, length-append front (piece ++ back), length-append piece back);
+      reads = at_reads 0 bytes piece (length front) back (ap (drop (length front)) whole ∙ drop_at front (piece ++ back) (length front) refl);
+    }
+
+-- a search that finds nothing
+pub none_lacks : (bytes piece : List ℕ) → FindsNeedle bytes piece 0 None → Lacks piece bytes
+none_lacks bytes piece h front back e =
+    let occurs = splits_occurs bytes piece front back e in
+    h (length front) (omega arith) (omega (arith, occurs.fits)) occurs
+
+-- before the place that a search finds
+pub before_lacks : (bytes piece : List ℕ) (k : ℕ) → 0 < length piece → FindsNeedle bytes piece 0 (Some k) → Lacks piece (take k bytes)
+before_lacks bytes piece k some h front back e =
+    let whole : bytes ≡ front ++ piece ++ (back ++ drop k bytes) = sym (take-append-drop k bytes) ∙ ap (λ (x : List ℕ). x ++ drop k bytes) e ∙ append_assoc (front ++ piece) back (drop k bytes) in
+    let below : length front < k = omega (arith, ap length e, length-append (front ++ piece) back, length-append front piece, length-take k bytes) in
+    h.0.before (length front) (omega arith) below (splits_occurs bytes piece front (back ++ drop k bytes) whole)
+
+-- the bytes up to past a piece that occurs behind a number of them
+pub past_piece : (bytes piece : List ℕ) (n k : ℕ) → n ≤ length bytes → OccursAt (drop n bytes) piece k → take (n + k + length piece) bytes ≡ take n bytes ++ take k (drop n bytes) ++ piece
+past_piece bytes piece n k within h =
+    let inner = drop n bytes in
+    let front = take n bytes ++ take k inner ++ piece in
+    let rest = drop (k + length piece) inner in
+    let whole : bytes ≡ front ++ rest = sym (take-append-drop n bytes) ∙ ap (λ (x : List ℕ). take n bytes ++ x) (occurs_splits inner piece k h) ∙ sym (simp append_assoc) in
+    let long : length front ≡ n + k + length piece = omega (arith, h.fits, length-drop n bytes, length-append (take n bytes ++ take k inner) piece, length-append (take n bytes) (take k inner), length-take n bytes, length-take k inner) in
+    ap (take (n + k + length piece)) whole ∙ take_at front rest (n + k + length piece) long

@@ -1,0 +1,17 @@
+use Rattle.std.proofs.Common.{sym, ap, ◌∙◌}
+use Rattle.tml_span.specs.Reading.{after_byte}
+use Rattle.tml_span.proofs.Parts.{byte_takes}
+use Rattle.tml_span.proofs.TagUnits.{end_tag_finds, no_name_end_stops, no_close_end_stops}
+use Rattle.tml_span.proofs.tags.end_tag_at.Goals as goal
+
+pub returns-in_default-clause-unit : goal.returns-in_default-clause-unit
+returns-in_default-clause-unit c = no_name_end_stops _ _ (sym c.in_default.ensures.reads)
+
+pub returns-in_default-after_byte-clause-unit : goal.returns-in_default-after_byte-clause-unit
+returns-in_default-after_byte-clause-unit c =
+    no_close_end_stops _ _ _ _ (sym c.in-Some.ensures.reads) (ap (after_byte 62) (sym c.after_white.ensures.white) ∙ sym c.in_default-after_byte.ensures.reads)
+
+pub returns-clause-unit : goal.returns-clause-unit
+returns-clause-unit c =
+    end_tag_finds _ _ _ _
+    (record { mid = c.in-Some.mid.now; named = sym c.in-Some.ensures.reads; closed = sym c.after_white.ensures.white ∙ byte_takes 62 _ _ (sym c.in-Some-after_byte.ensures.reads) })

@@ -1,0 +1,95 @@
+-- References, and where one is bad.
+use Rattle.std.specs.Prelude.{◌≡◌, ◌⊎◌, ℕ, ◌+◌, ◌-◌, ◌<◌, ◌≤◌, true, List, [], ◌∷◌, ◌++◌, length, codes, Contains, map}
+use Rattle.std.specs.List.{list_all, AllByRecursion}
+use Rattle.tml_span.specs.Bytes.{is_digit, is_hex_digit}
+use Rattle.tml_span.specs.Units.{Attribute, Kind, text, start_tag, empty_tag, PlainUnit}
+
+-- `&lt;`, `&gt;`, `&amp;`, `&quot;` and `&apos;`
+abbrev pub named_references : List (List ℕ)
+named_references = codes "&lt;" ∷ codes "&gt;" ∷ codes "&amp;" ∷ codes "&quot;" ∷ codes "&apos;" ∷ []
+
+-- `&#`, 1 to 7 digits and `;`
+pub record IsDecimalReference (bytes : List ℕ) : Type 0 where
+  pub digits : List ℕ
+  pub whole : bytes ≡ codes "&#" ++ digits ++ codes ";"
+  pub some : 1 ≤ length digits
+  pub most : length digits ≤ 7
+  pub kind : list_all is_digit digits ≡ true
+
+-- `&#x`, 1 to 6 hexadecimal digits and `;`
+pub record IsHexReference (bytes : List ℕ) : Type 0 where
+  pub digits : List ℕ
+  pub whole : bytes ≡ codes "&#x" ++ digits ++ codes ";"
+  pub some : 1 ≤ length digits
+  pub most : length digits ≤ 6
+  pub kind : list_all is_hex_digit digits ≡ true
+
+abbrev pub IsReference : List ℕ → Type 0
+IsReference bytes = Contains named_references bytes ⊎ IsDecimalReference bytes ⊎ IsHexReference bytes
+
+-- a reference stands at the front of the bytes
+abbrev pub BeginsReference : List ℕ → Type 0
+BeginsReference bytes = (front : List ℕ) × (back : List ℕ) × (bytes ≡ front ++ back) × IsReference front
+
+-- at an index of the bytes stands an `&` with which no reference begins
+pub record IsBadAt (bytes : List ℕ) (index : ℕ) : Type 0 where
+  pub front : List ℕ
+  pub back : List ℕ
+  pub whole : bytes ≡ front ++ 38 ∷ back
+  pub index_is : index ≡ length front
+  pub bad : BeginsReference (38 ∷ back) → ⊥
+
+-- bytes in which references stand, with their place
+abbrev pub Piece : Type 0
+Piece = ℕ × List ℕ
+
+-- the value of an attribute stands before its closing quote
+abbrev pub value_piece : Attribute → Piece
+value_piece a = (a.end - 1 - length a.value, a.value)
+
+abbrev pub kind_pieces : ℕ → Kind → List Piece
+kind_pieces start (text bytes) = (start, bytes) ∷ []
+kind_pieces start (start_tag name attrs) = map value_piece attrs
+kind_pieces start (empty_tag name attrs) = map value_piece attrs
+kind_pieces start kind = []
+
+-- references stand in a text, and in the values of attributes
+abbrev pub pieces_of : PlainUnit → List Piece
+pieces_of u = kind_pieces u.start u.kind
+
+-- at a place in one of the pieces stands an `&` with which no reference begins
+abbrev pub IsBadIn : List Piece → ℕ → Type 0
+IsBadIn [] place = ⊥
+IsBadIn (piece ∷ pieces) place = ((index : ℕ) × IsBadAt piece.1 index × (place ≡ piece.0 + index)) ⊎ IsBadIn pieces place
+
+-- the same of the pieces of units
+abbrev pub IsBad : List PlainUnit → ℕ → Type 0
+IsBad [] place = ⊥
+IsBad (u ∷ units) place = IsBadIn (pieces_of u) place ⊎ IsBad units place
+
+-- the least place at which something is bad
+abbrev pub IsFirst : (ℕ → Type 0) → ℕ → Type 0
+IsFirst Bad place = Bad place × ((other : ℕ) → Bad other → place ≤ other)
+
+-- nothing is bad at any place
+abbrev pub IsNowhere : (ℕ → Type 0) → Type 0
+IsNowhere Bad = (place : ℕ) → Bad place → ⊥
+
+-- the pieces stand one behind another, from a place up to another
+abbrev pub Follows : ℕ → List Piece → ℕ → Type 0
+Follows low [] high = low ≤ high
+Follows low (piece ∷ pieces) high = (low ≤ piece.0) × Follows (piece.0 + length piece.1) pieces high
+
+-- a value stands before the end of its attribute
+abbrev pub IsWithin : Attribute → Type 0
+IsWithin a = length a.value < a.end
+
+abbrev pub kind_attributes : Kind → List Attribute
+kind_attributes (start_tag name attrs) = attrs
+kind_attributes (empty_tag name attrs) = attrs
+kind_attributes kind = []
+
+-- the pieces of a unit stand in order within its span
+pub record IsPlaced (u : PlainUnit) : Type 0 where
+  pub follows : Follows u.start (pieces_of u) u.end
+  pub within : AllByRecursion IsWithin (kind_attributes u.kind)

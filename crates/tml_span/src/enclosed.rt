@@ -1,0 +1,101 @@
+//! Units that run up to their first closing text: declarations, doctypes and comments.
+ghost use Rattle.std.specs.Prelude.{true, false, ◌≡◌, ◌+◌, ◌<◌, ◌≤◌, ◌^◌, ◌++◌, ◌∷◌, codes, drop, take, length, nat_eq, IfNone, IfSome, MatchOption, List, ℕ};
+ghost use Rattle.std.specs.Bool.{Decides};
+ghost use Rattle.std.specs.List.{starts_with};
+ghost use Rattle.tml_span.specs.Bytes as kinds;
+ghost use Rattle.tml_span.specs.Cutting.{Stops, Finds};
+ghost use Rattle.tml_span.specs.Units.{Lacks};
+ghost use Rattle.tml_span.specs.View.{unit_of};
+
+use crate::bytes::{doctype_len, is_white};
+use crate::{Span, Unit};
+use memchr::memmem;
+
+/// Splits the bytes past the first closing text that begins at or behind `opening`.
+fn split_past<'s>(bytes: &'s [u8], opening: usize, close: &[u8]) -> Option<(&'s [u8], &'s [u8])>
+    requires within { opening ≤ length bytes.now }
+    requires some { 0 < length close.now }
+    requires small { length close.now < 2 ^ 32 }
+    ensures none { IfNone result (Lacks close.now (drop opening bytes.now)) }
+    ensures some { IfSome result (λ r. (body : List ℕ) × Lacks close.now body
+        × (r.0.now ≡ take opening bytes.now ++ body ++ close.now) × (bytes.now ≡ r.0.now ++ r.1.now)) }
+    ensures shorter { IfSome result (λ r. length r.1.now < length bytes.now) }
+{
+    let (_, inner) = bytes.split_at(opening);
+    let len = memmem::find(inner, close)?;
+    Some(bytes.split_at(opening + len + close.len()))
+}
+
+/// A comment, whose first bytes are `<!--`, and what follows it.
+pub fn comment_at<'s>(place: u32, bytes: &'s [u8]) -> Option<(Unit<'s>, &'s [u8])>
+    requires fits { place + length bytes.now < 2 ^ 32 }
+    requires front { starts_with nat_eq bytes.now (codes "<!--") ≡ true }
+    ensures unit { MatchOption result (Stops place bytes.now) (λ r. Finds place bytes.now (unit_of r.0) r.1.now) }
+    ensures shorter { IfSome result (λ r. length r.1.now < length bytes.now) }
+{
+    let Some((text, rest)) = split_past(bytes, 4, b"-->") else {
+        return None;
+    };
+    let span = Span {
+        start: place,
+        end: place + text.len() as u32,
+    };
+    Some((Unit::Comment { span, text }, rest))
+}
+
+/// Whether a word and one white space stand at the front.
+fn begins_with_word(bytes: &[u8], word: &[u8]) -> bool
+    ensures { Decides result ((white : ℕ) × (back : List ℕ) × (bytes.now ≡ word.now ++ white ∷ back) × (kinds.is_white white ≡ true)) }
+{
+    let Some(rest) = bytes.strip_prefix(word) else {
+        return false;
+    };
+    match rest {
+        [white, ..] => is_white(*white),
+        [] => false,
+    }
+}
+
+/// A declaration, whose first bytes are `<?`, and what follows it.
+pub fn declaration_at<'s>(place: u32, bytes: &'s [u8]) -> Option<(Unit<'s>, &'s [u8])>
+    requires fits { place + length bytes.now < 2 ^ 32 }
+    requires front { starts_with nat_eq bytes.now (codes "<?") ≡ true }
+    ensures unit { MatchOption result (Stops place bytes.now) (λ r. Finds place bytes.now (unit_of r.0) r.1.now) }
+    ensures shorter { IfSome result (λ r. length r.1.now < length bytes.now) }
+{
+    if !begins_with_word(bytes, b"<?xml") {
+        return None;
+    }
+    let Some((text, rest)) = split_past(bytes, 6, b"?>") else {
+        return None;
+    };
+    let span = Span {
+        start: place,
+        end: place + text.len() as u32,
+    };
+    Some((Unit::Declaration { span, text }, rest))
+}
+
+/// A doctype, whose first bytes are `<!` but not `<!--`, and what follows it.
+pub fn doctype_at<'s>(place: u32, bytes: &'s [u8]) -> Option<(Unit<'s>, &'s [u8])>
+    requires fits { place + length bytes.now < 2 ^ 32 }
+    requires front { starts_with nat_eq bytes.now (codes "<!") ≡ true }
+    requires other { starts_with nat_eq bytes.now (codes "<!--") ≡ false }
+    ensures unit { MatchOption result (Stops place bytes.now) (λ r. Finds place bytes.now (unit_of r.0) r.1.now) }
+    ensures shorter { IfSome result (λ r. length r.1.now < length bytes.now) }
+{
+    if !begins_with_word(bytes, b"<!DOCTYPE") {
+        return None;
+    }
+    let (_, inner) = bytes.split_at(10);
+    let (_, end) = inner.split_at(doctype_len(inner));
+    let Some(rest) = end.strip_prefix(b">") else {
+        return None;
+    };
+    let (text, _) = bytes.split_at(bytes.len() - rest.len());
+    let span = Span {
+        start: place,
+        end: place + text.len() as u32,
+    };
+    Some((Unit::Doctype { span, text }, rest))
+}

@@ -1,0 +1,123 @@
+//! References in texts and values, and the first that is bad.
+ghost use Rattle.std.specs.Prelude.{◌≡◌, ◌↔◌, ◌+◌, ◌<◌, ◌≤◌, ◌^◌, ◌++◌, ℕ, List, [], ◌∷◌, length, Contains, IsTrue, IfSome, MatchOption, map, slice_get, nat_eq, Some};
+ghost use Rattle.std.specs.List.{AllByRecursion, list_any, starts_with};
+ghost use Rattle.tml_span.specs.References.{named_references, IsDecimalReference, IsHexReference, BeginsReference, IsBadAt, IsBadIn, IsFirst, IsNowhere, IsPlaced, IsWithin, Follows, pieces_of, value_piece};
+ghost use Rattle.tml_span.specs.View.{unit_of, attribute_of};
+
+use crate::bytes::{digits_len, hex_digits_len};
+use crate::{Attr, Span, Unit};
+
+/// Whether the digits in front, of which at least 1 and at most `most` count, are closed by `;`.
+fn is_closed(digits: usize, most: usize, bytes: &[u8]) -> bool
+    requires { digits ≤ length bytes.now }
+    ensures { IsTrue result ↔ ((1 ≤ digits) × (digits ≤ most) × (slice_get bytes.now digits ≡ Some 59)) }
+{
+    1 <= digits && digits <= most && bytes.get(digits) == Some(&b';')
+}
+
+/// Whether one of the named references stands at the front of the bytes.
+fn begins_named(bytes: &[u8]) -> bool
+    ensures { result ≡ list_any (starts_with nat_eq bytes.now) named_references }
+{
+    bytes.starts_with(b"&lt;")
+        || bytes.starts_with(b"&gt;")
+        || bytes.starts_with(b"&amp;")
+        || bytes.starts_with(b"&quot;")
+        || bytes.starts_with(b"&apos;")
+}
+
+/// Whether a reference by decimal digits stands at the front of the bytes.
+fn begins_decimal(bytes: &[u8]) -> bool
+    ensures { IsTrue result ↔ ((front : List ℕ) × (back : List ℕ) × (bytes.now ≡ front ++ back) × IsDecimalReference front) }
+{
+    match bytes.strip_prefix(b"&#") {
+        Some(digits) => is_closed(digits_len(digits), 7, digits),
+        None => false,
+    }
+}
+
+/// Whether a reference by hexadecimal digits stands at the front of the bytes.
+fn begins_hex(bytes: &[u8]) -> bool
+    ensures { IsTrue result ↔ ((front : List ℕ) × (back : List ℕ) × (bytes.now ≡ front ++ back) × IsHexReference front) }
+{
+    match bytes.strip_prefix(b"&#x") {
+        Some(digits) => is_closed(hex_digits_len(digits), 6, digits),
+        None => false,
+    }
+}
+
+/// Whether a reference stands at the front of the bytes.
+fn begins_reference(bytes: &[u8]) -> bool
+    ensures { IsTrue result ↔ BeginsReference bytes.now }
+{
+    begins_named(bytes) || begins_decimal(bytes) || begins_hex(bytes)
+}
+
+/// The index of the first `&` with which no reference begins.
+fn bad_reference(bytes: &[u8]) -> Option<usize>
+    ensures first { MatchOption result (IsNowhere (IsBadAt bytes.now)) (IsFirst (IsBadAt bytes.now)) }
+    ensures within { IfSome result (λ index. index < length bytes.now) }
+{
+    let mut index = 0;
+    while let Some(ahead) = memchr::memchr(b'&', &bytes[index..]) {
+        index += ahead;
+        if !begins_reference(&bytes[index..]) {
+            return Some(index);
+        }
+        index += 1;
+    }
+    None
+}
+
+/// The place of the first bad reference in bytes that stand at a place.
+fn bad_place(start: u32, bytes: &[u8]) -> Option<u32>
+    requires { start + length bytes.now < 2 ^ 32 }
+    ensures { MatchOption result (IsNowhere (IsBadIn ((start, bytes.now) ∷ []))) (IsFirst (IsBadIn ((start, bytes.now) ∷ []))) }
+{
+    match bad_reference(bytes) {
+        Some(index) => Some(start + index as u32),
+        None => None,
+    }
+}
+
+/// The place of the first bad reference in a text.
+fn bad_place_in_text(span: Span, text: &[u8]) -> Option<u32>
+    requires { span.start + length text.now ≤ span.end }
+    ensures { MatchOption result (IsNowhere (IsBadIn ((span.start, text.now) ∷ []))) (IsFirst (IsBadIn ((span.start, text.now) ∷ []))) }
+{
+    bad_place(span.start, text)
+}
+
+/// The place of the first bad reference in the value of an attribute.
+fn bad_place_in_value(attr: &Attr) -> Option<u32>
+    requires { IsWithin (attribute_of attr.now) }
+    ensures { MatchOption result (IsNowhere (IsBadIn (value_piece (attribute_of attr.now) ∷ []))) (IsFirst (IsBadIn (value_piece (attribute_of attr.now) ∷ []))) }
+{
+    bad_place(attr.span.end - 1 - attr.value.len() as u32, attr.value)
+}
+
+/// The place of the first bad reference in the values of attributes.
+fn bad_value(attrs: &[Attr]) -> Option<u32>
+    requires within { AllByRecursion IsWithin (map attribute_of attrs.now) }
+    requires follows { (low : ℕ) × (high : ℕ) × Follows low (map value_piece (map attribute_of attrs.now)) high }
+    ensures { MatchOption result (IsNowhere (IsBadIn (map value_piece (map attribute_of attrs.now)))) (IsFirst (IsBadIn (map value_piece (map attribute_of attrs.now)))) }
+{
+    for attr in attrs {
+        if let Some(place) = bad_place_in_value(attr) {
+            return Some(place);
+        }
+    }
+    None
+}
+
+/// The place of the first bad reference in a unit.
+pub fn bad_reference_in(unit: &Unit) -> Option<u32>
+    requires { IsPlaced (unit_of unit.now) }
+    ensures { MatchOption result (IsNowhere (IsBadIn (pieces_of (unit_of unit.now)))) (IsFirst (IsBadIn (pieces_of (unit_of unit.now)))) }
+{
+    match unit {
+        Unit::Text { span, text } => bad_place_in_text(*span, text),
+        Unit::StartTag { attrs, .. } | Unit::EmptyTag { attrs, .. } => bad_value(attrs.as_slice()),
+        _ => None,
+    }
+}
