@@ -1,6 +1,7 @@
 pub mod Status
 pub mod Words
 pub mod View
+pub mod Kinds
 pub mod Texts
 pub mod Written
 pub mod Answer

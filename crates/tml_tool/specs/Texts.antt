@@ -1,8 +1,16 @@
 -- The printed texts.
-use Rattle.std.specs.Prelude.{ℕ, List, ◌++◌, codes, decimal}
+use Rattle.std.specs.Prelude.{ℕ, List, ◌++◌, codes, decimal, count_by, None, Some}
+use Rattle.std.specs.declared.option.Option.{Option}
 use Rattle.std.specs.List.{flat_map}
 use Rattle.tml_span.specs.Units.{Attribute, Kind, bom, declaration, doctype, comment, text, start_tag, end_tag, empty_tag, PlainUnit}
-use Rattle.tml_span.specs.Faults.{SourceFault, not_utf8, bad_reference, bad_markup}
+use Rattle.tml_span.specs.declared.reader.Cut.{Cut}
+use Rattle.tml_span.specs.declared.reader.Cut.TheVariants as cut
+use Rattle.tml_tree.specs.declared.whole.TreeFault.{TreeFault}
+use Rattle.tml_tree.specs.declared.whole.TreeFault.TheVariants as tree
+use Rattle.tml_types.specs.declared.whole.TypeFault.{TypeFault}
+use Rattle.tml_types.specs.declared.whole.TypeFault.TheVariants as types
+use Rattle.tml_types.specs.declared.typing.TypedTag.{TypedTag}
+use Rattle.tml_tool.specs.Kinds.{is_event, is_instance, is_timex, is_signal, is_tlink, is_alink, is_slink}
 
 -- the start and the end of a span, each with a space behind it
 abbrev pub span_front : ℕ → ℕ → List ℕ
@@ -29,15 +37,46 @@ unit_lines u = span_front u.start u.end ++ kind_text u.kind
 abbrev pub unit_table : List PlainUnit → List ℕ
 unit_table units = flat_map unit_lines units
 
--- the number of a fault, its name and its place
-abbrev pub fault_line : SourceFault → List ℕ
-fault_line (not_utf8 place) = codes "fault 1 NotUtf8 " ++ decimal place ++ codes "\n"
-fault_line (bad_reference place) = codes "fault 2 BadReference " ++ decimal place ++ codes "\n"
-fault_line (bad_markup place) = codes "fault 3 BadMarkup " ++ decimal place ++ codes "\n"
+-- a word and a number
+abbrev pub numbered : List ℕ → ℕ → List ℕ
+numbered front n = front ++ decimal n ++ codes "\n"
+
+-- The number of a fault, its name and its place. Want of memory has no line.
+abbrev pub cut_fault_line : Cut → Option (List ℕ)
+cut_fault_line (cut.NotUtf8 place) = Some (numbered (codes "fault 1 NotUtf8 ") place)
+cut_fault_line (cut.BadReference place) = Some (numbered (codes "fault 2 BadReference ") place)
+cut_fault_line (cut.BadMarkup place) = Some (numbered (codes "fault 3 BadMarkup ") place)
+cut_fault_line cut.Memory = None
+
+abbrev pub tree_fault_line : TreeFault → Option (List ℕ)
+tree_fault_line (tree.UnknownTag place) = Some (numbered (codes "fault 4 UnknownTag ") place)
+tree_fault_line (tree.Unbalanced place) = Some (numbered (codes "fault 5 Unbalanced ") place)
+tree_fault_line (tree.Unclosed place) = Some (numbered (codes "fault 6 Unclosed ") place)
+tree_fault_line (tree.Misplaced place) = Some (numbered (codes "fault 7 Misplaced ") place)
+tree_fault_line (tree.TooDeep place) = Some (numbered (codes "fault 8 TooDeep ") place)
+tree_fault_line tree.Memory = None
+
+abbrev pub type_fault_line : TypeFault → Option (List ℕ)
+type_fault_line (types.RepeatedAttribute place) = Some (numbered (codes "fault 9 RepeatedAttribute ") place)
+type_fault_line (types.MissingAttribute place) = Some (numbered (codes "fault 10 MissingAttribute ") place)
+type_fault_line (types.BadValue place) = Some (numbered (codes "fault 11 BadValue ") place)
+type_fault_line (types.Conflict place) = Some (numbered (codes "fault 12 Conflict ") place)
+type_fault_line types.Memory = None
+
+-- how many tags of each kind an accepted document has
+abbrev pub accepted : List TypedTag → List ℕ
+accepted tags = codes "accepted\n"
+    ++ numbered (codes "events ") (count_by is_event tags)
+    ++ numbered (codes "instances ") (count_by is_instance tags)
+    ++ numbered (codes "timex ") (count_by is_timex tags)
+    ++ numbered (codes "signals ") (count_by is_signal tags)
+    ++ numbered (codes "tlinks ") (count_by is_tlink tags)
+    ++ numbered (codes "alinks ") (count_by is_alink tags)
+    ++ numbered (codes "slinks ") (count_by is_slink tags)
 
 -- one line for each command
 abbrev pub usage : List ℕ
-usage = codes "usage:\ntml spans DOC\n"
+usage = codes "usage:\ntml spans DOC\ntml check DOC\n"
 
 abbrev pub read_fault : List ℕ
 read_fault = codes "read fault\n"

@@ -2,14 +2,14 @@
 use Rattle.std.specs.Prelude.{ℕ, List, None, Some}
 use Rattle.std.specs.declared.option.Option.{Option}
 use Rattle.tml_tool.specs.declared.command.Command.{Command}
-use Rattle.tml_tool.specs.declared.command.Command.TheVariants.{Usage, Spans}
+use Rattle.tml_tool.specs.declared.command.Command.TheVariants.{Usage, OfDocument}
 use Rattle.tml_tool.specs.declared.reply.Text.{Text}
 use Rattle.tml_tool.specs.declared.reply.Text.TheVariants.{Fixed, Made}
-use Rattle.tml_tool.specs.Words.{Form, spans}
+use Rattle.tml_tool.specs.Words.{Form, of_document}
 
 abbrev pub command_form : Command → Option Form
 command_form Usage = None
-command_form (Spans doc) = Some (spans doc.now)
+command_form (OfDocument question doc) = Some (of_document question doc.now)
 
 abbrev pub text_of : Text → List ℕ
 text_of (Fixed bytes) = bytes.now

@@ -1,24 +1,34 @@
 -- The words of a run, and the commands that they are forms of.
-use Rattle.std.specs.Prelude.{ℕ, List, [], ◌∷◌, codes, if◌then◌else◌, String, string_bytes, map, None, Some}
-use Rattle.std.specs.Str.{bytes_eq}
+use Rattle.std.specs.Prelude.{ℕ, List, [], ◌∷◌, codes, option_map, String, string_bytes, map, None, Some}
 use Rattle.std.specs.declared.alloc.Global.{Global}
 use Rattle.std.specs.declared.option.Option.{Option}
+use Rattle.named.specs.Texts.{named_of}
+use Rattle.tml_tool.specs.declared.command.Question.{Question}
+use Rattle.tml_tool.specs.declared.command.Question.TheVariants.{Spans, Check}
 
 -- the words as bytes
 abbrev pub texts_of : List (String Global) → List (List ℕ)
 texts_of words = map (λ (w : String Global). string_bytes w) words
 
+-- the word that asks a question of one document
+abbrev pub question_text : Question → List ℕ
+question_text Spans = codes "spans"
+question_text Check = codes "check"
+
+abbrev pub all_questions : List Question
+all_questions = Spans ∷ Check ∷ []
+
 -- a command, with the names of the files that it reads
 pub data Form : Type 0 where
-  spans : List ℕ → Form
+  of_document : Question → List ℕ → Form
 
 -- The command that some words are a form of: no words stand for `spans -`.
 abbrev pub form_of : List (List ℕ) → Option Form
-form_of [] = Some (spans (codes "-"))
-form_of (command ∷ name ∷ []) = if bytes_eq command (codes "spans") then Some (spans name) else None
+form_of [] = Some (of_document Spans (codes "-"))
+form_of (command ∷ name ∷ []) = option_map (λ question. of_document question name) (named_of question_text all_questions command)
 form_of words = None
 
 -- the names of the files that a command reads, in the order in which it starts them
 abbrev pub names_of : Option Form → List (List ℕ)
 names_of None = []
-names_of (Some (spans name)) = name ∷ []
+names_of (Some (of_document question name)) = name ∷ []

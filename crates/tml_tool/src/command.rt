@@ -3,13 +3,43 @@ ghost use Rattle.std.specs.Prelude.{◌≡◌};
 ghost use Rattle.tml_tool.specs.Words.{texts_of, form_of};
 ghost use Rattle.tml_tool.specs.View.{command_form};
 
+use named::{Named, named_by};
+
+/// What can be asked of one document.
+#[derive(Clone, Copy, Debug, PartialEq, Eq)]
+pub enum Question {
+    /// Its units.
+    Spans,
+    /// Whether it is well annotated, and how many tags of each kind it has.
+    Check,
+}
+
+impl Named for Question {
+    ghost use Rattle.tml_tool.specs.Words.{question_text, all_questions};
+
+    ghost text_of = { question_text };
+
+    ghost all_of = { all_questions };
+
+    fn all() -> &'static [Question] {
+        &[Question::Spans, Question::Check]
+    }
+
+    fn text(self) -> &'static [u8] {
+        match self {
+            Question::Spans => b"spans",
+            Question::Check => b"check",
+        }
+    }
+}
+
 /// What to do, with the names of the files to read.
 #[derive(Clone, Copy)]
 pub enum Command<'w> {
     /// To print the usage text: the words are of no known form.
     Usage,
-    /// To print the units of a document.
-    Spans { doc: &'w str },
+    /// To answer a question of a document.
+    OfDocument { question: Question, doc: &'w str },
 }
 
 /// The command that the words are a form of. With no words it is `spans` of standard input.
@@ -17,8 +47,17 @@ pub fn command_of(words: &[String]) -> Command<'_>
     ensures { command_form result ≡ form_of (texts_of words.now) }
 {
     match words {
-        [] => Command::Spans { doc: "-" },
-        [command, doc] if command.as_str() == "spans" => Command::Spans { doc: doc.as_str() },
+        [] => Command::OfDocument {
+            question: Question::Spans,
+            doc: "-",
+        },
+        [command, doc] => match named_by(command.as_bytes()) {
+            Some(question) => Command::OfDocument {
+                question,
+                doc: doc.as_str(),
+            },
+            None => Command::Usage,
+        },
         _ => Command::Usage,
     }
 }

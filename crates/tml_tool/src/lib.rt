@@ -1,7 +1,10 @@
 //! The commands of `tml`: what the words ask for, the answer, and its printing.
 #![tactic(auto)]
 
+mod check;
 mod command;
+mod document;
+mod faults;
 mod reply;
 mod spans;
 mod status;

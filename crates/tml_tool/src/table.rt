@@ -90,12 +90,20 @@ pub fn push_unit(out: &mut Vec<u8>, unit: &Unit) -> Result<(), AllocError>
     }
 }
 
-/// The line of a fault: its number and name, which the front ends with, and its place.
-pub fn fault_line(alloc: Global, front: &[u8], place: u32) -> Result<Vec<u8>, AllocError>
-    ensures { IfOk result (λ out. out.items ≡ front.now ++ decimal place ++ codes "\n") }
+/// Puts a line last: a front that ends in a space, and a number.
+pub fn push_numbered(out: &mut Vec<u8>, front: &[u8], n: u32) -> Result<(), AllocError>
+    ensures { OnOk result (out.new.items ≡ out.old.items ++ texts.numbered front.now n) }
 {
-    let mut out = Vec::from_slice(alloc, front)?;
-    push_number(&mut out, place)?;
-    out.extend_from_slice(b"\n")?;
+    out.extend_from_slice(front)?;
+    push_number(out, n)?;
+    out.extend_from_slice(b"\n")
+}
+
+/// A line of its own: a front that ends in a space, and a number.
+pub fn numbered(alloc: Global, front: &[u8], n: u32) -> Result<Vec<u8>, AllocError>
+    ensures { IfOk result (λ out. out.items ≡ texts.numbered front.now n) }
+{
+    let mut out = Vec::new(alloc);
+    push_numbered(&mut out, front, n)?;
     Ok(out)
 }

@@ -9,8 +9,8 @@ ghost use Rattle.tml_tool.specs.Words.{texts_of, form_of, names_of};
 
 use crate::Status;
 use crate::command::{Command, command_of};
+use crate::document::answer;
 use crate::reply::{Reply, deliver};
-use crate::spans::spans;
 use std::alloc::Global;
 use tml_io::{Inputs, Sink};
 
@@ -42,6 +42,6 @@ pub fn run<I: Inputs, S: Sink>(
 {
     match command_of(words) {
         Command::Usage => deliver(sink, Reply::usage()),
-        Command::Spans { doc } => deliver(sink, spans(alloc, doc, inputs)),
+        Command::OfDocument { question, doc } => deliver(sink, answer(alloc, question, doc, inputs)),
     }
 }

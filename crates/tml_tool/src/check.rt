@@ -1,0 +1,105 @@
+//! The question `check`: whether a document is well annotated.
+ghost use Rattle.std.specs.Prelude.{◌≡◌, ◌≤◌, ◌++◌, length, count_by, IfOk, OnOk};
+ghost use Rattle.tml_tool.specs.Answer.{doc_limit};
+ghost use Rattle.tml_tool.specs.Kinds as kinds;
+ghost use Rattle.tml_tool.specs.Replies.{RepliesOver};
+ghost use Rattle.tml_tool.specs.Texts as texts;
+ghost use Rattle.tml_tool.specs.View.{text_of};
+ghost use Rattle.tml_tool.specs.declared.command.Question.TheVariants as questions;
+
+use crate::Status;
+use crate::faults::{cut_fault, refusal, tree_fault, type_fault};
+use crate::reply::{Reply, Text};
+use crate::table::push_numbered;
+use std::alloc::{AllocError, Global};
+use tml_span::units;
+use tml_tree::tree;
+use tml_types::{TypedTag, type_tags};
+
+/// How many tags of each kind the document has, or its first fault by the cut, the tree and the types.
+pub fn check(alloc: Global, doc: &[u8]) -> Reply
+    requires { length doc.now ≤ doc_limit }
+    ensures { RepliesOver questions.Check doc.now result.status (text_of result.text) }
+{
+    let units = match units(alloc, doc) {
+        Ok(units) => units,
+        Err(fault) => return refusal(alloc, cut_fault(fault)),
+    };
+    let tree = match tree(alloc, units) {
+        Ok(tree) => tree,
+        Err(fault) => return refusal(alloc, tree_fault(fault)),
+    };
+    let typed = match type_tags(alloc, &tree) {
+        Ok(typed) => typed,
+        Err(fault) => return refusal(alloc, type_fault(fault)),
+    };
+    match accepted(alloc, typed.as_slice()) {
+        Ok(text) => Reply {
+            status: Status::Done,
+            text: Text::Made(text),
+        },
+        Err(AllocError) => Reply::no_memory(),
+    }
+}
+
+/// How many typed tags there are of each kind.
+#[derive(Clone, Copy)]
+struct Counts {
+    events: u32,
+    instances: u32,
+    timex: u32,
+    signals: u32,
+    tlinks: u32,
+    alinks: u32,
+    slinks: u32,
+}
+
+fn count(tags: &[TypedTag]) -> Counts
+    requires { length tags.now < 2 ^ 32 }
+    ensures events { result.events ≡ count_by kinds.is_event tags.now }
+    ensures instances { result.instances ≡ count_by kinds.is_instance tags.now }
+    ensures timex { result.timex ≡ count_by kinds.is_timex tags.now }
+    ensures signals { result.signals ≡ count_by kinds.is_signal tags.now }
+    ensures tlinks { result.tlinks ≡ count_by kinds.is_tlink tags.now }
+    ensures alinks { result.alinks ≡ count_by kinds.is_alink tags.now }
+    ensures slinks { result.slinks ≡ count_by kinds.is_slink tags.now }
+{
+    let mut counts = Counts {
+        events: 0,
+        instances: 0,
+        timex: 0,
+        signals: 0,
+        tlinks: 0,
+        alinks: 0,
+        slinks: 0,
+    };
+    for tag in tags {
+        match tag {
+            TypedTag::Event { .. } => counts.events += 1,
+            TypedTag::Instance { .. } => counts.instances += 1,
+            TypedTag::Timex { .. } => counts.timex += 1,
+            TypedTag::Signal { .. } => counts.signals += 1,
+            TypedTag::Tlink { .. } => counts.tlinks += 1,
+            TypedTag::Alink { .. } => counts.alinks += 1,
+            TypedTag::Slink { .. } => counts.slinks += 1,
+        }
+    }
+    counts
+}
+
+/// The text for an accepted document.
+fn accepted(alloc: Global, tags: &[TypedTag]) -> Result<Vec<u8>, AllocError>
+    requires { length tags.now < 2 ^ 32 }
+    ensures { IfOk result (λ out. out.items ≡ texts.accepted tags.now) }
+{
+    let counts = count(tags);
+    let mut out = Vec::from_slice(alloc, b"accepted\n")?;
+    push_numbered(&mut out, b"events ", counts.events)?;
+    push_numbered(&mut out, b"instances ", counts.instances)?;
+    push_numbered(&mut out, b"timex ", counts.timex)?;
+    push_numbered(&mut out, b"signals ", counts.signals)?;
+    push_numbered(&mut out, b"tlinks ", counts.tlinks)?;
+    push_numbered(&mut out, b"alinks ", counts.alinks)?;
+    push_numbered(&mut out, b"slinks ", counts.slinks)?;
+    Ok(out)
+}

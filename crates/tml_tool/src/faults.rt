@@ -1,0 +1,68 @@
+//! The printed lines of faults.
+ghost use Rattle.std.specs.Prelude.{◌≡◌, ◌++◌, decimal, codes, option_map};
+ghost use Rattle.tml_tool.specs.Replies.{Refuses};
+ghost use Rattle.tml_tool.specs.Texts as texts;
+ghost use Rattle.tml_tool.specs.View.{text_of};
+
+use crate::Status;
+use crate::reply::{Reply, Text};
+use crate::table::numbered;
+use std::alloc::Global;
+use tml_span::Cut;
+use tml_tree::TreeFault;
+use tml_types::TypeFault;
+
+/// The number and the name of a fault as they are printed, and its place. Want of memory is no fault.
+type Fault = Option<(&'static [u8], u32)>;
+
+pub fn cut_fault(fault: Cut) -> Fault
+    ensures { option_map (λ f. texts.numbered f.0.now f.1) result ≡ texts.cut_fault_line fault }
+{
+    match fault {
+        Cut::NotUtf8 { place } => Some((b"fault 1 NotUtf8 ", place)),
+        Cut::BadReference { place } => Some((b"fault 2 BadReference ", place)),
+        Cut::BadMarkup { place } => Some((b"fault 3 BadMarkup ", place)),
+        Cut::Memory => None,
+    }
+}
+
+pub fn tree_fault(fault: TreeFault) -> Fault
+    ensures { option_map (λ f. texts.numbered f.0.now f.1) result ≡ texts.tree_fault_line fault }
+{
+    match fault {
+        TreeFault::UnknownTag { place } => Some((b"fault 4 UnknownTag ", place)),
+        TreeFault::Unbalanced { place } => Some((b"fault 5 Unbalanced ", place)),
+        TreeFault::Unclosed { place } => Some((b"fault 6 Unclosed ", place)),
+        TreeFault::Misplaced { place } => Some((b"fault 7 Misplaced ", place)),
+        TreeFault::TooDeep { place } => Some((b"fault 8 TooDeep ", place)),
+        TreeFault::Memory => None,
+    }
+}
+
+pub fn type_fault(fault: TypeFault) -> Fault
+    ensures { option_map (λ f. texts.numbered f.0.now f.1) result ≡ texts.type_fault_line fault }
+{
+    match fault {
+        TypeFault::RepeatedAttribute { place } => Some((b"fault 9 RepeatedAttribute ", place)),
+        TypeFault::MissingAttribute { place } => Some((b"fault 10 MissingAttribute ", place)),
+        TypeFault::BadValue { place } => Some((b"fault 11 BadValue ", place)),
+        TypeFault::Conflict { place } => Some((b"fault 12 Conflict ", place)),
+        TypeFault::Memory => None,
+    }
+}
+
+/// The reply to a document at fault.
+pub fn refusal(alloc: Global, fault: Fault) -> Reply
+    ensures { Refuses (option_map (λ f. texts.numbered f.0.now f.1) fault) result.status (text_of result.text) }
+{
+    let Some((front, place)) = fault else {
+        return Reply::no_memory();
+    };
+    match numbered(alloc, front, place) {
+        Ok(line) => Reply {
+            status: Status::DocFault,
+            text: Text::Made(line),
+        },
+        Err(_) => Reply::no_memory(),
+    }
+}
