@@ -166,6 +166,10 @@ fn rows_of_references(rt: HostRuntime) -> Result<(), Fail> {
         fault(b"&LT;", b"fault 2 BadReference 0\n"),
         fault(b"&amp;&", b"fault 2 BadReference 5\n"),
         fault(b"<a b='&amp;' c='x&y'>&z</a>", b"fault 2 BadReference 17\n"),
+        fault(
+            b"<TimeML><SIGNAL sid=\"s1\"/><SIGNAL sid=\"s1\"/><MAKEINSTANCE eiid=\"i1\" eventID=\"e9\"/></TimeML>&x",
+            b"fault 2 BadReference 91\n",
+        ),
         // A bad reference before the stop outranks the bad markup there, and one behind it does not.
         fault(b"a&b<", b"fault 2 BadReference 1\n"),
         fault(b"ab<&c", b"fault 3 BadMarkup 2\n"),
