@@ -3,4 +3,4 @@
 
 mod names;
 
-pub use names::{AspectRel, Aspect, DocFunction, EventClass, Polarity, Pos, SubRel, Tense};
+pub use names::{Aspect, AspectRel, DocFunction, EventClass, Polarity, Pos, SubRel, Tense};

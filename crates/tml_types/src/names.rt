@@ -226,10 +226,7 @@ impl Named for Polarity {
     ghost all_of = { names.all_polarities };
 
     fn all() -> &'static [Polarity] {
-        &[
-            Polarity::Positive,
-            Polarity::Negative,
-        ]
+        &[Polarity::Positive, Polarity::Negative]
     }
 
     fn text(self) -> &'static [u8] {
