@@ -4,14 +4,13 @@ use Rattle.std.specs.Prelude.{OnOk, is_err}
 use Rattle.std.specs.Io.KnownBytes.{Keeps, Appends}
 use Rattle.std.proofs.lemmas.List.{append-nil}
 use Rattle.tml_io.specs.Files.{Files}
-use Rattle.tml_span.specs.Faults.{HasFault, not_utf8, bad_reference, bad_markup}
-use Rattle.tml_span.specs.declared.reader.Cut.{Cut}
-use Rattle.tml_span.specs.declared.reader.Cut.TheVariants as cut
+use Rattle.tml_tool.specs.declared.command.Question.{Question}
+use Rattle.tml_tool.specs.declared.command.Question.TheVariants.{Spans, Check}
 use Rattle.tml_tool.specs.declared.status.Status.{Status}
 use Rattle.tml_tool.specs.declared.status.Status.TheVariants.{Done, DocFault, Clash, Usage, ReadFault, WriteFault, NoMemory, EvidenceFault, UnknownName, TooLong}
-use Rattle.tml_tool.specs.Words.{Form, spans, names_of}
-use Rattle.tml_tool.specs.Answer.{Answer, SpansAnswer}
-use Rattle.tml_tool.specs.Replies.{Replies, OverBytes, Refuses}
+use Rattle.tml_tool.specs.Words.{Form, of_document, names_of}
+use Rattle.tml_tool.specs.Answer.{Answer, OverBytes}
+use Rattle.tml_tool.specs.Replies.{Replies, RepliesOver, Refuses}
 use Rattle.tml_tool.specs.Written.{Writes, Delivers}
 use Rattle.tml_tool.specs.Outcome.{Outcome}
 use Rattle.tml_tool.specs.Texts as texts
@@ -21,21 +20,21 @@ pub when_ok : {T E : Type 0} (r : Result T E) (P : Type 0) → is_err r ≡ fals
 when_ok (Ok x) P e h = h
 when_ok (Err x) P e h = absurd cc
 
--- the reply to a document with a fault
-pub refused : (doc : List ℕ) (fault : Cut) (status : Status) (out : List ℕ) → HasFault doc fault → Refuses fault status out → OverBytes (SpansAnswer doc) status out
-refused doc (cut.NotUtf8 place) NoMemory out has h = h
-refused doc (cut.NotUtf8 place) status out has h = subst (λ (s : Status). OverBytes (SpansAnswer doc) s out) (sym h.0) (not_utf8 place, has, h.1)
-refused doc (cut.BadReference place) NoMemory out has h = h
-refused doc (cut.BadReference place) status out has h = subst (λ (s : Status). OverBytes (SpansAnswer doc) s out) (sym h.0) (bad_reference place, has, h.1)
-refused doc (cut.BadMarkup place) NoMemory out has h = h
-refused doc (cut.BadMarkup place) status out has h = subst (λ (s : Status). OverBytes (SpansAnswer doc) s out) (sym h.0) (bad_markup place, has, h.1)
-refused doc cut.Memory NoMemory out has h = h
-refused doc cut.Memory status out has h = absurd h
+-- the reply to a document at fault, whose line is an answer
+pub refused : (question : Question) (doc : List ℕ) (line : Option (List ℕ)) (status : Status) (out : List ℕ) → Refuses line status out
+    → ((l : List ℕ) → line ≡ Some l → OverBytes question doc DocFault l) → RepliesOver question doc status out
+refused question doc line NoMemory out h answers = h
+refused question doc line DocFault out h answers = answers out h
+refused question doc line other out h answers = absurd h
 
 -- no answer is a fault of writing
+no_write_fault_over : (question : Question) (doc out : List ℕ) → OverBytes question doc WriteFault out → ⊥
+no_write_fault_over Spans doc out h = h
+no_write_fault_over Check doc out h = h
+
 no_write_fault : (told : Option Files) (form : Option Form) (out : List ℕ) → Answer told form WriteFault out → ⊥
 no_write_fault told None out h = absurd cc
-no_write_fault told (Some (spans name)) out h = elim h.2 [ inl long ↦ absurd (cc long.1) | inr within ↦ within.1 ]
+no_write_fault told (Some (of_document question name)) out h = elim h.2 [ inl long ↦ absurd (cc long.1) | inr within ↦ no_write_fault_over question h.0 out within.1 ]
 
 -- of an empty text nothing is written
 keeps : (old new : Option (List ℕ)) (text : List ℕ) → text ≡ [] → Appends old new text → Keeps old new

@@ -3,16 +3,15 @@ use Rattle.std.specs.Prelude.{◌≡◌, ◌⊎◌, ℕ, ◌<◌, ◌≤◌, Lis
 use Rattle.std.specs.declared.option.Option.{Option}
 use Rattle.tml_io.specs.Files.{Files, Holds}
 use Rattle.tml_span.specs.Units.{PlainUnit}
-use Rattle.tml_span.specs.Whole.{IsWhole}
+use Rattle.tml_span.specs.Whole.{Cutting, IsWhole}
 use Rattle.tml_span.specs.Faults.{HasFault}
 use Rattle.tml_span.specs.declared.reader.Cut.{Cut}
-use Rattle.tml_tree.specs.Nodes.{PlainNode}
-use Rattle.tml_tree.specs.Given.{IsTreeOf}
-use Rattle.tml_tree.specs.Taking.{FaultOf as NestingFault}
+use Rattle.tml_tree.specs.Plain.{PlainNode}
+use Rattle.tml_tree.specs.Whole.{IsTreeOf, HasFault as NestingFault}
 use Rattle.tml_tree.specs.Walking.{elements}
 use Rattle.tml_tree.specs.declared.whole.TreeFault.{TreeFault}
-use Rattle.tml_types.specs.Whole.{AllTyped as AreTyped, FaultOf as TypingFault}
-use Rattle.tml_types.specs.declared.typing.TypedTag.{TypedTag}
+use Rattle.tml_types.specs.Whole.{Types, HasFault as TypingFault}
+use Rattle.tml_types.specs.declared.typed.TypedTag.{TypedTag}
 use Rattle.tml_types.specs.declared.whole.TypeFault.{TypeFault}
 use Rattle.tml_tool.specs.declared.command.Question.{Question}
 use Rattle.tml_tool.specs.declared.command.Question.TheVariants.{Spans, Check}
@@ -35,7 +34,7 @@ CutLine doc line = (fault : Cut) × HasFault doc fault × (texts.cut_fault_line 
 
 -- the line of the first unit at fault, where the cut has none
 abbrev pub TreeLine : List ℕ → List ℕ → Type 0
-TreeLine doc line = (units : List PlainUnit) × IsWhole (record { source = doc; units = units }) × (fault : TreeFault) × NestingFault units fault × (texts.tree_fault_line fault ≡ Some line)
+TreeLine doc line = (units : List PlainUnit) × (let cut : Cutting = record { source = doc; units = units } in IsWhole cut × ((fault : TreeFault) × NestingFault cut fault × (texts.tree_fault_line fault ≡ Some line)))
 
 -- the line of the first tag at fault, where the units make a tree
 abbrev pub TypeLine : List ℕ → List ℕ → Type 0
@@ -43,7 +42,7 @@ TypeLine doc line = (root : PlainNode) × IsTreeOf doc root × (fault : TypeFaul
 
 -- the document is accepted, and these are its typed tags
 abbrev pub IsAccepted : List ℕ → List TypedTag → Type 0
-IsAccepted doc tags = (root : PlainNode) × IsTreeOf doc root × AreTyped (elements root) tags
+IsAccepted doc tags = (root : PlainNode) × IsTreeOf doc root × Types (elements root) tags
 
 -- `spans` prints the table of the units, or the fault of the cut; `check` asks the phases in order: the cut, the tree, the types
 abbrev pub OverBytes : Question → List ℕ → Status → List ℕ → Type 0

@@ -9,7 +9,7 @@ use Rattle.tml_tree.specs.declared.whole.TreeFault.{TreeFault}
 use Rattle.tml_tree.specs.declared.whole.TreeFault.TheVariants as tree
 use Rattle.tml_types.specs.declared.whole.TypeFault.{TypeFault}
 use Rattle.tml_types.specs.declared.whole.TypeFault.TheVariants as types
-use Rattle.tml_types.specs.declared.typing.TypedTag.{TypedTag}
+use Rattle.tml_types.specs.declared.typed.TypedTag.{TypedTag}
 use Rattle.tml_tool.specs.Kinds.{is_event, is_instance, is_timex, is_signal, is_tlink, is_alink, is_slink}
 
 -- the start and the end of a span, each with a space behind it

@@ -1,5 +1,5 @@
 //! The question `check`: whether a document is well annotated.
-ghost use Rattle.std.specs.Prelude.{◌≡◌, ◌≤◌, ◌++◌, length, count_by, IfOk, OnOk};
+ghost use Rattle.std.specs.Prelude.{◌≡◌, ◌≤◌, length, count_by, IfOk};
 ghost use Rattle.tml_tool.specs.Answer.{doc_limit};
 ghost use Rattle.tml_tool.specs.Kinds as kinds;
 ghost use Rattle.tml_tool.specs.Replies.{RepliesOver};
@@ -45,17 +45,16 @@ pub fn check(alloc: Global, doc: &[u8]) -> Reply
 /// How many typed tags there are of each kind.
 #[derive(Clone, Copy)]
 struct Counts {
-    events: u32,
-    instances: u32,
-    timex: u32,
-    signals: u32,
-    tlinks: u32,
-    alinks: u32,
-    slinks: u32,
+    events: usize,
+    instances: usize,
+    timex: usize,
+    signals: usize,
+    tlinks: usize,
+    alinks: usize,
+    slinks: usize,
 }
 
 fn count(tags: &[TypedTag]) -> Counts
-    requires { length tags.now < 2 ^ 32 }
     ensures events { result.events ≡ count_by kinds.is_event tags.now }
     ensures instances { result.instances ≡ count_by kinds.is_instance tags.now }
     ensures timex { result.timex ≡ count_by kinds.is_timex tags.now }
@@ -89,17 +88,16 @@ fn count(tags: &[TypedTag]) -> Counts
 
 /// The text for an accepted document.
 fn accepted(alloc: Global, tags: &[TypedTag]) -> Result<Vec<u8>, AllocError>
-    requires { length tags.now < 2 ^ 32 }
     ensures { IfOk result (λ out. out.items ≡ texts.accepted tags.now) }
 {
     let counts = count(tags);
     let mut out = Vec::from_slice(alloc, b"accepted\n")?;
-    push_numbered(&mut out, b"events ", counts.events)?;
-    push_numbered(&mut out, b"instances ", counts.instances)?;
-    push_numbered(&mut out, b"timex ", counts.timex)?;
-    push_numbered(&mut out, b"signals ", counts.signals)?;
-    push_numbered(&mut out, b"tlinks ", counts.tlinks)?;
-    push_numbered(&mut out, b"alinks ", counts.alinks)?;
-    push_numbered(&mut out, b"slinks ", counts.slinks)?;
+    push_numbered(&mut out, b"events ", counts.events as u64)?;
+    push_numbered(&mut out, b"instances ", counts.instances as u64)?;
+    push_numbered(&mut out, b"timex ", counts.timex as u64)?;
+    push_numbered(&mut out, b"signals ", counts.signals as u64)?;
+    push_numbered(&mut out, b"tlinks ", counts.tlinks as u64)?;
+    push_numbered(&mut out, b"alinks ", counts.alinks as u64)?;
+    push_numbered(&mut out, b"slinks ", counts.slinks as u64)?;
     Ok(out)
 }

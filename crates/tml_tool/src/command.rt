@@ -1,4 +1,5 @@
 //! What the words of a run ask for.
+ghost use Rattle.std.proofs.Common.{rules};
 ghost use Rattle.std.specs.Prelude.{◌≡◌};
 ghost use Rattle.tml_tool.specs.Words.{texts_of, form_of};
 ghost use Rattle.tml_tool.specs.View.{command_form};
@@ -20,6 +21,8 @@ impl Named for Question {
     ghost text_of = { question_text };
 
     ghost all_of = { all_questions };
+
+    ghost apart = { Prim.search rules };
 
     fn all() -> &'static [Question] {
         &[Question::Spans, Question::Check]

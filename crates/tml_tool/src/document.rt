@@ -9,6 +9,7 @@ ghost use Rattle.tml_tool.specs.Words as words;
 
 use crate::check::check;
 use crate::command::Question;
+use crate::Status;
 use crate::reply::Reply;
 use crate::spans::spans;
 use std::alloc::Global;

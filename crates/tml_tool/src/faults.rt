@@ -58,7 +58,7 @@ pub fn refusal(alloc: Global, fault: Fault) -> Reply
     let Some((front, place)) = fault else {
         return Reply::no_memory();
     };
-    match numbered(alloc, front, place) {
+    match numbered(alloc, front, u64::from(place)) {
         Ok(line) => Reply {
             status: Status::DocFault,
             text: Text::Made(line),

@@ -14,7 +14,7 @@ const MAX_DIGITS: usize = 10;
 /// Room for the two places of a span, each with a space behind it.
 const SPAN_ROOM: usize = 2 * MAX_DIGITS + 2;
 
-fn push_number(out: &mut Vec<u8>, n: u32) -> Result<(), AllocError>
+fn push_number(out: &mut Vec<u8>, n: u64) -> Result<(), AllocError>
     ensures { OnOk result (out.new.items ≡ out.old.items ++ decimal n) }
 {
     let mut buffer = Buffer::new();
@@ -91,7 +91,7 @@ pub fn push_unit(out: &mut Vec<u8>, unit: &Unit) -> Result<(), AllocError>
 }
 
 /// Puts a line last: a front that ends in a space, and a number.
-pub fn push_numbered(out: &mut Vec<u8>, front: &[u8], n: u32) -> Result<(), AllocError>
+pub fn push_numbered(out: &mut Vec<u8>, front: &[u8], n: u64) -> Result<(), AllocError>
     ensures { OnOk result (out.new.items ≡ out.old.items ++ texts.numbered front.now n) }
 {
     out.extend_from_slice(front)?;
@@ -100,7 +100,7 @@ pub fn push_numbered(out: &mut Vec<u8>, front: &[u8], n: u32) -> Result<(), Allo
 }
 
 /// A line of its own: a front that ends in a space, and a number.
-pub fn numbered(alloc: Global, front: &[u8], n: u32) -> Result<Vec<u8>, AllocError>
+pub fn numbered(alloc: Global, front: &[u8], n: u64) -> Result<Vec<u8>, AllocError>
     ensures { IfOk result (λ out. out.items ≡ texts.numbered front.now n) }
 {
     let mut out = Vec::new(alloc);
