@@ -1,0 +1,6 @@
+//! Typed tags.
+#![tactic(auto)]
+
+mod names;
+
+pub use names::{Aspect, AspectRel, DocFunction, EventClass, Polarity, Pos, SubRel, Tense};
