@@ -1,9 +1,43 @@
 -- Tables of texts.
-use Rattle.std.proofs.Common.{◌≡◌, ◌≢◌, ℕ, Bool, true, false, ◌||◌, List, [], ◌∷◌, map, refl, ap, Option, Some, None}
+use Rattle.std.proofs.Common.{◌≡◌, ℕ, Bool, true, false, cond, ◌||◌, ◌↔◌, List, [], ◌∷◌, map, refl, ap, sym, subst, Option, Some, None}
 use Rattle.std.specs.List.{list_any}
+use Rattle.std.specs.Option.{is_some, IfSome, IsNone}
 use Rattle.std.specs.Str.{bytes_eq}
-use Rattle.named.specs.Texts.{named_of, is_one_of}
+use Rattle.std.proofs.lemmas.Slice.Eq.{bytes_eq-Decides}
+use Rattle.named.specs.Texts.{named_of, is_one_of, AreApart, NoneHas}
 
 pub any_map : {A B : Type 0} (f : A → B) (p : B → Bool) (xs : List A) → list_any p (map f xs) ≡ list_any (λ a. p (f a)) xs
 any_map f p [] = refl
 any_map f p (x ∷ xs) = ap (λ (b : Bool). p (f x) || b) (any_map f p xs)
+
+-- a value that is found has the text
+pub found_has : {T : Type 0} (text_of : T → List ℕ) (vs : List T) (text : List ℕ) (v : T) → named_of text_of vs text ≡ Some v → text_of v ≡ text
+found_has text_of [] text v h = cc
+found_has text_of (w ∷ vs) text v h =
+    elim (bytes_eq (text_of w) text) as (λ b. bytes_eq (text_of w) text ≡ b → cond b (Some w) (named_of text_of vs text) ≡ Some v → text_of v ≡ text) [
+      | true ↦ λ e k. let same = (bytes_eq-Decides (text_of w) text).0 e in cc
+      | false ↦ λ e k. found_has text_of vs text v k
+    ] refl h
+
+-- a value that has the text is found
+pub has_found : {T : Type 0} (text_of : T → List ℕ) (all : List T) (text : List ℕ) (v : T) → AreApart text_of all → text_of v ≡ text → named_of text_of all text ≡ Some v
+has_found text_of all text v apart h = subst (λ (t : List ℕ). named_of text_of all t ≡ Some v) h (apart v)
+
+-- what is found has the text
+pub some_has : {T : Type 0} (text_of : T → List ℕ) (all : List T) (text : List ℕ) (o : Option T) → o ≡ named_of text_of all text → IfSome o (λ v. text_of v ≡ text)
+some_has text_of all text None h = tt
+some_has text_of all text (Some v) h = found_has text_of all text v (sym h)
+
+-- none is found exactly where no value has the text
+pub none_has : {T : Type 0} (text_of : T → List ℕ) (all : List T) (text : List ℕ) → AreApart text_of all → (o : Option T) → o ≡ named_of text_of all text → IsNone o ↔ NoneHas text_of text
+none_has text_of all text apart None h = ((λ n v k. let found = has_found text_of all text v apart k in cc), λ n. refl)
+none_has text_of all text apart (Some v) h = ((λ n. cc), λ n. absurd (n v (found_has text_of all text v (sym h))))
+
+-- a value is found exactly where the text is one of the table's
+pub found_is_one : {T : Type 0} (text_of : T → List ℕ) (vs : List T) (text : List ℕ) → is_some (named_of text_of vs text) ≡ is_one_of (map text_of vs) text
+found_is_one text_of [] text = refl
+found_is_one text_of (v ∷ vs) text =
+    elim (bytes_eq (text_of v) text) as (λ b. is_some (cond b (Some v) (named_of text_of vs text)) ≡ (b || is_one_of (map text_of vs) text)) [
+      | true ↦ refl
+      | false ↦ found_is_one text_of vs text
+    ]

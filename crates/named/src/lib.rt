@@ -5,8 +5,9 @@
 ghost use Rattle.std.specs.Prelude.{◌≡◌};
 ghost use Rattle.named.specs.Texts.{named_of};
 
-/// A type of finitely many values, each with a text.
+/// A type of finitely many values, each with a text that no other of them has.
 pub trait Named: Copy + 'static {
+    ghost use Rattle.named.specs.Texts.{AreApart};
     ghost use Rattle.std.specs.Prelude.{List, ℕ};
 
     /// The text of a value.
@@ -20,6 +21,9 @@ pub trait Named: Copy + 'static {
 
     fn text(self) -> &'static [u8]
         ensures { result.now ≡ Self.text_of self };
+
+    /// Each value is found by its own text. An impl proves it by `Prim.search rules`, which tries every value.
+    ghost apart: { AreApart Self.text_of Self.all_of };
 }
 
 /// The value whose text this is, or none where the text is that of no value.

@@ -28,7 +28,9 @@ class_text class.IState = codes "I_STATE"
 class_text class.IAction = codes "I_ACTION"
 
 abbrev pub all_classes : List EventClass
-all_classes = class.Occurrence ∷ class.Perception ∷ class.Reporting ∷ class.Aspectual ∷ class.State ∷ class.IState ∷ class.IAction ∷ []
+all_classes =
+    class.Occurrence ∷ class.Perception ∷ class.Reporting ∷ class.Aspectual ∷ class.State ∷ class.IState
+    ∷ class.IAction ∷ []
 
 -- the values of `tense` of MAKEINSTANCE
 abbrev pub tense_text : Tense → List ℕ
@@ -41,7 +43,9 @@ tense_text tense.PastPart = codes "PASTPART"
 tense_text tense.NoTense = codes "NONE"
 
 abbrev pub all_tenses : List Tense
-all_tenses = tense.Past ∷ tense.Present ∷ tense.Future ∷ tense.Infinitive ∷ tense.PresPart ∷ tense.PastPart ∷ tense.NoTense ∷ []
+all_tenses =
+    tense.Past ∷ tense.Present ∷ tense.Future ∷ tense.Infinitive ∷ tense.PresPart ∷ tense.PastPart
+    ∷ tense.NoTense ∷ []
 
 -- the values of `aspect` of MAKEINSTANCE
 abbrev pub aspect_text : Aspect → List ℕ
@@ -85,7 +89,9 @@ function_text function.ReceptionTime = codes "RECEPTION_TIME"
 function_text function.NoFunction = codes "NONE"
 
 abbrev pub all_functions : List DocFunction
-all_functions = function.CreationTime ∷ function.ExpirationTime ∷ function.ModificationTime ∷ function.PublicationTime ∷ function.ReleaseTime ∷ function.ReceptionTime ∷ function.NoFunction ∷ []
+all_functions =
+    function.CreationTime ∷ function.ExpirationTime ∷ function.ModificationTime ∷ function.PublicationTime
+    ∷ function.ReleaseTime ∷ function.ReceptionTime ∷ function.NoFunction ∷ []
 
 -- the values of `relType` of ALINK
 abbrev pub aspect_rel_text : AspectRel → List ℕ
@@ -96,7 +102,9 @@ aspect_rel_text aspect_rel.Continues = codes "CONTINUES"
 aspect_rel_text aspect_rel.Reinitiates = codes "REINITIATES"
 
 abbrev pub all_aspect_rels : List AspectRel
-all_aspect_rels = aspect_rel.Initiates ∷ aspect_rel.Culminates ∷ aspect_rel.Terminates ∷ aspect_rel.Continues ∷ aspect_rel.Reinitiates ∷ []
+all_aspect_rels =
+    aspect_rel.Initiates ∷ aspect_rel.Culminates ∷ aspect_rel.Terminates ∷ aspect_rel.Continues
+    ∷ aspect_rel.Reinitiates ∷ []
 
 -- the values of `relType` of SLINK
 abbrev pub sub_rel_text : SubRel → List ℕ
@@ -109,4 +117,6 @@ sub_rel_text sub_rel.Conditional = codes "CONDITIONAL"
 sub_rel_text sub_rel.Intensional = codes "INTENSIONAL"
 
 abbrev pub all_sub_rels : List SubRel
-all_sub_rels = sub_rel.Modal ∷ sub_rel.Evidential ∷ sub_rel.NegEvidential ∷ sub_rel.Factive ∷ sub_rel.CounterFactive ∷ sub_rel.Conditional ∷ sub_rel.Intensional ∷ []
+all_sub_rels =
+    sub_rel.Modal ∷ sub_rel.Evidential ∷ sub_rel.NegEvidential ∷ sub_rel.Factive ∷ sub_rel.CounterFactive
+    ∷ sub_rel.Conditional ∷ sub_rel.Intensional ∷ []

@@ -1,6 +1,7 @@
 //! The values of attributes that have a list of texts.
-ghost use Rattle.std.specs.Prelude.{◌≡◌};
 ghost use Rattle.tml_types.specs.Names as names;
+ghost use Rattle.std.proofs.Common.{rules};
+ghost use Rattle.std.specs.Prelude.{◌≡◌};
 
 use named::Named;
 
@@ -37,6 +38,8 @@ impl Named for EventClass {
     ghost text_of = { names.class_text };
 
     ghost all_of = { names.all_classes };
+
+    ghost apart = { Prim.search rules };
 
     fn all() -> &'static [EventClass] {
         &[
@@ -89,6 +92,8 @@ impl Named for Tense {
 
     ghost all_of = { names.all_tenses };
 
+    ghost apart = { Prim.search rules };
+
     fn all() -> &'static [Tense] {
         &[
             Tense::Past,
@@ -134,6 +139,8 @@ impl Named for Aspect {
     ghost text_of = { names.aspect_text };
 
     ghost all_of = { names.all_aspects };
+
+    ghost apart = { Prim.search rules };
 
     fn all() -> &'static [Aspect] {
         &[
@@ -184,6 +191,8 @@ impl Named for Pos {
 
     ghost all_of = { names.all_pos };
 
+    ghost apart = { Prim.search rules };
+
     fn all() -> &'static [Pos] {
         &[
             Pos::Adjective,
@@ -224,6 +233,8 @@ impl Named for Polarity {
     ghost text_of = { names.polarity_text };
 
     ghost all_of = { names.all_polarities };
+
+    ghost apart = { Prim.search rules };
 
     fn all() -> &'static [Polarity] {
         &[Polarity::Positive, Polarity::Negative]
@@ -268,6 +279,8 @@ impl Named for DocFunction {
     ghost text_of = { names.function_text };
 
     ghost all_of = { names.all_functions };
+
+    ghost apart = { Prim.search rules };
 
     fn all() -> &'static [DocFunction] {
         &[
@@ -315,6 +328,8 @@ impl Named for AspectRel {
     ghost text_of = { names.aspect_rel_text };
 
     ghost all_of = { names.all_aspect_rels };
+
+    ghost apart = { Prim.search rules };
 
     fn all() -> &'static [AspectRel] {
         &[
@@ -365,6 +380,8 @@ impl Named for SubRel {
     ghost text_of = { names.sub_rel_text };
 
     ghost all_of = { names.all_sub_rels };
+
+    ghost apart = { Prim.search rules };
 
     fn all() -> &'static [SubRel] {
         &[

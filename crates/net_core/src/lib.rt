@@ -1,0 +1,6 @@
+//! Relations between intervals of time.
+#![tactic(auto)]
+
+mod rels;
+
+pub use rels::{Rel, rel_of, rels_are_apart};

@@ -1,0 +1,95 @@
+//! The relations of TLINK.
+ghost use Rattle.named.specs.Texts.{AreApart, NoneHas, named_of};
+ghost use Rattle.net_core.specs.Rels as names;
+ghost use Rattle.std.proofs.Common.{rules};
+ghost use Rattle.std.specs.Prelude.{IfSome, IsNone, ◌≡◌, ◌↔◌};
+
+use named::{Named, named_by};
+
+/// How two intervals of time stand to each other: the values of `relType` of TLINK in TimeML 1.2.1.
+#[derive(Clone, Copy, Debug, PartialEq, Eq)]
+pub enum Rel {
+    Before,
+    After,
+    Includes,
+    IsIncluded,
+    During,
+    DuringInv,
+    Simultaneous,
+    Identity,
+    Ibefore,
+    Iafter,
+    Begins,
+    BegunBy,
+    Ends,
+    EndedBy,
+}
+
+impl Rel {
+    /// The text of the value.
+    pub fn text(self) -> &'static [u8]
+        ensures { result.now ≡ names.rel_text self }
+    {
+        match self {
+            Rel::Before => b"BEFORE",
+            Rel::After => b"AFTER",
+            Rel::Includes => b"INCLUDES",
+            Rel::IsIncluded => b"IS_INCLUDED",
+            Rel::During => b"DURING",
+            Rel::DuringInv => b"DURING_INV",
+            Rel::Simultaneous => b"SIMULTANEOUS",
+            Rel::Identity => b"IDENTITY",
+            Rel::Ibefore => b"IBEFORE",
+            Rel::Iafter => b"IAFTER",
+            Rel::Begins => b"BEGINS",
+            Rel::BegunBy => b"BEGUN_BY",
+            Rel::Ends => b"ENDS",
+            Rel::EndedBy => b"ENDED_BY",
+        }
+    }
+}
+
+impl Named for Rel {
+    ghost text_of = { names.rel_text };
+
+    ghost all_of = { names.all_rels };
+
+    ghost apart = { Prim.search rules };
+
+    fn all() -> &'static [Rel] {
+        &[
+            Rel::Before,
+            Rel::After,
+            Rel::Includes,
+            Rel::IsIncluded,
+            Rel::During,
+            Rel::DuringInv,
+            Rel::Simultaneous,
+            Rel::Identity,
+            Rel::Ibefore,
+            Rel::Iafter,
+            Rel::Begins,
+            Rel::BegunBy,
+            Rel::Ends,
+            Rel::EndedBy,
+        ]
+    }
+
+    fn text(self) -> &'static [u8] {
+        Rel::text(self)
+    }
+}
+
+/// The relation whose text this is, byte for byte. None comes exactly where it is the text of none of the fourteen.
+pub fn rel_of(text: &[u8]) -> Option<Rel>
+    ensures exact { result ≡ named_of names.rel_text names.all_rels text.now }
+    ensures some { IfSome result (λ rel. names.rel_text rel ≡ text.now) }
+    ensures none { IsNone result ↔ NoneHas names.rel_text text.now }
+{
+    named_by(text)
+}
+
+/// A law: each relation is found by its own text, so `rel_of(rel.text())` is `Some(rel)`.
+pub fn rels_are_apart()
+    ensures { AreApart names.rel_text names.all_rels }
+{}
