@@ -2,5 +2,7 @@
 #![tactic(auto)]
 
 mod rels;
+#[cfg(test)]
+mod tests;
 
 pub use rels::{Rel, rel_of, rels_are_apart};

@@ -6,22 +6,37 @@ ghost use Rattle.std.specs.Prelude.{IfSome, IsNone, ◌≡◌, ◌↔◌};
 
 use named::{Named, named_by};
 
-/// How two intervals of time stand to each other: the values of `relType` of TLINK in TimeML 1.2.1.
+/// How an interval of time `a` stands to an interval `b`: the values of `relType` of TLINK in TimeML 1.2.1, in which `a`
+/// is the interval that is related to `b`. The readings by starts and ends are this project's.
 #[derive(Clone, Copy, Debug, PartialEq, Eq)]
 pub enum Rel {
+    /// `a` ends before `b` begins.
     Before,
+    /// `b` ends before `a` begins.
     After,
+    /// `a` begins before `b` and ends after it.
     Includes,
+    /// `b` begins before `a` and ends after it.
     IsIncluded,
+    /// `a` begins no earlier than `b`, and ends no later.
     During,
+    /// `b` begins no earlier than `a`, and ends no later.
     DuringInv,
+    /// Both begin together and end together.
     Simultaneous,
+    /// Both are one, so they begin together and end together.
     Identity,
+    /// `a` ends where `b` begins.
     Ibefore,
+    /// `b` ends where `a` begins.
     Iafter,
+    /// Both begin together, and `a` ends first.
     Begins,
+    /// Both begin together, and `b` ends first.
     BegunBy,
+    /// Both end together, and `b` begins first.
     Ends,
+    /// Both end together, and `a` begins first.
     EndedBy,
 }
 

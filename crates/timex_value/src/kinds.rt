@@ -8,9 +8,13 @@ use named::Named;
 /// What a time is: the values of `type` of TIMEX3 in TimeML 1.2.1.
 #[derive(Clone, Copy, Debug, PartialEq, Eq)]
 pub enum TimexKind {
+    /// A calendar time, of a day or more.
     Date,
+    /// A time of a day.
     Time,
+    /// A length of time.
     Duration,
+    /// A time that comes again and again.
     Set,
 }
 
@@ -49,7 +53,8 @@ impl Named for TimexKind {
     }
 }
 
-/// How the value of a time is to be read: the values of `mod` of TIMEX3 in TimeML 1.2.1.
+/// How the value of a time is to be read: the values of `mod` of TIMEX3 in TimeML 1.2.1. There the first four belong to
+/// points of time, the next four to durations, and the last four to both.
 #[derive(Clone, Copy, Debug, PartialEq, Eq)]
 pub enum Modifier {
     Before,
