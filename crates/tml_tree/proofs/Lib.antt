@@ -1,0 +1,9 @@
+pub mod Running
+pub mod Paths
+pub mod Rows
+pub mod Stacks
+pub mod Standing
+pub mod Walks
+pub mod LastUnits
+pub mod Known
+pub mod Endings

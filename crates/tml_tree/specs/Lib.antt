@@ -1,1 +1,11 @@
 pub mod Names
+pub mod Plain
+pub mod Nesting
+pub mod Rules
+pub mod Trees
+pub mod Whole
+pub mod Walking
+pub mod Stage
+pub mod Roots
+pub mod View
+pub mod Taking

@@ -1,6 +1,7 @@
 -- The known tags and their texts.
-use Rattle.std.specs.Prelude.{ℕ, Bool, List, [], ◌∷◌, Option, codes}
-use Rattle.named.specs.Texts.{named_of, is_one_of}
+use Rattle.std.specs.Prelude.{ℕ, Bool, List, [], ◌∷◌, map, codes}
+use Rattle.std.specs.Str.{bytes_eq}
+use Rattle.named.specs.Texts.{is_one_of}
 use Rattle.tml_tree.specs.declared.names.TagName.{TagName}
 use Rattle.tml_tree.specs.declared.names.TagName.TheVariants as tag
 
@@ -34,9 +35,12 @@ text_of tag.Timex3Interval = codes "TIMEX3INTERVAL"
 abbrev pub all_tags : List TagName
 all_tags = tag.TimeMl ∷ tag.Event ∷ tag.Timex3 ∷ tag.Signal ∷ tag.MakeInstance ∷ tag.Tlink ∷ tag.Alink ∷ tag.Slink ∷ tag.DocId ∷ tag.DocNo ∷ tag.Doc ∷ tag.Dct ∷ tag.Title ∷ tag.ExtraInfo ∷ tag.Text ∷ tag.Body ∷ tag.Headline ∷ tag.UpperP ∷ tag.LowerP ∷ tag.UpperS ∷ tag.LowerS ∷ tag.Enamex ∷ tag.Numex ∷ tag.Confidence ∷ tag.Timex3Interval ∷ []
 
--- the tag with this text
-abbrev pub tag_of : List ℕ → Option TagName
-tag_of text = named_of text_of all_tags text
+abbrev pub is_known : List ℕ → Bool
+is_known text = is_one_of (map text_of all_tags) text
+
+-- the tag of a root
+abbrev pub is_root : List ℕ → Bool
+is_root text = bytes_eq (codes "TimeML") text
 
 -- inside these no tag stands, and no text but white space
 abbrev pub is_link : List ℕ → Bool

@@ -1,6 +1,18 @@
 //! The tree of the tags of a document, or the first place where its units do not nest.
 #![tactic(auto)]
 
+mod builder;
+mod laws;
 mod names;
+mod node;
+mod rules;
+mod tag_tree;
+mod walk;
+mod whole;
 
+pub use laws::{last_unit, one_path, one_tree, one_tree_of_source};
 pub use names::TagName;
+pub use node::{Node, Tag};
+pub use tag_tree::{TagTree, tree};
+pub use walk::{collect, collect_tags};
+pub use whole::TreeFault;

@@ -1,0 +1,40 @@
+-- The plain values that tags and nodes stand for.
+use Rattle.std.specs.Prelude.{ℕ, Bool, List, map, reverse}
+use Rattle.tml_span.specs.View.{attribute_of}
+use Rattle.tml_tree.specs.declared.builder.Frame.{Frame}
+use Rattle.tml_tree.specs.declared.node.Tag.{Tag}
+use Rattle.tml_tree.specs.declared.node.Node.{Node, Element, Text, Comment, Element', Row_of-Node, end_of-Node, more_of-Node}
+use Rattle.tml_tree.specs.Names.{text_of, is_link}
+use Rattle.tml_tree.specs.Plain.{PlainNode, PlainNodes, text_node, comment_node, element, none, more}
+use Rattle.tml_tree.specs.Nesting.{OpenTag}
+
+abbrev mutual
+  pub node_of : Node → PlainNode
+  node_of (Text span b) = text_node span.start span.end b.now
+  node_of (Comment span b) = comment_node span.start span.end b.now
+  node_of (Element' span name attrs shape children) = element span.start span.end (text_of name) (map attribute_of attrs) (row_of children)
+
+  pub row_of : {m : _} → Row_of-Node m → PlainNodes
+  row_of end_of-Node = none
+  row_of (more_of-Node n rest) = more (node_of n) (row_of rest)
+
+abbrev pub tag_node : Tag → PlainNode
+tag_node t = node_of (Element t)
+
+-- ---- what a builder has open
+
+abbrev pub name_of : Frame → List ℕ
+name_of f = text_of f.name
+
+-- the open names, the innermost first
+abbrev pub names_of : List Frame → List (List ℕ)
+names_of frames = map name_of (reverse frames)
+
+abbrev pub tag_of : Frame → OpenTag
+tag_of f = record { start = f.span.start; end = f.span.end; name = text_of f.name; attrs = map attribute_of f.attrs; before = map node_of f.before.items }
+
+abbrev pub tags_of : List Frame → List OpenTag
+tags_of frames = map tag_of (reverse frames)
+
+abbrev pub is_link_frame : Frame → Bool
+is_link_frame f = is_link (text_of f.name)

@@ -1,0 +1,274 @@
+//! Builds a tree from one unit after another.
+ghost use Rattle.std.specs.Prelude.{◌≡◌, [], List as ListOf, map, OnOk, IfErr, MatchOption, IfSome, IsNone};
+ghost use Rattle.std.specs.List.{filter};
+ghost use Rattle.tml_span.specs.Units as units;
+ghost use Rattle.tml_span.specs.View.{attribute_of, unit_of};
+ghost use Rattle.tml_tree.specs.Names.{text_of};
+ghost use Rattle.tml_tree.specs.Plain.{element, nodes_of, unit};
+ghost use Rattle.tml_tree.specs.Nesting.{is_element};
+ghost use Rattle.tml_tree.specs.Rules as rules;
+ghost use Rattle.tml_tree.specs.Trees.{Document, Unclosed};
+ghost use Rattle.tml_tree.specs.Roots.{EndsIn};
+ghost use Rattle.tml_tree.specs.Taking.{Takes, Refuses, Stands, TagRule, history_of};
+ghost use Rattle.tml_tree.specs.View.{node_of, tag_node};
+
+use crate::rules::{MOST_OPEN, Rule, in_link, is_blank};
+use crate::{Node, Tag, TagName};
+use named::named_by;
+use std::alloc::Global;
+use std::mem;
+use tml_span::{Attr, List, Span, Unit};
+
+/// A tag that is still open, and the nodes before it, back to the start of the tag about it.
+#[derive(Drop)]
+pub struct Frame<'s> {
+    span: Span,
+    pub name: TagName,
+    attrs: List<Attr<'s>>,
+    before: Vec<Node<'s>>,
+}
+
+/// Why a unit was not taken.
+#[derive(Clone, Copy, Debug, PartialEq, Eq)]
+pub enum Stop {
+    Broken(Rule),
+    Memory,
+}
+
+/// What the units so far make: the open tags, the innermost last, and the nodes behind its start tag. It knows
+/// whether a unit other than a Bom stood among the units, a tag, a doctype, and whether the root was seen whole.
+#[derive(Drop)]
+pub struct Builder<'s> {
+    frames: Vec<Frame<'s>>,
+    nodes: Vec<Node<'s>>,
+    begun: bool,
+    tagged: bool,
+    doctyped: bool,
+    seen: bool,
+}
+
+fn make_element<'s>(
+    span: Span,
+    name: TagName,
+    attrs: List<Attr<'s>>,
+    children: Vec<Node<'s>>,
+) -> Node<'s>
+    ensures { node_of result ≡ element span.start span.end (text_of name) (map attribute_of attrs.entry) (nodes_of (map node_of children.entry.items)) }
+{
+    Node::Element(Tag {
+        span,
+        name,
+        attrs,
+        children,
+    })
+}
+
+/// The last element of nodes.
+fn root_of<'s>(nodes: Vec<Node<'s>>) -> Option<Tag<'s>>
+    ensures { MatchOption result (filter is_element (map node_of nodes.entry.items) ≡ []) (λ t. EndsIn (tag_node t) (filter is_element (map node_of nodes.entry.items))) }
+{
+    let mut nodes = nodes;
+    while let Some(node) = nodes.pop() {
+        match node {
+            Node::Element(tag) => return Some(tag),
+            Node::Text { .. } | Node::Comment { .. } => {}
+        }
+    }
+    None
+}
+
+impl<'s> Builder<'s> {
+    pub fn new(alloc: Global) -> Builder<'s>
+        ensures { Stands [] result }
+    {
+        Builder {
+            frames: Vec::new(alloc),
+            nodes: Vec::new(alloc),
+            begun: false,
+            tagged: false,
+            doctyped: false,
+            seen: false,
+        }
+    }
+
+    /// Takes one more unit, or says why it may not stand there.
+    pub fn take(&mut self, alloc: Global, unit: Unit<'s>) -> Result<(), Stop>
+        ensures ok { OnOk result (Takes self.old (unit_of unit.entry) self.new) }
+        ensures err { IfErr result (λ e. Refuses self.old (unit_of unit.entry) e) }
+    {
+        match unit {
+            Unit::Bom { .. } => Ok(()),
+            Unit::Declaration { span, text } => self.declaration(span, text),
+            Unit::Doctype { span, text } => self.doctype(span, text),
+            Unit::Comment { span, text } => self.comment(span, text),
+            Unit::Text { span, text } => self.text(span, text),
+            Unit::StartTag { span, name, attrs } => self.start(alloc, span, name, attrs),
+            Unit::EndTag { span, name } => self.end(span, name),
+            Unit::EmptyTag { span, name, attrs } => self.empty(alloc, span, name, attrs),
+        }
+    }
+
+    /// The root, where it was seen whole.
+    pub fn finish(self) -> Option<Tag<'s>>
+        ensures none { IsNone result → (us : ListOf units.PlainUnit) → Stands us self.entry → Unclosed us }
+        ensures some { IfSome result (λ t. (us : ListOf units.PlainUnit) → Stands us self.entry → Document (tag_node t) us) }
+    {
+        if !self.frames.is_empty() {
+            return None;
+        }
+        root_of(self.nodes)
+    }
+
+    fn declaration(&mut self, span: Span, text: &[u8]) -> Result<(), Stop>
+        ensures ok { OnOk result (Takes self.old (unit span.start span.end (units.declaration text.now)) self.new) }
+        ensures err { IfErr result (λ e. Refuses self.old (unit span.start span.end (units.declaration text.now)) e) }
+    {
+        if self.begun {
+            return Err(Stop::Broken(Rule::Misplaced));
+        }
+        self.begun = true;
+        Ok(())
+    }
+
+    fn doctype(&mut self, span: Span, text: &[u8]) -> Result<(), Stop>
+        ensures ok { OnOk result (Takes self.old (unit span.start span.end (units.doctype text.now)) self.new) }
+        ensures err { IfErr result (λ e. Refuses self.old (unit span.start span.end (units.doctype text.now)) e) }
+    {
+        if self.tagged || self.doctyped {
+            return Err(Stop::Broken(Rule::Misplaced));
+        }
+        self.begun = true;
+        self.doctyped = true;
+        Ok(())
+    }
+
+    fn comment(&mut self, span: Span, text: &'s [u8]) -> Result<(), Stop>
+        ensures ok { OnOk result (Takes self.old (unit span.start span.end (units.comment text.now)) self.new) }
+        ensures err { IfErr result (λ e. Refuses self.old (unit span.start span.end (units.comment text.now)) e) }
+    {
+        if self.nodes.push(Node::Comment { span, text }).is_err() {
+            return Err(Stop::Memory);
+        }
+        self.begun = true;
+        Ok(())
+    }
+
+    fn text(&mut self, span: Span, text: &'s [u8]) -> Result<(), Stop>
+        ensures ok { OnOk result (Takes self.old (unit span.start span.end (units.text text.now)) self.new) }
+        ensures err { IfErr result (λ e. Refuses self.old (unit span.start span.end (units.text text.now)) e) }
+    {
+        if !is_blank(text) && (self.frames.is_empty() || in_link(self.frames.as_slice())) {
+            return Err(Stop::Broken(Rule::Misplaced));
+        }
+        if self.nodes.push(Node::Text { span, text }).is_err() {
+            return Err(Stop::Memory);
+        }
+        self.begun = true;
+        Ok(())
+    }
+
+    fn is_misplaced(&self, name: TagName) -> bool
+        ensures { result ≡ rules.is_misplaced_tag (history_of self.now) (text_of name) }
+    {
+        let is_root = name == TagName::TimeMl;
+        in_link(self.frames.as_slice())
+            || !self.tagged && !is_root
+            || self.seen
+            || !self.frames.is_empty() && is_root
+    }
+
+    /// The tag of this name, or the first rule that applies to a start or empty tag.
+    fn tag(&self, name: &[u8]) -> Result<TagName, Rule>
+        ensures { TagRule result (rules.tag_rule (history_of self.now) name.now) name.now }
+    {
+        let Some(tag) = named_by::<TagName>(name) else {
+            return Err(Rule::UnknownTag);
+        };
+        if self.is_misplaced(tag) {
+            return Err(Rule::Misplaced);
+        }
+        if self.frames.len() >= MOST_OPEN {
+            return Err(Rule::TooDeep);
+        }
+        Ok(tag)
+    }
+
+    fn start(
+        &mut self,
+        alloc: Global,
+        span: Span,
+        name: &'s [u8],
+        attrs: List<Attr<'s>>,
+    ) -> Result<(), Stop>
+        ensures ok { OnOk result (Takes self.old (unit span.start span.end (units.start_tag name.now (map attribute_of attrs.entry))) self.new) }
+        ensures err { IfErr result (λ e. Refuses self.old (unit span.start span.end (units.start_tag name.now (map attribute_of attrs.entry))) e) }
+    {
+        let name = match self.tag(name) {
+            Ok(name) => name,
+            Err(rule) => return Err(Stop::Broken(rule)),
+        };
+        let before = mem::replace(&mut self.nodes, Vec::new(alloc));
+        let frame = Frame {
+            span,
+            name,
+            attrs,
+            before,
+        };
+        if self.frames.push(frame).is_err() {
+            return Err(Stop::Memory);
+        }
+        self.begun = true;
+        self.tagged = true;
+        self.seen = false;
+        Ok(())
+    }
+
+    fn empty(
+        &mut self,
+        alloc: Global,
+        span: Span,
+        name: &'s [u8],
+        attrs: List<Attr<'s>>,
+    ) -> Result<(), Stop>
+        ensures ok { OnOk result (Takes self.old (unit span.start span.end (units.empty_tag name.now (map attribute_of attrs.entry))) self.new) }
+        ensures err { IfErr result (λ e. Refuses self.old (unit span.start span.end (units.empty_tag name.now (map attribute_of attrs.entry))) e) }
+    {
+        let name = match self.tag(name) {
+            Ok(name) => name,
+            Err(rule) => return Err(Stop::Broken(rule)),
+        };
+        let node = make_element(span, name, attrs, Vec::new(alloc));
+        if self.nodes.push(node).is_err() {
+            return Err(Stop::Memory);
+        }
+        self.begun = true;
+        self.tagged = true;
+        self.seen = self.frames.is_empty();
+        Ok(())
+    }
+
+    fn end(&mut self, span: Span, name: &[u8]) -> Result<(), Stop>
+        ensures ok { OnOk result (Takes self.old (unit span.start span.end (units.end_tag name.now)) self.new) }
+        ensures err { IfErr result (λ e. Refuses self.old (unit span.start span.end (units.end_tag name.now)) e) }
+    {
+        let Some(frame) = self.frames.pop() else {
+            return Err(Stop::Broken(Rule::Unbalanced));
+        };
+        if frame.name.text() != name {
+            return Err(Stop::Broken(Rule::Unbalanced));
+        }
+        let children = mem::replace(&mut self.nodes, frame.before);
+        let whole = Span {
+            start: frame.span.start,
+            end: span.end,
+        };
+        let node = make_element(whole, frame.name, frame.attrs, children);
+        if self.nodes.push(node).is_err() {
+            return Err(Stop::Memory);
+        }
+        self.begun = true;
+        self.tagged = true;
+        self.seen = self.frames.is_empty();
+        Ok(())
+    }
+}

@@ -1,0 +1,24 @@
+//! Laws of trees: public functions that do nothing, each with the law as its contract.
+ghost use Rattle.tml_tree.specs.Trees.{LastUnit, OnePath, OneTree};
+ghost use Rattle.tml_tree.specs.Whole.{OneTreeOfSource};
+
+/// Units have one path.
+pub fn one_path()
+    ensures { OnePath }
+{}
+
+/// Units that end in a unit have a path only where those without it have one, and the kind of the unit says how the
+/// open tags differ.
+pub fn last_unit()
+    ensures { LastUnit }
+{}
+
+/// Units make one tree.
+pub fn one_tree()
+    ensures { OneTree }
+{}
+
+/// A source has one tree.
+pub fn one_tree_of_source()
+    ensures { OneTreeOfSource }
+{}

@@ -1,0 +1,50 @@
+//! The rules of a unit behind the units before it.
+ghost use Rattle.std.specs.Prelude.{◌≡◌, ◌||◌, ◌&&◌, not, map, option_map};
+ghost use Rattle.std.specs.List.{list_any, list_all};
+ghost use Rattle.tml_span.specs.Bytes.{is_white};
+ghost use Rattle.tml_tree.specs.Names as names;
+ghost use Rattle.tml_tree.specs.View as view;
+
+use crate::TagName;
+use crate::builder::Frame;
+
+/// How many tags may be open at once.
+pub const MOST_OPEN: usize = 32;
+
+/// Why a unit may not stand where it does. Of several rules the first of this order counts.
+#[derive(Clone, Copy, Debug, PartialEq, Eq)]
+pub enum Rule {
+    UnknownTag,
+    Unbalanced,
+    Misplaced,
+    TooDeep,
+}
+
+/// The text is white space alone.
+pub fn is_blank(text: &[u8]) -> bool
+    ensures { result ≡ list_all is_white text.now }
+{
+    text.iter().all(|b| *b == b' ' || *b == b'\t' || *b == b'\r' || *b == b'\n')
+}
+
+/// A tag inside which no tag stands, and no text but white space.
+fn is_link(name: TagName) -> bool
+    ensures { result ≡ names.is_link (names.text_of name) }
+{
+    matches!(
+        name,
+        TagName::MakeInstance | TagName::Tlink | TagName::Alink | TagName::Slink
+    )
+}
+
+/// One of the open tags is a link tag.
+pub fn in_link(frames: &[Frame<'_>]) -> bool
+    ensures { result ≡ list_any names.is_link (view.names_of frames.now) }
+{
+    for frame in frames {
+        if is_link(frame.name) {
+            return true;
+        }
+    }
+    false
+}

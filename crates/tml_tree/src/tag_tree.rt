@@ -1,0 +1,57 @@
+//! A tree with its source.
+ghost use Rattle.std.specs.Prelude.{◌≡◌, IfOk, IfErr};
+ghost use Rattle.tml_tree.specs.Whole.{IsTreeOf, HasFault};
+
+use crate::whole::root;
+use crate::{Tag, TreeFault};
+use std::alloc::Global;
+use std::marker::Model;
+use tml_span::UnitList;
+
+/// The tree of the tags of a document, and its source. Contracts see the source, of which there is one tree.
+#[derive(Drop)]
+pub struct TagTree<'s> {
+    source: &'s [u8],
+    root: Tag<'s>,
+}
+
+impl<'s> Model for TagTree<'s> {
+    ghost use Rattle.std.specs.Prelude.{List, ℕ};
+    ghost use Rattle.tml_tree.specs.Whole.{IsTreeOf};
+    ghost use Rattle.tml_tree.specs.View.{tag_node};
+
+    ghost Value = { List ℕ };
+
+    ghost view = { λ a. a.source.now };
+
+    ghost invariant = { λ a. IsTreeOf a.source.now (tag_node a.root) };
+}
+
+impl<'s> TagTree<'s> {
+    ghost use Rattle.tml_tree.specs.View.{tag_node};
+
+    /// The one tag outside all others, a `TimeML`.
+    pub fn root(&self) -> &Tag<'s>
+        ensures { IsTreeOf self.now (tag_node result.now) }
+    {
+        &self.root
+    }
+
+    /// The whole document.
+    pub fn source(&self) -> &'s [u8]
+        ensures { result.now ≡ self.now }
+    {
+        self.source
+    }
+}
+
+/// Nests the units of a document. They are consumed on every answer.
+pub fn tree<'s>(alloc: Global, units: UnitList<'s>) -> Result<TagTree<'s>, TreeFault>
+    ensures source { IfOk result (λ t. t ≡ units.entry.source) }
+    ensures fault { IfErr result (λ e. HasFault units.entry e) }
+{
+    let source = units.source();
+    let length = units.length();
+    let root = root(alloc, length, units.into_list().into_vec())?;
+    Ok(TagTree { source, root })
+}
