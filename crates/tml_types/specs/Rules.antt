@@ -4,7 +4,7 @@ use Rattle.std.specs.List.{list_any}
 use Rattle.std.specs.Str.{bytes_eq}
 use Rattle.named.specs.Texts.{named_of}
 use Rattle.tml_span.specs.Units.{Attribute}
-use Rattle.tml_tree.specs.Names.{tag_of}
+use Rattle.tml_tree.specs.Names.{text_of, all_tags}
 use Rattle.tml_tree.specs.Walking.{PlainTag}
 use Rattle.tml_types.specs.declared.rules.Rule.{Rule}
 use Rattle.tml_types.specs.declared.rules.Rule.TheVariants.{RepeatedAttribute, MissingAttribute, BadValue, Conflict}
@@ -14,7 +14,7 @@ use Rattle.tml_types.specs.Values.{fits, value_of}
 
 -- the rows of the tag with this text
 unfoldable pub rows_at : List ℕ → List Row
-rows_at text = elim (tag_of text) [ None ↦ [] | Some t ↦ rows_of t ]
+rows_at text = elim (named_of text_of all_tags text) [ None ↦ [] | Some t ↦ rows_of t ]
 
 -- an attribute of this name is among these
 abbrev pub has_name : List ℕ → List Attribute → Bool

@@ -21,7 +21,7 @@ AreTyped tags typed = AllZip TypedAs (filter has_rows tags) typed
 -- no tag has a fault, and these are their typed tags
 pub record Types (tags : List PlainTag) (typed : List TypedTag) : Type 0 where
   pub sound : All IsSound tags
-  pub typed : AreTyped tags typed
+  pub fields : AreTyped tags typed
 
 -- at a place stands the first tag that has a fault, and this is its first one
 pub record FaultAt (tags : List PlainTag) (place : ℕ) (rule : Rule) : Type 0 where
@@ -45,10 +45,6 @@ told faults.Memory = None
 abbrev pub HasFault : List PlainTag → TypeFault → Type 0
 HasFault tags fault = IfSome (told fault) (λ (f : ℕ × Rule). FaultAt tags f.0 f.1)
 
--- a fault of one tag
-abbrev pub TagHasFault : PlainTag → TypeFault → Type 0
-TagHasFault tag fault = IfSome (told fault) (λ (f : ℕ × Rule). (f.0 ≡ tag.place) × IsFirst tag f.1)
-
--- the typed tag of one tag more is added, where it has one
-abbrev pub Adds : PlainTag → List TypedTag → List TypedTag → Type 0
-Adds tag old new = (more : List TypedTag) × AreTyped (tag ∷ []) more × (new ≡ old ++ more)
+-- the typed tags of some tags are added, and none of these has a fault
+abbrev pub Adds : List PlainTag → List TypedTag → List TypedTag → Type 0
+Adds tags old new = (more : List TypedTag) × Types tags more × (new ≡ old ++ more)

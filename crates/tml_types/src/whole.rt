@@ -2,11 +2,14 @@
 ghost use Rattle.std.specs.Option.{option_to_list};
 ghost use Rattle.std.specs.Prelude.{◌≡◌, [], ◌∷◌, Some, map, IfOk, IfErr, OnOk};
 ghost use Rattle.tml_span.specs.View.{attribute_of};
-ghost use Rattle.tml_tree.specs.Walking.{shown};
-ghost use Rattle.tml_types.specs.Holding.{RowsHold};
-ghost use Rattle.tml_types.specs.Rules.{FirstOf, IsSound};
+ghost use Rattle.tml_tree.specs.Plain.{PlainNode};
+ghost use Rattle.tml_tree.specs.View.{node_of, tag_node};
+ghost use Rattle.tml_tree.specs.Walking.{elements};
+ghost use Rattle.tml_tree.specs.Whole.{IsTreeOf};
+ghost use Rattle.tml_types.specs.Holding.{RowsHold, plain_of};
+ghost use Rattle.tml_types.specs.Rules.{FirstOf};
 ghost use Rattle.tml_types.specs.Table as table;
-ghost use Rattle.tml_types.specs.Whole.{Adds, AreTyped, HasFault, TagHasFault, Types, told};
+ghost use Rattle.tml_types.specs.Whole.{Adds, AreTyped, HasFault, Types, told};
 
 use crate::repeats::is_repeated;
 use crate::rules::{Rule, first_broken};
@@ -16,7 +19,7 @@ use crate::typing::{alink, event, instance, signal, slink, timex, tlink};
 use std::alloc::Global;
 use std::marker::Model;
 use tml_span::{List, Memory};
-use tml_tree::{Tag, TagName};
+use tml_tree::{Node, Tag, TagName, TagTree};
 
 /// The tags of a document that mean something, typed, in document order.
 #[derive(Drop)]
@@ -57,27 +60,62 @@ pub enum TypeFault {
     Memory,
 }
 
-/// Types the tags one after another.
-fn type_all<'s>(alloc: Global, tags: &[&Tag<'s>]) -> Result<Typed<'s>, TypeFault>
-    ensures ok { IfOk result (λ t. Types (map shown tags.now) t) }
-    ensures err { IfErr result (λ e. HasFault (map shown tags.now) e) }
+/// Types the tags of a tree.
+///
+/// # Errors
+///
+/// The first tag in document order that has a fault, and of its faults the one with the least number, in the order
+/// of `TypeFault`. `Memory` may come at any place.
+pub fn type_tags<'s>(alloc: Global, tree: &TagTree<'s>) -> Result<Typed<'s>, TypeFault>
+    ensures ok { IfOk result (λ t. (root : PlainNode) → IsTreeOf tree.now root → Types (elements root) t) }
+    ensures err { IfErr result (λ e. (root : PlainNode) → IsTreeOf tree.now root → HasFault (elements root) e) }
 {
     let mut typed = List::new(alloc);
-    for tag in tags {
-        push_typed(alloc, &mut typed, tag)?;
-    }
+    type_tag(alloc, tree.root(), &mut typed)?;
     Ok(Typed { tags: typed })
 }
 
-/// Puts the typed tag of a tag last, where it has one.
-fn push_typed<'s>(
+/// Types a tag and then the tags inside it.
+#[cycle(walk)]
+fn type_tag<'s>(
     alloc: Global,
-    typed: &mut List<TypedTag<'s>>,
     tag: &Tag<'s>,
+    typed: &mut List<TypedTag<'s>>,
 ) -> Result<(), TypeFault>
-    ensures sound { OnOk result (IsSound (shown tag)) }
-    ensures typed { OnOk result (Adds (shown tag) typed.old typed.new) }
-    ensures err { IfErr result (λ e. TagHasFault (shown tag) e) }
+    ensures ok { OnOk result (Adds (elements (tag_node tag.now)) typed.old typed.new) }
+    ensures err { IfErr result (λ e. HasFault (elements (tag_node tag.now)) e) }
+{
+    type_one(alloc, tag, typed)?;
+    for child in &tag.children {
+        type_node(alloc, child, typed)?;
+    }
+    Ok(())
+}
+
+/// Types the tags of a node.
+#[cycle(walk)]
+fn type_node<'s>(
+    alloc: Global,
+    node: &Node<'s>,
+    typed: &mut List<TypedTag<'s>>,
+) -> Result<(), TypeFault>
+    ensures ok { OnOk result (Adds (elements (node_of node.now)) typed.old typed.new) }
+    ensures err { IfErr result (λ e. HasFault (elements (node_of node.now)) e) }
+{
+    match node {
+        Node::Text { .. } | Node::Comment { .. } => Ok(()),
+        Node::Element(tag) => type_tag(alloc, tag, typed),
+    }
+}
+
+/// Puts the typed tag of a tag last, where it has one.
+fn type_one<'s>(
+    alloc: Global,
+    tag: &Tag<'s>,
+    typed: &mut List<TypedTag<'s>>,
+) -> Result<(), TypeFault>
+    ensures ok { OnOk result (Adds (plain_of tag.now ∷ []) typed.old typed.new) }
+    ensures err { IfErr result (λ e. HasFault (plain_of tag.now ∷ []) e) }
 {
     let Ok(rule) = first_rule(alloc, tag) else {
         return Err(TypeFault::Memory);
@@ -95,7 +133,7 @@ fn push_typed<'s>(
 
 /// The first rule that a tag breaks, or none.
 fn first_rule(alloc: Global, tag: &Tag<'_>) -> Result<Option<Rule>, Memory>
-    ensures { IfOk result (λ o. FirstOf (shown tag) o) }
+    ensures { IfOk result (λ o. FirstOf (plain_of tag.now) o) }
 {
     let attrs = tag.attrs.as_slice();
     match is_repeated(alloc, attrs) {
@@ -119,7 +157,7 @@ fn fault_at(rule: Rule, place: u32) -> TypeFault
 #[tactic(auto, unfolding(crate::specs::Rules::rows_at))]
 fn typed_tag<'s>(tag: &Tag<'s>) -> Option<TypedTag<'s>>
     requires { RowsHold (map attribute_of tag.now.attrs) (table.rows_of tag.now.name) }
-    ensures { AreTyped (shown tag ∷ []) (option_to_list result) }
+    ensures { AreTyped (plain_of tag.now ∷ []) (option_to_list result) }
 {
     let place = tag.span.start;
     let attrs = tag.attrs.as_slice();
