@@ -1,5 +1,5 @@
 -- The elements of a tree in document order.
-use Rattle.std.specs.Prelude.{ℕ, List, [], ◌∷◌, ◌++◌, map}
+use Rattle.std.specs.Prelude.{◌≡◌, ℕ, List, [], ◌∷◌, ◌++◌, map}
 use Rattle.std.specs.Borrow.{Bor}
 use Rattle.tml_span.specs.Units.{Attribute}
 use Rattle.tml_span.specs.View.{attribute_of}
@@ -28,3 +28,7 @@ abbrev mutual
 -- a tag without its children
 abbrev pub shown : Bor Tag → PlainTag
 shown t = record { place = t.now.span.start; name = text_of t.now.name; attrs = map attribute_of t.now.attrs }
+
+-- the elements of the tree of a source
+abbrev pub AreElementsOf : List ℕ → List PlainTag → Type 0
+AreElementsOf source tags = (root : PlainNode) × IsTreeOf source root × (tags ≡ elements root)

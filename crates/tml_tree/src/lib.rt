@@ -7,6 +7,8 @@ mod names;
 mod node;
 mod rules;
 mod tag_tree;
+#[cfg(test)]
+mod tests;
 mod walk;
 mod whole;
 
@@ -14,5 +16,5 @@ pub use laws::{last_unit, one_path, one_tree, one_tree_of_source};
 pub use names::TagName;
 pub use node::{Node, Tag};
 pub use tag_tree::{TagTree, tree};
-pub use walk::{collect, collect_tags};
+pub use walk::{collect, collect_tags, elements_of};
 pub use whole::TreeFault;
