@@ -23,6 +23,10 @@ found_has text_of (w ∷ vs) text v h =
 pub has_found : {T : Type 0} (text_of : T → List ℕ) (all : List T) (text : List ℕ) (v : T) → AreApart text_of all → text_of v ≡ text → named_of text_of all text ≡ Some v
 has_found text_of all text v apart h = subst (λ (t : List ℕ). named_of text_of all t ≡ Some v) h (apart v)
 
+-- two values with one text are one
+pub texts_tell : {T : Type 0} (text_of : T → List ℕ) (all : List T) (v w : T) → AreApart text_of all → text_of v ≡ text_of w → v ≡ w
+texts_tell text_of all v w apart h = let found = has_found text_of all (text_of w) v apart h in let own = apart w in cc
+
 -- what is found has the text
 pub some_has : {T : Type 0} (text_of : T → List ℕ) (all : List T) (text : List ℕ) (o : Option T) → o ≡ named_of text_of all text → IfSome o (λ v. text_of v ≡ text)
 some_has text_of all text None h = tt
