@@ -1,4 +1,5 @@
 //! The tags that a document may have.
+ghost use Rattle.std.proofs.Common.{rules};
 ghost use Rattle.std.specs.Prelude.{◌≡◌};
 ghost use Rattle.tml_tree.specs.Names as names;
 
@@ -74,6 +75,8 @@ impl Named for TagName {
     ghost text_of = { names.text_of };
 
     ghost all_of = { names.all_tags };
+
+    ghost apart = { Prim.search rules };
 
     fn all() -> &'static [TagName] {
         &[

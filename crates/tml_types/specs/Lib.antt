@@ -1,1 +1,9 @@
+pub mod Holding
 pub mod Names
+pub mod Rules
+pub mod Seen
+pub mod Table
+pub mod Typing
+pub mod Values
+pub mod View
+pub mod Whole

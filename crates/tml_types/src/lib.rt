@@ -1,6 +1,16 @@
-//! Typed tags.
+//! Typed tags: the attributes of the tags of a tree, or the first tag that is at fault and why.
 #![tactic(auto)]
 
 mod names;
+mod repeats;
+mod rules;
+mod seen;
+mod table;
+mod typed;
+mod typing;
+mod values;
+mod whole;
 
 pub use names::{Aspect, AspectRel, DocFunction, EventClass, Polarity, Pos, SubRel, Tense};
+pub use typed::{LinkEnd, TypedTag};
+pub use whole::{TypeFault, Typed};

@@ -1,0 +1,5 @@
+pub mod FirstRules
+pub mod NamedValues
+pub mod RepeatedNames
+pub mod SeenNames
+pub mod Walks

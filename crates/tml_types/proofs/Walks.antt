@@ -1,0 +1,60 @@
+-- Typed tags and faults of tags one behind another.
+use Rattle.std.proofs.Common.{◌≡◌, ℕ, List, [], ◌∷◌, ◌++◌, map, refl, sym, ap, ◌∙◌, append_assoc, append-nil, Option, Some, None, All}
+use Rattle.std.specs.List.{AllZip, filter}
+use Rattle.std.specs.Option.{IfSome}
+use Rattle.std.proofs.lemmas.List.Elements.{All-append, All-nil, filter-append}
+use Rattle.tml_tree.specs.declared.node.Tag.{Tag}
+use Rattle.tml_tree.specs.declared.node.Node.{Node}
+use Rattle.tml_tree.specs.Plain.{PlainNode, nodes_of}
+use Rattle.tml_tree.specs.View.{node_of, tag_node}
+use Rattle.tml_tree.specs.Walking.{PlainTag, elements, all_elements}
+use Rattle.tml_tree.proofs.Rows.{element_is}
+use Rattle.tml_types.specs.declared.rules.Rule.{Rule}
+use Rattle.tml_types.specs.declared.typed.TypedTag.{TypedTag}
+use Rattle.tml_types.specs.declared.whole.TypeFault.{TypeFault}
+use Rattle.tml_types.specs.Holding.{plain_of}
+use Rattle.tml_types.specs.Rules.{IsFirst, IsSound}
+use Rattle.tml_types.specs.Typing.{TypedAs}
+use Rattle.tml_types.specs.Whole.{has_rows, AreTyped, Types, FaultAt, told, HasFault, Adds}
+
+zip_append : {A B : Type 0} (R : A → B → Type 0) (xs xs' : List A) (ys ys' : List B) → AllZip R xs ys → AllZip R xs' ys' → AllZip R (xs ++ xs') (ys ++ ys')
+zip_append R [] xs' [] ys' h k = k
+zip_append R [] xs' (y ∷ ys) ys' h k = absurd h
+zip_append R (x ∷ xs) xs' [] ys' h k = absurd h
+zip_append R (x ∷ xs) xs' (y ∷ ys) ys' h k = (h.0, zip_append R xs xs' ys ys' h.1 k)
+
+types_append : (tags others : List PlainTag) (ts us : List TypedTag) → Types tags ts → Types others us → Types (tags ++ others) (ts ++ us)
+types_append tags others ts us h k = record {
+  sound = All-append IsSound tags others h.sound k.sound;
+  fields = rw (filter-append has_rows tags others) (zip_append TypedAs (filter has_rows tags) (filter has_rows others) ts us h.fields k.fields);
+}
+
+-- the typed tags of more tags behind those of some
+pub adds_more : (tags others : List PlainTag) (a b c : List TypedTag) → Adds tags a b → Adds others b c → Adds (tags ++ others) a c
+adds_more tags others a b c h k = (h.0 ++ k.0, types_append tags others h.0 k.0 h.1 k.1, k.2 ∙ ap (λ (ts : List TypedTag). ts ++ k.0) h.2 ∙ append_assoc a h.0 k.0)
+
+fault_within : (before tags after : List PlainTag) (place : ℕ) (rule : Rule) → All IsSound before → FaultAt tags place rule → FaultAt (before ++ tags ++ after) place rule
+fault_within before tags after place rule sound f = record {
+  before = before ++ f.before;
+  tag = f.tag;
+  after = f.after ++ after;
+  whole =
+      ap (λ (ts : List PlainTag). before ++ ts ++ after) f.whole ∙ ap (λ (ts : List PlainTag). before ++ ts) (append_assoc f.before (f.tag ∷ f.after) after)
+      ∙ sym (append_assoc before f.before (f.tag ∷ f.after ++ after));
+  sound = All-append IsSound before f.before sound f.sound;
+  first = f.first;
+  place_is = f.place_is;
+}
+
+-- the first fault of some tags is that of more, where those before them have none
+pub fault_of_more : (before tags after all : List PlainTag) (fault : TypeFault) → before ++ tags ++ after ≡ all → All IsSound before → HasFault tags fault → HasFault all fault
+fault_of_more before tags after all fault e sound h =
+    rw (← e)
+    (elim (told fault) as (λ t. IfSome t (λ (f : ℕ × Rule). FaultAt tags f.0 f.1) → IfSome t (λ (f : ℕ × Rule). FaultAt (before ++ tags ++ after) f.0 f.1)) [
+      | None ↦ λ k. tt
+      | Some f ↦ λ k. fault_within before tags after f.0 f.1 sound k
+    ] h)
+
+-- a tag and those inside it, one after another
+pub tag_first : (tag : Tag) (children : List Node) → children ≡ tag.children.items → plain_of tag ∷ all_elements (nodes_of (map node_of children)) ≡ elements (tag_node tag)
+tag_first tag children k = rw k (sym (ap (λ (n : PlainNode). elements n) (element_is tag)))

@@ -1,0 +1,174 @@
+//! The typed tags of a document.
+ghost use Rattle.std.specs.Option.{option_to_list};
+ghost use Rattle.std.specs.Prelude.{◌≡◌, [], ◌∷◌, Some, map, IfOk, IfErr, OnOk};
+ghost use Rattle.tml_span.specs.View.{attribute_of};
+ghost use Rattle.tml_tree.specs.Plain.{PlainNode};
+ghost use Rattle.tml_tree.specs.View.{node_of, tag_node};
+ghost use Rattle.tml_tree.specs.Walking.{elements};
+ghost use Rattle.tml_tree.specs.Whole.{IsTreeOf};
+ghost use Rattle.tml_types.specs.Holding.{RowsHold, plain_of};
+ghost use Rattle.tml_types.specs.Rules.{FirstOf};
+ghost use Rattle.tml_types.specs.Table as table;
+ghost use Rattle.tml_types.specs.Whole.{Adds, AreTyped, HasFault, Types, told};
+
+use crate::repeats::is_repeated;
+use crate::rules::{Rule, first_broken};
+use crate::table::rows_of;
+use crate::typed::TypedTag;
+use crate::typing::{alink, event, instance, signal, slink, timex, tlink};
+use std::alloc::Global;
+use std::marker::Model;
+use tml_span::{List, Memory};
+use tml_tree::{Node, Tag, TagName, TagTree};
+
+/// The tags of a document that mean something, typed, in document order.
+#[derive(Drop)]
+pub struct Typed<'s> {
+    tags: List<TypedTag<'s>>,
+}
+
+impl<'s> Model for Typed<'s> {
+    ghost use Rattle.std.specs.Prelude.{List as ListOf};
+    ghost use Rattle.tml_types.specs.declared.typed.TypedTag.{TypedTag};
+
+    ghost Value = { ListOf TypedTag };
+
+    ghost view = { λ a. a.tags };
+}
+
+impl<'s> Typed<'s> {
+    /// The typed tags, in document order.
+    pub fn as_slice(&self) -> &[TypedTag<'s>]
+        ensures { result.now ≡ self.now }
+    {
+        self.tags.as_slice()
+    }
+}
+
+/// The first tag that is at fault, by the place where it begins, and its first fault.
+#[derive(Clone, Copy, Debug, PartialEq, Eq)]
+pub enum TypeFault {
+    /// Two attributes of the tag have one name. Empty values count too.
+    RepeatedAttribute { place: u32 },
+    /// An attribute that has to be there is absent or empty, or both of a pair are.
+    MissingAttribute { place: u32 },
+    /// A value is not of its form.
+    BadValue { place: u32 },
+    /// Both of a pair are there, and neither is empty.
+    Conflict { place: u32 },
+    /// Memory is wanting.
+    Memory,
+}
+
+/// Types the tags of a tree.
+///
+/// # Errors
+///
+/// The first tag in document order that has a fault, and of its faults the one with the least number, in the order
+/// of `TypeFault`. `Memory` may come at any place.
+pub fn type_tags<'s>(alloc: Global, tree: &TagTree<'s>) -> Result<Typed<'s>, TypeFault>
+    ensures ok { IfOk result (λ t. (root : PlainNode) → IsTreeOf tree.now root → Types (elements root) t) }
+    ensures err { IfErr result (λ e. (root : PlainNode) → IsTreeOf tree.now root → HasFault (elements root) e) }
+{
+    let mut typed = List::new(alloc);
+    type_tag(alloc, tree.root(), &mut typed)?;
+    Ok(Typed { tags: typed })
+}
+
+/// Types a tag and then the tags inside it.
+#[cycle(walk)]
+fn type_tag<'s>(
+    alloc: Global,
+    tag: &Tag<'s>,
+    typed: &mut List<TypedTag<'s>>,
+) -> Result<(), TypeFault>
+    ensures ok { OnOk result (Adds (elements (tag_node tag.now)) typed.old typed.new) }
+    ensures err { IfErr result (λ e. HasFault (elements (tag_node tag.now)) e) }
+{
+    type_one(alloc, tag, typed)?;
+    for child in &tag.children {
+        type_node(alloc, child, typed)?;
+    }
+    Ok(())
+}
+
+/// Types the tags of a node.
+#[cycle(walk)]
+fn type_node<'s>(
+    alloc: Global,
+    node: &Node<'s>,
+    typed: &mut List<TypedTag<'s>>,
+) -> Result<(), TypeFault>
+    ensures ok { OnOk result (Adds (elements (node_of node.now)) typed.old typed.new) }
+    ensures err { IfErr result (λ e. HasFault (elements (node_of node.now)) e) }
+{
+    match node {
+        Node::Text { .. } | Node::Comment { .. } => Ok(()),
+        Node::Element(tag) => type_tag(alloc, tag, typed),
+    }
+}
+
+/// Puts the typed tag of a tag last, where it has one.
+fn type_one<'s>(
+    alloc: Global,
+    tag: &Tag<'s>,
+    typed: &mut List<TypedTag<'s>>,
+) -> Result<(), TypeFault>
+    ensures ok { OnOk result (Adds (plain_of tag.now ∷ []) typed.old typed.new) }
+    ensures err { IfErr result (λ e. HasFault (plain_of tag.now ∷ []) e) }
+{
+    let Ok(rule) = first_rule(alloc, tag) else {
+        return Err(TypeFault::Memory);
+    };
+    if let Some(rule) = rule {
+        return Err(fault_at(rule, tag.span.start));
+    }
+    if let Some(value) = typed_tag(tag) {
+        if typed.push(value).is_err() {
+            return Err(TypeFault::Memory);
+        }
+    }
+    Ok(())
+}
+
+/// The first rule that a tag breaks, or none.
+fn first_rule(alloc: Global, tag: &Tag<'_>) -> Result<Option<Rule>, Memory>
+    ensures { IfOk result (λ o. FirstOf (plain_of tag.now) o) }
+{
+    let attrs = tag.attrs.as_slice();
+    match is_repeated(alloc, attrs) {
+        Ok(repeated) => Ok(first_broken(repeated, rows_of(tag.name), attrs)),
+        Err(Memory) => Err(Memory),
+    }
+}
+
+fn fault_at(rule: Rule, place: u32) -> TypeFault
+    ensures { told result ≡ Some (place, rule) }
+{
+    match rule {
+        Rule::RepeatedAttribute => TypeFault::RepeatedAttribute { place },
+        Rule::MissingAttribute => TypeFault::MissingAttribute { place },
+        Rule::BadValue => TypeFault::BadValue { place },
+        Rule::Conflict => TypeFault::Conflict { place },
+    }
+}
+
+/// The typed tag of a tag without fault. The root and the wrappers have none.
+#[tactic(auto, unfolding(crate::specs::Rules::rows_at))]
+fn typed_tag<'s>(tag: &Tag<'s>) -> Option<TypedTag<'s>>
+    requires { RowsHold (map attribute_of tag.now.attrs) (table.rows_of tag.now.name) }
+    ensures { AreTyped (plain_of tag.now ∷ []) (option_to_list result) }
+{
+    let place = tag.span.start;
+    let attrs = tag.attrs.as_slice();
+    match tag.name {
+        TagName::Event => Some(event(place, attrs)),
+        TagName::MakeInstance => Some(instance(place, attrs)),
+        TagName::Timex3 => Some(timex(place, attrs)),
+        TagName::Signal => Some(signal(place, attrs)),
+        TagName::Tlink => Some(tlink(place, attrs)),
+        TagName::Alink => Some(alink(place, attrs)),
+        TagName::Slink => Some(slink(place, attrs)),
+        _ => None,
+    }
+}
