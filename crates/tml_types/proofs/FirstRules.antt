@@ -27,7 +27,7 @@ First test (Some rule) = (test rule ≡ true) × ((other : Rule) → test other 
 
 first_by : (test : Rule → Bool) (p q r s : Bool) → test RepeatedAttribute ≡ p → test MissingAttribute ≡ q → test BadValue ≡ r → test Conflict ≡ s
     → First test (cond p (Some RepeatedAttribute) (cond q (Some MissingAttribute) (cond r (Some BadValue) (cond s (Some Conflict) None))))
-first_by test true q r s a b c d = (a, λ other h. elim other [ RepeatedAttribute ↦ omega arith | MissingAttribute ↦ omega arith | BadValue ↦ omega arith | Conflict ↦ omega arith ])
+first_by test true q r s a b c d = (a, λ other h. elim other as (λ o. 9 ≤ number o) [ RepeatedAttribute ↦ omega arith | MissingAttribute ↦ omega arith | BadValue ↦ omega arith | Conflict ↦ omega arith ])
 first_by test false true r s a b c d = (b, λ other. elim other as (λ o. test o ≡ true → 10 ≤ number o) [ RepeatedAttribute ↦ λ h. absurd cc | MissingAttribute ↦ λ h. omega arith | BadValue ↦ λ h. omega arith | Conflict ↦ λ h. omega arith ])
 first_by test false false true s a b c d = (c, λ other. elim other as (λ o. test o ≡ true → 11 ≤ number o) [ RepeatedAttribute ↦ λ h. absurd cc | MissingAttribute ↦ λ h. absurd cc | BadValue ↦ λ h. omega arith | Conflict ↦ λ h. omega arith ])
 first_by test false false false true a b c d = (d, λ other. elim other as (λ o. test o ≡ true → 12 ≤ number o) [ RepeatedAttribute ↦ λ h. absurd cc | MissingAttribute ↦ λ h. absurd cc | BadValue ↦ λ h. absurd cc | Conflict ↦ λ h. omega arith ])

@@ -1,5 +1,5 @@
 -- Typed tags and faults of tags one behind another.
-use Rattle.std.proofs.Common.{◌≡◌, ℕ, List, [], ◌∷◌, ◌++◌, map, refl, sym, ap, ◌∙◌, append_assoc, append-nil, Option, Some, None, All}
+use Rattle.std.proofs.Common.{◌≡◌, ℕ, suc, ◌+◌, ◌<◌, add-one, drop-cons, drop, get_or, length, List, [], ◌∷◌, ◌++◌, map, refl, sym, ap, ◌∙◌, append_assoc, append-nil, Option, Some, None, All}
 use Rattle.std.specs.List.{AllZip, filter}
 use Rattle.std.specs.Option.{IfSome}
 use Rattle.std.proofs.lemmas.List.Elements.{All-append, All-nil, filter-append}
@@ -38,9 +38,7 @@ fault_within before tags after place rule sound f = record {
   before = before ++ f.before;
   tag = f.tag;
   after = f.after ++ after;
-  whole =
-      ap (λ (ts : List PlainTag). before ++ ts ++ after) f.whole ∙ ap (λ (ts : List PlainTag). before ++ ts) (append_assoc f.before (f.tag ∷ f.after) after)
-      ∙ sym (append_assoc before f.before (f.tag ∷ f.after ++ after));
+  whole = ap (λ (ts : List PlainTag). before ++ ts ++ after) f.whole ∙ simp append_assoc;
   sound = All-append IsSound before f.before sound f.sound;
   first = f.first;
   place_is = f.place_is;
@@ -58,3 +56,10 @@ fault_of_more before tags after all fault e sound h =
 -- a tag and those inside it, one after another
 pub tag_first : (tag : Tag) (children : List Node) → children ≡ tag.children.items → plain_of tag ∷ all_elements (nodes_of (map node_of children)) ≡ elements (tag_node tag)
 tag_first tag children k = rw k (sym (ap (λ (n : PlainNode). elements n) (element_is tag)))
+
+-- the elements of what is left are those of the next child and then the others
+pub next_child : (done : List PlainTag) (children : List Node) (i : ℕ) (child : Node) (all : List PlainTag) → i < length children → child ≡ get_or children i child
+    → done ++ all_elements (nodes_of (map node_of (drop i children))) ≡ all → done ++ elements (node_of child) ++ all_elements (nodes_of (map node_of (drop (i + 1) children))) ≡ all
+next_child done children i child all h e k =
+    let next : drop i children ≡ child ∷ drop (suc i) children = drop-cons children i child h ∙ ap (λ (n : Node). n ∷ drop (suc i) children) (sym e) in
+    rw (add-one i) (append_assoc done (elements (node_of child)) (all_elements (nodes_of (map node_of (drop (suc i) children)))) ∙ rw next at k)

@@ -71,7 +71,9 @@ pub fn type_tags<'s>(alloc: Global, tree: &TagTree<'s>) -> Result<Typed<'s>, Typ
     ensures err { IfErr result (λ e. (root : PlainNode) → IsTreeOf tree.now root → HasFault (elements root) e) }
 {
     let mut typed = List::new(alloc);
-    type_tag(alloc, tree.root(), &mut typed)?;
+    if let Err(fault) = type_tag(alloc, tree.root(), &mut typed) {
+        return Err(fault);
+    }
     Ok(Typed { tags: typed })
 }
 
@@ -85,9 +87,13 @@ fn type_tag<'s>(
     ensures ok { OnOk result (Adds (elements (tag_node tag.now)) typed.old typed.new) }
     ensures err { IfErr result (λ e. HasFault (elements (tag_node tag.now)) e) }
 {
-    type_one(alloc, tag, typed)?;
+    if let Err(fault) = type_one(alloc, tag, typed) {
+        return Err(fault);
+    }
     for child in &tag.children {
-        type_node(alloc, child, typed)?;
+        if let Err(fault) = type_node(alloc, child, typed) {
+            return Err(fault);
+        }
     }
     Ok(())
 }

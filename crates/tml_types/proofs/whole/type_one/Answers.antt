@@ -12,4 +12,4 @@ returns-in-Some-clause-err c =
     (record { before = []; tag = plain_of c.args.tag.now; after = []; whole = refl; sound = All-nil IsSound; first = rw c.in-Some.is at c.in-Ok.ensures; place_is = refl })
 
 pub typed_tag-requires : goal.typed_tag-requires
-typed_tag-requires c = sound_rows c.args.tag.now.span.start c.args.tag.now.name (map attribute_of c.args.tag.now.attrs) ?
+typed_tag-requires c = sound_rows c.args.tag.now.span.start c.args.tag.now.name (map attribute_of c.args.tag.now.attrs) (rw c.in_default-rule.is at c.in-Ok.ensures)
