@@ -1,14 +1,12 @@
 -- An end tag taken, and one refused.
-use Rattle.std.proofs.Common.{◌≡◌, ℕ, Bool, true, false, not, List, [], ◌∷◌, ◌++◌, map, refl, sym, ap, subst, ◌∙◌, Option, Some, None}
+use Rattle.std.proofs.Common.{◌≡◌, ℕ, Bool, true, false, not, List, [], ◌∷◌, ◌++◌, refl, sym, ap, ◌∙◌, Some}
 use Rattle.std.specs.Str.{bytes_eq}
-use Rattle.std.proofs.lemmas.Slice.Eq.{bytes_eq-Decides}
-use Rattle.tml_span.specs.Units.{end_tag}
 use Rattle.tml_tree.specs.declared.builder.Frame.{Frame}
 use Rattle.tml_tree.specs.Names.{text_of}
 use Rattle.tml_tree.specs.Plain.{PlainNode, element, nodes_of}
 use Rattle.tml_tree.specs.Nesting.{OpenTag}
 use Rattle.tml_tree.specs.Rules.{is_innermost}
-use Rattle.tml_tree.specs.Stage.{Stage, closed}
+use Rattle.tml_tree.specs.Stage.{closed}
 use Rattle.tml_tree.specs.View.{names_of, tag_of, tags_of}
 use Rattle.tml_tree.proofs.Stacks.{names_more, tags_more}
 

@@ -1,13 +1,11 @@
 -- The tag of a name, and the rule of a start or empty tag.
-use Rattle.std.proofs.Common.{◌≡◌, ◌≤◌, ◌<◌, ℕ, Bool, true, false, cond, not, ◌||◌, nat_le, List, [], ◌∷◌, map, length, refl, sym, ap, ◌∙◌, arith, Option, Some, None}
+use Rattle.std.proofs.Common.{◌≡◌, ◌≤◌, ◌<◌, ℕ, Bool, true, false, cond, not, ◌||◌, nat_le, List, [], ◌∷◌, map, length, refl, sym, ap, ◌∙◌, arith, Some, None}
 use Rattle.std.specs.Str.{bytes_eq}
 use Rattle.std.proofs.lemmas.List.{length-map, length-reverse}
 use Rattle.std.proofs.lemmas.Slice.Eq.{bytes_eq-Decides}
 use Rattle.std.proofs.lemmas.Bool.Decides.{nat_tests}
-use Rattle.std.proofs.lemmas.Grind.{common_steps}
 use Rattle.named.specs.Texts.{named_of, is_one_of}
 use Rattle.tml_tree.specs.declared.names.TagName.{TagName}
-use Rattle.tml_tree.specs.declared.rules.Rule.{Rule}
 use Rattle.tml_tree.specs.declared.rules.Rule.TheVariants.{UnknownTag, Misplaced, TooDeep}
 use Rattle.tml_tree.specs.declared.builder.Frame.{Frame}
 use Rattle.tml_tree.specs.Names.{text_of, all_tags, is_known}

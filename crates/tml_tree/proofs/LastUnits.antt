@@ -1,12 +1,12 @@
 -- What the last unit does to the open names.
-use Rattle.std.proofs.Common.{◌≡◌, ℕ, Bool, true, false, cond, List, [], ◌∷◌, ◌++◌, map, refl, sym, ap, subst, ◌∙◌, Option, Some, None}
+use Rattle.std.proofs.Common.{◌≡◌, ℕ, Bool, true, false, cond, List, [], ◌∷◌, map, refl, sym, ap, subst, Some, None}
 use Rattle.std.specs.Str.{bytes_eq}
 use Rattle.std.proofs.lemmas.Slice.Eq.{bytes_eq-Decides}
-use Rattle.tml_span.specs.Units.{Kind, bom, declaration, doctype, comment, text, start_tag, end_tag, empty_tag, PlainUnit}
+use Rattle.tml_span.specs.Units.{Kind, bom, declaration, doctype, comment, text, start_tag, end_tag, empty_tag}
 use Rattle.tml_tree.specs.Plain.{unit, PlainNode}
 use Rattle.tml_tree.specs.Nesting.{OpenTag, name_of, is_seen}
 use Rattle.tml_tree.specs.Stage.{Stage, step}
-use Rattle.tml_tree.specs.Trees.{Path, Differs, LastUnit}
+use Rattle.tml_tree.specs.Trees.{Differs, LastUnit}
 use Rattle.tml_tree.proofs.Running.{some_is, nests_before}
 use Rattle.tml_tree.proofs.Paths.{lawful_before}
 

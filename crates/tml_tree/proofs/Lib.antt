@@ -7,3 +7,4 @@ pub mod Walks
 pub mod LastUnits
 pub mod Known
 pub mod Endings
+pub mod Faults

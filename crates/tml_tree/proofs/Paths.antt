@@ -1,10 +1,8 @@
 -- Laws of paths.
-use Rattle.std.proofs.Common.{◌≡◌, ◌⊎◌, inl, inr, ℕ, Bool, true, false, cond, List, [], ◌∷◌, ◌++◌, map, refl, sym, ap, subst, ◌∙◌, append_assoc, arith, Option, Some, None, rules}
-use Rattle.std.specs.List.{filter, list_any}
+use Rattle.std.proofs.Common.{◌≡◌, ◌⊎◌, inl, inr, ℕ, Bool, true, false, cond, List, [], ◌∷◌, ◌++◌, map, refl, sym, ap, subst, ◌∙◌, append_assoc, Option, Some, None}
+use Rattle.std.specs.List.{filter}
 use Rattle.std.specs.Str.{bytes_eq}
-use Rattle.std.proofs.lemmas.List.{append-nil}
-use Rattle.std.proofs.lemmas.Bool.Decides.{nat_tests}
-use Rattle.tml_span.specs.Units.{Attribute, Kind, bom, declaration, doctype, comment, text, start_tag, end_tag, empty_tag, PlainUnit}
+use Rattle.tml_span.specs.Units.{Kind, bom, declaration, doctype, comment, text, start_tag, end_tag, empty_tag, PlainUnit}
 use Rattle.tml_tree.specs.Plain.{unit, PlainNode}
 use Rattle.tml_tree.specs.Nesting.{OpenTag, Opens, Nests, name_of, is_seen, is_content, is_element}
 use Rattle.tml_tree.specs.declared.rules.Rule.{Rule}
@@ -14,7 +12,7 @@ use Rattle.tml_tree.specs.Stage.{Stage, step}
 use Rattle.tml_tree.specs.Trees.{Passes, Lawful, Path, HasPath, Document, OneTree}
 use Rattle.tml_tree.specs.Whole.{OneTreeOfSource}
 use Rattle.tml_span.proofs.OneCut.{one_cut_from}
-use Rattle.tml_tree.proofs.Running.{some_is, one_nesting, nests_before, opens_step}
+use Rattle.tml_tree.proofs.Running.{one_nesting, nests_before, opens_step}
 
 -- a list that ends in a unit, cut at a unit: it is the last one, or stands before it
 pub last_or_before : {A : Type 0} (us before after : List A) (u v : A) → us ++ u ∷ [] ≡ before ++ v ∷ after → ((us ≡ before) × (u ≡ v)) ⊎ ((rest : List A) × (us ≡ before ++ v ∷ rest))

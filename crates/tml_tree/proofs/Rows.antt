@@ -1,11 +1,11 @@
 -- The children of a tag as a list.
-use Rattle.std.proofs.Common.{◌≡◌, ℕ, List, [], ◌∷◌, map, refl, ap, ◌∙◌}
+use Rattle.std.proofs.Common.{◌≡◌, List, map, refl, ap, ◌∙◌}
 use mathlib.Core.Former.{Count}
 use Rattle.tml_span.specs.View.{attribute_of}
 use Rattle.tml_tree.specs.declared.node.Tag.{Tag}
 use Rattle.tml_tree.specs.declared.node.Node.{Node, Element, Element', Row_of-Node, end_of-Node, more_of-Node, items-the_row-Node, items_hidden-the_row-Node-0}
 use Rattle.tml_tree.specs.Names.{text_of}
-use Rattle.tml_tree.specs.Plain.{PlainNode, PlainNodes, none, more, element, nodes_of}
+use Rattle.tml_tree.specs.Plain.{PlainNodes, more, element, nodes_of}
 use Rattle.tml_tree.specs.View.{node_of, row_of}
 
 row_is : (m : _) (row : Row_of-Node m) → row_of row ≡ nodes_of (map node_of (items-the_row-Node m row))

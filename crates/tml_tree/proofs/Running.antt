@@ -1,15 +1,15 @@
 -- Nesting and running give the same.
-use Rattle.std.proofs.Common.{◌≡◌, ◌⊎◌, inl, inr, ℕ, Bool, true, false, cond, List, [], ◌∷◌, ◌++◌, refl, sym, ap, subst, ◌∙◌, append_assoc, arith, Option, Some, None, rules}
+use Rattle.std.proofs.Common.{◌≡◌, inl, inr, ℕ, Bool, true, false, cond, List, [], ◌∷◌, ◌++◌, refl, sym, ap, subst, ◌∙◌, append_assoc, Option, Some, None}
 use Rattle.std.specs.Prelude.{option_and_then}
 use Rattle.std.specs.List.{filter}
 use Rattle.std.specs.Str.{bytes_eq}
 use Rattle.std.proofs.lemmas.List.{append-nil}
 use Rattle.std.proofs.lemmas.List.Elements.{filter-append}
 use Rattle.std.proofs.lemmas.Slice.Eq.{bytes_eq-Decides}
-use Rattle.tml_span.specs.Units.{Attribute, Kind, bom, declaration, doctype, comment, text, start_tag, end_tag, empty_tag, PlainUnit}
+use Rattle.tml_span.specs.Units.{Kind, bom, declaration, doctype, comment, text, start_tag, end_tag, empty_tag, PlainUnit}
 use Rattle.tml_tree.specs.Plain.{unit, PlainNode, PlainNodes, text_node, comment_node, element, none, more, nodes_of}
 use Rattle.tml_tree.specs.Nesting.{Item, Items, OpenTag, tag_unit, Opens, is_content}
-use Rattle.tml_tree.specs.Stage.{Stage, closed, step, run}
+use Rattle.tml_tree.specs.Stage.{Stage, step, run}
 
 pub some_is : {A : Type 0} {x y : A} → Some x ≡ Some y → x ≡ y
 some_is e = cc

@@ -1,22 +1,21 @@
 -- What a builder knows, after one more unit and at the end.
-use Rattle.std.proofs.Common.{◌≡◌, ◌⊎◌, inl, inr, ℕ, Bool, true, false, cond, not, ◌&&◌, ◌||◌, nat_le, List, [], ◌∷◌, ◌++◌, map, reverse, length, refl, sym, ap, subst, ◌∙◌, append_assoc, arith, Option, Some, None, rules, codes}
+use Rattle.std.proofs.Common.{◌≡◌, ◌⊎◌, inl, inr, ℕ, Bool, true, false, cond, not, ◌&&◌, ◌||◌, nat_le, List, [], ◌∷◌, ◌++◌, map, reverse, length, refl, sym, ap, subst, ◌∙◌, arith, Option, Some, None}
 use Rattle.std.specs.List.{filter, list_any}
 use Rattle.std.specs.Str.{bytes_eq}
-use Rattle.std.proofs.lemmas.List.{append-nil, map-append, length-map, length-reverse}
+use Rattle.std.proofs.lemmas.List.{append-nil, length-map, length-reverse}
 use Rattle.std.proofs.lemmas.List.Elements.{filter-append}
 use Rattle.std.proofs.lemmas.List.Folds.{list_any-append}
-use Rattle.tml_span.specs.Units.{Attribute, Kind, bom, declaration, doctype, comment, text, start_tag, end_tag, empty_tag, PlainUnit}
+use Rattle.tml_span.specs.Units.{Kind, bom, declaration, doctype, comment, text, start_tag, end_tag, empty_tag, PlainUnit}
 use Rattle.tml_tree.specs.declared.builder.Frame.{Frame}
 use Rattle.tml_tree.specs.declared.builder.Builder.{Builder}
-use Rattle.tml_tree.specs.declared.node.Node.{Node}
 use Rattle.tml_tree.specs.declared.rules.Rule.{Rule}
 use Rattle.tml_tree.specs.declared.rules.Rule.TheVariants.{UnknownTag, Unbalanced, Misplaced, TooDeep}
-use Rattle.tml_tree.specs.Plain.{unit, PlainNode, PlainNodes, text_node, comment_node, element, none, nodes_of}
-use Rattle.tml_tree.specs.Nesting.{OpenTag, Opens, Nests, name_of, is_seen, is_content, is_element}
+use Rattle.tml_tree.specs.Plain.{unit, PlainNode, text_node, comment_node, element, none, nodes_of}
+use Rattle.tml_tree.specs.Nesting.{OpenTag, Opens, name_of, is_seen, is_content, is_element}
 use Rattle.tml_tree.specs.Names.{is_known, is_root}
 use Rattle.tml_tree.specs.Rules.{rule, unit_rule, tag_rule, is_past_bom, is_tag, is_doctype, is_nil, History, history_of}
 use Rattle.tml_tree.specs.Stage.{Stage, step}
-use Rattle.tml_tree.specs.Trees.{Passes, Lawful, Path, HasPath, Document, Unclosed, FaultAt}
+use Rattle.tml_tree.specs.Trees.{Passes, Lawful, Path, Document, Unclosed, FaultAt}
 use Rattle.tml_tree.specs.Whole.{FaultOf}
 use Rattle.tml_tree.specs.Roots.{outer, AtMostOne, EndsIn}
 use Rattle.tml_tree.specs.View as view

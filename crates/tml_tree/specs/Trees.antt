@@ -63,3 +63,13 @@ OnePath = (us : List PlainUnit) (names others : List (List ℕ)) (seen was : Boo
 -- units make one tree
 abbrev pub OneTree : Type 0
 OneTree = (us : List PlainUnit) (root other : PlainNode) → Document root us → Document other us → root ≡ other
+
+-- a tree, a fault and the want of a whole root exclude each other, and of faults there is one
+pub record OneAnswer (us : List PlainUnit) : Type 0 where
+  pub tree_or_fault : (root : PlainNode) (at : ℕ) (r : Rule) → Document root us → FaultAt us at r → ⊥
+  pub tree_or_unclosed : (root : PlainNode) → Document root us → Unclosed us → ⊥
+  pub fault_or_unclosed : (at : ℕ) (r : Rule) → FaultAt us at r → Unclosed us → ⊥
+  pub one_fault : (at other : ℕ) (r s : Rule) → FaultAt us at r → FaultAt us other s → (at ≡ other) × (r ≡ s)
+
+abbrev pub OneAnswers : Type 0
+OneAnswers = (us : List PlainUnit) → OneAnswer us

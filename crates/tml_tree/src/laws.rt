@@ -1,5 +1,5 @@
 //! Laws of trees: public functions that do nothing, each with the law as its contract.
-ghost use Rattle.tml_tree.specs.Trees.{LastUnit, OnePath, OneTree};
+ghost use Rattle.tml_tree.specs.Trees.{LastUnit, OneAnswers, OnePath, OneTree};
 ghost use Rattle.tml_tree.specs.Whole.{OneTreeOfSource};
 
 /// Units have one path.
@@ -21,4 +21,9 @@ pub fn one_tree()
 /// A source has one tree.
 pub fn one_tree_of_source()
     ensures { OneTreeOfSource }
+{}
+
+/// A tree and each of the faults exclude each other, and units have one fault at most.
+pub fn one_answer()
+    ensures { OneAnswers }
 {}

@@ -12,7 +12,7 @@ mod tests;
 mod walk;
 mod whole;
 
-pub use laws::{last_unit, one_path, one_tree, one_tree_of_source};
+pub use laws::{last_unit, one_answer, one_path, one_tree, one_tree_of_source};
 pub use names::TagName;
 pub use node::{Node, Tag};
 pub use tag_tree::{TagTree, tree};

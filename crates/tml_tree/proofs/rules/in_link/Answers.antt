@@ -1,5 +1,4 @@
-use Rattle.std.proofs.Common.{◌≡◌, ◌||◌, false, true, take, length, ap, sym, ◌∙◌, arith, get_or}
-use Rattle.std.specs.List.{list_any}
+use Rattle.std.proofs.Common.{◌≡◌, false, true, sym, ◌∙◌, arith, get_or}
 use Rattle.std.proofs.lemmas.List.Folds.{list_any_at, list_any_more}
 use Rattle.std.proofs.lemmas.Grind.{common_steps}
 use Rattle.tml_tree.specs.View.{is_link_frame}

@@ -1,6 +1,5 @@
-use Rattle.std.proofs.Common.{◌≡◌, ◌++◌, map, refl, ◌∙◌}
+use Rattle.std.proofs.Common.{refl, ◌∙◌}
 use Rattle.tml_tree.specs.View.{tag_node}
-use Rattle.tml_tree.specs.Walking.{elements, shown}
 use Rattle.tml_tree.proofs.walk.elements_of.Goals as goal
 
 pub returns : goal.returns

@@ -1,6 +1,5 @@
-use Rattle.std.proofs.Common.{◌≡◌, ℕ, Option, Some, None, List, [], ◌∷◌, ◌++◌, refl, sym, ap, ◌∙◌, map, length, vec_len, IfSome, IsNone, MatchOption, arith}
+use Rattle.std.proofs.Common.{◌≡◌, Option, Some, None, List, [], map, length, IfSome, IsNone, MatchOption, arith}
 use Rattle.std.specs.List.{filter}
-use Rattle.std.proofs.lemmas.Bool.Decides.{nat_tests}
 use Rattle.std.proofs.lemmas.Grind.{common_steps}
 use Rattle.tml_tree.specs.declared.builder.Builder.{Builder}
 use Rattle.tml_tree.specs.declared.node.Tag.{Tag}

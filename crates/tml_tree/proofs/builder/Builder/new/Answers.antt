@@ -1,7 +1,4 @@
-use Rattle.std.proofs.Common.{◌≡◌, [], refl, map, reverse, sym, ap, inl}
-use Rattle.tml_tree.specs.Nesting.{Opens, is_seen}
-use Rattle.tml_tree.specs.Roots.{AtMostOne}
-use Rattle.tml_tree.specs.View.{tags_of, node_of}
+use Rattle.std.proofs.Common.{refl, inl}
 use Rattle.tml_tree.proofs.Standing.{lawful_none}
 use Rattle.tml_tree.proofs.builder.Builder.new.Goals as goal
 

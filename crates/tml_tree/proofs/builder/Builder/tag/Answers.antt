@@ -1,4 +1,4 @@
-use Rattle.std.proofs.Common.{◌≡◌, false, true, refl, sym, ◌∙◌, arith}
+use Rattle.std.proofs.Common.{false, true, refl, arith}
 use Rattle.std.proofs.lemmas.Grind.{common_steps}
 use Rattle.tml_tree.specs.Names.{text_of, all_tags}
 use Rattle.tml_tree.specs.Taking.{history_of}
