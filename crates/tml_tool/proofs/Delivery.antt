@@ -1,5 +1,5 @@
 -- From a reply and its delivery to the outcome of a run.
-use Rattle.std.proofs.Common.{◌≡◌, ◌≢◌, ℕ, ◌<◌, Bool, true, false, List, [], ◌∷◌, ◌++◌, length, take, sym, ap, subst, ◌∙◌, refl, arith, inl, inr, Option, Some, None, Result, Ok, Err}
+use Rattle.std.proofs.Common.{◌≡◌, ◌≢◌, ℕ, false, List, [], ◌++◌, length, sym, ap, subst, ◌∙◌, refl, arith, inl, inr, Option, Some, None, Result, Ok, Err}
 use Rattle.std.specs.Prelude.{OnOk, is_err}
 use Rattle.std.specs.Io.KnownBytes.{Keeps, Appends}
 use Rattle.std.proofs.lemmas.List.{append-nil}
@@ -7,7 +7,7 @@ use Rattle.tml_io.specs.Files.{Files}
 use Rattle.tml_tool.specs.declared.command.Question.{Question}
 use Rattle.tml_tool.specs.declared.command.Question.TheVariants.{Spans, Check}
 use Rattle.tml_tool.specs.declared.status.Status.{Status}
-use Rattle.tml_tool.specs.declared.status.Status.TheVariants.{Done, DocFault, Clash, Usage, ReadFault, WriteFault, NoMemory, EvidenceFault, UnknownName, TooLong}
+use Rattle.tml_tool.specs.declared.status.Status.TheVariants.{Done, DocFault, Usage, ReadFault, WriteFault, NoMemory}
 use Rattle.tml_tool.specs.Words.{Form, of_document, names_of}
 use Rattle.tml_tool.specs.Answer.{Answer, OverBytes}
 use Rattle.tml_tool.specs.Replies.{Replies, RepliesOver, Refuses}

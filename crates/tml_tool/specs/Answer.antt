@@ -34,7 +34,7 @@ CutLine doc line = (fault : Cut) × HasFault doc fault × (texts.cut_fault_line 
 
 -- the line of the first unit at fault, where the cut has none
 abbrev pub TreeLine : List ℕ → List ℕ → Type 0
-TreeLine doc line = (units : List PlainUnit) × (let cut : Cutting = record { source = doc; units = units } in IsWhole cut × ((fault : TreeFault) × NestingFault cut fault × (texts.tree_fault_line fault ≡ Some line)))
+TreeLine doc line = (cut : Cutting) × (cut.source ≡ doc) × IsWhole cut × (fault : TreeFault) × NestingFault cut fault × (texts.tree_fault_line fault ≡ Some line)
 
 -- the line of the first tag at fault, where the units make a tree
 abbrev pub TypeLine : List ℕ → List ℕ → Type 0

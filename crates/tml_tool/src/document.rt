@@ -7,9 +7,9 @@ ghost use Rattle.tml_tool.specs.Replies.{Replies, RepliesOver, Takes};
 ghost use Rattle.tml_tool.specs.View.{text_of};
 ghost use Rattle.tml_tool.specs.Words as words;
 
+use crate::Status;
 use crate::check::check;
 use crate::command::Question;
-use crate::Status;
 use crate::reply::Reply;
 use crate::spans::spans;
 use std::alloc::Global;

@@ -53,7 +53,7 @@ pub fn type_fault(fault: TypeFault) -> Fault
 
 /// The reply to a document at fault.
 pub fn refusal(alloc: Global, fault: Fault) -> Reply
-    ensures { Refuses (option_map (λ f. texts.numbered f.0.now f.1) fault) result.status (text_of result.text) }
+    ensures { Refuses (option_map (λ f. texts.numbered f.0.now f.1) fault.entry) result.status (text_of result.text) }
 {
     let Some((front, place)) = fault else {
         return Reply::no_memory();

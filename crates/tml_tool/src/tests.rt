@@ -15,6 +15,7 @@ struct Row {
 }
 
 const SPANS: &[&str] = &["spans", "d"];
+
 const CHECK: &[&str] = &["check", "d"];
 
 const USAGE: &[u8] = b"usage:\ntml spans DOC\ntml check DOC\n";
@@ -225,7 +226,10 @@ fn rows_of_nesting(rt: HostRuntime) -> Result<(), Fail> {
         fault(b"<TimeML><P>", b"fault 6 Unclosed 11\n"),
         fault(b"x<TimeML/>", b"fault 7 Misplaced 0\n"),
         fault(b"<TimeML/><TimeML/>", b"fault 7 Misplaced 9\n"),
-        fault(b"<TimeML><TLINK>x</TLINK></TimeML>", b"fault 7 Misplaced 15\n"),
+        fault(
+            b"<TimeML><TLINK>x</TLINK></TimeML>",
+            b"fault 7 Misplaced 15\n",
+        ),
         fault(b"<!--x--><?xml v?><TimeML/>", b"fault 7 Misplaced 8\n"),
         // A fault of the cut outranks one of the tree that stands earlier.
         fault(b"x<TimeML/>&", b"fault 2 BadReference 10\n"),
@@ -269,7 +273,8 @@ fn rows_of_types(rt: HostRuntime) -> Result<(), Fail> {
 fn depth_has_a_limit(rt: HostRuntime) -> Result<(), Fail> {
     let alloc = rt.alloc();
     let words = words_of(alloc, CHECK)?;
-    let accepted: &'static [u8] = b"accepted\nevents 0\ninstances 0\ntimex 0\nsignals 0\ntlinks 0\nalinks 0\nslinks 0\n";
+    let accepted: &'static [u8] =
+        b"accepted\nevents 0\ninstances 0\ntimex 0\nsignals 0\ntlinks 0\nalinks 0\nslinks 0\n";
     let wanted: [(usize, &'static [u8]); 2] = [(31, accepted), (32, b"fault 8 TooDeep 101\n")];
     for (depth, text) in wanted.iter() {
         let mut doc = Vec::from_slice(alloc, b"<TimeML>")?;

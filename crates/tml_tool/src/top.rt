@@ -42,6 +42,9 @@ pub fn run<I: Inputs, S: Sink>(
 {
     match command_of(words) {
         Command::Usage => deliver(sink, Reply::usage()),
-        Command::OfDocument { question, doc } => deliver(sink, answer(alloc, question, doc, inputs)),
+        Command::OfDocument { question, doc } => deliver(
+            sink,
+            answer(alloc, question, doc, inputs),
+        ),
     }
 }

@@ -13,4 +13,4 @@ mod whole;
 
 pub use names::{Aspect, AspectRel, DocFunction, EventClass, Polarity, Pos, SubRel, Tense};
 pub use typed::{LinkEnd, TypedTag};
-pub use whole::{TypeFault, Typed};
+pub use whole::{TypeFault, Typed, type_tags};

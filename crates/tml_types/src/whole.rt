@@ -67,8 +67,8 @@ pub enum TypeFault {
 /// The first tag in document order that has a fault, and of its faults the one with the least number, in the order
 /// of `TypeFault`. `Memory` may come at any place.
 pub fn type_tags<'s>(alloc: Global, tree: &TagTree<'s>) -> Result<Typed<'s>, TypeFault>
-    ensures ok { IfOk result (λ t. (root : PlainNode) → IsTreeOf tree.now root → Types (elements root) t) }
-    ensures err { IfErr result (λ e. (root : PlainNode) → IsTreeOf tree.now root → HasFault (elements root) e) }
+    ensures ok { IfOk result (λ t. (root : PlainNode) × IsTreeOf tree.now root × Types (elements root) t) }
+    ensures err { IfErr result (λ e. (root : PlainNode) × IsTreeOf tree.now root × HasFault (elements root) e) }
 {
     let mut typed = List::new(alloc);
     if let Err(fault) = type_tag(alloc, tree.root(), &mut typed) {

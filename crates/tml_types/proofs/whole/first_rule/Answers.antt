@@ -1,4 +1,4 @@
-use Rattle.std.proofs.Common.{◌≡◌, ◌∙◌, List, ap, sym, map}
+use Rattle.std.proofs.Common.{◌∙◌, List, ap, sym, map}
 use Rattle.tml_span.specs.Units.{Attribute}
 use Rattle.tml_span.specs.View.{attribute_of}
 use Rattle.tml_types.specs.Holding.{plain_of}

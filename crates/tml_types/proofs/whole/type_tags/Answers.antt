@@ -1,14 +1,10 @@
-use Rattle.std.proofs.Common.{subst}
-use Rattle.tml_tree.specs.Plain.{PlainNode}
-use Rattle.tml_tree.specs.Walking.{elements}
-use Rattle.tml_tree.proofs.Paths.{one_tree_of_source}
-use Rattle.tml_types.specs.Whole.{HasFault, Types}
+use Rattle.tml_tree.specs.View.{tag_node}
 use Rattle.tml_types.proofs.whole.type_tags.Goals as goal
 
 pub returns-in-Err-clause-err : goal.returns-in-Err-clause-err
-returns-in-Err-clause-err c = λ root h. subst (λ (r : PlainNode). HasFault (elements r) c.in-Err.fault) (one_tree_of_source c.args.tree.now _ root c.root.ensures h) c.in-Err.ensures.err
+returns-in-Err-clause-err c = (tag_node c.root.result.now, c.root.ensures, c.in-Err.ensures.err)
 
 pub returns-clause-ok : goal.returns-clause-ok
-returns-clause-ok c = λ root h.
+returns-clause-ok c =
     let added = c.in_default.ensures.ok in
-    subst (λ (r : PlainNode). Types (elements r) c.type_tag.new.typed) (one_tree_of_source c.args.tree.now _ root c.root.ensures h) (rw (added.2, c.new-typed.ensures) added.1)
+    (tag_node c.root.result.now, c.root.ensures, rw (added.2, c.new-typed.ensures) added.1)
