@@ -1,5 +1,5 @@
 -- The first rule that a tag breaks, and what a tag without fault has.
-use Rattle.std.proofs.Common.{◌≡◌, ◌≤◌, ℕ, Bool, true, false, cond, ◌||◌, List, [], ◌∷◌, refl, sym, ap, subst, ◌∙◌, arith, rules, Option, Some, None}
+use Rattle.std.proofs.Common.{◌≡◌, ◌≤◌, ℕ, Bool, true, false, cond, ◌||◌, List, [], ◌∷◌, refl, sym, ap, subst, arith, rules, Option, Some, None}
 use Rattle.std.specs.List.{list_any}
 use Rattle.named.specs.Texts.{AreApart}
 use Rattle.tml_span.specs.Units.{Attribute}
@@ -9,7 +9,7 @@ use Rattle.tml_tree.specs.Walking.{PlainTag}
 use Rattle.tml_types.specs.declared.rules.Rule.{Rule}
 use Rattle.tml_types.specs.declared.rules.Rule.TheVariants.{RepeatedAttribute, MissingAttribute, BadValue, Conflict}
 use Rattle.tml_types.specs.Holding.{RowsHold, tag_at}
-use Rattle.tml_types.specs.Rules.{rows_at, is_missing, is_bad, is_conflict, breaks, number, IsSound, IsFirst, first_broken, FirstOf}
+use Rattle.tml_types.specs.Rules.{rows_at, is_missing, is_bad, is_conflict, breaks, number, IsSound, first_broken, FirstOf}
 use Rattle.tml_types.specs.Table.{Row, rows_of}
 
 known : AreApart text_of all_tags

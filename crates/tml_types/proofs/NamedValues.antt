@@ -1,5 +1,5 @@
 -- What the value of an attribute names.
-use Rattle.std.proofs.Common.{◌≡◌, ℕ, Bool, true, false, not, List, sym, ap, subst, ◌∙◌, Option, Some, None, option_map}
+use Rattle.std.proofs.Common.{◌≡◌, ℕ, false, not, List, sym, ap, subst, ◌∙◌, Option, Some, None, option_map}
 use Rattle.std.specs.Option.{is_some}
 use Rattle.named.specs.Texts.{named_of}
 use Rattle.named.proofs.Tables.{found_has}

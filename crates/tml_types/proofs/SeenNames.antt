@@ -1,5 +1,5 @@
 -- A set of names, read by plain names.
-use Rattle.std.proofs.Common.{◌≡◌, ℕ, Bool, true, false, ◌||◌, not, cond, List, [], ◌∷◌, map, refl, ap, sym, ◌∙◌, Option, Some, None, rules}
+use Rattle.std.proofs.Common.{◌≡◌, ℕ, Bool, true, false, ◌||◌, not, cond, List, [], ◌∷◌, map, refl, ap, sym, ◌∙◌, Option, Some, rules}
 use Rattle.std.specs.Option.{is_some}
 use Rattle.std.specs.Bool.{Decides}
 use Rattle.std.specs.Borrow.{Bor}

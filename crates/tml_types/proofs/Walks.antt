@@ -1,8 +1,8 @@
 -- Typed tags and faults of tags one behind another.
-use Rattle.std.proofs.Common.{◌≡◌, ℕ, suc, ◌+◌, ◌<◌, add-one, drop-cons, drop, get_or, length, List, [], ◌∷◌, ◌++◌, map, refl, sym, ap, ◌∙◌, append_assoc, append-nil, Option, Some, None, All}
+use Rattle.std.proofs.Common.{◌≡◌, ℕ, suc, ◌+◌, ◌<◌, add-one, drop-cons, drop, get_or, length, List, [], ◌∷◌, ◌++◌, map, sym, ap, ◌∙◌, append_assoc, Some, None, All}
 use Rattle.std.specs.List.{AllZip, filter}
 use Rattle.std.specs.Option.{IfSome}
-use Rattle.std.proofs.lemmas.List.Elements.{All-append, All-nil, filter-append}
+use Rattle.std.proofs.lemmas.List.Elements.{All-append, filter-append}
 use Rattle.tml_tree.specs.declared.node.Tag.{Tag}
 use Rattle.tml_tree.specs.declared.node.Node.{Node}
 use Rattle.tml_tree.specs.Plain.{PlainNode, nodes_of}
@@ -13,9 +13,9 @@ use Rattle.tml_types.specs.declared.rules.Rule.{Rule}
 use Rattle.tml_types.specs.declared.typed.TypedTag.{TypedTag}
 use Rattle.tml_types.specs.declared.whole.TypeFault.{TypeFault}
 use Rattle.tml_types.specs.Holding.{plain_of}
-use Rattle.tml_types.specs.Rules.{IsFirst, IsSound}
+use Rattle.tml_types.specs.Rules.{IsSound}
 use Rattle.tml_types.specs.Typing.{TypedAs}
-use Rattle.tml_types.specs.Whole.{has_rows, AreTyped, Types, FaultAt, told, HasFault, Adds}
+use Rattle.tml_types.specs.Whole.{has_rows, Types, FaultAt, told, HasFault, Adds}
 
 zip_append : {A B : Type 0} (R : A → B → Type 0) (xs xs' : List A) (ys ys' : List B) → AllZip R xs ys → AllZip R xs' ys' → AllZip R (xs ++ xs') (ys ++ ys')
 zip_append R [] xs' [] ys' h k = k

@@ -8,7 +8,6 @@ use Rattle.tml_tree.specs.Names.{text_of, all_tags}
 use Rattle.tml_tree.specs.Walking.{PlainTag}
 use Rattle.tml_types.specs.declared.rules.Rule.{Rule}
 use Rattle.tml_types.specs.declared.rules.Rule.TheVariants.{RepeatedAttribute, MissingAttribute, BadValue, Conflict}
-use Rattle.tml_types.specs.declared.table.Form.{Form}
 use Rattle.tml_types.specs.Table.{Row, required, optional, one_of, rows_of}
 use Rattle.tml_types.specs.Values.{fits, value_of}
 

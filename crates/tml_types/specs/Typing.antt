@@ -1,5 +1,5 @@
 -- What a typed tag says of a tag.
-use Rattle.std.specs.Prelude.{◌≡◌, ℕ, Bool, true, false, List, [], ◌∷◌, codes, Option, Some, None, option_map, option_and_then, IsSomeAnd}
+use Rattle.std.specs.Prelude.{◌≡◌, ℕ, List, codes, Some, option_map}
 use Rattle.net_core.specs.Rels.{rel_text}
 use Rattle.timex_value.specs.Kinds.{kind_text, modifier_text}
 use Rattle.timex_value.specs.declared.value.Value.TheVariants.{Other}
@@ -10,7 +10,6 @@ use Rattle.tml_types.specs.declared.typed.LinkEnd.TheVariants as end
 use Rattle.tml_types.specs.declared.typed.TypedTag.{TypedTag}
 use Rattle.tml_types.specs.declared.typed.TypedTag.TheVariants.{Event, Instance, Timex, Signal, Tlink, Alink, Slink}
 use Rattle.tml_types.specs.Names as names
-use Rattle.tml_types.specs.Rules.{rows_at}
 use Rattle.tml_types.specs.Values.{truth_text, value_of}
 
 -- the one of a pair that is there

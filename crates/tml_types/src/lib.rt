@@ -6,6 +6,8 @@ mod repeats;
 mod rules;
 mod seen;
 mod table;
+#[cfg(test)]
+mod tests;
 mod typed;
 mod typing;
 mod values;
@@ -13,4 +15,4 @@ mod whole;
 
 pub use names::{Aspect, AspectRel, DocFunction, EventClass, Polarity, Pos, SubRel, Tense};
 pub use typed::{LinkEnd, TypedTag};
-pub use whole::{TypeFault, Typed};
+pub use whole::{TypeFault, Typed, type_tags};

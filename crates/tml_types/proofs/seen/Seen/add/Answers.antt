@@ -1,4 +1,4 @@
-use Rattle.std.proofs.Common.{◌≡◌, ◌∙◌, sym, ap}
+use Rattle.std.proofs.Common.{◌∙◌, sym, ap}
 use Rattle.std.specs.Option.{is_some}
 use Rattle.tml_types.proofs.SeenNames.{by_name, put_name, turned_not}
 use Rattle.tml_types.proofs.seen.Seen.add.Goals as goal
