@@ -6,6 +6,8 @@ mod repeats;
 mod rules;
 mod seen;
 mod table;
+#[cfg(test)]
+mod tests;
 mod typed;
 mod typing;
 mod values;

@@ -1,14 +1,19 @@
 //! The rules of attributes.
 ghost use Rattle.std.specs.List.{list_any};
-ghost use Rattle.std.specs.Prelude.{◌≡◌, map};
+ghost use Rattle.std.specs.Prelude.{◌≡◌, map, IfOk};
 ghost use Rattle.tml_span.specs.View.{attribute_of};
+ghost use Rattle.tml_types.specs.Holding.{plain_of};
+ghost use Rattle.tml_types.specs.Rules.{FirstOf};
 ghost use Rattle.tml_types.specs.Rules as rules;
 ghost use Rattle.tml_types.specs.Values as values;
 ghost use Rattle.tml_types.specs.View.{row_of};
 
-use crate::table::{Form, Row};
+use crate::repeats::is_repeated;
+use crate::table::{Form, Row, rows_of};
 use crate::values::{fits, value_of};
-use tml_span::Attr;
+use std::alloc::Global;
+use tml_span::{Attr, Memory};
+use tml_tree::Tag;
 
 /// A rule that a tag can break, in the order of their numbers, 9 to 12.
 #[derive(Clone, Copy, Debug, PartialEq, Eq)]
@@ -19,9 +24,20 @@ pub enum Rule {
     Conflict,
 }
 
+/// The first rule that a tag breaks, or none.
+pub fn first_rule(alloc: Global, tag: &Tag<'_>) -> Result<Option<Rule>, Memory>
+    ensures { IfOk result (λ o. FirstOf (plain_of tag.now) o) }
+{
+    let attrs = tag.attrs.as_slice();
+    match is_repeated(alloc, attrs) {
+        Ok(repeated) => Ok(first_broken(repeated, rows_of(tag.name), attrs)),
+        Err(Memory) => Err(Memory),
+    }
+}
+
 /// The first of the rules that a tag with these rows and attributes breaks.
 #[tactic(auto, using(named::proofs::Tables::any_map))]
-pub fn first_broken(repeated: bool, rows: &[Row], attrs: &[Attr<'_>]) -> Option<Rule>
+fn first_broken(repeated: bool, rows: &[Row], attrs: &[Attr<'_>]) -> Option<Rule>
     requires { repeated ≡ rules.is_repeated (map attribute_of attrs.now) }
     ensures { result ≡ rules.first_broken (map row_of rows.now) (map attribute_of attrs.now) }
 {

@@ -4,7 +4,7 @@ use net_core::Rel;
 use timex_value::{Modifier, TimexKind, Value};
 
 /// An end of a TLINK: an event instance or a time, by its identifier.
-#[derive(Clone, Copy)]
+#[derive(Clone, Copy, Debug, PartialEq, Eq)]
 pub enum LinkEnd<'s> {
     Instance(&'s [u8]),
     Time(&'s [u8]),
@@ -13,7 +13,7 @@ pub enum LinkEnd<'s> {
 /// A tag that means something, with the value of each attribute that does. `place` is where the tag begins, as a
 /// byte offset from 0. Identifiers and references are slices of the source, of 1 to 64 bytes. What the document
 /// may leave out, or leave empty, is None then.
-#[derive(Clone, Copy)]
+#[derive(Clone, Copy, Debug, PartialEq, Eq)]
 pub enum TypedTag<'s> {
     /// EVENT: `eid` and `class`.
     Event {
@@ -47,7 +47,10 @@ pub enum TypedTag<'s> {
         finish: Option<&'s [u8]>,
     },
     /// SIGNAL: `sid`.
-    Signal { place: u32, sid: &'s [u8] },
+    Signal {
+        place: u32,
+        sid: &'s [u8],
+    },
     /// TLINK: `lid`, `signalID`, `eventInstanceID` or `timeID`, `relType`, and `relatedToEventInstance` or
     /// `relatedToTime`.
     Tlink {

@@ -1,23 +1,44 @@
 //! Typed tags of tags without fault.
-ghost use Rattle.named.specs.Texts.{named_of};
-ghost use Rattle.std.specs.Prelude.{◌≡◌, ◌&&◌, false, Some, codes, map, option_map};
-ghost use Rattle.std.specs.Option.{is_some};
+ghost use Rattle.std.specs.Prelude.{◌≡◌, ◌&&◌, [], ◌∷◌, false, Some, codes, map, option_map};
+ghost use Rattle.std.specs.Option.{option_to_list};
 ghost use Rattle.timex_value.specs.declared.value.Value.TheVariants as value;
 ghost use Rattle.tml_span.specs.View.{attribute_of};
 ghost use Rattle.tml_tree.specs.declared.names.TagName.TheVariants as tag;
-ghost use Rattle.tml_types.specs.Holding.{RowsHold, tag_at};
+ghost use Rattle.tml_types.specs.Holding.{RowsHold, plain_of, tag_at};
 ghost use Rattle.tml_types.specs.Rules.{is_absent, is_unfit};
 ghost use Rattle.tml_types.specs.Table.{rows_of};
 ghost use Rattle.tml_types.specs.Typing.{EndOf, TypedAs};
 ghost use Rattle.tml_types.specs.Values as values;
+ghost use Rattle.tml_types.specs.Whole.{AreTyped};
 
 use crate::typed::{LinkEnd, TypedTag};
 use crate::values::{truth_of, value_of};
 use named::{Named, named_by};
 use timex_value::Value;
 use tml_span::Attr;
+use tml_tree::{Tag, TagName};
 
-pub fn event<'s>(place: u32, attrs: &[Attr<'s>]) -> TypedTag<'s>
+/// The typed tag of a tag without fault. The root and the wrappers have none.
+#[tactic(auto, unfolding(crate::specs::Rules::rows_at))]
+pub fn typed_tag<'s>(tag: &Tag<'s>) -> Option<TypedTag<'s>>
+    requires { RowsHold (map attribute_of tag.now.attrs) (rows_of tag.now.name) }
+    ensures { AreTyped (plain_of tag.now ∷ []) (option_to_list result) }
+{
+    let place = tag.span.start;
+    let attrs = tag.attrs.as_slice();
+    match tag.name {
+        TagName::Event => Some(event(place, attrs)),
+        TagName::MakeInstance => Some(instance(place, attrs)),
+        TagName::Timex3 => Some(timex(place, attrs)),
+        TagName::Signal => Some(signal(place, attrs)),
+        TagName::Tlink => Some(tlink(place, attrs)),
+        TagName::Alink => Some(alink(place, attrs)),
+        TagName::Slink => Some(slink(place, attrs)),
+        _ => None,
+    }
+}
+
+fn event<'s>(place: u32, attrs: &[Attr<'s>]) -> TypedTag<'s>
     requires { RowsHold (map attribute_of attrs.now) (rows_of tag.Event) }
     ensures { TypedAs (tag_at place tag.Event (map attribute_of attrs.now)) result }
 {
@@ -28,7 +49,7 @@ pub fn event<'s>(place: u32, attrs: &[Attr<'s>]) -> TypedTag<'s>
     }
 }
 
-pub fn instance<'s>(place: u32, attrs: &[Attr<'s>]) -> TypedTag<'s>
+fn instance<'s>(place: u32, attrs: &[Attr<'s>]) -> TypedTag<'s>
     requires { RowsHold (map attribute_of attrs.now) (rows_of tag.MakeInstance) }
     ensures { TypedAs (tag_at place tag.MakeInstance (map attribute_of attrs.now)) result }
 {
@@ -44,7 +65,7 @@ pub fn instance<'s>(place: u32, attrs: &[Attr<'s>]) -> TypedTag<'s>
     }
 }
 
-pub fn timex<'s>(place: u32, attrs: &[Attr<'s>]) -> TypedTag<'s>
+fn timex<'s>(place: u32, attrs: &[Attr<'s>]) -> TypedTag<'s>
     requires { RowsHold (map attribute_of attrs.now) (rows_of tag.Timex3) }
     ensures { TypedAs (tag_at place tag.Timex3 (map attribute_of attrs.now)) result }
 {
@@ -62,7 +83,7 @@ pub fn timex<'s>(place: u32, attrs: &[Attr<'s>]) -> TypedTag<'s>
     }
 }
 
-pub fn signal<'s>(place: u32, attrs: &[Attr<'s>]) -> TypedTag<'s>
+fn signal<'s>(place: u32, attrs: &[Attr<'s>]) -> TypedTag<'s>
     requires { RowsHold (map attribute_of attrs.now) (rows_of tag.Signal) }
     ensures { TypedAs (tag_at place tag.Signal (map attribute_of attrs.now)) result }
 {
@@ -72,7 +93,7 @@ pub fn signal<'s>(place: u32, attrs: &[Attr<'s>]) -> TypedTag<'s>
     }
 }
 
-pub fn tlink<'s>(place: u32, attrs: &[Attr<'s>]) -> TypedTag<'s>
+fn tlink<'s>(place: u32, attrs: &[Attr<'s>]) -> TypedTag<'s>
     requires { RowsHold (map attribute_of attrs.now) (rows_of tag.Tlink) }
     ensures { TypedAs (tag_at place tag.Tlink (map attribute_of attrs.now)) result }
 {
@@ -86,7 +107,7 @@ pub fn tlink<'s>(place: u32, attrs: &[Attr<'s>]) -> TypedTag<'s>
     }
 }
 
-pub fn alink<'s>(place: u32, attrs: &[Attr<'s>]) -> TypedTag<'s>
+fn alink<'s>(place: u32, attrs: &[Attr<'s>]) -> TypedTag<'s>
     requires { RowsHold (map attribute_of attrs.now) (rows_of tag.Alink) }
     ensures { TypedAs (tag_at place tag.Alink (map attribute_of attrs.now)) result }
 {
@@ -100,7 +121,7 @@ pub fn alink<'s>(place: u32, attrs: &[Attr<'s>]) -> TypedTag<'s>
     }
 }
 
-pub fn slink<'s>(place: u32, attrs: &[Attr<'s>]) -> TypedTag<'s>
+fn slink<'s>(place: u32, attrs: &[Attr<'s>]) -> TypedTag<'s>
     requires { RowsHold (map attribute_of attrs.now) (rows_of tag.Slink) }
     ensures { TypedAs (tag_at place tag.Slink (map attribute_of attrs.now)) result }
 {

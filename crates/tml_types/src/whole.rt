@@ -1,25 +1,19 @@
 //! The typed tags of a document.
-ghost use Rattle.std.specs.Option.{option_to_list};
-ghost use Rattle.std.specs.Prelude.{◌≡◌, [], ◌∷◌, Some, map, IfOk, IfErr, OnOk};
-ghost use Rattle.tml_span.specs.View.{attribute_of};
+ghost use Rattle.std.specs.Prelude.{◌≡◌, [], ◌∷◌, Some, IfOk, IfErr, OnOk};
 ghost use Rattle.tml_tree.specs.Plain.{PlainNode};
 ghost use Rattle.tml_tree.specs.View.{node_of, tag_node};
 ghost use Rattle.tml_tree.specs.Walking.{elements};
 ghost use Rattle.tml_tree.specs.Whole.{IsTreeOf};
-ghost use Rattle.tml_types.specs.Holding.{RowsHold, plain_of};
-ghost use Rattle.tml_types.specs.Rules.{FirstOf};
-ghost use Rattle.tml_types.specs.Table as table;
-ghost use Rattle.tml_types.specs.Whole.{Adds, AreTyped, HasFault, Types, told};
+ghost use Rattle.tml_types.specs.Holding.{plain_of};
+ghost use Rattle.tml_types.specs.Whole.{Adds, HasFault, Types, told};
 
-use crate::repeats::is_repeated;
-use crate::rules::{Rule, first_broken};
-use crate::table::rows_of;
+use crate::rules::{Rule, first_rule};
 use crate::typed::TypedTag;
-use crate::typing::{alink, event, instance, signal, slink, timex, tlink};
+use crate::typing::typed_tag;
 use std::alloc::Global;
 use std::marker::Model;
-use tml_span::{List, Memory};
-use tml_tree::{Node, Tag, TagName, TagTree};
+use tml_span::List;
+use tml_tree::{Node, Tag, TagTree};
 
 /// The tags of a document that mean something, typed, in document order.
 #[derive(Drop)]
@@ -137,17 +131,6 @@ fn type_one<'s>(
     Ok(())
 }
 
-/// The first rule that a tag breaks, or none.
-fn first_rule(alloc: Global, tag: &Tag<'_>) -> Result<Option<Rule>, Memory>
-    ensures { IfOk result (λ o. FirstOf (plain_of tag.now) o) }
-{
-    let attrs = tag.attrs.as_slice();
-    match is_repeated(alloc, attrs) {
-        Ok(repeated) => Ok(first_broken(repeated, rows_of(tag.name), attrs)),
-        Err(Memory) => Err(Memory),
-    }
-}
-
 fn fault_at(rule: Rule, place: u32) -> TypeFault
     ensures { told result ≡ Some (place, rule) }
 {
@@ -156,25 +139,5 @@ fn fault_at(rule: Rule, place: u32) -> TypeFault
         Rule::MissingAttribute => TypeFault::MissingAttribute { place },
         Rule::BadValue => TypeFault::BadValue { place },
         Rule::Conflict => TypeFault::Conflict { place },
-    }
-}
-
-/// The typed tag of a tag without fault. The root and the wrappers have none.
-#[tactic(auto, unfolding(crate::specs::Rules::rows_at))]
-fn typed_tag<'s>(tag: &Tag<'s>) -> Option<TypedTag<'s>>
-    requires { RowsHold (map attribute_of tag.now.attrs) (table.rows_of tag.now.name) }
-    ensures { AreTyped (plain_of tag.now ∷ []) (option_to_list result) }
-{
-    let place = tag.span.start;
-    let attrs = tag.attrs.as_slice();
-    match tag.name {
-        TagName::Event => Some(event(place, attrs)),
-        TagName::MakeInstance => Some(instance(place, attrs)),
-        TagName::Timex3 => Some(timex(place, attrs)),
-        TagName::Signal => Some(signal(place, attrs)),
-        TagName::Tlink => Some(tlink(place, attrs)),
-        TagName::Alink => Some(alink(place, attrs)),
-        TagName::Slink => Some(slink(place, attrs)),
-        _ => None,
     }
 }

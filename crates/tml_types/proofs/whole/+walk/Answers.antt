@@ -21,7 +21,8 @@ type_tag-returns-in-Err-type_node-clause-err t c =
 pub type_tag-loop-child-preserved : goal.type_tag-loop-child-preserved
 type_tag-loop-child-preserved t c =
     let at = c.loop-child.invariant in
-    let inside = elements (node_of c.child-item.result) in
-    (at.0 ++ inside,
-     next_child at.0 c.deref-child-items.result.now c.loop-child.child-index c.child-item.result _ c.loop-child-test.true c.child-item.is at.1,
-     adds_more at.0 inside _ _ _ at.2 c.in_default-type_node.ensures.ok)
+    let inside = elements (node_of c.child-item.result) in (
+      at.0 ++ inside,
+      next_child at.0 c.deref-child-items.result.now c.loop-child.child-index c.child-item.result _ c.loop-child-test.true c.child-item.is at.1,
+      adds_more at.0 inside _ _ _ at.2 c.in_default-type_node.ensures.ok,
+    )

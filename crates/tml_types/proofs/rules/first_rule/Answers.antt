@@ -5,7 +5,7 @@ use Rattle.tml_types.specs.Holding.{plain_of}
 use Rattle.tml_types.specs.Rules.{first_broken}
 use Rattle.tml_types.specs.Table.{Row}
 use Rattle.tml_types.proofs.FirstRules.{first_told, rows_known}
-use Rattle.tml_types.proofs.whole.first_rule.Goals as goal
+use Rattle.tml_types.proofs.rules.first_rule.Goals as goal
 
 pub returns-in-Ok : goal.returns-in-Ok
 returns-in-Ok c =
