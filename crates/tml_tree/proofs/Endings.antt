@@ -1,5 +1,5 @@
 -- An end tag taken, and one refused.
-use Rattle.std.proofs.Common.{◌≡◌, ℕ, Bool, true, false, not, List, [], ◌∷◌, ◌++◌, refl, sym, ap, ◌∙◌, Some}
+use Rattle.std.proofs.Common.{◌≡◌, ℕ, true, List, [], ◌∷◌, ◌++◌, refl, ap, ◌∙◌, Some}
 use Rattle.std.specs.Str.{bytes_eq}
 use Rattle.tml_tree.specs.declared.builder.Frame.{Frame}
 use Rattle.tml_tree.specs.Names.{text_of}
@@ -9,14 +9,6 @@ use Rattle.tml_tree.specs.Rules.{is_innermost}
 use Rattle.tml_tree.specs.Stage.{closed}
 use Rattle.tml_tree.specs.View.{names_of, tag_of, tags_of}
 use Rattle.tml_tree.proofs.Stacks.{names_more, tags_more}
-
-not_not : (b : Bool) → not (not b) ≡ b
-not_not true = refl
-not_not false = refl
-
--- what a test that two names differ tells
-pub differs : (read text name : List ℕ) (test known : Bool) → test ≡ not (bytes_eq read name) → read ≡ text → test ≡ known → bytes_eq text name ≡ not known
-differs read text name test known t r k = ap (λ (x : List ℕ). bytes_eq x name) (sym r) ∙ sym (not_not (bytes_eq read name)) ∙ ap not (sym t ∙ k)
 
 pub innermost_is : (frames rest : List Frame) (f : Frame) (name : List ℕ) → frames ≡ rest ++ f ∷ [] → is_innermost name (names_of frames) ≡ bytes_eq (text_of f.name) name
 innermost_is frames rest f name e = ap (λ (fs : List Frame). is_innermost name (names_of fs)) e ∙ ap (λ (ns : List (List ℕ)). is_innermost name ns) (names_more rest f)

@@ -39,18 +39,18 @@ pub record History : Type 0 where
 
 -- a start or empty tag inside a link tag, a first tag other than TimeML, any after the root was closed, and TimeML inside the root
 abbrev pub is_misplaced_tag : History → List ℕ → Bool
-is_misplaced_tag s name = list_any is_link s.names || not s.tagged && not (is_root name) || s.seen || not (is_nil s.names) && is_root name
+is_misplaced_tag h name = list_any is_link h.names || not h.tagged && not (is_root name) || h.seen || not (is_nil h.names) && is_root name
 
 -- outside the root and inside a link tag stands white space alone
 abbrev pub is_misplaced_text : History → List ℕ → Bool
-is_misplaced_text s bytes = not (list_all is_white bytes) && (is_nil s.names || list_any is_link s.names)
+is_misplaced_text h bytes = not (list_all is_white bytes) && (is_nil h.names || list_any is_link h.names)
 
 -- the first rule that applies to a start or empty tag
 abbrev pub tag_rule : History → List ℕ → Option Rule
-tag_rule s name =
+tag_rule h name =
     if not (is_known name) then Some UnknownTag
-    else if is_misplaced_tag s name then Some Misplaced
-    else if nat_le 32 (length s.names) then Some TooDeep
+    else if is_misplaced_tag h name then Some Misplaced
+    else if nat_le 32 (length h.names) then Some TooDeep
     else None
 
 abbrev pub misplaced_if : Bool → Option Rule
@@ -58,15 +58,15 @@ misplaced_if b = if b then Some Misplaced else None
 
 -- the first rule that applies to a unit
 abbrev pub unit_rule : History → PlainUnit → Option Rule
-unit_rule s u = elim u.kind [
+unit_rule h u = elim u.kind [
   | bom ↦ None
-  | declaration b ↦ misplaced_if s.begun
-  | doctype b ↦ misplaced_if (s.tagged || s.doctyped)
+  | declaration b ↦ misplaced_if h.begun
+  | doctype b ↦ misplaced_if (h.tagged || h.doctyped)
   | comment b ↦ None
-  | text b ↦ misplaced_if (is_misplaced_text s b)
-  | start_tag name attrs ↦ tag_rule s name
-  | empty_tag name attrs ↦ tag_rule s name
-  | end_tag name ↦ if is_innermost name s.names then None else Some Unbalanced
+  | text b ↦ misplaced_if (is_misplaced_text h b)
+  | start_tag name attrs ↦ tag_rule h name
+  | empty_tag name attrs ↦ tag_rule h name
+  | end_tag name ↦ if is_innermost name h.names then None else Some Unbalanced
 ]
 
 -- what the rules ask about these units

@@ -12,7 +12,7 @@ ghost use Rattle.tml_tree.specs.Roots.{EndsIn};
 ghost use Rattle.tml_tree.specs.Taking.{Takes, Refuses, Stands, TagRule, history_of};
 ghost use Rattle.tml_tree.specs.View.{node_of, tag_node};
 
-use crate::rules::{MOST_OPEN, Rule, in_link, is_blank};
+use crate::rules::{MOST_OPEN, Rule, in_link, is_blank, is_name_of};
 use crate::{Node, Tag, TagName};
 use named::named_by;
 use std::alloc::Global;
@@ -254,7 +254,7 @@ impl<'s> Builder<'s> {
         let Some(frame) = self.frames.pop() else {
             return Err(Stop::Broken(Rule::Unbalanced));
         };
-        if frame.name.text() != name {
+        if !is_name_of(frame.name, name) {
             return Err(Stop::Broken(Rule::Unbalanced));
         }
         let children = mem::replace(&mut self.nodes, frame.before);

@@ -5,7 +5,7 @@ ghost use Rattle.tml_tree.specs.Names as names;
 
 use named::Named;
 
-/// A known tag. The first eight are those of TimeML that mean something here, and the others, which corpora
+/// A known tag. The first eight are those of TimeML 1.2.1 that mean something here, and the others, which corpora
 /// wrap their texts in, are carried.
 #[derive(Clone, Copy, Debug, PartialEq, Eq)]
 pub enum TagName {

@@ -1,6 +1,7 @@
 //! The rules of a unit behind the units before it.
-ghost use Rattle.std.specs.Prelude.{◌≡◌, ◌||◌, ◌&&◌, not, map, option_map};
+ghost use Rattle.std.specs.Prelude.{◌≡◌};
 ghost use Rattle.std.specs.List.{list_any, list_all};
+ghost use Rattle.std.specs.Str.{bytes_eq};
 ghost use Rattle.tml_span.specs.Bytes.{is_white};
 ghost use Rattle.tml_tree.specs.Names as names;
 ghost use Rattle.tml_tree.specs.View as view;
@@ -25,6 +26,13 @@ pub fn is_blank(text: &[u8]) -> bool
     ensures { result ≡ list_all is_white text.now }
 {
     text.iter().all(|b| *b == b' ' || *b == b'\t' || *b == b'\r' || *b == b'\n')
+}
+
+/// The name is that of the tag.
+pub fn is_name_of(tag: TagName, name: &[u8]) -> bool
+    ensures { result ≡ bytes_eq (names.text_of tag) name.now }
+{
+    tag.text() == name
 }
 
 /// A tag inside which no tag stands, and no text but white space.

@@ -2,19 +2,19 @@ use Rattle.std.proofs.Common.{◌≡◌, true, false, [], ◌∷◌, ◌++◌, r
 use Rattle.std.specs.Str.{bytes_eq}
 use Rattle.std.proofs.lemmas.Grind.{common_steps}
 use Rattle.tml_tree.specs.Names.{text_of}
-use Rattle.tml_tree.proofs.Endings.{differs, innermost_is, closed_is}
+use Rattle.tml_tree.proofs.Endings.{innermost_is, closed_is}
 use Rattle.tml_tree.proofs.builder.Builder.end.Goals as goal
 
-pub returns-then-ne-clause-err : goal.returns-then-ne-clause-err
-returns-then-ne-clause-err c =
+pub returns-then-not-is_name_of-clause-err : goal.returns-then-not-is_name_of-clause-err
+returns-then-not-is_name_of-clause-err c =
     let old : c.args.self.now.frames.items ≡ c.pop.new.self.items ++ c.in-Some.frame ∷ [] = grind (arith, common_steps) in
-    let other : bytes_eq (text_of c.in-Some.frame.name) c.args.name.now ≡ false = differs c.text.result.now _ _ c.ne.result true c.ne.ensures c.text.ensures c.if-ne.true in
+    let other : bytes_eq (text_of c.in-Some.frame.name) c.args.name.now ≡ false = cc in
     rw (innermost_is _ _ _ c.args.name.now old, other) refl
 
 pub returns-clause-ok : goal.returns-clause-ok
 returns-clause-ok c =
     let old : c.args.self.now.frames.items ≡ c.pop.new.self.items ++ c.in-Some.frame ∷ [] = grind (arith, common_steps) in
-    let same : bytes_eq (text_of c.in-Some.frame.name) c.args.name.now ≡ true = differs c.text.result.now _ _ c.ne.result false c.ne.ensures c.text.ensures c.if-ne.false in
+    let same : bytes_eq (text_of c.in-Some.frame.name) c.args.name.now ≡ true = cc in
     record {
       lawful = rw (innermost_is _ _ _ c.args.name.now old, same) refl;
       step = closed_is _ _ _ _ _ _ _ old same (grind (arith, common_steps));
