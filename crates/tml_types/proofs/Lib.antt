@@ -3,3 +3,4 @@ pub mod NamedValues
 pub mod RepeatedNames
 pub mod SeenNames
 pub mod Walks
+pub mod Rising

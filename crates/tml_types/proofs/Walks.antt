@@ -13,6 +13,7 @@ use Rattle.tml_types.specs.declared.rules.Rule.{Rule}
 use Rattle.tml_types.specs.declared.typed.TypedTag.{TypedTag}
 use Rattle.tml_types.specs.declared.whole.TypeFault.{TypeFault}
 use Rattle.tml_types.specs.Holding.{plain_of}
+use Rattle.tml_types.specs.Places.{Fits}
 use Rattle.tml_types.specs.Rules.{IsSound}
 use Rattle.tml_types.specs.Typing.{TypedAs}
 use Rattle.tml_types.specs.Whole.{has_rows, Types, FaultAt, told, HasFault, Adds}
@@ -31,7 +32,8 @@ types_append tags others ts us h k = record {
 
 -- the typed tags of more tags behind those of some
 pub adds_more : (tags others : List PlainTag) (a b c : List TypedTag) → Adds tags a b → Adds others b c → Adds (tags ++ others) a c
-adds_more tags others a b c h k = (h.0 ++ k.0, types_append tags others h.0 k.0 h.1 k.1, k.2 ∙ ap (λ (ts : List TypedTag). ts ++ k.0) h.2 ∙ append_assoc a h.0 k.0)
+adds_more tags others a b c h k =
+    (h.0 ++ k.0, types_append tags others h.0 k.0 h.1 k.1, All-append Fits h.0 k.0 h.2 k.2, k.3 ∙ ap (λ (ts : List TypedTag). ts ++ k.0) h.3 ∙ append_assoc a h.0 k.0)
 
 fault_within : (before tags after : List PlainTag) (place : ℕ) (rule : Rule) → All IsSound before → FaultAt tags place rule → FaultAt (before ++ tags ++ after) place rule
 fault_within before tags after place rule sound f = record {

@@ -1,5 +1,6 @@
 pub mod Holding
 pub mod Names
+pub mod Places
 pub mod Rules
 pub mod Seen
 pub mod Table

@@ -7,6 +7,7 @@ use Rattle.tml_types.specs.declared.rules.Rule.TheVariants as rules
 use Rattle.tml_types.specs.declared.whole.TypeFault.{TypeFault}
 use Rattle.tml_types.specs.declared.whole.TypeFault.TheVariants as faults
 use Rattle.tml_types.specs.declared.typed.TypedTag.{TypedTag}
+use Rattle.tml_types.specs.Places.{Fits}
 use Rattle.tml_types.specs.Rules.{IsFirst, IsSound, rows_at}
 use Rattle.tml_types.specs.Typing.{TypedAs}
 
@@ -47,4 +48,4 @@ HasFault tags fault = IfSome (told fault) (λ (f : ℕ × Rule). FaultAt tags f.
 
 -- the typed tags of some tags are added, and none of these has a fault
 abbrev pub Adds : List PlainTag → List TypedTag → List TypedTag → Type 0
-Adds tags old new = (more : List TypedTag) × Types tags more × (new ≡ old ++ more)
+Adds tags old new = (more : List TypedTag) × Types tags more × All Fits more × (new ≡ old ++ more)

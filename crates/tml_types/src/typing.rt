@@ -1,10 +1,11 @@
 //! Typed tags of tags without fault.
-ghost use Rattle.std.specs.Prelude.{◌≡◌, ◌&&◌, [], ◌∷◌, false, Some, codes, map, option_map};
+ghost use Rattle.std.specs.Prelude.{◌≡◌, ◌&&◌, [], ◌∷◌, IfSome, false, Some, codes, map, option_map};
 ghost use Rattle.std.specs.Option.{option_to_list};
 ghost use Rattle.timex_value.specs.declared.value.Value.TheVariants as value;
 ghost use Rattle.tml_span.specs.View.{attribute_of};
 ghost use Rattle.tml_tree.specs.declared.names.TagName.TheVariants as tag;
 ghost use Rattle.tml_types.specs.Holding.{RowsHold, plain_of, tag_at};
+ghost use Rattle.tml_types.specs.Places.{Fits};
 ghost use Rattle.tml_types.specs.Rules.{is_absent, is_unfit};
 ghost use Rattle.tml_types.specs.Table.{rows_of};
 ghost use Rattle.tml_types.specs.Typing.{EndOf, TypedAs};
@@ -19,10 +20,11 @@ use tml_span::Attr;
 use tml_tree::{Tag, TagName};
 
 /// The typed tag of a tag without fault. The root and the wrappers have none.
-#[tactic(auto, unfolding(crate::specs::Rules::rows_at))]
+#[tactic(auto, using(crate::proofs::Rising::typed_place), unfolding(crate::specs::Rules::rows_at))]
 pub fn typed_tag<'s>(tag: &Tag<'s>) -> Option<TypedTag<'s>>
     requires { RowsHold (map attribute_of tag.now.attrs) (rows_of tag.now.name) }
-    ensures { AreTyped (plain_of tag.now ∷ []) (option_to_list result) }
+    ensures typed { AreTyped (plain_of tag.now ∷ []) (option_to_list result) }
+    ensures fits { IfSome result Fits }
 {
     let place = tag.span.start;
     let attrs = tag.attrs.as_slice();

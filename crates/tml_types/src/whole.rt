@@ -15,7 +15,8 @@ use std::marker::Model;
 use tml_span::List;
 use tml_tree::{Node, Tag, TagTree};
 
-/// The tags of a document that mean something, typed, in document order.
+/// The tags of a document that mean something, typed, in document order. Their places rise strictly, and there are
+/// fewer than 2^32 of them.
 #[derive(Drop)]
 pub struct Typed<'s> {
     tags: List<TypedTag<'s>>,
@@ -24,16 +25,22 @@ pub struct Typed<'s> {
 impl<'s> Model for Typed<'s> {
     ghost use Rattle.std.specs.Prelude.{List as ListOf};
     ghost use Rattle.tml_types.specs.declared.typed.TypedTag.{TypedTag};
+    ghost use Rattle.tml_types.specs.Places.{IsPlaced};
 
     ghost Value = { ListOf TypedTag };
 
     ghost view = { λ a. a.tags };
+
+    ghost invariant = { λ a. IsPlaced a.tags };
 }
 
 impl<'s> Typed<'s> {
+    ghost use Rattle.tml_types.specs.Places.{IsPlaced};
+
     /// The typed tags, in document order.
     pub fn as_slice(&self) -> &[TypedTag<'s>]
-        ensures { result.now ≡ self.now }
+        ensures tags { result.now ≡ self.now }
+        ensures placed { IsPlaced self.now }
     {
         self.tags.as_slice()
     }

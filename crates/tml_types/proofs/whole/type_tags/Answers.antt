@@ -1,4 +1,5 @@
 use Rattle.tml_tree.specs.View.{tag_node}
+use Rattle.tml_types.proofs.Rising.{tree_placed}
 use Rattle.tml_types.proofs.whole.type_tags.Goals as goal
 
 pub returns-in-Err-clause-err : goal.returns-in-Err-clause-err
@@ -7,4 +8,9 @@ returns-in-Err-clause-err c = (tag_node c.root.result.now, c.root.ensures, c.in-
 pub returns-clause-ok : goal.returns-clause-ok
 returns-clause-ok c =
     let added = c.in_default.ensures.ok in
-    (tag_node c.root.result.now, c.root.ensures, rw (added.2, c.new-typed.ensures) added.1)
+    (tag_node c.root.result.now, c.root.ensures, rw (added.3, c.new-typed.ensures) added.1)
+
+pub invariant_of-result : goal.invariant_of-result
+invariant_of-result c =
+    let added = c.in_default.ensures.ok in
+    rw (added.3, c.new-typed.ensures) (tree_placed c.args.tree.now _ added.0 c.root.ensures added.1.fields added.2)
