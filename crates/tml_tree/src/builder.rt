@@ -1,5 +1,5 @@
 //! Builds a tree from one unit after another.
-ghost use Rattle.std.specs.Prelude.{◌≡◌, [], List as ListOf, map, OnOk, IfErr, MatchOption, IfSome, IsNone};
+ghost use Rattle.std.specs.Prelude.{◌≡◌, ◌++◌, [], ◌∷◌, List as ListOf, map, OnOk, IfErr, MatchOption, IfSome, IsNone};
 ghost use Rattle.std.specs.List.{filter};
 ghost use Rattle.tml_span.specs.Units as units;
 ghost use Rattle.tml_span.specs.View.{attribute_of, unit_of};
@@ -15,7 +15,7 @@ ghost use Rattle.tml_tree.specs.View.{node_of, tag_node};
 use crate::rules::{MOST_OPEN, Rule, in_link, is_blank, is_name_of};
 use crate::{Node, Tag, TagName};
 use named::named_by;
-use std::alloc::Global;
+use std::alloc::{AllocError, Global};
 use std::mem;
 use tml_span::{Attr, List, Span, Unit};
 
@@ -61,6 +61,17 @@ fn make_element<'s>(
         attrs,
         children,
     })
+}
+
+/// Adds a node behind the others. A first one gets room for itself alone, since most elements have one child.
+fn push_node<'s>(nodes: &mut Vec<Node<'s>>, node: Node<'s>) -> Result<(), AllocError>
+    ensures { OnOk result (nodes.new.items ≡ nodes.old.items ++ node.entry ∷ []) }
+{
+    if nodes.is_empty() {
+        nodes.reserve_exact(1)?;
+    }
+    nodes.push(node)?;
+    Ok(())
 }
 
 /// The last element of nodes.
@@ -146,7 +157,7 @@ impl<'s> Builder<'s> {
         ensures ok { OnOk result (Takes self.old (unit span.start span.end (units.comment text.now)) self.new) }
         ensures err { IfErr result (λ e. Refuses self.old (unit span.start span.end (units.comment text.now)) e) }
     {
-        if self.nodes.push(Node::Comment { span, text }).is_err() {
+        if push_node(&mut self.nodes, Node::Comment { span, text }).is_err() {
             return Err(Stop::Memory);
         }
         self.begun = true;
@@ -160,7 +171,7 @@ impl<'s> Builder<'s> {
         if !is_blank(text) && (self.frames.is_empty() || in_link(self.frames.as_slice())) {
             return Err(Stop::Broken(Rule::Misplaced));
         }
-        if self.nodes.push(Node::Text { span, text }).is_err() {
+        if push_node(&mut self.nodes, Node::Text { span, text }).is_err() {
             return Err(Stop::Memory);
         }
         self.begun = true;
@@ -238,7 +249,7 @@ impl<'s> Builder<'s> {
             Err(rule) => return Err(Stop::Broken(rule)),
         };
         let node = make_element(span, name, attrs, Vec::new(alloc));
-        if self.nodes.push(node).is_err() {
+        if push_node(&mut self.nodes, node).is_err() {
             return Err(Stop::Memory);
         }
         self.begun = true;
@@ -263,7 +274,7 @@ impl<'s> Builder<'s> {
             end: span.end,
         };
         let node = make_element(whole, frame.name, frame.attrs, children);
-        if self.nodes.push(node).is_err() {
+        if push_node(&mut self.nodes, node).is_err() {
             return Err(Stop::Memory);
         }
         self.begun = true;

@@ -1,12 +1,12 @@
 #!/usr/bin/env python3
-"""Measures `tml spans` beside `xmllint --noout --huge` on documents of one, two and four MiB.
+"""Measures the commands of `tml` beside `xmllint --noout --huge` on documents of one, two and four MiB.
 
-Prints, for each document and size, the least wall time of five runs of `tml spans` and its peak memory, the
+Prints, for each command, document and size, the least wall time of five runs of `tml` and its peak memory, the
 least wall time of xmllint on the same file, and the ratio of the two times. Where xmllint (Debian's
 libxml2-utils) or GNU time (Debian's time) is missing, its columns stay empty. A run of xmllint that takes
 longer than LIMIT seconds is stopped. Build the program first, as README.md says.
 
-usage: bench/spans.py [PROGRAM]        (PROGRAM is crates/tml/out/tml if left out)
+usage: bench/measure.py [PROGRAM]       (PROGRAM is crates/tml/out/tml if left out)
 """
 
 import itertools
@@ -23,7 +23,8 @@ RUNS = 5
 LIMIT = 10.0
 NULL = subprocess.DEVNULL
 
-FRONT, BACK = b"<a>", b"</a>"
+FRONT, BACK = b"<TimeML>", b"</TimeML>"
+DEPTH = 32
 
 
 def filled(piece, size):
@@ -39,14 +40,14 @@ def one_text(size):
 
 
 def shortest_tags(size):
-    return filled(b"<a></a>", size)
+    return filled(b"<s></s>", size)
 
 
 def one_tag(size):
     """One start tag with as many attributes as fit, each with a name of its own."""
     letters = string.ascii_letters + "_"
     names = ("".join(t) for n in itertools.count(1) for t in itertools.product(letters, repeat=n))
-    parts, room = [b"<a"], size - len(b"<a></a>")
+    parts, room = [FRONT[:-1]], size - len(FRONT) - len(BACK)
     for name in names:
         part = b' %s=""' % name.encode()
         if len(part) > room:
@@ -60,7 +61,16 @@ def comments_and_references(size):
     return filled(b"<!---->&lt;", size)
 
 
-DOCUMENTS = [one_text, shortest_tags, one_tag, comments_and_references]
+def deepest_nesting(size):
+    return filled(b"<s>" * (DEPTH - 1) + b"</s>" * (DEPTH - 1), size)
+
+
+def events(size):
+    return filled(b'<EVENT eid="e" class="STATE"/>', size)
+
+
+ROWS = [("spans", make) for make in (one_text, shortest_tags, one_tag, comments_and_references)]
+ROWS += [("check", make) for make in (one_text, deepest_nesting, shortest_tags, one_tag, events)]
 
 
 def run(words):
@@ -100,14 +110,14 @@ def main():
     here = os.path.dirname(os.path.abspath(__file__))
     program = sys.argv[1] if len(sys.argv) > 1 else os.path.join(here, "..", "crates", "tml", "out", "tml")
     xmllint = shutil.which("xmllint")
-    print(f"{'document':24} {'MiB':>3} {'tml ms':>8} {'KiB':>7} {'B/byte':>6} {'xmllint ms':>10} {'ratio':>5}")
+    print(f"{'words':6} {'document':24} {'MiB':>3} {'tml ms':>8} {'KiB':>7} {'B/byte':>6} {'xmllint ms':>10} {'ratio':>5}")
     with tempfile.TemporaryDirectory() as folder:
         path = os.path.join(folder, "document")
-        for make in DOCUMENTS:
+        for command, make in ROWS:
             for size in (1, 2, 4):
                 with open(path, "wb") as file:
                     file.write(make(size * MIB))
-                words = [program, "spans", path]
+                words = [program, command, path]
                 ours, memory, theirs, ratio = least(words), peak_memory(words), None, None
                 if ours is None:
                     sys.exit(f"{program} took longer than {LIMIT} s")
@@ -118,7 +128,7 @@ def main():
                     ratio = None if theirs is None else ours / theirs
                 per_byte = None if memory is None else memory / (size * 1024)
                 print(
-                    f"{make.__name__:24} {size:3} {ours * 1e3:8.1f} {shown(memory, '7')} "
+                    f"{command:6} {make.__name__:24} {size:3} {ours * 1e3:8.1f} {shown(memory, '7')} "
                     f"{shown(per_byte, '6.1f')} {told:>10} {shown(ratio, '5.2f')}",
                     flush=True,
                 )
