@@ -12,8 +12,7 @@ use crate::faults::{cut_fault, refusal, tree_fault, type_fault};
 use crate::reply::{Reply, Text};
 use crate::table::push_numbered;
 use std::alloc::{AllocError, Global};
-use tml_span::units;
-use tml_tree::tree;
+use tml_tree::{SourceFault, tree_of};
 use tml_types::{TypedTag, type_tags};
 
 /// How many tags of each kind the document has, or its first fault by the cut, the tree and the types.
@@ -21,13 +20,10 @@ pub fn check(alloc: Global, doc: &[u8]) -> Reply
     requires { length doc.now ≤ doc_limit }
     ensures { RepliesOver questions.Check doc.now result.status (text_of result.text) }
 {
-    let units = match units(alloc, doc) {
-        Ok(units) => units,
-        Err(fault) => return refusal(alloc, cut_fault(fault)),
-    };
-    let tree = match tree(alloc, units) {
+    let tree = match tree_of(alloc, doc) {
         Ok(tree) => tree,
-        Err(fault) => return refusal(alloc, tree_fault(fault)),
+        Err(SourceFault::Cut(fault)) => return refusal(alloc, cut_fault(fault)),
+        Err(SourceFault::Tree(fault)) => return refusal(alloc, tree_fault(fault)),
     };
     let typed = match type_tags(alloc, &tree) {
         Ok(typed) => typed,

@@ -1,10 +1,11 @@
-pub mod Running
+pub mod Endings
+pub mod Faults
+pub mod Known
+pub mod LastUnits
 pub mod Paths
+pub mod Pulling
 pub mod Rows
+pub mod Running
 pub mod Stacks
 pub mod Standing
 pub mod Walks
-pub mod LastUnits
-pub mod Known
-pub mod Endings
-pub mod Faults

@@ -3,6 +3,9 @@ use Rattle.std.specs.Prelude.{◌≡◌, ℕ, List, length, ⊤}
 use Rattle.tml_span.specs.Units.{PlainUnit}
 use Rattle.tml_span.specs.Whole.{Cutting, IsWhole}
 use Rattle.tml_tree.specs.declared.rules.Rule.TheVariants.{UnknownTag, Unbalanced, Misplaced, TooDeep}
+use Rattle.tml_span.specs.Faults.{HasFault as HasCutFault}
+use Rattle.tml_tree.specs.declared.pulled.SourceFault.{SourceFault}
+use Rattle.tml_tree.specs.declared.pulled.SourceFault.TheVariants.{Cut, Tree}
 use Rattle.tml_tree.specs.declared.whole.TreeFault.{TreeFault}
 use Rattle.tml_tree.specs.declared.whole.TreeFault.TheVariants as faults
 use Rattle.tml_tree.specs.Plain.{PlainNode}
@@ -28,3 +31,8 @@ FaultOf end us faults.Memory = ⊤
 -- the same of a source with its units
 abbrev pub HasFault : Cutting → TreeFault → Type 0
 HasFault c fault = FaultOf (length c.source) c.units fault
+
+-- why a source has no tree: the fault of its cut, or where it has none that of its units
+abbrev pub HasSourceFault : List ℕ → SourceFault → Type 0
+HasSourceFault source (Cut fault) = HasCutFault source fault
+HasSourceFault source (Tree fault) = (cut : Cutting) × (cut.source ≡ source) × IsWhole cut × HasFault cut fault

@@ -5,6 +5,7 @@ mod builder;
 mod laws;
 mod names;
 mod node;
+mod pulled;
 mod rules;
 mod tag_tree;
 #[cfg(test)]
@@ -15,6 +16,7 @@ mod whole;
 pub use laws::{last_unit, one_answer, one_path, one_tree, one_tree_of_source};
 pub use names::TagName;
 pub use node::{Node, Tag};
-pub use tag_tree::{TagTree, tree};
+pub use pulled::SourceFault;
+pub use tag_tree::{TagTree, tree, tree_of};
 pub use walk::{collect, collect_tags, elements_of};
 pub use whole::TreeFault;

@@ -1,7 +1,8 @@
 //! A tree with its source.
-ghost use Rattle.std.specs.Prelude.{◌≡◌, IfOk, IfErr};
-ghost use Rattle.tml_tree.specs.Whole.{IsTreeOf, HasFault};
+ghost use Rattle.std.specs.Prelude.{◌≡◌, ◌<◌, ◌^◌, length, IfOk, IfErr};
+ghost use Rattle.tml_tree.specs.Whole.{IsTreeOf, HasFault, HasSourceFault};
 
+use crate::pulled::{SourceFault, root_of_source};
 use crate::whole::root;
 use crate::{Tag, TreeFault};
 use std::alloc::Global;
@@ -43,6 +44,21 @@ impl<'s> TagTree<'s> {
     {
         self.source
     }
+}
+
+/// Cuts a document and nests its units, which are pulled one by one: no list of them is kept. The document has
+/// fewer than 2^32 bytes.
+///
+/// # Errors
+///
+/// The fault of the cut, or where it has none the fault of `tree` over the units of the document.
+pub fn tree_of<'s>(alloc: Global, source: &'s [u8]) -> Result<TagTree<'s>, SourceFault>
+    requires { length source.now < 2 ^ 32 }
+    ensures source { IfOk result (λ t. t ≡ source.now) }
+    ensures fault { IfErr result (λ e. HasSourceFault source.now e) }
+{
+    let root = root_of_source(alloc, source)?;
+    Ok(TagTree { source, root })
 }
 
 /// Nests the units of a document. They are consumed on every answer.

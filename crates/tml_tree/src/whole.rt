@@ -33,7 +33,7 @@ pub enum TreeFault {
     Memory,
 }
 
-fn fault_at(stop: Stop, place: u32) -> TreeFault
+pub fn fault_at(stop: Stop, place: u32) -> TreeFault
     ensures { BreaksAs stop place result }
 {
     match stop {
@@ -45,7 +45,7 @@ fn fault_at(stop: Stop, place: u32) -> TreeFault
     }
 }
 
-fn span_of(unit: &Unit<'_>) -> Span
+pub fn span_of(unit: &Unit<'_>) -> Span
     ensures start { result.start ≡ (unit_of unit.now).start }
     ensures end { result.end ≡ (unit_of unit.now).end }
 {

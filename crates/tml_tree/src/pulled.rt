@@ -1,0 +1,65 @@
+//! The root of a source whose units are pulled one by one.
+ghost use Rattle.std.specs.Prelude.{◌<◌, ◌^◌, length, IfOk, IfErr};
+ghost use Rattle.tml_tree.specs.Pulled.{Outranks};
+ghost use Rattle.tml_tree.specs.View.{tag_node};
+ghost use Rattle.tml_tree.specs.Whole.{HasSourceFault, IsTreeOf};
+
+use crate::builder::Builder;
+use crate::whole::{fault_at, span_of};
+use crate::{Tag, TreeFault};
+use std::alloc::Global;
+use tml_span::{Cut, UnitReader};
+
+/// Why a source has no tree.
+#[derive(Clone, Copy, Debug, PartialEq, Eq)]
+pub enum SourceFault {
+    /// It is not cut into units whole.
+    Cut(Cut),
+    /// It is, and its units make no tree.
+    Tree(TreeFault),
+}
+
+/// The root of the document that the units of a source make.
+pub fn root_of_source<'s>(alloc: Global, source: &'s [u8]) -> Result<Tag<'s>, SourceFault>
+    requires { length source.now < 2 ^ 32 }
+    ensures ok { IfOk result (λ t. IsTreeOf source.now (tag_node t)) }
+    ensures fault { IfErr result (λ e. HasSourceFault source.now e) }
+{
+    let mut reader = match UnitReader::new(source) {
+        Ok(reader) => reader,
+        Err(fault) => return Err(SourceFault::Cut(fault)),
+    };
+    let mut builder = Builder::new(alloc);
+    loop {
+        match reader.pull(alloc) {
+            Ok(Some(unit)) => {
+                let place = span_of(&unit).start;
+                if let Err(stop) = builder.take(alloc, unit) {
+                    return Err(behind(alloc, reader, fault_at(stop, place)));
+                }
+            }
+            Ok(None) => match builder.finish() {
+                Some(root) => return Ok(root),
+                None => {
+                    let place = source.len() as u32;
+                    return Err(SourceFault::Tree(TreeFault::Unclosed { place }));
+                }
+            },
+            Err(fault) => return Err(SourceFault::Cut(fault)),
+        }
+    }
+}
+
+/// The fault of the cut behind a unit at fault, which outranks that of the unit, or else the latter.
+fn behind<'s>(alloc: Global, reader: UnitReader<'s>, fault: TreeFault) -> SourceFault
+    ensures { Outranks reader.entry fault result }
+{
+    let mut reader = reader;
+    loop {
+        match reader.pull(alloc) {
+            Ok(Some(_)) => {}
+            Ok(None) => return SourceFault::Tree(fault),
+            Err(cut) => return SourceFault::Cut(cut),
+        }
+    }
+}
