@@ -79,15 +79,20 @@ impl Named for TagName {
     ghost apart = { Prim.search rules };
 
     fn all() -> &'static [TagName] {
+        // Those that are frequent in corpora come first, since a name is searched from the front.
         &[
-            TagName::TimeMl,
             TagName::Event,
-            TagName::Timex3,
-            TagName::Signal,
             TagName::MakeInstance,
             TagName::Tlink,
-            TagName::Alink,
+            TagName::Timex3,
+            TagName::LowerS,
+            TagName::Signal,
+            TagName::UpperS,
+            TagName::LowerP,
+            TagName::UpperP,
             TagName::Slink,
+            TagName::Alink,
+            TagName::TimeMl,
             TagName::DocId,
             TagName::DocNo,
             TagName::Doc,
@@ -97,10 +102,6 @@ impl Named for TagName {
             TagName::Text,
             TagName::Body,
             TagName::Headline,
-            TagName::UpperP,
-            TagName::LowerP,
-            TagName::UpperS,
-            TagName::LowerS,
             TagName::Enamex,
             TagName::Numex,
             TagName::Confidence,
