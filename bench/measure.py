@@ -62,8 +62,17 @@ def comments_and_references(size):
     return filled(b"<!---->&lt;", size)
 
 
+def nested(name, size):
+    return filled((b"<%s>" % name) * (DEPTH - 1) + (b"</%s>" % name) * (DEPTH - 1), size)
+
+
 def deepest_nesting(size):
-    return filled(b"<s>" * (DEPTH - 1) + b"</s>" * (DEPTH - 1), size)
+    return nested(b"s", size)
+
+
+def deepest_of_long_names(size):
+    """The same with the name that is found late, of the known ones."""
+    return nested(b"CONFIDENCE", size)
 
 
 def events(size):
@@ -71,7 +80,7 @@ def events(size):
 
 
 ROWS = [("spans", make) for make in (one_text, shortest_tags, one_tag, comments_and_references)]
-ROWS += [("check", make) for make in (one_text, deepest_nesting, shortest_tags, one_tag, events)]
+ROWS += [("check", make) for make in (one_text, deepest_nesting, deepest_of_long_names, shortest_tags, one_tag, events)]
 
 
 def run(words):
