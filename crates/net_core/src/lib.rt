@@ -1,8 +1,12 @@
 //! Relations between intervals of time.
 #![tactic(auto)]
 
+mod limits;
+mod list;
 mod rels;
 #[cfg(test)]
 mod tests;
 
+pub use limits::{MAX_INTERVALS, MAX_LINKS};
+pub use list::{List, Memory};
 pub use rels::{Rel, rel_of, rels_are_apart};

@@ -1,4 +1,7 @@
 //! Tags with the values of their attributes.
+ghost use Rattle.std.specs.Prelude.{◌≡◌};
+ghost use Rattle.tml_types.specs.Places.{place_of};
+
 use crate::names::{Aspect, AspectRel, DocFunction, EventClass, Polarity, Pos, SubRel, Tense};
 use net_core::Rel;
 use timex_value::{Modifier, TimexKind, Value};
@@ -79,4 +82,21 @@ pub enum TypedTag<'s> {
         subordinated: &'s [u8],
         rel: SubRel,
     },
+}
+
+impl TypedTag<'_> {
+    /// Where the tag begins, as a byte offset from 0.
+    pub fn place(&self) -> u32
+        ensures { result ≡ place_of self.now }
+    {
+        match *self {
+            TypedTag::Event { place, .. }
+            | TypedTag::Instance { place, .. }
+            | TypedTag::Timex { place, .. }
+            | TypedTag::Signal { place, .. }
+            | TypedTag::Tlink { place, .. }
+            | TypedTag::Alink { place, .. }
+            | TypedTag::Slink { place, .. } => place,
+        }
+    }
 }

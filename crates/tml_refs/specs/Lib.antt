@@ -1,0 +1,9 @@
+pub mod Kinds
+pub mod Tags
+pub mod Rules
+pub mod Resolved
+pub mod Pairs
+pub mod Owning
+pub mod Identifying
+pub mod Gathering
+pub mod Indexing
