@@ -3,6 +3,7 @@ ghost use Rattle.std.specs.Prelude.{◌≡◌, ◌++◌, [], false, OnOk, map};
 ghost use Rattle.std.specs.List.{list_any};
 ghost use Rattle.tml_refs.specs.Gathering.{Adds, AreFew, Gathers, is_interval_too_many, is_link_too_many, later_rule};
 ghost use Rattle.tml_refs.specs.Owning.{is_lost};
+ghost use Rattle.tml_refs.specs.Resolved.{name_of};
 ghost use Rattle.tml_refs.specs.Tags.{references_of};
 
 use crate::names::{Names, Target};
@@ -37,6 +38,17 @@ pub enum Interval<'s> {
         modifier: Option<Modifier>,
         value: Option<Value>,
     },
+}
+
+impl<'s> Interval<'s> {
+    /// The identifier of the tag.
+    pub fn name(self) -> &'s [u8]
+        ensures { result.now ≡ name_of self.entry }
+    {
+        match self {
+            Interval::Instance { name } | Interval::Timex { name, .. } => name,
+        }
+    }
 }
 
 /// A TLINK, with the numbers of its intervals: `a` is that of `eventInstanceID` or `timeID`, and `b` that of

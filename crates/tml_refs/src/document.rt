@@ -3,7 +3,6 @@ ghost use Rattle.std.specs.List.{slice_get};
 ghost use Rattle.std.specs.Prelude.{◌≡◌, ◌<◌, ◌^◌, ℕ, length, Some, None, IfOk, IfErr, IfSome, IsNone, MatchOption};
 ghost use Rattle.tml_refs.specs.Indexing.{IsIndexOf};
 ghost use Rattle.tml_refs.specs.Resolved.{IsDocument, IsNamed, Resolved};
-ghost use Rattle.tml_refs.specs.Resolved as resolved;
 ghost use Rattle.tml_refs.specs.Rules.{HasFault};
 
 use crate::contents::{Contents, Counts, DocLink, Interval};
@@ -135,20 +134,12 @@ fn names_in_order<'s>(
 {
     let mut by_name = Vec::new(alloc);
     for (number, interval) in intervals.iter().enumerate() {
-        if by_name.push((name_of(interval), number as u32)).is_err() {
+        if by_name.push((interval.name(), number as u32)).is_err() {
             return Err(Memory);
         }
     }
     match by_name.sort() {
         Ok(()) => Ok(List::from_vec(by_name)),
         Err(_) => Err(Memory),
-    }
-}
-
-fn name_of<'s>(interval: &Interval<'s>) -> &'s [u8]
-    ensures { result.now ≡ resolved.name_of interval.now }
-{
-    match *interval {
-        Interval::Instance { name } | Interval::Timex { name, .. } => name,
     }
 }

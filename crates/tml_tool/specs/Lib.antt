@@ -1,9 +1,9 @@
 pub mod Status
 pub mod Words
 pub mod View
-pub mod Kinds
 pub mod Texts
 pub mod Written
+pub mod Acceptance
 pub mod Answer
 pub mod Replies
 pub mod Outcome

@@ -1,7 +1,7 @@
 -- The printed texts.
-use Rattle.std.specs.Prelude.{ℕ, List, ◌++◌, codes, decimal, count_by, None, Some}
+use Rattle.std.specs.Prelude.{ℕ, ◌+◌, List, [], ◌∷◌, ◌++◌, codes, decimal, None, Some}
 use Rattle.std.specs.declared.option.Option.{Option}
-use Rattle.std.specs.List.{flat_map}
+use Rattle.std.specs.List.{flat_map, slice_get}
 use Rattle.tml_span.specs.Units.{Attribute, Kind, bom, declaration, doctype, comment, text, start_tag, end_tag, empty_tag, PlainUnit}
 use Rattle.tml_span.specs.declared.reader.Cut.{Cut}
 use Rattle.tml_span.specs.declared.reader.Cut.TheVariants as cut
@@ -9,8 +9,14 @@ use Rattle.tml_tree.specs.declared.whole.TreeFault.{TreeFault}
 use Rattle.tml_tree.specs.declared.whole.TreeFault.TheVariants as tree
 use Rattle.tml_types.specs.declared.whole.TypeFault.{TypeFault}
 use Rattle.tml_types.specs.declared.whole.TypeFault.TheVariants as types
-use Rattle.tml_types.specs.declared.typed.TypedTag.{TypedTag}
-use Rattle.tml_tool.specs.Kinds.{is_event, is_instance, is_timex, is_signal, is_tlink, is_alink, is_slink}
+use Rattle.net_core.specs.Rels.{rel_text}
+use Rattle.tml_refs.specs.declared.contents.Contents.{Contents}
+use Rattle.tml_refs.specs.declared.contents.Counts.{Counts}
+use Rattle.tml_refs.specs.declared.contents.DocLink.{DocLink}
+use Rattle.tml_refs.specs.declared.contents.Interval.{Interval}
+use Rattle.tml_refs.specs.declared.rules.RefFault.{RefFault}
+use Rattle.tml_refs.specs.declared.rules.RefFault.TheVariants as refs
+use Rattle.tml_refs.specs.Resolved.{name_of}
 
 -- the start and the end of a span, each with a space behind it
 abbrev pub span_front : ℕ → ℕ → List ℕ
@@ -63,16 +69,46 @@ type_fault_line (types.BadValue place) = Some (numbered (codes "fault 11 BadValu
 type_fault_line (types.Conflict place) = Some (numbered (codes "fault 12 Conflict ") place)
 type_fault_line types.Memory = None
 
--- how many tags of each kind an accepted document has
-abbrev pub accepted : List TypedTag → List ℕ
-accepted tags = codes "accepted\n"
-    ++ numbered (codes "events ") (count_by is_event tags)
-    ++ numbered (codes "instances ") (count_by is_instance tags)
-    ++ numbered (codes "timex ") (count_by is_timex tags)
-    ++ numbered (codes "signals ") (count_by is_signal tags)
-    ++ numbered (codes "tlinks ") (count_by is_tlink tags)
-    ++ numbered (codes "alinks ") (count_by is_alink tags)
-    ++ numbered (codes "slinks ") (count_by is_slink tags)
+abbrev pub ref_fault_line : RefFault → Option (List ℕ)
+ref_fault_line (refs.DuplicateId place) = Some (numbered (codes "fault 14 DuplicateId ") place)
+ref_fault_line (refs.UnknownReference place) = Some (numbered (codes "fault 15 UnknownReference ") place)
+ref_fault_line (refs.TooManyIntervals place) = Some (numbered (codes "fault 16 TooManyIntervals ") place)
+ref_fault_line (refs.TooManyLinks place) = Some (numbered (codes "fault 17 TooManyLinks ") place)
+ref_fault_line refs.Memory = None
+
+-- how many tags of each kind a document has
+abbrev pub count_lines : Counts → List ℕ
+count_lines counts = numbered (codes "events ") counts.events
+    ++ numbered (codes "instances ") counts.instances
+    ++ numbered (codes "timex ") counts.timex
+    ++ numbered (codes "signals ") counts.signals
+    ++ numbered (codes "tlinks ") counts.tlinks
+    ++ numbered (codes "alinks ") counts.alinks
+    ++ numbered (codes "slinks ") counts.slinks
+
+abbrev pub interval_line : ℕ → Interval → List ℕ
+interval_line i interval = codes "interval " ++ decimal i ++ codes " " ++ name_of interval ++ codes "\n"
+
+-- a line for each interval, numbered from the first number on
+abbrev pub interval_lines : ℕ → List Interval → List ℕ
+interval_lines i [] = []
+interval_lines i (interval ∷ intervals) = interval_line i interval ++ interval_lines (i + 1) intervals
+
+-- the name of the interval of this number
+abbrev pub name_at : List Interval → ℕ → List ℕ
+name_at intervals i = elim (slice_get intervals i) [ None ↦ [] | Some interval ↦ name_of interval ]
+
+abbrev pub link_line : List Interval → ℕ → DocLink → List ℕ
+link_line intervals k link = codes "tlink " ++ decimal k ++ codes " " ++ name_at intervals link.a ++ codes " " ++ rel_text link.rel ++ codes " " ++ name_at intervals link.b ++ codes "\n"
+
+-- a line for each link, numbered from the first number on
+abbrev pub link_lines : List Interval → ℕ → List DocLink → List ℕ
+link_lines intervals k [] = []
+link_lines intervals k (link ∷ links) = link_line intervals k link ++ link_lines intervals (k + 1) links
+
+-- what an accepted document has: how many tags of each kind, its intervals and its links
+abbrev pub accepted : Contents → List ℕ
+accepted doc = codes "accepted\n" ++ count_lines doc.counts ++ interval_lines 0 doc.intervals ++ link_lines doc.intervals 0 doc.links
 
 -- one line for each command
 abbrev pub usage : List ℕ

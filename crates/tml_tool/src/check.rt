@@ -1,35 +1,30 @@
 //! The question `check`: whether a document is well annotated.
-ghost use Rattle.std.specs.Prelude.{◌≡◌, ◌≤◌, length, count_by, IfOk};
+ghost use Rattle.std.specs.Prelude.{◌≡◌, ◌≤◌, ◌<◌, ◌++◌, length, slice_index_or, IfOk, OnOk};
+ghost use Rattle.tml_refs.specs.declared.contents.DocLink.{DocLink};
 ghost use Rattle.tml_tool.specs.Answer.{doc_limit};
-ghost use Rattle.tml_tool.specs.Kinds as kinds;
 ghost use Rattle.tml_tool.specs.Replies.{RepliesOver};
 ghost use Rattle.tml_tool.specs.Texts as texts;
 ghost use Rattle.tml_tool.specs.View.{text_of};
 ghost use Rattle.tml_tool.specs.declared.command.Question.TheVariants as questions;
 
 use crate::Status;
-use crate::faults::{cut_fault, refusal, tree_fault, type_fault};
+use crate::accept::accept;
+use crate::faults::refusal;
 use crate::reply::{Reply, Text};
-use crate::table::push_numbered;
+use crate::table::{push_number, push_numbered};
 use std::alloc::{AllocError, Global};
-use tml_tree::{SourceFault, tree_of};
-use tml_types::{TypedTag, type_tags};
+use tml_refs::{Counts, Document, Interval};
 
-/// How many tags of each kind the document has, or its first fault by the cut, the tree and the types.
+/// How many tags of each kind the document has, its intervals and its links, or its first fault.
 pub fn check(alloc: Global, doc: &[u8]) -> Reply
     requires { length doc.now ≤ doc_limit }
     ensures { RepliesOver questions.Check doc.now result.status (text_of result.text) }
 {
-    let tree = match tree_of(alloc, doc) {
-        Ok(tree) => tree,
-        Err(SourceFault::Cut(fault)) => return refusal(alloc, cut_fault(fault)),
-        Err(SourceFault::Tree(fault)) => return refusal(alloc, tree_fault(fault)),
+    let document = match accept(alloc, doc) {
+        Ok(document) => document,
+        Err(fault) => return refusal(alloc, fault),
     };
-    let typed = match type_tags(alloc, &tree) {
-        Ok(typed) => typed,
-        Err(fault) => return refusal(alloc, type_fault(fault)),
-    };
-    match accepted(alloc, typed.as_slice()) {
+    match accepted(alloc, &document) {
         Ok(text) => Reply {
             status: Status::Done,
             text: Text::Made(text),
@@ -38,62 +33,71 @@ pub fn check(alloc: Global, doc: &[u8]) -> Reply
     }
 }
 
-/// How many typed tags there are of each kind.
-#[derive(Clone, Copy)]
-struct Counts {
-    events: usize,
-    instances: usize,
-    timex: usize,
-    signals: usize,
-    tlinks: usize,
-    alinks: usize,
-    slinks: usize,
-}
-
-fn count(tags: &[TypedTag]) -> Counts
-    ensures events { result.events ≡ count_by kinds.is_event tags.now }
-    ensures instances { result.instances ≡ count_by kinds.is_instance tags.now }
-    ensures timex { result.timex ≡ count_by kinds.is_timex tags.now }
-    ensures signals { result.signals ≡ count_by kinds.is_signal tags.now }
-    ensures tlinks { result.tlinks ≡ count_by kinds.is_tlink tags.now }
-    ensures alinks { result.alinks ≡ count_by kinds.is_alink tags.now }
-    ensures slinks { result.slinks ≡ count_by kinds.is_slink tags.now }
-{
-    let mut counts = Counts {
-        events: 0,
-        instances: 0,
-        timex: 0,
-        signals: 0,
-        tlinks: 0,
-        alinks: 0,
-        slinks: 0,
-    };
-    for tag in tags {
-        match tag {
-            TypedTag::Event { .. } => counts.events += 1,
-            TypedTag::Instance { .. } => counts.instances += 1,
-            TypedTag::Timex { .. } => counts.timex += 1,
-            TypedTag::Signal { .. } => counts.signals += 1,
-            TypedTag::Tlink { .. } => counts.tlinks += 1,
-            TypedTag::Alink { .. } => counts.alinks += 1,
-            TypedTag::Slink { .. } => counts.slinks += 1,
-        }
-    }
-    counts
-}
-
 /// The text for an accepted document.
-fn accepted(alloc: Global, tags: &[TypedTag]) -> Result<Vec<u8>, AllocError>
-    ensures { IfOk result (λ out. out.items ≡ texts.accepted tags.now) }
+fn accepted(alloc: Global, document: &Document<'_>) -> Result<Vec<u8>, AllocError>
+    ensures { IfOk result (λ out. out.items ≡ texts.accepted document.now) }
 {
-    let counts = count(tags);
     let mut out = Vec::from_slice(alloc, b"accepted\n")?;
-    push_numbered(&mut out, b"events ", counts.events as u64)?;
-    push_numbered(&mut out, b"instances ", counts.instances as u64)?;
-    push_numbered(&mut out, b"timex ", counts.timex as u64)?;
-    push_numbered(&mut out, b"signals ", counts.signals as u64)?;
-    push_numbered(&mut out, b"tlinks ", counts.tlinks as u64)?;
-    push_numbered(&mut out, b"alinks ", counts.alinks as u64)?;
-    push_numbered(&mut out, b"slinks ", counts.slinks as u64)?;
+    push_counts(&mut out, document.counts())?;
+    push_intervals(&mut out, document)?;
+    push_links(&mut out, document)?;
     Ok(out)
+}
+
+fn push_counts(out: &mut Vec<u8>, counts: Counts) -> Result<(), AllocError>
+    ensures { OnOk result (out.new.items ≡ out.old.items ++ texts.count_lines counts) }
+{
+    push_numbered(out, b"events ", u64::from(counts.events))?;
+    push_numbered(out, b"instances ", u64::from(counts.instances))?;
+    push_numbered(out, b"timex ", u64::from(counts.timex))?;
+    push_numbered(out, b"signals ", u64::from(counts.signals))?;
+    push_numbered(out, b"tlinks ", u64::from(counts.tlinks))?;
+    push_numbered(out, b"alinks ", u64::from(counts.alinks))?;
+    push_numbered(out, b"slinks ", u64::from(counts.slinks))
+}
+
+fn push_intervals(out: &mut Vec<u8>, document: &Document<'_>) -> Result<(), AllocError>
+    ensures { OnOk result (out.new.items ≡ out.old.items ++ texts.interval_lines 0 document.now.intervals) }
+{
+    for i in 0..document.intervals() {
+        push_interval(out, i, document.interval(i))?;
+    }
+    Ok(())
+}
+
+/// The number and the name of an interval.
+fn push_interval(out: &mut Vec<u8>, i: u32, interval: Interval<'_>) -> Result<(), AllocError>
+    ensures { OnOk result (out.new.items ≡ out.old.items ++ texts.interval_line i interval.entry) }
+{
+    out.extend_from_slice(b"interval ")?;
+    push_number(out, u64::from(i))?;
+    out.extend_from_slice(b" ")?;
+    out.extend_from_slice(interval.name())?;
+    out.extend_from_slice(b"\n")
+}
+
+fn push_links(out: &mut Vec<u8>, document: &Document<'_>) -> Result<(), AllocError>
+    ensures { OnOk result (out.new.items ≡ out.old.items ++ texts.link_lines document.now.intervals 0 document.now.links) }
+{
+    for k in 0..document.links() {
+        push_link(out, k, document)?;
+    }
+    Ok(())
+}
+
+/// The number of a link, and its relation between the names of its intervals.
+fn push_link(out: &mut Vec<u8>, k: u32, document: &Document<'_>) -> Result<(), AllocError>
+    requires { k < length document.now.links }
+    ensures { OnOk result ((d : DocLink) → out.new.items ≡ out.old.items ++ texts.link_line document.now.intervals k (slice_index_or document.now.links k d)) }
+{
+    let link = document.link(k);
+    out.extend_from_slice(b"tlink ")?;
+    push_number(out, u64::from(k))?;
+    out.extend_from_slice(b" ")?;
+    out.extend_from_slice(document.interval(link.a).name())?;
+    out.extend_from_slice(b" ")?;
+    out.extend_from_slice(link.rel.text())?;
+    out.extend_from_slice(b" ")?;
+    out.extend_from_slice(document.interval(link.b).name())?;
+    out.extend_from_slice(b"\n")
 }

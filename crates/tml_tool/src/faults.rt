@@ -2,21 +2,22 @@
 ghost use Rattle.std.specs.Prelude.{◌≡◌, ◌++◌, decimal, codes, option_map};
 ghost use Rattle.tml_tool.specs.Replies.{Refuses};
 ghost use Rattle.tml_tool.specs.Texts as texts;
-ghost use Rattle.tml_tool.specs.View.{text_of};
+ghost use Rattle.tml_tool.specs.View.{fault_line, text_of};
 
 use crate::Status;
 use crate::reply::{Reply, Text};
 use crate::table::numbered;
 use std::alloc::Global;
+use tml_refs::RefFault;
 use tml_span::Cut;
 use tml_tree::TreeFault;
 use tml_types::TypeFault;
 
 /// The number and the name of a fault as they are printed, and its place. Want of memory is no fault.
-type Fault = Option<(&'static [u8], u32)>;
+pub type Fault = Option<(&'static [u8], u32)>;
 
 pub fn cut_fault(fault: Cut) -> Fault
-    ensures { option_map (λ f. texts.numbered f.0.now f.1) result ≡ texts.cut_fault_line fault }
+    ensures { fault_line result ≡ texts.cut_fault_line fault }
 {
     match fault {
         Cut::NotUtf8 { place } => Some((b"fault 1 NotUtf8 ", place)),
@@ -27,7 +28,7 @@ pub fn cut_fault(fault: Cut) -> Fault
 }
 
 pub fn tree_fault(fault: TreeFault) -> Fault
-    ensures { option_map (λ f. texts.numbered f.0.now f.1) result ≡ texts.tree_fault_line fault }
+    ensures { fault_line result ≡ texts.tree_fault_line fault }
 {
     match fault {
         TreeFault::UnknownTag { place } => Some((b"fault 4 UnknownTag ", place)),
@@ -40,7 +41,7 @@ pub fn tree_fault(fault: TreeFault) -> Fault
 }
 
 pub fn type_fault(fault: TypeFault) -> Fault
-    ensures { option_map (λ f. texts.numbered f.0.now f.1) result ≡ texts.type_fault_line fault }
+    ensures { fault_line result ≡ texts.type_fault_line fault }
 {
     match fault {
         TypeFault::RepeatedAttribute { place } => Some((b"fault 9 RepeatedAttribute ", place)),
@@ -51,9 +52,21 @@ pub fn type_fault(fault: TypeFault) -> Fault
     }
 }
 
+pub fn ref_fault(fault: RefFault) -> Fault
+    ensures { fault_line result ≡ texts.ref_fault_line fault }
+{
+    match fault {
+        RefFault::DuplicateId { place } => Some((b"fault 14 DuplicateId ", place)),
+        RefFault::UnknownReference { place } => Some((b"fault 15 UnknownReference ", place)),
+        RefFault::TooManyIntervals { place } => Some((b"fault 16 TooManyIntervals ", place)),
+        RefFault::TooManyLinks { place } => Some((b"fault 17 TooManyLinks ", place)),
+        RefFault::Memory => None,
+    }
+}
+
 /// The reply to a document at fault.
 pub fn refusal(alloc: Global, fault: Fault) -> Reply
-    ensures { Refuses (option_map (λ f. texts.numbered f.0.now f.1) fault.entry) result.status (text_of result.text) }
+    ensures { Refuses (fault_line fault.entry) result.status (text_of result.text) }
 {
     let Some((front, place)) = fault else {
         return Reply::no_memory();

@@ -1,6 +1,7 @@
 //! The commands of `tml`: what the words ask for, the answer, and its printing.
 #![tactic(auto)]
 
+mod accept;
 mod check;
 mod command;
 mod document;

@@ -1,4 +1,7 @@
 //! Worked rows of the commands, by `run` over the objects in memory.
+mod checks;
+mod faults;
+
 use crate::{Status, run};
 use std::alloc::{AllocError, Global};
 use std::process::Abort;
@@ -15,8 +18,6 @@ struct Row {
 }
 
 const SPANS: &[&str] = &["spans", "d"];
-
-const CHECK: &[&str] = &["check", "d"];
 
 const USAGE: &[u8] = b"usage:\ntml spans DOC\ntml check DOC\n";
 
@@ -58,14 +59,26 @@ fn inputs_of(alloc: Global, name: &str, doc: Vec<u8>) -> Result<MemoryInputs, Al
 }
 
 fn check(rt: &(impl Abort + AllocGlobal), row: &Row) -> Result<(), Fail> {
+    let doc = Vec::from_slice(rt.alloc(), row.doc)?;
+    check_made(rt, row.words, doc, row.status, row.text)
+}
+
+/// The same over a document that is made.
+fn check_made(
+    rt: &(impl Abort + AllocGlobal),
+    words: &[&str],
+    doc: Vec<u8>,
+    status: Status,
+    text: &[u8],
+) -> Result<(), Fail> {
     let alloc = rt.alloc();
-    let words = words_of(alloc, row.words)?;
-    let name = if row.words.is_empty() { "-" } else { "d" };
-    let mut inputs = inputs_of(alloc, name, Vec::from_slice(alloc, row.doc)?)?;
+    let name = if words.is_empty() { "-" } else { "d" };
+    let words = words_of(alloc, words)?;
+    let mut inputs = inputs_of(alloc, name, doc)?;
     let mut sink = MemorySink::new(alloc, 1_048_576, 4096, Vec::new(alloc))?;
-    let status = run(alloc, words.as_slice(), &mut inputs, &mut sink);
-    assert_eq!(rt; sink.written(), row.text);
-    assert_eq!(rt; status, row.status);
+    let ended = run(alloc, words.as_slice(), &mut inputs, &mut sink);
+    assert_eq!(rt; sink.written(), text);
+    assert_eq!(rt; ended, status);
     Ok(())
 }
 
@@ -182,126 +195,6 @@ fn rows_of_references(rt: HostRuntime) -> Result<(), Fail> {
     for row in rows.iter() {
         check(&rt, row)?;
     }
-    Ok(())
-}
-
-/// The answer of `check`.
-fn checked(doc: &'static [u8], status: Status, text: &'static [u8]) -> Row {
-    Row {
-        words: CHECK,
-        doc,
-        status,
-        text,
-    }
-}
-
-#[test]
-fn rows_of_accepted_documents(rt: HostRuntime) -> Result<(), Fail> {
-    let rows = [
-        checked(
-            b"<TimeML/>",
-            Status::Done,
-            b"accepted\nevents 0\ninstances 0\ntimex 0\nsignals 0\ntlinks 0\nalinks 0\nslinks 0\n",
-        ),
-        checked(
-            b"<TimeML><EVENT eid='e' class='STATE'/><MAKEINSTANCE eiid='i' eventID='e'/><MAKEINSTANCE eiid='j' eventID='e'/><TIMEX3 tid='t' type='DATE'/><SIGNAL sid='s'/><TLINK eventInstanceID='i' relatedToEventInstance='j' relType='BEFORE'/><ALINK eventInstanceID='i' relatedToEventInstance='j' relType='INITIATES'/><SLINK subordinatedEventInstance='j' relType='MODAL'/></TimeML>",
-            Status::Done,
-            b"accepted\nevents 1\ninstances 2\ntimex 1\nsignals 1\ntlinks 1\nalinks 1\nslinks 1\n",
-        ),
-    ];
-    for row in rows.iter() {
-        check(&rt, row)?;
-    }
-    Ok(())
-}
-
-#[test]
-fn rows_of_nesting(rt: HostRuntime) -> Result<(), Fail> {
-    let fault = |doc, text| checked(doc, Status::DocFault, text);
-    let rows = [
-        fault(b"", b"fault 6 Unclosed 0\n"),
-        fault(b"<TimeML><FOO/></TimeML>", b"fault 4 UnknownTag 8\n"),
-        fault(b"<TimeML><P></S></TimeML>", b"fault 5 Unbalanced 11\n"),
-        fault(b"<TimeML/></TimeML>", b"fault 5 Unbalanced 9\n"),
-        fault(b"<TimeML><P>", b"fault 6 Unclosed 11\n"),
-        fault(b"x<TimeML/>", b"fault 7 Misplaced 0\n"),
-        fault(b"<TimeML/><TimeML/>", b"fault 7 Misplaced 9\n"),
-        fault(
-            b"<TimeML><TLINK>x</TLINK></TimeML>",
-            b"fault 7 Misplaced 15\n",
-        ),
-        fault(b"<!--x--><?xml v?><TimeML/>", b"fault 7 Misplaced 8\n"),
-        // A fault of the cut outranks one of the tree that stands earlier.
-        fault(b"x<TimeML/>&", b"fault 2 BadReference 10\n"),
-    ];
-    for row in rows.iter() {
-        check(&rt, row)?;
-    }
-    Ok(())
-}
-
-#[test]
-fn rows_of_types(rt: HostRuntime) -> Result<(), Fail> {
-    let fault = |doc, text| checked(doc, Status::DocFault, text);
-    let rows = [
-        fault(
-            b"<TimeML><TLINK timeID=\"t1\" relatedToTime=\"t2\" relType=\"OVERLAP\"/></TimeML>",
-            b"fault 11 BadValue 8\n",
-        ),
-        fault(
-            b"<TimeML><TLINK relatedToTime=\"t2\" relType=\"OVERLAP\"/></TimeML>",
-            b"fault 10 MissingAttribute 8\n",
-        ),
-        fault(
-            b"<TimeML><TLINK timeID=\"t1\" eventInstanceID=\"i\" relatedToTime=\"t2\" relType=\"BEFORE\"/></TimeML>",
-            b"fault 12 Conflict 8\n",
-        ),
-        fault(
-            b"<TimeML><TLINK timeID=\"t1\" timeID=\"\" relType=\"X\"/></TimeML>",
-            b"fault 9 RepeatedAttribute 8\n",
-        ),
-        // A fault of the tree outranks one of the types that stands earlier.
-        fault(b"<TimeML><EVENT/>x", b"fault 6 Unclosed 17\n"),
-    ];
-    for row in rows.iter() {
-        check(&rt, row)?;
-    }
-    Ok(())
-}
-
-#[test]
-fn depth_has_a_limit(rt: HostRuntime) -> Result<(), Fail> {
-    let alloc = rt.alloc();
-    let words = words_of(alloc, CHECK)?;
-    let accepted: &'static [u8] =
-        b"accepted\nevents 0\ninstances 0\ntimex 0\nsignals 0\ntlinks 0\nalinks 0\nslinks 0\n";
-    let wanted: [(usize, &'static [u8]); 2] = [(31, accepted), (32, b"fault 8 TooDeep 101\n")];
-    for (depth, text) in wanted.iter() {
-        let mut doc = Vec::from_slice(alloc, b"<TimeML>")?;
-        for _ in 0..*depth {
-            doc.extend_from_slice(b"<P>")?;
-        }
-        for _ in 0..*depth {
-            doc.extend_from_slice(b"</P>")?;
-        }
-        doc.extend_from_slice(b"</TimeML>")?;
-        let mut inputs = inputs_of(alloc, "d", doc)?;
-        let mut sink = MemorySink::new(alloc, 1_048_576, 4096, Vec::new(alloc))?;
-        let _ = run(alloc, words.as_slice(), &mut inputs, &mut sink);
-        assert_eq!(&rt; sink.written(), *text);
-    }
-    Ok(())
-}
-
-#[test]
-fn a_failing_write_of_check_leaves_a_front(rt: HostRuntime) -> Result<(), Fail> {
-    let alloc = rt.alloc();
-    let words = words_of(alloc, CHECK)?;
-    let mut inputs = inputs_of(alloc, "d", Vec::from_slice(alloc, b"<TimeML/>")?)?;
-    let mut sink = MemorySink::new(alloc, 1_048_576, 16, vec![in alloc; 1]?)?;
-    let ended = run(alloc, words.as_slice(), &mut inputs, &mut sink);
-    assert_eq!(&rt; ended, Status::WriteFault);
-    assert_eq!(&rt; sink.written(), b"accepted\nevents ".as_slice());
     Ok(())
 }
 
