@@ -1,3 +1,4 @@
 pub mod Tables
 pub mod Delivery
 pub mod Digits
+pub mod Lines

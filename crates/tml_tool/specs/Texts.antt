@@ -10,6 +10,7 @@ use Rattle.tml_tree.specs.declared.whole.TreeFault.TheVariants as tree
 use Rattle.tml_types.specs.declared.whole.TypeFault.{TypeFault}
 use Rattle.tml_types.specs.declared.whole.TypeFault.TheVariants as types
 use Rattle.net_core.specs.Rels.{rel_text}
+use Rattle.net_core.specs.declared.rels.Rel.{Rel}
 use Rattle.tml_refs.specs.declared.contents.Contents.{Contents}
 use Rattle.tml_refs.specs.declared.contents.Counts.{Counts}
 use Rattle.tml_refs.specs.declared.contents.DocLink.{DocLink}
@@ -86,8 +87,12 @@ count_lines counts = numbered (codes "events ") counts.events
     ++ numbered (codes "alinks ") counts.alinks
     ++ numbered (codes "slinks ") counts.slinks
 
+-- a word, a number and a space
+abbrev pub front : List ℕ → ℕ → List ℕ
+front word n = word ++ decimal n ++ codes " "
+
 abbrev pub interval_line : ℕ → Interval → List ℕ
-interval_line i interval = codes "interval " ++ decimal i ++ codes " " ++ name_of interval ++ codes "\n"
+interval_line i interval = front (codes "interval ") i ++ name_of interval ++ codes "\n"
 
 -- a line for each interval, numbered from the first number on
 abbrev pub interval_lines : ℕ → List Interval → List ℕ
@@ -98,8 +103,12 @@ interval_lines i (interval ∷ intervals) = interval_line i interval ++ interval
 abbrev pub name_at : List Interval → ℕ → List ℕ
 name_at intervals i = elim (slice_get intervals i) [ None ↦ [] | Some interval ↦ name_of interval ]
 
+-- a relation between two names
+abbrev pub related : List ℕ → Rel → List ℕ → List ℕ
+related a rel b = a ++ codes " " ++ rel_text rel ++ codes " " ++ b
+
 abbrev pub link_line : List Interval → ℕ → DocLink → List ℕ
-link_line intervals k link = codes "tlink " ++ decimal k ++ codes " " ++ name_at intervals link.a ++ codes " " ++ rel_text link.rel ++ codes " " ++ name_at intervals link.b ++ codes "\n"
+link_line intervals k link = front (codes "tlink ") k ++ related (name_at intervals link.a) link.rel (name_at intervals link.b) ++ codes "\n"
 
 -- a line for each link, numbered from the first number on
 abbrev pub link_lines : List Interval → ℕ → List DocLink → List ℕ

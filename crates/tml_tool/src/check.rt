@@ -1,6 +1,5 @@
 //! The question `check`: whether a document is well annotated.
-ghost use Rattle.std.specs.Prelude.{◌≡◌, ◌≤◌, ◌<◌, ◌++◌, length, slice_index_or, IfOk, OnOk};
-ghost use Rattle.tml_refs.specs.declared.contents.DocLink.{DocLink};
+ghost use Rattle.std.specs.Prelude.{◌≡◌, ◌≤◌, ◌<◌, ◌++◌, length, IfOk, OnOk};
 ghost use Rattle.tml_tool.specs.Answer.{doc_limit};
 ghost use Rattle.tml_tool.specs.Replies.{RepliesOver};
 ghost use Rattle.tml_tool.specs.Texts as texts;
@@ -12,8 +11,9 @@ use crate::accept::accept;
 use crate::faults::refusal;
 use crate::reply::{Reply, Text};
 use crate::table::{push_number, push_numbered};
+use net_core::Rel;
 use std::alloc::{AllocError, Global};
-use tml_refs::{Counts, Document, Interval};
+use tml_refs::{Counts, DocLink, Document, Interval};
 
 /// How many tags of each kind the document has, its intervals and its links, or its first fault.
 pub fn check(alloc: Global, doc: &[u8]) -> Reply
@@ -69,9 +69,7 @@ fn push_intervals(out: &mut Vec<u8>, document: &Document<'_>) -> Result<(), Allo
 fn push_interval(out: &mut Vec<u8>, i: u32, interval: Interval<'_>) -> Result<(), AllocError>
     ensures { OnOk result (out.new.items ≡ out.old.items ++ texts.interval_line i interval.entry) }
 {
-    out.extend_from_slice(b"interval ")?;
-    push_number(out, u64::from(i))?;
-    out.extend_from_slice(b" ")?;
+    push_front(out, b"interval ", i)?;
     out.extend_from_slice(interval.name())?;
     out.extend_from_slice(b"\n")
 }
@@ -80,24 +78,45 @@ fn push_links(out: &mut Vec<u8>, document: &Document<'_>) -> Result<(), AllocErr
     ensures { OnOk result (out.new.items ≡ out.old.items ++ texts.link_lines document.now.intervals 0 document.now.links) }
 {
     for k in 0..document.links() {
-        push_link(out, k, document)?;
+        push_link(out, k, document.link(k), document)?;
     }
     Ok(())
 }
 
 /// The number of a link, and its relation between the names of its intervals.
-fn push_link(out: &mut Vec<u8>, k: u32, document: &Document<'_>) -> Result<(), AllocError>
-    requires { k < length document.now.links }
-    ensures { OnOk result ((d : DocLink) → out.new.items ≡ out.old.items ++ texts.link_line document.now.intervals k (slice_index_or document.now.links k d)) }
+fn push_link(
+    out: &mut Vec<u8>,
+    k: u32,
+    link: DocLink,
+    document: &Document<'_>,
+) -> Result<(), AllocError>
+    requires a { link.a < length document.now.intervals }
+    requires b { link.b < length document.now.intervals }
+    ensures { OnOk result (out.new.items ≡ out.old.items ++ texts.link_line document.now.intervals k link) }
 {
-    let link = document.link(k);
-    out.extend_from_slice(b"tlink ")?;
-    push_number(out, u64::from(k))?;
-    out.extend_from_slice(b" ")?;
-    out.extend_from_slice(document.interval(link.a).name())?;
-    out.extend_from_slice(b" ")?;
-    out.extend_from_slice(link.rel.text())?;
-    out.extend_from_slice(b" ")?;
-    out.extend_from_slice(document.interval(link.b).name())?;
+    push_front(out, b"tlink ", k)?;
+    let a = document.interval(link.a).name();
+    let b = document.interval(link.b).name();
+    push_related(out, a, link.rel, b)?;
     out.extend_from_slice(b"\n")
+}
+
+/// A relation between two names.
+fn push_related(out: &mut Vec<u8>, a: &[u8], rel: Rel, b: &[u8]) -> Result<(), AllocError>
+    ensures { OnOk result (out.new.items ≡ out.old.items ++ texts.related a.now rel b.now) }
+{
+    out.extend_from_slice(a)?;
+    out.extend_from_slice(b" ")?;
+    out.extend_from_slice(rel.text())?;
+    out.extend_from_slice(b" ")?;
+    out.extend_from_slice(b)
+}
+
+/// A word that ends in a space, a number, and a space behind it.
+fn push_front(out: &mut Vec<u8>, word: &[u8], n: u32) -> Result<(), AllocError>
+    ensures { OnOk result (out.new.items ≡ out.old.items ++ texts.front word.now n) }
+{
+    out.extend_from_slice(word)?;
+    push_number(out, u64::from(n))?;
+    out.extend_from_slice(b" ")
 }
