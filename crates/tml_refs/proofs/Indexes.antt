@@ -1,8 +1,8 @@
 -- Lists of the names of intervals, each with the number of its interval.
-use Rattle.std.proofs.Common.{◌≡◌, ℕ, zero, suc, ◌+◌, ◌<◌, ◌≤◌, List, [], ◌∷◌, ◌++◌, length, Bool, true, false, Some, None, Result, Ok, Err, IfSome, inl, inr, refl, sym, ap, subst, ◌∙◌, arith}
+use Rattle.std.proofs.Common.{◌≡◌, ℕ, ◌+◌, ◌<◌, ◌≤◌, List, [], ◌∷◌, ◌++◌, length, false, inl, inr, refl, sym, ap, subst, ◌∙◌, arith}
 use Rattle.std.specs.Cmp.Lexicographic.{slice_cmp}
-use Rattle.std.specs.List.{All, Contains, slice_get}
-use Rattle.std.specs.List.Sorted.{IsPermutation, IsSorted, IsSortedByKey}
+use Rattle.std.specs.List.{All, Contains}
+use Rattle.std.specs.List.Sorted.{IsPermutation, IsSorted}
 use Rattle.std.specs.Ordering.{nat_cmp, is_lt, ordering_then}
 use Rattle.std.specs.declared.cmp.Ordering.{Ordering}
 use Rattle.std.specs.declared.cmp.Ordering.TheVariants.{Less, Equal, Greater}
@@ -40,16 +40,16 @@ pub one_more_listed : (intervals : List Interval) (n : ℕ) (entries : List Entr
 one_more_listed intervals n entries e listed named numbered = record {
   each = λ name i below is. elim (cases_lt i n) [
     | inl older ↦
-      let found = listed.each name i older is in
-      (found.0, Contains-append_left entries (e ∷ []) found.0 found.1, found.2, found.3)
+        let found = listed.each name i older is in
+        (found.0, Contains-append_left entries (e ∷ []) found.0 found.1, found.2, found.3)
     | inr last ↦
-      let same : e.1 ≡ i = omega (arith, numbered) in
-      (e, Contains-push entries e, one_name intervals i _ name (subst (IsNamed intervals (entry_name e)) same named) is, same)
+        let same : e.1 ≡ i = omega (arith, numbered) in
+        (e, Contains-push entries e, one_name intervals i _ name (subst (IsNamed intervals (entry_name e)) same named) is, same)
   ];
   only = All-push (λ x. IsNamed intervals (entry_name x) x.1) entries e listed.only named;
 }
 
--- what comes first is not less where both are not
+-- where two answers together are not less, the first is not
 first_not_less : (a b : Ordering) → is_lt (ordering_then a b) ≡ false → is_lt a ≡ false
 first_not_less Less b not_less = not_less
 first_not_less Equal b not_less = refl

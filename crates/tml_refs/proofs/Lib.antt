@@ -1,1 +1,2 @@
 mod Indexes
+mod Searches
