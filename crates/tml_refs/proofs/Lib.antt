@@ -1,0 +1,2 @@
+mod Indexes
+mod Searches

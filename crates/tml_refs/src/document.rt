@@ -132,12 +132,11 @@ fn names_in_order<'s>(
     requires { length intervals.now < 2 ^ 32 }
     ensures { IfOk result (IsIndexOf intervals.now) }
 {
-    let mut by_name = Vec::new(alloc);
+    let mut names = List::new(alloc);
     for (number, interval) in intervals.iter().enumerate() {
-        if by_name.push((interval.name(), number as u32)).is_err() {
-            return Err(Memory);
-        }
+        names.push((interval.name(), number as u32))?;
     }
+    let mut by_name = names.into_vec();
     match by_name.sort() {
         Ok(()) => Ok(List::from_vec(by_name)),
         Err(_) => Err(Memory),
