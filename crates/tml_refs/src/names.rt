@@ -115,10 +115,10 @@ impl<'s> Names<'s> {
         ensures old { IfOk result (λ old. old ≡ lookup (bytes_eq name.now) self.old) }
         ensures new { OnOk result ((q : List ℕ) → lookup (bytes_eq q) self.new ≡ (if bytes_eq name.now q then Some owners else lookup (bytes_eq q) self.old)) }
     {
-        match self.owners.insert(name, owners) {
-            Ok(old) => Ok(old),
-            Err(_) => Err(Memory),
-        }
+        let Ok(old) = self.owners.insert(name, owners) else {
+            return Err(Memory);
+        };
+        Ok(old)
     }
 
     /// No tag of this kind has the name.
