@@ -1,12 +1,14 @@
 //! Relations between intervals of time.
 #![tactic(auto)]
 
+mod bounds;
 mod limits;
 mod list;
 mod rels;
 #[cfg(test)]
 mod tests;
 
+pub use bounds::Bounds;
 pub use limits::{MAX_INTERVALS, MAX_LINKS};
 pub use list::{List, Memory};
 pub use rels::{Rel, rel_of, rels_are_apart};
