@@ -14,7 +14,6 @@ ghost use Rattle.tml_tree.specs.View.{node_of, tag_node};
 
 use crate::rules::{MOST_OPEN, Rule, in_link, is_blank, is_name_of};
 use crate::{Node, Tag, TagName};
-use named::named_by;
 use std::alloc::{AllocError, Global};
 use std::mem;
 use tml_span::{Attr, List, Span, Unit};
@@ -192,7 +191,7 @@ impl<'s> Builder<'s> {
     fn tag(&self, name: &[u8]) -> Result<TagName, Rule>
         ensures { TagRule result (rules.tag_rule (history_of self.now) name.now) name.now }
     {
-        let Some(tag) = named_by::<TagName>(name) else {
+        let Some(tag) = TagName::of(name) else {
             return Err(Rule::UnknownTag);
         };
         if self.is_misplaced(tag) {
