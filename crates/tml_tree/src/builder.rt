@@ -9,8 +9,8 @@ ghost use Rattle.tml_tree.specs.Nesting.{is_element};
 ghost use Rattle.tml_tree.specs.Rules as rules;
 ghost use Rattle.tml_tree.specs.Trees.{Document, Unclosed};
 ghost use Rattle.tml_tree.specs.Roots.{EndsIn};
-ghost use Rattle.tml_tree.specs.Taking.{Takes, Refuses, Stands, TagRule, history_of};
-ghost use Rattle.tml_tree.specs.View.{node_of, tag_node};
+ghost use Rattle.tml_tree.specs.Taking.{OnlyInnermost, Takes, Refuses, Stands, TagRule, history_of};
+ghost use Rattle.tml_tree.specs.View.{names_of, node_of, tag_node};
 
 use crate::rules::{MOST_OPEN, Rule, in_link, is_blank, is_name_of};
 use crate::{Node, Tag, TagName};
@@ -103,6 +103,7 @@ impl<'s> Builder<'s> {
 
     /// Takes one more unit, or says why it may not stand there.
     pub fn take(&mut self, alloc: Global, unit: Unit<'s>) -> Result<(), Stop>
+        requires { OnlyInnermost (names_of self.old.frames.items) }
         ensures ok { OnOk result (Takes self.old (unit_of unit.entry) self.new) }
         ensures err { IfErr result (λ e. Refuses self.old (unit_of unit.entry) e) }
     {
@@ -164,6 +165,7 @@ impl<'s> Builder<'s> {
     }
 
     fn text(&mut self, span: Span, text: &'s [u8]) -> Result<(), Stop>
+        requires { OnlyInnermost (names_of self.old.frames.items) }
         ensures ok { OnOk result (Takes self.old (unit span.start span.end (units.text text.now)) self.new) }
         ensures err { IfErr result (λ e. Refuses self.old (unit span.start span.end (units.text text.now)) e) }
     {
@@ -178,6 +180,7 @@ impl<'s> Builder<'s> {
     }
 
     fn is_misplaced(&self, name: TagName) -> bool
+        requires { OnlyInnermost (names_of self.now.frames.items) }
         ensures { result ≡ rules.is_misplaced_tag (history_of self.now) (text_of name) }
     {
         let is_root = name == TagName::TimeMl;
@@ -189,6 +192,7 @@ impl<'s> Builder<'s> {
 
     /// The tag of this name, or the first rule that applies to a start or empty tag.
     fn tag(&self, name: &[u8]) -> Result<TagName, Rule>
+        requires { OnlyInnermost (names_of self.now.frames.items) }
         ensures { TagRule result (rules.tag_rule (history_of self.now) name.now) name.now }
     {
         let Some(tag) = TagName::of(name) else {
@@ -210,6 +214,7 @@ impl<'s> Builder<'s> {
         name: &'s [u8],
         attrs: List<Attr<'s>>,
     ) -> Result<(), Stop>
+        requires { OnlyInnermost (names_of self.old.frames.items) }
         ensures ok { OnOk result (Takes self.old (unit span.start span.end (units.start_tag name.now (map attribute_of attrs.entry))) self.new) }
         ensures err { IfErr result (λ e. Refuses self.old (unit span.start span.end (units.start_tag name.now (map attribute_of attrs.entry))) e) }
     {
@@ -240,6 +245,7 @@ impl<'s> Builder<'s> {
         name: &'s [u8],
         attrs: List<Attr<'s>>,
     ) -> Result<(), Stop>
+        requires { OnlyInnermost (names_of self.old.frames.items) }
         ensures ok { OnOk result (Takes self.old (unit span.start span.end (units.empty_tag name.now (map attribute_of attrs.entry))) self.new) }
         ensures err { IfErr result (λ e. Refuses self.old (unit span.start span.end (units.empty_tag name.now (map attribute_of attrs.entry))) e) }
     {

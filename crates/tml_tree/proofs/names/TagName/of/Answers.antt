@@ -1,4 +1,4 @@
-use Rattle.std.proofs.Common.{◌≡◌, List, ap, ◌∙◌}
+use Rattle.std.proofs.Common.{List, ap, ◌∙◌}
 use Rattle.named.specs.Texts.{named_of}
 use Rattle.tml_tree.specs.declared.names.TagName.{TagName}
 use Rattle.tml_tree.specs.Names.{text_of}
