@@ -62,13 +62,22 @@ fn make_element<'s>(
     })
 }
 
-/// Adds a node behind the others. A first one gets room for itself alone, since most elements have one child.
+/// Makes room for one node more. A first one gets room for itself alone, since most elements have one child.
+fn reserve_node<'s>(nodes: &mut Vec<Node<'s>>) -> Result<(), AllocError>
+    ensures { OnOk result (nodes.new.items ≡ nodes.old.items) }
+{
+    if nodes.is_empty() {
+        nodes.reserve_exact(1)
+    } else {
+        nodes.reserve(1)
+    }
+}
+
+/// Adds a node behind the others.
 fn push_node<'s>(nodes: &mut Vec<Node<'s>>, node: Node<'s>) -> Result<(), AllocError>
     ensures { OnOk result (nodes.new.items ≡ nodes.old.items ++ node.entry ∷ []) }
 {
-    if nodes.is_empty() {
-        nodes.reserve_exact(1)?;
-    }
+    reserve_node(nodes)?;
     nodes.push(node)?;
     Ok(())
 }
@@ -222,6 +231,10 @@ impl<'s> Builder<'s> {
             Ok(name) => name,
             Err(rule) => return Err(Stop::Broken(rule)),
         };
+        // The room for an element comes before the room for its children, so that a walk meets them in their order.
+        if reserve_node(&mut self.nodes).is_err() {
+            return Err(Stop::Memory);
+        }
         let before = mem::replace(&mut self.nodes, Vec::new(alloc));
         let frame = Frame {
             span,
