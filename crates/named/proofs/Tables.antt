@@ -1,6 +1,6 @@
 -- Tables of texts.
-use Rattle.std.proofs.Common.{◌≡◌, ℕ, Bool, true, false, cond, ◌||◌, ◌↔◌, List, [], ◌∷◌, map, refl, ap, sym, subst, Option, Some, None}
-use Rattle.std.specs.List.{list_any}
+use Rattle.std.proofs.Common.{◌≡◌, ℕ, Bool, true, false, cond, ◌||◌, ◌↔◌, List, [], ◌∷◌, map, refl, ap, sym, subst, ◌∙◌, Option, Some, None}
+use Rattle.std.specs.List.{filter, list_any}
 use Rattle.std.specs.Option.{is_some, IfSome, IsNone}
 use Rattle.std.specs.Str.{bytes_eq}
 use Rattle.std.proofs.lemmas.Slice.Eq.{bytes_eq-Decides}
@@ -45,3 +45,24 @@ found_is_one text_of (v ∷ vs) text =
       | true ↦ refl
       | false ↦ found_is_one text_of vs text
     ]
+
+-- a value that is found has the text, and the text is one of the table's
+pub named_some : {T : Type 0} (text_of : T → List ℕ) (vs : List T) (text : List ℕ) (v : T) → named_of text_of vs text ≡ Some v → (text_of v ≡ text) × (is_one_of (map text_of vs) text ≡ true)
+named_some text_of vs text v h = (found_has text_of vs text v h, sym (found_is_one text_of vs text) ∙ ap (λ (o : Option _). is_some o) h)
+
+-- where none is found the text is none of the table's
+pub named_none : {T : Type 0} (text_of : T → List ℕ) (vs : List T) (text : List ℕ) → named_of text_of vs text ≡ None → is_one_of (map text_of vs) text ≡ false
+named_none text_of vs text h = sym (found_is_one text_of vs text) ∙ ap (λ (o : Option _). is_some o) h
+
+-- values that do not have the text may be left out
+pub found_among : {T : Type 0} (text_of : T → List ℕ) (p : T → Bool) (vs : List T) (text : List ℕ) → ((v : T) → text_of v ≡ text → p v ≡ true) → named_of text_of (filter p vs) text ≡ named_of text_of vs text
+found_among text_of p [] text h = refl
+found_among {T} text_of p (v ∷ vs) text h =
+    let rest = found_among text_of p vs text h in
+    elim (p v) as (λ b. p v ≡ b → named_of text_of (cond b (v ∷ filter p vs) (filter p vs)) text ≡ named_of text_of (v ∷ vs) text) [
+      | true ↦ λ e. ap (λ (o : Option T). cond (bytes_eq (text_of v) text) (Some v) o) rest
+      | false ↦ λ e. elim (bytes_eq (text_of v) text) as (λ b. bytes_eq (text_of v) text ≡ b → named_of text_of (filter p vs) text ≡ cond b (Some v) (named_of text_of vs text)) [
+          | true ↦ λ s. let passes = h v ((bytes_eq-Decides (text_of v) text).0 s) in absurd cc
+          | false ↦ λ s. rest
+        ] refl
+    ] refl
