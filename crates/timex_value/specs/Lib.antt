@@ -1,1 +1,5 @@
 pub mod Kinds
+pub mod Civil
+pub mod Text
+pub mod Filling
+pub mod Values
