@@ -1,10 +1,20 @@
 //! Values of TIMEX3.
 #![tactic(auto)]
 
+mod durations;
+mod fields;
 mod kinds;
+pub mod laws;
+mod length;
+mod read;
+mod shape;
 #[cfg(test)]
 mod tests;
+mod valid;
 mod value;
 
 pub use kinds::{Modifier, TimexKind};
-pub use value::Value;
+pub use length::{Count, Length};
+pub use read::read_value;
+pub use shape::{Part, Shape, Year};
+pub use value::{BadDate, Calendar, Value};
