@@ -1,13 +1,14 @@
 -- The rules of attributes, and the first one that a tag breaks.
-use Rattle.std.specs.Prelude.{◌≡◌, ◌≤◌, ℕ, Bool, true, false, ◌&&◌, ◌||◌, not, List, [], ◌∷◌, Option, Some, None, if◌then◌else◌}
+use Rattle.std.specs.Prelude.{◌≡◌, ◌≤◌, ℕ, Bool, true, false, ◌&&◌, ◌||◌, not, List, [], ◌∷◌, codes, Option, Some, None, if◌then◌else◌}
 use Rattle.std.specs.List.{list_any}
 use Rattle.std.specs.Str.{bytes_eq}
 use Rattle.named.specs.Texts.{named_of}
+use Rattle.timex_value.specs.Filling.{NoFilling}
 use Rattle.tml_span.specs.Units.{Attribute}
 use Rattle.tml_tree.specs.Names.{text_of, all_tags}
 use Rattle.tml_tree.specs.Walking.{PlainTag}
 use Rattle.tml_types.specs.declared.rules.Rule.{Rule}
-use Rattle.tml_types.specs.declared.rules.Rule.TheVariants.{RepeatedAttribute, MissingAttribute, BadValue, Conflict}
+use Rattle.tml_types.specs.declared.rules.Rule.TheVariants.{RepeatedAttribute, MissingAttribute, BadValue, Conflict, BadDate}
 use Rattle.tml_types.specs.Table.{Row, required, optional, one_of, rows_of}
 use Rattle.tml_types.specs.Values.{fits, value_of}
 
@@ -49,21 +50,25 @@ is_conflict attrs (required name form) = false
 is_conflict attrs (optional name form) = false
 is_conflict attrs (one_of name other form) = not (is_absent (value_of name attrs)) && not (is_absent (value_of other attrs))
 
--- a tag with these rows and attributes breaks a rule
-abbrev pub breaks : Rule → List Row → List Attribute → Bool
-breaks RepeatedAttribute rows attrs = is_repeated attrs
-breaks MissingAttribute rows attrs = list_any (is_missing attrs) rows
-breaks BadValue rows attrs = list_any (is_bad attrs) rows
-breaks Conflict rows attrs = list_any (is_conflict attrs) rows
+-- a value that is there, has the form of a calendar value and is no date of the calendar
+abbrev pub IsNoDate : Option (List ℕ) → Type 0
+IsNoDate None = ⊥
+IsNoDate (Some text) = NoFilling text
 
+-- a tag breaks a rule
 abbrev pub HasRule : Rule → PlainTag → Type 0
-HasRule rule tag = breaks rule (rows_at tag.name) tag.attrs ≡ true
+HasRule RepeatedAttribute tag = is_repeated tag.attrs ≡ true
+HasRule MissingAttribute tag = list_any (is_missing tag.attrs) (rows_at tag.name) ≡ true
+HasRule BadValue tag = list_any (is_bad tag.attrs) (rows_at tag.name) ≡ true
+HasRule Conflict tag = list_any (is_conflict tag.attrs) (rows_at tag.name) ≡ true
+HasRule BadDate tag = (tag.name ≡ codes "TIMEX3") × IsNoDate (value_of (codes "value") tag.attrs)
 
 abbrev pub number : Rule → ℕ
 number RepeatedAttribute = 9
 number MissingAttribute = 10
 number BadValue = 11
 number Conflict = 12
+number BadDate = 13
 
 -- a tag without fault
 abbrev pub IsSound : PlainTag → Type 0
@@ -74,16 +79,20 @@ pub record IsFirst (tag : PlainTag) (rule : Rule) : Type 0 where
   pub broken : HasRule rule tag
   pub least : (other : Rule) → HasRule other tag → number rule ≤ number other
 
--- the same by the rules in their order
+-- a tag without fault but for its date
+abbrev pub IsFitting : PlainTag → Type 0
+IsFitting tag = (rule : Rule) → HasRule rule tag → rule ≡ BadDate
+
+-- of the rules but that of dates the first one that is broken, by these rows
 abbrev pub first_broken : List Row → List Attribute → Option Rule
 first_broken rows attrs =
-    if breaks RepeatedAttribute rows attrs then Some RepeatedAttribute
-    else if breaks MissingAttribute rows attrs then Some MissingAttribute
-    else if breaks BadValue rows attrs then Some BadValue
-    else if breaks Conflict rows attrs then Some Conflict
+    if is_repeated attrs then Some RepeatedAttribute
+    else if list_any (is_missing attrs) rows then Some MissingAttribute
+    else if list_any (is_bad attrs) rows then Some BadValue
+    else if list_any (is_conflict attrs) rows then Some Conflict
     else None
 
--- the first rule that a tag breaks, or none
+-- the first rule that a tag breaks, or none but that of dates
 abbrev pub FirstOf : PlainTag → Option Rule → Type 0
-FirstOf tag None = IsSound tag
+FirstOf tag None = IsFitting tag
 FirstOf tag (Some rule) = IsFirst tag rule

@@ -1,8 +1,9 @@
 -- What a typed tag says of a tag.
-use Rattle.std.specs.Prelude.{◌≡◌, ℕ, List, codes, Some, option_map}
+use Rattle.std.specs.Prelude.{◌≡◌, ℕ, List, codes, Option, Some, None, option_map}
 use Rattle.net_core.specs.Rels.{rel_text}
 use Rattle.timex_value.specs.Kinds.{kind_text, modifier_text}
-use Rattle.timex_value.specs.declared.value.Value.TheVariants.{Other}
+use Rattle.timex_value.specs.Values.{ValueOf}
+use Rattle.timex_value.specs.declared.value.Value.{Value}
 use Rattle.tml_span.specs.Units.{Attribute}
 use Rattle.tml_tree.specs.Walking.{PlainTag}
 use Rattle.tml_types.specs.declared.typed.LinkEnd.{LinkEnd}
@@ -16,6 +17,12 @@ use Rattle.tml_types.specs.Values.{truth_text, value_of}
 abbrev pub EndOf : List Attribute → List ℕ → List ℕ → LinkEnd → Type 0
 EndOf attrs instance time (end.Instance name) = value_of instance attrs ≡ Some name.now
 EndOf attrs instance time (end.Time name) = value_of time attrs ≡ Some name.now
+
+-- the value of a time is what its text stands for, and none where that is absent
+abbrev pub IsValueOf : Option (List ℕ) → Option Value → Type 0
+IsValueOf None None = Unit {0}
+IsValueOf (Some text) (Some value) = ValueOf text value
+IsValueOf text value = ⊥
 
 -- each field is the value of its attribute, and none where that is absent
 abbrev pub TypedAs : PlainTag → TypedTag → Type 0
@@ -39,7 +46,7 @@ TypedAs tag (Timex place tid kind value modifier function temporal anchor begin 
     × (place ≡ tag.place)
     × (value_of (codes "tid") tag.attrs ≡ Some tid.now)
     × (value_of (codes "type") tag.attrs ≡ Some (kind_text kind))
-    × (value ≡ option_map (λ text. Other) (value_of (codes "value") tag.attrs))
+    × IsValueOf (value_of (codes "value") tag.attrs) value
     × (value_of (codes "mod") tag.attrs ≡ option_map modifier_text modifier)
     × (value_of (codes "functionInDocument") tag.attrs ≡ option_map names.function_text function)
     × (value_of (codes "temporalFunction") tag.attrs ≡ option_map truth_text temporal)

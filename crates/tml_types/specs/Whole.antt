@@ -40,6 +40,7 @@ told (faults.RepeatedAttribute place) = Some (place, rules.RepeatedAttribute)
 told (faults.MissingAttribute place) = Some (place, rules.MissingAttribute)
 told (faults.BadValue place) = Some (place, rules.BadValue)
 told (faults.Conflict place) = Some (place, rules.Conflict)
+told (faults.BadDate place) = Some (place, rules.BadDate)
 told faults.Memory = None
 
 -- a fault of some tags; want of memory says nothing

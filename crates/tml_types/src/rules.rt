@@ -15,16 +15,17 @@ use std::alloc::Global;
 use tml_span::{Attr, Memory};
 use tml_tree::Tag;
 
-/// A rule that a tag can break, in the order of their numbers, 9 to 12.
+/// A rule that a tag can break, in the order of their numbers, 9 to 13.
 #[derive(Clone, Copy, Debug, PartialEq, Eq)]
 pub enum Rule {
     RepeatedAttribute,
     MissingAttribute,
     BadValue,
     Conflict,
+    BadDate,
 }
 
-/// The first rule that a tag breaks, or none.
+/// The first rule that a tag breaks, or none but that of dates, which `typed_tag` asks.
 pub fn first_rule(alloc: Global, tag: &Tag<'_>) -> Result<Option<Rule>, Memory>
     ensures { IfOk result (λ o. FirstOf (plain_of tag.now) o) }
 {
@@ -35,7 +36,7 @@ pub fn first_rule(alloc: Global, tag: &Tag<'_>) -> Result<Option<Rule>, Memory>
     }
 }
 
-/// The first of the rules that a tag with these rows and attributes breaks.
+/// The first of the rules but that of dates that a tag with these rows and attributes breaks.
 #[tactic(auto, using(named::proofs::Tables::any_map))]
 fn first_broken(repeated: bool, rows: &[Row], attrs: &[Attr<'_>]) -> Option<Rule>
     requires { repeated ≡ rules.is_repeated (map attribute_of attrs.now) }

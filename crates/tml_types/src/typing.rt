@@ -1,42 +1,50 @@
 //! Typed tags of tags without fault.
-ghost use Rattle.std.specs.Prelude.{◌≡◌, ◌&&◌, [], ◌∷◌, IfSome, false, Some, codes, map, option_map};
+ghost use Rattle.std.specs.Prelude.{◌≡◌, ◌↔◌, ◌&&◌, [], ◌∷◌, IfOk, IfSome, IsErr, false, Some, codes, map, option_map};
 ghost use Rattle.std.specs.Option.{option_to_list};
-ghost use Rattle.timex_value.specs.declared.value.Value.TheVariants as value;
 ghost use Rattle.tml_span.specs.View.{attribute_of};
 ghost use Rattle.tml_tree.specs.declared.names.TagName.TheVariants as tag;
 ghost use Rattle.tml_types.specs.Holding.{RowsHold, plain_of, tag_at};
 ghost use Rattle.tml_types.specs.Places.{Fits};
-ghost use Rattle.tml_types.specs.Rules.{is_absent, is_unfit};
+ghost use Rattle.tml_types.specs.Rules.{HasRule, IsNoDate, is_absent, is_unfit};
 ghost use Rattle.tml_types.specs.Table.{rows_of};
-ghost use Rattle.tml_types.specs.Typing.{EndOf, TypedAs};
+ghost use Rattle.tml_types.specs.Typing.{EndOf, IsValueOf, TypedAs};
 ghost use Rattle.tml_types.specs.Values as values;
 ghost use Rattle.tml_types.specs.Whole.{AreTyped};
+ghost use Rattle.tml_types.specs.declared.rules.Rule.TheVariants as rule;
 
 use crate::typed::{LinkEnd, TypedTag};
 use crate::values::{truth_of, value_of};
 use named::{Named, named_by};
-use timex_value::Value;
+use timex_value::{BadDate, Value, read_value};
 use tml_span::Attr;
 use tml_tree::{Tag, TagName};
 
-/// The typed tag of a tag without fault. The root and the wrappers have none.
+/// The typed tag of a tag that breaks no rule but that of dates. The root and the wrappers have none.
+///
+/// # Errors
+///
+/// `BadDate` comes exactly where the tag breaks the rule of dates.
 #[tactic(auto, using(crate::proofs::Rising::typed_place), unfolding(crate::specs::Rules::rows_at))]
-pub fn typed_tag<'s>(tag: &Tag<'s>) -> Option<TypedTag<'s>>
+pub fn typed_tag<'s>(tag: &Tag<'s>) -> Result<Option<TypedTag<'s>>, BadDate>
     requires { RowsHold (map attribute_of tag.now.attrs) (rows_of tag.now.name) }
-    ensures typed { AreTyped (plain_of tag.now ∷ []) (option_to_list result) }
-    ensures fits { IfSome result Fits }
+    ensures typed { IfOk result (λ t. AreTyped (plain_of tag.now ∷ []) (option_to_list t)) }
+    ensures fits { IfOk result (λ t. IfSome t Fits) }
+    ensures bad { IsErr result ↔ HasRule rule.BadDate (plain_of tag.now) }
 {
     let place = tag.span.start;
     let attrs = tag.attrs.as_slice();
     match tag.name {
-        TagName::Event => Some(event(place, attrs)),
-        TagName::MakeInstance => Some(instance(place, attrs)),
-        TagName::Timex3 => Some(timex(place, attrs)),
-        TagName::Signal => Some(signal(place, attrs)),
-        TagName::Tlink => Some(tlink(place, attrs)),
-        TagName::Alink => Some(alink(place, attrs)),
-        TagName::Slink => Some(slink(place, attrs)),
-        _ => None,
+        TagName::Event => Ok(Some(event(place, attrs))),
+        TagName::MakeInstance => Ok(Some(instance(place, attrs))),
+        TagName::Timex3 => match timex(place, attrs) {
+            Ok(value) => Ok(Some(value)),
+            Err(BadDate) => Err(BadDate),
+        },
+        TagName::Signal => Ok(Some(signal(place, attrs))),
+        TagName::Tlink => Ok(Some(tlink(place, attrs))),
+        TagName::Alink => Ok(Some(alink(place, attrs))),
+        TagName::Slink => Ok(Some(slink(place, attrs))),
+        _ => Ok(None),
     }
 }
 
@@ -67,22 +75,26 @@ fn instance<'s>(place: u32, attrs: &[Attr<'s>]) -> TypedTag<'s>
     }
 }
 
-fn timex<'s>(place: u32, attrs: &[Attr<'s>]) -> TypedTag<'s>
+fn timex<'s>(place: u32, attrs: &[Attr<'s>]) -> Result<TypedTag<'s>, BadDate>
     requires { RowsHold (map attribute_of attrs.now) (rows_of tag.Timex3) }
-    ensures { TypedAs (tag_at place tag.Timex3 (map attribute_of attrs.now)) result }
+    ensures typed { IfOk result (λ t. TypedAs (tag_at place tag.Timex3 (map attribute_of attrs.now)) t) }
+    ensures bad { IsErr result ↔ IsNoDate (values.value_of (codes "value") (map attribute_of attrs.now)) }
 {
-    TypedTag::Timex {
+    let Ok(value) = timex_value(attrs) else {
+        return Err(BadDate);
+    };
+    Ok(TypedTag::Timex {
         place,
         tid: required(attrs, b"tid"),
         kind: required_named(attrs, b"type"),
-        value: timex_value(attrs),
+        value,
         modifier: optional_named(attrs, b"mod"),
         function: optional_named(attrs, b"functionInDocument"),
         temporal: truth(attrs, b"temporalFunction"),
         anchor: value_of(attrs, b"anchorTimeID"),
         begin: value_of(attrs, b"beginPoint"),
         finish: value_of(attrs, b"endPoint"),
-    }
+    })
 }
 
 fn signal<'s>(place: u32, attrs: &[Attr<'s>]) -> TypedTag<'s>
@@ -183,12 +195,16 @@ fn truth(attrs: &[Attr<'_>], name: &[u8]) -> Option<bool>
 }
 
 /// The value of a time, where it is there.
-fn timex_value(attrs: &[Attr<'_>]) -> Option<Value>
-    ensures { result ≡ option_map (λ text. value.Other) (values.value_of (codes "value") (map attribute_of attrs.now)) }
+fn timex_value(attrs: &[Attr<'_>]) -> Result<Option<Value>, BadDate>
+    ensures value { IfOk result (λ v. IsValueOf (values.value_of (codes "value") (map attribute_of attrs.now)) v) }
+    ensures bad { IsErr result ↔ IsNoDate (values.value_of (codes "value") (map attribute_of attrs.now)) }
 {
-    match value_of(attrs, b"value") {
-        Some(_) => Some(Value::Other),
-        None => None,
+    let Some(text) = value_of(attrs, b"value") else {
+        return Ok(None);
+    };
+    match read_value(text) {
+        Ok(value) => Ok(Some(value)),
+        Err(BadDate) => Err(BadDate),
     }
 }
 

@@ -12,7 +12,8 @@ use crate::typed::TypedTag;
 use crate::typing::typed_tag;
 use std::alloc::Global;
 use std::marker::Model;
-use tml_span::List;
+use timex_value::BadDate;
+use tml_span::{List, Memory};
 use tml_tree::{Node, Tag, TagTree};
 
 /// The tags of a document that mean something, typed, in document order. Their places rise strictly, and there are
@@ -57,6 +58,9 @@ pub enum TypeFault {
     BadValue { place: u32 },
     /// Both of a pair are there, and neither is empty.
     Conflict { place: u32 },
+    /// The value of a TIMEX3 has the form of a calendar value, and none of the dates and times that it may stand for
+    /// exists.
+    BadDate { place: u32 },
     /// Memory is wanting.
     Memory,
 }
@@ -130,12 +134,14 @@ fn type_one<'s>(
     if let Some(rule) = rule {
         return Err(fault_at(rule, tag.span.start));
     }
-    if let Some(value) = typed_tag(tag) {
-        if typed.push(value).is_err() {
-            return Err(TypeFault::Memory);
-        }
+    match typed_tag(tag) {
+        Ok(None) => Ok(()),
+        Ok(Some(value)) => match typed.push(value) {
+            Ok(()) => Ok(()),
+            Err(Memory) => Err(TypeFault::Memory),
+        },
+        Err(BadDate) => Err(fault_at(Rule::BadDate, tag.span.start)),
     }
-    Ok(())
 }
 
 fn fault_at(rule: Rule, place: u32) -> TypeFault
@@ -146,5 +152,6 @@ fn fault_at(rule: Rule, place: u32) -> TypeFault
         Rule::MissingAttribute => TypeFault::MissingAttribute { place },
         Rule::BadValue => TypeFault::BadValue { place },
         Rule::Conflict => TypeFault::Conflict { place },
+        Rule::BadDate => TypeFault::BadDate { place },
     }
 }
