@@ -12,11 +12,9 @@ use Rattle.timex_value.specs.declared.value.Calendar.{Calendar}
 use Rattle.timex_value.specs.Text.{IsYearWritten, IsShapeWritten}
 use Rattle.timex_value.specs.Filling.{CanBe, DigitCanBe, YearCanBe, HasDate, HasClock, HasWeek, IsClock, FitsYear, HasFilling}
 use Rattle.timex_value.specs.Values.{year_of, shape_of}
+use Rattle.timex_dates.specs.Valid.{HasDateParts, HasWeekParts, HasQuarterPart, HasParts, HasKnownPart}
 use Rattle.std.proofs.Math.Logic.{∥∥₁_elim}
 use Rattle.std.proofs.Props.{props}
-use Rattle.timex_dates.specs.declared.known.KnownPart.{KnownPart}
-use Rattle.timex_dates.specs.declared.known.KnownPart.TheVariants.{Years, WeekYears, Month, Quarter, Day, Week, Weekday, Hour, Minute, Second}
-use Rattle.timex_dates.specs.KnownParts.{part_of_year, part_of_years, known_part, IsRun, IsPart}
 
 part_is : (n m : ℕ) → n ≤ 99 → CanBe (Known n) m → m ≡ n
 part_is n m h k = grind arith
@@ -50,79 +48,80 @@ second_is : (s : ℕ) (h i : Part) → s ≤ 99 → HasClock h i (Known s) → s
 second_is s h i k f = omega (arith, part_is s f.2 k f.5, clock_bounds f.0 f.1 f.2 f.6)
 
 -- in a year that the shape fits
-part_fits : (y : ℕ) (s : Shape) → IsInRange 1 9999 y → IsShapeWritten s → FitsYear y s → IsPart (part_of_year y s)
-part_fits y ShapeOf.Year r w f = r
-part_fits y (ShapeOf.Month (Known m)) r w f = (r, subst (IsInRange 1 12) (part_is m f.0 w f.1) f.2)
-part_fits y (ShapeOf.Month Unknown) r w f = r
-part_fits y (ShapeOf.Day (Known m) (Known d)) r w f = (date_is y m d w.0 w.1 f, r.1)
-part_fits y (ShapeOf.Day (Known m) Unknown) r w f = (r, month_is y m Unknown w.0 f)
-part_fits y (ShapeOf.Day Unknown d) r w f = r
-part_fits y (ShapeOf.Week (Known k)) r w f = (r, week_is y k w f)
-part_fits y (ShapeOf.Week Unknown) r w f = r
-part_fits y (ShapeOf.Weekday (Known k) (Known d)) r w f = (r, week_is y k w.0 f.0, subst (IsInRange 1 7) (digit_is d f.1.0 w.1 f.1.1) f.1.2)
-part_fits y (ShapeOf.Weekday (Known k) Unknown) r w f = (r, week_is y k w.0 f.0)
-part_fits y (ShapeOf.Weekday Unknown d) r w f = r
-part_fits y (ShapeOf.Quarter (Known q)) r w f = (r, subst (IsInRange 1 4) (digit_is q f.0 w f.1) f.2)
-part_fits y (ShapeOf.Quarter Unknown) r w f = r
-part_fits y (ShapeOf.Hour (Known m) (Known d) (Known h)) r w f = (date_is y m d w.0 w.1 f.0, r.1, hour_is h (Known 0) (Known 0) w.2 f.1)
-part_fits y (ShapeOf.Hour (Known m) (Known d) Unknown) r w f = (date_is y m d w.0 w.1 f.0, r.1)
-part_fits y (ShapeOf.Hour (Known m) Unknown h) r w f = (r, month_is y m Unknown w.0 f.0)
-part_fits y (ShapeOf.Hour Unknown d h) r w f = r
-part_fits y (ShapeOf.Minute (Known m) (Known d) (Known h) (Known i)) r w f = (date_is y m d w.0 w.1 f.0, r.1, hour_is h (Known i) (Known 0) w.2 f.1, minute_is i (Known h) (Known 0) w.3 f.1)
-part_fits y (ShapeOf.Minute (Known m) (Known d) (Known h) Unknown) r w f = (date_is y m d w.0 w.1 f.0, r.1, hour_is h Unknown (Known 0) w.2 f.1)
-part_fits y (ShapeOf.Minute (Known m) (Known d) Unknown i) r w f = (date_is y m d w.0 w.1 f.0, r.1)
-part_fits y (ShapeOf.Minute (Known m) Unknown h i) r w f = (r, month_is y m Unknown w.0 f.0)
-part_fits y (ShapeOf.Minute Unknown d h i) r w f = r
-part_fits y (ShapeOf.Second (Known m) (Known d) (Known h) (Known i) (Known s)) r w f = (date_is y m d w.0 w.1 f.0, r.1, hour_is h (Known i) (Known s) w.2 f.1, minute_is i (Known h) (Known s) w.3 f.1, second_is s (Known h) (Known i) w.4 f.1)
-part_fits y (ShapeOf.Second (Known m) (Known d) (Known h) (Known i) Unknown) r w f = (date_is y m d w.0 w.1 f.0, r.1, hour_is h (Known i) Unknown w.2 f.1, minute_is i (Known h) Unknown w.3 f.1)
-part_fits y (ShapeOf.Second (Known m) (Known d) (Known h) Unknown s) r w f = (date_is y m d w.0 w.1 f.0, r.1, hour_is h Unknown s w.2 f.1)
-part_fits y (ShapeOf.Second (Known m) (Known d) Unknown i s) r w f = (date_is y m d w.0 w.1 f.0, r.1)
-part_fits y (ShapeOf.Second (Known m) Unknown h i s) r w f = (r, month_is y m Unknown w.0 f.0)
-part_fits y (ShapeOf.Second Unknown d h i s) r w f = r
+parts_fit : (y : ℕ) (s : Shape) → IsShapeWritten s → FitsYear y s → HasParts y s
+parts_fit y ShapeOf.Year w f = tt
+parts_fit y (ShapeOf.Month (Known m)) w f = subst (IsInRange 1 12) (part_is m f.0 w f.1) f.2
+parts_fit y (ShapeOf.Month Unknown) w f = tt
+parts_fit y (ShapeOf.Day (Known m) (Known d)) w f = date_is y m d w.0 w.1 f
+parts_fit y (ShapeOf.Day (Known m) Unknown) w f = month_is y m Unknown w.0 f
+parts_fit y (ShapeOf.Day Unknown d) w f = tt
+parts_fit y (ShapeOf.Week (Known k)) w f = week_is y k w f
+parts_fit y (ShapeOf.Week Unknown) w f = tt
+parts_fit y (ShapeOf.Weekday (Known k) (Known d)) w f = (week_is y k w.0 f.0, subst (IsInRange 1 7) (digit_is d f.1.0 w.1 f.1.1) f.1.2)
+parts_fit y (ShapeOf.Weekday (Known k) Unknown) w f = week_is y k w.0 f.0
+parts_fit y (ShapeOf.Weekday Unknown d) w f = tt
+parts_fit y (ShapeOf.Quarter (Known q)) w f = subst (IsInRange 1 4) (digit_is q f.0 w f.1) f.2
+parts_fit y (ShapeOf.Quarter Unknown) w f = tt
+parts_fit y (ShapeOf.Hour (Known m) (Known d) (Known h)) w f = (date_is y m d w.0 w.1 f.0, hour_is h (Known 0) (Known 0) w.2 f.1)
+parts_fit y (ShapeOf.Hour (Known m) (Known d) Unknown) w f = date_is y m d w.0 w.1 f.0
+parts_fit y (ShapeOf.Hour (Known m) Unknown h) w f = month_is y m Unknown w.0 f.0
+parts_fit y (ShapeOf.Hour Unknown d h) w f = tt
+parts_fit y (ShapeOf.Minute (Known m) (Known d) (Known h) (Known i)) w f = (date_is y m d w.0 w.1 f.0, hour_is h (Known i) (Known 0) w.2 f.1, minute_is i (Known h) (Known 0) w.3 f.1)
+parts_fit y (ShapeOf.Minute (Known m) (Known d) (Known h) Unknown) w f = (date_is y m d w.0 w.1 f.0, hour_is h Unknown (Known 0) w.2 f.1)
+parts_fit y (ShapeOf.Minute (Known m) (Known d) Unknown i) w f = date_is y m d w.0 w.1 f.0
+parts_fit y (ShapeOf.Minute (Known m) Unknown h i) w f = month_is y m Unknown w.0 f.0
+parts_fit y (ShapeOf.Minute Unknown d h i) w f = tt
+parts_fit y (ShapeOf.Second (Known m) (Known d) (Known h) (Known i) (Known s)) w f = (date_is y m d w.0 w.1 f.0, hour_is h (Known i) (Known s) w.2 f.1, minute_is i (Known h) (Known s) w.3 f.1, second_is s (Known h) (Known i) w.4 f.1)
+parts_fit y (ShapeOf.Second (Known m) (Known d) (Known h) (Known i) Unknown) w f = (date_is y m d w.0 w.1 f.0, hour_is h (Known i) Unknown w.2 f.1, minute_is i (Known h) Unknown w.3 f.1)
+parts_fit y (ShapeOf.Second (Known m) (Known d) (Known h) Unknown s) w f = (date_is y m d w.0 w.1 f.0, hour_is h Unknown s w.2 f.1)
+parts_fit y (ShapeOf.Second (Known m) (Known d) Unknown i s) w f = date_is y m d w.0 w.1 f.0
+parts_fit y (ShapeOf.Second (Known m) Unknown h i s) w f = month_is y m Unknown w.0 f.0
+parts_fit y (ShapeOf.Second Unknown d h i s) w f = tt
 
-run_part : (year : Year) (s : Shape) → IsRun year → IsPart (part_of_years year s)
-run_part year ShapeOf.Year r = r
-run_part year (ShapeOf.Month m) r = r
-run_part year (ShapeOf.Day m d) r = r
-run_part year (ShapeOf.Week w) r = r
-run_part year (ShapeOf.Weekday w d) r = r
-run_part year (ShapeOf.Quarter q) r = r
-run_part year (ShapeOf.Hour m d h) r = r
-run_part year (ShapeOf.Minute m d h i) r = r
-run_part year (ShapeOf.Second m d h i s) r = r
-
-part_has : (year : Year) (s : Shape) → IsYearWritten year → IsShapeWritten s → HasFilling year s → IsPart (known_part year s)
+part_has : (year : Year) (s : Shape) → IsYearWritten year → IsShapeWritten s → HasFilling year s → HasKnownPart year s
 part_has (YearOf.Known y) s h w f =
     let e = year_is y f.0 h f.1 in
-    part_fits y s (subst (IsInRange 1 9999) e f.2) w (subst (λ z. FitsYear z s) e f.3)
-part_has (YearOf.Decade d) s h w f = run_part (YearOf.Decade d) s h
-part_has (YearOf.Century c) s h w f = run_part (YearOf.Century c) s h
-part_has YearOf.Unknown s h w f = run_part YearOf.Unknown s tt
+    (subst (IsInRange 1 9999) e f.2, parts_fit y s w (subst (λ z. FitsYear z s) e f.3))
+part_has (YearOf.Decade d) s h w f = h
+part_has (YearOf.Century c) s h w f = h
+part_has YearOf.Unknown s h w f = tt
 
-run_prop : (year : Year) → IsProp (IsRun year)
-run_prop year = elim year as (λ (z : Year). IsProp (IsRun z)) [
-  | YearOf.Known n ↦ hlevel props
-  | YearOf.Decade n ↦ hlevel props
-  | YearOf.Century n ↦ hlevel props
-  | YearOf.Unknown ↦ hlevel props
-]
+date_prop : (y : ℕ) (m d h i s : Part) → IsProp (HasDateParts y m d h i s)
+date_prop y Unknown d h i s = hlevel props
+date_prop y (Known m) Unknown h i s = hlevel props
+date_prop y (Known m) (Known d) Unknown i s = hlevel props
+date_prop y (Known m) (Known d) (Known h) Unknown s = hlevel props
+date_prop y (Known m) (Known d) (Known h) (Known i) Unknown = hlevel props
+date_prop y (Known m) (Known d) (Known h) (Known i) (Known s) = hlevel props
 
-part_prop : (part : KnownPart) → IsProp (IsPart part)
-part_prop part = elim part as (λ (x : KnownPart). IsProp (IsPart x)) [
-  | Years y ↦ run_prop y
-  | WeekYears y ↦ run_prop y
-  | Month y m ↦ hlevel props
-  | Quarter y q ↦ hlevel props
-  | Day y m d ↦ hlevel props
-  | Week y w ↦ hlevel props
-  | Weekday y w d ↦ hlevel props
-  | Hour y m d h ↦ hlevel props
-  | Minute y m d h i ↦ hlevel props
-  | Second y m d h i s ↦ hlevel props
-]
+week_prop : (y : ℕ) (w d : Part) → IsProp (HasWeekParts y w d)
+week_prop y Unknown d = hlevel props
+week_prop y (Known w) Unknown = hlevel props
+week_prop y (Known w) (Known d) = hlevel props
+
+quarter_prop : (q : Part) → IsProp (HasQuarterPart q)
+quarter_prop Unknown = hlevel props
+quarter_prop (Known q) = hlevel props
+
+parts_prop : (y : ℕ) (s : Shape) → IsProp (HasParts y s)
+parts_prop y ShapeOf.Year = hlevel props
+parts_prop y (ShapeOf.Month m) = date_prop y m Unknown Unknown Unknown Unknown
+parts_prop y (ShapeOf.Day m d) = date_prop y m d Unknown Unknown Unknown
+parts_prop y (ShapeOf.Week w) = week_prop y w Unknown
+parts_prop y (ShapeOf.Weekday w d) = week_prop y w d
+parts_prop y (ShapeOf.Quarter q) = quarter_prop q
+parts_prop y (ShapeOf.Hour m d h) = date_prop y m d h Unknown Unknown
+parts_prop y (ShapeOf.Minute m d h i) = date_prop y m d h i Unknown
+parts_prop y (ShapeOf.Second m d h i s) = date_prop y m d h i s
+
+known_prop : (year : Year) (s : Shape) → IsProp (HasKnownPart year s)
+known_prop (YearOf.Known y) s = let each = parts_prop y s in hlevel (props, each)
+known_prop (YearOf.Decade d) s = hlevel props
+known_prop (YearOf.Century c) s = hlevel props
+known_prop YearOf.Unknown s = hlevel props
 
 -- the known part of a calendar value
-pub has_part : (c : Calendar) → IsPart (known_part (year_of c) (shape_of c))
+pub has_part : (c : Calendar) → HasKnownPart (year_of c) (shape_of c)
 has_part c =
-    let each = part_prop (known_part (year_of c) (shape_of c)) in
+    let each = known_prop (year_of c) (shape_of c) in
     ∥∥₁_elim c.written each (λ w. ∥∥₁_elim c.valid each (λ f. part_has (year_of c) (shape_of c) w.0 w.1 f))

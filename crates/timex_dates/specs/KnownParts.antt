@@ -1,87 +1,53 @@
 -- The known part of a calendar value: what stands before its first X.
-use Rattle.std.specs.Prelude.{ℕ, ◌<◌, ◌≤◌, Bool, true, false, ◌&&◌}
-use Rattle.std.specs.Int.{IsInRange}
+use Rattle.std.specs.Prelude.{ℕ, Bool, true, false, ◌&&◌}
 use Rattle.timex_value.specs.declared.shape.Year.{Year}
 use Rattle.timex_value.specs.declared.shape.Year.TheVariants as YearOf
 use Rattle.timex_value.specs.declared.shape.Part.{Part}
 use Rattle.timex_value.specs.declared.shape.Part.TheVariants.{Known, Unknown}
 use Rattle.timex_value.specs.declared.shape.Shape.{Shape}
 use Rattle.timex_value.specs.declared.shape.Shape.TheVariants as ShapeOf
-use Rattle.timex_value.specs.Civil.{IsDate, weeks_of}
-use Rattle.timex_dates.specs.declared.known.KnownPart.{KnownPart}
-use Rattle.timex_dates.specs.declared.known.KnownPart.TheVariants.{Years, WeekYears, Month, Quarter, Day, Week, Weekday, Hour, Minute, Second}
 use Rattle.timex_dates.specs.Sets.{InYears, InWeekYears, InMonth, InQuarter, InDay, InWeek, InWeekday, InHour, InMinute, InSecond}
 
--- a year and its month
-abbrev pub with_month : ℕ → Part → KnownPart
-with_month y (Known m) = Month y m
-with_month y Unknown = Years (YearOf.Known y)
+-- the seconds of what is known before the first unknown of a month, a day, an hour, a minute and a second
+abbrev pub InDate : ℕ → Part → Part → Part → Part → Part → ℕ → Type 0
+InDate y Unknown d h i s = InYears (YearOf.Known y)
+InDate y (Known m) Unknown h i s = InMonth y m
+InDate y (Known m) (Known d) Unknown i s = InDay y m d
+InDate y (Known m) (Known d) (Known h) Unknown s = InHour y m d h
+InDate y (Known m) (Known d) (Known h) (Known i) Unknown = InMinute y m d h i
+InDate y (Known m) (Known d) (Known h) (Known i) (Known s) = InSecond y m d h i s
 
--- a year and its quarter
-abbrev pub with_quarter : ℕ → Part → KnownPart
-with_quarter y (Known q) = Quarter y q
-with_quarter y Unknown = Years (YearOf.Known y)
+-- and of a week and its day
+abbrev pub InWeekDate : ℕ → Part → Part → ℕ → Type 0
+InWeekDate y Unknown d = InWeekYears (YearOf.Known y)
+InWeekDate y (Known w) Unknown = InWeek y w
+InWeekDate y (Known w) (Known d) = InWeekday y w d
 
--- a year of weeks and its week
-abbrev pub with_week : ℕ → Part → KnownPart
-with_week y (Known w) = Week y w
-with_week y Unknown = WeekYears (YearOf.Known y)
+abbrev pub InQuarterDate : ℕ → Part → ℕ → Type 0
+InQuarterDate y Unknown = InYears (YearOf.Known y)
+InQuarterDate y (Known q) = InQuarter y q
 
--- a further field counts where it and all before it are known
-abbrev pub with_weekday : KnownPart → Part → KnownPart
-with_weekday (Week y w) (Known d) = Weekday y w d
-with_weekday part d = part
+-- the seconds that belong to the known part, where the year is known; a field that the shape has not is unknown
+abbrev pub BelongsToYear : ℕ → Shape → ℕ → Type 0
+BelongsToYear y ShapeOf.Year = InYears (YearOf.Known y)
+BelongsToYear y (ShapeOf.Month m) = InDate y m Unknown Unknown Unknown Unknown
+BelongsToYear y (ShapeOf.Day m d) = InDate y m d Unknown Unknown Unknown
+BelongsToYear y (ShapeOf.Week w) = InWeekDate y w Unknown
+BelongsToYear y (ShapeOf.Weekday w d) = InWeekDate y w d
+BelongsToYear y (ShapeOf.Quarter q) = InQuarterDate y q
+BelongsToYear y (ShapeOf.Hour m d h) = InDate y m d h Unknown Unknown
+BelongsToYear y (ShapeOf.Minute m d h i) = InDate y m d h i Unknown
+BelongsToYear y (ShapeOf.Second m d h i s) = InDate y m d h i s
 
-abbrev pub with_day : KnownPart → Part → KnownPart
-with_day (Month y m) (Known d) = Day y m d
-with_day part d = part
+-- where it has an X; the years of the two shapes of weeks are years of weeks
+abbrev pub BelongsToYears : Year → Shape → ℕ → Type 0
+BelongsToYears year (ShapeOf.Week w) = InWeekYears year
+BelongsToYears year (ShapeOf.Weekday w d) = InWeekYears year
+BelongsToYears year shape = InYears year
 
-abbrev pub with_hour : KnownPart → Part → KnownPart
-with_hour (Day y m d) (Known h) = Hour y m d h
-with_hour part h = part
-
-abbrev pub with_minute : KnownPart → Part → KnownPart
-with_minute (Hour y m d h) (Known i) = Minute y m d h i
-with_minute part i = part
-
-abbrev pub with_second : KnownPart → Part → KnownPart
-with_second (Minute y m d h i) (Known s) = Second y m d h i s
-with_second part s = part
-
--- the known part, where the year is known
-abbrev pub part_of_year : ℕ → Shape → KnownPart
-part_of_year y ShapeOf.Year = Years (YearOf.Known y)
-part_of_year y (ShapeOf.Month m) = with_month y m
-part_of_year y (ShapeOf.Day m d) = with_day (with_month y m) d
-part_of_year y (ShapeOf.Week w) = with_week y w
-part_of_year y (ShapeOf.Weekday w d) = with_weekday (with_week y w) d
-part_of_year y (ShapeOf.Quarter q) = with_quarter y q
-part_of_year y (ShapeOf.Hour m d h) = with_hour (with_day (with_month y m) d) h
-part_of_year y (ShapeOf.Minute m d h i) = with_minute (with_hour (with_day (with_month y m) d) h) i
-part_of_year y (ShapeOf.Second m d h i s) = with_second (with_minute (with_hour (with_day (with_month y m) d) h) i) s
-
--- the known part, where the year has an X; the years of the two shapes of weeks are years of weeks
-abbrev pub part_of_years : Year → Shape → KnownPart
-part_of_years year (ShapeOf.Week w) = WeekYears year
-part_of_years year (ShapeOf.Weekday w d) = WeekYears year
-part_of_years year shape = Years year
-
-abbrev pub known_part : Year → Shape → KnownPart
-known_part (YearOf.Known y) shape = part_of_year y shape
-known_part year shape = part_of_years year shape
-
--- the seconds that belong to a part
-abbrev pub Belongs : KnownPart → ℕ → Type 0
-Belongs (Years year) = InYears year
-Belongs (WeekYears year) = InWeekYears year
-Belongs (Month y m) = InMonth y m
-Belongs (Quarter y q) = InQuarter y q
-Belongs (Day y m d) = InDay y m d
-Belongs (Week y w) = InWeek y w
-Belongs (Weekday y w d) = InWeekday y w d
-Belongs (Hour y m d h) = InHour y m d h
-Belongs (Minute y m d h i) = InMinute y m d h i
-Belongs (Second y m d h i s) = InSecond y m d h i s
+abbrev pub Belongs : Year → Shape → ℕ → Type 0
+Belongs (YearOf.Known y) shape = BelongsToYear y shape
+Belongs year shape = BelongsToYears year shape
 
 abbrev pub is_known : Part → Bool
 is_known (Known n) = true
@@ -103,23 +69,3 @@ is_full (ShapeOf.Second m d h i s) = is_known m && is_known d && is_known h && i
 abbrev pub is_whole : Year → Shape → Bool
 is_whole (YearOf.Known y) shape = is_full shape
 is_whole year shape = false
-
--- some year from 1 to 9999 begins so
-abbrev pub IsRun : Year → Type 0
-IsRun (YearOf.Known y) = IsInRange 1 9999 y
-IsRun (YearOf.Decade d) = d ≤ 999
-IsRun (YearOf.Century c) = c ≤ 99
-IsRun YearOf.Unknown = Unit {0}
-
--- the calendar has the part
-abbrev pub IsPart : KnownPart → Type 0
-IsPart (Years year) = IsRun year
-IsPart (WeekYears year) = IsRun year
-IsPart (Month y m) = IsInRange 1 9999 y × IsInRange 1 12 m
-IsPart (Quarter y q) = IsInRange 1 9999 y × IsInRange 1 4 q
-IsPart (Day y m d) = IsDate y m d × (y ≤ 9999)
-IsPart (Week y w) = IsInRange 1 9999 y × IsInRange 1 (weeks_of y) w
-IsPart (Weekday y w d) = IsInRange 1 9999 y × IsInRange 1 (weeks_of y) w × IsInRange 1 7 d
-IsPart (Hour y m d h) = IsDate y m d × (y ≤ 9999) × (h ≤ 24)
-IsPart (Minute y m d h i) = IsDate y m d × (y ≤ 9999) × (h ≤ 24) × (i < 60)
-IsPart (Second y m d h i s) = IsDate y m d × (y ≤ 9999) × (h ≤ 24) × (i < 60) × (s < 60)

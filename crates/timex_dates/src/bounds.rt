@@ -1,22 +1,24 @@
 //! Bounds of times.
-ghost use Rattle.std.specs.Prelude.{option_map};
-ghost use Rattle.timex_dates.specs.Answers.{BoundsOf, CalendarBounds, IsCivil, PartBounds};
-ghost use Rattle.timex_dates.specs.KnownParts.{IsPart};
-ghost use Rattle.timex_value.specs.Values.{shape_of, year_of};
+ghost use Rattle.std.specs.Prelude.{option_map, ◌≡◌};
+ghost use Rattle.timex_dates.specs.Answers.{BoundsOf, CalendarBounds, IsCivil, ModifiedBounds};
+ghost use Rattle.timex_dates.specs.KnownParts as parts;
+ghost use Rattle.timex_dates.specs.KnownParts.{Belongs};
+ghost use Rattle.timex_dates.specs.Valid.{HasKnownPart};
+ghost use Rattle.timex_value.specs.Values as values;
 
-use crate::interval::{Interval, interval_of};
-use crate::known::{KnownPart, is_whole, part_of_value};
+use crate::interval::Interval;
+use crate::known::{interval_of, is_whole};
 use net_core::Bounds;
-use timex_value::{Calendar, Modifier, TimexKind, Value, Year};
+use timex_value::{Calendar, Modifier, Shape, TimexKind, Value, Year};
 
-/// The bounds of a part: those of the whole value, or of one in which an `X` stands.
-#[tactic(auto, using(crate::proofs::Extents::extent_order))]
-fn part_bounds(modifier: Option<Modifier>, whole: bool, part: KnownPart) -> Bounds
-    requires part { IsPart part }
-    ensures bounds { PartBounds modifier whole part result }
+/// The bounds of the known part of a value.
+fn modified(modifier: Option<Modifier>, year: Year, shape: Shape) -> Bounds
+    requires part { HasKnownPart year shape }
+    ensures bounds { ModifiedBounds modifier (parts.is_whole year shape) (Belongs year shape) result }
     ensures civil { IsCivil result }
 {
-    let Interval { lo, hi } = interval_of(part);
+    let Interval { lo, hi } = interval_of(year, shape);
+    let whole = is_whole(year, shape);
     match modifier {
         None => {
             if whole {
@@ -40,16 +42,23 @@ fn part_bounds(modifier: Option<Modifier>, whole: bool, part: KnownPart) -> Boun
     }
 }
 
+#[tactic(auto, using(crate::proofs::Fillings::has_part))]
+/// The year and the shape of a value, whose known part the calendar has.
+fn fields_of(calendar: &Calendar) -> (Year, Shape)
+    ensures year { result.0 ≡ values.year_of calendar.now }
+    ensures shape { result.1 ≡ values.shape_of calendar.now }
+    ensures part { HasKnownPart result.0 result.1 }
+{
+    (calendar.year(), calendar.shape())
+}
+
 fn calendar_bounds(modifier: Option<Modifier>, calendar: &Calendar) -> Bounds
-    ensures bounds { CalendarBounds modifier (year_of calendar.now) (shape_of calendar.now) result }
+    ensures bounds { CalendarBounds modifier (values.year_of calendar.now) (values.shape_of calendar.now) result }
     ensures civil { IsCivil result }
 {
-    let year = calendar.year();
-    let whole = is_whole(year, calendar.shape());
+    let (year, shape) = fields_of(calendar);
     match year {
-        Year::Known(_) | Year::Decade(_) | Year::Century(_) => {
-            part_bounds(modifier, whole, part_of_value(calendar))
-        }
+        Year::Known(_) | Year::Decade(_) | Year::Century(_) => modified(modifier, year, shape),
         Year::Unknown => Bounds::Free,
     }
 }

@@ -1,13 +1,12 @@
 //! Intervals of seconds.
 ghost use Rattle.std.specs.Int.{IsInRange};
 ghost use Rattle.std.specs.Prelude.{◌*◌, ◌*ℤ◌, ◌+◌, ◌+ℤ◌, ◌-◌, ◌↔◌, ◌≡◌, ◌≤◌, ◌≤ℤ◌, ◌<◌, pos, ℕ};
-ghost use Rattle.timex_dates.specs.KnownParts.{Belongs, IsPart, IsRun};
 ghost use Rattle.timex_dates.specs.Seconds.{Extent, IsCivilSecond, IsDayNumber};
 ghost use Rattle.timex_dates.specs.Sets.{InDay, InHour, InMinute, InMonth, InQuarter, InSecond, InWeek, InWeekYears, InWeekday, InYears, IsYearOf};
+ghost use Rattle.timex_dates.specs.Valid.{HasYear};
 ghost use Rattle.timex_value.specs.Civil.{IsDate, weeks_of};
 
 use crate::days::{day_number, last_of_month, monday_number};
-use crate::known::KnownPart;
 use timex_value::Year;
 
 /// From the first second up to the first second after it.
@@ -66,7 +65,7 @@ fn part_of_day(number: i64, from: u32, size: u16) -> Interval
 
 /// The first and the last of the years that begin with the digits of a value's year.
 fn run_of(year: Year) -> (u16, u16)
-    requires { IsRun year }
+    requires { HasYear year }
     ensures first { 1 ≤ result.0 }
     ensures last { result.0 ≤ result.1 }
     ensures limit { result.1 ≤ 9999 }
@@ -80,8 +79,8 @@ fn run_of(year: Year) -> (u16, u16)
     }
 }
 
-fn years(year: Year) -> Interval
-    requires { IsRun year }
+pub(crate) fn years(year: Year) -> Interval
+    requires { HasYear year }
     ensures extent { Extent (InYears year) result.lo result.hi }
     ensures range { IsCivilSecond result.lo × IsCivilSecond result.hi }
 {
@@ -90,8 +89,8 @@ fn years(year: Year) -> Interval
 }
 
 /// The weeks of years: a year's first week has 4 January, and its last one 28 December.
-fn week_years(year: Year) -> Interval
-    requires { IsRun year }
+pub(crate) fn week_years(year: Year) -> Interval
+    requires { HasYear year }
     ensures extent { Extent (InWeekYears year) result.lo result.hi }
     ensures range { IsCivilSecond result.lo × IsCivilSecond result.hi }
 {
@@ -100,7 +99,7 @@ fn week_years(year: Year) -> Interval
 }
 
 #[tactic(auto, using(crate::proofs::Extents::month_extent))]
-fn month(year: u16, month: u8) -> Interval
+pub(crate) fn month(year: u16, month: u8) -> Interval
     requires year { IsInRange 1 9999 year }
     requires month { IsInRange 1 12 month }
     ensures extent { Extent (InMonth year month) result.lo result.hi }
@@ -111,7 +110,7 @@ fn month(year: u16, month: u8) -> Interval
 }
 
 #[tactic(auto, using(crate::proofs::Extents::quarter_extent))]
-fn quarter(year: u16, quarter: u8) -> Interval
+pub(crate) fn quarter(year: u16, quarter: u8) -> Interval
     requires year { IsInRange 1 9999 year }
     requires quarter { IsInRange 1 4 quarter }
     ensures extent { Extent (InQuarter year quarter) result.lo result.hi }
@@ -127,7 +126,7 @@ fn quarter(year: u16, quarter: u8) -> Interval
 }
 
 #[tactic(auto, using(crate::proofs::Extents::day_extent))]
-fn day(year: u16, month: u8, day: u8) -> Interval
+pub(crate) fn day(year: u16, month: u8, day: u8) -> Interval
     requires date { IsDate year month day }
     requires limit { year ≤ 9999 }
     ensures extent { Extent (InDay year month day) result.lo result.hi }
@@ -138,7 +137,7 @@ fn day(year: u16, month: u8, day: u8) -> Interval
 }
 
 #[tactic(auto, using(crate::proofs::Extents::week_extent, timex_value::proofs::Days::weeks_closed, crate::proofs::Intervals::week_end))]
-fn week(year: u16, week: u8) -> Interval
+pub(crate) fn week(year: u16, week: u8) -> Interval
     requires year { IsInRange 1 9999 year }
     requires week { IsInRange 1 (weeks_of year) week }
     ensures extent { Extent (InWeek year week) result.lo result.hi }
@@ -148,7 +147,7 @@ fn week(year: u16, week: u8) -> Interval
 }
 
 #[tactic(auto, using(crate::proofs::Extents::weekday_extent, timex_value::proofs::Days::weeks_closed, crate::proofs::Intervals::week_end))]
-fn weekday(year: u16, week: u8, day: u8) -> Interval
+pub(crate) fn weekday(year: u16, week: u8, day: u8) -> Interval
     requires year { IsInRange 1 9999 year }
     requires week { IsInRange 1 (weeks_of year) week }
     requires day { IsInRange 1 7 day }
@@ -163,7 +162,7 @@ fn weekday(year: u16, week: u8, day: u8) -> Interval
 }
 
 #[tactic(auto, using(crate::proofs::Extents::hour_extent))]
-fn hour(year: u16, month: u8, day: u8, hour: u8) -> Interval
+pub(crate) fn hour(year: u16, month: u8, day: u8, hour: u8) -> Interval
     requires date { IsDate year month day }
     requires limit { year ≤ 9999 }
     requires hour { hour ≤ 24 }
@@ -174,7 +173,7 @@ fn hour(year: u16, month: u8, day: u8, hour: u8) -> Interval
 }
 
 #[tactic(auto, using(crate::proofs::Extents::minute_extent))]
-fn minute(year: u16, month: u8, day: u8, hour: u8, minute: u8) -> Interval
+pub(crate) fn minute(year: u16, month: u8, day: u8, hour: u8, minute: u8) -> Interval
     requires date { IsDate year month day }
     requires limit { year ≤ 9999 }
     requires hour { hour ≤ 24 }
@@ -187,7 +186,7 @@ fn minute(year: u16, month: u8, day: u8, hour: u8, minute: u8) -> Interval
 }
 
 #[tactic(auto, using(crate::proofs::Extents::second_extent))]
-fn second(year: u16, month: u8, day: u8, hour: u8, minute: u8, second: u8) -> Interval
+pub(crate) fn second(year: u16, month: u8, day: u8, hour: u8, minute: u8, second: u8) -> Interval
     requires date { IsDate year month day }
     requires limit { year ≤ 9999 }
     requires hour { hour ≤ 24 }
@@ -198,53 +197,4 @@ fn second(year: u16, month: u8, day: u8, hour: u8, minute: u8, second: u8) -> In
 {
     let from = hour as u32 * 3600 + minute as u32 * 60 + second as u32;
     part_of_day(day_number(year, month, day), from, 1)
-}
-
-/// The interval of a part.
-pub(crate) fn interval_of(part: KnownPart) -> Interval
-    requires { IsPart part }
-    ensures extent { Extent (Belongs part) result.lo result.hi }
-    ensures range { IsCivilSecond result.lo × IsCivilSecond result.hi }
-{
-    match part {
-        KnownPart::Years(y) => years(y),
-        KnownPart::WeekYears(y) => week_years(y),
-        KnownPart::Month { year: y, month: m } => month(y, m),
-        KnownPart::Quarter {
-            year: y,
-            quarter: q,
-        } => quarter(y, q),
-        KnownPart::Day {
-            year: y,
-            month: m,
-            day: d,
-        } => day(y, m, d),
-        KnownPart::Week { year: y, week: w } => week(y, w),
-        KnownPart::Weekday {
-            year: y,
-            week: w,
-            day: d,
-        } => weekday(y, w, d),
-        KnownPart::Hour {
-            year: y,
-            month: m,
-            day: d,
-            hour: h,
-        } => hour(y, m, d, h),
-        KnownPart::Minute {
-            year: y,
-            month: m,
-            day: d,
-            hour: h,
-            minute: i,
-        } => minute(y, m, d, h, i),
-        KnownPart::Second {
-            year: y,
-            month: m,
-            day: d,
-            hour: h,
-            minute: i,
-            second: s,
-        } => second(y, m, d, h, i, s),
-    }
 }

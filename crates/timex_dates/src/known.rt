@@ -1,236 +1,125 @@
-//! The known part of a value.
-ghost use Rattle.std.specs.Prelude.{◌≡◌};
+//! The known part of a value: what stands before its first `X`.
+ghost use Rattle.std.specs.Int.{IsInRange};
+ghost use Rattle.std.specs.Prelude.{◌≡◌, ◌<ℤ◌};
 ghost use Rattle.timex_dates.specs.KnownParts as parts;
-ghost use Rattle.timex_dates.specs.KnownParts.{IsPart, known_part};
-ghost use Rattle.timex_value.specs.Values.{shape_of, year_of};
+ghost use Rattle.timex_dates.specs.KnownParts.{Belongs, BelongsToYear, BelongsToYears, InDate, InQuarterDate, InWeekDate};
+ghost use Rattle.timex_dates.specs.Seconds.{Extent, IsCivilSecond};
+ghost use Rattle.timex_dates.specs.Valid.{HasDateParts, HasKnownPart, HasParts, HasQuarterPart, HasWeekParts, HasYear};
 
-use timex_value::{Calendar, Part, Shape, Year};
+use crate::interval as whole;
+use crate::interval::Interval;
+use timex_value::{Part, Shape, Year};
 
-/// What a value says before its first `X`.
-#[derive(Clone, Copy, Debug, PartialEq, Eq)]
-pub(crate) enum KnownPart {
-    /// The years whose digits begin so, by their days.
-    Years(Year),
-    /// The years whose digits begin so, by their weeks.
-    WeekYears(Year),
-    Month {
-        year: u16,
-        month: u8,
-    },
-    Quarter {
-        year: u16,
-        quarter: u8,
-    },
-    Day {
-        year: u16,
-        month: u8,
-        day: u8,
-    },
-    /// A week of a year of weeks.
-    Week {
-        year: u16,
-        week: u8,
-    },
-    /// A day of a week, where Monday is 1.
-    Weekday {
-        year: u16,
-        week: u8,
-        day: u8,
-    },
-    /// An hour up to 24, which is hour 0 of the next day.
-    Hour {
-        year: u16,
-        month: u8,
-        day: u8,
-        hour: u8,
-    },
-    Minute {
-        year: u16,
-        month: u8,
-        day: u8,
-        hour: u8,
-        minute: u8,
-    },
-    Second {
-        year: u16,
-        month: u8,
-        day: u8,
-        hour: u8,
-        minute: u8,
-        second: u8,
-    },
-}
+const X: Part = Part::Unknown;
 
-fn with_month(year: u16, month: Part) -> KnownPart
-    ensures { result ≡ parts.with_month year month }
+/// The interval of what is known of a date and its time.
+fn date(year: u16, month: Part, day: Part, hour: Part, minute: Part, second: Part) -> Interval
+    requires year { IsInRange 1 9999 year }
+    requires parts { HasDateParts year month day hour minute second }
+    ensures extent { Extent (InDate year month day hour minute second) result.lo result.hi }
+    ensures range { IsCivilSecond result.lo × IsCivilSecond result.hi }
 {
-    match month {
-        Part::Known(month) => KnownPart::Month { year, month },
-        Part::Unknown => KnownPart::Years(Year::Known(year)),
-    }
+    let Part::Known(m) = month else {
+        return whole::years(Year::Known(year));
+    };
+    let Part::Known(d) = day else {
+        return whole::month(year, m);
+    };
+    let Part::Known(h) = hour else {
+        return whole::day(year, m, d);
+    };
+    let Part::Known(i) = minute else {
+        return whole::hour(year, m, d, h);
+    };
+    let Part::Known(s) = second else {
+        return whole::minute(year, m, d, h, i);
+    };
+    whole::second(year, m, d, h, i, s)
 }
 
-fn with_quarter(year: u16, quarter: Part) -> KnownPart
-    ensures { result ≡ parts.with_quarter year quarter }
+/// The interval of what is known of a week and its day.
+fn week_date(year: u16, week: Part, day: Part) -> Interval
+    requires year { IsInRange 1 9999 year }
+    requires parts { HasWeekParts year week day }
+    ensures extent { Extent (InWeekDate year week day) result.lo result.hi }
+    ensures range { IsCivilSecond result.lo × IsCivilSecond result.hi }
+{
+    let Part::Known(w) = week else {
+        return whole::week_years(Year::Known(year));
+    };
+    let Part::Known(d) = day else {
+        return whole::week(year, w);
+    };
+    whole::weekday(year, w, d)
+}
+
+fn quarter_date(year: u16, quarter: Part) -> Interval
+    requires year { IsInRange 1 9999 year }
+    requires quarter { HasQuarterPart quarter }
+    ensures extent { Extent (InQuarterDate year quarter) result.lo result.hi }
+    ensures range { IsCivilSecond result.lo × IsCivilSecond result.hi }
 {
     match quarter {
-        Part::Known(quarter) => KnownPart::Quarter { year, quarter },
-        Part::Unknown => KnownPart::Years(Year::Known(year)),
+        Part::Known(q) => whole::quarter(year, q),
+        Part::Unknown => whole::years(Year::Known(year)),
     }
 }
 
-fn with_week(year: u16, week: Part) -> KnownPart
-    ensures { result ≡ parts.with_week year week }
-{
-    match week {
-        Part::Known(week) => KnownPart::Week { year, week },
-        Part::Unknown => KnownPart::WeekYears(Year::Known(year)),
-    }
-}
-
-fn with_weekday(part: KnownPart, day: Part) -> KnownPart
-    ensures { result ≡ parts.with_weekday part day }
-{
-    match (part, day) {
-        (KnownPart::Week { year, week }, Part::Known(day)) => {
-            KnownPart::Weekday { year, week, day }
-        }
-        _ => part,
-    }
-}
-
-fn with_day(part: KnownPart, day: Part) -> KnownPart
-    ensures { result ≡ parts.with_day part day }
-{
-    match (part, day) {
-        (KnownPart::Month { year, month }, Part::Known(day)) => KnownPart::Day { year, month, day },
-        _ => part,
-    }
-}
-
-fn with_hour(part: KnownPart, hour: Part) -> KnownPart
-    ensures { result ≡ parts.with_hour part hour }
-{
-    match (part, hour) {
-        (KnownPart::Day { year, month, day }, Part::Known(hour)) => KnownPart::Hour {
-            year,
-            month,
-            day,
-            hour,
-        },
-        _ => part,
-    }
-}
-
-fn with_minute(part: KnownPart, minute: Part) -> KnownPart
-    ensures { result ≡ parts.with_minute part minute }
-{
-    match (part, minute) {
-        (
-            KnownPart::Hour {
-                year,
-                month,
-                day,
-                hour,
-            },
-            Part::Known(minute),
-        ) => KnownPart::Minute {
-            year,
-            month,
-            day,
-            hour,
-            minute,
-        },
-        _ => part,
-    }
-}
-
-fn with_second(part: KnownPart, second: Part) -> KnownPart
-    ensures { result ≡ parts.with_second part second }
-{
-    match (part, second) {
-        (
-            KnownPart::Minute {
-                year,
-                month,
-                day,
-                hour,
-                minute,
-            },
-            Part::Known(second),
-        ) => KnownPart::Second {
-            year,
-            month,
-            day,
-            hour,
-            minute,
-            second,
-        },
-        _ => part,
-    }
-}
-
-fn part_of_year(year: u16, shape: Shape) -> KnownPart
-    ensures { result ≡ parts.part_of_year year shape }
+/// The interval of the known part, where the year is known.
+fn of_year(year: u16, shape: Shape) -> Interval
+    requires year { IsInRange 1 9999 year }
+    requires parts { HasParts year shape }
+    ensures extent { Extent (BelongsToYear year shape) result.lo result.hi }
+    ensures range { IsCivilSecond result.lo × IsCivilSecond result.hi }
 {
     match shape {
-        Shape::Year => KnownPart::Years(Year::Known(year)),
-        Shape::Month { month } => with_month(year, month),
-        Shape::Day { month, day } => with_day(with_month(year, month), day),
-        Shape::Week { week } => with_week(year, week),
-        Shape::Weekday { week, day } => with_weekday(with_week(year, week), day),
-        Shape::Quarter { quarter } => with_quarter(year, quarter),
-        Shape::Hour { month, day, hour } => {
-            with_hour(with_day(with_month(year, month), day), hour)
-        }
+        Shape::Year => whole::years(Year::Known(year)),
+        Shape::Month { month } => date(year, month, X, X, X, X),
+        Shape::Day { month, day } => date(year, month, day, X, X, X),
+        Shape::Week { week } => week_date(year, week, X),
+        Shape::Weekday { week, day } => week_date(year, week, day),
+        Shape::Quarter { quarter } => quarter_date(year, quarter),
+        Shape::Hour { month, day, hour } => date(year, month, day, hour, X, X),
         Shape::Minute {
             month,
             day,
             hour,
             minute,
-        } => {
-            let hour = with_hour(with_day(with_month(year, month), day), hour);
-            with_minute(hour, minute)
-        }
+        } => date(year, month, day, hour, minute, X),
         Shape::Second {
             month,
             day,
             hour,
             minute,
             second,
-        } => {
-            let hour = with_hour(with_day(with_month(year, month), day), hour);
-            with_second(with_minute(hour, minute), second)
-        }
+        } => date(year, month, day, hour, minute, second),
     }
 }
 
-fn part_of_years(year: Year, shape: Shape) -> KnownPart
-    ensures { result ≡ parts.part_of_years year shape }
+/// The interval of the known part, where the year has an `X`.
+fn of_years(year: Year, shape: Shape) -> Interval
+    requires { HasYear year }
+    ensures extent { Extent (BelongsToYears year shape) result.lo result.hi }
+    ensures range { IsCivilSecond result.lo × IsCivilSecond result.hi }
 {
     match shape {
-        Shape::Week { .. } | Shape::Weekday { .. } => KnownPart::WeekYears(year),
-        _ => KnownPart::Years(year),
+        Shape::Week { .. } | Shape::Weekday { .. } => whole::week_years(year),
+        _ => whole::years(year),
     }
 }
 
-/// The known part of a value with this year and this shape.
-fn part_of(year: Year, shape: Shape) -> KnownPart
-    ensures { result ≡ known_part year shape }
+/// The interval of the known part.
+#[tactic(auto, using(crate::proofs::Extents::extent_order))]
+pub(crate) fn interval_of(year: Year, shape: Shape) -> Interval
+    requires { HasKnownPart year shape }
+    ensures extent { Extent (Belongs year shape) result.lo result.hi }
+    ensures order { result.lo <ℤ result.hi }
+    ensures range { IsCivilSecond result.lo × IsCivilSecond result.hi }
 {
     match year {
-        Year::Known(y) => part_of_year(y, shape),
-        Year::Decade(_) | Year::Century(_) | Year::Unknown => part_of_years(year, shape),
+        Year::Known(y) => of_year(y, shape),
+        Year::Decade(_) | Year::Century(_) | Year::Unknown => of_years(year, shape),
     }
-}
-
-#[tactic(auto, using(crate::proofs::Fillings::has_part))]
-/// The known part of a value, which the calendar has.
-pub(crate) fn part_of_value(calendar: &Calendar) -> KnownPart
-    ensures value { result ≡ known_part (year_of calendar.now) (shape_of calendar.now) }
-    ensures part { IsPart result }
-{
-    part_of(calendar.year(), calendar.shape())
 }
 
 fn is_known(part: Part) -> bool
