@@ -2,4 +2,5 @@ pub mod Kinds
 pub mod Civil
 pub mod Text
 pub mod Filling
+pub mod Durations
 pub mod Values

@@ -1,8 +1,11 @@
 //! Values of TIMEX3.
 #![tactic(auto)]
 
+mod durations;
 mod fields;
 mod kinds;
+pub mod laws;
+mod length;
 mod read;
 mod shape;
 #[cfg(test)]
@@ -11,6 +14,7 @@ mod valid;
 mod value;
 
 pub use kinds::{Modifier, TimexKind};
+pub use length::{Count, Length};
 pub use read::read_value;
 pub use shape::{Part, Shape, Year};
 pub use value::{BadDate, Calendar, Value};

@@ -1,0 +1,150 @@
+-- Counts of a duration are read in one way.
+use Rattle.std.proofs.Common.{◌≡◌, ◌≢◌, ◌⊎◌, inl, inr, ℕ, ◌+◌, ◌≤◌, Bool, true, false, cond, ◌&&◌, ◌||◌, ◌==◌, if◌then◌else◌, IsTrue, IsFalse, List, [], ◌∷◌, ◌++◌, length, take, drop, append_assoc, one-add, refl, sym, ap, ◌∙◌, subst, arith}
+use Rattle.std.proofs.lemmas.Bool.Decides.{nat_tests}
+use Rattle.std.proofs.lemmas.List.{take_at, drop_at, take-append-drop}
+use Rattle.std.specs.List.{prefix_len, list_all}
+use Rattle.std.specs.Int.{IsInRange}
+use Rattle.timex_value.specs.Durations.{is_digit, value_of, Counts, CountThen, ReadsCount}
+use Rattle.timex_value.specs.declared.length.Count.{Count}
+use Rattle.timex_value.specs.declared.length.Count.TheVariants.{Absent, Number, Unknown}
+
+both : (a b : Bool) → (a && b) ≡ true → (a ≡ true) × (b ≡ true)
+both true true e = (refl, refl)
+both true false e = absurd cc
+both false b e = absurd cc
+
+-- the longest front of digits has digits alone
+pub digits_pass : (xs : List ℕ) → list_all is_digit (take (prefix_len is_digit xs) xs) ≡ true
+digits_pass [] = refl
+digits_pass (x ∷ xs) = elim (is_digit x) as (λ b. is_digit x ≡ b → list_all is_digit (take (cond b (1 + prefix_len is_digit xs) 0) (x ∷ xs)) ≡ true) [
+  | true ↦ λ e. rw (one-add (prefix_len is_digit xs), e) (digits_pass xs)
+  | false ↦ λ e. refl
+] refl
+
+-- the longest front of digits ends at a byte that is none
+pub digits_end : (xs : List ℕ) (u : ℕ) (rest : List ℕ) → list_all is_digit xs ≡ true → is_digit u ≡ false → prefix_len is_digit (xs ++ (u ∷ rest)) ≡ length xs
+digits_end [] u rest h n = rw n refl
+digits_end (x ∷ xs) u rest h n = let s = both (is_digit x) (list_all is_digit xs) h in rw (s.0, digits_end xs u rest s.1 n) (omega arith)
+
+-- a number and its unit are the longest front of digits and what follows it
+pub number_stands : (u n : ℕ) (text rest : List ℕ) → is_digit u ≡ false → CountThen u (Number n) text rest
+    → IsInRange 1 9 (prefix_len is_digit text) × (drop (prefix_len is_digit text) text ≡ u ∷ rest) × (n ≡ value_of (take (prefix_len is_digit text) text))
+number_stands u n text rest hu h =
+    let digits = h.1.0 in
+    let e : text ≡ digits ++ (u ∷ rest) = h.2 ∙ (ap (λ (x : List ℕ). x ++ rest) h.1.4 ∙ append_assoc digits (u ∷ []) rest) in
+    let len : prefix_len is_digit text ≡ length digits = ap (λ (x : List ℕ). prefix_len is_digit x) e ∙ digits_end digits u rest h.1.1 hu in
+    rw (len, e, take_at digits (u ∷ rest) (length digits) refl, drop_at digits (u ∷ rest) (length digits) refl) (h.1.2, refl, h.1.3)
+
+-- a longest front of digits, not too long, and the unit that follows it
+pub number_is : (u n : ℕ) (text digits back rest : List ℕ)
+    → digits ≡ take (prefix_len is_digit text) text → back ≡ drop (prefix_len is_digit text) text
+    → IsInRange 1 9 (length digits) → n ≡ value_of digits → back ≡ u ∷ rest
+    → CountThen u (Number n) text rest
+number_is u n text digits back rest front behind few value e =
+    let whole : text ≡ digits ++ back = rw (front, behind) (sym (take-append-drop (prefix_len is_digit text) text)) in
+    (digits ++ (u ∷ []), (digits, rw front (digits_pass text), few, value, refl), whole ∙ (ap (λ (x : List ℕ). digits ++ x) e ∙ sym (append_assoc digits (u ∷ []) rest)))
+
+-- no count stands there: the unit has no X before it, and no number
+pub none_stands : (u : ℕ) (text : List ℕ)
+    → ((rest : List ℕ) → CountThen u Unknown text rest → ⊥) → ((n : ℕ) (rest : List ℕ) → CountThen u (Number n) text rest → ⊥)
+    → ReadsCount u Absent text text
+none_stands u text no_x no_number = record {
+  then = ([], refl, refl);
+  other = λ e c after h. elim c as (λ d. CountThen u d text after → d ≡ Absent) [
+    | Absent ↦ λ k. refl
+    | Number n ↦ λ k. absurd (no_number n after k)
+    | Unknown ↦ λ k. absurd (no_x after k)
+  ] h;
+}
+
+-- digits and X
+abbrev pub is_mark : ℕ → Bool
+is_mark b = is_digit b || (b == 88)
+
+-- the first byte that is neither a digit nor X, and 0 where there is none
+unfoldable pub unit_at : List ℕ → ℕ
+unit_at [] = 0
+unit_at (b ∷ text) = if is_mark b then unit_at text else b
+
+unit_past : (digits text : List ℕ) → list_all is_digit digits ≡ true → unit_at (digits ++ text) ≡ unit_at text
+unfolding unit_at
+unit_past [] text h = refl
+unit_past (d ∷ digits) text h = let s = both (is_digit d) (list_all is_digit digits) h in rw s.0 (unit_past digits text s.1)
+
+unit_here : (u : ℕ) (rest : List ℕ) → is_mark u ≡ false → unit_at (u ∷ rest) ≡ u
+unfolding unit_at
+unit_here u rest h = rw h refl
+
+unit_past_x : (text : List ℕ) → unit_at (88 ∷ text) ≡ unit_at text
+unfolding unit_at
+unit_past_x text = refl
+
+no_number : (n : ℕ) → Number n ≢ Absent
+no_number n e = absurd cc
+
+no_x : Unknown ≢ Absent
+no_x e = absurd cc
+
+-- a count is told by its unit
+pub unit_of_count : (u : ℕ) (c : Count) (text rest : List ℕ) → is_mark u ≡ false → CountThen u c text rest → c ≢ Absent → unit_at text ≡ u
+unit_of_count u Absent text rest m h some = absurd (some refl)
+unit_of_count u (Number n) text rest m h some =
+    let digits = h.1.0 in
+    let e : text ≡ digits ++ (u ∷ rest) = h.2 ∙ (ap (λ (x : List ℕ). x ++ rest) h.1.4 ∙ append_assoc digits (u ∷ []) rest) in
+    ap unit_at e ∙ (unit_past digits (u ∷ rest) h.1.1 ∙ unit_here u rest m)
+unit_of_count u Unknown text rest m h some =
+    let e : text ≡ 88 ∷ u ∷ rest = h.2 ∙ ap (λ (x : List ℕ). x ++ rest) h.1 in
+    ap unit_at e ∙ (unit_past_x (u ∷ rest) ∙ unit_here u rest m)
+
+absent_then : (u : ℕ) (text rest : List ℕ) → CountThen u Absent text rest → text ≡ rest
+absent_then u text rest h = h.2 ∙ ap (λ (x : List ℕ). x ++ rest) h.1
+
+-- before a count of one unit no other unit comes, unless it comes behind it
+pub unit_before : (u v : ℕ) (c : Count) (text rest : List ℕ) → is_mark u ≡ false → u ≢ v → CountThen u c text rest → unit_at rest ≢ v → unit_at text ≢ v
+unit_before u v Absent text rest m other h end = λ e. end (ap unit_at (sym (absent_then u text rest h)) ∙ e)
+unit_before u v (Number n) text rest m other h end = λ e. other (sym (unit_of_count u (Number n) text rest m h (no_number n)) ∙ e)
+unit_before u v Unknown text rest m other h end = λ e. other (sym (unit_of_count u Unknown text rest m h no_x) ∙ e)
+
+-- a count is read so where its unit does not come again
+pub reads_count : (u : ℕ) (c : Count) (text rest : List ℕ) → is_mark u ≡ false → CountThen u c text rest → unit_at rest ≢ u → ReadsCount u c text rest
+reads_count u c text rest m h end = record {
+  then = h;
+  other = λ e d after k.
+      let same : text ≡ rest = absent_then u text rest (subst (λ x. CountThen u x text rest) e h) in
+      elim d as (λ x. CountThen u x text after → x ≡ Absent) [
+        | Absent ↦ λ p. refl
+        | Number n ↦ λ p. absurd (end (ap unit_at (sym same) ∙ unit_of_count u (Number n) text after m p (no_number n)))
+        | Unknown ↦ λ p. absurd (end (ap unit_at (sym same) ∙ unit_of_count u Unknown text after m p no_x))
+      ] k;
+}
+
+pub tail_is : {a b : ℕ} {xs ys : List ℕ} → (a ∷ xs) ≡ (b ∷ ys) → xs ≡ ys
+tail_is e = cc
+
+x_or_number : (u n : ℕ) (text r s : List ℕ) → is_digit u ≡ false → CountThen u (Number n) text r → CountThen u Unknown text s → ⊥
+x_or_number u n text r s m h k =
+    let p = number_stands u n text r m h in
+    let q : text ≡ 88 ∷ u ∷ s = k.2 ∙ ap (λ (x : List ℕ). x ++ s) k.1 in
+    let none : prefix_len is_digit text ≡ 0 = ap (λ (x : List ℕ). prefix_len is_digit x) q in
+    omega arith
+
+-- what is read is all that can stand there
+pub same_count : (u : ℕ) (c d : Count) (text r s : List ℕ) → is_mark u ≡ false → is_digit u ≡ false
+    → ReadsCount u c text r → CountThen u d text s → unit_at s ≢ u → (c ≡ d) × (r ≡ s)
+same_count u Absent Absent text r s m n h k end = (refl, sym (absent_then u text r h.then) ∙ absent_then u text s k)
+same_count u Absent (Number b) text r s m n h k end = absurd (no_number b (h.other refl (Number b) s k))
+same_count u Absent Unknown text r s m n h k end = absurd (no_x (h.other refl Unknown s k))
+same_count u (Number a) Absent text r s m n h k end =
+    absurd (end (ap unit_at (sym (absent_then u text s k)) ∙ unit_of_count u (Number a) text r m h.then (no_number a)))
+same_count u (Number a) (Number b) text r s m n h k end =
+    let p = number_stands u a text r n h.then in
+    let q = number_stands u b text s n k in
+    (ap Number (p.2 ∙ sym q.2), tail_is (sym p.1 ∙ q.1))
+same_count u (Number a) Unknown text r s m n h k end = absurd (x_or_number u a text r s n h.then k)
+same_count u Unknown Absent text r s m n h k end =
+    absurd (end (ap unit_at (sym (absent_then u text s k)) ∙ unit_of_count u Unknown text r m h.then no_x))
+same_count u Unknown (Number b) text r s m n h k end = absurd (x_or_number u b text s r n k h.then)
+same_count u Unknown Unknown text r s m n h k end =
+    let p : text ≡ 88 ∷ u ∷ r = h.then.2 ∙ ap (λ (x : List ℕ). x ++ r) h.then.1 in
+    let q : text ≡ 88 ∷ u ∷ s = k.2 ∙ ap (λ (x : List ℕ). x ++ s) k.1 in
+    (refl, tail_is (tail_is (sym p ∙ q)))

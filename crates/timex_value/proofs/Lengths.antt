@@ -1,0 +1,131 @@
+-- A duration is read in one way.
+use Rattle.std.proofs.Common.{◌≡◌, ◌≢◌, ◌⊎◌, inl, inr, ℕ, Bool, true, false, ◌||◌, IsTrue, IsFalse, List, [], ◌∷◌, refl, sym, ap, ◌∙◌, subst, arith}
+use Rattle.timex_value.specs.Durations.{Counts, CountThen, ReadsCount, DateThen, ClockThen, ClockText, SpellsLength, is_written, has_clock, is_length}
+use Rattle.timex_value.specs.declared.length.Count.{Count}
+use Rattle.timex_value.specs.declared.length.Count.TheVariants.{Absent, Number, Unknown}
+use Rattle.timex_value.specs.declared.length.Length.{Length}
+use Rattle.timex_value.proofs.Counts.{unit_at, tail_is, unit_before, reads_count, same_count}
+
+-- no unit of a date comes first
+abbrev pub IsPastDate : List ℕ → Type 0
+IsPastDate text = (unit_at text ≢ 89) × (unit_at text ≢ 77) × (unit_at text ≢ 87) × (unit_at text ≢ 68)
+
+none_past : IsPastDate []
+unfolding unit_at
+none_past = (λ e. omega arith, λ e. omega arith, λ e. omega arith, λ e. omega arith)
+
+clock_past : (text : List ℕ) → IsPastDate (84 ∷ text)
+unfolding unit_at
+clock_past text = (λ e. omega arith, λ e. omega arith, λ e. omega arith, λ e. omega arith)
+
+none_at_end : (u : ℕ) → u ≢ 0 → unit_at [] ≢ u
+unfolding unit_at
+none_at_end u h = λ e. h (sym e)
+
+pub past_date : (h m s : Count) (text : List ℕ) → ClockText h m s text → IsPastDate text
+past_date h m s text (inl k) = rw k.1 none_past
+past_date h m s text (inr k) = rw k.1.1 (clock_past k.1.0)
+
+-- the counts of a date that are read are all that can stand there
+pub date_read : (y m w d y2 m2 w2 d2 : Count) (text a b c r s : List ℕ)
+    → ReadsCount 89 y text a → ReadsCount 77 m a b → ReadsCount 87 w b c → ReadsCount 68 d c r
+    → DateThen y2 m2 w2 d2 text s → IsPastDate s
+    → (y ≡ y2) × (m ≡ m2) × (w ≡ w2) × (d ≡ d2) × (r ≡ s)
+date_read y m w d y2 m2 w2 d2 text a b c r s ry rm rw_ rd h past =
+    let before_days : (v : ℕ) → (68 ≡ v → ⊥) → unit_at s ≢ v → unit_at h.2 ≢ v = λ v o p. unit_before 68 v d2 h.2 s refl o h.6 p in
+    let before_weeks : (v : ℕ) → (87 ≡ v → ⊥) → (68 ≡ v → ⊥) → unit_at s ≢ v → unit_at h.1 ≢ v = λ v o p q. unit_before 87 v w2 h.1 h.2 refl o h.5 (before_days v p q) in
+    let years = same_count 89 y y2 text a h.0 refl refl ry h.3 (unit_before 77 89 m2 h.0 h.1 refl (λ e. omega arith) h.4 (before_weeks 89 (λ e. omega arith) (λ e. omega arith) past.0)) in
+    let months = same_count 77 m m2 a b h.1 refl refl rm (subst (λ (x : List ℕ). CountThen 77 m2 x h.1) (sym years.1) h.4) (before_weeks 77 (λ e. omega arith) (λ e. omega arith) past.1) in
+    let weeks = same_count 87 w w2 b c h.2 refl refl rw_ (subst (λ (x : List ℕ). CountThen 87 w2 x h.2) (sym months.1) h.5) (before_days 87 (λ e. omega arith) past.2) in
+    let days = same_count 68 d d2 c r s refl refl rd (subst (λ (x : List ℕ). CountThen 68 d2 x s) (sym weeks.1) h.6) past.3 in
+    (years.0, months.0, weeks.0, days.0, days.1)
+
+-- the counts of a clock that are read are all that can stand there
+pub clock_read : (h m s h2 m2 s2 : Count) (text a b r : List ℕ)
+    → ReadsCount 72 h text a → ReadsCount 77 m a b → ReadsCount 83 s b r
+    → ClockThen h2 m2 s2 text []
+    → (h ≡ h2) × (m ≡ m2) × (s ≡ s2) × (r ≡ [])
+clock_read h m s h2 m2 s2 text a b r rh rm rs k =
+    let before_seconds : (v : ℕ) → (83 ≡ v → ⊥) → v ≢ 0 → unit_at k.1 ≢ v = λ v o p. unit_before 83 v s2 k.1 [] refl o k.4 (none_at_end v p) in
+    let hours = same_count 72 h h2 text a k.0 refl refl rh k.2 (unit_before 77 72 m2 k.0 k.1 refl (λ e. omega arith) k.3 (before_seconds 72 (λ e. omega arith) (λ e. omega arith))) in
+    let minutes = same_count 77 m m2 a b k.1 refl refl rm (subst (λ (x : List ℕ). CountThen 77 m2 x k.1) (sym hours.1) k.3) (before_seconds 77 (λ e. omega arith) (λ e. omega arith)) in
+    let seconds = same_count 83 s s2 b r [] refl refl rs (subst (λ (x : List ℕ). CountThen 83 s2 x []) (sym minutes.1) k.4) (none_at_end 83 (λ e. omega arith)) in
+    (hours.0, minutes.0, seconds.0, seconds.1)
+
+unwritten : (c d : Count) → is_written c ≡ false → is_written d ≡ false → c ≡ d
+unwritten Absent Absent p q = refl
+unwritten Absent (Number n) p q = absurd cc
+unwritten Absent Unknown p q = absurd cc
+unwritten (Number n) d p q = absurd cc
+unwritten Unknown d p q = absurd cc
+
+none_of : (a b c : Bool) → (a || b || c) ≡ false → (a ≡ false) × (b ≡ false) × (c ≡ false)
+none_of false false false e = (refl, refl, refl)
+none_of true b c e = absurd cc
+none_of false true c e = absurd cc
+none_of false false true e = absurd cc
+
+no_clock : (h m s h2 m2 s2 : Count) → has_clock h m s ≡ false → has_clock h2 m2 s2 ≡ false → (h ≡ h2) × (m ≡ m2) × (s ≡ s2)
+no_clock h m s h2 m2 s2 p q =
+    let a = none_of (is_written h) (is_written m) (is_written s) p in
+    let b = none_of (is_written h2) (is_written m2) (is_written s2) q in
+    (unwritten h h2 a.0 b.0, unwritten m m2 a.1 b.1, unwritten s s2 a.2 b.2)
+
+-- the counts of a clock are read as they are written
+clock_counts : (h m s : Count) (text : List ℕ) → (k : ClockThen h m s text [])
+    → ReadsCount 72 h text k.0 × ReadsCount 77 m k.0 k.1 × ReadsCount 83 s k.1 []
+clock_counts h m s text k =
+    let before_seconds : (v : ℕ) → (83 ≡ v → ⊥) → v ≢ 0 → unit_at k.1 ≢ v = λ v o p. unit_before 83 v s k.1 [] refl o k.4 (none_at_end v p) in (
+      reads_count 72 h text k.0 refl k.2 (unit_before 77 72 m k.0 k.1 refl (λ e. omega arith) k.3 (before_seconds 72 (λ e. omega arith) (λ e. omega arith))),
+      reads_count 77 m k.0 k.1 refl k.3 (before_seconds 77 (λ e. omega arith) (λ e. omega arith)),
+      reads_count 83 s k.1 [] refl k.4 (none_at_end 83 (λ e. omega arith)),
+    )
+
+-- a text has the counts of one clock
+pub one_clock : (h m s h2 m2 s2 : Count) (text : List ℕ) → ClockText h m s text → ClockText h2 m2 s2 text → (h ≡ h2) × (m ≡ m2) × (s ≡ s2)
+one_clock h m s h2 m2 s2 text (inl k) (inl l) = no_clock h m s h2 m2 s2 k.0 l.0
+one_clock h m s h2 m2 s2 text (inl k) (inr l) = let e : [] ≡ 84 ∷ l.1.0 = sym k.1 ∙ l.1.1 in absurd cc
+one_clock h m s h2 m2 s2 text (inr k) (inl l) = let e : [] ≡ 84 ∷ k.1.0 = sym l.1 ∙ k.1.1 in absurd cc
+one_clock h m s h2 m2 s2 text (inr k) (inr l) =
+    let reads = clock_counts h m s k.1.0 k.1.2 in
+    let timed : k.1.0 ≡ l.1.0 = tail_is (sym k.1.1 ∙ l.1.1) in
+    let e = clock_read h m s h2 m2 s2 k.1.0 k.1.2.0 k.1.2.1 [] reads.0 reads.1 reads.2 (subst (λ (x : List ℕ). ClockThen h2 m2 s2 x []) (sym timed) l.1.2) in
+    (e.0, e.1, e.2)
+
+-- the counts of a date that are read are those of each duration that the text spells, and its clock stands behind them
+pub length_read : (y m w d : Count) (l : Length) (text dated a b c r : List ℕ)
+    → text ≡ 80 ∷ dated → ReadsCount 89 y dated a → ReadsCount 77 m a b → ReadsCount 87 w b c → ReadsCount 68 d c r
+    → SpellsLength l text
+    → (y ≡ l.years) × (m ≡ l.months) × (w ≡ l.weeks) × (d ≡ l.days) × ClockText l.hours l.minutes l.seconds r
+length_read y m w d l text dated a b c r e ry rm rw_ rd h =
+    let same : h.0 ≡ dated = tail_is (sym h.2 ∙ e) in
+    let date = subst (λ (x : List ℕ). DateThen l.years l.months l.weeks l.days x h.1) same h.3 in
+    let k = date_read y m w d l.years l.months l.weeks l.days dated a b c r h.1 ry rm rw_ rd date (past_date l.hours l.minutes l.seconds h.1 h.4) in
+    (k.0, k.1, k.2, k.3, subst (λ (x : List ℕ). ClockText l.hours l.minutes l.seconds x) (sym k.4) h.4)
+
+-- the counts of a date are read as they are written
+date_counts : (l : Length) (text : List ℕ) → (h : SpellsLength l text)
+    → ReadsCount 89 l.years h.0 h.3.0 × ReadsCount 77 l.months h.3.0 h.3.1 × ReadsCount 87 l.weeks h.3.1 h.3.2 × ReadsCount 68 l.days h.3.2 h.1
+date_counts l text h =
+    let past = past_date l.hours l.minutes l.seconds h.1 h.4 in
+    let before_days : (v : ℕ) → (68 ≡ v → ⊥) → unit_at h.1 ≢ v → unit_at h.3.2 ≢ v = λ v o p. unit_before 68 v l.days h.3.2 h.1 refl o h.3.6 p in
+    let before_weeks : (v : ℕ) → (87 ≡ v → ⊥) → (68 ≡ v → ⊥) → unit_at h.1 ≢ v → unit_at h.3.1 ≢ v = λ v o p q. unit_before 87 v l.weeks h.3.1 h.3.2 refl o h.3.5 (before_days v p q) in (
+      reads_count 89 l.years h.0 h.3.0 refl h.3.3 (unit_before 77 89 l.months h.3.0 h.3.1 refl (λ e. omega arith) h.3.4 (before_weeks 89 (λ e. omega arith) (λ e. omega arith) past.0)),
+      reads_count 77 l.months h.3.0 h.3.1 refl h.3.4 (before_weeks 77 (λ e. omega arith) (λ e. omega arith) past.1),
+      reads_count 87 l.weeks h.3.1 h.3.2 refl h.3.5 (before_days 87 (λ e. omega arith) past.2),
+      reads_count 68 l.days h.3.2 h.1 refl h.3.6 past.3,
+    )
+
+pub length_by_counts : (l m : Length)
+    → l.years ≡ m.years → l.months ≡ m.months → l.weeks ≡ m.weeks → l.days ≡ m.days
+    → l.hours ≡ m.hours → l.minutes ≡ m.minutes → l.seconds ≡ m.seconds
+    → l ≡ m
+length_by_counts l m y mo w d h mi s = λ i. record { years = y i; months = mo i; weeks = w i; days = d i; hours = h i; minutes = mi i; seconds = s i }
+
+-- a text spells one duration
+pub one_length : (l m : Length) (text : List ℕ) → SpellsLength l text → SpellsLength m text → l ≡ m
+one_length l m text h k =
+    let reads = date_counts l text h in
+    let e = length_read l.years l.months l.weeks l.days m text h.0 h.3.0 h.3.1 h.3.2 h.1 h.2 reads.0 reads.1 reads.2 reads.3 k in
+    let f = one_clock l.hours l.minutes l.seconds m.hours m.minutes m.seconds h.1 h.4 e.4 in
+    length_by_counts l m e.0 e.1 e.2 e.3 f.0 f.1 f.2

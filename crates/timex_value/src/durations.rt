@@ -1,0 +1,145 @@
+//! Reading durations.
+ghost use Rattle.std.specs.Prelude.{◌≡◌, ◌≢◌, ◌≤◌, ◌∷◌, ℕ, List as ListOf, length as length_of, IsTrue, IsFalse, MatchOption};
+ghost use Rattle.std.specs.List.{prefix_len, list_all};
+ghost use Rattle.timex_value.specs.Durations as durations;
+ghost use Rattle.timex_value.specs.Durations.{CountThen, ReadsCount, ClockText, SpellsLength};
+ghost use Rattle.timex_value.specs.declared.length.Count.TheVariants as count;
+ghost use Rattle.timex_value.specs.declared.length.Count.{Count as CountOf};
+ghost use Rattle.timex_value.specs.declared.length.Length.{Length as LengthOf};
+
+use crate::{Count, Length};
+
+fn digits_len(bytes: &[u8]) -> usize
+    ensures within { result ≤ length_of bytes.now }
+    ensures len { result ≡ prefix_len durations.is_digit bytes.now }
+{
+    bytes.iter().take_while(|b| b.is_ascii_digit()).count()
+}
+
+/// The number of at most nine digits.
+fn number(digits: &[u8]) -> u32
+    requires digits { IsTrue (list_all durations.is_digit digits.now) }
+    requires few { length_of digits.now ≤ 9 }
+    ensures { result ≡ durations.value_of digits.now }
+{
+    let mut n = 0u32;
+    for b in digits {
+        n = n * 10 + (*b - b'0') as u32;
+    }
+    n
+}
+
+/// What follows a byte in front of a text.
+fn after(byte: u8, text: &[u8]) -> Option<&[u8]>
+    ensures { MatchOption result ((rest : ListOf ℕ) → text.now ≢ byte ∷ rest) (λ rest. text.now ≡ byte ∷ rest.now) }
+{
+    match text {
+        [first, rest @ ..] if *first == byte => Some(rest),
+        _ => None,
+    }
+}
+
+/// One to nine digits with their unit in front of a text, and the rest.
+fn number_at(unit: u8, text: &[u8]) -> Option<(u32, &[u8])>
+    requires { IsFalse (durations.is_digit unit) }
+    ensures { MatchOption result ((n : ℕ) (rest : ListOf ℕ) → CountThen unit (count.Number n) text.now rest → ⊥) (λ r. CountThen unit (count.Number r.0) text.now r.1.now) }
+{
+    let (digits, rest) = text.split_at(digits_len(text));
+    if digits.is_empty() || 9 < digits.len() {
+        return None;
+    }
+    let Some(rest) = after(unit, rest) else {
+        return None;
+    };
+    Some((number(digits), rest))
+}
+
+/// What follows `X` and its unit in front of a text.
+fn unknown_at(unit: u8, text: &[u8]) -> Option<&[u8]>
+    ensures { MatchOption result ((rest : ListOf ℕ) → CountThen unit count.Unknown text.now rest → ⊥) (λ rest. CountThen unit count.Unknown text.now rest.now) }
+{
+    let text = after(b'X', text)?;
+    after(unit, text)
+}
+
+/// A count with its unit in front of a text, and the rest.
+fn count_at(unit: u8, text: &[u8]) -> (Count, &[u8])
+    requires { IsFalse (durations.is_digit unit) }
+    ensures { ReadsCount unit result.0 text.now result.1.now }
+{
+    if let Some(rest) = unknown_at(unit, text) {
+        return (Count::Unknown, rest);
+    }
+    if let Some((n, rest)) = number_at(unit, text) {
+        return (Count::Number(n), rest);
+    }
+    (Count::Absent, text)
+}
+
+fn is_written(count: Count) -> bool
+    ensures { result ≡ durations.is_written count }
+{
+    !matches!(count, Count::Absent)
+}
+
+/// The hours, minutes and seconds of a duration, from the rest of its text behind the days.
+fn clock(text: &[u8]) -> Option<(Count, Count, Count)>
+    ensures { MatchOption result ((hours minutes seconds : CountOf) → ClockText hours minutes seconds text.now → ⊥) (λ r. ClockText r.0 r.1 r.2 text.now) }
+{
+    if text.is_empty() {
+        return Some((Count::Absent, Count::Absent, Count::Absent));
+    }
+    let Some(text) = after(b'T', text) else {
+        return None;
+    };
+    let (hours, text) = count_at(b'H', text);
+    let (minutes, text) = count_at(b'M', text);
+    let (seconds, text) = count_at(b'S', text);
+    if !text.is_empty() {
+        return None;
+    }
+    if is_written(hours) || is_written(minutes) || is_written(seconds) {
+        return Some((hours, minutes, seconds));
+    }
+    None
+}
+
+fn is_length(length: &Length) -> bool
+    ensures { result ≡ durations.is_length length.now }
+{
+    is_written(length.years)
+        || is_written(length.months)
+        || is_written(length.weeks)
+        || is_written(length.days)
+        || is_written(length.hours)
+        || is_written(length.minutes)
+        || is_written(length.seconds)
+}
+
+/// The duration that a text spells.
+pub(crate) fn duration(text: &[u8]) -> Option<Length>
+    ensures { MatchOption result ((l : LengthOf) → SpellsLength l text.now → ⊥) (λ l. SpellsLength l text.now) }
+{
+    let text = after(b'P', text)?;
+    let (years, text) = count_at(b'Y', text);
+    let (months, text) = count_at(b'M', text);
+    let (weeks, text) = count_at(b'W', text);
+    let (days, text) = count_at(b'D', text);
+    let Some((hours, minutes, seconds)) = clock(text) else {
+        return None;
+    };
+    let length = Length {
+        years,
+        months,
+        weeks,
+        days,
+        hours,
+        minutes,
+        seconds,
+    };
+    if is_length(&length) {
+        Some(length)
+    } else {
+        None
+    }
+}
