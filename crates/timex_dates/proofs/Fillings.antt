@@ -12,7 +12,7 @@ use Rattle.timex_value.specs.declared.value.Calendar.{Calendar}
 use Rattle.timex_value.specs.Text.{IsYearWritten, IsShapeWritten}
 use Rattle.timex_value.specs.Filling.{CanBe, DigitCanBe, YearCanBe, HasDate, HasClock, HasWeek, IsClock, FitsYear, HasFilling}
 use Rattle.timex_value.specs.Values.{year_of, shape_of}
-use Rattle.timex_dates.specs.Valid.{HasDateParts, HasWeekParts, HasQuarterPart, HasParts, HasKnownPart}
+use Rattle.timex_dates.specs.Valid.{HasDateParts, HasWeekParts, HasParts, HasKnownPart}
 use Rattle.std.proofs.Math.Logic.{∥∥₁_elim}
 use Rattle.std.proofs.Props.{props}
 
@@ -99,17 +99,14 @@ week_prop y Unknown d = hlevel props
 week_prop y (Known w) Unknown = hlevel props
 week_prop y (Known w) (Known d) = hlevel props
 
-quarter_prop : (q : Part) → IsProp (HasQuarterPart q)
-quarter_prop Unknown = hlevel props
-quarter_prop (Known q) = hlevel props
-
 parts_prop : (y : ℕ) (s : Shape) → IsProp (HasParts y s)
 parts_prop y ShapeOf.Year = hlevel props
 parts_prop y (ShapeOf.Month m) = date_prop y m Unknown Unknown Unknown Unknown
 parts_prop y (ShapeOf.Day m d) = date_prop y m d Unknown Unknown Unknown
 parts_prop y (ShapeOf.Week w) = week_prop y w Unknown
 parts_prop y (ShapeOf.Weekday w d) = week_prop y w d
-parts_prop y (ShapeOf.Quarter q) = quarter_prop q
+parts_prop y (ShapeOf.Quarter (Known q)) = hlevel props
+parts_prop y (ShapeOf.Quarter Unknown) = hlevel props
 parts_prop y (ShapeOf.Hour m d h) = date_prop y m d h Unknown Unknown
 parts_prop y (ShapeOf.Minute m d h i) = date_prop y m d h i Unknown
 parts_prop y (ShapeOf.Second m d h i s) = date_prop y m d h i s

@@ -70,8 +70,10 @@ pub one_bounds : OneBounds
 one_bounds KindOf.Duration m v a b h k = free_once a b h k
 one_bounds KindOf.Set m v a b h k = free_once a b h k
 one_bounds KindOf.Date m (Some (ValueOf.Calendar c)) a b h k = calendar_once m (year_of c) (shape_of c) a b h k
+one_bounds KindOf.Date m (Some (ValueOf.Duration l)) a b h k = free_once a b h k
 one_bounds KindOf.Date m (Some ValueOf.Other) a b h k = free_once a b h k
 one_bounds KindOf.Date m None a b h k = free_once a b h k
 one_bounds KindOf.Time m (Some (ValueOf.Calendar c)) a b h k = calendar_once m (year_of c) (shape_of c) a b h k
+one_bounds KindOf.Time m (Some (ValueOf.Duration l)) a b h k = free_once a b h k
 one_bounds KindOf.Time m (Some ValueOf.Other) a b h k = free_once a b h k
 one_bounds KindOf.Time m None a b h k = free_once a b h k

@@ -17,15 +17,11 @@ InDate y (Known m) (Known d) (Known h) Unknown s = InHour y m d h
 InDate y (Known m) (Known d) (Known h) (Known i) Unknown = InMinute y m d h i
 InDate y (Known m) (Known d) (Known h) (Known i) (Known s) = InSecond y m d h i s
 
--- and of a week and its day
+-- the seconds of what is known before the first unknown of a week and its day
 abbrev pub InWeekDate : ℕ → Part → Part → ℕ → Type 0
 InWeekDate y Unknown d = InWeekYears (YearOf.Known y)
 InWeekDate y (Known w) Unknown = InWeek y w
 InWeekDate y (Known w) (Known d) = InWeekday y w d
-
-abbrev pub InQuarterDate : ℕ → Part → ℕ → Type 0
-InQuarterDate y Unknown = InYears (YearOf.Known y)
-InQuarterDate y (Known q) = InQuarter y q
 
 -- the seconds that belong to the known part, where the year is known; a field that the shape has not is unknown
 abbrev pub BelongsToYear : ℕ → Shape → ℕ → Type 0
@@ -34,17 +30,19 @@ BelongsToYear y (ShapeOf.Month m) = InDate y m Unknown Unknown Unknown Unknown
 BelongsToYear y (ShapeOf.Day m d) = InDate y m d Unknown Unknown Unknown
 BelongsToYear y (ShapeOf.Week w) = InWeekDate y w Unknown
 BelongsToYear y (ShapeOf.Weekday w d) = InWeekDate y w d
-BelongsToYear y (ShapeOf.Quarter q) = InQuarterDate y q
+BelongsToYear y (ShapeOf.Quarter (Known q)) = InQuarter y q
+BelongsToYear y (ShapeOf.Quarter Unknown) = InYears (YearOf.Known y)
 BelongsToYear y (ShapeOf.Hour m d h) = InDate y m d h Unknown Unknown
 BelongsToYear y (ShapeOf.Minute m d h i) = InDate y m d h i Unknown
 BelongsToYear y (ShapeOf.Second m d h i s) = InDate y m d h i s
 
--- where it has an X; the years of the two shapes of weeks are years of weeks
+-- and where it has an X; the years of the two shapes of weeks are years of weeks
 abbrev pub BelongsToYears : Year → Shape → ℕ → Type 0
 BelongsToYears year (ShapeOf.Week w) = InWeekYears year
 BelongsToYears year (ShapeOf.Weekday w d) = InWeekYears year
 BelongsToYears year shape = InYears year
 
+-- the seconds that belong to the known part of a value
 abbrev pub Belongs : Year → Shape → ℕ → Type 0
 Belongs (YearOf.Known y) shape = BelongsToYear y shape
 Belongs year shape = BelongsToYears year shape

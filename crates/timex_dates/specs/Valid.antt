@@ -18,23 +18,21 @@ HasDateParts y (Known m) (Known d) (Known h) Unknown s = IsDate y m d × (h ≤ 
 HasDateParts y (Known m) (Known d) (Known h) (Known i) Unknown = IsDate y m d × (h ≤ 24) × (i < 60)
 HasDateParts y (Known m) (Known d) (Known h) (Known i) (Known s) = IsDate y m d × (h ≤ 24) × (i < 60) × (s < 60)
 
--- and of a week and its day
+-- what is known of a week and its day
 abbrev pub HasWeekParts : ℕ → Part → Part → Type 0
 HasWeekParts y Unknown d = Unit {0}
 HasWeekParts y (Known w) Unknown = IsInRange 1 (weeks_of y) w
 HasWeekParts y (Known w) (Known d) = IsInRange 1 (weeks_of y) w × IsInRange 1 7 d
 
-abbrev pub HasQuarterPart : Part → Type 0
-HasQuarterPart Unknown = Unit {0}
-HasQuarterPart (Known q) = IsInRange 1 4 q
-
+-- what is known behind the year
 abbrev pub HasParts : ℕ → Shape → Type 0
 HasParts y ShapeOf.Year = Unit {0}
 HasParts y (ShapeOf.Month m) = HasDateParts y m Unknown Unknown Unknown Unknown
 HasParts y (ShapeOf.Day m d) = HasDateParts y m d Unknown Unknown Unknown
 HasParts y (ShapeOf.Week w) = HasWeekParts y w Unknown
 HasParts y (ShapeOf.Weekday w d) = HasWeekParts y w d
-HasParts y (ShapeOf.Quarter q) = HasQuarterPart q
+HasParts y (ShapeOf.Quarter (Known q)) = IsInRange 1 4 q
+HasParts y (ShapeOf.Quarter Unknown) = Unit {0}
 HasParts y (ShapeOf.Hour m d h) = HasDateParts y m d h Unknown Unknown
 HasParts y (ShapeOf.Minute m d h i) = HasDateParts y m d h i Unknown
 HasParts y (ShapeOf.Second m d h i s) = HasDateParts y m d h i s
@@ -46,6 +44,7 @@ HasYear (YearOf.Decade d) = d ≤ 999
 HasYear (YearOf.Century c) = c ≤ 99
 HasYear YearOf.Unknown = Unit {0}
 
+-- what is known of the year and behind it
 abbrev pub HasKnownPart : Year → Shape → Type 0
 HasKnownPart (YearOf.Known y) shape = IsInRange 1 9999 y × HasParts y shape
 HasKnownPart year shape = HasYear year

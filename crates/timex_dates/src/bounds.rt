@@ -74,7 +74,7 @@ pub fn bounds_of(kind: TimexKind, modifier: Option<Modifier>, value: Option<&Val
     match kind {
         TimexKind::Date | TimexKind::Time => match value {
             Some(Value::Calendar(calendar)) => calendar_bounds(modifier, calendar),
-            Some(Value::Other) | None => Bounds::Free,
+            Some(Value::Duration(_)) | Some(Value::Other) | None => Bounds::Free,
         },
         TimexKind::Duration | TimexKind::Set => Bounds::Free,
     }

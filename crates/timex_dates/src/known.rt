@@ -2,9 +2,10 @@
 ghost use Rattle.std.specs.Int.{IsInRange};
 ghost use Rattle.std.specs.Prelude.{◌≡◌, ◌<ℤ◌};
 ghost use Rattle.timex_dates.specs.KnownParts as parts;
-ghost use Rattle.timex_dates.specs.KnownParts.{Belongs, BelongsToYear, BelongsToYears, InDate, InQuarterDate, InWeekDate};
+ghost use Rattle.timex_dates.specs.KnownParts.{Belongs, BelongsToYear, BelongsToYears, InDate, InWeekDate};
 ghost use Rattle.timex_dates.specs.Seconds.{Extent, IsCivilSecond};
-ghost use Rattle.timex_dates.specs.Valid.{HasDateParts, HasKnownPart, HasParts, HasQuarterPart, HasWeekParts, HasYear};
+ghost use Rattle.timex_dates.specs.Valid.{HasDateParts, HasKnownPart, HasParts, HasWeekParts, HasYear};
+ghost use Rattle.timex_value.specs.declared.shape.Shape.TheVariants as ShapeOf;
 
 use crate::interval as whole;
 use crate::interval::Interval;
@@ -53,10 +54,11 @@ fn week_date(year: u16, week: Part, day: Part) -> Interval
     whole::weekday(year, w, d)
 }
 
+/// The interval of what is known of a quarter.
 fn quarter_date(year: u16, quarter: Part) -> Interval
     requires year { IsInRange 1 9999 year }
-    requires quarter { HasQuarterPart quarter }
-    ensures extent { Extent (InQuarterDate year quarter) result.lo result.hi }
+    requires parts { HasParts year (ShapeOf.Quarter quarter) }
+    ensures extent { Extent (BelongsToYear year (ShapeOf.Quarter quarter)) result.lo result.hi }
     ensures range { IsCivilSecond result.lo × IsCivilSecond result.hi }
 {
     match quarter {
