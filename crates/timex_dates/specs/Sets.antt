@@ -1,0 +1,53 @@
+-- Sets of seconds, which are counted from 0001-01-01T00:00:00. The weeks are those of ISO 8601.
+use Rattle.std.specs.Prelude.{◌≡◌, ℕ, ◌+◌, ◌/◌, ◌%◌}
+use Rattle.std.specs.Int.{IsInRange}
+use Rattle.timex_value.specs.declared.shape.Year.{Year}
+use Rattle.timex_value.specs.declared.shape.Year.TheVariants as YearOf
+use Rattle.timex_value.specs.Civil.{IsDate, day_index, weekday, IsInYear, IsInMonth, IsDateOf, IsInWeek, thursday_of}
+use Rattle.timex_dates.specs.Seconds.{day_of, clock_of}
+
+-- the four digits of the year begin with those that are written
+abbrev pub BeginsWith : Year → ℕ → Type 0
+BeginsWith (YearOf.Known y) z = z ≡ y
+BeginsWith (YearOf.Decade d) z = z / 10 ≡ d
+BeginsWith (YearOf.Century c) z = z / 100 ≡ c
+BeginsWith YearOf.Unknown z = Unit {0}
+
+-- a year from 1 to 9999 that begins so
+abbrev pub IsYearOf : Year → ℕ → Type 0
+IsYearOf year y = IsInRange 1 9999 y × BeginsWith year y
+
+-- the days of these years
+abbrev pub InYears : Year → ℕ → Type 0
+InYears year t = (y : ℕ) × IsYearOf year y × IsInYear (day_of t) y
+
+-- the weeks of these years, where a week is one of the year of its Thursday
+abbrev pub InWeekYears : Year → ℕ → Type 0
+InWeekYears year t = (y : ℕ) × IsYearOf year y × IsInYear (thursday_of (day_of t)) y
+
+abbrev pub InMonth : ℕ → ℕ → ℕ → Type 0
+InMonth y m t = IsInMonth (day_of t) y m
+
+-- the first quarter has the months 1 to 3, and so on
+abbrev pub InQuarter : ℕ → ℕ → ℕ → Type 0
+InQuarter y q t = (m : ℕ) × ((m + 2) / 3 ≡ q) × IsInMonth (day_of t) y m
+
+abbrev pub InDay : ℕ → ℕ → ℕ → ℕ → Type 0
+InDay y m d t = IsDateOf (day_of t) y m d
+
+abbrev pub InWeek : ℕ → ℕ → ℕ → Type 0
+InWeek y w t = IsInWeek (day_of t) y w
+
+-- the day of the week, where Monday is 1
+abbrev pub InWeekday : ℕ → ℕ → ℕ → ℕ → Type 0
+InWeekday y w d t = InWeek y w t × (weekday (day_of t) + 1 ≡ d)
+
+-- the hour of the date, where hour 24 is hour 0 of the next day
+abbrev pub InHour : ℕ → ℕ → ℕ → ℕ → ℕ → Type 0
+InHour y m d h t = IsDate y m d × (day_of t ≡ day_index y m d + h / 24) × (clock_of t / 3600 ≡ h % 24)
+
+abbrev pub InMinute : ℕ → ℕ → ℕ → ℕ → ℕ → ℕ → Type 0
+InMinute y m d h i t = InHour y m d h t × (clock_of t / 60 % 60 ≡ i)
+
+abbrev pub InSecond : ℕ → ℕ → ℕ → ℕ → ℕ → ℕ → ℕ → Type 0
+InSecond y m d h i s t = InMinute y m d h i t × (clock_of t % 60 ≡ s)

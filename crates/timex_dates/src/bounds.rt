@@ -1,0 +1,81 @@
+//! Bounds of times.
+ghost use Rattle.std.specs.Prelude.{option_map, ◌≡◌};
+ghost use Rattle.timex_dates.specs.Answers.{BoundsOf, CalendarBounds, IsCivil, ModifiedBounds};
+ghost use Rattle.timex_dates.specs.KnownParts as parts;
+ghost use Rattle.timex_dates.specs.KnownParts.{Belongs};
+ghost use Rattle.timex_dates.specs.Valid.{HasKnownPart};
+ghost use Rattle.timex_value.specs.Values as values;
+
+use crate::interval::Interval;
+use crate::known::{interval_of, is_whole};
+use net_core::Bounds;
+use timex_value::{Calendar, Modifier, Shape, TimexKind, Value, Year};
+
+/// The bounds of the known part of a value.
+fn modified(modifier: Option<Modifier>, year: Year, shape: Shape) -> Bounds
+    requires part { HasKnownPart year shape }
+    ensures bounds { ModifiedBounds modifier (parts.is_whole year shape) (Belongs year shape) result }
+    ensures civil { IsCivil result }
+{
+    let Interval { lo, hi } = interval_of(year, shape);
+    let whole = is_whole(year, shape);
+    match modifier {
+        None => {
+            if whole {
+                Bounds::Exact { lo, hi }
+            } else {
+                Bounds::Within { lo, hi }
+            }
+        }
+        Some(Modifier::Start) | Some(Modifier::Mid) | Some(Modifier::End) => {
+            Bounds::Within { lo, hi }
+        }
+        Some(Modifier::Before)
+        | Some(Modifier::After)
+        | Some(Modifier::OnOrBefore)
+        | Some(Modifier::OnOrAfter)
+        | Some(Modifier::LessThan)
+        | Some(Modifier::MoreThan)
+        | Some(Modifier::EqualOrLess)
+        | Some(Modifier::EqualOrMore)
+        | Some(Modifier::Approx) => Bounds::Free,
+    }
+}
+
+#[tactic(auto, using(crate::proofs::Fillings::has_part))]
+/// The year and the shape of a value, whose known part the calendar has.
+fn fields_of(calendar: &Calendar) -> (Year, Shape)
+    ensures year { result.0 ≡ values.year_of calendar.now }
+    ensures shape { result.1 ≡ values.shape_of calendar.now }
+    ensures part { HasKnownPart result.0 result.1 }
+{
+    (calendar.year(), calendar.shape())
+}
+
+fn calendar_bounds(modifier: Option<Modifier>, calendar: &Calendar) -> Bounds
+    ensures bounds { CalendarBounds modifier (values.year_of calendar.now) (values.shape_of calendar.now) result }
+    ensures civil { IsCivil result }
+{
+    let (year, shape) = fields_of(calendar);
+    match year {
+        Year::Known(_) | Year::Decade(_) | Year::Century(_) => modified(modifier, year, shape),
+        Year::Unknown => Bounds::Free,
+    }
+}
+
+/// When a time begins and ends: the bounds of its value, as its kind and its modifier leave them. A value without `X`
+/// and without a modifier has exact bounds. With START, MID or END the time lies within them, and so it does where an
+/// `X` stands in the value: then they are those of the part before the first `X`. Nothing is said by another modifier,
+/// by a duration or a set, without a calendar value, and where nothing is known of the year.
+pub fn bounds_of(kind: TimexKind, modifier: Option<Modifier>, value: Option<&Value>) -> Bounds
+    ensures bounds { BoundsOf kind modifier (option_map (λ v. v.now) value.entry) result }
+    ensures civil { IsCivil result }
+{
+    match kind {
+        TimexKind::Date | TimexKind::Time => match value {
+            Some(Value::Calendar(calendar)) => calendar_bounds(modifier, calendar),
+            Some(Value::Duration(_)) | Some(Value::Other) | None => Bounds::Free,
+        },
+        TimexKind::Duration | TimexKind::Set => Bounds::Free,
+    }
+}

@@ -1,0 +1,200 @@
+//! Intervals of seconds.
+ghost use Rattle.std.specs.Int.{IsInRange};
+ghost use Rattle.std.specs.Prelude.{◌*◌, ◌*ℤ◌, ◌+◌, ◌+ℤ◌, ◌-◌, ◌↔◌, ◌≡◌, ◌≤◌, ◌≤ℤ◌, ◌<◌, pos, ℕ};
+ghost use Rattle.timex_dates.specs.Seconds.{Extent, IsCivilSecond, IsDayNumber};
+ghost use Rattle.timex_dates.specs.Sets.{InDay, InHour, InMinute, InMonth, InQuarter, InSecond, InWeek, InWeekYears, InWeekday, InYears, IsYearOf};
+ghost use Rattle.timex_dates.specs.Valid.{HasYear};
+ghost use Rattle.timex_value.specs.Civil.{IsDate, weeks_of};
+
+use crate::days::{day_number, last_of_month, monday_number};
+use timex_value::Year;
+
+/// From the first second up to the first second after it.
+#[derive(Clone, Copy, Debug, PartialEq, Eq)]
+pub(crate) struct Interval {
+    pub lo: i64,
+    pub hi: i64,
+}
+
+/// From the start of a day up to so many days after the start of another one.
+fn days_to(first: i64, last: i64, more: u8) -> Interval
+    requires first { IsDayNumber first }
+    requires last { IsDayNumber last }
+    requires more { more ≤ 7 }
+    requires end { (last +ℤ pos more) ≤ℤ pos 2_932_899 }
+    ensures lo { result.lo ≡ first *ℤ pos 86_400 }
+    ensures hi { result.hi ≡ (last +ℤ pos more) *ℤ pos 86_400 }
+    ensures range { IsCivilSecond result.lo × IsCivilSecond result.hi }
+{
+    Interval {
+        lo: first * 86_400,
+        hi: (last + more as i64) * 86_400,
+    }
+}
+
+/// So many days, from so many days after the first.
+fn days_after(first: i64, skip: u16, count: u8) -> Interval
+    requires first { IsDayNumber first }
+    requires end { (first +ℤ pos (skip + count)) ≤ℤ pos 2_932_899 }
+    ensures lo { result.lo ≡ (first +ℤ pos skip) *ℤ pos 86_400 }
+    ensures hi { result.hi ≡ result.lo +ℤ pos (count * 86_400) }
+    ensures range { IsCivilSecond result.lo × IsCivilSecond result.hi }
+{
+    let lo = (first + skip as i64) * 86_400;
+    Interval {
+        lo,
+        hi: lo + count as i64 * 86_400,
+    }
+}
+
+/// So many seconds, from so many seconds after the start of a day.
+fn part_of_day(number: i64, from: u32, size: u16) -> Interval
+    requires number { IsDayNumber number }
+    requires from { from ≤ 90_000 }
+    requires size { size ≤ 3600 }
+    ensures lo { result.lo ≡ number *ℤ pos 86_400 +ℤ pos from }
+    ensures hi { result.hi ≡ result.lo +ℤ pos size }
+    ensures range { IsCivilSecond result.lo × IsCivilSecond result.hi }
+{
+    let lo = number * 86_400 + from as i64;
+    Interval {
+        lo,
+        hi: lo + size as i64,
+    }
+}
+
+/// The first and the last of the years that begin with the digits of a value's year.
+fn run_of(year: Year) -> (u16, u16)
+    requires { HasYear year }
+    ensures first { 1 ≤ result.0 }
+    ensures last { result.0 ≤ result.1 }
+    ensures limit { result.1 ≤ 9999 }
+    ensures years { (y : ℕ) → IsYearOf year y ↔ IsInRange result.0 result.1 y }
+{
+    match year {
+        Year::Known(y) => (y, y),
+        Year::Decade(d) => ((d * 10).max(1), d * 10 + 9),
+        Year::Century(c) => ((c * 100).max(1), c * 100 + 99),
+        Year::Unknown => (1, 9999),
+    }
+}
+
+pub(crate) fn years(year: Year) -> Interval
+    requires { HasYear year }
+    ensures extent { Extent (InYears year) result.lo result.hi }
+    ensures range { IsCivilSecond result.lo × IsCivilSecond result.hi }
+{
+    let (first, last) = run_of(year);
+    days_to(day_number(first, 1, 1), day_number(last, 12, 31), 1)
+}
+
+/// The weeks of years: a year's first week has 4 January, and its last one 28 December.
+pub(crate) fn week_years(year: Year) -> Interval
+    requires { HasYear year }
+    ensures extent { Extent (InWeekYears year) result.lo result.hi }
+    ensures range { IsCivilSecond result.lo × IsCivilSecond result.hi }
+{
+    let (first, last) = run_of(year);
+    days_to(monday_number(first, 1, 4), monday_number(last, 12, 28), 7)
+}
+
+#[tactic(auto, using(crate::proofs::Extents::month_extent))]
+pub(crate) fn month(year: u16, month: u8) -> Interval
+    requires year { IsInRange 1 9999 year }
+    requires month { IsInRange 1 12 month }
+    ensures extent { Extent (InMonth year month) result.lo result.hi }
+    ensures range { IsCivilSecond result.lo × IsCivilSecond result.hi }
+{
+    let last = last_of_month(year, month);
+    days_to(day_number(year, month, 1), day_number(year, month, last), 1)
+}
+
+#[tactic(auto, using(crate::proofs::Extents::quarter_extent))]
+pub(crate) fn quarter(year: u16, quarter: u8) -> Interval
+    requires year { IsInRange 1 9999 year }
+    requires quarter { IsInRange 1 4 quarter }
+    ensures extent { Extent (InQuarter year quarter) result.lo result.hi }
+    ensures range { IsCivilSecond result.lo × IsCivilSecond result.hi }
+{
+    let month = 3 * quarter;
+    let last = last_of_month(year, month);
+    days_to(
+        day_number(year, month - 2, 1),
+        day_number(year, month, last),
+        1,
+    )
+}
+
+#[tactic(auto, using(crate::proofs::Extents::day_extent))]
+pub(crate) fn day(year: u16, month: u8, day: u8) -> Interval
+    requires date { IsDate year month day }
+    requires limit { year ≤ 9999 }
+    ensures extent { Extent (InDay year month day) result.lo result.hi }
+    ensures range { IsCivilSecond result.lo × IsCivilSecond result.hi }
+{
+    let number = day_number(year, month, day);
+    days_to(number, number, 1)
+}
+
+#[tactic(auto, using(crate::proofs::Extents::week_extent, timex_value::proofs::Days::weeks_closed, crate::proofs::Intervals::week_end))]
+pub(crate) fn week(year: u16, week: u8) -> Interval
+    requires year { IsInRange 1 9999 year }
+    requires week { IsInRange 1 (weeks_of year) week }
+    ensures extent { Extent (InWeek year week) result.lo result.hi }
+    ensures range { IsCivilSecond result.lo × IsCivilSecond result.hi }
+{
+    days_after(monday_number(year, 1, 4), 7 * (week as u16 - 1), 7)
+}
+
+#[tactic(auto, using(crate::proofs::Extents::weekday_extent, timex_value::proofs::Days::weeks_closed, crate::proofs::Intervals::week_end))]
+pub(crate) fn weekday(year: u16, week: u8, day: u8) -> Interval
+    requires year { IsInRange 1 9999 year }
+    requires week { IsInRange 1 (weeks_of year) week }
+    requires day { IsInRange 1 7 day }
+    ensures extent { Extent (InWeekday year week day) result.lo result.hi }
+    ensures range { IsCivilSecond result.lo × IsCivilSecond result.hi }
+{
+    days_after(
+        monday_number(year, 1, 4),
+        7 * (week as u16 - 1) + (day as u16 - 1),
+        1,
+    )
+}
+
+#[tactic(auto, using(crate::proofs::Extents::hour_extent))]
+pub(crate) fn hour(year: u16, month: u8, day: u8, hour: u8) -> Interval
+    requires date { IsDate year month day }
+    requires limit { year ≤ 9999 }
+    requires hour { hour ≤ 24 }
+    ensures extent { Extent (InHour year month day hour) result.lo result.hi }
+    ensures range { IsCivilSecond result.lo × IsCivilSecond result.hi }
+{
+    part_of_day(day_number(year, month, day), hour as u32 * 3600, 3600)
+}
+
+#[tactic(auto, using(crate::proofs::Extents::minute_extent))]
+pub(crate) fn minute(year: u16, month: u8, day: u8, hour: u8, minute: u8) -> Interval
+    requires date { IsDate year month day }
+    requires limit { year ≤ 9999 }
+    requires hour { hour ≤ 24 }
+    requires minute { minute < 60 }
+    ensures extent { Extent (InMinute year month day hour minute) result.lo result.hi }
+    ensures range { IsCivilSecond result.lo × IsCivilSecond result.hi }
+{
+    let from = hour as u32 * 3600 + minute as u32 * 60;
+    part_of_day(day_number(year, month, day), from, 60)
+}
+
+#[tactic(auto, using(crate::proofs::Extents::second_extent))]
+pub(crate) fn second(year: u16, month: u8, day: u8, hour: u8, minute: u8, second: u8) -> Interval
+    requires date { IsDate year month day }
+    requires limit { year ≤ 9999 }
+    requires hour { hour ≤ 24 }
+    requires minute { minute < 60 }
+    requires second { second < 60 }
+    ensures extent { Extent (InSecond year month day hour minute second) result.lo result.hi }
+    ensures range { IsCivilSecond result.lo × IsCivilSecond result.hi }
+{
+    let from = hour as u32 * 3600 + minute as u32 * 60 + second as u32;
+    part_of_day(day_number(year, month, day), from, 1)
+}

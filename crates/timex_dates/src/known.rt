@@ -1,0 +1,174 @@
+//! The known part of a value: what stands before its first `X`.
+ghost use Rattle.std.specs.Int.{IsInRange};
+ghost use Rattle.std.specs.Prelude.{◌≡◌, ◌<ℤ◌};
+ghost use Rattle.timex_dates.specs.KnownParts as parts;
+ghost use Rattle.timex_dates.specs.KnownParts.{Belongs, BelongsToYear, BelongsToYears, InDate, InWeekDate};
+ghost use Rattle.timex_dates.specs.Seconds.{Extent, IsCivilSecond};
+ghost use Rattle.timex_dates.specs.Valid.{HasDateParts, HasKnownPart, HasParts, HasWeekParts, HasYear};
+ghost use Rattle.timex_value.specs.declared.shape.Shape.TheVariants as ShapeOf;
+
+use crate::interval as whole;
+use crate::interval::Interval;
+use timex_value::{Part, Shape, Year};
+
+const X: Part = Part::Unknown;
+
+/// The interval of what is known of a date and its time.
+fn date(year: u16, month: Part, day: Part, hour: Part, minute: Part, second: Part) -> Interval
+    requires year { IsInRange 1 9999 year }
+    requires parts { HasDateParts year month day hour minute second }
+    ensures extent { Extent (InDate year month day hour minute second) result.lo result.hi }
+    ensures range { IsCivilSecond result.lo × IsCivilSecond result.hi }
+{
+    let Part::Known(m) = month else {
+        return whole::years(Year::Known(year));
+    };
+    let Part::Known(d) = day else {
+        return whole::month(year, m);
+    };
+    let Part::Known(h) = hour else {
+        return whole::day(year, m, d);
+    };
+    let Part::Known(i) = minute else {
+        return whole::hour(year, m, d, h);
+    };
+    let Part::Known(s) = second else {
+        return whole::minute(year, m, d, h, i);
+    };
+    whole::second(year, m, d, h, i, s)
+}
+
+/// The interval of what is known of a week and its day.
+fn week_date(year: u16, week: Part, day: Part) -> Interval
+    requires year { IsInRange 1 9999 year }
+    requires parts { HasWeekParts year week day }
+    ensures extent { Extent (InWeekDate year week day) result.lo result.hi }
+    ensures range { IsCivilSecond result.lo × IsCivilSecond result.hi }
+{
+    let Part::Known(w) = week else {
+        return whole::week_years(Year::Known(year));
+    };
+    let Part::Known(d) = day else {
+        return whole::week(year, w);
+    };
+    whole::weekday(year, w, d)
+}
+
+/// The interval of what is known of a quarter.
+fn quarter_date(year: u16, quarter: Part) -> Interval
+    requires year { IsInRange 1 9999 year }
+    requires parts { HasParts year (ShapeOf.Quarter quarter) }
+    ensures extent { Extent (BelongsToYear year (ShapeOf.Quarter quarter)) result.lo result.hi }
+    ensures range { IsCivilSecond result.lo × IsCivilSecond result.hi }
+{
+    match quarter {
+        Part::Known(q) => whole::quarter(year, q),
+        Part::Unknown => whole::years(Year::Known(year)),
+    }
+}
+
+/// The interval of the known part, where the year is known.
+fn of_year(year: u16, shape: Shape) -> Interval
+    requires year { IsInRange 1 9999 year }
+    requires parts { HasParts year shape }
+    ensures extent { Extent (BelongsToYear year shape) result.lo result.hi }
+    ensures range { IsCivilSecond result.lo × IsCivilSecond result.hi }
+{
+    match shape {
+        Shape::Year => whole::years(Year::Known(year)),
+        Shape::Month { month } => date(year, month, X, X, X, X),
+        Shape::Day { month, day } => date(year, month, day, X, X, X),
+        Shape::Week { week } => week_date(year, week, X),
+        Shape::Weekday { week, day } => week_date(year, week, day),
+        Shape::Quarter { quarter } => quarter_date(year, quarter),
+        Shape::Hour { month, day, hour } => date(year, month, day, hour, X, X),
+        Shape::Minute {
+            month,
+            day,
+            hour,
+            minute,
+        } => date(year, month, day, hour, minute, X),
+        Shape::Second {
+            month,
+            day,
+            hour,
+            minute,
+            second,
+        } => date(year, month, day, hour, minute, second),
+    }
+}
+
+/// The interval of the known part, where the year has an `X`.
+fn of_years(year: Year, shape: Shape) -> Interval
+    requires { HasYear year }
+    ensures extent { Extent (BelongsToYears year shape) result.lo result.hi }
+    ensures range { IsCivilSecond result.lo × IsCivilSecond result.hi }
+{
+    match shape {
+        Shape::Week { .. } | Shape::Weekday { .. } => whole::week_years(year),
+        _ => whole::years(year),
+    }
+}
+
+/// The interval of the known part.
+#[tactic(auto, using(crate::proofs::Extents::extent_order))]
+pub(crate) fn interval_of(year: Year, shape: Shape) -> Interval
+    requires { HasKnownPart year shape }
+    ensures extent { Extent (Belongs year shape) result.lo result.hi }
+    ensures order { result.lo <ℤ result.hi }
+    ensures range { IsCivilSecond result.lo × IsCivilSecond result.hi }
+{
+    match year {
+        Year::Known(y) => of_year(y, shape),
+        Year::Decade(_) | Year::Century(_) | Year::Unknown => of_years(year, shape),
+    }
+}
+
+fn is_known(part: Part) -> bool
+    ensures { result ≡ parts.is_known part }
+{
+    match part {
+        Part::Known(_) => true,
+        Part::Unknown => false,
+    }
+}
+
+fn is_full(shape: Shape) -> bool
+    ensures { result ≡ parts.is_full shape }
+{
+    match shape {
+        Shape::Year => true,
+        Shape::Month { month } => is_known(month),
+        Shape::Day { month, day } => is_known(month) && is_known(day),
+        Shape::Week { week } => is_known(week),
+        Shape::Weekday { week, day } => is_known(week) && is_known(day),
+        Shape::Quarter { quarter } => is_known(quarter),
+        Shape::Hour { month, day, hour } => is_known(month) && is_known(day) && is_known(hour),
+        Shape::Minute {
+            month,
+            day,
+            hour,
+            minute,
+        } => is_known(month) && is_known(day) && is_known(hour) && is_known(minute),
+        Shape::Second {
+            month,
+            day,
+            hour,
+            minute,
+            second,
+        } => {
+            let hour = is_known(month) && is_known(day) && is_known(hour);
+            hour && is_known(minute) && is_known(second)
+        }
+    }
+}
+
+/// Whether no `X` stands in a value with this year and this shape.
+pub(crate) fn is_whole(year: Year, shape: Shape) -> bool
+    ensures { result ≡ parts.is_whole year shape }
+{
+    match year {
+        Year::Known(_) => is_full(shape),
+        Year::Decade(_) | Year::Century(_) | Year::Unknown => false,
+    }
+}

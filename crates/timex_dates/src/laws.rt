@@ -1,0 +1,12 @@
+//! Laws of extents and bounds: public functions that do nothing, each with the law as its contract.
+ghost use Rattle.timex_dates.specs.Answers.{OneBounds, OneExtent};
+
+/// The seconds that belong to a value have one extent.
+pub fn one_extent()
+    ensures { OneExtent }
+{}
+
+/// A time has one answer.
+pub fn one_bounds()
+    ensures { OneBounds }
+{}

@@ -1,0 +1,17 @@
+//! Calendar intervals: when the dates of TIMEX3 begin and end, in whole civil seconds, and the civil texts of seconds.
+#![tactic(auto)]
+
+mod bounds;
+mod civil;
+mod days;
+mod interval;
+mod known;
+mod laws;
+mod print;
+#[cfg(test)]
+mod tests;
+
+pub use bounds::bounds_of;
+pub use civil::CivilText;
+pub use laws::{one_bounds, one_extent};
+pub use print::civil_text;
