@@ -5,7 +5,7 @@ use Rattle.std.specs.Io.KnownBytes.{Keeps, Appends}
 use Rattle.std.proofs.lemmas.List.{append-nil}
 use Rattle.tml_io.specs.Files.{Files}
 use Rattle.tml_tool.specs.declared.command.Question.{Question}
-use Rattle.tml_tool.specs.declared.command.Question.TheVariants.{Spans, Check}
+use Rattle.tml_tool.specs.declared.command.Question.TheVariants.{Spans, Check, Dates}
 use Rattle.tml_tool.specs.declared.status.Status.{Status}
 use Rattle.tml_tool.specs.declared.status.Status.TheVariants.{Done, DocFault, Usage, ReadFault, WriteFault, NoMemory}
 use Rattle.tml_tool.specs.Words.{Form, of_document, names_of}
@@ -31,6 +31,7 @@ refused question doc line other out h answers = absurd h
 no_write_fault_over : (question : Question) (doc out : List ℕ) → OverBytes question doc WriteFault out → ⊥
 no_write_fault_over Spans doc out h = h
 no_write_fault_over Check doc out h = h
+no_write_fault_over Dates doc out h = h
 
 no_write_fault : (told : Option Files) (form : Option Form) (out : List ℕ) → Answer told form WriteFault out → ⊥
 no_write_fault told None out h = absurd cc

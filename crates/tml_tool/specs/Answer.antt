@@ -6,11 +6,12 @@ use Rattle.tml_span.specs.Units.{PlainUnit}
 use Rattle.tml_span.specs.Whole.{IsWhole}
 use Rattle.tml_refs.specs.declared.contents.Contents.{Contents}
 use Rattle.tml_tool.specs.declared.command.Question.{Question}
-use Rattle.tml_tool.specs.declared.command.Question.TheVariants.{Spans, Check}
+use Rattle.tml_tool.specs.declared.command.Question.TheVariants.{Spans, Check, Dates}
 use Rattle.tml_tool.specs.declared.status.Status.{Status}
 use Rattle.tml_tool.specs.declared.status.Status.TheVariants.{Done, DocFault, Usage, TooLong}
 use Rattle.tml_tool.specs.Words.{Form, of_document}
 use Rattle.tml_tool.specs.Acceptance.{CutLine, FirstFault, IsAccepted}
+use Rattle.tml_tool.specs.DateTexts.{DateLines}
 use Rattle.tml_tool.specs.Texts as texts
 
 -- how many bytes a document has at most
@@ -21,12 +22,14 @@ doc_limit = 4194304
 abbrev pub HasTable : List ℕ → List ℕ → Type 0
 HasTable doc table = (units : List PlainUnit) × IsWhole (record { source = doc; units = units }) × (table ≡ texts.unit_table units)
 
--- `spans` prints the table of the units, or the fault of the cut; `check` says what an accepted document has, or prints its first fault
+-- `spans` prints the table of the units, or the fault of the cut; `check` says what an accepted document has, and `dates` when its times are, or they print its first fault
 abbrev pub OverBytes : Question → List ℕ → Status → List ℕ → Type 0
 OverBytes Spans doc Done out = HasTable doc out
 OverBytes Spans doc DocFault out = CutLine doc out
 OverBytes Check doc Done out = (contents : Contents) × IsAccepted doc contents × (out ≡ texts.accepted contents)
 OverBytes Check doc DocFault out = FirstFault doc out
+OverBytes Dates doc Done out = (contents : Contents) × IsAccepted doc contents × DateLines contents.intervals out
+OverBytes Dates doc DocFault out = FirstFault doc out
 OverBytes question doc other out = ⊥
 
 -- The answer to a question of a document: one that is too long is refused, and else its bytes decide.

@@ -3,6 +3,7 @@ pub mod Words
 pub mod View
 pub mod Texts
 pub mod Written
+pub mod DateTexts
 pub mod Acceptance
 pub mod Answer
 pub mod Replies

@@ -4,7 +4,7 @@ use Rattle.std.specs.declared.alloc.Global.{Global}
 use Rattle.std.specs.declared.option.Option.{Option}
 use Rattle.named.specs.Texts.{named_of}
 use Rattle.tml_tool.specs.declared.command.Question.{Question}
-use Rattle.tml_tool.specs.declared.command.Question.TheVariants.{Spans, Check}
+use Rattle.tml_tool.specs.declared.command.Question.TheVariants.{Spans, Check, Dates}
 
 -- the words as bytes
 abbrev pub texts_of : List (String Global) → List (List ℕ)
@@ -14,9 +14,10 @@ texts_of words = map (λ (w : String Global). string_bytes w) words
 abbrev pub question_text : Question → List ℕ
 question_text Spans = codes "spans"
 question_text Check = codes "check"
+question_text Dates = codes "dates"
 
 abbrev pub all_questions : List Question
-all_questions = Spans ∷ Check ∷ []
+all_questions = Spans ∷ Check ∷ Dates ∷ []
 
 -- a command, with the names of the files that it reads
 pub data Form : Type 0 where

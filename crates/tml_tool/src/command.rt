@@ -13,6 +13,8 @@ pub enum Question {
     Spans,
     /// Whether it is well annotated, and how many tags of each kind it has.
     Check,
+    /// When its times are by the calendar.
+    Dates,
 }
 
 impl Named for Question {
@@ -25,13 +27,14 @@ impl Named for Question {
     ghost apart = { Prim.search rules };
 
     fn all() -> &'static [Question] {
-        &[Question::Spans, Question::Check]
+        &[Question::Spans, Question::Check, Question::Dates]
     }
 
     fn text(self) -> &'static [u8] {
         match self {
             Question::Spans => b"spans",
             Question::Check => b"check",
+            Question::Dates => b"dates",
         }
     }
 }

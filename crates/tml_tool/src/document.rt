@@ -10,6 +10,7 @@ ghost use Rattle.tml_tool.specs.Words as words;
 use crate::Status;
 use crate::check::check;
 use crate::command::Question;
+use crate::dates::dates;
 use crate::reply::Reply;
 use crate::spans::spans;
 use std::alloc::Global;
@@ -42,5 +43,6 @@ fn answer_over(alloc: Global, question: Question, doc: &[u8]) -> Reply
     match question {
         Question::Spans => spans(alloc, doc),
         Question::Check => check(alloc, doc),
+        Question::Dates => dates(alloc, doc),
     }
 }

@@ -48,6 +48,7 @@ pub fn type_fault(fault: TypeFault) -> Fault
         TypeFault::MissingAttribute { place } => Some((b"fault 10 MissingAttribute ", place)),
         TypeFault::BadValue { place } => Some((b"fault 11 BadValue ", place)),
         TypeFault::Conflict { place } => Some((b"fault 12 Conflict ", place)),
+        TypeFault::BadDate { place } => Some((b"fault 13 BadDate ", place)),
         TypeFault::Memory => None,
     }
 }

@@ -4,6 +4,7 @@
 mod accept;
 mod check;
 mod command;
+mod dates;
 mod document;
 mod faults;
 mod reply;

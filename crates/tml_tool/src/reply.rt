@@ -41,7 +41,7 @@ impl Reply {
     {
         Reply {
             status: Status::Usage,
-            text: Text::Fixed(b"usage:\ntml spans DOC\ntml check DOC\n"),
+            text: Text::Fixed(b"usage:\ntml spans DOC\ntml check DOC\ntml dates DOC\n"),
         }
     }
 

@@ -1,0 +1,108 @@
+//! The question `dates`: when the times of a document are by the calendar.
+ghost use Rattle.std.specs.Fmt.{signed_decimal};
+ghost use Rattle.std.specs.Prelude.{◌≡◌, ◌≤◌, ◌++◌, ℕ, List, codes, length, IfOk, OnOk};
+ghost use Rattle.timex_dates.specs.Answers.{IsCivil};
+ghost use Rattle.timex_dates.specs.Seconds.{IsCivilSecond};
+ghost use Rattle.tml_tool.specs.Answer.{doc_limit};
+ghost use Rattle.tml_tool.specs.DateTexts.{BoundsText, DateLine, DateLines, EndsText};
+ghost use Rattle.tml_tool.specs.Replies.{RepliesOver};
+ghost use Rattle.tml_tool.specs.View.{text_of};
+ghost use Rattle.tml_tool.specs.declared.command.Question.TheVariants as questions;
+
+use crate::Status;
+use crate::accept::accept;
+use crate::faults::refusal;
+use crate::reply::{Reply, Text};
+use itoa::Buffer;
+use net_core::Bounds;
+use std::alloc::{AllocError, Global};
+use timex_dates::{bounds_of, civil_text};
+use tml_refs::{Document, Interval};
+
+/// A line for each TIMEX3 of the document, or its first fault.
+pub fn dates(alloc: Global, doc: &[u8]) -> Reply
+    requires { length doc.now ≤ doc_limit }
+    ensures { RepliesOver questions.Dates doc.now result.status (text_of result.text) }
+{
+    let document = match accept(alloc, doc) {
+        Ok(document) => document,
+        Err(fault) => return refusal(alloc, fault),
+    };
+    match date_lines(alloc, &document) {
+        Ok(text) => Reply {
+            status: Status::Done,
+            text: Text::Made(text),
+        },
+        Err(AllocError) => Reply::no_memory(),
+    }
+}
+
+/// A line for each time.
+fn date_lines(alloc: Global, document: &Document<'_>) -> Result<Vec<u8>, AllocError>
+    ensures { IfOk result (λ out. DateLines document.now.intervals out.items) }
+{
+    let mut out = Vec::new(alloc);
+    for i in 0..document.intervals() {
+        push_date(&mut out, document.interval(i))?;
+    }
+    Ok(out)
+}
+
+/// The line of a time: its name and its bounds. An instance has none.
+fn push_date(out: &mut Vec<u8>, interval: Interval<'_>) -> Result<(), AllocError>
+    ensures { OnOk result ((line : List ℕ) × DateLine interval.entry line × (out.new.items ≡ out.old.items ++ line)) }
+{
+    match interval {
+        Interval::Instance { .. } => Ok(()),
+        Interval::Timex {
+            name,
+            kind,
+            modifier,
+            value,
+        } => {
+            out.extend_from_slice(name)?;
+            out.extend_from_slice(b" ")?;
+            push_bounds(out, bounds_of(kind, modifier, value.as_ref()))?;
+            out.extend_from_slice(b"\n")
+        }
+    }
+}
+
+fn push_bounds(out: &mut Vec<u8>, bounds: Bounds) -> Result<(), AllocError>
+    requires { IsCivil bounds }
+    ensures { OnOk result ((text : List ℕ) × BoundsText bounds text × (out.new.items ≡ out.old.items ++ text)) }
+{
+    match bounds {
+        Bounds::Exact { lo, hi } => {
+            out.extend_from_slice(b"exact ")?;
+            push_ends(out, lo, hi)
+        }
+        Bounds::Within { lo, hi } => {
+            out.extend_from_slice(b"within ")?;
+            push_ends(out, lo, hi)
+        }
+        Bounds::Free => out.extend_from_slice(b"free"),
+    }
+}
+
+/// Both ends, as numbers and then as civil texts.
+fn push_ends(out: &mut Vec<u8>, lo: i64, hi: i64) -> Result<(), AllocError>
+    requires lo { IsCivilSecond lo }
+    requires hi { IsCivilSecond hi }
+    ensures { OnOk result ((text : List ℕ) × EndsText lo hi text × (out.new.items ≡ out.old.items ++ text)) }
+{
+    push_second(out, lo)?;
+    push_second(out, hi)?;
+    out.extend_from_slice(civil_text(lo).as_bytes())?;
+    out.extend_from_slice(b" ")?;
+    out.extend_from_slice(civil_text(hi).as_bytes())
+}
+
+/// A number, and a space behind it.
+fn push_second(out: &mut Vec<u8>, second: i64) -> Result<(), AllocError>
+    ensures { OnOk result (out.new.items ≡ out.old.items ++ signed_decimal second ++ codes " ") }
+{
+    let mut buffer = Buffer::new();
+    out.extend_from_slice(buffer.format(second).as_bytes())?;
+    out.extend_from_slice(b" ")
+}
