@@ -1,5 +1,6 @@
 //! Worked rows of the commands, by `run` over the objects in memory.
 mod checks;
+mod dates;
 mod faults;
 
 use crate::{Status, run};
@@ -19,7 +20,7 @@ struct Row {
 
 const SPANS: &[&str] = &["spans", "d"];
 
-const USAGE: &[u8] = b"usage:\ntml spans DOC\ntml check DOC\n";
+const USAGE: &[u8] = b"usage:\ntml spans DOC\ntml check DOC\ntml dates DOC\n";
 
 const TAGS: &[u8] = b"<TimeML><EVENT eid=\"e1\" class='STATE'>is</EVENT></TimeML>";
 

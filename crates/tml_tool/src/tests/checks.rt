@@ -7,7 +7,7 @@ use tml_io::MemorySink;
 
 pub const CHECK: &[&str] = &["check", "d"];
 
-const RATES: &[u8] =
+pub const RATES: &[u8] =
     b"<?xml version=\"1.0\" ?>\n<TimeML xmlns:xsi=\"http://www.w3.org/2001/XMLSchema-instance\" xsi:noNamespaceSchemaLocation=\"http://timeml.org/timeMLdocs/TimeML_1.2.1.xsd\">\n<TIMEX3 tid=\"t0\" type=\"TIME\" value=\"1998-01-08T18:30:00\" temporalFunction=\"false\" functionInDocument=\"CREATION_TIME\">Jan 8</TIMEX3>\nRates <EVENT eid=\"e1\" class=\"OCCURRENCE\">fell</EVENT> <SIGNAL sid=\"s1\">before</SIGNAL> the bank <EVENT eid=\"e2\" class=\"REPORTING\">spoke</EVENT> on <TIMEX3 tid=\"t1\" type=\"DATE\" value=\"1998-01-07\">Wednesday</TIMEX3>.\n<MAKEINSTANCE eiid=\"ei1\" eventID=\"e1\" tense=\"PAST\" aspect=\"NONE\" pos=\"VERB\" polarity=\"POS\"/>\n<MAKEINSTANCE eiid=\"ei2\" eventID=\"e2\" tense=\"PAST\" aspect=\"NONE\" pos=\"VERB\" polarity=\"POS\"/>\n<TLINK lid=\"l1\" eventInstanceID=\"ei1\" relatedToEventInstance=\"ei2\" signalID=\"s1\" relType=\"BEFORE\"/>\n<TLINK lid=\"l2\" eventInstanceID=\"ei2\" relatedToTime=\"t1\" relType=\"IS_INCLUDED\"/>\n</TimeML>\n";
 
 const RATES_TEXT: &[u8] =

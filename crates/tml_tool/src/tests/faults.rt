@@ -30,6 +30,10 @@ const SMALLEST: &[(&[u8], &[u8])] = &[
         b"fault 12 Conflict 8\n",
     ),
     (
+        b"<TimeML><TIMEX3 tid=\"t\" type=\"SET\" value=\"0000\"/></TimeML>",
+        b"fault 13 BadDate 8\n",
+    ),
+    (
         b"<TimeML><SIGNAL sid=\"s\"/><SIGNAL sid=\"s\"/></TimeML>",
         b"fault 14 DuplicateId 25\n",
     ),
