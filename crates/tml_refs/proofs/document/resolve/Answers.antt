@@ -1,8 +1,10 @@
-use Rattle.std.proofs.Common.{◌∙◌, ℕ, ap, subst, List, Some}
+use Rattle.std.proofs.Common.{◌≡◌, ◌∙◌, ℕ, ap, subst, List, Some}
 use Rattle.std.specs.List.{filter_map}
 use Rattle.tml_types.specs.declared.typed.TypedTag.{TypedTag}
+use Rattle.tml_types.specs.Places.{place_of}
 use Rattle.tml_refs.specs.declared.contents.Interval.{Interval}
 use Rattle.tml_refs.specs.declared.rules.Rule.TheVariants.{DuplicateId}
+use Rattle.tml_refs.specs.Gathering.{Adds, later_rule}
 use Rattle.tml_refs.specs.Indexing.{IsIndexOf}
 use Rattle.tml_refs.specs.Owning.{AreDistinct, Knows}
 use Rattle.tml_refs.specs.Resolved.{interval_of}
@@ -26,18 +28,25 @@ loop-tag-init c =
 
 pub returns-in-Some-clause-err : goal.returns-in-Some-clause-err
 returns-in-Some-clause-err c =
-    stops _ c.in-Some.rule c.fault_at.result c.loop-tag.invariant c.loop-tag-test.true c.in-Some.ensures (c.fault_at.ensures ∙ ap (λ (place : ℕ). Some (place, c.in-Some.rule)) c.place.ensures)
+    let tag = c.tag-item.is in
+    stops c.tag-item.result c.in-Some.rule c.fault_at.result c.loop-tag.invariant c.loop-tag-test.true
+    (subst (λ (t : TypedTag). Some c.in-Some.rule ≡ later_rule c.in-Ok.ids.names c.loop-tag.contents t) tag c.in-Some.ensures)
+    (c.fault_at.ensures ∙ ap (λ (place : ℕ). Some (place, c.in-Some.rule)) (c.place.ensures ∙ ap place_of tag))
 
 pub add-requires-clause-few : goal.add-requires-clause-few
 add-requires-clause-few c = room c.loop-tag.invariant c.loop-tag-test.true
 
 pub loop-tag-preserved : goal.loop-tag-preserved
-loop-tag-preserved c = goes_on _ c.rule.result c.add.new.self c.loop-tag.invariant c.loop-tag-test.true c.rule.ensures c.in_default-rule.is (where_ok c.add.result c.if-is_err.ensures.value c.add.ensures)
+loop-tag-preserved c =
+    let tag = c.tag-item.is in
+    goes_on c.tag-item.result c.rule.result c.add.new.self c.loop-tag.invariant c.loop-tag-test.true
+    (subst (λ (t : TypedTag). c.rule.result ≡ later_rule c.in-Ok.ids.names c.loop-tag.contents t) tag c.rule.ensures) c.in_default-rule.is
+    (subst (λ (t : TypedTag). Adds c.in-Ok.ids.names c.loop-tag.contents t c.add.new.self) tag (where_ok c.add.result c.if-is_err.ensures.value c.add.ensures))
 
 pub returns-in-len1-up-clause-err : goal.returns-in-len1-up-clause-err
 returns-in-len1-up-clause-err c =
-    repeats _ c.fault_at-in-len1-up.result c.loop-tag.invariant c.loop-tag.auto.tag-index-end c.loop-tag-test.false c.in-len1-up.len_at_least
-    (c.fault_at-in-len1-up.ensures ∙ ap (λ (place : ℕ). Some (place, DuplicateId)) c.place-in-len1-up.ensures)
+    repeats c.duplicate-item.result c.fault_at-in-len1-up.result c.loop-tag.invariant c.loop-tag.auto.tag-index-end c.loop-tag-test.false c.in-len1-up.len_at_least
+    (c.fault_at-in-len1-up.ensures ∙ ap (λ (place : ℕ). Some (place, DuplicateId)) (c.place-in-len1-up.ensures ∙ ap place_of c.duplicate-item.is))
 
 pub names_in_order-requires : goal.names_in_order-requires
 names_in_order-requires c = rw c.as_slice.ensures (few_made c.loop-tag.invariant)
