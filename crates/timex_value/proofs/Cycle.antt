@@ -1,8 +1,8 @@
 -- The calendar repeats every 400 years.
-use Rattle.std.proofs.Common.{◌≡◌, ℕ, zero, suc, ◌+◌, ◌-◌, ◌*◌, ◌/◌, ◌%◌, ◌≤◌, Bool, ◌||◌, ◌==◌, if◌then◌else◌, sym, ap, ◌∙◌, subst, arith}
+use Rattle.std.proofs.Common.{◌≡◌, ℕ, ◌+◌, ◌-◌, ◌*◌, ◌/◌, ◌%◌, ◌≤◌, ◌||◌, ◌==◌, if◌then◌else◌, sym, ap, ◌∙◌, subst, arith}
 use Rattle.std.proofs.lemmas.Bool.Decides.{nat_tests}
 use Rattle.std.specs.Int.{IsInRange}
-use Rattle.timex_value.specs.Civil.{is_leap, year_length, month_length, year_start, weeks_of}
+use Rattle.timex_value.specs.Civil.{is_leap, year_length, year_start, weeks_of}
 use Rattle.timex_value.specs.Filling.{FitsYear, HasDate, HasWeek}
 use Rattle.timex_value.specs.declared.shape.Part.{Part}
 use Rattle.timex_value.specs.declared.shape.Shape.{Shape}
