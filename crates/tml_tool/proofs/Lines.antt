@@ -6,7 +6,7 @@ use Rattle.tml_refs.specs.declared.contents.Interval.{Interval}
 use Rattle.tml_tool.specs.Texts as texts
 
 -- what is left from a place on is the item there and what is left behind it
-left_at : {X : Type 0} (xs : List X) (i : ℕ) (x : X) → slice_get xs i ≡ Some x → drop i xs ≡ x ∷ drop (suc i) xs
+pub left_at : {X : Type 0} (xs : List X) (i : ℕ) (x : X) → slice_get xs i ≡ Some x → drop i xs ≡ x ∷ drop (suc i) xs
 left_at [] i x h = absurd cc
 left_at (y ∷ xs) zero x h = cc
 left_at (y ∷ xs) (suc i) x h = left_at xs i x h

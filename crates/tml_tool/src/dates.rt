@@ -73,34 +73,45 @@ fn push_bounds(out: &mut Vec<u8>, bounds: Bounds) -> Result<(), AllocError>
     ensures { OnOk result ((text : List ℕ) × BoundsText bounds text × (out.new.items ≡ out.old.items ++ text)) }
 {
     match bounds {
-        Bounds::Exact { lo, hi } => {
-            out.extend_from_slice(b"exact ")?;
-            push_ends(out, lo, hi)
-        }
-        Bounds::Within { lo, hi } => {
-            out.extend_from_slice(b"within ")?;
-            push_ends(out, lo, hi)
-        }
+        Bounds::Exact { lo, hi } => push_ends(out, b"exact ", lo, hi),
+        Bounds::Within { lo, hi } => push_ends(out, b"within ", lo, hi),
         Bounds::Free => out.extend_from_slice(b"free"),
     }
 }
 
-/// Both ends, as numbers and then as civil texts.
-fn push_ends(out: &mut Vec<u8>, lo: i64, hi: i64) -> Result<(), AllocError>
+/// A word that ends in a space, and both ends of an interval, as numbers and then as civil texts.
+fn push_ends(out: &mut Vec<u8>, word: &[u8], lo: i64, hi: i64) -> Result<(), AllocError>
     requires lo { IsCivilSecond lo }
     requires hi { IsCivilSecond hi }
-    ensures { OnOk result ((text : List ℕ) × EndsText lo hi text × (out.new.items ≡ out.old.items ++ text)) }
+    ensures { OnOk result ((ends : List ℕ) × EndsText lo hi ends × (out.new.items ≡ out.old.items ++ (word.now ++ ends))) }
+{
+    let from = civil_text(lo);
+    let to = civil_text(hi);
+    out.extend_from_slice(word)?;
+    push_numbers(out, lo, hi)?;
+    push_texts(out, from.as_bytes(), to.as_bytes())
+}
+
+/// Two texts, with a space between them.
+fn push_texts(out: &mut Vec<u8>, from: &[u8], to: &[u8]) -> Result<(), AllocError>
+    ensures { OnOk result (out.new.items ≡ out.old.items ++ (from.now ++ codes " " ++ to.now)) }
+{
+    out.extend_from_slice(from)?;
+    out.extend_from_slice(b" ")?;
+    out.extend_from_slice(to)
+}
+
+/// Two numbers, each with a space behind it.
+fn push_numbers(out: &mut Vec<u8>, lo: i64, hi: i64) -> Result<(), AllocError>
+    ensures { OnOk result (out.new.items ≡ out.old.items ++ (signed_decimal lo ++ codes " " ++ signed_decimal hi ++ codes " ")) }
 {
     push_second(out, lo)?;
-    push_second(out, hi)?;
-    out.extend_from_slice(civil_text(lo).as_bytes())?;
-    out.extend_from_slice(b" ")?;
-    out.extend_from_slice(civil_text(hi).as_bytes())
+    push_second(out, hi)
 }
 
 /// A number, and a space behind it.
 fn push_second(out: &mut Vec<u8>, second: i64) -> Result<(), AllocError>
-    ensures { OnOk result (out.new.items ≡ out.old.items ++ signed_decimal second ++ codes " ") }
+    ensures { OnOk result (out.new.items ≡ out.old.items ++ (signed_decimal second ++ codes " ")) }
 {
     let mut buffer = Buffer::new();
     out.extend_from_slice(buffer.format(second).as_bytes())?;
