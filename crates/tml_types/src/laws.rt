@@ -1,0 +1,7 @@
+//! Laws of typed tags: public functions that do nothing, each with the law as its contract.
+ghost use Rattle.tml_types.specs.Answers.{OneAnswers};
+
+/// Typed tags and a fault exclude each other, and tags have one fault at most.
+pub fn one_answer()
+    ensures { OneAnswers }
+{}
