@@ -5,3 +5,4 @@ pub mod SeenNames
 pub mod Walks
 pub mod Rising
 pub mod Faults
+pub mod Sameness

@@ -3,6 +3,7 @@ pub mod Holding
 pub mod Names
 pub mod Places
 pub mod Rules
+pub mod Sameness
 pub mod Seen
 pub mod Table
 pub mod Typing

@@ -14,7 +14,7 @@ mod typing;
 mod values;
 mod whole;
 
-pub use laws::one_answer;
+pub use laws::{one_answer, one_typed};
 pub use names::{Aspect, AspectRel, DocFunction, EventClass, Polarity, Pos, SubRel, Tense};
 pub use typed::{LinkEnd, TypedTag};
 pub use whole::{TypeFault, Typed, type_tags};
