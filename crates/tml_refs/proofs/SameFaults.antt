@@ -1,6 +1,6 @@
 -- Typed tags that are the same but for where their slices lie have the same faults.
-use Rattle.std.proofs.Common.{◌≡◌, ℕ, Bool, true, false, not, ◌&&◌, ◌==◌, List, [], ◌∷◌, ◌++◌, refl, sym, ap, subst, ◌∙◌, Option, Some, None}
-use Rattle.std.specs.List.{AllZip, list_any, count_by}
+use Rattle.std.proofs.Common.{◌≡◌, ℕ, Bool, false, not, ◌&&◌, ◌==◌, List, refl, sym, ap, subst, ◌∙◌, Option, Some, None}
+use Rattle.std.specs.List.{AllZip, list_any}
 use Rattle.std.specs.Str.{bytes_eq}
 use Rattle.net_core.specs.declared.limits.TheConstants.{MAX_INTERVALS, MAX_LINKS}
 use Rattle.tml_types.specs.declared.typed.TypedTag.{TypedTag}
@@ -18,10 +18,14 @@ use Rattle.tml_refs.proofs.Zips.{any_zip, count_zip, zip_back, zip_cut}
 alike_ids : (name : List ℕ) (t u : TypedTag) → Alike t u → has_id name t ≡ has_id name u
 alike_ids name t u a = ap (λ (o : Option (List ℕ)). elim o [ None ↦ false | Some id ↦ bytes_eq name id ]) a.id
 
--- an identifier is among the one where it is among the others
-among : (before front : List TypedTag) → AllZip Alike before front → (o : Option (List ℕ)) → elim o [ None ↦ false | Some id ↦ list_any (has_id id) before ] ≡ elim o [ None ↦ false | Some id ↦ list_any (has_id id) front ]
-among before front z None = refl
-among before front z (Some id) = any_zip Alike (has_id id) (has_id id) (alike_ids id) before front z
+-- an identifier, if there is one, is that of one of these tags
+abbrev is_one_of : List TypedTag → Option (List ℕ) → Bool
+is_one_of tags None = false
+is_one_of tags (Some id) = list_any (has_id id) tags
+
+one_of_both : (before front : List TypedTag) → AllZip Alike before front → (o : Option (List ℕ)) → is_one_of before o ≡ is_one_of front o
+one_of_both before front z None = refl
+one_of_both before front z (Some id) = any_zip Alike (has_id id) (has_id id) (alike_ids id) before front z
 
 unknown_to : (all others : List TypedTag) → AllZip Alike all others → (r : Reference) → is_unknown all r ≡ is_unknown others r
 unknown_to all others z r = ap not (any_zip Alike (is_target r.asked r.name) (is_target r.asked r.name) (λ t u a. a.target r.asked r.name) all others z)
@@ -29,7 +33,7 @@ unknown_to all others z r = ap not (any_zip Alike (is_target r.asked r.name) (is
 -- they break the same rules
 same_rules : (rule : Rule) (all others before front : List TypedTag) (t u : TypedTag) → AllZip Alike all others → AllZip Alike before front → Alike t u → breaks rule all before t ≡ breaks rule others front u
 same_rules DuplicateId all others before front t u z b a =
-    ap (λ (o : Option (List ℕ)). elim o [ None ↦ false | Some id ↦ list_any (has_id id) before ]) a.id ∙ among before front b (id_of u)
+    ap (is_one_of before) a.id ∙ one_of_both before front b (id_of u)
 same_rules UnknownReference all others before front t u z b a =
     ap (list_any (is_unknown all)) a.references ∙ any_agree (is_unknown all) (is_unknown others) (unknown_to all others z) (references_of u)
 same_rules TooManyIntervals all others before front t u z b a =
