@@ -93,19 +93,19 @@ distinct_names all name i j sound h k = one_place all name i j h.0 k.0 sound (lo
 -- ---- ends of links
 
 abbrev EndsIn : List Interval → DocLink → Type 0
-EndsIn ivs l = (l.a < length ivs) × (l.b < length ivs)
+EndsIn intervals l = (l.a < length intervals) × (l.b < length intervals)
 
-ends_in : (ivs : List Interval) (tag : TypedTag) (link : DocLink) → IsLinkOf ivs tag link → EndsIn ivs link
-ends_in ivs tag link = elim tag as (λ t. IsLinkOf ivs t link → EndsIn ivs link) [
-  | Tlink place lid signal left rel right ↦ λ h. (slice_get_within ivs link.a h.0.0 h.0.1, slice_get_within ivs link.b h.2.0 h.2.1)
+ends_in : (intervals : List Interval) (tag : TypedTag) (link : DocLink) → IsLinkOf intervals tag link → EndsIn intervals link
+ends_in intervals tag link = elim tag as (λ t. IsLinkOf intervals t link → EndsIn intervals link) [
+  | Tlink place lid signal left rel right ↦ λ h. (slice_get_within intervals link.a h.0.0 h.0.1, slice_get_within intervals link.b h.2.0 h.2.1)
   | _ ↦ λ h. absurd h
 ]
 
-all_end : (ivs : List Interval) (tags : List TypedTag) (links : List DocLink) → AllZip (IsLinkOf ivs) tags links → All (EndsIn ivs) links
-all_end ivs [] [] h = All-nil (EndsIn ivs)
-all_end ivs [] (l ∷ links) h = absurd h
-all_end ivs (t ∷ tags) [] h = absurd h
-all_end ivs (t ∷ tags) (l ∷ links) h = All-cons (EndsIn ivs) l links (ends_in ivs t l h.0) (all_end ivs tags links h.1)
+all_end : (intervals : List Interval) (tags : List TypedTag) (links : List DocLink) → AllZip (IsLinkOf intervals) tags links → All (EndsIn intervals) links
+all_end intervals [] [] h = All-nil (EndsIn intervals)
+all_end intervals [] (l ∷ links) h = absurd h
+all_end intervals (t ∷ tags) [] h = absurd h
+all_end intervals (t ∷ tags) (l ∷ links) h = All-cons (EndsIn intervals) l links (ends_in intervals t l h.0) (all_end intervals tags links h.1)
 
 -- ---- the document
 

@@ -54,8 +54,8 @@ few_counted : (p : TypedTag → Bool) (tags : List TypedTag) (n : ℕ) → n ≡
 few_counted p tags n e h = omega (arith, count_by-le-length p tags)
 
 -- there is room for one tag more of each kind
-pub few_counts : (ivs : List Interval) (tags : List TypedTag) (c : Contents) → Gathers ivs tags c → length tags + 1 < 2 ^ 32 → AreFew c.counts
-few_counts ivs tags c g h = record {
+pub few_counts : (intervals : List Interval) (tags : List TypedTag) (c : Contents) → Gathers intervals tags c → length tags + 1 < 2 ^ 32 → AreFew c.counts
+few_counts intervals tags c g h = record {
   events = few_counted is_event tags c.counts.events (ap (λ (c : Counts). c.events) g.counts_are) h;
   instances = few_counted is_instance tags c.counts.instances (ap (λ (c : Counts). c.instances) g.counts_are) h;
   timex = few_counted is_timex tags c.counts.timex (ap (λ (c : Counts). c.timex) g.counts_are) h;

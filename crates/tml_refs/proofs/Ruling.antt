@@ -46,20 +46,20 @@ interval_counted tag ns = elim tag as (λ t. length (cons_option (interval_of t)
 pub count_intervals : (tags : List TypedTag) → length (filter_map interval_of tags) ≡ count_by is_interval tags
 count_intervals tags = is_count_by (λ (ts : List TypedTag). length (filter_map interval_of ts)) is_interval refl (λ tag ts. interval_counted tag (filter_map interval_of ts)) tags
 
-pub count_links : (ivs : List Interval) (tags : List TypedTag) (c : Contents) → Gathers ivs tags c → length c.links ≡ count_by is_tlink tags
-count_links ivs tags c g = sym (zip_length (IsLinkOf ivs) (filter is_tlink tags) c.links g.links_are) ∙ length-filter is_tlink tags
+pub count_links : (intervals : List Interval) (tags : List TypedTag) (c : Contents) → Gathers intervals tags c → length c.links ≡ count_by is_tlink tags
+count_links intervals tags c g = sym (zip_length (IsLinkOf intervals) (filter is_tlink tags) c.links g.links_are) ∙ length-filter is_tlink tags
 
 lost_is : (all : List TypedTag) (names : List (List ℕ × Owners)) (tag : TypedTag) → Knows all names → list_any (is_lost names) (references_of tag) ≡ list_any (is_unknown all) (references_of tag)
 lost_is all names tag k = any_agree (is_lost names) (is_unknown all) (λ r. ap not (k.targets r)) (references_of tag)
 
 -- a tag whose identifier is free breaks the rule that names and contents say, or none
-pub later_told : (all before : List TypedTag) (ivs : List Interval) (tag : TypedTag) (names : List (List ℕ × Owners)) (c : Contents) (o : Option Rule) → Knows all names → Gathers ivs before c → breaks DuplicateId all before tag ≡ false → o ≡ later_rule names c tag
+pub later_told : (all before : List TypedTag) (intervals : List Interval) (tag : TypedTag) (names : List (List ℕ × Owners)) (c : Contents) (o : Option Rule) → Knows all names → Gathers intervals before c → breaks DuplicateId all before tag ≡ false → o ≡ later_rule names c tag
     → First (λ (r : Rule). breaks r all before tag) o
-later_told all before ivs tag names c o k g d e =
-    let intervals = ap length g.intervals_are ∙ count_intervals before in
-    let links = count_links ivs before c g in
+later_told all before intervals tag names c o k g d e =
+    let counted = ap length g.intervals_are ∙ count_intervals before in
+    let links = count_links intervals before c g in
     subst (First (λ (r : Rule). breaks r all before tag)) (sym e) (
-    first_by (λ (r : Rule). breaks r all before tag) _ _ _ d (sym (lost_is all names tag k)) (ap (λ (n : ℕ). is_interval tag && n == MAX_INTERVALS) (sym intervals)) (ap (λ (n : ℕ). is_tlink tag && n == MAX_LINKS) (sym links))
+    first_by (λ (r : Rule). breaks r all before tag) _ _ _ d (sym (lost_is all names tag k)) (ap (λ (n : ℕ). is_interval tag && n == MAX_INTERVALS) (sym counted)) (ap (λ (n : ℕ). is_tlink tag && n == MAX_LINKS) (sym links))
     )
 
 -- ---- faults
