@@ -2,3 +2,4 @@ pub mod Tables
 pub mod Delivery
 pub mod Digits
 pub mod Lines
+mod Phases

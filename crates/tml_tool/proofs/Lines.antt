@@ -1,5 +1,5 @@
 -- The lines of intervals and links, one after another.
-use Rattle.std.proofs.Common.{◌≡◌, ℕ, zero, suc, ◌+◌, List, [], ◌∷◌, ◌++◌, drop, refl, sym, ap, ◌∙◌, append_assoc, add-one, Option, Some, None}
+use Rattle.std.proofs.Common.{◌≡◌, ℕ, zero, suc, ◌+◌, List, [], ◌∷◌, ◌++◌, drop, refl, sym, ap, ◌∙◌, append_assoc, add-one, Some}
 use Rattle.std.specs.List.{slice_get}
 use Rattle.tml_refs.specs.declared.contents.DocLink.{DocLink}
 use Rattle.tml_refs.specs.declared.contents.Interval.{Interval}

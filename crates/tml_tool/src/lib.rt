@@ -6,6 +6,7 @@ mod check;
 mod command;
 mod document;
 mod faults;
+mod laws;
 mod reply;
 mod spans;
 mod status;
@@ -14,5 +15,6 @@ mod table;
 mod tests;
 mod top;
 
+pub use laws::one_acceptance;
 pub use status::Status;
 pub use top::run;

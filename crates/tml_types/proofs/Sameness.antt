@@ -12,6 +12,7 @@ use Rattle.tml_tree.specs.declared.names.TagName.{TagName}
 use Rattle.tml_tree.specs.declared.names.TagName.TheVariants as name
 use Rattle.tml_tree.specs.Names.{text_of, all_tags}
 use Rattle.tml_tree.specs.Walking.{PlainTag}
+use Rattle.tml_tree.proofs.Running.{some_is}
 use Rattle.tml_types.specs.declared.table.Form.{Form}
 use Rattle.tml_types.specs.declared.table.Form.TheVariants.{Reference}
 use Rattle.tml_types.specs.declared.typed.LinkEnd.{LinkEnd}
@@ -68,9 +69,6 @@ sub_rels : AreApart names.sub_rel_text names.all_sub_rels
 sub_rels = search rules
 
 -- ---- one attribute has one value
-
-some_is : {A : Type 0} {x y : A} → Some x ≡ Some y → x ≡ y
-some_is e = cc
 
 one_text : (value : Option (List ℕ)) (s t : Bor (List ℕ)) → value ≡ Some s.now → value ≡ Some t.now → IsText s t
 one_text value s t h k = some_is (sym h ∙ k)
