@@ -71,8 +71,8 @@ def deepest_nesting(size):
 
 
 def deepest_of_long_names(size):
-    """The same with the name that is found late, of the known ones."""
-    return nested(b"CONFIDENCE", size)
+    """The same with the longest known name, of which `tml` takes the most time beside xmllint."""
+    return nested(b"TIMEX3INTERVAL", size)
 
 
 def numbered(front, piece, size):

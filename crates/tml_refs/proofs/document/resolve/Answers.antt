@@ -44,8 +44,7 @@ names_in_order-requires c = rw c.as_slice.ensures (few_made c.loop-tag.invariant
 
 pub invariant_of-result : goal.invariant_of-result
 invariant_of-result c =
-    let all = ends c.loop-tag.invariant c.loop-tag-test.false c.in_default-rest.len_below in
-    (
+    let all = ends c.loop-tag.invariant c.loop-tag-test.false c.in_default-rest.len_below in (
       document_is c.args.typed.now c.loop-tag.contents all.0 all.1,
       subst (λ (intervals : List Interval). IsIndexOf intervals c.in-Ok-names_in_order.by_name) c.as_slice.ensures c.in-Ok-names_in_order.ensures,
     )
