@@ -9,3 +9,6 @@ pub mod Making
 pub mod Documents
 pub mod Resolving
 pub mod Faults
+pub mod Zips
+pub mod Alike
+pub mod SameFaults

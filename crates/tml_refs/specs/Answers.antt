@@ -1,6 +1,8 @@
 -- Typed tags have one answer.
 use Rattle.std.specs.Prelude.{◌≡◌, ℕ, List}
+use Rattle.std.specs.List.{AllZip}
 use Rattle.tml_types.specs.declared.typed.TypedTag.{TypedTag}
+use Rattle.tml_types.specs.Sameness.{IsSame}
 use Rattle.tml_refs.specs.declared.contents.Contents.{Contents}
 use Rattle.tml_refs.specs.declared.rules.Rule.{Rule}
 use Rattle.tml_refs.specs.Resolved.{Resolved}
@@ -13,3 +15,7 @@ pub record OneAnswer (all : List TypedTag) : Type 0 where
 
 abbrev pub OneAnswers : Type 0
 OneAnswers = (all : List TypedTag) → OneAnswer all
+
+-- typed tags that are the same but for where their slices lie have the same faults
+abbrev pub SameFaults : Type 0
+SameFaults = (all others : List TypedTag) (place : ℕ) (rule : Rule) → AllZip IsSame all others → FaultAt all place rule → FaultAt others place rule

@@ -1,7 +1,12 @@
 //! Laws of typed tags: public functions that do nothing, each with the law as its contract.
-ghost use Rattle.tml_refs.specs.Answers.{OneAnswers};
+ghost use Rattle.tml_refs.specs.Answers.{OneAnswers, SameFaults};
 
 /// A document and a fault exclude each other, and typed tags have one fault at most.
 pub fn one_answer()
     ensures { OneAnswers }
+{}
+
+/// Typed tags that are the same but for where their slices lie have the same faults.
+pub fn same_faults()
+    ensures { SameFaults }
 {}

@@ -10,5 +10,5 @@ mod rules;
 
 pub use contents::{Counts, DocLink, Interval};
 pub use document::{Document, resolve};
-pub use laws::one_answer;
+pub use laws::{one_answer, same_faults};
 pub use rules::RefFault;

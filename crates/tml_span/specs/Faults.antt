@@ -6,6 +6,7 @@ use Rattle.tml_span.specs.declared.reader.Cut.TheVariants.{NotUtf8, BadReference
 use Rattle.tml_span.specs.Units.{PlainUnit}
 use Rattle.tml_span.specs.Cutting.{Cuts}
 use Rattle.tml_span.specs.References.{IsBad, IsFirst, IsNowhere}
+use Rattle.tml_span.specs.Whole.{IsWhole}
 
 -- a fault, with its place
 pub data SourceFault : Type 0 where
@@ -25,3 +26,11 @@ HasFault source (NotUtf8 place) = CutFault source (not_utf8 place)
 HasFault source (BadReference place) = CutFault source (bad_reference place)
 HasFault source (BadMarkup place) = CutFault source (bad_markup place)
 HasFault source Memory = ⊤
+
+-- a source has one fault at most, and none where it is cut whole
+pub record OneFault (source : List ℕ) : Type 0 where
+  pub whole_or_fault : (units : List PlainUnit) (fault : SourceFault) → IsWhole (record { source = source; units = units }) → CutFault source fault → ⊥
+  pub one_fault : (fault other : SourceFault) → CutFault source fault → CutFault source other → fault ≡ other
+
+abbrev pub OneFaults : Type 0
+OneFaults = (source : List ℕ) → OneFault source

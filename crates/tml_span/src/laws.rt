@@ -1,5 +1,6 @@
 //! Laws of the cut: public functions that do nothing, each with the law as its contract.
 ghost use Rattle.tml_span.specs.Cutting.{EveryCut, OneCut};
+ghost use Rattle.tml_span.specs.Faults.{OneFaults};
 ghost use Rattle.tml_span.specs.Slices.{SlicesStand};
 
 /// Every source has a cut.
@@ -7,9 +8,14 @@ pub fn every_cut()
     ensures { EveryCut }
 {}
 
-/// A source is cut in one way, so its units are the only ones, and each of its faults excludes the others.
+/// A source is cut in one way, so its units are the only ones.
 pub fn one_cut()
     ensures { OneCut }
+{}
+
+/// A source has one fault at most, and none where it is cut whole.
+pub fn one_fault()
+    ensures { OneFaults }
 {}
 
 /// Each slice of a unit is the source at its place.

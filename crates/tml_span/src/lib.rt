@@ -12,7 +12,7 @@ mod tags;
 mod unit;
 mod unit_list;
 
-pub use laws::{every_cut, one_cut, slices_stand};
+pub use laws::{every_cut, one_cut, one_fault, slices_stand};
 pub use list::{List, Memory};
 pub use reader::{Cut, UnitReader};
 pub use unit::{Attr, Quote, Span, Unit};

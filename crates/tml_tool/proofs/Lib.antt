@@ -3,3 +3,4 @@ pub mod Delivery
 pub mod Digits
 pub mod Lines
 pub mod Times
+mod Phases

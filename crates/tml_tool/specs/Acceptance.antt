@@ -39,3 +39,11 @@ FirstFault doc line = CutLine doc line ⊎ TreeLine doc line ⊎ TypeLine doc li
 -- no phase has a fault, and this is what the document says
 abbrev pub IsAccepted : List ℕ → Contents → Type 0
 IsAccepted doc contents = (root : PlainNode) × IsTreeOf doc root × (tags : List TypedTag) × Types (elements root) tags × Resolved tags contents
+
+-- a document has at most one first fault, and none where it is accepted
+pub record OneAcceptance (doc : List ℕ) : Type 0 where
+  pub accepted_or_fault : (contents : Contents) (line : List ℕ) → IsAccepted doc contents → FirstFault doc line → ⊥
+  pub one_fault : (line other : List ℕ) → FirstFault doc line → FirstFault doc other → line ≡ other
+
+abbrev pub OneAcceptances : Type 0
+OneAcceptances = (doc : List ℕ) → OneAcceptance doc

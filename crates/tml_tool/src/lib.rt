@@ -7,6 +7,7 @@ mod command;
 mod dates;
 mod document;
 mod faults;
+mod laws;
 mod reply;
 mod spans;
 mod status;
@@ -15,5 +16,6 @@ mod table;
 mod tests;
 mod top;
 
+pub use laws::one_acceptance;
 pub use status::Status;
 pub use top::run;

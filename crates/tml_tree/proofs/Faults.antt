@@ -14,7 +14,7 @@ path_front xs [] h = subst (λ (us : List PlainUnit). HasPath us) (append-nil xs
 path_front xs (y ∷ ys) h = path_before xs y (path_front (xs ++ y ∷ []) ys (subst (λ (us : List PlainUnit). HasPath us) (sym (append_assoc xs (y ∷ []) ys)) h))
 
 -- a list cut twice at an element: at one place, or at two
-two_cuts : {A : Type 0} (before other after rest : List A) (u v : A) → before ++ u ∷ after ≡ other ++ v ∷ rest
+pub two_cuts : {A : Type 0} (before other after rest : List A) (u v : A) → before ++ u ∷ after ≡ other ++ v ∷ rest
     → ((before ≡ other) × (u ≡ v)) ⊎ ((mid : List A) × (other ≡ before ++ u ∷ mid)) ⊎ ((mid : List A) × (before ≡ other ++ v ∷ mid))
 two_cuts [] [] after rest u v e = inl (refl, cc)
 two_cuts [] (o ∷ other) after rest u v e = inr (inl (other, cc))

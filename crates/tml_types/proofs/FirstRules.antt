@@ -12,7 +12,7 @@ use Rattle.tml_types.specs.Holding.{RowsHold, tag_at}
 use Rattle.tml_types.specs.Rules.{rows_at, is_repeated, is_missing, is_bad, is_conflict, number, HasRule, IsSound, IsFirst, IsFitting, first_broken, FirstOf}
 use Rattle.tml_types.specs.Table.{Row, rows_of}
 
-known : AreApart text_of all_tags
+pub known : AreApart text_of all_tags
 known = search rules
 
 -- the rows of a known tag

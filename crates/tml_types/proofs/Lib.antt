@@ -4,3 +4,5 @@ pub mod RepeatedNames
 pub mod SeenNames
 pub mod Walks
 pub mod Rising
+pub mod Faults
+pub mod Sameness

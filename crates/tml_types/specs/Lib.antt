@@ -1,7 +1,9 @@
+pub mod Answers
 pub mod Holding
 pub mod Names
 pub mod Places
 pub mod Rules
+pub mod Sameness
 pub mod Seen
 pub mod Table
 pub mod Typing
