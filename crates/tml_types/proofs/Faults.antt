@@ -4,20 +4,21 @@ use Rattle.std.proofs.lemmas.List.Elements.{All-head, All-tail}
 use Rattle.tml_tree.specs.Walking.{PlainTag}
 use Rattle.tml_tree.proofs.Faults.{two_cuts}
 use Rattle.tml_types.specs.declared.rules.Rule.{Rule}
-use Rattle.tml_types.specs.declared.rules.Rule.TheVariants.{RepeatedAttribute, MissingAttribute, BadValue, Conflict}
+use Rattle.tml_types.specs.declared.rules.Rule.TheVariants.{RepeatedAttribute, MissingAttribute, BadValue, Conflict, BadDate}
 use Rattle.tml_types.specs.Answers.{OneAnswers}
 use Rattle.tml_types.specs.Rules.{number, IsFirst, IsSound}
 use Rattle.tml_types.specs.Whole.{FaultAt}
 
 -- the numbers tell the rules apart
 abbrev rule_of : ℕ → Rule
-rule_of n = cond (n == 9) RepeatedAttribute (cond (n == 10) MissingAttribute (cond (n == 11) BadValue Conflict))
+rule_of n = cond (n == 9) RepeatedAttribute (cond (n == 10) MissingAttribute (cond (n == 11) BadValue (cond (n == 12) Conflict BadDate)))
 
 rule_of_number : (r : Rule) → rule_of (number r) ≡ r
 rule_of_number RepeatedAttribute = refl
 rule_of_number MissingAttribute = refl
 rule_of_number BadValue = refl
 rule_of_number Conflict = refl
+rule_of_number BadDate = refl
 
 -- a tag has one first rule
 one_first : (tag : PlainTag) (r s : Rule) → IsFirst tag r → IsFirst tag s → r ≡ s

@@ -6,6 +6,8 @@ use Rattle.std.proofs.lemmas.List.Elements.{All-filter, All-head, All-tail}
 use Rattle.named.specs.Texts.{AreApart}
 use Rattle.named.proofs.Tables.{texts_tell}
 use Rattle.net_core.specs.Rels.{rel_text, all_rels}
+use Rattle.timex_value.proofs.Valuing as valuing
+use Rattle.timex_value.specs.declared.value.Value.{Value}
 use Rattle.timex_value.specs.Kinds.{kind_text, all_kinds, modifier_text, all_modifiers}
 use Rattle.tml_span.specs.Units.{Attribute}
 use Rattle.tml_tree.specs.declared.names.TagName.{TagName}
@@ -25,10 +27,10 @@ use Rattle.tml_types.specs.Names as names
 use Rattle.tml_types.specs.Rules.{IsSound, is_absent, is_conflict}
 use Rattle.tml_types.specs.Sameness.{IsSame, IsSameEnd, IsText}
 use Rattle.tml_types.specs.Table.{one_of, rows_of}
-use Rattle.tml_types.specs.Typing.{EndOf, TypedAs}
+use Rattle.tml_types.specs.Typing.{EndOf, IsValueOf, TypedAs}
 use Rattle.tml_types.specs.Values.{truth_text, all_truths, value_of}
 use Rattle.tml_types.specs.Whole.{has_rows}
-use Rattle.tml_types.proofs.FirstRules.{known, sound_rows}
+use Rattle.tml_types.proofs.FirstRules.{known, fitting_rows}
 
 -- ---- the texts of values tell them apart
 
@@ -98,7 +100,7 @@ one_end attrs a b form (end.Time s) (end.Time t) c h k = one_text (value_of b at
 
 -- the rows of a TLINK hold where it is sound
 tlink_rows : (tag : PlainTag) → IsSound tag → tag.name ≡ codes "TLINK" → RowsHold tag.attrs (rows_of name.Tlink)
-tlink_rows tag sound e = sound_rows tag.place name.Tlink tag.attrs (subst (λ (n : List ℕ). IsSound (record { place = tag.place; name = n; attrs = tag.attrs })) e sound)
+tlink_rows tag sound e = fitting_rows tag.place name.Tlink tag.attrs (λ rule h. absurd (subst (λ (n : List ℕ). IsSound (record { place = tag.place; name = n; attrs = tag.attrs })) e sound rule h))
 
 -- ---- tags
 
@@ -111,6 +113,14 @@ name_of (Signal place sid) = name.Signal
 name_of (Tlink place lid signal left rel right) = name.Tlink
 name_of (Alink place lid signal event related rel) = name.Alink
 name_of (Slink place lid signal event subordinated rel) = name.Slink
+
+one_date : (text : Option (List ℕ)) (v w : Option Value) → IsValueOf text v → IsValueOf text w → v ≡ w
+one_date None None None h k = refl
+one_date None None (Some w) h k = absurd k
+one_date None (Some v) w h k = absurd h
+one_date (Some text) None w h k = absurd h
+one_date (Some text) (Some v) None h k = absurd k
+one_date (Some text) (Some v) (Some w) h k = ap Some (valuing.one_value text v w h k)
 
 same : (tag : PlainTag) (t u : TypedTag) → IsSound tag → TypedAs tag t → TypedAs tag u → IsSame t u
 same tag (Event place eid class) (Event place' eid' class') sound h k = (
@@ -132,7 +142,7 @@ same tag (Timex place tid kind value modifier function temporal anchor begin fin
   h.1 ∙ sym k.1,
   one_text _ tid tid' h.2 k.2,
   one_value kind_text all_kinds kinds _ kind kind' h.3 k.3,
-  h.4 ∙ sym k.4,
+  one_date _ value value' h.4 k.4,
   one_or_none modifier_text all_modifiers modifiers _ modifier modifier' h.5 k.5,
   one_or_none names.function_text names.all_functions functions _ function function' h.6 k.6,
   one_or_none truth_text all_truths truths _ temporal temporal' h.7 k.7,
