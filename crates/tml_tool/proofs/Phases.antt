@@ -155,6 +155,7 @@ type_fault place typing.RepeatedAttribute = types.RepeatedAttribute place
 type_fault place typing.MissingAttribute = types.MissingAttribute place
 type_fault place typing.BadValue = types.BadValue place
 type_fault place typing.Conflict = types.Conflict place
+type_fault place typing.BadDate = types.BadDate place
 
 -- a tag whose attributes are at fault
 abbrev TypeTold : List PlainTag → List ℕ → Type 0
@@ -165,6 +166,7 @@ type_told all line (types.RepeatedAttribute place) h e = (place, typing.Repeated
 type_told all line (types.MissingAttribute place) h e = (place, typing.MissingAttribute, h, e)
 type_told all line (types.BadValue place) h e = (place, typing.BadValue, h, e)
 type_told all line (types.Conflict place) h e = (place, typing.Conflict, h, e)
+type_told all line (types.BadDate place) h e = (place, typing.BadDate, h, e)
 type_told all line types.Memory h e = absurd (cc e)
 
 one_type_told : (all : List PlainTag) → One (TypeTold all)
