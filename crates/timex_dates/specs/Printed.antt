@@ -20,5 +20,6 @@ abbrev pub IsPrinted : ℕ → List ℕ → Type 0
 IsPrinted t bytes =
     (y : ℕ) × (m : ℕ) × (d : ℕ) × IsDateOf (day_of t) y m d × (bytes ≡ printed y m d (clock_of t))
 
+-- the text, which leaves out the first byte where the year has four digits
 abbrev pub bytes_of : CivilText → List ℕ
 bytes_of c = if c.wide then c.bytes else drop 1 c.bytes
