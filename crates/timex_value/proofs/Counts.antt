@@ -1,10 +1,9 @@
 -- Counts of a duration are read in one way.
-use Rattle.std.proofs.Common.{◌≡◌, ◌≢◌, ◌⊎◌, inl, inr, ℕ, ◌+◌, ◌≤◌, Bool, true, false, cond, ◌&&◌, ◌||◌, ◌==◌, if◌then◌else◌, IsTrue, IsFalse, List, [], ◌∷◌, ◌++◌, length, take, drop, append_assoc, one-add, refl, sym, ap, ◌∙◌, subst, arith}
-use Rattle.std.proofs.lemmas.Bool.Decides.{nat_tests}
+use Rattle.std.proofs.Common.{◌≡◌, ◌≢◌, ℕ, ◌+◌, Bool, true, false, cond, ◌&&◌, ◌||◌, ◌==◌, if◌then◌else◌, List, [], ◌∷◌, ◌++◌, length, take, drop, append_assoc, one-add, refl, sym, ap, ◌∙◌, subst, arith}
 use Rattle.std.proofs.lemmas.List.{take_at, drop_at, take-append-drop}
 use Rattle.std.specs.List.{prefix_len, list_all}
 use Rattle.std.specs.Int.{IsInRange}
-use Rattle.timex_value.specs.Durations.{is_digit, value_of, Counts, CountThen, ReadsCount}
+use Rattle.timex_value.specs.Durations.{is_digit, value_of, CountThen, ReadsCount}
 use Rattle.timex_value.specs.declared.length.Count.{Count}
 use Rattle.timex_value.specs.declared.length.Count.TheVariants.{Absent, Number, Unknown}
 

@@ -1,6 +1,6 @@
 -- A duration is read in one way.
-use Rattle.std.proofs.Common.{◌≡◌, ◌≢◌, ◌⊎◌, inl, inr, ℕ, Bool, true, false, ◌||◌, IsTrue, IsFalse, List, [], ◌∷◌, refl, sym, ap, ◌∙◌, subst, arith}
-use Rattle.timex_value.specs.Durations.{Counts, CountThen, ReadsCount, DateThen, ClockThen, ClockText, SpellsLength, is_written, has_clock, is_length}
+use Rattle.std.proofs.Common.{◌≡◌, ◌≢◌, inl, inr, ℕ, Bool, true, false, ◌||◌, List, [], ◌∷◌, refl, sym, ◌∙◌, subst, arith}
+use Rattle.timex_value.specs.Durations.{CountThen, ReadsCount, DateThen, ClockThen, ClockText, SpellsLength, is_written, has_clock}
 use Rattle.timex_value.specs.declared.length.Count.{Count}
 use Rattle.timex_value.specs.declared.length.Count.TheVariants.{Absent, Number, Unknown}
 use Rattle.timex_value.specs.declared.length.Length.{Length}

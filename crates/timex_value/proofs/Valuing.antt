@@ -1,5 +1,5 @@
 -- A text stands for one value, and then it has a valid filling if it has a calendar shape.
-use Rattle.std.proofs.Common.{◌≡◌, ℕ, List, [], ◌∷◌, refl, sym, ap, ◌∙◌, subst, arith}
+use Rattle.std.proofs.Common.{◌≡◌, ℕ, List, ◌∷◌, refl, ap, subst, arith}
 use Rattle.std.proofs.Math.Logic.{∥∥₁_prop, ∥∥₁_elim}
 use mathlib.Core.HLevel.{is_prop→PathP}
 use Rattle.timex_value.specs.declared.shape.Year.{Year}
@@ -7,12 +7,11 @@ use Rattle.timex_value.specs.declared.shape.Year.TheVariants as YearOf
 use Rattle.timex_value.specs.declared.shape.Shape.{Shape}
 use Rattle.timex_value.specs.declared.length.Length.{Length}
 use Rattle.timex_value.specs.declared.value.Calendar.{Calendar as CalendarOf}
-use Rattle.timex_value.specs.declared.value.Value.{Value}
 use Rattle.timex_value.specs.declared.value.Value.TheVariants.{Calendar, Duration, Other}
 use Rattle.timex_value.specs.Text.{Spells, YearAt, IsYearWritten, IsShapeWritten}
-use Rattle.timex_value.specs.Filling.{HasFilling, NoFilling}
+use Rattle.timex_value.specs.Filling.{HasFilling}
 use Rattle.timex_value.specs.Durations.{SpellsLength}
-use Rattle.timex_value.specs.Values.{year_of, shape_of, ValueOf, OneValue, ValueOrBad}
+use Rattle.timex_value.specs.Values.{year_of, shape_of, OneValue, ValueOrBad}
 use Rattle.timex_value.proofs.Spelling.{one_spelling, filled_once}
 use Rattle.timex_value.proofs.Lengths.{one_length}
 

@@ -5,7 +5,7 @@ ghost use Rattle.timex_value.specs.Durations as durations;
 ghost use Rattle.timex_value.specs.Durations.{CountThen, ReadsCount, ClockText, SpellsLength};
 ghost use Rattle.timex_value.specs.declared.length.Count.TheVariants as count;
 ghost use Rattle.timex_value.specs.declared.length.Count.{Count as CountOf};
-ghost use Rattle.timex_value.specs.declared.length.Length.{Length as LengthOf};
+ghost use Rattle.timex_value.specs.Text.{Finds};
 
 use crate::{Count, Length};
 
@@ -118,7 +118,7 @@ fn is_length(length: &Length) -> bool
 
 /// The duration that a text spells.
 pub(crate) fn duration(text: &[u8]) -> Option<Length>
-    ensures { MatchOption result ((l : LengthOf) → SpellsLength l text.now → ⊥) (λ l. SpellsLength l text.now) }
+    ensures { Finds (λ l. SpellsLength l text.now) result }
 {
     let text = after(b'P', text)?;
     let (years, text) = count_at(b'Y', text);

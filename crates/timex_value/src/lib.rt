@@ -1,6 +1,7 @@
 //! Values of TIMEX3.
 #![tactic(auto)]
 
+mod civil;
 mod durations;
 mod fields;
 mod kinds;

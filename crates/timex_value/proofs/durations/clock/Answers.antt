@@ -1,4 +1,4 @@
-use Rattle.std.proofs.Common.{◌≡◌, List, [], inl, inr, sym, ◌∙◌, subst, arith}
+use Rattle.std.proofs.Common.{[], inl, inr, sym, ◌∙◌, subst, arith}
 use Rattle.std.proofs.lemmas.Bool.Decides.{nat_tests}
 use Rattle.timex_value.specs.Durations.{ClockThen}
 use Rattle.timex_value.proofs.Counts.{tail_is}

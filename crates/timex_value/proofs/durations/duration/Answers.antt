@@ -1,7 +1,6 @@
-use Rattle.std.proofs.Common.{◌≡◌, ap, ◌∙◌}
+use Rattle.std.proofs.Common.{ap, ◌∙◌}
 use Rattle.std.proofs.lemmas.Bool.{false≢true}
 use Rattle.timex_value.specs.Durations.{is_length}
-use Rattle.timex_value.specs.declared.length.Length.{Length}
 use Rattle.timex_value.proofs.Lengths.{length_read, one_clock, length_by_counts}
 use Rattle.timex_value.proofs.durations.duration.Goals as goal
 

@@ -1,7 +1,5 @@
-use Rattle.std.proofs.Common.{inl, inr, ◌≡◌, List, length, take, drop, sym, ◌∙◌, ap, subst, arith}
+use Rattle.std.proofs.Common.{inl, inr, take, drop, ◌∙◌, ap, arith}
 use Rattle.std.proofs.lemmas.Bool.Decides.{nat_tests}
-use Rattle.std.specs.List.{prefix_len, list_all}
-use Rattle.timex_value.specs.Durations.{is_digit}
 use Rattle.timex_value.proofs.Counts.{digits_pass, number_is, number_stands}
 use Rattle.timex_value.proofs.durations.number_at.Goals as goal
 
