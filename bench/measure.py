@@ -71,16 +71,46 @@ def deepest_nesting(size):
 
 
 def deepest_of_long_names(size):
-    """The same with the name that is found late, of the known ones."""
-    return nested(b"CONFIDENCE", size)
+    """The same with the longest known name, of which `tml` takes the most time beside xmllint."""
+    return nested(b"TIMEX3INTERVAL", size)
+
+
+def numbered(front, piece, size):
+    """A root element that holds a front, and then the piece as often as it fits, each with a number of its own."""
+    parts, room = [FRONT, front], size - len(FRONT) - len(front) - len(BACK)
+    for number in itertools.count():
+        part = piece.replace(b"#", b"%d" % number)
+        if len(part) > room:
+            return b"".join(parts) + BACK
+        parts.append(part)
+        room -= len(part)
 
 
 def events(size):
-    return filled(b'<EVENT eid="e" class="STATE"/>', size)
+    """EVENTs, each with an identifier of its own."""
+    return numbered(b"", b'<EVENT eid="e#" class="STATE"/>', size)
+
+
+def events_in_no_order(size):
+    """The same with identifiers whose order in the document is not that of their bytes."""
+    parts, room = [FRONT], size - len(FRONT) - len(BACK)
+    for number in itertools.count():
+        part = b'<EVENT eid="%08x" class="STATE"/>' % (number * 2654435761 % (1 << 32))
+        if len(part) > room:
+            return b"".join(parts) + BACK
+        parts.append(part)
+        room -= len(part)
+
+
+def signals_and_links(size):
+    """SIGNALs, each referred to by a link of its own."""
+    front = b'<EVENT eid="e" class="STATE"/><MAKEINSTANCE eiid="i" eventID="e"/>'
+    link = b'<SIGNAL sid="s#"/><SLINK signalID="s#" subordinatedEventInstance="i" relType="MODAL"/>'
+    return numbered(front, link, size)
 
 
 ROWS = [("spans", make) for make in (one_text, shortest_tags, one_tag, comments_and_references)]
-ROWS += [("check", make) for make in (one_text, deepest_nesting, deepest_of_long_names, shortest_tags, one_tag, events)]
+ROWS += [("check", make) for make in (one_text, deepest_nesting, deepest_of_long_names, shortest_tags, one_tag, events, events_in_no_order, signals_and_links)]
 
 
 def run(words):

@@ -1,7 +1,7 @@
 -- Lists of the names of intervals, each with the number of its interval.
 use Rattle.std.proofs.Common.{◌≡◌, ℕ, ◌+◌, ◌<◌, ◌≤◌, List, [], ◌∷◌, ◌++◌, length, false, inl, inr, refl, sym, ap, subst, ◌∙◌, arith}
 use Rattle.std.specs.Cmp.Lexicographic.{slice_cmp}
-use Rattle.std.specs.List.{All, Contains}
+use Rattle.std.specs.List.{All}
 use Rattle.std.specs.List.Sorted.{IsPermutation, IsSorted}
 use Rattle.std.specs.Ordering.{nat_cmp, is_lt, ordering_then}
 use Rattle.std.specs.declared.cmp.Ordering.{Ordering}
@@ -11,12 +11,8 @@ use Rattle.std.proofs.lemmas.List.Elements.{All-nil, All-push, Contains-append_l
 use Rattle.std.proofs.lemmas.List.Sorted.{All-permutation, Contains-permutation}
 use Rattle.std.proofs.lemmas.Option.{same_Some, slice_get_within}
 use Rattle.tml_refs.specs.declared.contents.Interval.{Interval}
-use Rattle.tml_refs.specs.Indexing.{Entry, entry_name, IsIndexOf}
+use Rattle.tml_refs.specs.Indexing.{Entry, entry_name, HasEntry, IsIndexOf}
 use Rattle.tml_refs.specs.Resolved.{IsNamed, name_of}
-
--- an entry for the interval of this name and number stands in a list
-abbrev pub HasEntry : List Entry → List ℕ → ℕ → Type 0
-HasEntry entries name i = (e : Entry) × Contains entries e × (entry_name e ≡ name) × (e.1 ≡ i)
 
 -- the intervals below a number stand in a list, and no others
 pub record IsListed (intervals : List Interval) (n : ℕ) (entries : List Entry) : Type 0 where

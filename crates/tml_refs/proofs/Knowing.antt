@@ -1,6 +1,6 @@
 -- What names know once a tag is added.
 use mir.Val.{bool_byte}
-use Rattle.std.proofs.Common.{◌≡◌, ℕ, suc, zero, ◌+◌, ◌<◌, ◌≤◌, arith, take, get_or, length-append, Bool, true, false, not, ◌||◌, ◌&&◌, cond, List, [], ◌∷◌, ◌++◌, length, refl, sym, ap, subst, ◌∙◌, Option, Some, None, IfSome, rules, append-nil}
+use Rattle.std.proofs.Common.{◌≡◌, ℕ, suc, zero, ◌+◌, ◌<◌, ◌≤◌, arith, take, get_or, length-append, Bool, true, false, ◌||◌, ◌&&◌, cond, List, [], ◌∷◌, ◌++◌, length, refl, sym, ap, subst, ◌∙◌, Option, Some, None, IfSome, rules}
 use Rattle.std.specs.Bool.{Decides}
 use Rattle.std.specs.List.{list_any, filter_map, cons_option, slice_get}
 use Rattle.std.specs.Map.{lookup}
@@ -14,19 +14,19 @@ use Rattle.std.proofs.lemmas.Slice.Eq.{bytes_eq-Decides}
 use Rattle.tml_types.specs.declared.typed.LinkEnd.{LinkEnd}
 use Rattle.tml_types.specs.declared.typed.LinkEnd.TheVariants as end
 use Rattle.tml_types.specs.declared.typed.TypedTag.{TypedTag}
-use Rattle.tml_types.specs.declared.typed.TypedTag.TheVariants.{Event, Instance, Timex, Signal, Tlink, Alink, Slink}
+use Rattle.tml_types.specs.declared.typed.TypedTag.TheVariants.{Event, Instance, Timex, Signal}
 use Rattle.tml_refs.specs.declared.contents.Interval.{Interval}
 use Rattle.tml_refs.specs.declared.contents.Interval.TheVariants as interval
 use Rattle.tml_refs.specs.declared.names.Owners.{Owners}
 use Rattle.tml_refs.specs.declared.names.Target.{Target}
 use Rattle.tml_refs.specs.declared.names.Target.TheVariants as target
 use Rattle.tml_refs.specs.declared.rules.Rule.TheVariants.{DuplicateId}
-use Rattle.tml_refs.specs.Identifying.{AddsId, AddsTag, is_taken, nobody, or_nobody}
+use Rattle.tml_refs.specs.Identifying.{AddsId, AddsTag, is_taken, or_nobody}
 use Rattle.tml_refs.specs.Kinds.{is_event, is_instance, is_timex, is_signal, is_interval}
-use Rattle.tml_refs.specs.Owning.{Knows, is_found, number_in, owns, with_tag}
+use Rattle.tml_refs.specs.Owning.{Knows, number_in, owns, with_tag}
 use Rattle.tml_refs.specs.Resolved.{NamesAt, interval_of}
 use Rattle.tml_refs.specs.Rules.{breaks}
-use Rattle.tml_refs.specs.Tags.{Reference, has_id, id_of, is_target}
+use Rattle.tml_refs.specs.Tags.{has_id, id_of, is_target}
 
 -- ---- lists
 

@@ -3,3 +3,9 @@ mod Searches
 pub mod Lookups
 pub mod Knowing
 pub mod Distinctness
+pub mod Cuts
+pub mod Ruling
+pub mod Making
+pub mod Documents
+pub mod Resolving
+pub mod Faults

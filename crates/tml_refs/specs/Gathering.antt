@@ -4,7 +4,7 @@ use Rattle.std.specs.List.{list_any, AllZip, filter, filter_map}
 use Rattle.std.specs.Option.{option_to_list}
 use Rattle.net_core.specs.declared.limits.TheConstants.{MAX_INTERVALS, MAX_LINKS}
 use Rattle.tml_types.specs.declared.typed.TypedTag.{TypedTag}
-use Rattle.tml_types.specs.declared.typed.TypedTag.TheVariants.{Event, Instance, Timex, Signal, Tlink, Alink, Slink}
+use Rattle.tml_types.specs.declared.typed.TypedTag.TheVariants.{Tlink}
 use Rattle.tml_refs.specs.declared.contents.Contents.{Contents}
 use Rattle.tml_refs.specs.declared.contents.Counts.{Counts}
 use Rattle.tml_refs.specs.declared.contents.DocLink.{DocLink}

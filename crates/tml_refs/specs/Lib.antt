@@ -7,3 +7,4 @@ pub mod Owning
 pub mod Identifying
 pub mod Gathering
 pub mod Indexing
+pub mod Answers

@@ -6,12 +6,12 @@ use Rattle.std.specs.Str.{bytes_eq}
 use Rattle.tml_types.specs.declared.typed.LinkEnd.{LinkEnd}
 use Rattle.tml_types.specs.declared.typed.LinkEnd.TheVariants as end
 use Rattle.tml_types.specs.declared.typed.TypedTag.{TypedTag}
-use Rattle.tml_types.specs.declared.typed.TypedTag.TheVariants.{Event, Instance, Timex, Signal, Tlink, Alink, Slink}
+use Rattle.tml_types.specs.declared.typed.TypedTag.TheVariants.{Event, Instance, Timex, Signal}
 use Rattle.tml_refs.specs.declared.names.Owners.{Owners}
 use Rattle.tml_refs.specs.declared.names.Target.{Target}
 use Rattle.tml_refs.specs.declared.names.Target.TheVariants as target
 use Rattle.tml_refs.specs.declared.rules.Rule.TheVariants.{DuplicateId}
-use Rattle.tml_refs.specs.Tags.{Reference, id_of, has_id, is_target}
+use Rattle.tml_refs.specs.Tags.{Reference, has_id, is_target}
 use Rattle.tml_refs.specs.Rules.{breaks}
 use Rattle.tml_refs.specs.Resolved.{NamesAt, interval_of}
 

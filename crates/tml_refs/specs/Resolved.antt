@@ -1,11 +1,11 @@
 -- What a document says of its typed tags.
-use Rattle.std.specs.Prelude.{◌≡◌, ◌≢◌, ◌≤◌, ◌<◌, ℕ, List, length, map, Option, Some, None}
+use Rattle.std.specs.Prelude.{◌≡◌, ◌≤◌, ◌<◌, ℕ, List, length, Option, Some, None}
 use Rattle.std.specs.List.{AllZip, All, filter, filter_map, slice_get, count_by}
 use Rattle.net_core.specs.declared.limits.TheConstants.{MAX_INTERVALS, MAX_LINKS}
 use Rattle.tml_types.specs.declared.typed.LinkEnd.{LinkEnd}
 use Rattle.tml_types.specs.declared.typed.LinkEnd.TheVariants as end
 use Rattle.tml_types.specs.declared.typed.TypedTag.{TypedTag}
-use Rattle.tml_types.specs.declared.typed.TypedTag.TheVariants.{Event, Instance, Timex, Signal, Tlink, Alink, Slink}
+use Rattle.tml_types.specs.declared.typed.TypedTag.TheVariants.{Instance, Timex, Tlink}
 use Rattle.tml_refs.specs.declared.contents.Contents.{Contents}
 use Rattle.tml_refs.specs.declared.contents.Counts.{Counts}
 use Rattle.tml_refs.specs.declared.contents.DocLink.{DocLink}

@@ -1,5 +1,5 @@
 -- The rules of identifiers, references and limits, and the first tag that breaks one.
-use Rattle.std.specs.Prelude.{◌≡◌, ◌≤◌, ℕ, Bool, true, false, ◌&&◌, not, ◌==◌, List, [], ◌∷◌, ◌++◌, Option, Some, None, IfSome}
+use Rattle.std.specs.Prelude.{◌≡◌, ◌≤◌, ℕ, Bool, true, false, ◌&&◌, not, ◌==◌, List, ◌∷◌, ◌++◌, Option, Some, None, IfSome}
 use Rattle.std.specs.List.{list_any, count_by}
 use Rattle.net_core.specs.declared.limits.TheConstants.{MAX_INTERVALS, MAX_LINKS}
 use Rattle.tml_types.specs.declared.typed.TypedTag.{TypedTag}

@@ -4,9 +4,11 @@
 mod contents;
 mod document;
 mod identify;
+mod laws;
 mod names;
 mod rules;
 
 pub use contents::{Counts, DocLink, Interval};
 pub use document::{Document, resolve};
+pub use laws::one_answer;
 pub use rules::RefFault;

@@ -1,34 +1,25 @@
 -- The tag of a name, and the rule of a start or empty tag.
-use Rattle.std.proofs.Common.{◌≡◌, ◌≤◌, ◌<◌, ℕ, Bool, true, false, cond, not, ◌||◌, nat_le, List, [], ◌∷◌, map, length, refl, sym, ap, ◌∙◌, arith, Some, None}
-use Rattle.std.specs.Str.{bytes_eq}
+use Rattle.std.proofs.Common.{◌≡◌, ◌≤◌, ◌<◌, ℕ, Bool, true, false, cond, not, nat_le, List, [], ◌∷◌, length, slice_index_or, sym, ap, ◌∙◌, arith, Some, None}
+use Rattle.std.specs.List.{filter}
 use Rattle.std.proofs.lemmas.List.{length-map, length-reverse}
-use Rattle.std.proofs.lemmas.Slice.Eq.{bytes_eq-Decides}
 use Rattle.std.proofs.lemmas.Bool.Decides.{nat_tests}
-use Rattle.named.specs.Texts.{named_of, is_one_of}
+use Rattle.named.specs.Texts.{named_of}
+use Rattle.named.proofs.Tables.{found_among, named_some}
 use Rattle.tml_tree.specs.declared.names.TagName.{TagName}
 use Rattle.tml_tree.specs.declared.rules.Rule.TheVariants.{UnknownTag, Misplaced, TooDeep}
 use Rattle.tml_tree.specs.declared.builder.Frame.{Frame}
-use Rattle.tml_tree.specs.Names.{text_of, all_tags, is_known}
+use Rattle.tml_tree.specs.Names.{text_of, all_tags, begins_with, is_known}
 use Rattle.tml_tree.specs.Rules.{History, is_misplaced_tag, tag_rule}
 use Rattle.tml_tree.specs.View.{names_of}
+use Rattle.tml_tree.proofs.Running.{same_name}
 
--- a value that a text names has this text, and the text is one of the table
-pub named_some : {T : Type 0} (text_of : T → List ℕ) (all : List T) (text : List ℕ) (v : T) → named_of text_of all text ≡ Some v → (text_of v ≡ text) × (is_one_of (map text_of all) text ≡ true)
-named_some text_of [] text v e = absurd cc
-named_some text_of (w ∷ all) text v e =
-    elim (bytes_eq (text_of w) text) as (λ b. bytes_eq (text_of w) text ≡ b → cond b (Some w) (named_of text_of all text) ≡ Some v → (text_of v ≡ text) × ((b || is_one_of (map text_of all) text) ≡ true)) [
-      | true ↦ λ s h. let same : w ≡ v = cc in (ap text_of (sym same) ∙ (bytes_eq-Decides (text_of w) text).0 s, refl)
-      | false ↦ λ s h. named_some text_of all text v h
-    ] refl e
+-- the tag of a name is one of those that begin with the first byte of the name
+begins : (first : ℕ) (rest : List ℕ) (tag : TagName) → text_of tag ≡ first ∷ rest → begins_with first tag ≡ true
+begins first rest tag e = rw e (same_name (first ∷ []))
 
--- a text that names no value is none of the table
-pub named_none : {T : Type 0} (text_of : T → List ℕ) (all : List T) (text : List ℕ) → named_of text_of all text ≡ None → is_one_of (map text_of all) text ≡ false
-named_none text_of [] text e = refl
-named_none text_of (w ∷ all) text e =
-    elim (bytes_eq (text_of w) text) as (λ b. cond b (Some w) (named_of text_of all text) ≡ None → (b || is_one_of (map text_of all) text) ≡ false) [
-      | true ↦ λ h. absurd cc
-      | false ↦ λ h. named_none text_of all text h
-    ] e
+pub found_by_first : (name : List ℕ) → 1 ≤ length name → named_of text_of (filter (begins_with (slice_index_or name 0 0)) all_tags) name ≡ named_of text_of all_tags name
+found_by_first [] some = absurd (omega arith)
+found_by_first (first ∷ rest) some = found_among text_of (begins_with first) all_tags (first ∷ rest) (begins first rest)
 
 -- the rule by its three tests
 pub rule_by : (h : History) (name : List ℕ) (known misplaced deep : Bool) → is_known name ≡ known → is_misplaced_tag h name ≡ misplaced → nat_le 32 (length h.names) ≡ deep

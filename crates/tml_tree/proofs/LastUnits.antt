@@ -20,7 +20,7 @@ taken t tags name nodes s true e h =
     let rest = tags_are _ s h in
     λ i. (same i) ∷ (sym rest i)
 
-differs : (start end : ℕ) (k : Kind) (tags : List OpenTag) (nodes : List PlainNode) (s : Stage) → step tags nodes (unit start end k) ≡ Some s → Differs k (map name_of tags) (map name_of s.tags)
+pub differs : (start end : ℕ) (k : Kind) (tags : List OpenTag) (nodes : List PlainNode) (s : Stage) → step tags nodes (unit start end k) ≡ Some s → Differs k (map name_of tags) (map name_of s.tags)
 differs start end (start_tag name attrs) tags nodes s e = tags_are _ s e
 differs start end (end_tag name) [] nodes s e = absurd cc
 differs start end (end_tag name) (t ∷ tags) nodes s e = taken t tags name _ s (bytes_eq t.name name) refl e

@@ -2,10 +2,10 @@ pub mod Endings
 pub mod Faults
 pub mod Known
 pub mod LastUnits
+pub mod LinkTags
 pub mod Paths
 pub mod Pulling
 pub mod Rows
 pub mod Running
 pub mod Stacks
 pub mod Standing
-pub mod Walks

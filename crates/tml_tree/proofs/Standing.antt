@@ -25,6 +25,8 @@ use Rattle.tml_tree.specs.declared.whole.TreeFault.{TreeFault}
 use Rattle.tml_tree.specs.Taking.{Takes, Refuses, Stands, BreaksAs, stage_of, rule_of}
 use Rattle.tml_tree.proofs.Running.{some_is, opens_step}
 use Rattle.tml_tree.proofs.Paths.{one_path, lawful_more, no_path_more}
+use Rattle.tml_tree.proofs.LastUnits.{differs}
+use Rattle.tml_tree.proofs.LinkTags.{links_kept}
 
 none_cut : (before after : List PlainUnit) (u : PlainUnit) → [] ≡ before ++ u ∷ after → ⊥
 none_cut [] after u e = absurd cc
@@ -185,6 +187,7 @@ stands_more us u b c s t =
       doctyped = t.doctyped ∙ ap (λ (x : Bool). x || is_doctype u) s.doctyped ∙ sym (any_more is_doctype us u);
       seen = t.seen ∙ ap (λ (q : List (List ℕ) × Bool). cond (is_tag u) (is_nil q.0) q.1) (λ i. (names_are c.frames.items i, s.seen i)) ∙ sym kept.seen;
       single = kept.single;
+      links = rw (names_are c.frames.items) (links_kept u.start u.end u.kind (history_of us (map name_of tags) (is_seen tags nodes)) (map name_of (view.tags_of c.frames.items)) (rw (← names_are b.frames.items) s.links) none (differs u.start u.end u.kind tags nodes (stage_of c) t.step));
     }
 
 -- a unit that is refused is at fault

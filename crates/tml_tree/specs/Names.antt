@@ -1,6 +1,7 @@
 -- The known tags and their texts.
-use Rattle.std.specs.Prelude.{ℕ, Bool, List, [], ◌∷◌, map, codes}
+use Rattle.std.specs.Prelude.{ℕ, Bool, nat_eq, List, [], ◌∷◌, map, codes}
 use Rattle.std.specs.Str.{bytes_eq}
+use Rattle.std.specs.List.{starts_with}
 use Rattle.named.specs.Texts.{is_one_of}
 use Rattle.tml_tree.specs.declared.names.TagName.{TagName}
 use Rattle.tml_tree.specs.declared.names.TagName.TheVariants as tag
@@ -33,7 +34,11 @@ text_of tag.Confidence = codes "CONFIDENCE"
 text_of tag.Timex3Interval = codes "TIMEX3INTERVAL"
 
 abbrev pub all_tags : List TagName
-all_tags = tag.Event ∷ tag.MakeInstance ∷ tag.Tlink ∷ tag.Timex3 ∷ tag.LowerS ∷ tag.Signal ∷ tag.UpperS ∷ tag.LowerP ∷ tag.UpperP ∷ tag.Slink ∷ tag.Alink ∷ tag.TimeMl ∷ tag.DocId ∷ tag.DocNo ∷ tag.Doc ∷ tag.Dct ∷ tag.Title ∷ tag.ExtraInfo ∷ tag.Text ∷ tag.Body ∷ tag.Headline ∷ tag.Enamex ∷ tag.Numex ∷ tag.Confidence ∷ tag.Timex3Interval ∷ []
+all_tags = tag.TimeMl ∷ tag.Event ∷ tag.Timex3 ∷ tag.Signal ∷ tag.MakeInstance ∷ tag.Tlink ∷ tag.Alink ∷ tag.Slink ∷ tag.DocId ∷ tag.DocNo ∷ tag.Doc ∷ tag.Dct ∷ tag.Title ∷ tag.ExtraInfo ∷ tag.Text ∷ tag.Body ∷ tag.Headline ∷ tag.UpperP ∷ tag.LowerP ∷ tag.UpperS ∷ tag.LowerS ∷ tag.Enamex ∷ tag.Numex ∷ tag.Confidence ∷ tag.Timex3Interval ∷ []
+
+-- the text of a tag begins with this byte
+abbrev pub begins_with : ℕ → TagName → Bool
+begins_with first t = starts_with nat_eq (text_of t) (first ∷ [])
 
 abbrev pub is_known : List ℕ → Bool
 is_known text = is_one_of (map text_of all_tags) text

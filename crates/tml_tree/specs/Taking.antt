@@ -1,5 +1,5 @@
 -- A builder that takes one unit after another.
-use Rattle.std.specs.Prelude.{◌≡◌, ℕ, Bool, ◌||◌, List, map, Option, Some, None, Result, Ok, Err, ⊤, if◌then◌else◌}
+use Rattle.std.specs.Prelude.{◌≡◌, ℕ, Bool, false, ◌||◌, List, [], ◌∷◌, map, Option, Some, None, Result, Ok, Err, ⊤, if◌then◌else◌}
 use Rattle.std.specs.List.{filter, list_any}
 use Rattle.tml_span.specs.Units.{PlainUnit}
 use Rattle.tml_tree.specs.declared.names.TagName.{TagName}
@@ -10,7 +10,7 @@ use Rattle.tml_tree.specs.declared.builder.Stop.{Stop}
 use Rattle.tml_tree.specs.declared.builder.Stop.TheVariants.{Broken, Memory}
 use Rattle.tml_tree.specs.declared.whole.TreeFault.{TreeFault}
 use Rattle.tml_tree.specs.declared.whole.TreeFault.TheVariants as faults
-use Rattle.tml_tree.specs.Names.{text_of}
+use Rattle.tml_tree.specs.Names.{text_of, is_link}
 use Rattle.tml_tree.specs.Nesting.{Opens, is_content, is_seen}
 use Rattle.tml_tree.specs.Rules.{is_past_bom, is_tag, is_doctype, is_nil, History, unit_rule}
 use Rattle.tml_tree.specs.Trees.{Lawful}
@@ -52,6 +52,11 @@ abbrev pub Refuses : Builder → PlainUnit → Stop → Type 0
 Refuses b u (Broken r) = rule_of b u ≡ Some r
 Refuses b u Memory = ⊤
 
+-- of these open names, the innermost first, those behind the first are no link tags
+abbrev pub OnlyInnermost : List (List ℕ) → Type 0
+OnlyInnermost [] = ⊤
+OnlyInnermost (n ∷ ns) = list_any is_link ns ≡ false
+
 -- what a builder knows of the units that it has taken
 pub record Stands (us : List PlainUnit) (b : Builder) : Type 0 where
   pub opens : Opens (filter is_content us) (tags_of b.frames.items) (map node_of b.nodes.items)
@@ -61,6 +66,7 @@ pub record Stands (us : List PlainUnit) (b : Builder) : Type 0 where
   pub doctyped : b.doctyped ≡ list_any is_doctype us
   pub seen : b.seen ≡ is_seen (tags_of b.frames.items) (map node_of b.nodes.items)
   pub single : AtMostOne (tags_of b.frames.items) (map node_of b.nodes.items)
+  pub links : OnlyInnermost (names_of b.frames.items)
 
 -- the fault that is told of a unit at this place
 abbrev pub BreaksAs : Stop → ℕ → TreeFault → Type 0

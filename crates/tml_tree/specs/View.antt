@@ -1,10 +1,10 @@
 -- The plain values that tags and nodes stand for.
-use Rattle.std.specs.Prelude.{ℕ, Bool, List, map, reverse}
+use Rattle.std.specs.Prelude.{ℕ, List, map, reverse}
 use Rattle.tml_span.specs.View.{attribute_of}
 use Rattle.tml_tree.specs.declared.builder.Frame.{Frame}
 use Rattle.tml_tree.specs.declared.node.Tag.{Tag}
 use Rattle.tml_tree.specs.declared.node.Node.{Node, Element, Text, Comment, Element', Row_of-Node, end_of-Node, more_of-Node}
-use Rattle.tml_tree.specs.Names.{text_of, is_link}
+use Rattle.tml_tree.specs.Names.{text_of}
 use Rattle.tml_tree.specs.Plain.{PlainNode, PlainNodes, text_node, comment_node, element, none, more}
 use Rattle.tml_tree.specs.Nesting.{OpenTag}
 
@@ -35,6 +35,3 @@ tag_of f = record { start = f.span.start; end = f.span.end; name = text_of f.nam
 
 abbrev pub tags_of : List Frame → List OpenTag
 tags_of frames = map tag_of (reverse frames)
-
-abbrev pub is_link_frame : Frame → Bool
-is_link_frame f = is_link (text_of f.name)

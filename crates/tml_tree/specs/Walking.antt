@@ -1,12 +1,7 @@
 -- The elements of a tree in document order.
-use Rattle.std.specs.Prelude.{◌≡◌, ℕ, List, [], ◌∷◌, ◌++◌, map}
-use Rattle.std.specs.Borrow.{Bor}
+use Rattle.std.specs.Prelude.{ℕ, List, [], ◌∷◌, ◌++◌}
 use Rattle.tml_span.specs.Units.{Attribute}
-use Rattle.tml_span.specs.View.{attribute_of}
-use Rattle.tml_tree.specs.declared.node.Tag.{Tag}
-use Rattle.tml_tree.specs.Names.{text_of}
 use Rattle.tml_tree.specs.Plain.{PlainNode, PlainNodes, text_node, comment_node, element, none, more}
-use Rattle.tml_tree.specs.Whole.{IsTreeOf}
 
 -- an element without its children: where it starts, its name and its attributes
 pub record PlainTag : Type 0 where
@@ -24,11 +19,3 @@ abbrev mutual
   pub all_elements : PlainNodes → List PlainTag
   all_elements none = []
   all_elements (more n ns) = elements n ++ all_elements ns
-
--- a tag without its children
-abbrev pub shown : Bor Tag → PlainTag
-shown t = record { place = t.now.span.start; name = text_of t.now.name; attrs = map attribute_of t.now.attrs }
-
--- the elements of the tree of a source
-abbrev pub AreElementsOf : List ℕ → List PlainTag → Type 0
-AreElementsOf source tags = (root : PlainNode) × IsTreeOf source root × (tags ≡ elements root)

@@ -9,12 +9,11 @@ ghost use Rattle.tml_tree.specs.Nesting.{is_element};
 ghost use Rattle.tml_tree.specs.Rules as rules;
 ghost use Rattle.tml_tree.specs.Trees.{Document, Unclosed};
 ghost use Rattle.tml_tree.specs.Roots.{EndsIn};
-ghost use Rattle.tml_tree.specs.Taking.{Takes, Refuses, Stands, TagRule, history_of};
-ghost use Rattle.tml_tree.specs.View.{node_of, tag_node};
+ghost use Rattle.tml_tree.specs.Taking.{OnlyInnermost, Takes, Refuses, Stands, TagRule, history_of};
+ghost use Rattle.tml_tree.specs.View.{names_of, node_of, tag_node};
 
 use crate::rules::{MOST_OPEN, Rule, in_link, is_blank, is_name_of};
 use crate::{Node, Tag, TagName};
-use named::named_by;
 use std::alloc::{AllocError, Global};
 use std::mem;
 use tml_span::{Attr, List, Span, Unit};
@@ -63,13 +62,22 @@ fn make_element<'s>(
     })
 }
 
-/// Adds a node behind the others. A first one gets room for itself alone, since most elements have one child.
+/// Makes room for one node more. A first one gets room for itself alone, since most elements have one child.
+fn reserve_node<'s>(nodes: &mut Vec<Node<'s>>) -> Result<(), AllocError>
+    ensures { OnOk result (nodes.new.items ≡ nodes.old.items) }
+{
+    if nodes.is_empty() {
+        nodes.reserve_exact(1)
+    } else {
+        nodes.reserve(1)
+    }
+}
+
+/// Adds a node behind the others.
 fn push_node<'s>(nodes: &mut Vec<Node<'s>>, node: Node<'s>) -> Result<(), AllocError>
     ensures { OnOk result (nodes.new.items ≡ nodes.old.items ++ node.entry ∷ []) }
 {
-    if nodes.is_empty() {
-        nodes.reserve_exact(1)?;
-    }
+    reserve_node(nodes)?;
     nodes.push(node)?;
     Ok(())
 }
@@ -104,6 +112,7 @@ impl<'s> Builder<'s> {
 
     /// Takes one more unit, or says why it may not stand there.
     pub fn take(&mut self, alloc: Global, unit: Unit<'s>) -> Result<(), Stop>
+        requires { OnlyInnermost (names_of self.old.frames.items) }
         ensures ok { OnOk result (Takes self.old (unit_of unit.entry) self.new) }
         ensures err { IfErr result (λ e. Refuses self.old (unit_of unit.entry) e) }
     {
@@ -165,6 +174,7 @@ impl<'s> Builder<'s> {
     }
 
     fn text(&mut self, span: Span, text: &'s [u8]) -> Result<(), Stop>
+        requires { OnlyInnermost (names_of self.old.frames.items) }
         ensures ok { OnOk result (Takes self.old (unit span.start span.end (units.text text.now)) self.new) }
         ensures err { IfErr result (λ e. Refuses self.old (unit span.start span.end (units.text text.now)) e) }
     {
@@ -179,6 +189,7 @@ impl<'s> Builder<'s> {
     }
 
     fn is_misplaced(&self, name: TagName) -> bool
+        requires { OnlyInnermost (names_of self.now.frames.items) }
         ensures { result ≡ rules.is_misplaced_tag (history_of self.now) (text_of name) }
     {
         let is_root = name == TagName::TimeMl;
@@ -190,9 +201,10 @@ impl<'s> Builder<'s> {
 
     /// The tag of this name, or the first rule that applies to a start or empty tag.
     fn tag(&self, name: &[u8]) -> Result<TagName, Rule>
+        requires { OnlyInnermost (names_of self.now.frames.items) }
         ensures { TagRule result (rules.tag_rule (history_of self.now) name.now) name.now }
     {
-        let Some(tag) = named_by::<TagName>(name) else {
+        let Some(tag) = TagName::of(name) else {
             return Err(Rule::UnknownTag);
         };
         if self.is_misplaced(tag) {
@@ -211,6 +223,7 @@ impl<'s> Builder<'s> {
         name: &'s [u8],
         attrs: List<Attr<'s>>,
     ) -> Result<(), Stop>
+        requires { OnlyInnermost (names_of self.old.frames.items) }
         ensures ok { OnOk result (Takes self.old (unit span.start span.end (units.start_tag name.now (map attribute_of attrs.entry))) self.new) }
         ensures err { IfErr result (λ e. Refuses self.old (unit span.start span.end (units.start_tag name.now (map attribute_of attrs.entry))) e) }
     {
@@ -218,6 +231,10 @@ impl<'s> Builder<'s> {
             Ok(name) => name,
             Err(rule) => return Err(Stop::Broken(rule)),
         };
+        // The room for an element comes before the room for its children, so that a walk meets them in their order.
+        if reserve_node(&mut self.nodes).is_err() {
+            return Err(Stop::Memory);
+        }
         let before = mem::replace(&mut self.nodes, Vec::new(alloc));
         let frame = Frame {
             span,
@@ -241,6 +258,7 @@ impl<'s> Builder<'s> {
         name: &'s [u8],
         attrs: List<Attr<'s>>,
     ) -> Result<(), Stop>
+        requires { OnlyInnermost (names_of self.old.frames.items) }
         ensures ok { OnOk result (Takes self.old (unit span.start span.end (units.empty_tag name.now (map attribute_of attrs.entry))) self.new) }
         ensures err { IfErr result (λ e. Refuses self.old (unit span.start span.end (units.empty_tag name.now (map attribute_of attrs.entry))) e) }
     {

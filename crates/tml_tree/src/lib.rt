@@ -10,7 +10,6 @@ mod rules;
 mod tag_tree;
 #[cfg(test)]
 mod tests;
-mod walk;
 mod whole;
 
 pub use laws::{last_unit, one_answer, one_path, one_tree, one_tree_of_source};
@@ -18,5 +17,4 @@ pub use names::TagName;
 pub use node::{Node, Tag};
 pub use pulled::SourceFault;
 pub use tag_tree::{TagTree, tree, tree_of};
-pub use walk::{collect, collect_tags, elements_of};
 pub use whole::TreeFault;

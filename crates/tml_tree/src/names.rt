@@ -1,9 +1,11 @@
 //! The tags that a document may have.
 ghost use Rattle.std.proofs.Common.{rules};
 ghost use Rattle.std.specs.Prelude.{◌≡◌};
+ghost use Rattle.std.specs.List.{filter};
+ghost use Rattle.named.specs.Texts.{named_of};
 ghost use Rattle.tml_tree.specs.Names as names;
 
-use named::Named;
+use named::{Named, named_in};
 
 /// A known tag. The first eight are those of TimeML 1.2.1 that mean something here, and the others, which corpora
 /// wrap their texts in, are carried.
@@ -69,6 +71,45 @@ impl TagName {
             TagName::Timex3Interval => b"TIMEX3INTERVAL",
         }
     }
+
+    /// The tags whose names begin with this byte.
+    fn beginning_with(first: u8) -> &'static [TagName]
+        ensures { result.now ≡ filter (names.begins_with first) names.all_tags }
+    {
+        match first {
+            b'T' => &[
+                TagName::TimeMl,
+                TagName::Timex3,
+                TagName::Tlink,
+                TagName::Title,
+                TagName::Text,
+                TagName::Timex3Interval,
+            ],
+            b'E' => &[TagName::Event, TagName::ExtraInfo, TagName::Enamex],
+            b'S' => &[TagName::Signal, TagName::Slink, TagName::UpperS],
+            b'M' => &[TagName::MakeInstance],
+            b'A' => &[TagName::Alink],
+            b'D' => &[TagName::DocId, TagName::DocNo, TagName::Doc, TagName::Dct],
+            b'B' => &[TagName::Body],
+            b'H' => &[TagName::Headline],
+            b'P' => &[TagName::UpperP],
+            b'p' => &[TagName::LowerP],
+            b's' => &[TagName::LowerS],
+            b'N' => &[TagName::Numex],
+            b'C' => &[TagName::Confidence],
+            _ => &[],
+        }
+    }
+
+    /// The tag of this name, or none where it is the name of no tag.
+    pub fn of(name: &[u8]) -> Option<TagName>
+        ensures { result ≡ named_of names.text_of names.all_tags name.now }
+    {
+        match name {
+            [] => None,
+            [first, ..] => named_in(TagName::beginning_with(*first), name),
+        }
+    }
 }
 
 impl Named for TagName {
@@ -79,20 +120,15 @@ impl Named for TagName {
     ghost apart = { Prim.search rules };
 
     fn all() -> &'static [TagName] {
-        // Those that are frequent in corpora come first, since a name is searched from the front.
         &[
+            TagName::TimeMl,
             TagName::Event,
+            TagName::Timex3,
+            TagName::Signal,
             TagName::MakeInstance,
             TagName::Tlink,
-            TagName::Timex3,
-            TagName::LowerS,
-            TagName::Signal,
-            TagName::UpperS,
-            TagName::LowerP,
-            TagName::UpperP,
-            TagName::Slink,
             TagName::Alink,
-            TagName::TimeMl,
+            TagName::Slink,
             TagName::DocId,
             TagName::DocNo,
             TagName::Doc,
@@ -102,6 +138,10 @@ impl Named for TagName {
             TagName::Text,
             TagName::Body,
             TagName::Headline,
+            TagName::UpperP,
+            TagName::LowerP,
+            TagName::UpperS,
+            TagName::LowerS,
             TagName::Enamex,
             TagName::Numex,
             TagName::Confidence,

@@ -4,6 +4,7 @@ ghost use Rattle.std.specs.List.{list_any, list_all};
 ghost use Rattle.std.specs.Str.{bytes_eq};
 ghost use Rattle.tml_span.specs.Bytes.{is_white};
 ghost use Rattle.tml_tree.specs.Names as names;
+ghost use Rattle.tml_tree.specs.Taking.{OnlyInnermost};
 ghost use Rattle.tml_tree.specs.View as view;
 
 use crate::TagName;
@@ -45,14 +46,13 @@ fn is_link(name: TagName) -> bool
     )
 }
 
-/// One of the open tags is a link tag.
+/// One of the open tags is a link tag. Only the innermost can be one, since no tag may stand inside.
 pub fn in_link(frames: &[Frame<'_>]) -> bool
+    requires { OnlyInnermost (view.names_of frames.now) }
     ensures { result ≡ list_any names.is_link (view.names_of frames.now) }
 {
-    for frame in frames {
-        if is_link(frame.name) {
-            return true;
-        }
+    match frames {
+        [.., innermost] => is_link(innermost.name),
+        [] => false,
     }
-    false
 }

@@ -1,5 +1,5 @@
 //! Faults of small documents, and one tree.
-use crate::{TagName, TreeFault, elements_of, tree};
+use crate::{Node, Tag, TagName, TreeFault, tree};
 use std::alloc::{AllocError, Global};
 use std::process::Abort;
 use std::test::Fail;
@@ -78,6 +78,14 @@ fn depths(rt: HostRuntime) -> Result<(), Fail> {
     Ok(())
 }
 
+/// The child at this index, which is an element.
+fn child<'t, 's>(rt: &(impl Abort + AllocGlobal), tag: &'t Tag<'s>, index: usize) -> &'t Tag<'s> {
+    match tag.children.get(index) {
+        Some(Node::Element(inner)) => inner,
+        _ => panic!(rt; "no element stands there"),
+    }
+}
+
 #[test]
 fn tags_of_a_tree(rt: HostRuntime) -> Result<(), Fail> {
     let doc: &[u8] = b" <TimeML><P><EVENT a='1'/>x</P><s/></TimeML>";
@@ -88,17 +96,18 @@ fn tags_of_a_tree(rt: HostRuntime) -> Result<(), Fail> {
         panic!(&rt; "the units make no tree");
     };
     assert_eq!(&rt; tree.source(), doc);
-    let wanted = [
-        (TagName::TimeMl, Span { start: 1, end: 44 }),
-        (TagName::UpperP, Span { start: 9, end: 31 }),
-        (TagName::Event, Span { start: 12, end: 26 }),
-        (TagName::LowerS, Span { start: 31, end: 35 }),
+    let root = tree.root();
+    let paragraph = child(&rt, root, 0);
+    let event = child(&rt, paragraph, 0);
+    let sentence = child(&rt, root, 1);
+    let rows = [
+        (root, TagName::TimeMl, Span { start: 1, end: 44 }),
+        (paragraph, TagName::UpperP, Span { start: 9, end: 31 }),
+        (event, TagName::Event, Span { start: 12, end: 26 }),
+        (sentence, TagName::LowerS, Span { start: 31, end: 35 }),
     ];
-    let tags = elements_of(rt.alloc(), &tree)?;
-    assert_eq!(&rt; tags.len(), wanted.len());
-    for (index, wanted) in wanted.iter().enumerate() {
-        let tag = tags[index];
-        assert_eq!(&rt; (tag.name, tag.span), *wanted);
+    for (tag, name, span) in rows.iter() {
+        assert_eq!(&rt; (tag.name, tag.span), (*name, *span));
     }
     Ok(())
 }

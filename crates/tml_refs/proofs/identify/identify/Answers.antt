@@ -1,4 +1,4 @@
-use Rattle.std.proofs.Common.{◌≡◌, ◌≤◌, ◌+◌, ℕ, ◌∙◌, ap, sym, subst, arith, refl, length, List, take}
+use Rattle.std.proofs.Common.{◌+◌, ℕ, ◌∙◌, sym, subst, arith, refl, List}
 use Rattle.std.proofs.lemmas.List.{take_all}
 use Rattle.tml_types.specs.declared.typed.TypedTag.{TypedTag}
 use Rattle.tml_refs.specs.Owning.{Knows}

@@ -13,4 +13,5 @@ returns c =
       doctyped = refl;
       seen = rw (f, n) refl;
       single = rw (f, n) (inl refl);
+      links = rw f tt;
     }

@@ -2,7 +2,8 @@ use Rattle.std.proofs.Common.{false, true, refl, arith}
 use Rattle.std.proofs.lemmas.Grind.{common_steps}
 use Rattle.tml_tree.specs.Names.{text_of, all_tags}
 use Rattle.tml_tree.specs.Taking.{history_of}
-use Rattle.tml_tree.proofs.Known.{named_some, named_none, rule_by, tag_rule_by, is_deep, is_flat}
+use Rattle.named.proofs.Tables.{named_some, named_none}
+use Rattle.tml_tree.proofs.Known.{rule_by, tag_rule_by, is_deep, is_flat}
 use Rattle.tml_tree.proofs.builder.Builder.tag.Goals as goal
 
 pub returns-in_default : goal.returns-in_default

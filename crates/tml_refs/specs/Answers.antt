@@ -1,0 +1,15 @@
+-- Typed tags have one answer.
+use Rattle.std.specs.Prelude.{◌≡◌, ℕ, List}
+use Rattle.tml_types.specs.declared.typed.TypedTag.{TypedTag}
+use Rattle.tml_refs.specs.declared.contents.Contents.{Contents}
+use Rattle.tml_refs.specs.declared.rules.Rule.{Rule}
+use Rattle.tml_refs.specs.Resolved.{Resolved}
+use Rattle.tml_refs.specs.Rules.{FaultAt}
+
+-- a document and a fault exclude each other, and of faults there is one
+pub record OneAnswer (all : List TypedTag) : Type 0 where
+  pub document_or_fault : (doc : Contents) (place : ℕ) (rule : Rule) → Resolved all doc → FaultAt all place rule → ⊥
+  pub one_fault : (place other : ℕ) (r s : Rule) → FaultAt all place r → FaultAt all other s → (place ≡ other) × (r ≡ s)
+
+abbrev pub OneAnswers : Type 0
+OneAnswers = (all : List TypedTag) → OneAnswer all

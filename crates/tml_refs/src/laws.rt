@@ -1,0 +1,7 @@
+//! Laws of typed tags: public functions that do nothing, each with the law as its contract.
+ghost use Rattle.tml_refs.specs.Answers.{OneAnswers};
+
+/// A document and a fault exclude each other, and typed tags have one fault at most.
+pub fn one_answer()
+    ensures { OneAnswers }
+{}
