@@ -10,6 +10,7 @@ use Rattle.timex_value.proofs.Days.{total-zero, year_length_bounds}
 use Rattle.timex_dates.proofs.Totals.{total_grows}
 use Rattle.timex_dates.proofs.Intervals.{months_all, next_month, month_days, years_days, year_start_grows, month_length_bounds, week_days, week_years_days, quarter_days, weekday_days, january, december}
 
+-- a set that has the seconds from a to b, without b
 pub interval_extent : (P : ℕ → Type 0) (a b : ℕ) → a < b → ((t : ℕ) → P t ↔ ((a ≤ t) × (t < b))) → Extent P (second_number a) (second_number b)
 unfolding Extent
 interval_extent P a b lt is = (
@@ -19,6 +20,7 @@ interval_extent P a b lt is = (
   λ s h. let at = (is h.0).0 h.2 in omega (arith, signed_arith),
 )
 
+-- an extent is not empty
 pub extent_order : (P : ℕ → Type 0) (lo hi : ℤ) → Extent P lo hi → lo <ℤ hi
 unfolding Extent
 extent_order P lo hi h = h.3 lo h.0

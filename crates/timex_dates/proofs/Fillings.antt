@@ -16,6 +16,7 @@ use Rattle.timex_dates.specs.Valid.{HasDateParts, HasWeekParts, HasParts, HasKno
 use Rattle.std.proofs.Math.Logic.{∥∥₁_elim}
 use Rattle.std.proofs.Props.{props}
 
+-- a filling of a field without X is its number
 part_is : (n m : ℕ) → n ≤ 99 → CanBe (Known n) m → m ≡ n
 part_is n m h k = grind arith
 
@@ -25,6 +26,7 @@ digit_is n m h k = grind arith
 year_is : (y z : ℕ) → y ≤ 9999 → YearCanBe (YearOf.Known y) z → z ≡ y
 year_is y z h k = grind arith
 
+-- what a filling has, its known fields have
 date_is : (y m d : ℕ) → m ≤ 99 → d ≤ 99 → HasDate y (Known m) (Known d) → IsDate y m d
 date_is y m d h k f = subst (λ x. IsDate y x d) (part_is m f.0 h f.2) (subst (λ x. IsDate y f.0 x) (part_is d f.1 k f.3) f.4)
 
@@ -34,6 +36,7 @@ month_is y m d h f = subst (IsInRange 1 12) (part_is m f.0 h f.2) f.4.1
 week_is : (y w : ℕ) → w ≤ 99 → HasWeek y (Known w) → IsInRange 1 (weeks_of y) w
 week_is y w h f = subst (IsInRange 1 (weeks_of y)) (part_is w f.0 h f.1) f.2
 
+-- a clock goes up to 24 hours, 59 minutes and 59 seconds
 clock_bounds : (h i s : ℕ) → IsClock h i s → (h ≤ 24) × (i < 60) × (s < 60)
 clock_bounds h i s (inl k) = (omega arith, omega arith, omega arith)
 clock_bounds h i s (inr k) = (omega arith, omega arith, omega arith)
@@ -78,6 +81,7 @@ parts_fit y (ShapeOf.Second (Known m) (Known d) Unknown i s) w f = date_is y m d
 parts_fit y (ShapeOf.Second (Known m) Unknown h i s) w f = month_is y m Unknown w.0 f.0
 parts_fit y (ShapeOf.Second Unknown d h i s) w f = tt
 
+-- in some year
 part_has : (year : Year) (s : Shape) → IsYearWritten year → IsShapeWritten s → HasFilling year s → HasKnownPart year s
 part_has (YearOf.Known y) s h w f =
     let e = year_is y f.0 h f.1 in
@@ -86,6 +90,7 @@ part_has (YearOf.Decade d) s h w f = h
 part_has (YearOf.Century c) s h w f = h
 part_has YearOf.Unknown s h w f = tt
 
+-- what is known is one fact
 date_prop : (y : ℕ) (m d h i s : Part) → IsProp (HasDateParts y m d h i s)
 date_prop y Unknown d h i s = hlevel props
 date_prop y (Known m) Unknown h i s = hlevel props

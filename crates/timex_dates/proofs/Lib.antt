@@ -4,3 +4,4 @@ pub mod Extents
 pub mod Jiff
 pub mod Fillings
 pub mod OneAnswers
+pub mod OneDates

@@ -15,6 +15,7 @@ use Rattle.timex_dates.specs.Seconds.{Extent}
 use Rattle.timex_dates.specs.KnownParts.{is_whole, Belongs}
 use Rattle.timex_dates.specs.Answers.{IsExact, IsWithin, ModifiedBounds, CalendarBounds, OneExtent, OneBounds}
 
+-- each of two extents holds the ends of the other
 extent_once : (P : ℕ → Type 0) (lo hi low high : ℤ) → Extent P lo hi → Extent P low high → (lo ≡ low) × (hi ≡ high)
 unfolding Extent
 extent_once P lo hi low high h k =
@@ -27,6 +28,7 @@ extent_once P lo hi low high h k =
 pub one_extent : OneExtent
 one_extent year shape lo hi low high h k = extent_once (Belongs year shape) lo hi low high h k
 
+-- by the extent
 exact_once : (P : ℕ → Type 0) (a b : Bounds) → IsExact P a → IsExact P b → a ≡ b
 exact_once P (Exact lo hi) (Exact low high) h k = let e = extent_once P lo hi low high h k in rw (e.0, e.1) refl
 exact_once P (Exact lo hi) (Within low high) h k = absurd k
@@ -44,6 +46,7 @@ within_once P Free b h k = absurd h
 free_once : (a b : Bounds) → a ≡ Free → b ≡ Free → a ≡ b
 free_once a b h k = rw h (sym k)
 
+-- by each modifier
 modified_once : (modifier : Option Modifier) (whole : Bool) (P : ℕ → Type 0) (a b : Bounds) → ModifiedBounds modifier whole P a → ModifiedBounds modifier whole P b → a ≡ b
 modified_once None true P a b h k = exact_once P a b h k
 modified_once None false P a b h k = within_once P a b h k

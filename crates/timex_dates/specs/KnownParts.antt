@@ -47,6 +47,7 @@ abbrev pub Belongs : Year → Shape → ℕ → Type 0
 Belongs (YearOf.Known y) shape = BelongsToYear y shape
 Belongs year shape = BelongsToYears year shape
 
+-- the field is no X
 abbrev pub is_known : Part → Bool
 is_known (Known n) = true
 is_known Unknown = false

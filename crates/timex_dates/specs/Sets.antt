@@ -25,20 +25,23 @@ InYears year t = (y : ℕ) × IsYearOf year y × IsInYear (day_of t) y
 abbrev pub InWeekYears : Year → ℕ → Type 0
 InWeekYears year t = (y : ℕ) × IsYearOf year y × IsInYear (thursday_of (day_of t)) y
 
+-- the days of a month of the year
 abbrev pub InMonth : ℕ → ℕ → ℕ → Type 0
 InMonth y m t = IsInMonth (day_of t) y m
 
--- the first quarter has the months 1 to 3, and so on
+-- the days of a quarter, of which the first has the months 1 to 3
 abbrev pub InQuarter : ℕ → ℕ → ℕ → Type 0
 InQuarter y q t = (m : ℕ) × ((m + 2) / 3 ≡ q) × IsInMonth (day_of t) y m
 
+-- the day of the date
 abbrev pub InDay : ℕ → ℕ → ℕ → ℕ → Type 0
 InDay y m d t = IsDateOf (day_of t) y m d
 
+-- the days of a week of the year
 abbrev pub InWeek : ℕ → ℕ → ℕ → Type 0
 InWeek y w t = IsInWeek (day_of t) y w
 
--- the day of the week, where Monday is 1
+-- one day of the week, where Monday is 1
 abbrev pub InWeekday : ℕ → ℕ → ℕ → ℕ → Type 0
 InWeekday y w d t = InWeek y w t × (weekday (day_of t) + 1 ≡ d)
 
@@ -46,8 +49,10 @@ InWeekday y w d t = InWeek y w t × (weekday (day_of t) + 1 ≡ d)
 abbrev pub InHour : ℕ → ℕ → ℕ → ℕ → ℕ → Type 0
 InHour y m d h t = IsDate y m d × (day_of t ≡ day_index y m d + h / 24) × (clock_of t / 3600 ≡ h % 24)
 
+-- a minute of the hour
 abbrev pub InMinute : ℕ → ℕ → ℕ → ℕ → ℕ → ℕ → Type 0
 InMinute y m d h i t = InHour y m d h t × (clock_of t / 60 % 60 ≡ i)
 
+-- a second of the minute
 abbrev pub InSecond : ℕ → ℕ → ℕ → ℕ → ℕ → ℕ → ℕ → Type 0
 InSecond y m d h i s t = InMinute y m d h i t × (clock_of t % 60 ≡ s)

@@ -20,30 +20,24 @@ fn modified(modifier: Option<Modifier>, year: Year, shape: Shape) -> Bounds
     let Interval { lo, hi } = interval_of(year, shape);
     let whole = is_whole(year, shape);
     match modifier {
-        None => {
-            if whole {
-                Bounds::Exact { lo, hi }
-            } else {
-                Bounds::Within { lo, hi }
-            }
-        }
-        Some(Modifier::Start) | Some(Modifier::Mid) | Some(Modifier::End) => {
-            Bounds::Within { lo, hi }
-        }
-        Some(Modifier::Before)
-        | Some(Modifier::After)
-        | Some(Modifier::OnOrBefore)
-        | Some(Modifier::OnOrAfter)
-        | Some(Modifier::LessThan)
-        | Some(Modifier::MoreThan)
-        | Some(Modifier::EqualOrLess)
-        | Some(Modifier::EqualOrMore)
-        | Some(Modifier::Approx) => Bounds::Free,
+        None if whole => Bounds::Exact { lo, hi },
+        None | Some(Modifier::Start | Modifier::Mid | Modifier::End) => Bounds::Within { lo, hi },
+        Some(
+            Modifier::Before
+            | Modifier::After
+            | Modifier::OnOrBefore
+            | Modifier::OnOrAfter
+            | Modifier::LessThan
+            | Modifier::MoreThan
+            | Modifier::EqualOrLess
+            | Modifier::EqualOrMore
+            | Modifier::Approx,
+        ) => Bounds::Free,
     }
 }
 
-#[tactic(auto, using(crate::proofs::Fillings::has_part))]
 /// The year and the shape of a value, whose known part the calendar has.
+#[tactic(auto, using(crate::proofs::Fillings::has_part))]
 fn fields_of(calendar: &Calendar) -> (Year, Shape)
     ensures year { result.0 ≡ values.year_of calendar.now }
     ensures shape { result.1 ≡ values.shape_of calendar.now }
@@ -74,7 +68,7 @@ pub fn bounds_of(kind: TimexKind, modifier: Option<Modifier>, value: Option<&Val
     match kind {
         TimexKind::Date | TimexKind::Time => match value {
             Some(Value::Calendar(calendar)) => calendar_bounds(modifier, calendar),
-            Some(Value::Duration(_)) | Some(Value::Other) | None => Bounds::Free,
+            Some(Value::Duration(_) | Value::Other) | None => Bounds::Free,
         },
         TimexKind::Duration | TimexKind::Set => Bounds::Free,
     }

@@ -1,14 +1,15 @@
 //! Day numbers of civil dates.
-ghost use Rattle.std.specs.Prelude.{◌≡◌, ◌+◌, ◌≤◌, pos, neg_ℤ, ◌+ℤ◌, ◌-ℤ◌};
-ghost use Rattle.std.specs.Int.{IsInRange};
-ghost use Rattle.timex_value.specs.Civil.{IsDate, day_index, month_length, weekday};
-ghost use Rattle.timex_dates.specs.Seconds as seconds;
-ghost use Rattle.timex_dates.specs.Seconds.{IsDayNumber, monday_of};
 ghost use Rattle.jiff_core.specs.Calendar.{IsEpochDay, IsBetween};
 ghost use Rattle.jiff_core.specs.Date.{epoch_day, IsYmd};
+ghost use Rattle.std.specs.Int.{IsInRange};
+ghost use Rattle.std.specs.Prelude.{◌≡◌, ◌+◌, ◌≤◌, pos, neg_ℤ, ◌+ℤ◌, ◌-ℤ◌};
+ghost use Rattle.timex_dates.specs.Seconds as seconds;
+ghost use Rattle.timex_dates.specs.Seconds.{IsDayNumber, monday_of};
+ghost use Rattle.timex_value.specs.Civil.{IsDate, day_index, month_length, weekday};
 
 use jiff::civil::{Date, date};
 
+/// The date, which `jiff` has up to 9999-12-31.
 fn date_of(year: u16, month: u8, day: u8) -> Date
     requires date { IsDate year month day }
     requires year { year ≤ 9999 }
@@ -17,6 +18,7 @@ fn date_of(year: u16, month: u8, day: u8) -> Date
     date(year as i16, month as i8, day as i8)
 }
 
+/// The days from 1970-01-01 up to a date.
 fn number_of(date: Date) -> i64
     ensures value { result ≡ epoch_day date }
     ensures bound { IsEpochDay result }
@@ -24,7 +26,7 @@ fn number_of(date: Date) -> i64
     date.to_plain().to_unix_epoch_day() as i64
 }
 
-/// The day number of a date.
+/// The day number of a date of the calendar.
 #[tactic(auto, using(crate::proofs::Jiff::days_are))]
 pub(crate) fn day_number(year: u16, month: u8, day: u8) -> i64
     requires date { IsDate year month day }

@@ -79,6 +79,7 @@ fn run_of(year: Year) -> (u16, u16)
     }
 }
 
+/// The days of years.
 pub(crate) fn years(year: Year) -> Interval
     requires { HasYear year }
     ensures extent { Extent (InYears year) result.lo result.hi }
@@ -88,7 +89,7 @@ pub(crate) fn years(year: Year) -> Interval
     days_to(day_number(first, 1, 1), day_number(last, 12, 31), 1)
 }
 
-/// The weeks of years: a year's first week has 4 January, and its last one 28 December.
+/// The weeks of years, where the first week of a year has 4 January and the last one 28 December.
 pub(crate) fn week_years(year: Year) -> Interval
     requires { HasYear year }
     ensures extent { Extent (InWeekYears year) result.lo result.hi }
@@ -98,6 +99,7 @@ pub(crate) fn week_years(year: Year) -> Interval
     days_to(monday_number(first, 1, 4), monday_number(last, 12, 28), 7)
 }
 
+/// The days of a month.
 #[tactic(auto, using(crate::proofs::Extents::month_extent))]
 pub(crate) fn month(year: u16, month: u8) -> Interval
     requires year { IsInRange 1 9999 year }
@@ -109,6 +111,7 @@ pub(crate) fn month(year: u16, month: u8) -> Interval
     days_to(day_number(year, month, 1), day_number(year, month, last), 1)
 }
 
+/// The days of the three months of a quarter.
 #[tactic(auto, using(crate::proofs::Extents::quarter_extent))]
 pub(crate) fn quarter(year: u16, quarter: u8) -> Interval
     requires year { IsInRange 1 9999 year }
@@ -125,6 +128,7 @@ pub(crate) fn quarter(year: u16, quarter: u8) -> Interval
     )
 }
 
+/// A whole day.
 #[tactic(auto, using(crate::proofs::Extents::day_extent))]
 pub(crate) fn day(year: u16, month: u8, day: u8) -> Interval
     requires date { IsDate year month day }
@@ -136,6 +140,7 @@ pub(crate) fn day(year: u16, month: u8, day: u8) -> Interval
     days_to(number, number, 1)
 }
 
+/// A week of a year, whose first week has 4 January.
 #[tactic(auto, using(crate::proofs::Extents::week_extent, timex_value::proofs::Days::weeks_closed, crate::proofs::Intervals::week_end))]
 pub(crate) fn week(year: u16, week: u8) -> Interval
     requires year { IsInRange 1 9999 year }
@@ -146,6 +151,7 @@ pub(crate) fn week(year: u16, week: u8) -> Interval
     days_after(monday_number(year, 1, 4), 7 * (week as u16 - 1), 7)
 }
 
+/// A day of a week, where Monday is 1.
 #[tactic(auto, using(crate::proofs::Extents::weekday_extent, timex_value::proofs::Days::weeks_closed, crate::proofs::Intervals::week_end))]
 pub(crate) fn weekday(year: u16, week: u8, day: u8) -> Interval
     requires year { IsInRange 1 9999 year }
@@ -161,6 +167,7 @@ pub(crate) fn weekday(year: u16, week: u8, day: u8) -> Interval
     )
 }
 
+/// An hour of a day. Hour 24 is hour 0 of the next day, which need not be one of `jiff`.
 #[tactic(auto, using(crate::proofs::Extents::hour_extent))]
 pub(crate) fn hour(year: u16, month: u8, day: u8, hour: u8) -> Interval
     requires date { IsDate year month day }
@@ -172,6 +179,7 @@ pub(crate) fn hour(year: u16, month: u8, day: u8, hour: u8) -> Interval
     part_of_day(day_number(year, month, day), hour as u32 * 3600, 3600)
 }
 
+/// A minute of an hour.
 #[tactic(auto, using(crate::proofs::Extents::minute_extent))]
 pub(crate) fn minute(year: u16, month: u8, day: u8, hour: u8, minute: u8) -> Interval
     requires date { IsDate year month day }
@@ -185,6 +193,7 @@ pub(crate) fn minute(year: u16, month: u8, day: u8, hour: u8, minute: u8) -> Int
     part_of_day(day_number(year, month, day), from, 60)
 }
 
+/// A second of a minute.
 #[tactic(auto, using(crate::proofs::Extents::second_extent))]
 pub(crate) fn second(year: u16, month: u8, day: u8, hour: u8, minute: u8, second: u8) -> Interval
     requires date { IsDate year month day }

@@ -7,10 +7,11 @@ ghost use Rattle.timex_dates.specs.Seconds.{Extent, IsCivilSecond};
 ghost use Rattle.timex_dates.specs.Valid.{HasDateParts, HasKnownPart, HasParts, HasWeekParts, HasYear};
 ghost use Rattle.timex_value.specs.declared.shape.Shape.TheVariants as ShapeOf;
 
-use crate::interval as whole;
+use crate::interval;
 use crate::interval::Interval;
 use timex_value::{Part, Shape, Year};
 
+/// A field that is not known, or that the shape has not.
 const X: Part = Part::Unknown;
 
 /// The interval of what is known of a date and its time.
@@ -21,21 +22,21 @@ fn date(year: u16, month: Part, day: Part, hour: Part, minute: Part, second: Par
     ensures range { IsCivilSecond result.lo × IsCivilSecond result.hi }
 {
     let Part::Known(m) = month else {
-        return whole::years(Year::Known(year));
+        return interval::years(Year::Known(year));
     };
     let Part::Known(d) = day else {
-        return whole::month(year, m);
+        return interval::month(year, m);
     };
     let Part::Known(h) = hour else {
-        return whole::day(year, m, d);
+        return interval::day(year, m, d);
     };
     let Part::Known(i) = minute else {
-        return whole::hour(year, m, d, h);
+        return interval::hour(year, m, d, h);
     };
     let Part::Known(s) = second else {
-        return whole::minute(year, m, d, h, i);
+        return interval::minute(year, m, d, h, i);
     };
-    whole::second(year, m, d, h, i, s)
+    interval::second(year, m, d, h, i, s)
 }
 
 /// The interval of what is known of a week and its day.
@@ -46,12 +47,12 @@ fn week_date(year: u16, week: Part, day: Part) -> Interval
     ensures range { IsCivilSecond result.lo × IsCivilSecond result.hi }
 {
     let Part::Known(w) = week else {
-        return whole::week_years(Year::Known(year));
+        return interval::week_years(Year::Known(year));
     };
     let Part::Known(d) = day else {
-        return whole::week(year, w);
+        return interval::week(year, w);
     };
-    whole::weekday(year, w, d)
+    interval::weekday(year, w, d)
 }
 
 /// The interval of what is known of a quarter.
@@ -62,8 +63,8 @@ fn quarter_date(year: u16, quarter: Part) -> Interval
     ensures range { IsCivilSecond result.lo × IsCivilSecond result.hi }
 {
     match quarter {
-        Part::Known(q) => whole::quarter(year, q),
-        Part::Unknown => whole::years(Year::Known(year)),
+        Part::Known(q) => interval::quarter(year, q),
+        Part::Unknown => interval::years(Year::Known(year)),
     }
 }
 
@@ -75,7 +76,7 @@ fn of_year(year: u16, shape: Shape) -> Interval
     ensures range { IsCivilSecond result.lo × IsCivilSecond result.hi }
 {
     match shape {
-        Shape::Year => whole::years(Year::Known(year)),
+        Shape::Year => interval::years(Year::Known(year)),
         Shape::Month { month } => date(year, month, X, X, X, X),
         Shape::Day { month, day } => date(year, month, day, X, X, X),
         Shape::Week { week } => week_date(year, week, X),
@@ -105,8 +106,8 @@ fn of_years(year: Year, shape: Shape) -> Interval
     ensures range { IsCivilSecond result.lo × IsCivilSecond result.hi }
 {
     match shape {
-        Shape::Week { .. } | Shape::Weekday { .. } => whole::week_years(year),
-        _ => whole::years(year),
+        Shape::Week { .. } | Shape::Weekday { .. } => interval::week_years(year),
+        _ => interval::years(year),
     }
 }
 
@@ -124,6 +125,7 @@ pub(crate) fn interval_of(year: Year, shape: Shape) -> Interval
     }
 }
 
+/// Whether a field is no `X`.
 fn is_known(part: Part) -> bool
     ensures { result ≡ parts.is_known part }
 {
@@ -133,6 +135,7 @@ fn is_known(part: Part) -> bool
     }
 }
 
+/// Whether no field behind the year is `X`.
 fn is_full(shape: Shape) -> bool
     ensures { result ≡ parts.is_full shape }
 {

@@ -1,5 +1,6 @@
-//! Laws of extents and bounds: public functions that do nothing, each with the law as its contract.
+//! Laws of extents, bounds and texts: public functions that do nothing, each with the law as its contract.
 ghost use Rattle.timex_dates.specs.Answers.{OneBounds, OneExtent};
+ghost use Rattle.timex_dates.specs.Printed.{OneText};
 
 /// The seconds that belong to a value have one extent.
 pub fn one_extent()
@@ -9,4 +10,9 @@ pub fn one_extent()
 /// A time has one answer.
 pub fn one_bounds()
     ensures { OneBounds }
+{}
+
+/// A second has one civil text.
+pub fn one_text()
+    ensures { OneText }
 {}

@@ -1,8 +1,8 @@
 //! Printing civil texts.
 ghost use Rattle.std.specs.Prelude.{◌≡◌, ℕ, ◌+◌, ◌-◌, ◌/◌, ◌%◌, ◌<◌, ◌≤◌, pos, neg_ℤ, ◌+ℤ◌, ◌-ℤ◌, ◌≤ℤ◌};
-ghost use Rattle.timex_value.specs.Civil.{IsDateOf};
-ghost use Rattle.timex_dates.specs.Seconds.{Holds, IsCivilSecond};
 ghost use Rattle.timex_dates.specs.Printed.{bytes_of, IsPrinted};
+ghost use Rattle.timex_dates.specs.Seconds.{Holds, IsCivilSecond};
+ghost use Rattle.timex_value.specs.Civil.{IsDateOf};
 
 use crate::CivilText;
 use jiff_core::civil::Date;
