@@ -27,7 +27,7 @@ loop-at-preserved c =
     record {
       names = knows_next tags at.at tag at.names c.add.new.names at.intervals inside known.names (subst (λ (t : TypedTag). AddsTag at.names t at.intervals c.add.new.names) item c.in_ok-add.ensures.added) known.count;
       count = rw (c.from-intervals.ensures, c.is_interval.ensures)
-      (subst (λ (t : TypedTag). at.intervals + bool_byte (is_interval t) ≡ length (filter_map interval_of (take (at.at + 1) tags))) (sym item) (count_next tags at.at tag at.intervals inside known.count));
+          (subst (λ (t : TypedTag). at.intervals + bool_byte (is_interval t) ≡ length (filter_map interval_of (take (at.at + 1) tags))) (sym item) (count_next tags at.at tag at.intervals inside known.count));
       few = one_more c.is_interval.result at.intervals at.at _ known.few c.from-intervals.ensures;
       taken = elim c.if-branch.branch [
         | then-branch w ↦ taken_by_names tags at.at at.distinct _ tag at.names c.in_ok-add.field-0 inside known.taken known.names taken w.if-branch.true (w.distinct-is ∙ w.min-distinct.ensures)
