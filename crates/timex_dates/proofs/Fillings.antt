@@ -12,7 +12,7 @@ use Rattle.timex_value.specs.declared.value.Calendar.{Calendar}
 use Rattle.timex_value.specs.Text.{IsYearWritten, IsShapeWritten}
 use Rattle.timex_value.specs.Filling.{CanBe, DigitCanBe, YearCanBe, HasDate, HasClock, HasWeek, IsClock, FitsYear, HasFilling}
 use Rattle.timex_value.specs.Values.{year_of, shape_of}
-use Rattle.timex_dates.specs.Valid.{HasDateParts, HasWeekParts, HasParts, HasKnownPart}
+use Rattle.timex_dates.specs.Valid.{HasYear, HasDateParts, HasWeekParts, HasQuarterPart, HasParts}
 use Rattle.std.proofs.Math.Logic.{∥∥₁_elim}
 use Rattle.std.proofs.Props.{props}
 
@@ -51,7 +51,7 @@ second_is : (s : ℕ) (h i : Part) → s ≤ 99 → HasClock h i (Known s) → s
 second_is s h i k f = omega (arith, part_is s f.2 k f.5, clock_bounds f.0 f.1 f.2 f.6)
 
 -- in a year that the shape fits
-parts_fit : (y : ℕ) (s : Shape) → IsShapeWritten s → FitsYear y s → HasParts y s
+parts_fit : (y : ℕ) (s : Shape) → IsShapeWritten s → FitsYear y s → HasParts (YearOf.Known y) s
 parts_fit y ShapeOf.Year w f = tt
 parts_fit y (ShapeOf.Month (Known m)) w f = subst (IsInRange 1 12) (part_is m f.0 w f.1) f.2
 parts_fit y (ShapeOf.Month Unknown) w f = tt
@@ -81,49 +81,105 @@ parts_fit y (ShapeOf.Second (Known m) (Known d) Unknown i s) w f = date_is y m d
 parts_fit y (ShapeOf.Second (Known m) Unknown h i s) w f = month_is y m Unknown w.0 f.0
 parts_fit y (ShapeOf.Second Unknown d h i s) w f = tt
 
+year_has : (year : Year) (s : Shape) → IsYearWritten year → HasFilling year s → HasYear year
+year_has (YearOf.Known y) s h f = subst (IsInRange 1 9999) (year_is y f.0 h f.1) f.2
+year_has (YearOf.Decade d) s h f = h
+year_has (YearOf.Century c) s h f = h
+year_has YearOf.Unknown s h f = tt
+
+-- the year has an X
+abbrev HasX : Year → Type 0
+HasX (YearOf.Known y) = ⊥
+HasX year = Unit {0}
+
+-- behind such a year nothing is known
+date_x : (year : Year) (m d h i s : Part) → HasX year → HasDateParts year m d h i s
+date_x (YearOf.Known y) m d h i s x = absurd x
+date_x (YearOf.Decade y) m d h i s x = tt
+date_x (YearOf.Century y) m d h i s x = tt
+date_x YearOf.Unknown m d h i s x = tt
+
+week_x : (year : Year) (w d : Part) → HasX year → HasWeekParts year w d
+week_x (YearOf.Known y) w d x = absurd x
+week_x (YearOf.Decade y) w d x = tt
+week_x (YearOf.Century y) w d x = tt
+week_x YearOf.Unknown w d x = tt
+
+quarter_x : (year : Year) (q : Part) → HasX year → HasQuarterPart year q
+quarter_x (YearOf.Known y) q x = absurd x
+quarter_x (YearOf.Decade y) q x = tt
+quarter_x (YearOf.Century y) q x = tt
+quarter_x YearOf.Unknown q x = tt
+
+parts_x : (year : Year) (s : Shape) → HasX year → HasParts year s
+parts_x year ShapeOf.Year x = tt
+parts_x year (ShapeOf.Month m) x = date_x year m Unknown Unknown Unknown Unknown x
+parts_x year (ShapeOf.Day m d) x = date_x year m d Unknown Unknown Unknown x
+parts_x year (ShapeOf.Week w) x = week_x year w Unknown x
+parts_x year (ShapeOf.Weekday w d) x = week_x year w d x
+parts_x year (ShapeOf.Quarter q) x = quarter_x year q x
+parts_x year (ShapeOf.Hour m d h) x = date_x year m d h Unknown Unknown x
+parts_x year (ShapeOf.Minute m d h i) x = date_x year m d h i Unknown x
+parts_x year (ShapeOf.Second m d h i s) x = date_x year m d h i s x
+
 -- in some year
-part_has : (year : Year) (s : Shape) → IsYearWritten year → IsShapeWritten s → HasFilling year s → HasKnownPart year s
-part_has (YearOf.Known y) s h w f =
-    let e = year_is y f.0 h f.1 in
-    (subst (IsInRange 1 9999) e f.2, parts_fit y s w (subst (λ z. FitsYear z s) e f.3))
-part_has (YearOf.Decade d) s h w f = h
-part_has (YearOf.Century c) s h w f = h
-part_has YearOf.Unknown s h w f = tt
+parts_has : (year : Year) (s : Shape) → IsYearWritten year → IsShapeWritten s → HasFilling year s → HasParts year s
+parts_has (YearOf.Known y) s h w f = parts_fit y s w (subst (λ z. FitsYear z s) (year_is y f.0 h f.1) f.3)
+parts_has (YearOf.Decade d) s h w f = parts_x (YearOf.Decade d) s tt
+parts_has (YearOf.Century c) s h w f = parts_x (YearOf.Century c) s tt
+parts_has YearOf.Unknown s h w f = parts_x YearOf.Unknown s tt
 
 -- what is known is one fact
-date_prop : (y : ℕ) (m d h i s : Part) → IsProp (HasDateParts y m d h i s)
-date_prop y Unknown d h i s = hlevel props
-date_prop y (Known m) Unknown h i s = hlevel props
-date_prop y (Known m) (Known d) Unknown i s = hlevel props
-date_prop y (Known m) (Known d) (Known h) Unknown s = hlevel props
-date_prop y (Known m) (Known d) (Known h) (Known i) Unknown = hlevel props
-date_prop y (Known m) (Known d) (Known h) (Known i) (Known s) = hlevel props
+year_prop : (year : Year) → IsProp (HasYear year)
+year_prop (YearOf.Known y) = hlevel props
+year_prop (YearOf.Decade d) = hlevel props
+year_prop (YearOf.Century c) = hlevel props
+year_prop YearOf.Unknown = hlevel props
 
-week_prop : (y : ℕ) (w d : Part) → IsProp (HasWeekParts y w d)
-week_prop y Unknown d = hlevel props
-week_prop y (Known w) Unknown = hlevel props
-week_prop y (Known w) (Known d) = hlevel props
+date_prop : (year : Year) (m d h i s : Part) → IsProp (HasDateParts year m d h i s)
+date_prop (YearOf.Known y) Unknown d h i s = hlevel props
+date_prop (YearOf.Known y) (Known m) Unknown h i s = hlevel props
+date_prop (YearOf.Known y) (Known m) (Known d) Unknown i s = hlevel props
+date_prop (YearOf.Known y) (Known m) (Known d) (Known h) Unknown s = hlevel props
+date_prop (YearOf.Known y) (Known m) (Known d) (Known h) (Known i) Unknown = hlevel props
+date_prop (YearOf.Known y) (Known m) (Known d) (Known h) (Known i) (Known s) = hlevel props
+date_prop (YearOf.Decade y) m d h i s = hlevel props
+date_prop (YearOf.Century y) m d h i s = hlevel props
+date_prop YearOf.Unknown m d h i s = hlevel props
 
-parts_prop : (y : ℕ) (s : Shape) → IsProp (HasParts y s)
-parts_prop y ShapeOf.Year = hlevel props
-parts_prop y (ShapeOf.Month m) = date_prop y m Unknown Unknown Unknown Unknown
-parts_prop y (ShapeOf.Day m d) = date_prop y m d Unknown Unknown Unknown
-parts_prop y (ShapeOf.Week w) = week_prop y w Unknown
-parts_prop y (ShapeOf.Weekday w d) = week_prop y w d
-parts_prop y (ShapeOf.Quarter (Known q)) = hlevel props
-parts_prop y (ShapeOf.Quarter Unknown) = hlevel props
-parts_prop y (ShapeOf.Hour m d h) = date_prop y m d h Unknown Unknown
-parts_prop y (ShapeOf.Minute m d h i) = date_prop y m d h i Unknown
-parts_prop y (ShapeOf.Second m d h i s) = date_prop y m d h i s
+week_prop : (year : Year) (w d : Part) → IsProp (HasWeekParts year w d)
+week_prop (YearOf.Known y) Unknown d = hlevel props
+week_prop (YearOf.Known y) (Known w) Unknown = hlevel props
+week_prop (YearOf.Known y) (Known w) (Known d) = hlevel props
+week_prop (YearOf.Decade y) w d = hlevel props
+week_prop (YearOf.Century y) w d = hlevel props
+week_prop YearOf.Unknown w d = hlevel props
 
-known_prop : (year : Year) (s : Shape) → IsProp (HasKnownPart year s)
-known_prop (YearOf.Known y) s = let each = parts_prop y s in hlevel (props, each)
-known_prop (YearOf.Decade d) s = hlevel props
-known_prop (YearOf.Century c) s = hlevel props
-known_prop YearOf.Unknown s = hlevel props
+quarter_prop : (year : Year) (q : Part) → IsProp (HasQuarterPart year q)
+quarter_prop (YearOf.Known y) Unknown = hlevel props
+quarter_prop (YearOf.Known y) (Known q) = hlevel props
+quarter_prop (YearOf.Decade y) q = hlevel props
+quarter_prop (YearOf.Century y) q = hlevel props
+quarter_prop YearOf.Unknown q = hlevel props
+
+parts_prop : (year : Year) (s : Shape) → IsProp (HasParts year s)
+parts_prop year ShapeOf.Year = hlevel props
+parts_prop year (ShapeOf.Month m) = date_prop year m Unknown Unknown Unknown Unknown
+parts_prop year (ShapeOf.Day m d) = date_prop year m d Unknown Unknown Unknown
+parts_prop year (ShapeOf.Week w) = week_prop year w Unknown
+parts_prop year (ShapeOf.Weekday w d) = week_prop year w d
+parts_prop year (ShapeOf.Quarter q) = quarter_prop year q
+parts_prop year (ShapeOf.Hour m d h) = date_prop year m d h Unknown Unknown
+parts_prop year (ShapeOf.Minute m d h i) = date_prop year m d h i Unknown
+parts_prop year (ShapeOf.Second m d h i s) = date_prop year m d h i s
 
 -- the known part of a calendar value
-pub has_part : (c : Calendar) → HasKnownPart (year_of c) (shape_of c)
-has_part c =
-    let each = known_prop (year_of c) (shape_of c) in
-    ∥∥₁_elim c.written each (λ w. ∥∥₁_elim c.valid each (λ f. part_has (year_of c) (shape_of c) w.0 w.1 f))
+pub has_year : (c : Calendar) → HasYear (year_of c)
+has_year c =
+    let each = year_prop (year_of c) in
+    ∥∥₁_elim c.written each (λ w. ∥∥₁_elim c.valid each (λ f. year_has (year_of c) (shape_of c) w.0 f))
+
+pub has_parts : (c : Calendar) → HasParts (year_of c) (shape_of c)
+has_parts c =
+    let each = parts_prop (year_of c) (shape_of c) in
+    ∥∥₁_elim c.written each (λ w. ∥∥₁_elim c.valid each (λ f. parts_has (year_of c) (shape_of c) w.0 w.1 f))

@@ -8,44 +8,37 @@ use Rattle.timex_value.specs.declared.shape.Shape.{Shape}
 use Rattle.timex_value.specs.declared.shape.Shape.TheVariants as ShapeOf
 use Rattle.timex_dates.specs.Sets.{InYears, InWeekYears, InMonth, InQuarter, InDay, InWeek, InWeekday, InHour, InMinute, InSecond}
 
--- the seconds of what is known before the first unknown of a month, a day, an hour, a minute and a second
-abbrev pub InDate : ℕ → Part → Part → Part → Part → Part → ℕ → Type 0
-InDate y Unknown d h i s = InYears (YearOf.Known y)
-InDate y (Known m) Unknown h i s = InMonth y m
-InDate y (Known m) (Known d) Unknown i s = InDay y m d
-InDate y (Known m) (Known d) (Known h) Unknown s = InHour y m d h
-InDate y (Known m) (Known d) (Known h) (Known i) Unknown = InMinute y m d h i
-InDate y (Known m) (Known d) (Known h) (Known i) (Known s) = InSecond y m d h i s
+-- the seconds of what stands before the first X in a year, a month, a day, an hour, a minute and a second
+abbrev pub InDate : Year → Part → Part → Part → Part → Part → ℕ → Type 0
+InDate (YearOf.Known y) (Known m) Unknown h i s = InMonth y m
+InDate (YearOf.Known y) (Known m) (Known d) Unknown i s = InDay y m d
+InDate (YearOf.Known y) (Known m) (Known d) (Known h) Unknown s = InHour y m d h
+InDate (YearOf.Known y) (Known m) (Known d) (Known h) (Known i) Unknown = InMinute y m d h i
+InDate (YearOf.Known y) (Known m) (Known d) (Known h) (Known i) (Known s) = InSecond y m d h i s
+InDate year m d h i s = InYears year
 
--- the seconds of what is known before the first unknown of a week and its day
-abbrev pub InWeekDate : ℕ → Part → Part → ℕ → Type 0
-InWeekDate y Unknown d = InWeekYears (YearOf.Known y)
-InWeekDate y (Known w) Unknown = InWeek y w
-InWeekDate y (Known w) (Known d) = InWeekday y w d
+-- the seconds of what stands before the first X in a year of weeks, a week and its day
+abbrev pub InWeekDate : Year → Part → Part → ℕ → Type 0
+InWeekDate (YearOf.Known y) (Known w) Unknown = InWeek y w
+InWeekDate (YearOf.Known y) (Known w) (Known d) = InWeekday y w d
+InWeekDate year w d = InWeekYears year
 
--- the seconds that belong to the known part, where the year is known; a field that the shape has not is unknown
-abbrev pub BelongsToYear : ℕ → Shape → ℕ → Type 0
-BelongsToYear y ShapeOf.Year = InYears (YearOf.Known y)
-BelongsToYear y (ShapeOf.Month m) = InDate y m Unknown Unknown Unknown Unknown
-BelongsToYear y (ShapeOf.Day m d) = InDate y m d Unknown Unknown Unknown
-BelongsToYear y (ShapeOf.Week w) = InWeekDate y w Unknown
-BelongsToYear y (ShapeOf.Weekday w d) = InWeekDate y w d
-BelongsToYear y (ShapeOf.Quarter (Known q)) = InQuarter y q
-BelongsToYear y (ShapeOf.Quarter Unknown) = InYears (YearOf.Known y)
-BelongsToYear y (ShapeOf.Hour m d h) = InDate y m d h Unknown Unknown
-BelongsToYear y (ShapeOf.Minute m d h i) = InDate y m d h i Unknown
-BelongsToYear y (ShapeOf.Second m d h i s) = InDate y m d h i s
+-- the seconds of what stands before the first X in a year and a quarter
+abbrev pub InQuarterDate : Year → Part → ℕ → Type 0
+InQuarterDate (YearOf.Known y) (Known q) = InQuarter y q
+InQuarterDate year q = InYears year
 
--- and where it has an X; the years of the two shapes of weeks are years of weeks
-abbrev pub BelongsToYears : Year → Shape → ℕ → Type 0
-BelongsToYears year (ShapeOf.Week w) = InWeekYears year
-BelongsToYears year (ShapeOf.Weekday w d) = InWeekYears year
-BelongsToYears year shape = InYears year
-
--- the seconds that belong to the known part of a value
+-- the seconds that belong to a value; a field that its shape has not is like one that is X
 abbrev pub Belongs : Year → Shape → ℕ → Type 0
-Belongs (YearOf.Known y) shape = BelongsToYear y shape
-Belongs year shape = BelongsToYears year shape
+Belongs year ShapeOf.Year = InYears year
+Belongs year (ShapeOf.Month m) = InDate year m Unknown Unknown Unknown Unknown
+Belongs year (ShapeOf.Day m d) = InDate year m d Unknown Unknown Unknown
+Belongs year (ShapeOf.Week w) = InWeekDate year w Unknown
+Belongs year (ShapeOf.Weekday w d) = InWeekDate year w d
+Belongs year (ShapeOf.Quarter q) = InQuarterDate year q
+Belongs year (ShapeOf.Hour m d h) = InDate year m d h Unknown Unknown
+Belongs year (ShapeOf.Minute m d h i) = InDate year m d h i Unknown
+Belongs year (ShapeOf.Second m d h i s) = InDate year m d h i s
 
 -- the field is no X
 abbrev pub is_known : Part → Bool

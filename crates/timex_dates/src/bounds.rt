@@ -3,7 +3,7 @@ ghost use Rattle.std.specs.Prelude.{option_map, ◌≡◌};
 ghost use Rattle.timex_dates.specs.Answers.{BoundsOf, CalendarBounds, IsCivil, ModifiedBounds};
 ghost use Rattle.timex_dates.specs.KnownParts as parts;
 ghost use Rattle.timex_dates.specs.KnownParts.{Belongs};
-ghost use Rattle.timex_dates.specs.Valid.{HasKnownPart};
+ghost use Rattle.timex_dates.specs.Valid.{HasParts, HasYear};
 ghost use Rattle.timex_value.specs.Values as values;
 
 use crate::interval::Interval;
@@ -13,7 +13,8 @@ use timex_value::{Calendar, Modifier, Shape, TimexKind, Value, Year};
 
 /// The bounds of the known part of a value.
 fn modified(modifier: Option<Modifier>, year: Year, shape: Shape) -> Bounds
-    requires part { HasKnownPart year shape }
+    requires year { HasYear year }
+    requires parts { HasParts year shape }
     ensures bounds { ModifiedBounds modifier (parts.is_whole year shape) (Belongs year shape) result }
     ensures civil { IsCivil result }
 {
@@ -37,11 +38,11 @@ fn modified(modifier: Option<Modifier>, year: Year, shape: Shape) -> Bounds
 }
 
 /// The year and the shape of a value, whose known part the calendar has.
-#[tactic(auto, using(crate::proofs::Fillings::has_part))]
 fn fields_of(calendar: &Calendar) -> (Year, Shape)
     ensures year { result.0 ≡ values.year_of calendar.now }
     ensures shape { result.1 ≡ values.shape_of calendar.now }
-    ensures part { HasKnownPart result.0 result.1 }
+    ensures known { HasYear result.0 }
+    ensures parts { HasParts result.0 result.1 }
 {
     (calendar.year(), calendar.shape())
 }

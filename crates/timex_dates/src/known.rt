@@ -1,11 +1,9 @@
 //! The known part of a value: what stands before its first `X`.
-ghost use Rattle.std.specs.Int.{IsInRange};
 ghost use Rattle.std.specs.Prelude.{◌≡◌, ◌<ℤ◌};
 ghost use Rattle.timex_dates.specs.KnownParts as parts;
-ghost use Rattle.timex_dates.specs.KnownParts.{Belongs, BelongsToYear, BelongsToYears, InDate, InWeekDate};
+ghost use Rattle.timex_dates.specs.KnownParts.{Belongs, InDate, InQuarterDate, InWeekDate};
 ghost use Rattle.timex_dates.specs.Seconds.{Extent, IsCivilSecond};
-ghost use Rattle.timex_dates.specs.Valid.{HasDateParts, HasKnownPart, HasParts, HasWeekParts, HasYear};
-ghost use Rattle.timex_value.specs.declared.shape.Shape.TheVariants as ShapeOf;
+ghost use Rattle.timex_dates.specs.Valid.{HasDateParts, HasParts, HasQuarterPart, HasWeekParts, HasYear};
 
 use crate::interval;
 use crate::interval::Interval;
@@ -14,69 +12,80 @@ use timex_value::{Part, Shape, Year};
 /// A field that is not known, or that the shape has not.
 const X: Part = Part::Unknown;
 
-/// The interval of what is known of a date and its time.
-fn date(year: u16, month: Part, day: Part, hour: Part, minute: Part, second: Part) -> Interval
-    requires year { IsInRange 1 9999 year }
+/// The interval of what stands before the first `X` in a date and its time.
+fn date(year: Year, month: Part, day: Part, hour: Part, minute: Part, second: Part) -> Interval
+    requires year { HasYear year }
     requires parts { HasDateParts year month day hour minute second }
     ensures extent { Extent (InDate year month day hour minute second) result.lo result.hi }
     ensures range { IsCivilSecond result.lo × IsCivilSecond result.hi }
 {
+    let Year::Known(y) = year else {
+        return interval::years(year);
+    };
     let Part::Known(m) = month else {
-        return interval::years(Year::Known(year));
+        return interval::years(year);
     };
     let Part::Known(d) = day else {
-        return interval::month(year, m);
+        return interval::month(y, m);
     };
     let Part::Known(h) = hour else {
-        return interval::day(year, m, d);
+        return interval::day(y, m, d);
     };
     let Part::Known(i) = minute else {
-        return interval::hour(year, m, d, h);
+        return interval::hour(y, m, d, h);
     };
     let Part::Known(s) = second else {
-        return interval::minute(year, m, d, h, i);
+        return interval::minute(y, m, d, h, i);
     };
-    interval::second(year, m, d, h, i, s)
+    interval::second(y, m, d, h, i, s)
 }
 
-/// The interval of what is known of a week and its day.
-fn week_date(year: u16, week: Part, day: Part) -> Interval
-    requires year { IsInRange 1 9999 year }
+/// The interval of what stands before the first `X` in a week and its day.
+fn week_date(year: Year, week: Part, day: Part) -> Interval
+    requires year { HasYear year }
     requires parts { HasWeekParts year week day }
     ensures extent { Extent (InWeekDate year week day) result.lo result.hi }
     ensures range { IsCivilSecond result.lo × IsCivilSecond result.hi }
 {
+    let Year::Known(y) = year else {
+        return interval::week_years(year);
+    };
     let Part::Known(w) = week else {
-        return interval::week_years(Year::Known(year));
+        return interval::week_years(year);
     };
     let Part::Known(d) = day else {
-        return interval::week(year, w);
+        return interval::week(y, w);
     };
-    interval::weekday(year, w, d)
+    interval::weekday(y, w, d)
 }
 
-/// The interval of what is known of a quarter.
-fn quarter_date(year: u16, quarter: Part) -> Interval
-    requires year { IsInRange 1 9999 year }
-    requires parts { HasParts year (ShapeOf.Quarter quarter) }
-    ensures extent { Extent (BelongsToYear year (ShapeOf.Quarter quarter)) result.lo result.hi }
+/// The interval of what stands before the first `X` in a quarter.
+fn quarter_date(year: Year, quarter: Part) -> Interval
+    requires year { HasYear year }
+    requires parts { HasQuarterPart year quarter }
+    ensures extent { Extent (InQuarterDate year quarter) result.lo result.hi }
     ensures range { IsCivilSecond result.lo × IsCivilSecond result.hi }
 {
-    match quarter {
-        Part::Known(q) => interval::quarter(year, q),
-        Part::Unknown => interval::years(Year::Known(year)),
-    }
+    let Year::Known(y) = year else {
+        return interval::years(year);
+    };
+    let Part::Known(q) = quarter else {
+        return interval::years(year);
+    };
+    interval::quarter(y, q)
 }
 
-/// The interval of the known part, where the year is known.
-fn of_year(year: u16, shape: Shape) -> Interval
-    requires year { IsInRange 1 9999 year }
+/// The interval of the known part of a value.
+#[tactic(auto, using(crate::proofs::Extents::extent_order))]
+pub(crate) fn interval_of(year: Year, shape: Shape) -> Interval
+    requires year { HasYear year }
     requires parts { HasParts year shape }
-    ensures extent { Extent (BelongsToYear year shape) result.lo result.hi }
+    ensures extent { Extent (Belongs year shape) result.lo result.hi }
+    ensures order { result.lo <ℤ result.hi }
     ensures range { IsCivilSecond result.lo × IsCivilSecond result.hi }
 {
     match shape {
-        Shape::Year => interval::years(Year::Known(year)),
+        Shape::Year => interval::years(year),
         Shape::Month { month } => date(year, month, X, X, X, X),
         Shape::Day { month, day } => date(year, month, day, X, X, X),
         Shape::Week { week } => week_date(year, week, X),
@@ -96,32 +105,6 @@ fn of_year(year: u16, shape: Shape) -> Interval
             minute,
             second,
         } => date(year, month, day, hour, minute, second),
-    }
-}
-
-/// The interval of the known part, where the year has an `X`.
-fn of_years(year: Year, shape: Shape) -> Interval
-    requires { HasYear year }
-    ensures extent { Extent (BelongsToYears year shape) result.lo result.hi }
-    ensures range { IsCivilSecond result.lo × IsCivilSecond result.hi }
-{
-    match shape {
-        Shape::Week { .. } | Shape::Weekday { .. } => interval::week_years(year),
-        _ => interval::years(year),
-    }
-}
-
-/// The interval of the known part.
-#[tactic(auto, using(crate::proofs::Extents::extent_order))]
-pub(crate) fn interval_of(year: Year, shape: Shape) -> Interval
-    requires { HasKnownPart year shape }
-    ensures extent { Extent (Belongs year shape) result.lo result.hi }
-    ensures order { result.lo <ℤ result.hi }
-    ensures range { IsCivilSecond result.lo × IsCivilSecond result.hi }
-{
-    match year {
-        Year::Known(y) => of_year(y, shape),
-        Year::Decade(_) | Year::Century(_) | Year::Unknown => of_years(year, shape),
     }
 }
 
