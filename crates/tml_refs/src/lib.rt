@@ -7,6 +7,8 @@ mod identify;
 mod laws;
 mod names;
 mod rules;
+#[cfg(test)]
+mod tests;
 
 pub use contents::{Counts, DocLink, Interval};
 pub use document::{Document, resolve};
