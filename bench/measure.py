@@ -102,6 +102,19 @@ def events_in_no_order(size):
         room -= len(part)
 
 
+def times(size):
+    """TIMEX3s, each with an identifier of its own: too many to be accepted."""
+    return numbered(b"", b'<TIMEX3 tid="t#" type="DATE" value="1998-W53-7"/>', size)
+
+
+def text_with_times(size):
+    """As many TIMEX3s as a document may have, and a text behind them."""
+    shapes = (b"1998", b"199X-02-29", b"1998-01-08", b"1998-Q3", b"1998-W53-7", b"XXXX-12-25", b"1998-01-08T18:30:00", b"P3D")
+    marks = b"".join(b'<TIMEX3 tid="t%d" type="DATE" value="%s"/>' % (k, shapes[k % len(shapes)]) for k in range(512))
+    text = one_text(size - len(marks))
+    return text[: len(FRONT)] + marks + text[len(FRONT) :]
+
+
 def signals_and_links(size):
     """SIGNALs, each referred to by a link of its own."""
     front = b'<EVENT eid="e" class="STATE"/><MAKEINSTANCE eiid="i" eventID="e"/>'
@@ -110,7 +123,8 @@ def signals_and_links(size):
 
 
 ROWS = [("spans", make) for make in (one_text, shortest_tags, one_tag, comments_and_references)]
-ROWS += [("check", make) for make in (one_text, deepest_nesting, deepest_of_long_names, shortest_tags, one_tag, events, events_in_no_order, signals_and_links)]
+ROWS += [("check", make) for make in (one_text, deepest_nesting, deepest_of_long_names, shortest_tags, one_tag, events, events_in_no_order, signals_and_links, times)]
+ROWS += [("dates", text_with_times)]
 
 
 def run(words):

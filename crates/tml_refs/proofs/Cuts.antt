@@ -8,38 +8,6 @@ pub none_cut : {A : Type 0} (before after : List A) (x : A) → [] ≡ before ++
 none_cut [] after x e = absurd cc
 none_cut (b ∷ before) after x e = absurd cc
 
--- a list with one element more, cut at that element or before it
-pub last_or_before : {A : Type 0} (xs before after : List A) (x y : A) → xs ++ x ∷ [] ≡ before ++ y ∷ after → ((xs ≡ before) × (x ≡ y)) ⊎ ((rest : List A) × (xs ≡ before ++ y ∷ rest))
-last_or_before [] [] after x y e = inl (refl, cc)
-last_or_before [] (b ∷ []) after x y e = absurd cc
-last_or_before [] (b ∷ c ∷ before) after x y e = absurd cc
-last_or_before (z ∷ xs) [] after x y e = inr (xs, cc)
-last_or_before (z ∷ xs) (b ∷ before) after x y e =
-    let head : z ≡ b = cc in
-    let tail : xs ++ x ∷ [] ≡ before ++ y ∷ after = cc in
-    elim (last_or_before xs before after x y tail) [ inl h ↦ inl (cc, h.1) | inr h ↦ inr (h.0, cc (h.1)) ]
-
--- a list cut twice: at one place, or at two
-pub two_cuts : {A : Type 0} (before other after rest : List A) (x y : A) → before ++ x ∷ after ≡ other ++ y ∷ rest
-    → ((before ≡ other) × (x ≡ y)) ⊎ ((mid : List A) × (other ≡ before ++ x ∷ mid)) ⊎ ((mid : List A) × (before ≡ other ++ y ∷ mid))
-two_cuts [] [] after rest x y e = inl (refl, cc)
-two_cuts [] (o ∷ other) after rest x y e = inr (inl (other, cc))
-two_cuts (b ∷ before) [] after rest x y e = inr (inr (before, cc))
-two_cuts (b ∷ before) (o ∷ other) after rest x y e =
-    let head : b ≡ o = cc in
-    let tail : before ++ x ∷ after ≡ other ++ y ∷ rest = cc in
-    elim (two_cuts before other after rest x y tail) [
-      | inl k ↦ inl (cc (k.0), k.1)
-      | inr (inl k) ↦ inr (inl (k.0, cc (k.1)))
-      | inr (inr k) ↦ inr (inr (k.0, cc (k.1)))
-    ]
-
-pub zip_append : {A B : Type 0} (R : A → B → Type 0) (xs more : List A) (ys others : List B) → AllZip R xs ys → AllZip R more others → AllZip R (xs ++ more) (ys ++ others)
-zip_append R [] more [] others h k = k
-zip_append R [] more (y ∷ ys) others h k = absurd h
-zip_append R (x ∷ xs) more [] others h k = absurd h
-zip_append R (x ∷ xs) more (y ∷ ys) others h k = (h.0, zip_append R xs more ys others h.1 k)
-
 pub zip_weaker : {A B : Type 0} (R S : A → B → Type 0) → ((x : A) (y : B) → R x y → S x y) → (xs : List A) (ys : List B) → AllZip R xs ys → AllZip S xs ys
 zip_weaker R S w [] [] h = tt
 zip_weaker R S w [] (y ∷ ys) h = absurd h

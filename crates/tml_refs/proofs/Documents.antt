@@ -18,7 +18,8 @@ use Rattle.tml_refs.specs.Kinds.{is_interval, is_tlink}
 use Rattle.tml_refs.specs.Resolved.{IsDocument, IsLinkOf, IsNamed, Resolved, interval_of, name_of}
 use Rattle.tml_refs.specs.Rules.{AreSound}
 use Rattle.tml_refs.specs.Tags.{has_id, id_of}
-use Rattle.tml_refs.proofs.Cuts.{any_inside, few, two_cuts}
+use Rattle.tml_refs.proofs.Cuts.{any_inside, few}
+use Rattle.tml_tree.proofs.Faults.{two_cuts}
 use Rattle.tml_refs.proofs.Ruling.{count_intervals, count_links}
 
 -- ---- limits

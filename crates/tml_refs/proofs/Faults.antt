@@ -6,7 +6,7 @@ use Rattle.tml_refs.specs.declared.rules.Rule.{Rule}
 use Rattle.tml_refs.specs.declared.rules.Rule.TheVariants.{DuplicateId, UnknownReference, TooManyIntervals, TooManyLinks}
 use Rattle.tml_refs.specs.Answers.{OneAnswers}
 use Rattle.tml_refs.specs.Rules.{FaultAt, HasRule, number}
-use Rattle.tml_refs.proofs.Cuts.{two_cuts}
+use Rattle.tml_tree.proofs.Faults.{two_cuts}
 
 -- the numbers tell the rules apart
 abbrev rule_of : ℕ → Rule

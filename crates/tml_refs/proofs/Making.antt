@@ -16,7 +16,8 @@ use Rattle.tml_refs.specs.Gathering.{Adds, AreFew, Gathers, IsLinkBy, one_if}
 use Rattle.tml_refs.specs.Kinds.{is_event, is_instance, is_timex, is_signal, is_tlink, is_alink, is_slink}
 use Rattle.tml_refs.specs.Owning.{Knows, number_in}
 use Rattle.tml_refs.specs.Resolved.{IsLinkOf, NamesAt, interval_of}
-use Rattle.tml_refs.proofs.Cuts.{count_more, zip_append, zip_weaker}
+use Rattle.tml_refs.proofs.Cuts.{count_more, zip_weaker}
+use Rattle.tml_types.proofs.Walks.{zip_append}
 use Rattle.tml_refs.proofs.Knowing.{filter_map_pushed}
 
 named : (all : List TypedTag) (names : List (List ℕ × Owners)) (e : LinkEnd) (i : ℕ) → Knows all names → number_in names e ≡ Some i → NamesAt (filter_map interval_of all) e i

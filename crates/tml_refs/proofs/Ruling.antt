@@ -19,7 +19,8 @@ use Rattle.tml_refs.specs.Owning.{Knows, is_lost}
 use Rattle.tml_refs.specs.Resolved.{IsLinkOf, interval_of}
 use Rattle.tml_refs.specs.Rules.{AreSound, HasFault, breaks, is_unknown, number, told}
 use Rattle.tml_refs.specs.Tags.{references_of}
-use Rattle.tml_refs.proofs.Cuts.{any_agree, last_or_before, none_cut, zip_length}
+use Rattle.tml_refs.proofs.Cuts.{any_agree, none_cut, zip_length}
+use Rattle.tml_tree.proofs.Paths.{last_or_before}
 
 -- ---- the first of the rules
 

@@ -18,7 +18,7 @@ use Rattle.tml_types.specs.Rules.{IsSound}
 use Rattle.tml_types.specs.Typing.{TypedAs}
 use Rattle.tml_types.specs.Whole.{has_rows, Types, FaultAt, told, HasFault, Adds}
 
-zip_append : {A B : Type 0} (R : A → B → Type 0) (xs xs' : List A) (ys ys' : List B) → AllZip R xs ys → AllZip R xs' ys' → AllZip R (xs ++ xs') (ys ++ ys')
+pub zip_append : {A B : Type 0} (R : A → B → Type 0) (xs xs' : List A) (ys ys' : List B) → AllZip R xs ys → AllZip R xs' ys' → AllZip R (xs ++ xs') (ys ++ ys')
 zip_append R [] xs' [] ys' h k = k
 zip_append R [] xs' (y ∷ ys) ys' h k = absurd h
 zip_append R (x ∷ xs) xs' [] ys' h k = absurd h

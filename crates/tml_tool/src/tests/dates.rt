@@ -2,6 +2,7 @@
 use super::{Row, check, check_made};
 use crate::Status;
 use std::alloc::{AllocError, Global};
+use std::process::Abort;
 use std::test::Fail;
 
 const DATES: &[&str] = &["dates", "d"];
@@ -241,6 +242,155 @@ const TABLE: &[(&str, &str, &str, &str)] = &[
     ("DATE", "1999-XX-32", "", "fault 13 BadDate 8"),
 ];
 
+/// The first and the 53rd week of 26 years, five of which have 53 weeks.
+const WEEKS: &[(&str, &str)] = &[
+    (
+        "1991-W01",
+        "exact 662601600 663206400 1990-12-31T00:00:00 1991-01-07T00:00:00",
+    ),
+    ("1991-W53", "fault 13 BadDate 8"),
+    (
+        "1992-W01",
+        "exact 694051200 694656000 1991-12-30T00:00:00 1992-01-06T00:00:00",
+    ),
+    (
+        "1992-W53",
+        "exact 725500800 726105600 1992-12-28T00:00:00 1993-01-04T00:00:00",
+    ),
+    (
+        "1993-W01",
+        "exact 726105600 726710400 1993-01-04T00:00:00 1993-01-11T00:00:00",
+    ),
+    ("1993-W53", "fault 13 BadDate 8"),
+    (
+        "1994-W01",
+        "exact 757555200 758160000 1994-01-03T00:00:00 1994-01-10T00:00:00",
+    ),
+    ("1994-W53", "fault 13 BadDate 8"),
+    (
+        "1995-W01",
+        "exact 789004800 789609600 1995-01-02T00:00:00 1995-01-09T00:00:00",
+    ),
+    ("1995-W53", "fault 13 BadDate 8"),
+    (
+        "1996-W01",
+        "exact 820454400 821059200 1996-01-01T00:00:00 1996-01-08T00:00:00",
+    ),
+    ("1996-W53", "fault 13 BadDate 8"),
+    (
+        "1997-W01",
+        "exact 851904000 852508800 1996-12-30T00:00:00 1997-01-06T00:00:00",
+    ),
+    ("1997-W53", "fault 13 BadDate 8"),
+    (
+        "1998-W01",
+        "exact 883353600 883958400 1997-12-29T00:00:00 1998-01-05T00:00:00",
+    ),
+    (
+        "1998-W53",
+        "exact 914803200 915408000 1998-12-28T00:00:00 1999-01-04T00:00:00",
+    ),
+    (
+        "1999-W01",
+        "exact 915408000 916012800 1999-01-04T00:00:00 1999-01-11T00:00:00",
+    ),
+    ("1999-W53", "fault 13 BadDate 8"),
+    (
+        "2000-W01",
+        "exact 946857600 947462400 2000-01-03T00:00:00 2000-01-10T00:00:00",
+    ),
+    ("2000-W53", "fault 13 BadDate 8"),
+    (
+        "2001-W01",
+        "exact 978307200 978912000 2001-01-01T00:00:00 2001-01-08T00:00:00",
+    ),
+    ("2001-W53", "fault 13 BadDate 8"),
+    (
+        "2002-W01",
+        "exact 1009756800 1010361600 2001-12-31T00:00:00 2002-01-07T00:00:00",
+    ),
+    ("2002-W53", "fault 13 BadDate 8"),
+    (
+        "2003-W01",
+        "exact 1041206400 1041811200 2002-12-30T00:00:00 2003-01-06T00:00:00",
+    ),
+    ("2003-W53", "fault 13 BadDate 8"),
+    (
+        "2004-W01",
+        "exact 1072656000 1073260800 2003-12-29T00:00:00 2004-01-05T00:00:00",
+    ),
+    (
+        "2004-W53",
+        "exact 1104105600 1104710400 2004-12-27T00:00:00 2005-01-03T00:00:00",
+    ),
+    (
+        "2005-W01",
+        "exact 1104710400 1105315200 2005-01-03T00:00:00 2005-01-10T00:00:00",
+    ),
+    ("2005-W53", "fault 13 BadDate 8"),
+    (
+        "2006-W01",
+        "exact 1136160000 1136764800 2006-01-02T00:00:00 2006-01-09T00:00:00",
+    ),
+    ("2006-W53", "fault 13 BadDate 8"),
+    (
+        "2007-W01",
+        "exact 1167609600 1168214400 2007-01-01T00:00:00 2007-01-08T00:00:00",
+    ),
+    ("2007-W53", "fault 13 BadDate 8"),
+    (
+        "2008-W01",
+        "exact 1199059200 1199664000 2007-12-31T00:00:00 2008-01-07T00:00:00",
+    ),
+    ("2008-W53", "fault 13 BadDate 8"),
+    (
+        "2009-W01",
+        "exact 1230508800 1231113600 2008-12-29T00:00:00 2009-01-05T00:00:00",
+    ),
+    (
+        "2009-W53",
+        "exact 1261958400 1262563200 2009-12-28T00:00:00 2010-01-04T00:00:00",
+    ),
+    (
+        "2010-W01",
+        "exact 1262563200 1263168000 2010-01-04T00:00:00 2010-01-11T00:00:00",
+    ),
+    ("2010-W53", "fault 13 BadDate 8"),
+    (
+        "2011-W01",
+        "exact 1294012800 1294617600 2011-01-03T00:00:00 2011-01-10T00:00:00",
+    ),
+    ("2011-W53", "fault 13 BadDate 8"),
+    (
+        "2012-W01",
+        "exact 1325462400 1326067200 2012-01-02T00:00:00 2012-01-09T00:00:00",
+    ),
+    ("2012-W53", "fault 13 BadDate 8"),
+    (
+        "2013-W01",
+        "exact 1356912000 1357516800 2012-12-31T00:00:00 2013-01-07T00:00:00",
+    ),
+    ("2013-W53", "fault 13 BadDate 8"),
+    (
+        "2014-W01",
+        "exact 1388361600 1388966400 2013-12-30T00:00:00 2014-01-06T00:00:00",
+    ),
+    ("2014-W53", "fault 13 BadDate 8"),
+    (
+        "2015-W01",
+        "exact 1419811200 1420416000 2014-12-29T00:00:00 2015-01-05T00:00:00",
+    ),
+    (
+        "2015-W53",
+        "exact 1451260800 1451865600 2015-12-28T00:00:00 2016-01-04T00:00:00",
+    ),
+    (
+        "2016-W01",
+        "exact 1451865600 1452470400 2016-01-04T00:00:00 2016-01-11T00:00:00",
+    ),
+    ("2016-W53", "fault 13 BadDate 8"),
+];
+
 /// A document with one time.
 fn time_of(alloc: Global, kind: &str, value: &str, modifier: &str) -> Result<Vec<u8>, AllocError> {
     let mut doc = Vec::from_slice(alloc, b"<TimeML><TIMEX3 tid=\"t1\" type=\"")?;
@@ -253,22 +403,33 @@ fn time_of(alloc: Global, kind: &str, value: &str, modifier: &str) -> Result<Vec
     Ok(doc)
 }
 
+/// What `dates` prints of a document with the time `t1`: its line behind the name, or its fault.
+fn answers(rt: &(impl Abort + AllocGlobal), doc: Vec<u8>, answer: &str) -> Result<(), Fail> {
+    let fault = answer.starts_with("fault");
+    let front: &[u8] = if fault { b"" } else { b"t1 " };
+    let status = if fault {
+        Status::DocFault
+    } else {
+        Status::Done
+    };
+    let mut text = Vec::from_slice(rt.alloc(), front)?;
+    text.extend_from_slice(answer.as_bytes())?;
+    text.push(b'\n')?;
+    check_made(rt, DATES, doc, status, text.as_slice())
+}
+
 #[test]
 fn values_have_their_intervals(rt: HostRuntime) -> Result<(), Fail> {
-    let alloc = rt.alloc();
     for (kind, value, modifier, answer) in TABLE.iter() {
-        let doc = time_of(alloc, kind, value, modifier)?;
-        let fault = answer.starts_with("fault");
-        let front: &[u8] = if fault { b"" } else { b"t1 " };
-        let status = if fault {
-            Status::DocFault
-        } else {
-            Status::Done
-        };
-        let mut text = Vec::from_slice(alloc, front)?;
-        text.extend_from_slice(answer.as_bytes())?;
-        text.push(b'\n')?;
-        check_made(&rt, DATES, doc, status, text.as_slice())?;
+        answers(&rt, time_of(rt.alloc(), kind, value, modifier)?, answer)?;
+    }
+    Ok(())
+}
+
+#[test]
+fn weeks_lie_as_the_standard_says(rt: HostRuntime) -> Result<(), Fail> {
+    for (value, answer) in WEEKS.iter() {
+        answers(&rt, time_of(rt.alloc(), "DATE", value, "")?, answer)?;
     }
     Ok(())
 }
