@@ -1,46 +1,51 @@
 -- Counts of a duration are read in one way.
-use Rattle.std.proofs.Common.{◌≡◌, ◌≢◌, ℕ, ◌+◌, Bool, true, false, cond, ◌&&◌, ◌||◌, ◌==◌, if◌then◌else◌, List, [], ◌∷◌, ◌++◌, length, take, drop, append_assoc, one-add, refl, sym, ap, ◌∙◌, subst, arith}
+use Rattle.std.proofs.Common.{◌≡◌, ◌≢◌, ℕ, ◌+◌, ◌<◌, Bool, true, false, cond, ◌||◌, ◌==◌, if◌then◌else◌, List, [], ◌∷◌, ◌++◌, length, take, drop, append_assoc, one-add, refl, sym, ap, ◌∙◌, subst, arith}
+use Rattle.std.proofs.lemmas.Bool.Decides.{nat_tests}
 use Rattle.std.proofs.lemmas.List.{take_at, drop_at, take-append-drop}
-use Rattle.std.specs.List.{prefix_len, list_all}
+use Rattle.std.specs.List.{prefix_len}
 use Rattle.std.specs.Int.{IsInRange}
-use Rattle.timex_value.specs.Durations.{is_digit, value_of, CountThen, ReadsCount}
+use Rattle.std.specs.Char.{is_ascii_digit, digit_value}
+use Rattle.std.specs.Str.Parse.{AllDigits, digits_value}
+use Rattle.timex_value.specs.Durations.{CountThen, ReadsCount}
 use Rattle.timex_value.specs.declared.length.Count.{Count}
 use Rattle.timex_value.specs.declared.length.Count.TheVariants.{Absent, Number, Unknown}
 
-both : (a b : Bool) → (a && b) ≡ true → (a ≡ true) × (b ≡ true)
-both true true e = (refl, refl)
-both true false e = absurd cc
-both false b e = absurd cc
+-- a digit, by its value and by the test of a byte
+digit_is : (d : ℕ) → digit_value d < 10 → is_ascii_digit d ≡ true
+digit_is d h = grind (arith, nat_tests)
+
+is_digit : (d : ℕ) → is_ascii_digit d ≡ true → digit_value d < 10
+is_digit d e = grind (arith, nat_tests)
 
 -- the longest front of digits has digits alone
-pub digits_pass : (xs : List ℕ) → list_all is_digit (take (prefix_len is_digit xs) xs) ≡ true
-digits_pass [] = refl
-digits_pass (x ∷ xs) = elim (is_digit x) as (λ b. is_digit x ≡ b → list_all is_digit (take (cond b (1 + prefix_len is_digit xs) 0) (x ∷ xs)) ≡ true) [
-  | true ↦ λ e. rw (one-add (prefix_len is_digit xs), e) (digits_pass xs)
-  | false ↦ λ e. refl
+pub digits_pass : (xs : List ℕ) → AllDigits 10 (take (prefix_len is_ascii_digit xs) xs)
+digits_pass [] = tt
+digits_pass (x ∷ xs) = elim (is_ascii_digit x) as (λ b. is_ascii_digit x ≡ b → AllDigits 10 (take (cond b (1 + prefix_len is_ascii_digit xs) 0) (x ∷ xs))) [
+  | true ↦ λ e. rw (one-add (prefix_len is_ascii_digit xs)) (is_digit x e, digits_pass xs)
+  | false ↦ λ e. tt
 ] refl
 
 -- the longest front of digits ends at a byte that is none
-pub digits_end : (xs : List ℕ) (u : ℕ) (rest : List ℕ) → list_all is_digit xs ≡ true → is_digit u ≡ false → prefix_len is_digit (xs ++ (u ∷ rest)) ≡ length xs
+pub digits_end : (xs : List ℕ) (u : ℕ) (rest : List ℕ) → AllDigits 10 xs → is_ascii_digit u ≡ false → prefix_len is_ascii_digit (xs ++ (u ∷ rest)) ≡ length xs
 digits_end [] u rest h n = rw n refl
-digits_end (x ∷ xs) u rest h n = let s = both (is_digit x) (list_all is_digit xs) h in rw (s.0, digits_end xs u rest s.1 n) (omega arith)
+digits_end (x ∷ xs) u rest h n = rw (digit_is x h.0, digits_end xs u rest h.1 n) (omega arith)
 
 -- a number and its unit are the longest front of digits and what follows it
-pub number_stands : (u n : ℕ) (text rest : List ℕ) → is_digit u ≡ false → CountThen u (Number n) text rest
-    → IsInRange 1 9 (prefix_len is_digit text) × (drop (prefix_len is_digit text) text ≡ u ∷ rest) × (n ≡ value_of (take (prefix_len is_digit text) text))
+pub number_stands : (u n : ℕ) (text rest : List ℕ) → is_ascii_digit u ≡ false → CountThen u (Number n) text rest
+    → IsInRange 1 9 (prefix_len is_ascii_digit text) × (drop (prefix_len is_ascii_digit text) text ≡ u ∷ rest) × (n ≡ digits_value 10 (take (prefix_len is_ascii_digit text) text))
 number_stands u n text rest hu h =
     let digits = h.1.0 in
     let e : text ≡ digits ++ (u ∷ rest) = h.2 ∙ (ap (λ (x : List ℕ). x ++ rest) h.1.4 ∙ append_assoc digits (u ∷ []) rest) in
-    let len : prefix_len is_digit text ≡ length digits = ap (λ (x : List ℕ). prefix_len is_digit x) e ∙ digits_end digits u rest h.1.1 hu in
+    let len : prefix_len is_ascii_digit text ≡ length digits = ap (λ (x : List ℕ). prefix_len is_ascii_digit x) e ∙ digits_end digits u rest h.1.1 hu in
     rw (len, e, take_at digits (u ∷ rest) (length digits) refl, drop_at digits (u ∷ rest) (length digits) refl) (h.1.2, refl, h.1.3)
 
 -- a longest front of digits, not too long, and the unit that follows it
 pub number_is : (u n : ℕ) (text digits back rest : List ℕ)
-    → digits ≡ take (prefix_len is_digit text) text → back ≡ drop (prefix_len is_digit text) text
-    → IsInRange 1 9 (length digits) → n ≡ value_of digits → back ≡ u ∷ rest
+    → digits ≡ take (prefix_len is_ascii_digit text) text → back ≡ drop (prefix_len is_ascii_digit text) text
+    → IsInRange 1 9 (length digits) → n ≡ digits_value 10 digits → back ≡ u ∷ rest
     → CountThen u (Number n) text rest
 number_is u n text digits back rest front behind few value e =
-    let whole : text ≡ digits ++ back = rw (front, behind) (sym (take-append-drop (prefix_len is_digit text) text)) in
+    let whole : text ≡ digits ++ back = rw (front, behind) (sym (take-append-drop (prefix_len is_ascii_digit text) text)) in
     (digits ++ (u ∷ []), (digits, rw front (digits_pass text), few, value, refl), whole ∙ (ap (λ (x : List ℕ). digits ++ x) e ∙ sym (append_assoc digits (u ∷ []) rest)))
 
 -- no count stands there: the unit has no X before it, and no number
@@ -58,17 +63,17 @@ none_stands u text no_x no_number = record {
 
 -- digits and X
 abbrev pub is_mark : ℕ → Bool
-is_mark b = is_digit b || (b == 88)
+is_mark b = is_ascii_digit b || (b == 88)
 
 -- the first byte that is neither a digit nor X, and 0 where there is none
 unfoldable pub unit_at : List ℕ → ℕ
 unit_at [] = 0
 unit_at (b ∷ text) = if is_mark b then unit_at text else b
 
-unit_past : (digits text : List ℕ) → list_all is_digit digits ≡ true → unit_at (digits ++ text) ≡ unit_at text
+unit_past : (digits text : List ℕ) → AllDigits 10 digits → unit_at (digits ++ text) ≡ unit_at text
 unfolding unit_at
 unit_past [] text h = refl
-unit_past (d ∷ digits) text h = let s = both (is_digit d) (list_all is_digit digits) h in rw s.0 (unit_past digits text s.1)
+unit_past (d ∷ digits) text h = rw (digit_is d h.0) (unit_past digits text h.1)
 
 unit_here : (u : ℕ) (rest : List ℕ) → is_mark u ≡ false → unit_at (u ∷ rest) ≡ u
 unfolding unit_at
@@ -120,15 +125,15 @@ reads_count u c text rest m h end = record {
 pub tail_is : {a b : ℕ} {xs ys : List ℕ} → (a ∷ xs) ≡ (b ∷ ys) → xs ≡ ys
 tail_is e = cc
 
-x_or_number : (u n : ℕ) (text r s : List ℕ) → is_digit u ≡ false → CountThen u (Number n) text r → CountThen u Unknown text s → ⊥
+x_or_number : (u n : ℕ) (text r s : List ℕ) → is_ascii_digit u ≡ false → CountThen u (Number n) text r → CountThen u Unknown text s → ⊥
 x_or_number u n text r s m h k =
     let p = number_stands u n text r m h in
     let q : text ≡ 88 ∷ u ∷ s = k.2 ∙ ap (λ (x : List ℕ). x ++ s) k.1 in
-    let none : prefix_len is_digit text ≡ 0 = ap (λ (x : List ℕ). prefix_len is_digit x) q in
+    let none : prefix_len is_ascii_digit text ≡ 0 = ap (λ (x : List ℕ). prefix_len is_ascii_digit x) q in
     omega arith
 
 -- what is read is all that can stand there
-pub same_count : (u : ℕ) (c d : Count) (text r s : List ℕ) → is_mark u ≡ false → is_digit u ≡ false
+pub same_count : (u : ℕ) (c d : Count) (text r s : List ℕ) → is_mark u ≡ false → is_ascii_digit u ≡ false
     → ReadsCount u c text r → CountThen u d text s → unit_at s ≢ u → (c ≡ d) × (r ≡ s)
 same_count u Absent Absent text r s m n h k end = (refl, sym (absent_then u text r h.then) ∙ absent_then u text s k)
 same_count u Absent (Number b) text r s m n h k end = absurd (no_number b (h.other refl (Number b) s k))

@@ -1,27 +1,16 @@
 -- Texts of durations.
-use Rattle.std.specs.Prelude.{◌≡◌, ℕ, ◌+◌, ◌-◌, ◌*◌, ◌⊎◌, Bool, true, false, ◌&&◌, ◌||◌, nat_le, List, [], ◌∷◌, ◌++◌, length, IsTrue, IsFalse}
+use Rattle.std.specs.Prelude.{◌≡◌, ℕ, ◌⊎◌, Bool, true, false, ◌||◌, List, [], ◌∷◌, ◌++◌, length, IsTrue, IsFalse}
 use Rattle.std.specs.Int.{IsInRange}
-use Rattle.std.specs.List.{list_all}
+use Rattle.std.specs.Str.Parse.{AllDigits, digits_value}
 use Rattle.timex_value.specs.declared.length.Count.{Count}
 use Rattle.timex_value.specs.declared.length.Count.TheVariants.{Absent, Number, Unknown}
 use Rattle.timex_value.specs.declared.length.Length.{Length}
-
-abbrev pub is_digit : ℕ → Bool
-is_digit b = nat_le 48 b && nat_le b 57
-
--- the number that digits write behind n
-unfoldable pub value_after : ℕ → List ℕ → ℕ
-value_after n [] = n
-value_after n (b ∷ digits) = value_after (n * 10 + (b - 48)) digits
-
-abbrev pub value_of : List ℕ → ℕ
-value_of digits = value_after 0 digits
 
 -- a count with its unit: nothing, or one to nine digits and the unit, or X and the unit
 abbrev pub Counts : ℕ → Count → List ℕ → Type 0
 Counts unit Absent text = text ≡ []
 Counts unit (Number n) text =
-    (digits : List ℕ) × IsTrue (list_all is_digit digits) × IsInRange 1 9 (length digits) × (n ≡ value_of digits)
+    (digits : List ℕ) × AllDigits 10 digits × IsInRange 1 9 (length digits) × (n ≡ digits_value 10 digits)
     × (text ≡ digits ++ (unit ∷ []))
 Counts unit Unknown text = text ≡ 88 ∷ unit ∷ []
 
@@ -40,10 +29,12 @@ abbrev pub ClockThen : Count → Count → Count → List ℕ → List ℕ → T
 ClockThen hours minutes seconds text rest =
     (a : List ℕ) × (b : List ℕ) × CountThen 72 hours text a × CountThen 77 minutes a b × CountThen 83 seconds b rest
 
+-- a number or an X is there
 abbrev pub is_written : Count → Bool
 is_written Absent = false
 is_written count = true
 
+-- one count of a clock at least is written
 abbrev pub has_clock : Count → Count → Count → Bool
 has_clock hours minutes seconds = is_written hours || is_written minutes || is_written seconds
 

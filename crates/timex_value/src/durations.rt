@@ -1,6 +1,8 @@
 //! Reading durations.
-ghost use Rattle.std.specs.Prelude.{◌≡◌, ◌≢◌, ◌≤◌, ◌∷◌, ℕ, List as ListOf, length as length_of, IsTrue, IsFalse, MatchOption};
-ghost use Rattle.std.specs.List.{prefix_len, list_all};
+ghost use Rattle.std.specs.Prelude.{◌≡◌, ◌≢◌, ◌≤◌, ◌∷◌, ℕ, List as ListOf, length as length_of, IsFalse, MatchOption};
+ghost use Rattle.std.specs.Char.{is_ascii_digit};
+ghost use Rattle.std.specs.List.{prefix_len};
+ghost use Rattle.std.specs.Str.Parse.{AllDigits, digits_value};
 ghost use Rattle.timex_value.specs.Durations as durations;
 ghost use Rattle.timex_value.specs.Durations.{CountThen, ReadsCount, ClockText, SpellsLength};
 ghost use Rattle.timex_value.specs.declared.length.Count.TheVariants as count;
@@ -11,16 +13,16 @@ use crate::{Count, Length};
 
 fn digits_len(bytes: &[u8]) -> usize
     ensures within { result ≤ length_of bytes.now }
-    ensures len { result ≡ prefix_len durations.is_digit bytes.now }
+    ensures len { result ≡ prefix_len is_ascii_digit bytes.now }
 {
     bytes.iter().take_while(|b| b.is_ascii_digit()).count()
 }
 
 /// The number of at most nine digits.
 fn number(digits: &[u8]) -> u32
-    requires digits { IsTrue (list_all durations.is_digit digits.now) }
+    requires digits { AllDigits 10 digits.now }
     requires few { length_of digits.now ≤ 9 }
-    ensures { result ≡ durations.value_of digits.now }
+    ensures { result ≡ digits_value 10 digits.now }
 {
     let mut n = 0u32;
     for b in digits {
@@ -41,7 +43,7 @@ fn after(byte: u8, text: &[u8]) -> Option<&[u8]>
 
 /// One to nine digits with their unit in front of a text, and the rest.
 fn number_at(unit: u8, text: &[u8]) -> Option<(u32, &[u8])>
-    requires { IsFalse (durations.is_digit unit) }
+    requires { IsFalse (is_ascii_digit unit) }
     ensures { MatchOption result ((n : ℕ) (rest : ListOf ℕ) → CountThen unit (count.Number n) text.now rest → ⊥) (λ r. CountThen unit (count.Number r.0) text.now r.1.now) }
 {
     let (digits, rest) = text.split_at(digits_len(text));
@@ -64,7 +66,7 @@ fn unknown_at(unit: u8, text: &[u8]) -> Option<&[u8]>
 
 /// A count with its unit in front of a text, and the rest.
 fn count_at(unit: u8, text: &[u8]) -> (Count, &[u8])
-    requires { IsFalse (durations.is_digit unit) }
+    requires { IsFalse (is_ascii_digit unit) }
     ensures { ReadsCount unit result.0 text.now result.1.now }
 {
     if let Some(rest) = unknown_at(unit, text) {

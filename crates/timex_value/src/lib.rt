@@ -1,4 +1,4 @@
-//! Values of TIMEX3.
+//! Times of TIMEX3: their kinds and modifiers, and what their values say by ISO 8601.
 #![tactic(auto)]
 
 mod civil;

@@ -1,7 +1,7 @@
-use Rattle.std.proofs.Common.{◌≡◌, ◌<◌, ◌^◌, drop}
-use Rattle.timex_value.specs.Durations.{value_after, value_of}
+use Rattle.std.proofs.Common.{◌≡◌, take}
+use Rattle.std.specs.Str.Parse.{digits_value}
 use Rattle.timex_value.proofs.durations.number.Given as goal
 
--- the digits that are left complete the number
+-- the number of the digits so far
 abbrev pub invariant-loop-b : goal.invariant-loop-b
-invariant-loop-b l = (value_after l.n (drop l.b-index l.digits) ≡ value_of l.digits) × (l.n < 10 ^ l.b-index)
+invariant-loop-b l = l.n ≡ digits_value 10 (take l.b-index l.digits)
