@@ -132,23 +132,20 @@ x_or_number u n text r s m h k =
     let none : prefix_len is_ascii_digit text ≡ 0 = ap (λ (x : List ℕ). prefix_len is_ascii_digit x) q in
     omega arith
 
--- what is read is all that can stand there
-pub same_count : (u : ℕ) (c d : Count) (text r s : List ℕ) → is_mark u ≡ false → is_ascii_digit u ≡ false
-    → ReadsCount u c text r → CountThen u d text s → unit_at s ≢ u → (c ≡ d) × (r ≡ s)
-same_count u Absent Absent text r s m n h k end = (refl, sym (absent_then u text r h.then) ∙ absent_then u text s k)
-same_count u Absent (Number b) text r s m n h k end = absurd (no_number b (h.other refl (Number b) s k))
-same_count u Absent Unknown text r s m n h k end = absurd (no_x (h.other refl Unknown s k))
-same_count u (Number a) Absent text r s m n h k end =
-    absurd (end (ap unit_at (sym (absent_then u text s k)) ∙ unit_of_count u (Number a) text r m h.then (no_number a)))
-same_count u (Number a) (Number b) text r s m n h k end =
+-- a count is read in one way
+pub same_count : (u : ℕ) (c d : Count) (text r s : List ℕ) → is_ascii_digit u ≡ false → ReadsCount u c text r → ReadsCount u d text s → (c ≡ d) × (r ≡ s)
+same_count u Absent Absent text r s n h k = (refl, sym (absent_then u text r h.then) ∙ absent_then u text s k.then)
+same_count u Absent (Number b) text r s n h k = absurd (no_number b (h.other refl (Number b) s k.then))
+same_count u Absent Unknown text r s n h k = absurd (no_x (h.other refl Unknown s k.then))
+same_count u (Number a) Absent text r s n h k = absurd (no_number a (k.other refl (Number a) r h.then))
+same_count u (Number a) (Number b) text r s n h k =
     let p = number_stands u a text r n h.then in
-    let q = number_stands u b text s n k in
+    let q = number_stands u b text s n k.then in
     (ap Number (p.2 ∙ sym q.2), tail_is (sym p.1 ∙ q.1))
-same_count u (Number a) Unknown text r s m n h k end = absurd (x_or_number u a text r s n h.then k)
-same_count u Unknown Absent text r s m n h k end =
-    absurd (end (ap unit_at (sym (absent_then u text s k)) ∙ unit_of_count u Unknown text r m h.then no_x))
-same_count u Unknown (Number b) text r s m n h k end = absurd (x_or_number u b text s r n k h.then)
-same_count u Unknown Unknown text r s m n h k end =
+same_count u (Number a) Unknown text r s n h k = absurd (x_or_number u a text r s n h.then k.then)
+same_count u Unknown Absent text r s n h k = absurd (no_x (k.other refl Unknown r h.then))
+same_count u Unknown (Number b) text r s n h k = absurd (x_or_number u b text s r n k.then h.then)
+same_count u Unknown Unknown text r s n h k =
     let p : text ≡ 88 ∷ u ∷ r = h.then.2 ∙ ap (λ (x : List ℕ). x ++ r) h.then.1 in
-    let q : text ≡ 88 ∷ u ∷ s = k.2 ∙ ap (λ (x : List ℕ). x ++ s) k.1 in
+    let q : text ≡ 88 ∷ u ∷ s = k.then.2 ∙ ap (λ (x : List ℕ). x ++ s) k.then.1 in
     (refl, tail_is (tail_is (sym p ∙ q)))

@@ -1,6 +1,6 @@
 -- A duration is read in one way.
 use Rattle.std.proofs.Common.{◌≡◌, ◌≢◌, inl, inr, ℕ, Bool, true, false, ◌||◌, List, [], ◌∷◌, refl, sym, ◌∙◌, subst, arith}
-use Rattle.timex_value.specs.Durations.{CountThen, ReadsCount, DateThen, ClockThen, ClockText, SpellsLength, is_written, has_clock}
+use Rattle.timex_value.specs.Durations.{ReadsCount, DateThen, ClockThen, ClockText, SpellsLength, is_written, has_clock}
 use Rattle.timex_value.specs.declared.length.Count.{Count}
 use Rattle.timex_value.specs.declared.length.Count.TheVariants.{Absent, Number, Unknown}
 use Rattle.timex_value.specs.declared.length.Length.{Length}
@@ -26,31 +26,65 @@ pub past_date : (h m s : Count) (text : List ℕ) → ClockText h m s text → I
 past_date h m s text (inl k) = rw k.1 none_past
 past_date h m s text (inr k) = rw k.1.1 (clock_past k.1.0)
 
--- the counts of a date that are read are all that can stand there
-pub date_read : (y m w d y2 m2 w2 d2 : Count) (text a b c r s : List ℕ)
-    → ReadsCount 89 y text a → ReadsCount 77 m a b → ReadsCount 87 w b c → ReadsCount 68 d c r
-    → DateThen y2 m2 w2 d2 text s → IsPastDate s
+-- the counts of a date are read from left to right
+abbrev pub ReadsDate : Count → Count → Count → Count → List ℕ → List ℕ → Type 0
+ReadsDate years months weeks days text rest =
+    (a : List ℕ) × (b : List ℕ) × (c : List ℕ)
+    × ReadsCount 89 years text a × ReadsCount 77 months a b × ReadsCount 87 weeks b c × ReadsCount 68 days c rest
+
+-- and those of a clock
+abbrev pub ReadsClock : Count → Count → Count → List ℕ → List ℕ → Type 0
+ReadsClock hours minutes seconds text rest =
+    (a : List ℕ) × (b : List ℕ) × ReadsCount 72 hours text a × ReadsCount 77 minutes a b × ReadsCount 83 seconds b rest
+
+-- the counts of a date are read as they are written, where no unit of theirs follows
+date_counts : (y m w d : Count) (text rest : List ℕ) → DateThen y m w d text rest → IsPastDate rest → ReadsDate y m w d text rest
+date_counts y m w d text rest h past =
+    let before_days : (v : ℕ) → (68 ≡ v → ⊥) → unit_at rest ≢ v → unit_at h.2 ≢ v = λ v o p. unit_before 68 v d h.2 rest refl o h.6 p in
+    let before_weeks : (v : ℕ) → (87 ≡ v → ⊥) → (68 ≡ v → ⊥) → unit_at rest ≢ v → unit_at h.1 ≢ v = λ v o p q. unit_before 87 v w h.1 h.2 refl o h.5 (before_days v p q) in (
+      h.0,
+      h.1,
+      h.2,
+      reads_count 89 y text h.0 refl h.3 (unit_before 77 89 m h.0 h.1 refl (λ e. omega arith) h.4 (before_weeks 89 (λ e. omega arith) (λ e. omega arith) past.0)),
+      reads_count 77 m h.0 h.1 refl h.4 (before_weeks 77 (λ e. omega arith) (λ e. omega arith) past.1),
+      reads_count 87 w h.1 h.2 refl h.5 (before_days 87 (λ e. omega arith) past.2),
+      reads_count 68 d h.2 rest refl h.6 past.3,
+    )
+
+-- the counts of a clock are read as they are written
+clock_counts : (h m s : Count) (text : List ℕ) → ClockThen h m s text [] → ReadsClock h m s text []
+clock_counts h m s text k =
+    let before_seconds : (v : ℕ) → (83 ≡ v → ⊥) → v ≢ 0 → unit_at k.1 ≢ v = λ v o p. unit_before 83 v s k.1 [] refl o k.4 (none_at_end v p) in (
+      k.0,
+      k.1,
+      reads_count 72 h text k.0 refl k.2 (unit_before 77 72 m k.0 k.1 refl (λ e. omega arith) k.3 (before_seconds 72 (λ e. omega arith) (λ e. omega arith))),
+      reads_count 77 m k.0 k.1 refl k.3 (before_seconds 77 (λ e. omega arith) (λ e. omega arith)),
+      reads_count 83 s k.1 [] refl k.4 (none_at_end 83 (λ e. omega arith)),
+    )
+
+-- the counts of a date are read in one way
+same_date : (y m w d y2 m2 w2 d2 : Count) (text r s : List ℕ) → ReadsDate y m w d text r → ReadsDate y2 m2 w2 d2 text s
     → (y ≡ y2) × (m ≡ m2) × (w ≡ w2) × (d ≡ d2) × (r ≡ s)
-date_read y m w d y2 m2 w2 d2 text a b c r s ry rm rw_ rd h past =
-    let before_days : (v : ℕ) → (68 ≡ v → ⊥) → unit_at s ≢ v → unit_at h.2 ≢ v = λ v o p. unit_before 68 v d2 h.2 s refl o h.6 p in
-    let before_weeks : (v : ℕ) → (87 ≡ v → ⊥) → (68 ≡ v → ⊥) → unit_at s ≢ v → unit_at h.1 ≢ v = λ v o p q. unit_before 87 v w2 h.1 h.2 refl o h.5 (before_days v p q) in
-    let years = same_count 89 y y2 text a h.0 refl refl ry h.3 (unit_before 77 89 m2 h.0 h.1 refl (λ e. omega arith) h.4 (before_weeks 89 (λ e. omega arith) (λ e. omega arith) past.0)) in
-    let months = same_count 77 m m2 a b h.1 refl refl rm (subst (λ (x : List ℕ). CountThen 77 m2 x h.1) (sym years.1) h.4) (before_weeks 77 (λ e. omega arith) (λ e. omega arith) past.1) in
-    let weeks = same_count 87 w w2 b c h.2 refl refl rw_ (subst (λ (x : List ℕ). CountThen 87 w2 x h.2) (sym months.1) h.5) (before_days 87 (λ e. omega arith) past.2) in
-    let days = same_count 68 d d2 c r s refl refl rd (subst (λ (x : List ℕ). CountThen 68 d2 x s) (sym weeks.1) h.6) past.3 in
+same_date y m w d y2 m2 w2 d2 text r s h k =
+    let years = same_count 89 y y2 text h.0 k.0 refl h.3 k.3 in
+    let months = same_count 77 m m2 h.0 h.1 k.1 refl h.4 (subst (λ (x : List ℕ). ReadsCount 77 m2 x k.1) (sym years.1) k.4) in
+    let weeks = same_count 87 w w2 h.1 h.2 k.2 refl h.5 (subst (λ (x : List ℕ). ReadsCount 87 w2 x k.2) (sym months.1) k.5) in
+    let days = same_count 68 d d2 h.2 r s refl h.6 (subst (λ (x : List ℕ). ReadsCount 68 d2 x s) (sym weeks.1) k.6) in
     (years.0, months.0, weeks.0, days.0, days.1)
 
--- the counts of a clock that are read are all that can stand there
-pub clock_read : (h m s h2 m2 s2 : Count) (text a b r : List ℕ)
-    → ReadsCount 72 h text a → ReadsCount 77 m a b → ReadsCount 83 s b r
-    → ClockThen h2 m2 s2 text []
-    → (h ≡ h2) × (m ≡ m2) × (s ≡ s2) × (r ≡ [])
-clock_read h m s h2 m2 s2 text a b r rh rm rs k =
-    let before_seconds : (v : ℕ) → (83 ≡ v → ⊥) → v ≢ 0 → unit_at k.1 ≢ v = λ v o p. unit_before 83 v s2 k.1 [] refl o k.4 (none_at_end v p) in
-    let hours = same_count 72 h h2 text a k.0 refl refl rh k.2 (unit_before 77 72 m2 k.0 k.1 refl (λ e. omega arith) k.3 (before_seconds 72 (λ e. omega arith) (λ e. omega arith))) in
-    let minutes = same_count 77 m m2 a b k.1 refl refl rm (subst (λ (x : List ℕ). CountThen 77 m2 x k.1) (sym hours.1) k.3) (before_seconds 77 (λ e. omega arith) (λ e. omega arith)) in
-    let seconds = same_count 83 s s2 b r [] refl refl rs (subst (λ (x : List ℕ). CountThen 83 s2 x []) (sym minutes.1) k.4) (none_at_end 83 (λ e. omega arith)) in
+-- the counts of a clock are read in one way
+same_clock : (h m s h2 m2 s2 : Count) (text r e : List ℕ) → ReadsClock h m s text r → ReadsClock h2 m2 s2 text e
+    → (h ≡ h2) × (m ≡ m2) × (s ≡ s2) × (r ≡ e)
+same_clock h m s h2 m2 s2 text r e p q =
+    let hours = same_count 72 h h2 text p.0 q.0 refl p.2 q.2 in
+    let minutes = same_count 77 m m2 p.0 p.1 q.1 refl p.3 (subst (λ (x : List ℕ). ReadsCount 77 m2 x q.1) (sym hours.1) q.3) in
+    let seconds = same_count 83 s s2 p.1 r e refl p.4 (subst (λ (x : List ℕ). ReadsCount 83 s2 x e) (sym minutes.1) q.4) in
     (hours.0, minutes.0, seconds.0, seconds.1)
+
+-- the counts of a clock that are read are all that can stand there, and nothing follows them
+pub clock_read : (h m s h2 m2 s2 : Count) (text r : List ℕ) → ReadsClock h m s text r → ClockThen h2 m2 s2 text []
+    → (h ≡ h2) × (m ≡ m2) × (s ≡ s2) × (r ≡ [])
+clock_read h m s h2 m2 s2 text r p k = same_clock h m s h2 m2 s2 text r [] p (clock_counts h2 m2 s2 text k)
 
 unwritten : (c d : Count) → is_written c ≡ false → is_written d ≡ false → c ≡ d
 unwritten Absent Absent p q = refl
@@ -71,50 +105,25 @@ no_clock h m s h2 m2 s2 p q =
     let b = none_of (is_written h2) (is_written m2) (is_written s2) q in
     (unwritten h h2 a.0 b.0, unwritten m m2 a.1 b.1, unwritten s s2 a.2 b.2)
 
--- the counts of a clock are read as they are written
-clock_counts : (h m s : Count) (text : List ℕ) → (k : ClockThen h m s text [])
-    → ReadsCount 72 h text k.0 × ReadsCount 77 m k.0 k.1 × ReadsCount 83 s k.1 []
-clock_counts h m s text k =
-    let before_seconds : (v : ℕ) → (83 ≡ v → ⊥) → v ≢ 0 → unit_at k.1 ≢ v = λ v o p. unit_before 83 v s k.1 [] refl o k.4 (none_at_end v p) in (
-      reads_count 72 h text k.0 refl k.2 (unit_before 77 72 m k.0 k.1 refl (λ e. omega arith) k.3 (before_seconds 72 (λ e. omega arith) (λ e. omega arith))),
-      reads_count 77 m k.0 k.1 refl k.3 (before_seconds 77 (λ e. omega arith) (λ e. omega arith)),
-      reads_count 83 s k.1 [] refl k.4 (none_at_end 83 (λ e. omega arith)),
-    )
-
 -- a text has the counts of one clock
 pub one_clock : (h m s h2 m2 s2 : Count) (text : List ℕ) → ClockText h m s text → ClockText h2 m2 s2 text → (h ≡ h2) × (m ≡ m2) × (s ≡ s2)
 one_clock h m s h2 m2 s2 text (inl k) (inl l) = no_clock h m s h2 m2 s2 k.0 l.0
 one_clock h m s h2 m2 s2 text (inl k) (inr l) = let e : [] ≡ 84 ∷ l.1.0 = sym k.1 ∙ l.1.1 in absurd cc
 one_clock h m s h2 m2 s2 text (inr k) (inl l) = let e : [] ≡ 84 ∷ k.1.0 = sym l.1 ∙ k.1.1 in absurd cc
 one_clock h m s h2 m2 s2 text (inr k) (inr l) =
-    let reads = clock_counts h m s k.1.0 k.1.2 in
-    let timed : k.1.0 ≡ l.1.0 = tail_is (sym k.1.1 ∙ l.1.1) in
-    let e = clock_read h m s h2 m2 s2 k.1.0 k.1.2.0 k.1.2.1 [] reads.0 reads.1 reads.2 (subst (λ (x : List ℕ). ClockThen h2 m2 s2 x []) (sym timed) l.1.2) in
+    let timed : l.1.0 ≡ k.1.0 = tail_is (sym l.1.1 ∙ k.1.1) in
+    let e = clock_read h m s h2 m2 s2 k.1.0 [] (clock_counts h m s k.1.0 k.1.2) (subst (λ (x : List ℕ). ClockThen h2 m2 s2 x []) timed l.1.2) in
     (e.0, e.1, e.2)
 
 -- the counts of a date that are read are those of each duration that the text spells, and its clock stands behind them
-pub length_read : (y m w d : Count) (l : Length) (text dated a b c r : List ℕ)
-    → text ≡ 80 ∷ dated → ReadsCount 89 y dated a → ReadsCount 77 m a b → ReadsCount 87 w b c → ReadsCount 68 d c r
-    → SpellsLength l text
+pub length_read : (y m w d : Count) (l : Length) (text dated r : List ℕ) → text ≡ 80 ∷ dated → ReadsDate y m w d dated r → SpellsLength l text
     → (y ≡ l.years) × (m ≡ l.months) × (w ≡ l.weeks) × (d ≡ l.days) × ClockText l.hours l.minutes l.seconds r
-length_read y m w d l text dated a b c r e ry rm rw_ rd h =
-    let same : h.0 ≡ dated = tail_is (sym h.2 ∙ e) in
-    let date = subst (λ (x : List ℕ). DateThen l.years l.months l.weeks l.days x h.1) same h.3 in
-    let k = date_read y m w d l.years l.months l.weeks l.days dated a b c r h.1 ry rm rw_ rd date (past_date l.hours l.minutes l.seconds h.1 h.4) in
-    (k.0, k.1, k.2, k.3, subst (λ (x : List ℕ). ClockText l.hours l.minutes l.seconds x) (sym k.4) h.4)
-
--- the counts of a date are read as they are written
-date_counts : (l : Length) (text : List ℕ) → (h : SpellsLength l text)
-    → ReadsCount 89 l.years h.0 h.3.0 × ReadsCount 77 l.months h.3.0 h.3.1 × ReadsCount 87 l.weeks h.3.1 h.3.2 × ReadsCount 68 l.days h.3.2 h.1
-date_counts l text h =
+length_read y m w d l text dated r e reads h =
     let past = past_date l.hours l.minutes l.seconds h.1 h.4 in
-    let before_days : (v : ℕ) → (68 ≡ v → ⊥) → unit_at h.1 ≢ v → unit_at h.3.2 ≢ v = λ v o p. unit_before 68 v l.days h.3.2 h.1 refl o h.3.6 p in
-    let before_weeks : (v : ℕ) → (87 ≡ v → ⊥) → (68 ≡ v → ⊥) → unit_at h.1 ≢ v → unit_at h.3.1 ≢ v = λ v o p q. unit_before 87 v l.weeks h.3.1 h.3.2 refl o h.3.5 (before_days v p q) in (
-      reads_count 89 l.years h.0 h.3.0 refl h.3.3 (unit_before 77 89 l.months h.3.0 h.3.1 refl (λ e. omega arith) h.3.4 (before_weeks 89 (λ e. omega arith) (λ e. omega arith) past.0)),
-      reads_count 77 l.months h.3.0 h.3.1 refl h.3.4 (before_weeks 77 (λ e. omega arith) (λ e. omega arith) past.1),
-      reads_count 87 l.weeks h.3.1 h.3.2 refl h.3.5 (before_days 87 (λ e. omega arith) past.2),
-      reads_count 68 l.days h.3.2 h.1 refl h.3.6 past.3,
-    )
+    let same : h.0 ≡ dated = tail_is (sym h.2 ∙ e) in
+    let written = subst (λ (x : List ℕ). ReadsDate l.years l.months l.weeks l.days x h.1) same (date_counts l.years l.months l.weeks l.days h.0 h.1 h.3 past) in
+    let k = same_date y m w d l.years l.months l.weeks l.days dated r h.1 reads written in
+    (k.0, k.1, k.2, k.3, subst (λ (x : List ℕ). ClockText l.hours l.minutes l.seconds x) (sym k.4) h.4)
 
 pub length_by_counts : (l m : Length)
     → l.years ≡ m.years → l.months ≡ m.months → l.weeks ≡ m.weeks → l.days ≡ m.days
@@ -125,7 +134,7 @@ length_by_counts l m y mo w d h mi s = λ i. record { years = y i; months = mo i
 -- a text spells one duration
 pub one_length : (l m : Length) (text : List ℕ) → SpellsLength l text → SpellsLength m text → l ≡ m
 one_length l m text h k =
-    let reads = date_counts l text h in
-    let e = length_read l.years l.months l.weeks l.days m text h.0 h.3.0 h.3.1 h.3.2 h.1 h.2 reads.0 reads.1 reads.2 reads.3 k in
+    let reads = date_counts l.years l.months l.weeks l.days h.0 h.1 h.3 (past_date l.hours l.minutes l.seconds h.1 h.4) in
+    let e = length_read l.years l.months l.weeks l.days m text h.0 h.1 h.2 reads k in
     let f = one_clock l.hours l.minutes l.seconds m.hours m.minutes m.seconds h.1 h.4 e.4 in
     length_by_counts l m e.0 e.1 e.2 e.3 f.0 f.1 f.2
