@@ -41,7 +41,7 @@ may_ask asked None (Some t) h = absurd cc
 may_ask asked (Some s) None h = absurd cc
 may_ask asked (Some s) (Some t) h = ap (λ (r : Reference). r ∷ []) (asks asked s t cc)
 
-end_asks : (e f : LinkEnd) → IsSameEnd e f → end_reference e ≡ end_reference f
+pub end_asks : (e f : LinkEnd) → IsSameEnd e f → end_reference e ≡ end_reference f
 end_asks (end.Instance s) (end.Instance t) h = asks target.Instance s t h
 end_asks (end.Time s) (end.Time t) h = asks target.Timex s t h
 end_asks e f h = absurd h

@@ -88,7 +88,7 @@ one_place all name i j v w sound l m e f =
       | inr (inr k) ↦ absurd (twice all m.before k.0 l.after m.tag l.tag name sound (l.whole ∙ ap (λ (ts : List TypedTag). ts ++ l.tag ∷ l.after) k.1) its own)
     ]
 
-distinct_names : (all : List TypedTag) (name : List ℕ) (i j : ℕ) → AreSound all all → IsNamed (filter_map interval_of all) name i → IsNamed (filter_map interval_of all) name j → i ≡ j
+pub distinct_names : (all : List TypedTag) (name : List ℕ) (i j : ℕ) → AreSound all all → IsNamed (filter_map interval_of all) name i → IsNamed (filter_map interval_of all) name j → i ≡ j
 distinct_names all name i j sound h k = one_place all name i j h.0 k.0 sound (located all i h.0 h.1) (located all j k.0 k.1) h.2 k.2
 
 -- ---- ends of links

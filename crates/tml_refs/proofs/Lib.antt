@@ -12,3 +12,4 @@ pub mod Faults
 pub mod Zips
 pub mod Alike
 pub mod SameFaults
+pub mod SameDocuments

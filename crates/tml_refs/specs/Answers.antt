@@ -7,6 +7,7 @@ use Rattle.tml_refs.specs.declared.contents.Contents.{Contents}
 use Rattle.tml_refs.specs.declared.rules.Rule.{Rule}
 use Rattle.tml_refs.specs.Resolved.{Resolved}
 use Rattle.tml_refs.specs.Rules.{FaultAt}
+use Rattle.tml_refs.specs.Sameness.{IsSameDocument}
 
 -- a document and a fault exclude each other, and of faults there is one
 pub record OneAnswer (all : List TypedTag) : Type 0 where
@@ -19,3 +20,7 @@ OneAnswers = (all : List TypedTag) → OneAnswer all
 -- typed tags that are the same but for where their slices lie have the same faults
 abbrev pub SameFaults : Type 0
 SameFaults = (all others : List TypedTag) (place : ℕ) (rule : Rule) → AllZip IsSame all others → FaultAt all place rule → FaultAt others place rule
+
+-- typed tags that are the same but for where their slices lie resolve to documents that are the same but for where the slices of their names lie
+abbrev pub OneDocument : Type 0
+OneDocument = (tags others : List TypedTag) (doc other : Contents) → AllZip IsSame tags others → Resolved tags doc → Resolved others other → IsSameDocument doc other

@@ -7,4 +7,5 @@ pub mod Owning
 pub mod Identifying
 pub mod Gathering
 pub mod Indexing
+pub mod Sameness
 pub mod Answers

@@ -12,5 +12,5 @@ mod tests;
 
 pub use contents::{Counts, DocLink, Interval};
 pub use document::{Document, resolve};
-pub use laws::{one_answer, same_faults};
+pub use laws::{one_answer, one_document, same_faults};
 pub use rules::RefFault;

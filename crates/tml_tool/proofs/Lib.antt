@@ -3,4 +3,7 @@ pub mod Delivery
 pub mod Digits
 pub mod Lines
 pub mod Times
-mod Phases
+pub mod Phases
+pub mod OneContents
+pub mod OneDateLines
+mod OneAnswers

@@ -39,7 +39,7 @@ use Rattle.tml_tool.specs.Acceptance.{CutLine, TreeLine, TypeLine, ReferenceLine
 use Rattle.tml_tool.specs.Texts as texts
 
 -- there is one line at most
-abbrev One : (List ℕ → Type 0) → Type 0
+abbrev pub One : (List ℕ → Type 0) → Type 0
 One Line = (line other : List ℕ) → Line line → Line other → line ≡ other
 
 -- of two kinds of line that exclude each other there is one line at most
@@ -66,7 +66,7 @@ cut_told doc line (cut.BadReference place) h e = (bad_reference place, h, e)
 cut_told doc line (cut.BadMarkup place) h e = (bad_markup place, h, e)
 cut_told doc line cut.Memory h e = absurd (cc e)
 
-one_cut_line : (doc : List ℕ) → One (CutLine doc)
+pub one_cut_line : (doc : List ℕ) → One (CutLine doc)
 one_cut_line doc line other h k =
     let f = cut_told doc line h.0 h.1 h.2 in
     let g = cut_told doc other k.0 k.1 k.2 in
@@ -76,7 +76,7 @@ one_cut_line doc line other h k =
 abbrev IsCut : List ℕ → Type 0
 IsCut doc = (units : List PlainUnit) × IsWhole (record { source = doc; units = units })
 
-no_cut_line : (doc line : List ℕ) → IsCut doc → CutLine doc line → ⊥
+pub no_cut_line : (doc line : List ℕ) → IsCut doc → CutLine doc line → ⊥
 no_cut_line doc line w h =
     let f = cut_told doc line h.0 h.1 h.2 in
     (one_faults doc).whole_or_fault w.0 f.0 w.1 f.1
@@ -84,7 +84,7 @@ no_cut_line doc line w h =
 -- ---- the tree
 
 -- a document has one cutting
-one_cutting : (doc : List ℕ) (c d : Cutting) → c.source ≡ doc → d.source ≡ doc → IsWhole c → IsWhole d → c ≡ d
+pub one_cutting : (doc : List ℕ) (c d : Cutting) → c.source ≡ doc → d.source ≡ doc → IsWhole c → IsWhole d → c ≡ d
 one_cutting doc c d e k h g =
     let source = e ∙ sym k in
     let units = (one_cut_from 0 d.source c.units d.units [] [] (subst (λ (bytes : List ℕ). Cuts bytes c.units []) source h.1) g.1).0 in
@@ -247,13 +247,13 @@ late_cut : (doc line : List ℕ) → TreeLine doc line ⊎ TypeLine doc line ⊎
 late_cut doc line (inl h) = tree_line_cut doc line h
 late_cut doc line (inr h) = tree_cut doc (late_tree doc line h)
 
-one_fault : (doc : List ℕ) → One (FirstFault doc)
+pub one_fault : (doc : List ℕ) → One (FirstFault doc)
 one_fault doc =
     let late = one_of_both (TypeLine doc) (ReferenceLine doc) (one_type_line doc) (one_reference_line doc) (λ line other h k. no_type_line doc line (reference_line_typed doc other k) h) in
     let later = one_of_both (TreeLine doc) (λ line. TypeLine doc line ⊎ ReferenceLine doc line) (one_tree_line doc) late (λ line other h k. no_tree_line doc line (late_tree doc other k) h) in
     one_of_both (CutLine doc) (λ line. TreeLine doc line ⊎ TypeLine doc line ⊎ ReferenceLine doc line) (one_cut_line doc) later (λ line other h k. no_cut_line doc line (late_cut doc other k) h)
 
-accepted_or_fault : (doc : List ℕ) (contents : Contents) (line : List ℕ) → IsAccepted doc contents → FirstFault doc line → ⊥
+pub accepted_or_fault : (doc : List ℕ) (contents : Contents) (line : List ℕ) → IsAccepted doc contents → FirstFault doc line → ⊥
 accepted_or_fault doc contents line a (inl h) = no_cut_line doc line (tree_cut doc (a.0, a.1)) h
 accepted_or_fault doc contents line a (inr (inl h)) = no_tree_line doc line (a.0, a.1) h
 accepted_or_fault doc contents line a (inr (inr (inl h))) = no_type_line doc line (a.0, a.1, a.2, a.3) h

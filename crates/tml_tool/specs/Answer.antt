@@ -32,6 +32,10 @@ OverBytes Dates doc Done out = (contents : Contents) × IsAccepted doc contents 
 OverBytes Dates doc DocFault out = FirstFault doc out
 OverBytes question doc other out = ⊥
 
+-- a question of a document has one answer
+abbrev pub OneAnswers : Type 0
+OneAnswers = (question : Question) (doc : List ℕ) (status other : Status) (out text : List ℕ) → OverBytes question doc status out → OverBytes question doc other text → (status ≡ other) × (out ≡ text)
+
 -- The answer to a question of a document: one that is too long is refused, and else its bytes decide.
 abbrev pub OfDocument : Option Files → Question → List ℕ → Status → List ℕ → Type 0
 OfDocument told question name status out = (doc : List ℕ) × Holds told name doc

@@ -16,6 +16,6 @@ mod table;
 mod tests;
 mod top;
 
-pub use laws::one_acceptance;
+pub use laws::{one_acceptance, one_answer};
 pub use status::Status;
 pub use top::run;
