@@ -7,7 +7,7 @@ use net_core::Rel;
 use std::alloc::{AllocError, Global};
 use std::process::Abort;
 use std::test::Fail;
-use timex_value::{Modifier, TimexKind, Value};
+use timex_value::{Count, Length, Modifier, TimexKind, Value};
 use tml_span::units;
 use tml_tree::tree;
 
@@ -41,7 +41,10 @@ fn faults(rt: HostRuntime) -> Result<(), Fail> {
     let missing = TypeFault::MissingAttribute { place: 8 };
     let bad = TypeFault::BadValue { place: 8 };
     let conflict = TypeFault::Conflict { place: 8 };
-    let rows: [(&'static [u8], TypeFault); 21] = [
+    let date = TypeFault::BadDate { place: 8 };
+    let rows: [(&'static [u8], TypeFault); 23] = [
+        (b"<TIMEX3 tid=\"t1\" type=\"SET\" value=\"1998-13\"/>", date),
+        (b"<TIMEX3 tid=\"t1\" type=\"DAY\" value=\"1998-13\"/>", bad),
         (
             b"<TLINK timeID=\"t1\" relatedToTime=\"t2\" relType=\"OVERLAP\"/>",
             bad,
@@ -153,7 +156,7 @@ fn typed_tags(rt: HostRuntime) -> Result<(), Fail> {
             },
         ),
         (
-            b"<TIMEX3 tid=\"t1\" type=\"DATE\" value=\"1998\" mod=\"MID\" functionInDocument=\"NONE\" temporalFunction=\"false\" anchorTimeID=\"t0\" beginPoint=\"t2\" endPoint=\"t3\" quant=\"EACH\" freq=\"2X\"/>",
+            b"<TIMEX3 tid=\"t1\" type=\"DATE\" value=\"PRESENT_REF\" mod=\"MID\" functionInDocument=\"NONE\" temporalFunction=\"false\" anchorTimeID=\"t0\" beginPoint=\"t2\" endPoint=\"t3\" quant=\"EACH\" freq=\"2X\"/>",
             TypedTag::Timex {
                 place: 8,
                 tid: b"t1",
@@ -168,12 +171,20 @@ fn typed_tags(rt: HostRuntime) -> Result<(), Fail> {
             },
         ),
         (
-            b"<TIMEX3 tid=\"t1\" type=\"SET\" value=\"\" temporalFunction=\"true\"/>",
+            b"<TIMEX3 tid=\"t1\" type=\"SET\" value=\"PT90M\" temporalFunction=\"true\"/>",
             TypedTag::Timex {
                 place: 8,
                 tid: b"t1",
                 kind: TimexKind::Set,
-                value: None,
+                value: Some(Value::Duration(Length {
+                    years: Count::Absent,
+                    months: Count::Absent,
+                    weeks: Count::Absent,
+                    days: Count::Absent,
+                    hours: Count::Absent,
+                    minutes: Count::Number(90),
+                    seconds: Count::Absent,
+                })),
                 modifier: None,
                 function: None,
                 temporal: Some(true),
