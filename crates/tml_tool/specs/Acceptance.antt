@@ -28,6 +28,10 @@ TreeLine doc line = (cut : Cutting) × (cut.source ≡ doc) × IsWhole cut × (f
 abbrev pub TypeLine : List ℕ → List ℕ → Type 0
 TypeLine doc line = (root : PlainNode) × IsTreeOf doc root × (fault : TypeFault) × TypingFault (elements root) fault × (texts.type_fault_line fault ≡ Some line)
 
+-- the attributes of all tags of the document are right, and these are its typed tags
+abbrev pub AreTypedTags : List ℕ → List TypedTag → Type 0
+AreTypedTags doc tags = (root : PlainNode) × IsTreeOf doc root × Types (elements root) tags
+
 -- the line of the first tag whose identifier, references or number are at fault, where the attributes of all are right
 abbrev pub ReferenceLine : List ℕ → List ℕ → Type 0
 ReferenceLine doc line = (root : PlainNode) × IsTreeOf doc root × (tags : List TypedTag) × Types (elements root) tags × (fault : RefFault) × ReferenceFault tags fault × (texts.ref_fault_line fault ≡ Some line)
