@@ -75,11 +75,11 @@ def deepest_of_long_names(size):
     return nested(b"TIMEX3INTERVAL", size)
 
 
-def numbered(front, piece, size):
-    """A root element that holds a front, and then the piece as often as it fits, each with a number of its own."""
+def numbered(front, part_of, size):
+    """A root element that holds a front, and then the parts of the numbers from 0 on, as many as fit."""
     parts, room = [FRONT, front], size - len(FRONT) - len(front) - len(BACK)
     for number in itertools.count():
-        part = piece.replace(b"#", b"%d" % number)
+        part = part_of(number)
         if len(part) > room:
             return b"".join(parts) + BACK
         parts.append(part)
@@ -88,23 +88,24 @@ def numbered(front, piece, size):
 
 def events(size):
     """EVENTs, each with an identifier of its own."""
-    return numbered(b"", b'<EVENT eid="e#" class="STATE"/>', size)
+    return numbered(b"", lambda n: b'<EVENT eid="e%d" class="STATE"/>' % n, size)
 
 
 def events_in_no_order(size):
     """The same with identifiers whose order in the document is not that of their bytes."""
-    parts, room = [FRONT], size - len(FRONT) - len(BACK)
-    for number in itertools.count():
-        part = b'<EVENT eid="%08x" class="STATE"/>' % (number * 2654435761 % (1 << 32))
-        if len(part) > room:
-            return b"".join(parts) + BACK
-        parts.append(part)
-        room -= len(part)
+    return numbered(b"", lambda n: b'<EVENT eid="%08x" class="STATE"/>' % (n * 2654435761 % (1 << 32)), size)
 
 
 def times(size):
     """TIMEX3s, each with an identifier of its own: too many to be accepted."""
-    return numbered(b"", b'<TIMEX3 tid="t#" type="DATE" value="1998-W53-7"/>', size)
+    return numbered(b"", lambda n: b'<TIMEX3 tid="t%d" type="DATE" value="1998-W53-7"/>' % n, size)
+
+
+def signals_and_links(size):
+    """SIGNALs, each referred to by a link of its own."""
+    front = b'<EVENT eid="e" class="STATE"/><MAKEINSTANCE eiid="i" eventID="e"/>'
+    link = b'<SIGNAL sid="s%d"/><SLINK signalID="s%d" subordinatedEventInstance="i" relType="MODAL"/>'
+    return numbered(front, lambda n: link % (n, n), size)
 
 
 def text_with_times(size):
@@ -113,13 +114,6 @@ def text_with_times(size):
     marks = b"".join(b'<TIMEX3 tid="t%d" type="DATE" value="%s"/>' % (k, shapes[k % len(shapes)]) for k in range(512))
     text = one_text(size - len(marks))
     return text[: len(FRONT)] + marks + text[len(FRONT) :]
-
-
-def signals_and_links(size):
-    """SIGNALs, each referred to by a link of its own."""
-    front = b'<EVENT eid="e" class="STATE"/><MAKEINSTANCE eiid="i" eventID="e"/>'
-    link = b'<SIGNAL sid="s#"/><SLINK signalID="s#" subordinatedEventInstance="i" relType="MODAL"/>'
-    return numbered(front, link, size)
 
 
 ROWS = [("spans", make) for make in (one_text, shortest_tags, one_tag, comments_and_references)]
