@@ -1,7 +1,7 @@
-//! Names in their order.
+//! Sets of names.
 ghost use Rattle.std.specs.Prelude.{◌≡◌, ◌||◌, [], ℕ, List, not, IfOk, OnOk};
 ghost use Rattle.std.specs.Str.{bytes_eq};
-ghost use Rattle.tml_types.specs.Seen.{is_in};
+ghost use Rattle.tml_types.specs.NameSets.{is_in};
 
 use std::alloc::Global;
 use std::collections::BTreeMap;
@@ -10,31 +10,31 @@ use tml_span::Memory;
 
 /// A set of names.
 #[derive(Drop)]
-pub struct Seen<'s> {
+pub struct NameSet<'s> {
     names: BTreeMap<&'s [u8], ()>,
 }
 
-impl<'s> Model for Seen<'s> {
+impl<'s> Model for NameSet<'s> {
     ghost use Rattle.std.specs.Prelude.{List, ℕ, map};
-    ghost use Rattle.tml_types.specs.Seen.{name_of};
+    ghost use Rattle.tml_types.specs.NameSets.{name_of};
 
     ghost Value = { List (List ℕ) };
 
     ghost view = { λ a. map name_of a.names.entries };
 }
 
-impl<'s> Seen<'s> {
-    /// No names. It takes no memory.
-    pub fn new(alloc: Global) -> Seen<'s>
+impl<'s> NameSet<'s> {
+    /// The empty set. It takes no memory.
+    pub fn new(alloc: Global) -> NameSet<'s>
         ensures { result ≡ [] }
     {
-        Seen {
+        NameSet {
             names: BTreeMap::new(alloc),
         }
     }
 
-    /// Takes one name more, and says whether it was not among them.
-    pub fn add(&mut self, name: &'s [u8]) -> Result<bool, Memory>
+    /// Puts a name into the set, and says whether it is new.
+    pub fn insert(&mut self, name: &'s [u8]) -> Result<bool, Memory>
         ensures new { IfOk result (λ new. new ≡ not (is_in self.old name.now)) }
         ensures more { OnOk result ((q : List ℕ) → is_in self.new q ≡ (bytes_eq q name.now || is_in self.old q)) }
     {

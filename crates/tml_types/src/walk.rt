@@ -4,15 +4,16 @@ ghost use Rattle.tml_tree.specs.Plain.{PlainNode};
 ghost use Rattle.tml_tree.specs.View.{node_of, tag_node};
 ghost use Rattle.tml_tree.specs.Walking.{elements};
 ghost use Rattle.tml_tree.specs.Whole.{IsTreeOf};
-ghost use Rattle.tml_types.specs.Holding.{plain_of};
-ghost use Rattle.tml_types.specs.Whole.{Adds, HasFault, Types, told};
+ghost use Rattle.tml_types.specs.Walking.{Adds, plain_of};
+ghost use Rattle.tml_types.specs.Whole as whole;
+ghost use Rattle.tml_types.specs.Whole.{HasFault, IsAtLeastPlace, Types};
 
-use crate::rules::{Rule, first_rule};
+use crate::repeats::is_repeated;
 use crate::typed::TypedTag;
 use crate::typing::typed_tag;
+use faults::FaultKind;
 use std::alloc::Global;
 use std::marker::Model;
-use timex_value::BadDate;
 use tml_span::{List, Memory};
 use tml_tree::{Node, Tag, TagTree};
 
@@ -24,24 +25,27 @@ pub struct Typed<'s> {
 }
 
 impl<'s> Model for Typed<'s> {
-    ghost use Rattle.std.specs.Prelude.{List as ListOf};
-    ghost use Rattle.tml_types.specs.declared.typed.TypedTag.{TypedTag};
-    ghost use Rattle.tml_types.specs.Places.{IsPlaced};
+    ghost use Rattle.std.specs.Prelude.{List as ListOf, map};
+    ghost use Rattle.tml_types.specs.Content.{PlainTyped};
+    ghost use Rattle.tml_types.specs.Places.{ArePlaced};
+    ghost use Rattle.tml_types.specs.View.{typed_of};
 
-    ghost Value = { ListOf TypedTag };
+    ghost Value = { ListOf PlainTyped };
 
-    ghost view = { λ a. a.tags };
+    ghost view = { λ a. map typed_of a.tags };
 
-    ghost invariant = { λ a. IsPlaced a.tags };
+    ghost invariant = { λ a. ArePlaced (map typed_of a.tags) };
 }
 
 impl<'s> Typed<'s> {
-    ghost use Rattle.tml_types.specs.Places.{IsPlaced};
+    ghost use Rattle.std.specs.Prelude.{map};
+    ghost use Rattle.tml_types.specs.Places.{ArePlaced};
+    ghost use Rattle.tml_types.specs.View.{typed_of};
 
     /// The typed tags, in document order.
     pub fn as_slice(&self) -> &[TypedTag<'s>]
-        ensures tags { result.now ≡ self.now }
-        ensures placed { IsPlaced self.now }
+        ensures tags { map typed_of result.now ≡ self.now }
+        ensures placed { ArePlaced self.now }
     {
         self.tags.as_slice()
     }
@@ -61,8 +65,24 @@ pub enum TypeFault {
     /// The value of a TIMEX3 has the form of a calendar value, and none of the dates and times that it may stand for
     /// exists.
     BadDate { place: u32 },
-    /// Memory is wanting.
+    /// Out of memory.
     Memory,
+}
+
+impl TypeFault {
+    /// The kind of the fault and its place, or none where it is that of memory.
+    pub fn kind_and_place(self) -> Option<(FaultKind, u32)>
+        ensures { result ≡ whole.kind_and_place self }
+    {
+        match self {
+            TypeFault::RepeatedAttribute { place } => Some((FaultKind::RepeatedAttribute, place)),
+            TypeFault::MissingAttribute { place } => Some((FaultKind::MissingAttribute, place)),
+            TypeFault::BadValue { place } => Some((FaultKind::BadValue, place)),
+            TypeFault::Conflict { place } => Some((FaultKind::Conflict, place)),
+            TypeFault::BadDate { place } => Some((FaultKind::BadDate, place)),
+            TypeFault::Memory => None,
+        }
+    }
 }
 
 /// Types the tags of a tree.
@@ -74,6 +94,7 @@ pub enum TypeFault {
 pub fn type_tags<'s>(alloc: Global, tree: &TagTree<'s>) -> Result<Typed<'s>, TypeFault>
     ensures ok { IfOk result (λ t. (root : PlainNode) × IsTreeOf tree.now root × Types (elements root) t) }
     ensures err { IfErr result (λ e. (root : PlainNode) × IsTreeOf tree.now root × HasFault (elements root) e) }
+    ensures least { IfErr result (λ e. (root : PlainNode) × IsTreeOf tree.now root × IsAtLeastPlace (elements root) e) }
 {
     let mut typed = List::new(alloc);
     if let Err(fault) = type_tag(alloc, tree.root(), &mut typed) {
@@ -128,11 +149,11 @@ fn type_one<'s>(
     ensures ok { OnOk result (Adds (plain_of tag.now ∷ []) typed.old typed.new) }
     ensures err { IfErr result (λ e. HasFault (plain_of tag.now ∷ []) e) }
 {
-    let Ok(rule) = first_rule(alloc, tag) else {
-        return Err(TypeFault::Memory);
-    };
-    if let Some(rule) = rule {
-        return Err(fault_at(rule, tag.span.start));
+    let place = tag.span.start;
+    match is_repeated(alloc, tag.attrs.as_slice()) {
+        Ok(false) => {}
+        Ok(true) => return Err(TypeFault::RepeatedAttribute { place }),
+        Err(Memory) => return Err(TypeFault::Memory),
     }
     match typed_tag(tag) {
         Ok(None) => Ok(()),
@@ -140,18 +161,6 @@ fn type_one<'s>(
             Ok(()) => Ok(()),
             Err(Memory) => Err(TypeFault::Memory),
         },
-        Err(BadDate) => Err(fault_at(Rule::BadDate, tag.span.start)),
-    }
-}
-
-fn fault_at(rule: Rule, place: u32) -> TypeFault
-    ensures { told result ≡ Some (place, rule) }
-{
-    match rule {
-        Rule::RepeatedAttribute => TypeFault::RepeatedAttribute { place },
-        Rule::MissingAttribute => TypeFault::MissingAttribute { place },
-        Rule::BadValue => TypeFault::BadValue { place },
-        Rule::Conflict => TypeFault::Conflict { place },
-        Rule::BadDate => TypeFault::BadDate { place },
+        Err(fault) => Err(fault),
     }
 }

@@ -1,21 +1,21 @@
 -- The texts of the values of attributes.
 use Rattle.std.specs.Prelude.{ℕ, List, [], ◌∷◌, codes}
-use Rattle.tml_types.specs.declared.names.EventClass.{EventClass}
-use Rattle.tml_types.specs.declared.names.EventClass.TheVariants as class
-use Rattle.tml_types.specs.declared.names.Tense.{Tense}
-use Rattle.tml_types.specs.declared.names.Tense.TheVariants as tense
-use Rattle.tml_types.specs.declared.names.Aspect.{Aspect}
-use Rattle.tml_types.specs.declared.names.Aspect.TheVariants as aspect
-use Rattle.tml_types.specs.declared.names.Pos.{Pos}
-use Rattle.tml_types.specs.declared.names.Pos.TheVariants as pos
-use Rattle.tml_types.specs.declared.names.Polarity.{Polarity}
-use Rattle.tml_types.specs.declared.names.Polarity.TheVariants as polarity
-use Rattle.tml_types.specs.declared.names.DocFunction.{DocFunction}
-use Rattle.tml_types.specs.declared.names.DocFunction.TheVariants as function
-use Rattle.tml_types.specs.declared.names.AspectRel.{AspectRel}
-use Rattle.tml_types.specs.declared.names.AspectRel.TheVariants as aspect_rel
-use Rattle.tml_types.specs.declared.names.SubRel.{SubRel}
-use Rattle.tml_types.specs.declared.names.SubRel.TheVariants as sub_rel
+use Rattle.tml_types.specs.declared.listed.EventClass.{EventClass}
+use Rattle.tml_types.specs.declared.listed.EventClass.TheVariants as class
+use Rattle.tml_types.specs.declared.listed.Tense.{Tense}
+use Rattle.tml_types.specs.declared.listed.Tense.TheVariants as tense
+use Rattle.tml_types.specs.declared.listed.Aspect.{Aspect}
+use Rattle.tml_types.specs.declared.listed.Aspect.TheVariants as aspect
+use Rattle.tml_types.specs.declared.listed.Pos.{Pos}
+use Rattle.tml_types.specs.declared.listed.Pos.TheVariants as pos
+use Rattle.tml_types.specs.declared.listed.Polarity.{Polarity}
+use Rattle.tml_types.specs.declared.listed.Polarity.TheVariants as polarity
+use Rattle.tml_types.specs.declared.listed.DocFunction.{DocFunction}
+use Rattle.tml_types.specs.declared.listed.DocFunction.TheVariants as function
+use Rattle.tml_types.specs.declared.listed.AspectRel.{AspectRel}
+use Rattle.tml_types.specs.declared.listed.AspectRel.TheVariants as aspect_rel
+use Rattle.tml_types.specs.declared.listed.SubRel.{SubRel}
+use Rattle.tml_types.specs.declared.listed.SubRel.TheVariants as sub_rel
 
 -- the values of `class` of EVENT
 abbrev pub class_text : EventClass → List ℕ

@@ -11,7 +11,7 @@ use Rattle.std.specs.Ordering.{is_eq, nat_cmp}
 use Rattle.std.specs.Str.{bytes_eq}
 use Rattle.std.proofs.lemmas.Map.Text.{is_eq-slice_cmp, btree_map_updates_str}
 use Rattle.std.proofs.lemmas.Slice.Eq.{bytes_eq-Decides}
-use Rattle.tml_types.specs.Seen.{is_in, name_of}
+use Rattle.tml_types.specs.NameSets.{is_in, name_of}
 
 abbrev pub is_found : List ℕ → List (Bor (List ℕ) × Unit {0}) → Bool
 is_found q es = is_some (lookup (λ (k : Bor (List ℕ)). is_eq (slice_cmp nat_cmp q k.now)) es)

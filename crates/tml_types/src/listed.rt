@@ -1,5 +1,5 @@
-//! The values of attributes that have a list of texts.
-ghost use Rattle.tml_types.specs.Names as names;
+//! The values of attributes of which a list says what they may be.
+ghost use Rattle.tml_types.specs.Listed as listed;
 ghost use Rattle.std.proofs.Common.{rules};
 ghost use Rattle.std.specs.Prelude.{◌≡◌};
 
@@ -20,7 +20,7 @@ pub enum EventClass {
 impl EventClass {
     /// The text of the value.
     pub fn text(self) -> &'static [u8]
-        ensures { result.now ≡ names.class_text self }
+        ensures { result.now ≡ listed.class_text self }
     {
         match self {
             EventClass::Occurrence => b"OCCURRENCE",
@@ -35,9 +35,9 @@ impl EventClass {
 }
 
 impl Named for EventClass {
-    ghost text_of = { names.class_text };
+    ghost text_of = { listed.class_text };
 
-    ghost all_of = { names.all_classes };
+    ghost all_of = { listed.all_classes };
 
     ghost apart = { Prim.search rules };
 
@@ -73,7 +73,7 @@ pub enum Tense {
 impl Tense {
     /// The text of the value.
     pub fn text(self) -> &'static [u8]
-        ensures { result.now ≡ names.tense_text self }
+        ensures { result.now ≡ listed.tense_text self }
     {
         match self {
             Tense::Past => b"PAST",
@@ -88,9 +88,9 @@ impl Tense {
 }
 
 impl Named for Tense {
-    ghost text_of = { names.tense_text };
+    ghost text_of = { listed.tense_text };
 
-    ghost all_of = { names.all_tenses };
+    ghost all_of = { listed.all_tenses };
 
     ghost apart = { Prim.search rules };
 
@@ -124,7 +124,7 @@ pub enum Aspect {
 impl Aspect {
     /// The text of the value.
     pub fn text(self) -> &'static [u8]
-        ensures { result.now ≡ names.aspect_text self }
+        ensures { result.now ≡ listed.aspect_text self }
     {
         match self {
             Aspect::Progressive => b"PROGRESSIVE",
@@ -136,9 +136,9 @@ impl Aspect {
 }
 
 impl Named for Aspect {
-    ghost text_of = { names.aspect_text };
+    ghost text_of = { listed.aspect_text };
 
-    ghost all_of = { names.all_aspects };
+    ghost all_of = { listed.all_aspects };
 
     ghost apart = { Prim.search rules };
 
@@ -172,7 +172,7 @@ pub enum Pos {
 impl Pos {
     /// The text of the value.
     pub fn text(self) -> &'static [u8]
-        ensures { result.now ≡ names.pos_text self }
+        ensures { result.now ≡ listed.pos_text self }
     {
         match self {
             Pos::Adjective => b"ADJECTIVE",
@@ -187,9 +187,9 @@ impl Pos {
 }
 
 impl Named for Pos {
-    ghost text_of = { names.pos_text };
+    ghost text_of = { listed.pos_text };
 
-    ghost all_of = { names.all_pos };
+    ghost all_of = { listed.all_pos };
 
     ghost apart = { Prim.search rules };
 
@@ -220,7 +220,7 @@ pub enum Polarity {
 impl Polarity {
     /// The text of the value.
     pub fn text(self) -> &'static [u8]
-        ensures { result.now ≡ names.polarity_text self }
+        ensures { result.now ≡ listed.polarity_text self }
     {
         match self {
             Polarity::Positive => b"POS",
@@ -230,9 +230,9 @@ impl Polarity {
 }
 
 impl Named for Polarity {
-    ghost text_of = { names.polarity_text };
+    ghost text_of = { listed.polarity_text };
 
-    ghost all_of = { names.all_polarities };
+    ghost all_of = { listed.all_polarities };
 
     ghost apart = { Prim.search rules };
 
@@ -261,7 +261,7 @@ pub enum DocFunction {
 impl DocFunction {
     /// The text of the value.
     pub fn text(self) -> &'static [u8]
-        ensures { result.now ≡ names.function_text self }
+        ensures { result.now ≡ listed.function_text self }
     {
         match self {
             DocFunction::CreationTime => b"CREATION_TIME",
@@ -276,9 +276,9 @@ impl DocFunction {
 }
 
 impl Named for DocFunction {
-    ghost text_of = { names.function_text };
+    ghost text_of = { listed.function_text };
 
-    ghost all_of = { names.all_functions };
+    ghost all_of = { listed.all_functions };
 
     ghost apart = { Prim.search rules };
 
@@ -312,7 +312,7 @@ pub enum AspectRel {
 impl AspectRel {
     /// The text of the value.
     pub fn text(self) -> &'static [u8]
-        ensures { result.now ≡ names.aspect_rel_text self }
+        ensures { result.now ≡ listed.aspect_rel_text self }
     {
         match self {
             AspectRel::Initiates => b"INITIATES",
@@ -325,9 +325,9 @@ impl AspectRel {
 }
 
 impl Named for AspectRel {
-    ghost text_of = { names.aspect_rel_text };
+    ghost text_of = { listed.aspect_rel_text };
 
-    ghost all_of = { names.all_aspect_rels };
+    ghost all_of = { listed.all_aspect_rels };
 
     ghost apart = { Prim.search rules };
 
@@ -362,7 +362,7 @@ pub enum SubRel {
 impl SubRel {
     /// The text of the value.
     pub fn text(self) -> &'static [u8]
-        ensures { result.now ≡ names.sub_rel_text self }
+        ensures { result.now ≡ listed.sub_rel_text self }
     {
         match self {
             SubRel::Modal => b"MODAL",
@@ -377,9 +377,9 @@ impl SubRel {
 }
 
 impl Named for SubRel {
-    ghost text_of = { names.sub_rel_text };
+    ghost text_of = { listed.sub_rel_text };
 
-    ghost all_of = { names.all_sub_rels };
+    ghost all_of = { listed.all_sub_rels };
 
     ghost apart = { Prim.search rules };
 
