@@ -1,2 +1,9 @@
 pub mod RepeatedNames
 pub mod NameEntries
+pub mod KindNames
+pub mod OneRule
+pub mod OneTag
+pub mod OneTyped
+pub mod OneAnswer
+pub mod Walks
+pub mod Rising

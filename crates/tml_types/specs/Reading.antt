@@ -1,6 +1,5 @@
 -- What the attributes of a tag say, one by one: what the private contracts say of reading them.
 use Rattle.std.specs.Prelude.{◌≡◌, ◌⊎◌, ℕ, Bool, true, ◌||◌, List, Option, Some, None, is_some, map}
-use Rattle.std.specs.Borrow.{Bor}
 use Rattle.tml_span.specs.Units.{Attribute}
 use Rattle.tml_span.specs.View.{attribute_of}
 use Rattle.tml_types.specs.declared.attributes.Attributes.{Attributes}

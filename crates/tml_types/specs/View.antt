@@ -25,8 +25,15 @@ typed_of (Instance place eiid of_event by_signal tense aspect pos polarity) = re
 typed_of (Timex place tid kind value modifier function temporal anchor begin finish) = record {
   place = place;
   content = timex (record {
-    tid = tid.now; kind = kind; value = value; modifier = modifier; function = function; temporal = temporal;
-    anchor = text_of anchor; begin = text_of begin; finish = text_of finish;
+    tid = tid.now;
+    kind = kind;
+    value = value;
+    modifier = modifier;
+    function = function;
+    temporal = temporal;
+    anchor = text_of anchor;
+    begin = text_of begin;
+    finish = text_of finish;
   });
 }
 typed_of (Signal place sid) = record { place = place; content = signal (record { sid = sid.now }) }

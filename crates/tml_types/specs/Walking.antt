@@ -35,6 +35,7 @@ pub record Reads (name : TagName) (attrs : List Attribute) (place : ℕ) (t : Pl
   pub none_bad : list_any (is_bad attrs) (rows_of name) ≡ false
   pub no_conflict : list_any (is_conflict attrs) (rows_of name) ≡ false
   pub place_is : t.place ≡ place
+  pub small : IsPlaceSmall t
   pub kind : text_of name ≡ tag_name (kind_of t.content)
   pub fields : HasFields attrs t.content
 

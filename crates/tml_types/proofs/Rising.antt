@@ -1,0 +1,174 @@
+-- The tags of a source stand one behind another, so the places of its typed tags rise.
+use Rattle.std.proofs.Common.{◌≡◌, ℕ, suc, Bool, true, false, cond, ◌+◌, ◌<◌, ◌≤◌, ◌^◌, List, [], ◌∷◌, ◌++◌, length, map, refl, sym, ap, ◌∙◌, inl, inr, append-nil, length-append, arith, rules, codes, All, subst, Some, None}
+use Rattle.std.specs.Option.{IfSome}
+use Rattle.std.specs.List.{AllZip, filter}
+use Rattle.std.proofs.lemmas.List.{map-append}
+use Rattle.std.proofs.lemmas.List.Elements.{filter-append, All-nil, All-cons, All-head, All-tail}
+use Rattle.tml_span.specs.Cutting.{CutsFrom}
+use Rattle.tml_span.specs.Units.{Attribute, Kind, PlainUnit, SpelledTag, Spelled, bom, declaration, doctype, comment, text, start_tag, end_tag, empty_tag}
+use Rattle.tml_tree.specs.Nesting.{Item, Items, is_content, is_element}
+use Rattle.tml_tree.specs.Plain.{PlainNode, PlainNodes, text_node, comment_node, element, none, more, nodes_of, unit}
+use Rattle.tml_tree.specs.Trees.{Document}
+use Rattle.tml_tree.specs.Walking.{PlainTag, elements, all_elements}
+use Rattle.tml_tree.specs.Whole.{IsTreeOf}
+use Rattle.tml_types.specs.Content.{PlainTyped}
+use Rattle.tml_types.specs.Places.{place_of, Rises, IsPlaceSmall, ArePlaced}
+use Rattle.tml_types.specs.Rules.{AreSoundBefore, Breaks, IsSound}
+use Rattle.tml_types.specs.Typing.{TypedAs}
+use Rattle.tml_types.specs.Whole.{AreTyped, FaultAt, HasFault, IsAtLeastPlace, has_rows, kind_and_place}
+use Rattle.tml_types.specs.declared.walk.TypeFault.{TypeFault}
+use Rattle.faults.specs.declared.kind.FaultKind.{FaultKind}
+use Rattle.faults.proofs.First.{all_of_none}
+
+-- ---- the starts of tags
+
+abbrev begins_tag : PlainUnit → Bool
+begins_tag u = elim u.kind [ start_tag name attrs ↦ true | empty_tag name attrs ↦ true | _ ↦ false ]
+
+abbrev start_of : PlainUnit → ℕ
+start_of u = u.start
+
+abbrev starts : List PlainUnit → List ℕ
+starts us = map start_of (filter begins_tag us)
+
+abbrev at : PlainTag → ℕ
+at tag = tag.place
+
+starts_append : (us vs : List PlainUnit) → starts (us ++ vs) ≡ starts us ++ starts vs
+starts_append us vs = ap (λ (xs : List PlainUnit). map start_of xs) (filter-append begins_tag us vs) ∙ map-append start_of (filter begins_tag us) (filter begins_tag vs)
+
+starts_kind : (start end : ℕ) (k : Kind) (us : List PlainUnit) → starts (filter is_content us) ≡ starts us → starts (filter is_content (unit start end k ∷ us)) ≡ starts (unit start end k ∷ us)
+starts_kind start end bom us h = h
+starts_kind start end (declaration b) us h = h
+starts_kind start end (doctype b) us h = h
+starts_kind start end (comment b) us h = h
+starts_kind start end (text b) us h = h
+starts_kind start end (end_tag name) us h = h
+starts_kind start end (start_tag name attrs) us h = ap (λ (ns : List ℕ). start ∷ ns) h
+starts_kind start end (empty_tag name attrs) us h = ap (λ (ns : List ℕ). start ∷ ns) h
+
+starts_of_content : (us : List PlainUnit) → starts (filter is_content us) ≡ starts us
+starts_of_content [] = refl
+starts_of_content (u ∷ us) = starts_kind u.start u.end u.kind us (starts_of_content us)
+
+-- ---- elements begin where tags begin
+
+mutual
+  item_starts : (n : PlainNode) (us : List PlainUnit) → Item n us → map at (elements n) ≡ starts us
+  item_starts (text_node start end bytes) us h = rw h refl
+  item_starts (comment_node start end bytes) us h = rw h refl
+  item_starts (element start end name attrs children) us (inl h) = rw (h.0, h.1) refl
+  item_starts (element start end name attrs children) us (inr h) =
+      rw (h.3) (ap (λ (ns : List ℕ). start ∷ ns) (items_starts children h.0 h.4 ∙ sym (starts_append h.0 (unit h.2 end (end_tag name) ∷ []) ∙ append-nil (starts h.0))))
+
+  items_starts : (ns : PlainNodes) (us : List PlainUnit) → Items ns us → map at (all_elements ns) ≡ starts us
+  items_starts none us h = rw h refl
+  items_starts (more n ns) us h = rw (h.2, map-append at (elements n) (all_elements ns), starts_append h.0 h.1, item_starts n h.0 h.3, items_starts ns h.1 h.4) refl
+
+only_elements : (nodes : List PlainNode) → all_elements (nodes_of nodes) ≡ all_elements (nodes_of (filter is_element nodes))
+only_elements [] = refl
+only_elements (text_node start end bytes ∷ nodes) = only_elements nodes
+only_elements (comment_node start end bytes ∷ nodes) = only_elements nodes
+only_elements (element start end name attrs children ∷ nodes) = ap (λ (ts : List PlainTag). elements (element start end name attrs children) ++ ts) (only_elements nodes)
+
+root_starts : (root : PlainNode) (us : List PlainUnit) → Document root us → map at (elements root) ≡ starts us
+root_starts root us d =
+    let nodes = d.1.0 in
+    let all : all_elements (nodes_of nodes) ≡ elements root ++ [] = only_elements nodes ∙ ap (λ (ns : List PlainNode). all_elements (nodes_of ns)) d.1.2 in
+    ap (λ (ts : List PlainTag). map at ts) (sym (all ∙ append-nil (elements root))) ∙ items_starts (nodes_of nodes) (filter is_content us) d.1.1 ∙ starts_of_content us
+
+-- ---- units stand one behind another, and a tag has two bytes or more
+
+abbrev Spaced : ℕ → List ℕ → Type 0
+Spaced low [] = Unit {0}
+Spaced low (n ∷ ns) = (low ≤ n) × Spaced (n + 2) ns
+
+spaced_lower : (low high : ℕ) (ns : List ℕ) → low ≤ high → Spaced high ns → Spaced low ns
+spaced_lower low high [] e h = tt
+spaced_lower low high (n ∷ ns) e h = (omega arith, h.1)
+
+tag_len : (place : ℕ) (name : List ℕ) (attrs : List Attribute) (close spelling : List ℕ) → SpelledTag place name attrs close spelling → 1 ≤ length close → 2 ≤ length spelling
+tag_len place name attrs close spelling s k =
+    let e : length spelling ≡ suc (length (name ++ s.inner ++ s.white)) + length close = ap length s.whole ∙ length-append (60 ∷ (name ++ s.inner ++ s.white)) close in
+    omega arith
+
+spaced_tag : (place start : ℕ) (front : List ℕ) (ns : List ℕ) → start ≡ place → 2 ≤ length front → Spaced (place + length front) ns → Spaced place (start ∷ ns)
+spaced_tag place start front ns e k h = (omega arith, spaced_lower (start + 2) (place + length front) ns (omega arith) h)
+
+spaced_kind : (place start end : ℕ) (k : Kind) (front : List ℕ) (us : List PlainUnit) → Spelled place (unit start end k) front → Spaced (place + length front) (starts us) → Spaced place (starts (unit start end k ∷ us))
+spaced_kind place start end bom front us s h = spaced_lower place (place + length front) (starts us) (omega arith) h
+spaced_kind place start end (declaration b) front us s h = spaced_lower place (place + length front) (starts us) (omega arith) h
+spaced_kind place start end (doctype b) front us s h = spaced_lower place (place + length front) (starts us) (omega arith) h
+spaced_kind place start end (comment b) front us s h = spaced_lower place (place + length front) (starts us) (omega arith) h
+spaced_kind place start end (text b) front us s h = spaced_lower place (place + length front) (starts us) (omega arith) h
+spaced_kind place start end (end_tag name) front us s h = spaced_lower place (place + length front) (starts us) (omega arith) h
+spaced_kind place start end (start_tag name attrs) front us s h = spaced_tag place start front (starts us) s.start (tag_len place name attrs (codes ">") front s.kind (omega arith)) h
+spaced_kind place start end (empty_tag name attrs) front us s h = spaced_tag place start front (starts us) s.start (tag_len place name attrs (codes "/>") front s.kind (omega arith)) h
+
+cut_spaced : (place : ℕ) (bytes : List ℕ) (us : List PlainUnit) (rest : List ℕ) → CutsFrom place bytes us rest → Spaced place (starts us)
+cut_spaced place bytes [] rest c = tt
+cut_spaced place bytes (u ∷ us) rest c = spaced_kind place u.start u.end u.kind c.0 us c.3 (cut_spaced (place + length c.0) c.1 us rest c.5)
+
+tree_spaced : (source : List ℕ) (root : PlainNode) → IsTreeOf source root → Spaced 0 (map at (elements root))
+tree_spaced source root t = rw (root_starts root t.0 t.2) (cut_spaced 0 source t.0 [] t.1.1)
+
+-- ---- the places of typed tags
+
+filter_spaced : (low : ℕ) (tags : List PlainTag) → Spaced low (map at tags) → Spaced low (map at (filter has_rows tags))
+filter_spaced low [] s = tt
+filter_spaced low (tag ∷ tags) s =
+    elim (has_rows tag) as (λ b. Spaced low (map at (cond b (tag ∷ filter has_rows tags) (filter has_rows tags)))) [
+      | true ↦ (s.0, filter_spaced (tag.place + 2) tags s.1)
+      | false ↦ filter_spaced low tags (spaced_lower low (tag.place + 2) (map at tags) (omega arith) s.1)
+    ]
+
+typed_spaced : (low : ℕ) (tags : List PlainTag) (typed : List PlainTyped) → AllZip TypedAs tags typed → Spaced low (map at tags) → Spaced low (map place_of typed)
+typed_spaced low [] [] h s = tt
+typed_spaced low [] (t ∷ ts) h s = absurd h
+typed_spaced low (tag ∷ tags) [] h s = tt
+typed_spaced low (tag ∷ tags) (t ∷ ts) h s = rw (h.0.place) (s.0, typed_spaced (tag.place + 2) tags ts h.1 s.1)
+
+spaced_rises : (low : ℕ) (ns : List ℕ) → Spaced low ns → Rises low ns
+spaced_rises low [] h = tt
+spaced_rises low (n ∷ ns) h = (h.0, spaced_rises (n + 1) ns (spaced_lower (n + 1) (n + 2) ns (omega arith) h.1))
+
+spaced_few : (low high : ℕ) (ts : List PlainTyped) → Spaced low (map place_of ts) → low ≤ high + 1 → All (λ (t : PlainTyped). t.place < high) ts → low + (length ts + length ts) ≤ high + 1
+spaced_few low high [] h k f = omega arith
+spaced_few low high (t ∷ ts) h k f =
+    let here : t.place < high = All-head (λ (t : PlainTyped). t.place < high) t ts f in
+    let least = h.0 in
+    let rest = spaced_few (t.place + 2) high ts h.1 (omega arith) (All-tail (λ (t : PlainTyped). t.place < high) t ts f) in
+    omega arith
+
+half : (n high : ℕ) → 0 + (n + n) ≤ high + 1 → 1 < high → n < high
+half n high h k = omega arith
+
+pub tree_placed : (source : List ℕ) (root : PlainNode) (typed : List PlainTyped) → IsTreeOf source root → AreTyped (elements root) typed → All IsPlaceSmall typed → ArePlaced typed
+tree_placed source root typed t a f =
+    let spaced = typed_spaced 0 (filter has_rows (elements root)) typed a (filter_spaced 0 (elements root) (tree_spaced source root t)) in
+    record { rising = spaced_rises 0 (map place_of typed) spaced; small = f; few = half (length typed) (2 ^ 32) (spaced_few 0 (2 ^ 32) typed spaced (search rules) f) (search rules) }
+
+-- ---- the first tag at fault is the one at the least place
+
+sound_before : (place : ℕ) (tags : List PlainTag) → All IsSound tags → AreSoundBefore place tags
+sound_before place [] h = All-nil _
+sound_before place (tag ∷ tags) h = All-cons (λ (t : PlainTag). t.place < place → IsSound t) tag tags (λ below. All-head IsSound tag tags h) (sound_before place tags (All-tail IsSound tag tags h))
+
+none_before : (place low : ℕ) (tags : List PlainTag) → place ≤ low → Spaced low (map at tags) → AreSoundBefore place tags
+none_before place low [] l s = All-nil _
+none_before place low (tag ∷ tags) l s =
+    let least = s.0 in
+    All-cons (λ (t : PlainTag). t.place < place → IsSound t) tag tags (λ below. absurd (omega arith)) (none_before place (tag.place + 2) tags (omega arith) s.1)
+
+least_place : (low : ℕ) (before after : List PlainTag) (tag : PlainTag) → All IsSound before → Spaced low (map at (before ++ tag ∷ after)) → AreSoundBefore tag.place (before ++ tag ∷ after)
+least_place low [] after tag h s = none_before tag.place tag.place (tag ∷ after) (omega arith) (omega arith, s.1)
+least_place low (b ∷ before) after tag h s =
+    All-cons (λ (t : PlainTag). t.place < tag.place → IsSound t) b (before ++ tag ∷ after) (λ below. All-head IsSound b before h) (least_place (b.place + 2) before after tag (All-tail IsSound b before h) s.1)
+
+pub tree_least : (source : List ℕ) (root : PlainNode) (fault : TypeFault) → IsTreeOf source root → HasFault (elements root) fault → IsAtLeastPlace (elements root) fault
+tree_least source root fault t h = elim (kind_and_place fault) as (λ o. IfSome o (λ (f : FaultKind × ℕ). FaultAt (elements root) f.1 f.0) → IfSome o (λ (f : FaultKind × ℕ). AreSoundBefore f.1 (elements root))) [
+  | None ↦ λ k. tt
+  | Some f ↦ λ k.
+      let spaced : Spaced 0 (map at (k.before ++ k.element ∷ k.after)) = subst (λ (tags : List PlainTag). Spaced 0 (map at tags)) k.whole (tree_spaced source root t) in
+      rw (k.whole, k.place_is) (least_place 0 k.before k.after k.element (all_of_none Breaks k.before k.none_before) spaced)
+] h
