@@ -37,11 +37,14 @@ all_truths = true ∷ false ∷ []
 abbrev pub is_named : {T : Type 0} → (T → List ℕ) → List T → List ℕ → Bool
 is_named text_of all text = is_some (named_of text_of all text)
 
+abbrev pub is_truth : List ℕ → Bool
+is_truth text = is_named truth_text all_truths text
+
 -- a text is of a form
 abbrev pub is_of_form : form.ValueForm → List ℕ → Bool
 is_of_form form.identifier text = is_identifier text
 is_of_form form.any_text text = true
-is_of_form form.truth text = is_named truth_text all_truths text
+is_of_form form.truth text = is_truth text
 is_of_form form.event_class text = is_named listed.class_text listed.all_classes text
 is_of_form form.tense text = is_named listed.tense_text listed.all_tenses text
 is_of_form form.aspect text = is_named listed.aspect_text listed.all_aspects text

@@ -108,8 +108,12 @@ fn tlink<'s>(of: &Attributes<'_, 's>) -> Result<TypedTag<'s>, TypeFault>
     let lid = of.optional_identifier(b"lid")?;
     let signal = of.optional_identifier(b"signalID")?;
 
-    let left = of.one_of(left)?;
-    let right = of.one_of(right)?;
+    let Some(left) = left.one() else {
+        return Err(TypeFault::Conflict { place: of.place });
+    };
+    let Some(right) = right.one() else {
+        return Err(TypeFault::Conflict { place: of.place });
+    };
     Ok(TypedTag::Tlink {
         place: of.place,
         lid,
