@@ -1,5 +1,6 @@
 pub mod Endings
 pub mod Faults
+pub mod FirstFaults
 pub mod Known
 pub mod LastUnits
 pub mod LinkTags
@@ -8,4 +9,4 @@ pub mod Pulling
 pub mod Rows
 pub mod Running
 pub mod Stacks
-pub mod Standing
+pub mod Taken

@@ -7,7 +7,7 @@ use Rattle.tml_tree.specs.declared.whole.TreeFault.{TreeFault}
 use Rattle.tml_tree.specs.declared.pulled.SourceFault.{SourceFault}
 use Rattle.tml_tree.specs.declared.pulled.SourceFault.TheVariants.{Cut, Tree}
 use Rattle.tml_tree.specs.Pulled.{Outranks}
-use Rattle.tml_tree.specs.Whole.{FaultOf, HasSourceFault}
+use Rattle.tml_tree.specs.Whole.{UnitsFault, HasSourceFault}
 
 -- one unit more behind some
 pub one_behind : (start old new : Progress) (u : PlainUnit) → ((done : List PlainUnit) → HasGiven start done → (more : List PlainUnit) × HasGiven old (done ++ more))
@@ -18,7 +18,7 @@ one_behind start old new u some step done h =
 
 -- a fault of the units so far, however they go on, is told unless the cut has one
 pub outranked : (p : Progress) (source : List ℕ) (fault : TreeFault) (result : SourceFault) (done : List PlainUnit) → p.source ≡ source → Outranks p fault result → HasGiven p done
-    → ((more : List PlainUnit) → FaultOf (length p.source) (done ++ more) fault) → HasSourceFault source result
+    → ((more : List PlainUnit) → UnitsFault (length p.source) (done ++ more) fault) → HasSourceFault source result
 outranked p source fault (Cut cut) done e h g f = subst (λ (s : List ℕ). HasFault s cut) e h
 outranked p source fault (Tree kept) done e h g f =
     let m = h.1 done g in

@@ -1,11 +1,13 @@
 -- The plain values that tags and nodes stand for.
 use Rattle.std.specs.Prelude.{ℕ, List, map, reverse}
+use Rattle.tml_span.specs.declared.unit.Span.{Span}
+use Rattle.tml_span.specs.Units.{Kind, PlainUnit}
 use Rattle.tml_span.specs.View.{attribute_of}
 use Rattle.tml_tree.specs.declared.builder.Frame.{Frame}
 use Rattle.tml_tree.specs.declared.node.Tag.{Tag}
 use Rattle.tml_tree.specs.declared.node.Node.{Node, Element, Text, Comment, Element', Row_of-Node, end_of-Node, more_of-Node}
 use Rattle.tml_tree.specs.Names.{text_of}
-use Rattle.tml_tree.specs.Plain.{PlainNode, PlainNodes, text_node, comment_node, element, none, more}
+use Rattle.tml_tree.specs.Plain.{PlainNode, PlainNodes, text_node, comment_node, element, none, more, unit}
 use Rattle.tml_tree.specs.Nesting.{OpenTag}
 
 abbrev mutual
@@ -20,6 +22,10 @@ abbrev mutual
 
 abbrev pub tag_node : Tag → PlainNode
 tag_node t = node_of (Element t)
+
+-- a unit of that kind at a span
+abbrev pub at_span : Span → Kind → PlainUnit
+at_span span kind = unit span.start span.end kind
 
 -- ---- what a builder has open
 

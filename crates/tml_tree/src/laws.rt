@@ -1,5 +1,5 @@
 //! Laws of trees: public functions that do nothing, each with the law as its contract.
-ghost use Rattle.tml_tree.specs.Trees.{LastUnit, OneAnswers, OnePath, OneTree};
+ghost use Rattle.tml_tree.specs.Trees.{LastUnit, OneAnswers, OnePath, OneTree, PathEnds};
 ghost use Rattle.tml_tree.specs.Whole.{OneTreeOfSource};
 
 /// Units have one path.
@@ -11,6 +11,11 @@ pub fn one_path()
 /// open tags differ.
 pub fn last_unit()
     ensures { LastUnit }
+{}
+
+/// The units before one at fault have a path, and with it they have none.
+pub fn path_ends()
+    ensures { PathEnds }
 {}
 
 /// Units make one tree.

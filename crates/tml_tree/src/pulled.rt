@@ -5,7 +5,6 @@ ghost use Rattle.tml_tree.specs.View.{tag_node};
 ghost use Rattle.tml_tree.specs.Whole.{HasSourceFault, IsTreeOf};
 
 use crate::builder::Builder;
-use crate::whole::{fault_at, span_of};
 use crate::{Tag, TreeFault};
 use std::alloc::Global;
 use tml_span::{Cut, UnitReader};
@@ -33,9 +32,8 @@ pub fn root_of_source<'s>(alloc: Global, source: &'s [u8]) -> Result<Tag<'s>, So
     loop {
         match reader.pull(alloc) {
             Ok(Some(unit)) => {
-                let place = span_of(&unit).start;
-                if let Err(stop) = builder.take(alloc, unit) {
-                    return Err(behind(alloc, reader, fault_at(stop, place)));
+                if let Err(fault) = builder.take(alloc, unit) {
+                    return Err(behind(alloc, reader, fault));
                 }
             }
             Ok(None) => match builder.finish() {

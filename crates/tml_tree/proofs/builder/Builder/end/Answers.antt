@@ -9,7 +9,7 @@ pub returns-then-not-is_name_of-clause-err : goal.returns-then-not-is_name_of-cl
 returns-then-not-is_name_of-clause-err c =
     let old : c.args.self.now.frames.items ≡ c.pop.new.self.items ++ c.in-Some.frame ∷ [] = grind (arith, common_steps) in
     let other : bytes_eq (text_of c.in-Some.frame.name) c.args.name.now ≡ false = cc in
-    rw (innermost_is _ _ _ c.args.name.now old, other) refl
+    rw (innermost_is _ _ _ c.args.name.now old, other) (refl, refl)
 
 pub returns-clause-ok : goal.returns-clause-ok
 returns-clause-ok c =
