@@ -3,7 +3,7 @@ use Rattle.std.proofs.Common.{◌≡◌, inl, inr, ℕ, ◌+◌, ◌-◌, ◌<�
 use Rattle.tml_span.specs.Units.{PlainUnit}
 use Rattle.tml_span.specs.Cutting.{Stops, CutsFrom, Finds}
 use Rattle.tml_span.specs.References.{pieces_of, IsBadIn, IsBad, IsFirst, IsNowhere}
-use Rattle.tml_span.specs.Faults.{CutFault, bad_markup, bad_reference}
+use Rattle.tml_span.specs.Faults.{HasBadMarkup, HasBadReference}
 use Rattle.tml_span.specs.Whole.{IsWhole}
 use Rattle.tml_span.specs.Reader.{Progress, HasGiven, IsProgress}
 use Rattle.tml_span.proofs.Joining.{goes_on, stops_here, whole_here}
@@ -19,7 +19,7 @@ pub gives_all : (source rest : List ℕ) (place : ℕ) → IsProgress (at source
 gives_all source rest place p none done given = (p.utf8, whole_here source rest done place given.cuts none, given.sound)
 
 -- where no unit begins, the source has a fault
-pub gives_fault : (source rest : List ℕ) (place : ℕ) → IsProgress (at source place rest) → (length rest ≡ 0 → ⊥) → Stops place rest → CutFault source (bad_markup place)
+pub gives_fault : (source rest : List ℕ) (place : ℕ) → IsProgress (at source place rest) → (length rest ≡ 0 → ⊥) → Stops place rest → HasBadMarkup source place
 gives_fault source rest place p some stops = (p.utf8, p.given.0, rest, stops_here source rest p.given.0 place p.given.1.cuts stops, p.given.1.sound, (λ e. some (ap length e)), p.place)
 
 -- one unit more is given, where no reference in it is bad
@@ -46,7 +46,7 @@ bad_later place bytes (u ∷ units) rest h bad (inl b) =
 bad_later place bytes (u ∷ units) rest h bad (inr b) = omega (arith, bad_later (place + length h.0) h.1 units rest h.5 bad b)
 
 -- the first bad reference of a unit is that of the source, where none is bad before it
-pub gives_bad_reference : (source rest after : List ℕ) (place : ℕ) (u : PlainUnit) (bad : ℕ) → IsProgress (at source place rest) → Finds place rest u after → IsFirst (IsBadIn (pieces_of u)) bad → CutFault source (bad_reference bad)
+pub gives_bad_reference : (source rest after : List ℕ) (place : ℕ) (u : PlainUnit) (bad : ℕ) → IsProgress (at source place rest) → Finds place rest u after → IsFirst (IsBadIn (pieces_of u)) bad → HasBadReference source bad
 gives_bad_reference source rest after place u bad p found first =
     let front = found.0 in
     let done = p.given.0 in

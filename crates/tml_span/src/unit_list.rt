@@ -5,7 +5,7 @@ ghost use Rattle.tml_span.specs.Faults.{HasFault};
 ghost use Rattle.tml_span.specs.Slices.{UnitStands};
 ghost use Rattle.tml_span.specs.Whole.{IsWhole};
 
-use crate::reader::{Cut, UnitReader};
+use crate::reader::{Cut, NotUtf8, UnitReader};
 use crate::{List, Unit};
 use std::alloc::Global;
 use std::marker::Model;
@@ -75,7 +75,7 @@ pub fn units<'s>(alloc: Global, source: &'s [u8]) -> Result<UnitList<'s>, Cut>
 {
     let mut reader = match UnitReader::new(source) {
         Ok(reader) => reader,
-        Err(fault) => return Err(fault),
+        Err(NotUtf8 { place }) => return Err(Cut::NotUtf8 { place }),
     };
     let mut units = List::new(alloc);
     loop {
