@@ -224,6 +224,6 @@ ends_whole us b root s e f =
     (subst (λ (ts : List OpenTag). AtMostOne ts (map view.node_of b.nodes.items)) (no_tags b e) s.single) f
 
 -- the fault of a builder that refuses
-pub refused : (end : ℕ) (us rest : List PlainUnit) (u : PlainUnit) (b : Builder) (o : Option (FaultKind × ℕ)) → HasTaken us b → IfSome o (λ f. (fault_of b u ≡ Some f.0) × (f.1 ≡ u.start)) → IfSome o (λ f. FaultOf end (us ++ u ∷ rest) f.0 f.1)
+pub refused : (end : ℕ) (us rest : List PlainUnit) (u : PlainUnit) (b : Builder) (o : Option (FaultKind × ℕ)) → HasTaken us b → IfSome o (λ f. (fault_of b u ≡ Some f.0) × (f.1 ≡ u.start)) → IfSome o (λ f. FaultOf end (us ++ u ∷ rest) f.1 f.0)
 refused end us rest u b None s r = tt
 refused end us rest u b (Some f) s r = inl (rw r.1 (fault_here us rest u b f.0 s r.0))

@@ -4,7 +4,7 @@ use Rattle.faults.specs.declared.kind.FaultKind.{FaultKind}
 use Rattle.faults.specs.declared.kind.FaultKind.TheVariants as fault
 use Rattle.tml_span.specs.Units.{PlainUnit}
 use Rattle.tml_span.specs.Whole.{Cutting, IsWhole}
-use Rattle.tml_span.specs.Faults.{HasFault as HasCutFault}
+use Rattle.tml_span.specs.Faults.{CutFault, kind_and_place as cut_kind_and_place}
 use Rattle.tml_tree.specs.declared.pulled.SourceFault.{SourceFault}
 use Rattle.tml_tree.specs.declared.pulled.SourceFault.TheVariants.{Cut, Tree}
 use Rattle.tml_tree.specs.declared.whole.TreeFault.{TreeFault}
@@ -30,18 +30,33 @@ kind_and_place (tree.TooDeep place) = Some (fault.TooDeep, place)
 kind_and_place tree.Memory = None
 
 -- a fault of units whose source has this length: the first unit that breaks a rule, or at the end a root that is not closed
-abbrev pub FaultOf : ℕ → List PlainUnit → FaultKind → ℕ → Type 0
-FaultOf end us kind place = FaultAt us place kind ⊎ ((kind ≡ fault.Unclosed) × (place ≡ end) × Unclosed us)
+abbrev pub FaultOf : ℕ → List PlainUnit → ℕ → FaultKind → Type 0
+FaultOf end us place kind = FaultAt us place kind ⊎ ((kind ≡ fault.Unclosed) × (place ≡ end) × Unclosed us)
 
 -- what a fault says of units whose source has this length
 abbrev pub UnitsFault : ℕ → List PlainUnit → TreeFault → Type 0
-UnitsFault end us fault = IfSome (kind_and_place fault) (λ f. FaultOf end us f.0 f.1)
+UnitsFault end us fault = IfSome (kind_and_place fault) (λ f. FaultOf end us f.1 f.0)
 
 -- the same of a source with its units
 abbrev pub HasFault : Cutting → TreeFault → Type 0
 HasFault c fault = UnitsFault (length c.source) c.units fault
 
 -- why a source has no tree: the fault of its cut, or where it has none that of its units
+abbrev pub SourceFaultAt : List ℕ → ℕ → FaultKind → Type 0
+SourceFaultAt source place kind = CutFault source place kind ⊎ ((units : List PlainUnit) × IsWhole (record { source = source; units = units }) × FaultOf (length source) units place kind)
+
+abbrev pub source_kind_and_place : SourceFault → Option (FaultKind × ℕ)
+source_kind_and_place (Cut fault) = cut_kind_and_place fault
+source_kind_and_place (Tree fault) = kind_and_place fault
+
+-- what a refusal says of a source
 abbrev pub HasSourceFault : List ℕ → SourceFault → Type 0
-HasSourceFault source (Cut fault) = HasCutFault source fault
-HasSourceFault source (Tree fault) = (cut : Cutting) × (cut.source ≡ source) × IsWhole cut × HasFault cut fault
+HasSourceFault source fault = IfSome (source_kind_and_place fault) (λ f. SourceFaultAt source f.1 f.0)
+
+-- a source has a tree or a fault, and of faults there is one
+pub record OneSourceAnswer (source : List ℕ) : Type 0 where
+  pub tree_or_fault : (root : PlainNode) (place : ℕ) (kind : FaultKind) → IsTreeOf source root → SourceFaultAt source place kind → ⊥
+  pub one_fault : (place other : ℕ) (kind same : FaultKind) → SourceFaultAt source place kind → SourceFaultAt source other same → (place ≡ other) × (kind ≡ same)
+
+abbrev pub OneSourceAnswers : Type 0
+OneSourceAnswers = (source : List ℕ) → OneSourceAnswer source

@@ -1,6 +1,6 @@
 //! Laws of trees: public functions that do nothing, each with the law as its contract.
 ghost use Rattle.tml_tree.specs.Trees.{LastUnit, OneAnswers, OnePath, OneTree, PathEnds};
-ghost use Rattle.tml_tree.specs.Whole.{OneTreeOfSource};
+ghost use Rattle.tml_tree.specs.Whole.{OneSourceAnswers, OneTreeOfSource};
 
 /// Units have one path.
 pub fn one_path()
@@ -31,4 +31,9 @@ pub fn one_tree_of_source()
 /// A tree and each of the faults exclude each other, and units have one fault at most.
 pub fn one_answer()
     ensures { OneAnswers }
+{}
+
+/// A tree and a fault of a source exclude each other, and a source has one fault at most.
+pub fn one_source_answer()
+    ensures { OneSourceAnswers }
 {}

@@ -12,7 +12,7 @@ mod tag_tree;
 mod tests;
 mod whole;
 
-pub use laws::{last_unit, one_answer, one_path, one_tree, one_tree_of_source, path_ends};
+pub use laws::{last_unit, one_answer, one_path, one_source_answer, one_tree, one_tree_of_source, path_ends};
 pub use names::TagName;
 pub use node::{Node, Tag};
 pub use pulled::SourceFault;

@@ -1,13 +1,15 @@
 //! The root of a source whose units are pulled one by one.
-ghost use Rattle.std.specs.Prelude.{◌<◌, ◌^◌, length, IfOk, IfErr};
+ghost use Rattle.std.specs.Prelude.{◌≡◌, ◌<◌, ◌^◌, length, IfOk, IfErr};
 ghost use Rattle.tml_tree.specs.Pulled.{Outranks};
 ghost use Rattle.tml_tree.specs.View.{tag_node};
 ghost use Rattle.tml_tree.specs.Whole.{HasSourceFault, IsTreeOf};
+ghost use Rattle.tml_tree.specs.Whole as whole;
 
 use crate::builder::Builder;
 use crate::{Tag, TreeFault};
+use faults::FaultKind;
 use std::alloc::Global;
-use tml_span::{Cut, UnitReader};
+use tml_span::{Cut, NotUtf8, UnitReader};
 
 /// Why a source has no tree.
 #[derive(Clone, Copy, Debug, PartialEq, Eq)]
@@ -18,6 +20,18 @@ pub enum SourceFault {
     Tree(TreeFault),
 }
 
+impl SourceFault {
+    /// The kind of the fault and its place, or none where it is that memory ran out.
+    pub fn kind_and_place(self) -> Option<(FaultKind, u32)>
+        ensures { result ≡ whole.source_kind_and_place self }
+    {
+        match self {
+            SourceFault::Cut(fault) => fault.kind_and_place(),
+            SourceFault::Tree(fault) => fault.kind_and_place(),
+        }
+    }
+}
+
 /// The root of the document that the units of a source make.
 pub fn root_of_source<'s>(alloc: Global, source: &'s [u8]) -> Result<Tag<'s>, SourceFault>
     requires { length source.now < 2 ^ 32 }
@@ -26,7 +40,7 @@ pub fn root_of_source<'s>(alloc: Global, source: &'s [u8]) -> Result<Tag<'s>, So
 {
     let mut reader = match UnitReader::new(source) {
         Ok(reader) => reader,
-        Err(fault) => return Err(SourceFault::Cut(fault)),
+        Err(NotUtf8 { place }) => return Err(SourceFault::Cut(Cut::NotUtf8 { place })),
     };
     let mut builder = Builder::new(alloc);
     loop {

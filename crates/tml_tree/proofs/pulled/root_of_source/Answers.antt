@@ -1,5 +1,6 @@
-use Rattle.std.proofs.Common.{[], ◌∷◌, ◌++◌, inr, refl, sym, ap, ◌∙◌, append_assoc, length}
+use Rattle.std.proofs.Common.{[], ◌∷◌, ◌++◌, inr, refl, subst, ◌∙◌, append_assoc, length, List, ℕ}
 use Rattle.tml_span.specs.View.{unit_of}
+use Rattle.tml_span.specs.Whole.{IsWhole}
 use Rattle.tml_tree.proofs.Pulling.{outranked}
 use Rattle.tml_tree.proofs.Taken.{taken_more, refused}
 use Rattle.tml_tree.proofs.pulled.root_of_source.Goals as goal
@@ -26,4 +27,6 @@ pub returns-in-None-clause-fault : goal.returns-in-None-clause-fault
 returns-in-None-clause-fault c =
     let gives = rw c.in-Ok-None.field-0-is at c.in-Ok-None.ensures.gives in
     let at = c.loop-unit.invariant.taken in
-    (record { source = c.loop-unit.reader.source; units = at.0 }, c.loop-unit.invariant.source, gives.1 at.0 at.1, inr (refl, sym (ap length c.loop-unit.invariant.source), c.in-None.ensures.none refl _ at.2))
+    let source = c.loop-unit.invariant.source in
+    let whole = subst (λ (s : List ℕ). IsWhole (record { source = s; units = at.0 })) source (gives.1 at.0 at.1) in
+    inr (at.0, whole, inr (refl, refl, c.in-None.ensures.none refl _ at.2))
