@@ -1,8 +1,10 @@
+pub mod Depths
 pub mod Endings
 pub mod Faults
 pub mod FirstFaults
 pub mod Known
 pub mod LastUnits
+pub mod LaidOut
 pub mod LinkTags
 pub mod Paths
 pub mod Pulling

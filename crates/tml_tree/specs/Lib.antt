@@ -1,5 +1,6 @@
 pub mod Names
 pub mod Nesting
+pub mod Places
 pub mod Plain
 pub mod Pulled
 pub mod Roots

@@ -1,4 +1,5 @@
 //! Laws of trees: public functions that do nothing, each with the law as its contract.
+ghost use Rattle.tml_tree.specs.Places.{TreeIsLaidOut};
 ghost use Rattle.tml_tree.specs.Trees.{LastUnit, OneAnswers, OnePath, OneTree, PathEnds};
 ghost use Rattle.tml_tree.specs.Whole.{OneSourceAnswers, OneTreeOfSource};
 
@@ -36,4 +37,10 @@ pub fn one_answer()
 /// A tree and a fault of a source exclude each other, and a source has one fault at most.
 pub fn one_source_answer()
     ensures { OneSourceAnswers }
+{}
+
+/// Each slice of the tree of a source is the source at its place, siblings follow each other inside their parent, and
+/// at most 32 elements are inside each other.
+pub fn tree_is_laid_out()
+    ensures { TreeIsLaidOut }
 {}
