@@ -142,7 +142,7 @@ nowhere_at start bytes none place (inl here) = none here.0 here.1
 nowhere_at start bytes none place (inr nothing) = nothing
 
 -- the first bad place of the first piece with a bad one is the first of all
-first_in : (xs : List Piece) (piece : Piece) (ys : List Piece) (low high place : ℕ) → Follows low (xs ++ piece ∷ ys) high → IsNowhere (IsBadIn xs) → IsFirst (IsBadIn (piece ∷ [])) place → IsFirst (IsBadIn (xs ++ piece ∷ ys)) place
+pub first_in : (xs : List Piece) (piece : Piece) (ys : List Piece) (low high place : ℕ) → Follows low (xs ++ piece ∷ ys) high → IsNowhere (IsBadIn xs) → IsFirst (IsBadIn (piece ∷ [])) place → IsFirst (IsBadIn (xs ++ piece ∷ ys)) place
 first_in xs piece ys low high place h none first =
     let on = follows_on xs (piece ∷ ys) low high h in
     let one = (bad_in_from (piece ∷ []) on.0 (piece.0 + length piece.1) place (on.1.0, omega arith) first.0).1 in

@@ -6,7 +6,7 @@ use Rattle.tml_span.specs.Cutting.{Finds}
 use Rattle.tml_span.specs.References.{value_piece, kind_pieces, kind_attributes, Follows, IsWithin, IsPlaced}
 
 -- a value stands between its place and the closing quote
-value_before_end : (place : ℕ) (a : Attribute) (bytes : List ℕ) → SpelledAttribute place a bytes → place + length a.value < a.end
+pub value_before_end : (place : ℕ) (a : Attribute) (bytes : List ℕ) → SpelledAttribute place a bytes → place + length a.value < a.end
 value_before_end place a bytes h =
     let total = simp length-append at (ap length h.whole) in
     omega (arith, h.end, total)

@@ -1,5 +1,5 @@
 -- References, and where one is bad.
-use Rattle.std.specs.Prelude.{◌≡◌, ◌⊎◌, ℕ, ◌+◌, ◌-◌, ◌<◌, ◌≤◌, true, List, [], ◌∷◌, ◌++◌, length, codes, Contains, map}
+use Rattle.std.specs.Prelude.{◌≡◌, ◌⊎◌, ℕ, ◌+◌, ◌-◌, ◌<◌, ◌≤◌, true, List, [], ◌∷◌, ◌++◌, length, codes, Contains, map, Option, MatchOption}
 use Rattle.std.specs.List.{list_all, AllByRecursion}
 use Rattle.tml_span.specs.Bytes.{is_digit, is_hex_digit}
 use Rattle.tml_span.specs.Units.{Attribute, Kind, text, start_tag, empty_tag, PlainUnit}
@@ -74,6 +74,10 @@ IsFirst Bad place = Bad place × ((other : ℕ) → Bad other → place ≤ othe
 -- nothing is bad at any place
 abbrev pub IsNowhere : (ℕ → Type 0) → Type 0
 IsNowhere Bad = (place : ℕ) → Bad place → ⊥
+
+-- the first bad place in these pieces, or none where none is bad
+abbrev pub FirstBadIn : List Piece → Option ℕ → Type 0
+FirstBadIn pieces bad = MatchOption bad (IsNowhere (IsBadIn pieces)) (IsFirst (IsBadIn pieces))
 
 -- the pieces stand one behind another, from a place up to another
 abbrev pub Follows : ℕ → List Piece → ℕ → Type 0

@@ -2,6 +2,7 @@
 #![tactic(auto)]
 
 mod bytes;
+mod check;
 mod enclosed;
 mod laws;
 mod list;
@@ -14,6 +15,6 @@ mod unit_list;
 
 pub use laws::{every_cut, one_cut, one_fault, slices_stand};
 pub use list::{List, Memory};
-pub use reader::{Cut, NotUtf8, UnitReader};
+pub use reader::{Cut, MarkupFault, NotUtf8, UnitReader};
 pub use unit::{Attr, Quote, Span, Unit};
 pub use unit_list::{UnitList, units};

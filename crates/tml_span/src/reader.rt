@@ -1,9 +1,11 @@
 //! The units of a source, one by one.
 ghost use Rattle.std.specs.Prelude.{◌≡◌, ◌≢◌, ◌∷◌, ◌++◌, [], ℕ, ◌+◌, ◌<◌, ◌^◌, List as ListOf, length, drop, IfOk, IfErr, OnOk, IsUtf8};
-ghost use Rattle.tml_span.specs.Faults.{IsNotUtf8};
+ghost use Rattle.tml_span.specs.Faults.{HasFault, IsNotUtf8};
+ghost use Rattle.tml_span.specs.Checking as checking;
 ghost use Rattle.tml_span.specs.Faults as faults;
 
 use crate::Unit;
+use crate::check::{Checked, check_unit};
 use crate::references::bad_reference_in;
 use crate::scan::unit_at;
 use faults::FaultKind;
@@ -43,6 +45,27 @@ pub struct NotUtf8 {
     pub place: u32,
 }
 
+/// Why a source that is UTF-8 is not cut into units whole.
+#[derive(Clone, Copy, Debug, PartialEq, Eq)]
+pub enum MarkupFault {
+    /// At that place is an `&` with which no reference begins.
+    BadReference { place: u32 },
+    /// No unit begins at that place.
+    BadMarkup { place: u32 },
+}
+
+impl MarkupFault {
+    /// The fault of a cut that it is.
+    pub fn into_cut(self) -> Cut
+        ensures { result ≡ checking.cut_of self }
+    {
+        match self {
+            MarkupFault::BadReference { place } => Cut::BadReference { place },
+            MarkupFault::BadMarkup { place } => Cut::BadMarkup { place },
+        }
+    }
+}
+
 /// Gives the units of a source one by one, from the first on.
 #[derive(Drop)]
 pub struct UnitReader<'s> {
@@ -64,6 +87,7 @@ impl<'s> Model for UnitReader<'s> {
 }
 
 impl<'s> UnitReader<'s> {
+    ghost use Rattle.tml_span.specs.Checking.{GoesOnWhole, Skips};
     ghost use Rattle.tml_span.specs.Reader.{IsProgress, Gives};
 
     /// A reader that has given no unit. The source has fewer than 2^32 bytes.
@@ -104,5 +128,33 @@ impl<'s> UnitReader<'s> {
         self.place += (self.rest.len() - rest.len()) as u32;
         self.rest = rest;
         Ok(Some(unit))
+    }
+
+    /// Checks the units that are left, and keeps none.
+    pub fn finish(self) -> Result<(), MarkupFault>
+        ensures ok { OnOk result (GoesOnWhole self.entry) }
+        ensures err { IfErr result (λ e. HasFault self.entry.source (checking.cut_of e)) }
+    {
+        let mut reader = self;
+        while reader.skip()? {}
+        Ok(())
+    }
+
+    /// Goes over the next unit, where there is one.
+    fn skip(&mut self) -> Result<bool, MarkupFault>
+        ensures skips { Skips self.old self.new result }
+    {
+        if self.rest.is_empty() {
+            return Ok(false);
+        }
+        let Some(Checked { bad, rest }) = check_unit(self.place, self.rest) else {
+            return Err(MarkupFault::BadMarkup { place: self.place });
+        };
+        if let Some(place) = bad {
+            return Err(MarkupFault::BadReference { place });
+        }
+        self.place += (self.rest.len() - rest.len()) as u32;
+        self.rest = rest;
+        Ok(true)
     }
 }

@@ -30,7 +30,7 @@ fn text_at<'s>(place: u32, bytes: &'s [u8]) -> (Unit<'s>, &'s [u8])
 }
 
 /// The Bom at place 0, or the text at the front, and what follows it.
-fn plain_at<'s>(place: u32, bytes: &'s [u8]) -> (Unit<'s>, &'s [u8])
+pub fn text_or_bom_at<'s>(place: u32, bytes: &'s [u8]) -> (Unit<'s>, &'s [u8])
     requires fits { place + length bytes.now < 2 ^ 32 }
     requires some { 0 < length bytes.now }
     requires text { kinds.is_text_byte (slice_index bytes.now 0) ≡ true }
@@ -46,7 +46,7 @@ fn plain_at<'s>(place: u32, bytes: &'s [u8]) -> (Unit<'s>, &'s [u8])
 }
 
 /// A comment or a doctype, whose first bytes are `<!`, and what follows it.
-fn banged_at<'s>(place: u32, bytes: &'s [u8]) -> Option<(Unit<'s>, &'s [u8])>
+pub fn comment_or_doctype_at<'s>(place: u32, bytes: &'s [u8]) -> Option<(Unit<'s>, &'s [u8])>
     requires fits { place + length bytes.now < 2 ^ 32 }
     requires front { starts_with nat_eq bytes.now (codes "<!") ≡ true }
     ensures unit { MatchOption result (Stops place bytes.now) (λ r. Finds place bytes.now (unit_of r.0) r.1.now) }
@@ -71,10 +71,10 @@ pub fn unit_at<'s>(
 {
     match bytes {
         [b'<', b'/', inner @ ..] => Ok(end_tag_at(place, inner)),
-        [b'<', b'!', ..] => Ok(banged_at(place, bytes)),
+        [b'<', b'!', ..] => Ok(comment_or_doctype_at(place, bytes)),
         [b'<', b'?', ..] => Ok(declaration_at(place, bytes)),
         [b'<', inner @ ..] => tag_at(alloc, place, inner),
-        [_, ..] => Ok(Some(plain_at(place, bytes))),
+        [_, ..] => Ok(Some(text_or_bom_at(place, bytes))),
         [] => Ok(None),
     }
 }

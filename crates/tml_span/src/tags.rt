@@ -9,7 +9,7 @@ use crate::bytes::{is_name_start, name_len, value_len, white_len};
 use crate::{Attr, List, Memory, Quote, Span, Unit};
 use std::alloc::Global;
 
-fn after_white(bytes: &[u8]) -> &[u8]
+pub fn after_white(bytes: &[u8]) -> &[u8]
     ensures white { result.now ≡ reading.after_white bytes.now }
     ensures shorter { length result.now ≤ length bytes.now }
 {
@@ -29,7 +29,7 @@ fn after_byte(b: u8, bytes: &[u8]) -> Option<&[u8]>
 
 /// A name, and what follows it.
 #[tactic(auto, unfolding(crate::specs::Reading::name_at))]
-fn name_at(bytes: &[u8]) -> Option<(&[u8], &[u8])>
+pub fn name_at(bytes: &[u8]) -> Option<(&[u8], &[u8])>
     ensures reads { option_map (λ r. (r.0.now, r.1.now)) result ≡ reading.name_at bytes.now }
     ensures len { IfSome result (λ r. length r.0.now + length r.1.now ≡ length bytes.now) }
 {
@@ -75,7 +75,7 @@ fn value_at(bytes: &[u8]) -> Option<(Quote, &[u8], &[u8])>
 
 /// An attribute behind white space, and what follows it.
 #[tactic(auto, unfolding(crate::specs::Reading::attribute_at))]
-fn attribute_at<'s>(place: u32, bytes: &'s [u8]) -> Option<(Attr<'s>, &'s [u8])>
+pub fn attribute_at<'s>(place: u32, bytes: &'s [u8]) -> Option<(Attr<'s>, &'s [u8])>
     requires { place + length bytes.now < 2 ^ 32 }
     ensures reads { option_map (λ r. (attribute_of r.0, r.1.now)) result ≡ reading.attribute_at place bytes.now }
     ensures shorter { IfSome result (λ r. length r.1.now < length bytes.now) }
@@ -125,7 +125,7 @@ fn attributes_at<'s>(
 }
 
 /// The `>` or `/>` of a tag, where true stands for `/>`, and what follows it.
-fn close_at(bytes: &[u8]) -> Option<(bool, &[u8])>
+pub fn close_at(bytes: &[u8]) -> Option<(bool, &[u8])>
     ensures close { MatchOption result
         ((is_empty : Bool) (rest : ListOf ℕ) → bytes.now ≢ cond is_empty (codes "/>") (codes ">") ++ rest)
         (λ r. bytes.now ≡ cond r.0 (codes "/>") (codes ">") ++ r.1.now) }
