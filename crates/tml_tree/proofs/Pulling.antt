@@ -1,4 +1,4 @@
--- Units that are pulled behind others.
+-- A fault of units that are pulled one by one.
 use Rattle.std.proofs.Common.{◌≡◌, ℕ, List, [], ◌∷◌, ◌++◌, length, subst, append_assoc, inl, inr, Option, Some, None, IfSome}
 use Rattle.faults.specs.declared.kind.FaultKind.{FaultKind}
 use Rattle.tml_span.specs.Units.{PlainUnit}
@@ -11,13 +11,6 @@ use Rattle.tml_tree.specs.declared.pulled.SourceFault.{SourceFault}
 use Rattle.tml_tree.specs.declared.pulled.SourceFault.TheVariants as SourceFault
 use Rattle.tml_tree.specs.Pulled.{Outranks}
 use Rattle.tml_tree.specs.Whole.{FaultOf, UnitsFault, SourceFaultAt, HasSourceFault, kind_and_place}
-
--- one unit more behind some
-pub one_behind : (start old new : Progress) (u : PlainUnit) → ((done : List PlainUnit) → HasGiven start done → (more : List PlainUnit) × HasGiven old (done ++ more))
-    → ((done : List PlainUnit) → HasGiven old done → HasGiven new (done ++ u ∷ [])) → (done : List PlainUnit) → HasGiven start done → (more : List PlainUnit) × HasGiven new (done ++ more)
-one_behind start old new u some step done h =
-    let m = some done h in
-    (m.0 ++ u ∷ [], subst (λ (us : List PlainUnit). HasGiven new us) (append_assoc done m.0 (u ∷ [])) (step (done ++ m.0) m.1))
 
 -- a fault of the units so far, however they go on, is that of the source unless the cut has one
 of_cut : (source : List ℕ) (o : Option (FaultKind × ℕ)) → IfSome o (λ f. CutFault source f.1 f.0) → IfSome o (λ f. SourceFaultAt source f.1 f.0)

@@ -47,7 +47,7 @@ pub fn root_of_source<'s>(alloc: Global, source: &'s [u8]) -> Result<Tag<'s>, So
         match reader.pull(alloc) {
             Ok(Some(unit)) => {
                 if let Err(fault) = builder.take(alloc, unit) {
-                    return Err(behind(alloc, reader, fault));
+                    return Err(outranked(reader, fault));
                 }
             }
             Ok(None) => match builder.finish() {
@@ -62,16 +62,12 @@ pub fn root_of_source<'s>(alloc: Global, source: &'s [u8]) -> Result<Tag<'s>, So
     }
 }
 
-/// The fault of the cut behind a unit at fault, which outranks that of the unit, or else the latter.
-fn behind<'s>(alloc: Global, reader: UnitReader<'s>, fault: TreeFault) -> SourceFault
+/// The fault of a source that has this fault among its units so far. A fault of the cut in what is left outranks it.
+fn outranked(reader: UnitReader<'_>, fault: TreeFault) -> SourceFault
     ensures { Outranks reader.entry fault result }
 {
-    let mut reader = reader;
-    loop {
-        match reader.pull(alloc) {
-            Ok(Some(_)) => {}
-            Ok(None) => return SourceFault::Tree(fault),
-            Err(cut) => return SourceFault::Cut(cut),
-        }
+    match reader.finish() {
+        Ok(()) => SourceFault::Tree(fault),
+        Err(cut) => SourceFault::Cut(cut.into_cut()),
     }
 }

@@ -20,7 +20,7 @@ returns-in-Err-take-clause-fault c =
     let at = c.loop-unit.invariant.taken in
     let u = unit_of c.in-Ok-Some.unit in
     let end = length c.pull.new.self.source in
-    outranked c.pull.new.self c.args.source.now c.in-Err-take.fault c.behind.result (at.0 ++ u ∷ []) (gives.0 ∙ c.loop-unit.invariant.source) c.behind.ensures (gives.2 at.0 at.1)
+    outranked c.pull.new.self c.args.source.now c.in-Err-take.fault c.outranked.result (at.0 ++ u ∷ []) (gives.0 ∙ c.loop-unit.invariant.source) c.outranked.ensures (gives.2 at.0 at.1)
     (λ more. rw (append_assoc at.0 (u ∷ []) more) (refused end at.0 more u c.loop-unit.builder _ at.2 c.in-Err-take.ensures.err))
 
 pub returns-in-None-clause-fault : goal.returns-in-None-clause-fault
