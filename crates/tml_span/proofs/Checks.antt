@@ -1,7 +1,7 @@
 -- Units that are checked and not kept.
 use Rattle.std.proofs.Common.{◌≡◌, ◌⊎◌, inl, inr, ℕ, ◌+◌, ◌-◌, ◌<◌, Bool, true, false, List, [], ◌∷◌, ◌++◌, length, map, refl, sym, subst, append_assoc, append-nil, arith, Option, Some, None}
 use Rattle.std.proofs.lemmas.List.{map-append}
-use Rattle.tml_span.specs.Cutting.{Finds}
+use Rattle.tml_span.specs.Cutting.{FindsUnit}
 use Rattle.tml_span.specs.References.{Piece, Follows, FirstBadIn, IsBadIn, IsFirst, IsWithin, pieces_of, value_piece}
 use Rattle.tml_span.specs.Reading.{ReadsAttributes, attribute_at}
 use Rattle.tml_span.specs.Checking.{FirstInOrder}
@@ -55,7 +55,7 @@ all_checked place at bytes rest bad h none = (h.0, subst (λ (all : List Attribu
 -- ---- tags
 
 pub tag_checked : (place : ℕ) (is_empty : Bool) (bytes name rest : List ℕ) (attrs : List Attribute) (bad : Option ℕ) → ReadsTag place bytes name attrs (close_of is_empty ++ rest) → FirstInOrder (map value_piece attrs) bad
-    → (u : PlainUnit) × Finds place (60 ∷ bytes) u rest × FirstBadIn (pieces_of u) bad
+    → (u : PlainUnit) × FindsUnit place (60 ∷ bytes) u rest × FirstBadIn (pieces_of u) bad
 tag_checked place true bytes name rest attrs bad h first =
     let found = tag_finds place true bytes name rest attrs h in
     let placed = found_placed place (60 ∷ bytes) _ rest found in

@@ -5,7 +5,7 @@ use Rattle.tml_span.specs.declared.reader.Cut.{Cut}
 use Rattle.tml_span.specs.declared.reader.Cut.TheVariants as cut
 use Rattle.tml_span.specs.declared.reader.MarkupFault.{MarkupFault}
 use Rattle.tml_span.specs.declared.reader.MarkupFault.TheVariants as markup
-use Rattle.tml_span.specs.Cutting.{Finds}
+use Rattle.tml_span.specs.Cutting.{FindsUnit}
 use Rattle.tml_span.specs.Faults.{HasFault}
 use Rattle.tml_span.specs.Reader.{Progress, HasGiven}
 use Rattle.tml_span.specs.Reading.{ReadsAttributes}
@@ -24,7 +24,7 @@ ChecksAttributes place bytes c = (attrs : List Attribute) × ReadsAttributes pla
 
 -- a unit and the first bad place in it
 abbrev pub ChecksUnit : ℕ → List ℕ → Checked → Type 0
-ChecksUnit place bytes c = (u : PlainUnit) × Finds place bytes u c.rest.now × FirstBadIn (pieces_of u) c.bad
+ChecksUnit place bytes c = (u : PlainUnit) × FindsUnit place bytes u c.rest.now × FirstBadIn (pieces_of u) c.bad
 
 -- the fault of a cut that this one is
 abbrev pub cut_of : MarkupFault → Cut

@@ -8,7 +8,7 @@ infixl 10 ◌>>=◌
 abbrev pub ◌>>=◌ : {A B : Type 0} → Option A → (A → Option B) → Option B
 o >>= f = option_and_then f o
 
--- the longest front that passes, and what follows it
+-- the longest prefix that passes, and what follows it
 abbrev pub run_at : (ℕ → Bool) → List ℕ → List ℕ × List ℕ
 run_at p bytes = (take (prefix_len p bytes) bytes, drop (prefix_len p bytes) bytes)
 
@@ -36,7 +36,7 @@ value_at bytes = do
   rest ← after_byte quote.0 (run_at (is_value_byte quote.0) quote.1).1
   Some (quote.0, (run_at (is_value_byte quote.0) quote.1).0, rest)
 
--- an attribute behind white space, of which there is some
+-- an attribute after white space, of which there is some
 unfoldable pub attribute_at : ℕ → List ℕ → Option (Attribute × List ℕ)
 attribute_at place bytes = if prefix_len is_white bytes == 0 then None else do
   name ← name_at (after_white bytes)

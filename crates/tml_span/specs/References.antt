@@ -27,23 +27,23 @@ pub record IsHexReference (bytes : List ℕ) : Type 0 where
 abbrev pub IsReference : List ℕ → Type 0
 IsReference bytes = Contains named_references bytes ⊎ IsDecimalReference bytes ⊎ IsHexReference bytes
 
--- a reference stands at the front of the bytes
+-- the bytes begin with a reference
 abbrev pub BeginsReference : List ℕ → Type 0
-BeginsReference bytes = (front : List ℕ) × (back : List ℕ) × (bytes ≡ front ++ back) × IsReference front
+BeginsReference bytes = (prefix : List ℕ) × (suffix : List ℕ) × (bytes ≡ prefix ++ suffix) × IsReference prefix
 
--- at an index of the bytes stands an `&` with which no reference begins
+-- at an index of the bytes is an `&` with which no reference begins
 pub record IsBadAt (bytes : List ℕ) (index : ℕ) : Type 0 where
-  pub front : List ℕ
-  pub back : List ℕ
-  pub whole : bytes ≡ front ++ 38 ∷ back
-  pub index_is : index ≡ length front
-  pub bad : BeginsReference (38 ∷ back) → ⊥
+  pub prefix : List ℕ
+  pub suffix : List ℕ
+  pub whole : bytes ≡ prefix ++ 38 ∷ suffix
+  pub index_is : index ≡ length prefix
+  pub bad : BeginsReference (38 ∷ suffix) → ⊥
 
--- bytes in which references stand, with their place
+-- bytes that may hold references, with their place
 abbrev pub Piece : Type 0
 Piece = ℕ × List ℕ
 
--- the value of an attribute stands before its closing quote
+-- the value of an attribute ends before its closing quote
 abbrev pub value_piece : Attribute → Piece
 value_piece a = (a.end - 1 - length a.value, a.value)
 
@@ -53,11 +53,11 @@ kind_pieces start (start_tag name attrs) = map value_piece attrs
 kind_pieces start (empty_tag name attrs) = map value_piece attrs
 kind_pieces start kind = []
 
--- references stand in a text, and in the values of attributes
+-- references are in a text, and in the values of attributes
 abbrev pub pieces_of : PlainUnit → List Piece
 pieces_of u = kind_pieces u.start u.kind
 
--- at a place in one of the pieces stands an `&` with which no reference begins
+-- at a place in one of the pieces is an `&` with which no reference begins
 abbrev pub IsBadIn : List Piece → ℕ → Type 0
 IsBadIn [] place = ⊥
 IsBadIn (piece ∷ pieces) place = ((index : ℕ) × IsBadAt piece.1 index × (place ≡ piece.0 + index)) ⊎ IsBadIn pieces place
@@ -79,12 +79,12 @@ IsNowhere Bad = (place : ℕ) → Bad place → ⊥
 abbrev pub FirstBadIn : List Piece → Option ℕ → Type 0
 FirstBadIn pieces bad = MatchOption bad (IsNowhere (IsBadIn pieces)) (IsFirst (IsBadIn pieces))
 
--- the pieces stand one behind another, from a place up to another
+-- the pieces follow each other, from a place up to another
 abbrev pub Follows : ℕ → List Piece → ℕ → Type 0
 Follows low [] high = low ≤ high
 Follows low (piece ∷ pieces) high = (low ≤ piece.0) × Follows (piece.0 + length piece.1) pieces high
 
--- a value stands before the end of its attribute
+-- a value ends before its attribute does
 abbrev pub IsWithin : Attribute → Type 0
 IsWithin a = length a.value < a.end
 
@@ -93,7 +93,7 @@ kind_attributes (start_tag name attrs) = attrs
 kind_attributes (empty_tag name attrs) = attrs
 kind_attributes kind = []
 
--- the pieces of a unit stand in order within its span
+-- the pieces of a unit are in order within its span
 pub record IsPlaced (u : PlainUnit) : Type 0 where
   pub follows : Follows u.start (pieces_of u) u.end
   pub within : AllByRecursion IsWithin (kind_attributes u.kind)

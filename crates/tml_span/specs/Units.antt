@@ -28,7 +28,7 @@ pub record PlainUnit : Type 0 where
   pub end : ℕ
   pub kind : Kind
 
--- At a place stands an attribute: one or more white space, a name, `=` with white space about it, and a value between two quotes.
+-- An attribute at a place: one or more white space, a name, `=` with white space about it, and a value between two quotes.
 pub record SpelledAttribute (place : ℕ) (a : Attribute) (bytes : List ℕ) : Type 0 where
   pub before : List ℕ
   pub left : List ℕ
@@ -44,12 +44,12 @@ pub record SpelledAttribute (place : ℕ) (a : Attribute) (bytes : List ℕ) : T
   pub start : a.start ≡ place + length before
   pub end : a.end ≡ place + length bytes
 
--- attributes one behind another
+-- attributes that follow each other
 abbrev pub SpelledAttributes : ℕ → List Attribute → List ℕ → Type 0
 SpelledAttributes place [] bytes = bytes ≡ []
-SpelledAttributes place (a ∷ attrs) bytes = (front : List ℕ) × (back : List ℕ) × (bytes ≡ front ++ back) × SpelledAttribute place a front × SpelledAttributes (place + length front) attrs back
+SpelledAttributes place (a ∷ attrs) bytes = (prefix : List ℕ) × (suffix : List ℕ) × (bytes ≡ prefix ++ suffix) × SpelledAttribute place a prefix × SpelledAttributes (place + length prefix) attrs suffix
 
--- A tag that stands at a place: `<`, a name, attributes, white space, and `>` or `/>`.
+-- A tag at a place: `<`, a name, attributes, white space, and `>` or `/>`.
 pub record SpelledTag (place : ℕ) (name : List ℕ) (attrs : List Attribute) (close spelling : List ℕ) : Type 0 where
   pub inner : List ℕ
   pub white : List ℕ
@@ -64,11 +64,11 @@ bom_bytes = 239 ∷ 187 ∷ 191 ∷ []
 
 -- no part of the bytes is this piece
 abbrev pub Lacks : List ℕ → List ℕ → Type 0
-Lacks piece bytes = (front back : List ℕ) → bytes ≢ front ++ piece ++ back
+Lacks piece bytes = (prefix suffix : List ℕ) → bytes ≢ prefix ++ piece ++ suffix
 
 -- the bytes begin with this piece
 abbrev pub BeginsWith : List ℕ → List ℕ → Type 0
-BeginsWith piece bytes = (back : List ℕ) × (bytes ≡ piece ++ back)
+BeginsWith piece bytes = (suffix : List ℕ) × (bytes ≡ piece ++ suffix)
 
 -- How a kind of unit is spelled at a place: a Bom at place 0 alone, where no text begins with its bytes.
 abbrev pub SpelledKind : ℕ → Kind → List ℕ → Type 0
@@ -81,7 +81,7 @@ SpelledKind place (start_tag name attrs) spelling = SpelledTag place name attrs 
 SpelledKind place (end_tag name) spelling = (white : List ℕ) × (spelling ≡ 60 ∷ 47 ∷ name ++ white ++ 62 ∷ []) × (is_name name ≡ true) × (list_all is_white white ≡ true)
 SpelledKind place (empty_tag name attrs) spelling = SpelledTag place name attrs (codes "/>") spelling
 
--- a unit that stands at a place is spelled so
+-- a unit at a place is spelled so
 pub record Spelled (place : ℕ) (u : PlainUnit) (spelling : List ℕ) : Type 0 where
   pub kind : SpelledKind place u.kind spelling
   pub start : u.start ≡ place

@@ -1,4 +1,4 @@
--- The plain values that the types of the program stand for.
+-- The plain values of the types of the program.
 use Rattle.std.specs.Prelude.{ℕ, map}
 use Rattle.tml_span.specs.declared.unit.Quote.{Quote}
 use Rattle.tml_span.specs.declared.unit.Quote.TheVariants.{Single, Double}

@@ -7,7 +7,7 @@ ghost use Rattle.tml_span.specs.View.{unit_of, attribute_of};
 use crate::bytes::{digits_len, hex_digits_len};
 use crate::{Attr, Span, Unit};
 
-/// Whether the digits in front, of which at least 1 and at most `most` count, are closed by `;`.
+/// Whether the digits at the start, of which at least 1 and at most `most` count, are closed by `;`.
 fn is_closed(digits: usize, most: usize, bytes: &[u8]) -> bool
     requires { digits ≤ length bytes.now }
     ensures { IsTrue result ↔ ((1 ≤ digits) × (digits ≤ most) × (slice_get bytes.now digits ≡ Some 59)) }
@@ -15,7 +15,7 @@ fn is_closed(digits: usize, most: usize, bytes: &[u8]) -> bool
     1 <= digits && digits <= most && bytes.get(digits) == Some(&b';')
 }
 
-/// Whether one of the named references stands at the front of the bytes.
+/// Whether the bytes begin with one of the named references.
 fn begins_named(bytes: &[u8]) -> bool
     ensures { result ≡ list_any (starts_with nat_eq bytes.now) named_references }
 {
@@ -26,9 +26,9 @@ fn begins_named(bytes: &[u8]) -> bool
         || bytes.starts_with(b"&apos;")
 }
 
-/// Whether a reference by decimal digits stands at the front of the bytes.
+/// Whether the bytes begin with a reference by decimal digits.
 fn begins_decimal(bytes: &[u8]) -> bool
-    ensures { IsTrue result ↔ ((front : List ℕ) × (back : List ℕ) × (bytes.now ≡ front ++ back) × IsDecimalReference front) }
+    ensures { IsTrue result ↔ ((prefix : List ℕ) × (suffix : List ℕ) × (bytes.now ≡ prefix ++ suffix) × IsDecimalReference prefix) }
 {
     match bytes.strip_prefix(b"&#") {
         Some(digits) => is_closed(digits_len(digits), 7, digits),
@@ -36,9 +36,9 @@ fn begins_decimal(bytes: &[u8]) -> bool
     }
 }
 
-/// Whether a reference by hexadecimal digits stands at the front of the bytes.
+/// Whether the bytes begin with a reference by hexadecimal digits.
 fn begins_hex(bytes: &[u8]) -> bool
-    ensures { IsTrue result ↔ ((front : List ℕ) × (back : List ℕ) × (bytes.now ≡ front ++ back) × IsHexReference front) }
+    ensures { IsTrue result ↔ ((prefix : List ℕ) × (suffix : List ℕ) × (bytes.now ≡ prefix ++ suffix) × IsHexReference prefix) }
 {
     match bytes.strip_prefix(b"&#x") {
         Some(digits) => is_closed(hex_digits_len(digits), 6, digits),
@@ -46,7 +46,7 @@ fn begins_hex(bytes: &[u8]) -> bool
     }
 }
 
-/// Whether a reference stands at the front of the bytes.
+/// Whether the bytes begin with a reference.
 fn begins_reference(bytes: &[u8]) -> bool
     ensures { IsTrue result ↔ BeginsReference bytes.now }
 {
@@ -69,7 +69,7 @@ fn bad_reference(bytes: &[u8]) -> Option<usize>
     None
 }
 
-/// The place of the first bad reference in bytes that stand at a place.
+/// The place of the first bad reference in bytes that begin at a place.
 fn bad_place(start: u32, bytes: &[u8]) -> Option<u32>
     requires { start + length bytes.now < 2 ^ 32 }
     ensures { FirstBadIn ((start, bytes.now) ∷ []) result }

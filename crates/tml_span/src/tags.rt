@@ -3,7 +3,7 @@ ghost use Rattle.std.specs.Prelude.{true, ◌≡◌, ◌≢◌, ◌+◌, ◌<◌
 ghost use Rattle.tml_span.specs.Reading as reading;
 ghost use Rattle.tml_span.specs.View.{attribute_of, unit_of, quote_byte};
 ghost use Rattle.tml_span.specs.Bytes as kinds;
-ghost use Rattle.tml_span.specs.Cutting.{Stops, Finds};
+ghost use Rattle.tml_span.specs.Cutting.{Stops, FindsUnit};
 
 use crate::bytes::{is_name_start, name_len, value_len, white_len};
 use crate::{Attr, List, Memory, Quote, Span, Unit};
@@ -73,7 +73,7 @@ fn value_at(bytes: &[u8]) -> Option<(Quote, &[u8], &[u8])>
     Some((quote, value, rest))
 }
 
-/// An attribute behind white space, and what follows it.
+/// An attribute after white space, and what follows it.
 #[tactic(auto, unfolding(crate::specs::Reading::attribute_at))]
 pub fn attribute_at<'s>(place: u32, bytes: &'s [u8]) -> Option<(Attr<'s>, &'s [u8])>
     requires { place + length bytes.now < 2 ^ 32 }
@@ -124,7 +124,7 @@ fn attributes_at<'s>(
     Ok((attrs, rest))
 }
 
-/// The `>` or `/>` of a tag, where true stands for `/>`, and what follows it.
+/// The `>` or `/>` of a tag, true for `/>`, and what follows it.
 pub fn close_at(bytes: &[u8]) -> Option<(bool, &[u8])>
     ensures close { MatchOption result
         ((is_empty : Bool) (rest : ListOf ℕ) → bytes.now ≢ cond is_empty (codes "/>") (codes ">") ++ rest)
@@ -138,7 +138,7 @@ pub fn close_at(bytes: &[u8]) -> Option<(bool, &[u8])>
     }
 }
 
-/// A start tag or an empty tag behind its `<`, with which none of the other units begins.
+/// A start tag or an empty tag after its `<`, with which none of the other units begins.
 pub fn tag_at<'s>(
     alloc: Global,
     place: u32,
@@ -148,7 +148,7 @@ pub fn tag_at<'s>(
     requires slash { slice_index bytes.now 0 ≢ 47 }
     requires bang { slice_index bytes.now 0 ≢ 33 }
     requires query { slice_index bytes.now 0 ≢ 63 }
-    ensures unit { IfOk result (λ o. MatchOption o (Stops place (60 ∷ bytes.now)) (λ r. Finds place (60 ∷ bytes.now) (unit_of r.0) r.1.now)) }
+    ensures unit { IfOk result (λ o. MatchOption o (Stops place (60 ∷ bytes.now)) (λ r. FindsUnit place (60 ∷ bytes.now) (unit_of r.0) r.1.now)) }
     ensures shorter { IfOk result (λ o. IfSome o (λ r. length r.1.now ≤ length bytes.now)) }
 {
     let Some((name, mid)) = name_at(bytes) else {
@@ -168,10 +168,10 @@ pub fn tag_at<'s>(
     Ok(Some((Unit::StartTag { span, name, attrs }, rest)))
 }
 
-/// An end tag behind its `</`.
+/// An end tag after its `</`.
 pub fn end_tag_at<'s>(place: u32, bytes: &'s [u8]) -> Option<(Unit<'s>, &'s [u8])>
     requires { place + length bytes.now + 2 < 2 ^ 32 }
-    ensures unit { MatchOption result (Stops place (60 ∷ 47 ∷ bytes.now)) (λ r. Finds place (60 ∷ 47 ∷ bytes.now) (unit_of r.0) r.1.now) }
+    ensures unit { MatchOption result (Stops place (60 ∷ 47 ∷ bytes.now)) (λ r. FindsUnit place (60 ∷ 47 ∷ bytes.now) (unit_of r.0) r.1.now) }
     ensures shorter { IfSome result (λ r. length r.1.now ≤ length bytes.now) }
 {
     let Some((name, mid)) = name_at(bytes) else {

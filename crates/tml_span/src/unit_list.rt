@@ -2,7 +2,7 @@
 ghost use Rattle.std.specs.Prelude.{◌≡◌, ◌<◌, ◌^◌, length, map, IfOk, IfErr};
 ghost use Rattle.std.specs.List.{AllByRecursion};
 ghost use Rattle.tml_span.specs.Faults.{HasFault};
-ghost use Rattle.tml_span.specs.Slices.{UnitStands};
+ghost use Rattle.tml_span.specs.Slices.{UnitIsIn};
 ghost use Rattle.tml_span.specs.Whole.{IsWhole};
 
 use crate::reader::{Cut, NotUtf8, UnitReader};
@@ -70,7 +70,7 @@ pub fn units<'s>(alloc: Global, source: &'s [u8]) -> Result<UnitList<'s>, Cut>
     requires { length source.now < 2 ^ 32 }
     ensures source { IfOk result (λ l. l.source ≡ source.now) }
     ensures whole { IfOk result (λ l. IsWhole l) }
-    ensures slices { IfOk result (λ l. AllByRecursion (UnitStands l.source) l.units) }
+    ensures slices { IfOk result (λ l. AllByRecursion (UnitIsIn l.source) l.units) }
     ensures fault { IfErr result (λ e. HasFault source.now e) }
 {
     let mut reader = match UnitReader::new(source) {
