@@ -2,6 +2,11 @@
 use Rattle.std.specs.Prelude.{ℕ, Bool, false, ◌&&◌, ◌||◌, not, ◌==◌, nat_le, List, [], ◌∷◌, codes}
 use Rattle.std.specs.List.{list_all}
 
+-- the first byte of a text
+abbrev pub byte : List ℕ → ℕ
+byte [] = 0
+byte (b ∷ bytes) = b
+
 -- one of these bytes
 abbrev pub is_in : List ℕ → ℕ → Bool
 is_in [] b = false

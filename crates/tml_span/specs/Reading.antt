@@ -1,7 +1,7 @@
 -- Reading one unit from left to right.
-use Rattle.std.specs.Prelude.{◌≡◌, ℕ, ◌+◌, ◌-◌, Bool, ◌==◌, List, [], ◌∷◌, length, take, drop, Option, Some, None, option_and_then, if◌then◌else◌}
+use Rattle.std.specs.Prelude.{◌≡◌, ℕ, ◌+◌, ◌-◌, Bool, ◌==◌, List, [], ◌∷◌, length, take, drop, Option, Some, None, option_and_then, codes, if◌then◌else◌}
 use Rattle.std.specs.List.{prefix_len}
-use Rattle.tml_span.specs.Bytes.{is_white, is_name_start, is_name_byte, is_quote, is_value_byte}
+use Rattle.tml_span.specs.Bytes.{byte, is_white, is_name_start, is_name_byte, is_quote, is_value_byte}
 use Rattle.tml_span.specs.Units.{Attribute}
 
 infixl 10 ◌>>=◌
@@ -40,7 +40,7 @@ value_at bytes = do
 unfoldable pub attribute_at : ℕ → List ℕ → Option (Attribute × List ℕ)
 attribute_at place bytes = if prefix_len is_white bytes == 0 then None else do
   name ← name_at (after_white bytes)
-  right ← after_byte 61 (after_white name.1)
+  right ← after_byte (byte (codes "=")) (after_white name.1)
   value ← value_at (after_white right)
   Some (record { start = place + prefix_len is_white bytes; end = place + (length bytes - length value.2); name = name.0; value = value.1; quote = value.0 }, value.2)
 

@@ -35,9 +35,9 @@ BeginsReference bytes = (prefix : List ℕ) × (suffix : List ℕ) × (bytes ≡
 pub record IsBadAt (bytes : List ℕ) (index : ℕ) : Type 0 where
   pub prefix : List ℕ
   pub suffix : List ℕ
-  pub whole : bytes ≡ prefix ++ 38 ∷ suffix
+  pub whole : bytes ≡ prefix ++ (codes "&" ++ suffix)
   pub index_is : index ≡ length prefix
-  pub bad : BeginsReference (38 ∷ suffix) → ⊥
+  pub bad : BeginsReference (codes "&" ++ suffix) → ⊥
 
 -- bytes that may hold references, with their place
 abbrev pub Piece : Type 0

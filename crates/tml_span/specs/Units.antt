@@ -33,7 +33,7 @@ pub record SpelledAttribute (place : ℕ) (a : Attribute) (bytes : List ℕ) : T
   pub before : List ℕ
   pub left : List ℕ
   pub right : List ℕ
-  pub whole : bytes ≡ before ++ a.name ++ left ++ 61 ∷ right ++ a.quote ∷ a.value ++ a.quote ∷ []
+  pub whole : bytes ≡ before ++ a.name ++ left ++ (codes "=" ++ right) ++ a.quote ∷ a.value ++ a.quote ∷ []
   pub white_before : list_all is_white before ≡ true
   pub white_left : list_all is_white left ≡ true
   pub white_right : list_all is_white right ≡ true
@@ -53,14 +53,14 @@ SpelledAttributes place (a ∷ attrs) bytes = (prefix : List ℕ) × (suffix : L
 pub record SpelledTag (place : ℕ) (name : List ℕ) (attrs : List Attribute) (close spelling : List ℕ) : Type 0 where
   pub inner : List ℕ
   pub white : List ℕ
-  pub whole : spelling ≡ 60 ∷ name ++ inner ++ white ++ close
+  pub whole : spelling ≡ codes "<" ++ name ++ inner ++ white ++ close
   pub named : is_name name ≡ true
   pub attributes : SpelledAttributes (place + 1 + length name) attrs inner
   pub white_inner : list_all is_white white ≡ true
 
 -- the bytes EF BB BF
 abbrev pub bom_bytes : List ℕ
-bom_bytes = 239 ∷ 187 ∷ 191 ∷ []
+bom_bytes = 0xEF ∷ 0xBB ∷ 0xBF ∷ []
 
 -- no part of the bytes is this piece
 abbrev pub Lacks : List ℕ → List ℕ → Type 0
@@ -78,7 +78,7 @@ SpelledKind place (doctype bytes) spelling = (spelling ≡ bytes) × (white : �
 SpelledKind place (comment bytes) spelling = (spelling ≡ bytes) × (body : List ℕ) × (bytes ≡ codes "<!--" ++ body ++ codes "-->") × Lacks (codes "-->") body
 SpelledKind place (text bytes) spelling = (spelling ≡ bytes) × (bytes ≢ []) × (list_all is_text_byte bytes ≡ true) × (place ≡ 0 → BeginsWith bom_bytes bytes → ⊥)
 SpelledKind place (start_tag name attrs) spelling = SpelledTag place name attrs (codes ">") spelling
-SpelledKind place (end_tag name) spelling = (white : List ℕ) × (spelling ≡ 60 ∷ 47 ∷ name ++ white ++ 62 ∷ []) × (is_name name ≡ true) × (list_all is_white white ≡ true)
+SpelledKind place (end_tag name) spelling = (white : List ℕ) × (spelling ≡ codes "</" ++ name ++ white ++ codes ">") × (is_name name ≡ true) × (list_all is_white white ≡ true)
 SpelledKind place (empty_tag name attrs) spelling = SpelledTag place name attrs (codes "/>") spelling
 
 -- a unit at a place is spelled so

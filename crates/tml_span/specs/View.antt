@@ -1,5 +1,6 @@
 -- The plain values of the types of the program.
-use Rattle.std.specs.Prelude.{ℕ, map}
+use Rattle.std.specs.Prelude.{ℕ, List, [], ◌∷◌, map, codes}
+use Rattle.tml_span.specs.Bytes.{byte}
 use Rattle.tml_span.specs.declared.unit.Quote.{Quote}
 use Rattle.tml_span.specs.declared.unit.Quote.TheVariants.{Single, Double}
 use Rattle.tml_span.specs.declared.unit.Attr.{Attr}
@@ -8,8 +9,8 @@ use Rattle.tml_span.specs.declared.unit.Unit.TheVariants.{Bom, Declaration, Doct
 use Rattle.tml_span.specs.Units.{Attribute, bom, declaration, doctype, comment, text, start_tag, end_tag, empty_tag, PlainUnit}
 
 abbrev pub quote_byte : Quote → ℕ
-quote_byte Single = 39
-quote_byte Double = 34
+quote_byte Single = byte (codes "'")
+quote_byte Double = byte (codes "\"")
 
 abbrev pub attribute_of : Attr → Attribute
 attribute_of a = record { start = a.span.start; end = a.span.end; name = a.name.now; value = a.value.now; quote = quote_byte a.quote }

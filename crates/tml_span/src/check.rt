@@ -1,5 +1,6 @@
 //! Units that are checked and not kept, which takes no memory.
-ghost use Rattle.std.specs.Prelude.{◌≡◌, ◌≢◌, ◌+◌, ◌<◌, ◌≤◌, ◌^◌, ◌∷◌, ◌++◌, [], slice_index, length, IfSome, MatchOption, List as ListOf};
+ghost use Rattle.std.specs.Prelude.{◌≡◌, ◌≢◌, ◌+◌, ◌<◌, ◌≤◌, ◌^◌, ◌∷◌, ◌++◌, [], codes, slice_index, length, IfSome, MatchOption, List as ListOf};
+ghost use Rattle.tml_span.specs.Bytes as kinds;
 ghost use Rattle.tml_span.specs.Checking.{ChecksAttributes, ChecksUnit, FirstInOrder};
 ghost use Rattle.tml_span.specs.Cutting.{Stops};
 ghost use Rattle.tml_span.specs.References.{FirstBadIn, IsPlaced, IsWithin, Piece, pieces_of, value_piece};
@@ -48,10 +49,10 @@ fn check_attributes(place: u32, bytes: &[u8]) -> Checked<'_>
 /// A start tag or an empty tag after its `<`, with which none of the other units begins.
 fn check_tag(place: u32, bytes: &[u8]) -> Option<Checked<'_>>
     requires fits { place + length bytes.now + 1 < 2 ^ 32 }
-    requires slash { slice_index bytes.now 0 ≢ 47 }
-    requires bang { slice_index bytes.now 0 ≢ 33 }
-    requires query { slice_index bytes.now 0 ≢ 63 }
-    ensures unit { MatchOption result (Stops place (60 ∷ bytes.now)) (λ r. ChecksUnit place (60 ∷ bytes.now) r) }
+    requires slash { slice_index bytes.now 0 ≢ kinds.byte (codes "/") }
+    requires bang { slice_index bytes.now 0 ≢ kinds.byte (codes "!") }
+    requires query { slice_index bytes.now 0 ≢ kinds.byte (codes "?") }
+    ensures unit { MatchOption result (Stops place (codes "<" ++ bytes.now)) (λ r. ChecksUnit place (codes "<" ++ bytes.now) r) }
     ensures shorter { IfSome result (λ r. length r.rest.now ≤ length bytes.now) }
 {
     let Some((name, mid)) = name_at(bytes) else {

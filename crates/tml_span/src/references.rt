@@ -1,5 +1,6 @@
 //! References in texts and values, and the first that is bad.
-ghost use Rattle.std.specs.Prelude.{◌≡◌, ◌↔◌, ◌+◌, ◌<◌, ◌≤◌, ◌^◌, ◌++◌, ℕ, List, [], ◌∷◌, length, Contains, IsTrue, IfSome, MatchOption, map, slice_get, nat_eq, Some};
+ghost use Rattle.std.specs.Prelude.{◌≡◌, ◌↔◌, ◌+◌, ◌<◌, ◌≤◌, ◌^◌, ◌++◌, ℕ, List, [], ◌∷◌, length, Contains, IsTrue, IfSome, MatchOption, map, slice_get, nat_eq, Some, codes};
+ghost use Rattle.tml_span.specs.Bytes.{byte};
 ghost use Rattle.std.specs.List.{AllByRecursion, list_any, starts_with};
 ghost use Rattle.tml_span.specs.References.{named_references, IsDecimalReference, IsHexReference, BeginsReference, FirstBadIn, IsBadAt, IsFirst, IsNowhere, IsPlaced, IsWithin, Follows, pieces_of, value_piece};
 ghost use Rattle.tml_span.specs.View.{unit_of, attribute_of};
@@ -10,7 +11,7 @@ use crate::{Attr, Span, Unit};
 /// Whether the digits at the start, of which at least 1 and at most `most` count, are closed by `;`.
 fn is_closed(digits: usize, most: usize, bytes: &[u8]) -> bool
     requires { digits ≤ length bytes.now }
-    ensures { IsTrue result ↔ ((1 ≤ digits) × (digits ≤ most) × (slice_get bytes.now digits ≡ Some 59)) }
+    ensures { IsTrue result ↔ ((1 ≤ digits) × (digits ≤ most) × (slice_get bytes.now digits ≡ Some (byte (codes ";")))) }
 {
     1 <= digits && digits <= most && bytes.get(digits) == Some(&b';')
 }

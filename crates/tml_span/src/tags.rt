@@ -145,10 +145,10 @@ pub fn tag_at<'s>(
     bytes: &'s [u8],
 ) -> Result<Option<(Unit<'s>, &'s [u8])>, Memory>
     requires fits { place + length bytes.now + 1 < 2 ^ 32 }
-    requires slash { slice_index bytes.now 0 ≢ 47 }
-    requires bang { slice_index bytes.now 0 ≢ 33 }
-    requires query { slice_index bytes.now 0 ≢ 63 }
-    ensures unit { IfOk result (λ o. MatchOption o (Stops place (60 ∷ bytes.now)) (λ r. FindsUnit place (60 ∷ bytes.now) (unit_of r.0) r.1.now)) }
+    requires slash { slice_index bytes.now 0 ≢ kinds.byte (codes "/") }
+    requires bang { slice_index bytes.now 0 ≢ kinds.byte (codes "!") }
+    requires query { slice_index bytes.now 0 ≢ kinds.byte (codes "?") }
+    ensures unit { IfOk result (λ o. MatchOption o (Stops place (codes "<" ++ bytes.now)) (λ r. FindsUnit place (codes "<" ++ bytes.now) (unit_of r.0) r.1.now)) }
     ensures shorter { IfOk result (λ o. IfSome o (λ r. length r.1.now ≤ length bytes.now)) }
 {
     let Some((name, mid)) = name_at(bytes) else {
@@ -171,7 +171,7 @@ pub fn tag_at<'s>(
 /// An end tag after its `</`.
 pub fn end_tag_at<'s>(place: u32, bytes: &'s [u8]) -> Option<(Unit<'s>, &'s [u8])>
     requires { place + length bytes.now + 2 < 2 ^ 32 }
-    ensures unit { MatchOption result (Stops place (60 ∷ 47 ∷ bytes.now)) (λ r. FindsUnit place (60 ∷ 47 ∷ bytes.now) (unit_of r.0) r.1.now) }
+    ensures unit { MatchOption result (Stops place (codes "</" ++ bytes.now)) (λ r. FindsUnit place (codes "</" ++ bytes.now) (unit_of r.0) r.1.now) }
     ensures shorter { IfSome result (λ r. length r.1.now ≤ length bytes.now) }
 {
     let Some((name, mid)) = name_at(bytes) else {
