@@ -5,10 +5,10 @@ use Rattle.std.proofs.lemmas.List.{length-map, length-reverse}
 use Rattle.std.proofs.lemmas.Bool.Decides.{nat_tests}
 use Rattle.named.specs.Texts.{named_of}
 use Rattle.named.proofs.Tables.{found_among, named_some}
-use Rattle.tml_tree.specs.declared.names.TagName.{TagName}
+use Rattle.tml_tree.specs.declared.tag_name.TagName.{TagName}
 use Rattle.tml_span.specs.Units.{start_tag}
 use Rattle.tml_tree.specs.declared.builder.Frame.{Frame}
-use Rattle.tml_tree.specs.Names.{text_of, all_tags, begins_with, is_known}
+use Rattle.tml_tree.specs.TagNames.{text_of, all_tags, begins_with, is_known}
 use Rattle.tml_tree.specs.Rules.{History, is_misplaced_tag}
 use Rattle.tml_tree.specs.Taking.{first_fault}
 use Rattle.tml_tree.specs.View.{names_of}

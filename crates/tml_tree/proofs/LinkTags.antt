@@ -2,13 +2,13 @@
 use Rattle.std.proofs.Common.{◌≡◌, ℕ, Bool, true, false, cond, not, ◌&&◌, ◌||◌, nat_le, List, [], ◌∷◌, length, refl, sym, subst, Some, None}
 use Rattle.std.specs.List.{list_any}
 use Rattle.tml_span.specs.Units.{Kind, start_tag, end_tag}
-use Rattle.tml_tree.specs.Names.{is_known, is_link, is_root}
+use Rattle.tml_tree.specs.TagNames.{is_known, is_link, is_root}
 use Rattle.tml_tree.specs.Rules.{History, is_nil}
 use Rattle.tml_tree.specs.Taking.{OnlyInnermost, first_fault}
 use Rattle.tml_tree.specs.Trees.{Differs}
 use Rattle.tml_tree.proofs.FirstFaults.{first_of}
 
--- a tag that is allowed stands in no link tag
+-- a tag that is allowed is in no link tag
 outside_rule : (a l m s r d : Bool) → first_of a false (l || m || s || r) d ≡ None → l ≡ false
 outside_rule true l m s r d e = absurd cc
 outside_rule false true m s r d e = absurd cc

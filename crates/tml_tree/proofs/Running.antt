@@ -84,11 +84,11 @@ pub opens_more : (tags : List OpenTag) (nodes : List PlainNode) (n : PlainNode) 
 opens_more [] nodes n us vs h i = items_more nodes n us vs h i
 opens_more (t ∷ tags) nodes n us vs h i = (h.0, h.1 ++ vs, rw h.2 (append_assoc h.0 (tag_unit t ∷ h.1) vs), h.3, items_more nodes n h.1 vs h.4 i)
 
--- a start tag stands open behind what stood
+-- a start tag is open after what was there
 pub opens_tag : (tags : List OpenTag) (nodes : List PlainNode) (us : List PlainUnit) (t : OpenTag) → Opens us tags nodes → t.before ≡ nodes → Opens (us ++ tag_unit t ∷ []) (t ∷ tags) []
 opens_tag tags nodes us t h e = (us, [], refl, rw e h, refl)
 
--- an end tag makes an element of what stands behind its start tag
+-- an end tag makes an element of what follows its start tag
 pub opens_end : (t : OpenTag) (tags : List OpenTag) (nodes : List PlainNode) (us : List PlainUnit) (turn end : ℕ) → Opens us (t ∷ tags) nodes
     → Opens (us ++ unit turn end (end_tag t.name) ∷ []) tags (t.before ++ element t.start end t.name t.attrs (nodes_of nodes) ∷ [])
 opens_end t tags nodes us turn end h =
@@ -115,7 +115,7 @@ opens_kind start end (empty_tag name attrs) tags nodes us s h e = subst (λ (r :
 opens_kind start end (end_tag name) [] nodes us s h e = absurd cc
 opens_kind start end (end_tag name) (t ∷ tags) nodes us s h e = closes t tags nodes us start end name s (bytes_eq t.name name) refl h e
 
--- what stands open behind one more unit
+-- what is open after one more unit
 pub opens_step : (us : List PlainUnit) (u : PlainUnit) (tags : List OpenTag) (nodes : List PlainNode) (s : Stage) → Opens (filter is_content us) tags nodes → step tags nodes u ≡ Some s → Opens (filter is_content (us ++ u ∷ [])) s.tags s.nodes
 opens_step us u tags nodes s h e = rw (filter-append is_content us (u ∷ [])) (opens_kind u.start u.end u.kind tags nodes (filter is_content us) s h e)
 

@@ -13,7 +13,7 @@ use Rattle.faults.specs.declared.kind.FaultKind.{FaultKind}
 use Rattle.faults.proofs.First.{none_breaks_more}
 use Rattle.tml_tree.specs.Plain.{unit, PlainNode, text_node, comment_node, element, none, nodes_of}
 use Rattle.tml_tree.specs.Nesting.{OpenTag, Opens, name_of, is_seen, is_content, is_element}
-use Rattle.tml_tree.specs.Names.{is_known, is_root}
+use Rattle.tml_tree.specs.TagNames.{is_known, is_root}
 use Rattle.tml_tree.specs.Rules.{is_past_bom, is_tag, is_doctype, is_nil, History, history_of}
 use Rattle.tml_tree.specs.Stage.{Stage, step}
 use Rattle.tml_tree.specs.Trees.{Breaks, Path, Document, Unclosed, FaultAt}
@@ -73,7 +73,7 @@ some_elements (n ∷ nodes) e = elim (is_element n) as (λ b. cond b (n ∷ filt
   | false ↦ λ h. some_elements nodes h
 ] e
 
--- a tag that is allowed stands where no root was seen
+-- a tag that is allowed is where no root was seen
 unseen_rule : (a m d s : Bool) → first_of a false (m || s || false) d ≡ None → s ≡ false
 unseen_rule true m d s e = absurd cc
 unseen_rule false true d s e = absurd cc
@@ -125,12 +125,12 @@ unclosed_none us nodes h l e =
     let path : Path us [] (list_any is_element nodes) = (([], nodes, h, refl, refl), l) in
     ((_, _, path), λ p. let q = one_path us _ _ _ _ path p in absurd (cc (q.1, some_elements nodes e)))
 
-last_alone : (front : List PlainNode) (root : PlainNode) (ns : List PlainNode) → ns ≡ front ++ root ∷ [] → (ns ≡ []) ⊎ ((r : PlainNode) × (ns ≡ r ∷ [])) → ns ≡ root ∷ []
+last_alone : (prefix : List PlainNode) (root : PlainNode) (ns : List PlainNode) → ns ≡ prefix ++ root ∷ [] → (ns ≡ []) ⊎ ((r : PlainNode) × (ns ≡ r ∷ [])) → ns ≡ root ∷ []
 last_alone [] root ns e h = e
 last_alone (f ∷ []) root ns e (inl k) = absurd cc
 last_alone (f ∷ []) root ns e (inr k) = absurd (cc (k.1))
-last_alone (f ∷ g ∷ front) root ns e (inl k) = absurd cc
-last_alone (f ∷ g ∷ front) root ns e (inr k) = absurd (cc (k.1))
+last_alone (f ∷ g ∷ prefix) root ns e (inl k) = absurd cc
+last_alone (f ∷ g ∷ prefix) root ns e (inr k) = absurd (cc (k.1))
 
 found : (nodes : List PlainNode) (root : PlainNode) → filter is_element nodes ≡ root ∷ [] → list_any is_element nodes ≡ true
 found [] root e = absurd cc

@@ -1,4 +1,3 @@
-pub mod Names
 pub mod Nesting
 pub mod Places
 pub mod Plain
@@ -6,6 +5,7 @@ pub mod Pulled
 pub mod Roots
 pub mod Rules
 pub mod Stage
+pub mod TagNames
 pub mod Taking
 pub mod Trees
 pub mod View

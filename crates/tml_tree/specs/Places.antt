@@ -1,7 +1,7 @@
 -- Where the nodes of a tree are in their source.
 use Rattle.std.specs.Prelude.{◌≡◌, ℕ, suc, ◌+◌, ◌≤◌, max, List, length, slice_range}
 use Rattle.std.specs.List.{AllByRecursion}
-use Rattle.tml_span.specs.Slices.{StandsAt, AttributeStands}
+use Rattle.tml_span.specs.Slices.{IsAt, AttributeIsIn}
 use Rattle.tml_tree.specs.Plain.{PlainNode, PlainNodes, text_node, comment_node, element, none, more}
 use Rattle.tml_tree.specs.Whole.{IsTreeOf}
 
@@ -10,7 +10,7 @@ abbrev mutual
   pub HasSlices : List ℕ → PlainNode → Type 0
   HasSlices source (text_node start end bytes) = slice_range source start end ≡ bytes
   HasSlices source (comment_node start end bytes) = slice_range source start end ≡ bytes
-  HasSlices source (element start end name attrs children) = StandsAt source (start + 1) name × AllByRecursion (AttributeStands source) attrs × HaveSlices source children
+  HasSlices source (element start end name attrs children) = IsAt source (start + 1) name × AllByRecursion (AttributeIsIn source) attrs × HaveSlices source children
 
   pub HaveSlices : List ℕ → PlainNodes → Type 0
   HaveSlices source none = Unit {0}

@@ -5,10 +5,10 @@ use Rattle.faults.specs.First.{NoneBreaks}
 use Rattle.faults.specs.declared.kind.FaultKind.{FaultKind}
 use Rattle.faults.specs.declared.kind.FaultKind.TheVariants.{UnknownTag, Unbalanced, Misplaced, TooDeep}
 use Rattle.tml_span.specs.Units.{Kind, PlainUnit, start_tag}
-use Rattle.tml_tree.specs.declared.names.TagName.{TagName}
+use Rattle.tml_tree.specs.declared.tag_name.TagName.{TagName}
 use Rattle.tml_tree.specs.declared.builder.Builder.{Builder}
 use Rattle.tml_tree.specs.declared.whole.TreeFault.{TreeFault}
-use Rattle.tml_tree.specs.Names.{text_of, is_link}
+use Rattle.tml_tree.specs.TagNames.{text_of, is_link}
 use Rattle.tml_tree.specs.Nesting.{Opens, is_content, is_seen}
 use Rattle.tml_tree.specs.Rules.{is_past_bom, is_tag, is_doctype, is_nil, is_unknown, is_unbalanced, is_misplaced, is_too_deep, History}
 use Rattle.tml_tree.specs.Trees.{Breaks}

@@ -1,4 +1,4 @@
--- The plain values that tags and nodes stand for.
+-- The plain values of tags and nodes.
 use Rattle.std.specs.Prelude.{ℕ, List, map, reverse}
 use Rattle.tml_span.specs.declared.unit.Span.{Span}
 use Rattle.tml_span.specs.Units.{Kind, PlainUnit}
@@ -6,7 +6,7 @@ use Rattle.tml_span.specs.View.{attribute_of}
 use Rattle.tml_tree.specs.declared.builder.Frame.{Frame}
 use Rattle.tml_tree.specs.declared.node.Tag.{Tag}
 use Rattle.tml_tree.specs.declared.node.Node.{Node, Element, Text, Comment, Element', Row_of-Node, end_of-Node, more_of-Node}
-use Rattle.tml_tree.specs.Names.{text_of}
+use Rattle.tml_tree.specs.TagNames.{text_of}
 use Rattle.tml_tree.specs.Plain.{PlainNode, PlainNodes, text_node, comment_node, element, none, more, unit}
 use Rattle.tml_tree.specs.Nesting.{OpenTag}
 

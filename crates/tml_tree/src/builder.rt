@@ -3,7 +3,7 @@ ghost use Rattle.std.specs.Prelude.{◌≡◌, ◌++◌, [], ◌∷◌, List as 
 ghost use Rattle.std.specs.List.{filter};
 ghost use Rattle.tml_span.specs.Units as units;
 ghost use Rattle.tml_span.specs.View.{attribute_of, unit_of};
-ghost use Rattle.tml_tree.specs.Names.{text_of};
+ghost use Rattle.tml_tree.specs.TagNames.{text_of};
 ghost use Rattle.tml_tree.specs.Plain.{element, nodes_of};
 ghost use Rattle.tml_tree.specs.Nesting.{is_element};
 ghost use Rattle.tml_tree.specs.Rules as rules;

@@ -3,7 +3,7 @@ ghost use Rattle.std.specs.Prelude.{◌≡◌};
 ghost use Rattle.std.specs.List.{list_any, list_all};
 ghost use Rattle.std.specs.Str.{bytes_eq};
 ghost use Rattle.tml_span.specs.Bytes.{is_white};
-ghost use Rattle.tml_tree.specs.Names as names;
+ghost use Rattle.tml_tree.specs.TagNames as names;
 ghost use Rattle.tml_tree.specs.Taking.{OnlyInnermost};
 ghost use Rattle.tml_tree.specs.View as view;
 

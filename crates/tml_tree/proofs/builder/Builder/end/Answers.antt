@@ -1,7 +1,7 @@
 use Rattle.std.proofs.Common.{◌≡◌, true, false, [], ◌∷◌, ◌++◌, refl, arith, rules}
 use Rattle.std.specs.Str.{bytes_eq}
 use Rattle.std.proofs.lemmas.Grind.{common_steps}
-use Rattle.tml_tree.specs.Names.{text_of}
+use Rattle.tml_tree.specs.TagNames.{text_of}
 use Rattle.tml_tree.proofs.Endings.{innermost_is, closed_is}
 use Rattle.tml_tree.proofs.builder.Builder.end.Goals as goal
 

@@ -1,6 +1,6 @@
 use Rattle.std.proofs.Common.{false, true, refl, arith}
 use Rattle.std.proofs.lemmas.Grind.{common_steps}
-use Rattle.tml_tree.specs.Names.{text_of, all_tags}
+use Rattle.tml_tree.specs.TagNames.{text_of, all_tags}
 use Rattle.tml_tree.specs.Taking.{history_of}
 use Rattle.named.proofs.Tables.{named_some, named_none}
 use Rattle.tml_tree.proofs.Known.{fault_by, tag_fault_by, is_deep, is_flat}
