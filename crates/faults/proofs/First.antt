@@ -1,7 +1,8 @@
 -- A list has one first fault, or none where no element breaks a rule.
-use Rattle.std.proofs.Common.{◌≡◌, ℕ, List, [], ◌∷◌, ◌++◌, sym, ap, subst, ◌∙◌, append_assoc, inl, inr, arith}
+use Rattle.std.proofs.Common.{◌≡◌, ◌≤◌, ℕ, List, [], ◌∷◌, ◌++◌, refl, sym, ap, subst, ◌∙◌, append_assoc, inl, inr, arith, All}
+use Rattle.std.proofs.lemmas.List.Elements.{All-nil, All-cons, All-append}
 use Rattle.faults.specs.First.{AreNumbered, FirstFault, NoneBreaks}
-use Rattle.faults.proofs.Cuts.{none_cut, two_cuts, last_or_before}
+use Rattle.faults.proofs.Cuts.{inside, none_cut, two_cuts, last_or_before}
 
 -- ---- no element breaks a rule
 
@@ -40,3 +41,43 @@ module _ {E R : Type 0} (breaks : R → List E → E → Type 0) (number : R →
     | inr (inl k) ↦ absurd (g.none_before f.before k.0 f.element r k.1 f.broken)
     | inr (inr k) ↦ absurd (f.none_before g.before k.0 g.element s k.1 g.broken)
   ]
+
+  -- the fault of one element alone
+  pub fault_of_one : (element : E) (rule : R) → breaks rule [] element → ((other : R) → breaks other [] element → number rule ≤ number other) → FirstFault breaks number place_of (element ∷ []) (place_of element) rule
+  fault_of_one element rule broken least = record {
+    before = [];
+    element = element;
+    after = [];
+    whole = refl;
+    none_before = none_breaks_nil breaks;
+    broken = broken;
+    least = least;
+    place_is = refl;
+  }
+
+-- ---- rules that do not ask for the elements before
+
+module _ {E R : Type 0} (breaks : R → E → Type 0) where
+  abbrev pub Sound : E → Type 0
+  Sound element = (rule : R) → breaks rule element → ⊥
+
+  pub none_of_all : (xs : List E) → All Sound xs → NoneBreaks (λ (rule : R) (before : List E). breaks rule) xs
+  none_of_all xs h = λ before after element rule e b. inside Sound before after element (subst (All Sound) e h) rule b
+
+  pub all_of_none : (xs : List E) → NoneBreaks (λ (rule : R) (before : List E). breaks rule) xs → All Sound xs
+  all_of_none [] h = All-nil Sound
+  all_of_none (x ∷ xs) h = All-cons Sound x xs (λ rule b. h [] xs x rule refl b) (all_of_none xs (λ before after element rule e b. h (x ∷ before) after element rule (ap (λ (ys : List E). x ∷ ys) e) b))
+
+  -- the first fault of some elements is that of more, where those before them are sound
+  pub fault_within : (number : R → ℕ) (place_of : E → ℕ) (before xs after : List E) (place : ℕ) (rule : R) → All Sound before → FirstFault (λ (r : R) (b : List E). breaks r) number place_of xs place rule
+      → FirstFault (λ (r : R) (b : List E). breaks r) number place_of (before ++ xs ++ after) place rule
+  fault_within number place_of before xs after place rule sound f = record {
+    before = before ++ f.before;
+    element = f.element;
+    after = f.after ++ after;
+    whole = ap (λ (ys : List E). before ++ ys ++ after) f.whole ∙ simp append_assoc;
+    none_before = none_of_all (before ++ f.before) (All-append Sound before f.before sound (all_of_none f.before f.none_before));
+    broken = f.broken;
+    least = f.least;
+    place_is = f.place_is;
+  }
