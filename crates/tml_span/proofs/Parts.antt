@@ -1,5 +1,6 @@
 -- Values and attributes: what is read is spelled so, and what is spelled so is read.
 use Rattle.std.proofs.Common.{◌≡◌, ℕ, ◌+◌, ◌-◌, Bool, true, false, cond, eqb, eq-eqb, List, [], ◌∷◌, ◌++◌, length, refl, sym, ap, subst, ◌∙◌, append_assoc, arith, Option, Some, None, length-append}
+use Rattle.std.proofs.lemmas.Option.{same_Some}
 use Rattle.std.specs.List.{prefix_len, list_all}
 use Rattle.std.proofs.lemmas.Bool.{eqb-true}
 use Rattle.std.proofs.lemmas.Bool.Decides.{nat_tests}
@@ -7,7 +8,7 @@ use Rattle.std.proofs.lemmas.List.{take-append-drop}
 use Rattle.tml_span.specs.Bytes.{is_white, is_name_byte, is_name, is_name_start, is_quote, is_value_byte}
 use Rattle.tml_span.specs.Units.{Attribute, SpelledAttribute, SpelledAttributes}
 use Rattle.tml_span.specs.Reading.{◌>>=◌, run_at, after_white, after_byte, name_at, quote_at, value_at, attribute_at, ReadsAttributes}
-use Rattle.tml_span.proofs.Runs.{both, when, guard, some_is, Not, run_again, prefix_passes, prefix_len_again, white_again, white_takes, name_takes, name_again}
+use Rattle.tml_span.proofs.Runs.{both, when, guard, Not, run_again, prefix_passes, prefix_len_again, white_again, white_takes, name_takes, name_again}
 
 -- the value of a step that did not fail
 pub bind_some : {A B : Type 0} (o : Option A) (f : A → Option B) (y : B) → (o >>= f) ≡ Some y → (x : A) × (o ≡ Some x) × (f x ≡ Some y)
@@ -59,7 +60,7 @@ value_takes (b ∷ bs) q value rest e =
     let x = guard_bind (is_quote b) (b, bs) _ (q, value, rest) e in
     let run = run_at (is_value_byte b) bs in
     let y = bind_some (after_byte b run.1) _ (q, value, rest) x.1 in
-    subst (λ (t : ℕ × List ℕ × List ℕ). (b ∷ bs ≡ t.0 ∷ t.1 ++ t.0 ∷ t.2) × (is_quote t.0 ≡ true) × (list_all (is_value_byte t.0) t.1 ≡ true)) (some_is y.2) (
+    subst (λ (t : ℕ × List ℕ × List ℕ). (b ∷ bs ≡ t.0 ∷ t.1 ++ t.0 ∷ t.2) × (is_quote t.0 ≡ true) × (list_all (is_value_byte t.0) t.1 ≡ true)) (same_Some _ _ y.2) (
       ap (λ (r : List ℕ). b ∷ r) (sym (take-append-drop (prefix_len (is_value_byte b) bs) bs) ∙ ap (λ (r : List ℕ). run.0 ++ r) (byte_takes b run.1 y.0 y.1)),
       x.0,
       prefix_passes (is_value_byte b) bs,
@@ -121,7 +122,7 @@ attribute_takes place bytes a rest e =
     before.1 ∙ ap (λ (x : List ℕ). before.0 ++ x) (name.0 ∙ ap (λ (x : List ℕ). n.0.0 ++ x) (left.1 ∙ ap (λ (x : List ℕ). left.0 ++ x) (byte_takes 61 (after_white n.0.1) r.0 r.1
     ∙ ap (λ (x : List ℕ). 61 ∷ x) (right.1 ∙ ap (λ (x : List ℕ). right.0 ++ x) value.0)))) in
     let some : length before.0 ≡ 0 → ⊥ = λ z. zero_is (prefix_len is_white bytes) (before.3 ∙ z) some_white.0 in
-    subst (λ (p : Attribute × List ℕ). (prefix : List ℕ) × (bytes ≡ prefix ++ p.1) × SpelledAttribute place p.0 prefix) (some_is v.2)
+    subst (λ (p : Attribute × List ℕ). (prefix : List ℕ) × (bytes ≡ prefix ++ p.1) × SpelledAttribute place p.0 prefix) (same_Some _ _ v.2)
     (spelled_parts place bytes before.0 left.0 right.0 v.0.2 _ whole before.2 left.2 right.2 name.1 value.1 value.2 some (ap (λ (k : ℕ). place + k) before.3) refl)
 
 name_stops : (left rest : List ℕ) → list_all is_white left ≡ true → Not is_name_byte (left ++ 61 ∷ rest)
@@ -195,7 +196,7 @@ one_reading place bytes [] [] rest after h k = (refl, cc)
 one_reading place bytes [] (b ∷ others) rest after h k = absurd cc
 one_reading place bytes (a ∷ attrs) [] rest after h k = absurd cc
 one_reading place bytes (a ∷ attrs) (b ∷ others) rest after h k =
-    let same = some_is (sym h.1 ∙ k.1) in
+    let same = same_Some _ _ (sym h.1 ∙ k.1) in
     let mid : k.0 ≡ h.0 = sym (ap (λ (p : Attribute × List ℕ). p.1) same) in
     let first : a ≡ b = ap (λ (p : Attribute × List ℕ). p.0) same in
     let tail = one_reading (place + (length bytes - length h.0)) h.0 attrs others rest after h.2 (subst (λ (m : List ℕ). ReadsAttributes (place + (length bytes - length m)) m others after) mid k.2) in

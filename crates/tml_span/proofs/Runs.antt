@@ -1,5 +1,6 @@
 -- The longest prefix of one kind of bytes, and names.
 use Rattle.std.proofs.Common.{one-add, subst, ◌≡◌, ℕ, ◌+◌, ◌≤◌, Bool, true, false, cond, ◌&&◌, List, [], ◌∷◌, ◌++◌, length, take, drop, refl, sym, ap, ◌∙◌, arith, Some, None, length-take}
+use Rattle.std.proofs.lemmas.Option.{same_Some}
 use Rattle.std.specs.List.{prefix_len, list_all}
 use Rattle.std.proofs.lemmas.List.{take-append-drop, take_at, drop_at}
 use Rattle.tml_span.specs.Bytes.{is_white, is_name_start, is_name_byte, is_name}
@@ -62,14 +63,11 @@ white_takes bytes =
 start_is_byte : (b : ℕ) → is_name_start b ≡ true → is_name_byte b ≡ true
 start_is_byte b h = rw h refl
 
-pub some_is : {A : Type 0} {x y : A} → Some x ≡ Some y → x ≡ y
-some_is e = cc
-
 name_parts : (b : ℕ) (bs name rest : List ℕ) (s : Bool) → is_name_start b ≡ s → cond s (Some (run_at is_name_byte (b ∷ bs))) None ≡ Some (name, rest) → (b ∷ bs ≡ name ++ rest) × (is_name name ≡ true)
 name_parts b bs name rest false h e = absurd cc
 name_parts b bs name rest true h e =
     let n = prefix_len is_name_byte bs in
-    let p : run_at is_name_byte (b ∷ bs) ≡ (name, rest) = some_is e in
+    let p : run_at is_name_byte (b ∷ bs) ≡ (name, rest) = same_Some _ _ e in
     let prefix : is_name (take (prefix_len is_name_byte (b ∷ bs)) (b ∷ bs)) ≡ true =
     rw (start_is_byte b h, one-add n, h) (prefix_passes is_name_byte bs) in
     subst (λ (q : List ℕ × List ℕ). (b ∷ bs ≡ q.0 ++ q.1) × (is_name q.0 ≡ true)) p (sym (take-append-drop (prefix_len is_name_byte (b ∷ bs)) (b ∷ bs)), prefix)

@@ -1,5 +1,6 @@
 -- Texts and tags at the prefix of a source: there is one at most, and where none is no unit begins.
 use Rattle.std.proofs.Common.{get_or, ◌≡◌, ◌≢◌, ◌⊎◌, inl, inr, ℕ, zero, suc, ◌+◌, ◌-◌, ◌<◌, ◌≤◌, Bool, true, false, not, cond, eqb, List, [], ◌∷◌, ◌++◌, length, take, drop, refl, sym, ap, ◌∙◌, arith, Some, None, length-append}
+use Rattle.std.proofs.lemmas.Option.{same_Some}
 use Rattle.std.specs.Prelude.{nat_eq, codes}
 use Rattle.std.specs.List.{prefix_len, starts_with}
 use Rattle.std.proofs.lemmas.Bool.{eqb-true, eqb-false}
@@ -8,7 +9,7 @@ use Rattle.tml_span.specs.Bytes.{is_text_byte}
 use Rattle.tml_span.specs.Units.{Attribute, Kind, text, start_tag, end_tag, empty_tag, PlainUnit, bom_bytes, SpelledKind}
 use Rattle.tml_span.specs.Cutting.{Ends, Stops, FindsUnit}
 use Rattle.tml_span.specs.Reading.{after_white, name_at, attribute_at, ReadsAttributes}
-use Rattle.tml_span.proofs.Runs.{some_is, Not, prefix_len_again}
+use Rattle.tml_span.proofs.Runs.{Not, prefix_len_again}
 use Rattle.tml_span.proofs.Parts.{attribute_takes}
 use Rattle.tml_span.proofs.Leads.{plain, ending, comments, doctypes, query, opening, lead, lead_after, lead_of, tag_parts}
 use Rattle.tml_span.proofs.TagUnits.{text_finds, bom_finds, close_of, tag_of, one_tag_reading, as_tag, tag_finds, no_name_stops, no_close_stops, one_end_tag_reading, end_tag_parts, end_tag_again, end_tag_finds, no_end_tag_stops, no_name_end_stops}
@@ -132,7 +133,7 @@ tag_or_none place bytes opens = elim (name_at bytes) as (λ o. name_at bytes ≡
 ended_or_none : (place : ℕ) (bytes name mid : List ℕ) → name_at bytes ≡ Some (name, mid) → ((rest : List ℕ) × (after_white mid ≡ 62 ∷ rest)) ⊎ ((rest : List ℕ) → after_white mid ≢ 62 ∷ rest) → FoundOrNone place (60 ∷ 47 ∷ bytes)
 ended_or_none place bytes name mid named (inl close) = inl (_, (close.0, end_tag_finds place bytes name close.0 (record { mid = mid; named = named; closed = close.1 })))
 ended_or_none place bytes name mid named (inr none) = inr (no_end_tag_stops place bytes (λ other rest reads.
-    let same : mid ≡ reads.mid = ap (λ (p : List ℕ × List ℕ). p.1) (some_is (sym named ∙ reads.named)) in
+    let same : mid ≡ reads.mid = ap (λ (p : List ℕ × List ℕ). p.1) (same_Some _ _ (sym named ∙ reads.named)) in
     none rest (ap after_white same ∙ reads.closed)))
 
 pub end_tag_or_none : (place : ℕ) (bytes : List ℕ) → ((u : PlainUnit) × ((rest : List ℕ) × FindsUnit place (60 ∷ 47 ∷ bytes) u rest)) ⊎ Stops place (60 ∷ 47 ∷ bytes)

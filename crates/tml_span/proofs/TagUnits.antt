@@ -1,5 +1,6 @@
 -- Texts and tags: what is read is spelled so, and where nothing is read no unit begins.
 use Rattle.std.proofs.Common.{get_or, add-one, ◌≡◌, ◌≢◌, ℕ, ◌+◌, ◌-◌, ◌<◌, Bool, true, false, cond, List, [], ◌∷◌, ◌++◌, length, take, drop, refl, sym, ap, subst, ◌∙◌, append_assoc, arith, Some, None, length-append, length-take}
+use Rattle.std.proofs.lemmas.Option.{same_Some}
 use Rattle.std.specs.Prelude.{nat_eq, codes}
 use Rattle.std.specs.List.{prefix_len, list_all, starts_with}
 use Rattle.std.proofs.lemmas.Bool.Decides.{nat_tests, Decides-eqb}
@@ -9,7 +10,7 @@ use Rattle.tml_span.specs.Bytes.{is_white, is_text_byte, is_name_start, is_name_
 use Rattle.tml_span.specs.Units.{Attribute, SpelledAttribute, SpelledAttributes, Kind, bom, text, start_tag, end_tag, empty_tag, SpelledTag, bom_bytes, BeginsWith, SpelledKind}
 use Rattle.tml_span.specs.Cutting.{Ends, Stops, FindsUnit}
 use Rattle.tml_span.specs.Reading.{after_white, after_byte, name_at, attribute_at, ReadsAttributes}
-use Rattle.tml_span.proofs.Runs.{both, some_is, Not, prefix_passes, rest_stops, white_again, white_takes, name_takes, name_again}
+use Rattle.tml_span.proofs.Runs.{both, Not, prefix_passes, rest_stops, white_again, white_takes, name_takes, name_again}
 use Rattle.tml_span.proofs.Parts.{attribute_text, white_no_name, attributes_take, attributes_again, one_reading}
 use Rattle.tml_span.proofs.Leads.{ending, opening, lead, lead_of, leads, tag_parts}
 
@@ -141,7 +142,7 @@ tag_again place bytes name close prefix suffix attrs e h closing =
 -- a tag is read in one way
 pub one_tag_reading : (place : ℕ) (bytes name other tail after : List ℕ) (attrs others : List Attribute) → ReadsTag place bytes name attrs tail → ReadsTag place bytes other others after → (name ≡ other) × (attrs ≡ others) × (tail ≡ after)
 one_tag_reading place bytes name other tail after attrs others h k =
-    let same = some_is (sym h.named ∙ k.named) in
+    let same = same_Some _ _ (sym h.named ∙ k.named) in
     let reads = subst (λ (p : List ℕ × List ℕ). ReadsAttributes (place + 1 + length p.0) p.1 attrs h.after) same h.attributes in
     let one = one_reading (place + 1 + length other) k.mid attrs others h.after k.after reads k.attributes in
     (ap (λ (p : List ℕ × List ℕ). p.0) same, one.0, sym h.closed ∙ ap after_white one.1 ∙ k.closed)
@@ -209,7 +210,7 @@ end_tag_again place bytes name prefix suffix e h =
 -- an end tag is read in one way
 pub one_end_tag_reading : (bytes name other rest after : List ℕ) → ReadsEndTag bytes name rest → ReadsEndTag bytes other after → (name ≡ other) × (rest ≡ after)
 one_end_tag_reading bytes name other rest after h k =
-    let same = some_is (sym h.named ∙ k.named) in
+    let same = same_Some _ _ (sym h.named ∙ k.named) in
     (ap (λ (p : List ℕ × List ℕ). p.0) same, cc (sym h.closed ∙ ap (λ (p : List ℕ × List ℕ). after_white p.1) same ∙ k.closed))
 
 pub end_tag_finds : (place : ℕ) (bytes name rest : List ℕ) → ReadsEndTag bytes name rest → FindsUnit place (60 ∷ 47 ∷ bytes) (record { start = place; end = place + (length bytes + 2 - length rest); kind = end_tag name }) rest
@@ -237,5 +238,5 @@ no_name_end_stops place bytes nothing = no_end_tag_stops place bytes (λ name re
 
 pub no_close_end_stops : (place : ℕ) (bytes name mid : List ℕ) → name_at bytes ≡ Some (name, mid) → after_byte 62 (after_white mid) ≡ None → Stops place (60 ∷ 47 ∷ bytes)
 no_close_end_stops place bytes name mid named none = no_end_tag_stops place bytes (λ other rest reads.
-    let same : mid ≡ reads.mid = ap (λ (p : List ℕ × List ℕ). p.1) (some_is (sym named ∙ reads.named)) in
+    let same : mid ≡ reads.mid = ap (λ (p : List ℕ × List ℕ). p.1) (same_Some _ _ (sym named ∙ reads.named)) in
     cc (sym none ∙ ap (λ (x : List ℕ). after_byte 62 (after_white x)) same ∙ ap (after_byte 62) reads.closed))

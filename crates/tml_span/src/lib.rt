@@ -13,6 +13,7 @@ mod tags;
 mod unit;
 mod unit_list;
 
+pub use bytes::is_white;
 pub use laws::{every_cut, one_cut, one_fault, slices_are_in_source};
 pub use list::{List, Memory};
 pub use reader::{Cut, MarkupFault, NotUtf8, UnitReader};

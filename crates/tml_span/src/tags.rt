@@ -1,5 +1,5 @@
 //! Tags and their attributes, read from left to right.
-ghost use Rattle.std.specs.Prelude.{true, ◌≡◌, ◌≢◌, ◌+◌, ◌<◌, ◌≤◌, ◌^◌, ◌∷◌, ◌++◌, codes, cond, Bool, slice_index, List as ListOf, ℕ, length, map, option_map, IfOk, IfSome, MatchOption};
+ghost use Rattle.std.specs.Prelude.{[], true, ◌≡◌, ◌≢◌, ◌+◌, ◌<◌, ◌≤◌, ◌^◌, ◌∷◌, ◌++◌, codes, cond, Bool, slice_index, List as ListOf, ℕ, length, map, option_map, IfOk, OnOk, IfSome, MatchOption};
 ghost use Rattle.tml_span.specs.Reading as reading;
 ghost use Rattle.tml_span.specs.View.{attribute_of, unit_of, quote_byte};
 ghost use Rattle.tml_span.specs.Bytes as kinds;
@@ -103,6 +103,16 @@ pub fn attribute_at<'s>(place: u32, bytes: &'s [u8]) -> Option<(Attr<'s>, &'s [u
     ))
 }
 
+/// Puts the attribute last. Most tags have at most two, so the first one gets room for two.
+fn push_attribute<'s>(attrs: &mut List<Attr<'s>>, attr: Attr<'s>) -> Result<(), Memory>
+    ensures { OnOk result (attrs.new ≡ attrs.old ++ attr.entry ∷ []) }
+{
+    if attrs.as_slice().is_empty() {
+        attrs.reserve_exact(2)?;
+    }
+    attrs.push(attr)
+}
+
 /// As many attributes as there are, and what follows them.
 fn attributes_at<'s>(
     alloc: Global,
@@ -117,7 +127,7 @@ fn attributes_at<'s>(
     let mut at = place;
     let mut rest = bytes;
     while let Some((attr, after)) = attribute_at(at, rest) {
-        attrs.push(attr)?;
+        push_attribute(&mut attrs, attr)?;
         at += (rest.len() - after.len()) as u32;
         rest = after;
     }

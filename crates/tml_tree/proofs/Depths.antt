@@ -1,5 +1,6 @@
 -- At most 32 elements are inside each other.
 use Rattle.std.proofs.Common.{◌≡◌, ℕ, suc, Bool, true, false, cond, ◌+◌, ◌-◌, ◌≤◌, ◌<◌, nat_le, max, List, [], ◌∷◌, ◌++◌, length, map, refl, sym, ap, subst, ◌∙◌, append_assoc, arith, Option, Some, None}
+use Rattle.std.proofs.lemmas.Option.{same_Some}
 use Rattle.std.specs.List.{filter}
 use Rattle.std.specs.Str.{bytes_eq}
 use Rattle.std.proofs.lemmas.List.{append-nil, length-map}
@@ -14,7 +15,7 @@ use Rattle.tml_tree.specs.Stage.{Stage, step, run}
 use Rattle.tml_tree.specs.Trees.{Breaks}
 use Rattle.tml_tree.specs.Places.{depth_of, deepest}
 use Rattle.tml_tree.specs.Whole.{IsTreeOf}
-use Rattle.tml_tree.proofs.Running.{some_is, then_some, opens_step, open_runs}
+use Rattle.tml_tree.proofs.Running.{then_some, opens_step, open_runs}
 
 -- with the open tags about them, nodes are not too deep, nor are those before each open tag
 abbrev AreShallow : List OpenTag → List PlainNode → Type 0
@@ -42,7 +43,7 @@ shallow_end : (t : OpenTag) (tags : List OpenTag) (nodes : List PlainNode) (end 
     → cond b (Some (record { tags = tags; nodes = t.before ++ element t.start end t.name t.attrs (nodes_of nodes) ∷ [] })) None ≡ Some s → AreShallow s.tags s.nodes
 shallow_end t tags nodes end s false h e = absurd cc
 shallow_end t tags nodes end s true h e =
-    subst (λ (r : Stage). AreShallow r.tags r.nodes) (some_is e) (shallow_more tags t.before (element t.start end t.name t.attrs (nodes_of nodes)) h.1 (omega (arith, h.0)))
+    subst (λ (r : Stage). AreShallow r.tags r.nodes) (same_Some _ _ e) (shallow_more tags t.before (element t.start end t.name t.attrs (nodes_of nodes)) h.1 (omega (arith, h.0)))
 
 not_deep : (tags : List OpenTag) → nat_le 32 (length (map name_of tags)) ≡ false → 1 + length tags ≤ 32
 not_deep tags d = let same : length (map name_of tags) ≡ length tags = simp length-map in grind (arith, nat_tests, d)
@@ -50,19 +51,19 @@ not_deep tags d = let same : length (map name_of tags) ≡ length tags = simp le
 -- a step keeps it, where no start or empty tag is too deep
 shallow_step : (start end : ℕ) (k : Kind) (us : List PlainUnit) (tags : List OpenTag) (nodes : List PlainNode) (seen : Bool) (s : Stage) → AreShallow tags nodes → is_too_deep (history_of us (map name_of tags) seen) k ≡ false
     → step tags nodes (unit start end k) ≡ Some s → AreShallow s.tags s.nodes
-shallow_step start end bom us tags nodes seen s h d e = subst (λ (r : Stage). AreShallow r.tags r.nodes) (some_is e) h
-shallow_step start end (declaration b) us tags nodes seen s h d e = subst (λ (r : Stage). AreShallow r.tags r.nodes) (some_is e) h
-shallow_step start end (doctype b) us tags nodes seen s h d e = subst (λ (r : Stage). AreShallow r.tags r.nodes) (some_is e) h
+shallow_step start end bom us tags nodes seen s h d e = subst (λ (r : Stage). AreShallow r.tags r.nodes) (same_Some _ _ e) h
+shallow_step start end (declaration b) us tags nodes seen s h d e = subst (λ (r : Stage). AreShallow r.tags r.nodes) (same_Some _ _ e) h
+shallow_step start end (doctype b) us tags nodes seen s h d e = subst (λ (r : Stage). AreShallow r.tags r.nodes) (same_Some _ _ e) h
 shallow_step start end (comment b) us tags nodes seen s h d e =
     let few = here tags nodes h in
-    subst (λ (r : Stage). AreShallow r.tags r.nodes) (some_is e) (shallow_more tags nodes (comment_node start end b) h (omega arith))
+    subst (λ (r : Stage). AreShallow r.tags r.nodes) (same_Some _ _ e) (shallow_more tags nodes (comment_node start end b) h (omega arith))
 shallow_step start end (text b) us tags nodes seen s h d e =
     let few = here tags nodes h in
-    subst (λ (r : Stage). AreShallow r.tags r.nodes) (some_is e) (shallow_more tags nodes (text_node start end b) h (omega arith))
+    subst (λ (r : Stage). AreShallow r.tags r.nodes) (same_Some _ _ e) (shallow_more tags nodes (text_node start end b) h (omega arith))
 shallow_step start end (start_tag name attrs) us tags nodes seen s h d e =
-    subst (λ (r : Stage). AreShallow r.tags r.nodes) (some_is e) (omega (arith, not_deep tags d), h)
+    subst (λ (r : Stage). AreShallow r.tags r.nodes) (same_Some _ _ e) (omega (arith, not_deep tags d), h)
 shallow_step start end (empty_tag name attrs) us tags nodes seen s h d e =
-    subst (λ (r : Stage). AreShallow r.tags r.nodes) (some_is e) (shallow_more tags nodes (element start end name attrs none) h (not_deep tags d))
+    subst (λ (r : Stage). AreShallow r.tags r.nodes) (same_Some _ _ e) (shallow_more tags nodes (element start end name attrs none) h (not_deep tags d))
 shallow_step start end (end_tag name) us [] nodes seen s h d e = absurd cc
 shallow_step start end (end_tag name) us (t ∷ tags) nodes seen s h d e = shallow_end t tags nodes end s (bytes_eq t.name name) h e
 
@@ -71,7 +72,7 @@ not_true true h = absurd (h refl)
 not_true false h = refl
 
 shallow_from : (done us : List PlainUnit) (tags : List OpenTag) (nodes : List PlainNode) (s : Stage) → Opens (filter is_content done) tags nodes → AreShallow tags nodes → NoneBreaks Breaks (done ++ us) → run tags nodes us ≡ Some s → AreShallow s.tags s.nodes
-shallow_from done [] tags nodes s o h lawful e = subst (λ (r : Stage). AreShallow r.tags r.nodes) (some_is e) h
+shallow_from done [] tags nodes s o h lawful e = subst (λ (r : Stage). AreShallow r.tags r.nodes) (same_Some _ _ e) h
 shallow_from done (u ∷ us) tags nodes s o h lawful e =
     let one = then_some (step tags nodes u) (λ r. run r.tags r.nodes us) s e in
     let nests : Nests done (map name_of tags) (is_seen tags nodes) = (tags, nodes, o, refl, refl) in

@@ -1,5 +1,6 @@
 -- What the last unit does to the open names.
 use Rattle.std.proofs.Common.{◌≡◌, ℕ, Bool, true, false, cond, List, [], ◌∷◌, map, refl, sym, ap, subst, Some, None}
+use Rattle.std.proofs.lemmas.Option.{same_Some}
 use Rattle.std.specs.Str.{bytes_eq}
 use Rattle.std.proofs.lemmas.Slice.Eq.{bytes_eq-Decides}
 use Rattle.faults.proofs.First.{none_breaks_prefix}
@@ -8,10 +9,10 @@ use Rattle.tml_tree.specs.Plain.{unit, PlainNode}
 use Rattle.tml_tree.specs.Nesting.{OpenTag, name_of, is_seen}
 use Rattle.tml_tree.specs.Stage.{Stage, step}
 use Rattle.tml_tree.specs.Trees.{Breaks, Differs, LastUnit}
-use Rattle.tml_tree.proofs.Running.{some_is, nests_before}
+use Rattle.tml_tree.proofs.Running.{nests_before}
 
 tags_are : (s t : Stage) → Some s ≡ Some t → map name_of t.tags ≡ map name_of s.tags
-tags_are s t e = ap (λ (r : Stage). map name_of r.tags) (sym (some_is e))
+tags_are s t e = ap (λ (r : Stage). map name_of r.tags) (sym (same_Some _ _ e))
 
 taken : (t : OpenTag) (tags : List OpenTag) (name : List ℕ) (nodes : List PlainNode) (s : Stage) (b : Bool) → bytes_eq t.name name ≡ b → cond b (Some (record { tags = tags; nodes = nodes })) None ≡ Some s → map name_of (t ∷ tags) ≡ name ∷ map name_of s.tags
 taken t tags name nodes s false e h = absurd cc

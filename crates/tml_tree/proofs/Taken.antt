@@ -1,10 +1,11 @@
 -- What a builder knows, after one more unit and at the end.
 use Rattle.std.proofs.Common.{◌≡◌, ◌⊎◌, inl, inr, ℕ, Bool, true, false, cond, not, ◌&&◌, ◌||◌, nat_le, List, [], ◌∷◌, ◌++◌, map, reverse, length, refl, sym, ap, subst, ◌∙◌, arith, Option, Some, None, IfSome}
+use Rattle.std.proofs.lemmas.Option.{same_Some}
 use Rattle.std.specs.List.{filter, list_any}
 use Rattle.std.specs.Str.{bytes_eq}
 use Rattle.std.proofs.lemmas.List.{append-nil, length-map, length-reverse}
 use Rattle.std.proofs.lemmas.List.Elements.{filter-append}
-use Rattle.std.proofs.lemmas.List.Folds.{list_any-append}
+use Rattle.named.proofs.Tables.{any_more}
 use Rattle.tml_span.specs.Units.{Kind, bom, declaration, doctype, comment, text, start_tag, end_tag, empty_tag, PlainUnit}
 use Rattle.tml_tree.specs.declared.builder.Frame.{Frame}
 use Rattle.tml_tree.specs.declared.builder.Builder.{Builder}
@@ -21,7 +22,7 @@ use Rattle.tml_tree.specs.Whole.{FaultOf}
 use Rattle.tml_tree.specs.Roots.{outer, AtMostOne, EndsIn}
 use Rattle.tml_tree.specs.View as view
 use Rattle.tml_tree.specs.Taking.{TakesUnit, HasTaken, first_fault, fault_of, stage_of}
-use Rattle.tml_tree.proofs.Running.{some_is, opens_step}
+use Rattle.tml_tree.proofs.Running.{opens_step}
 use Rattle.tml_tree.proofs.FirstFaults.{first_of, no_fault, has_fault, is_least}
 use Rattle.tml_tree.proofs.Paths.{one_path, breaks_none, fault_by}
 use Rattle.tml_tree.proofs.LastUnits.{differs}
@@ -36,9 +37,6 @@ or_false false = refl
 or_true : (b : Bool) → (b || true) ≡ true
 or_true true = refl
 or_true false = refl
-
-pub any_more : {A : Type 0} (p : A → Bool) (xs : List A) (x : A) → list_any p (xs ++ x ∷ []) ≡ (list_any p xs || p x)
-any_more p xs x = list_any-append p xs (x ∷ []) ∙ ap (λ (b : Bool). list_any p xs || b) (or_false (p x))
 
 seen_leaf : (tags : List OpenTag) (nodes : List PlainNode) (n : PlainNode) → is_element n ≡ false → is_seen tags (nodes ++ n ∷ []) ≡ is_seen tags nodes
 seen_leaf [] nodes n e = any_more is_element nodes n ∙ ap (λ (b : Bool). list_any is_element nodes || b) e ∙ or_false (list_any is_element nodes)
@@ -94,22 +92,22 @@ kept_end : (t : OpenTag) (tags : List OpenTag) (nodes : List PlainNode) (start e
 kept_end t tags nodes start end name s false h e = absurd cc
 kept_end t tags nodes start end name s true h e =
     let n = element t.start end t.name t.attrs (nodes_of nodes) in
-    subst (λ (r : Stage). Kept (t ∷ tags) nodes (unit start end (end_tag name)) r) (some_is e) (record { seen = seen_element tags t.before n refl; single = single_element tags t.before n refl h })
+    subst (λ (r : Stage). Kept (t ∷ tags) nodes (unit start end (end_tag name)) r) (same_Some _ _ e) (record { seen = seen_element tags t.before n refl; single = single_element tags t.before n refl h })
 
 kept_kind : (start end : ℕ) (k : Kind) (before : List PlainUnit) (tags : List OpenTag) (nodes : List PlainNode) (s : Stage) → AtMostOne tags nodes → first_fault (history_of before (map name_of tags) (is_seen tags nodes)) k ≡ None
     → step tags nodes (unit start end k) ≡ Some s → Kept tags nodes (unit start end k) s
-kept_kind start end bom before tags nodes s h l e = subst (λ (r : Stage). Kept tags nodes (unit start end bom) r) (some_is e) (record { seen = refl; single = h })
-kept_kind start end (declaration b) before tags nodes s h l e = subst (λ (r : Stage). Kept tags nodes (unit start end (declaration b)) r) (some_is e) (record { seen = refl; single = h })
-kept_kind start end (doctype b) before tags nodes s h l e = subst (λ (r : Stage). Kept tags nodes (unit start end (doctype b)) r) (some_is e) (record { seen = refl; single = h })
+kept_kind start end bom before tags nodes s h l e = subst (λ (r : Stage). Kept tags nodes (unit start end bom) r) (same_Some _ _ e) (record { seen = refl; single = h })
+kept_kind start end (declaration b) before tags nodes s h l e = subst (λ (r : Stage). Kept tags nodes (unit start end (declaration b)) r) (same_Some _ _ e) (record { seen = refl; single = h })
+kept_kind start end (doctype b) before tags nodes s h l e = subst (λ (r : Stage). Kept tags nodes (unit start end (doctype b)) r) (same_Some _ _ e) (record { seen = refl; single = h })
 kept_kind start end (comment b) before tags nodes s h l e =
-    subst (λ (r : Stage). Kept tags nodes (unit start end (comment b)) r) (some_is e) (record { seen = seen_leaf tags nodes (comment_node start end b) refl; single = single_leaf tags nodes (comment_node start end b) refl h })
+    subst (λ (r : Stage). Kept tags nodes (unit start end (comment b)) r) (same_Some _ _ e) (record { seen = seen_leaf tags nodes (comment_node start end b) refl; single = single_leaf tags nodes (comment_node start end b) refl h })
 kept_kind start end (text b) before tags nodes s h l e =
-    subst (λ (r : Stage). Kept tags nodes (unit start end (text b)) r) (some_is e) (record { seen = seen_leaf tags nodes (text_node start end b) refl; single = single_leaf tags nodes (text_node start end b) refl h })
+    subst (λ (r : Stage). Kept tags nodes (unit start end (text b)) r) (same_Some _ _ e) (record { seen = seen_leaf tags nodes (text_node start end b) refl; single = single_leaf tags nodes (text_node start end b) refl h })
 kept_kind start end (start_tag name attrs) before tags nodes s h l e =
-    subst (λ (r : Stage). Kept tags nodes (unit start end (start_tag name attrs)) r) (some_is e) (record { seen = refl; single = none_outside before tags nodes name h l })
+    subst (λ (r : Stage). Kept tags nodes (unit start end (start_tag name attrs)) r) (same_Some _ _ e) (record { seen = refl; single = none_outside before tags nodes name h l })
 kept_kind start end (empty_tag name attrs) before tags nodes s h l e =
     let n = element start end name attrs none in
-    subst (λ (r : Stage). Kept tags nodes (unit start end (empty_tag name attrs)) r) (some_is e) (record { seen = seen_element tags nodes n refl; single = single_element tags nodes n refl (none_outside before tags nodes name h l) })
+    subst (λ (r : Stage). Kept tags nodes (unit start end (empty_tag name attrs)) r) (same_Some _ _ e) (record { seen = seen_element tags nodes n refl; single = single_element tags nodes n refl (none_outside before tags nodes name h l) })
 kept_kind start end (end_tag name) before [] nodes s h l e = absurd cc
 kept_kind start end (end_tag name) before (t ∷ tags) nodes s h l e = kept_end t tags nodes start end name s (bytes_eq t.name name) h e
 

@@ -171,7 +171,7 @@ impl<'s> Builder<'s> {
         ensures ok { OnOk result (TakesUnit self.old (at_span span (units.text text.now)) self.new) }
         ensures err { IfErr result (λ e. RefusesUnit self.old (at_span span (units.text text.now)) e) }
     {
-        if !is_blank(text) && (self.frames.is_empty() || in_link(self.frames.as_slice())) {
+        if (self.frames.is_empty() || in_link(self.frames.as_slice())) && !is_blank(text) {
             return Err(TreeFault::Misplaced { place: span.start });
         }
         if push_node(&mut self.nodes, Node::Text { span, text }).is_err() {

@@ -9,6 +9,7 @@ ghost use Rattle.tml_tree.specs.View as view;
 
 use crate::TagName;
 use crate::builder::Frame;
+use tml_span::is_white;
 
 /// How many tags may be open at once.
 pub const MOST_OPEN: usize = 32;
@@ -17,7 +18,7 @@ pub const MOST_OPEN: usize = 32;
 pub fn is_blank(text: &[u8]) -> bool
     ensures { result ≡ list_all is_white text.now }
 {
-    text.iter().all(|b| *b == b' ' || *b == b'\t' || *b == b'\r' || *b == b'\n')
+    text.iter().all(|b| is_white(*b))
 }
 
 /// The name is that of the tag.
