@@ -1,4 +1,4 @@
--- A reference at the prefix of some bytes.
+-- A reference that bytes begin with.
 use Rattle.std.proofs.Common.{◌≡◌, ◌↔◌, ◌⊎◌, inl, inr, ℕ, zero, suc, ◌≤◌, Bool, true, false, List, [], ◌∷◌, ◌++◌, length, take, drop, refl, sym, ap, subst, ◌∙◌, append_assoc, arith, Some, length-take}
 use Rattle.std.specs.Prelude.{codes, nat_eq, slice_get, Contains, IsTrue}
 use Rattle.std.specs.List.{list_all, list_any, prefix_len, starts_with}
@@ -7,12 +7,8 @@ use Rattle.std.proofs.lemmas.List.Folds.{Any-from_list_any, list_any_at}
 use Rattle.std.proofs.lemmas.Option.{slice_get_within}
 use Rattle.std.proofs.lemmas.Slice.Eq.{starts_is}
 use Rattle.tml_span.specs.Bytes.{is_digit, is_hex_digit}
-use Rattle.tml_span.specs.References.{named_references, IsDecimalReference, IsHexReference, BeginsReference}
+use Rattle.tml_span.specs.References.{named_references, Begins, IsDecimalReference, IsHexReference, BeginsReference}
 use Rattle.tml_span.proofs.Runs.{prefix_len_again, prefix_passes}
-
--- a prefix of the bytes is so
-abbrev pub Begins : (List ℕ → Type 0) → List ℕ → Type 0
-Begins Is bytes = (prefix : List ℕ) × (suffix : List ℕ) × (bytes ≡ prefix ++ suffix) × Is prefix
 
 -- what passes the test of one of some names begins with one of them
 one_begins : (names : List (List ℕ)) (bytes : List ℕ) → list_any (starts_with nat_eq bytes) names ≡ true → Begins (Contains names) bytes

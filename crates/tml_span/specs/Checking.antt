@@ -1,11 +1,11 @@
 -- Units that are checked and not kept.
-use Rattle.std.specs.Prelude.{◌≡◌, ◌<◌, ℕ, true, false, List, [], ◌∷◌, ◌++◌, length, map, Option, Some, None, Result, Ok, Err, Bool}
+use Rattle.std.specs.Prelude.{◌≡◌, ◌<◌, ℕ, true, false, List, [], ◌∷◌, ◌++◌, length, map, Option, Some, None, Result, Ok, Err, Bool, MatchOption}
 use Rattle.tml_span.specs.declared.check.Checked.{Checked}
 use Rattle.tml_span.specs.declared.reader.Cut.{Cut}
 use Rattle.tml_span.specs.declared.reader.Cut.TheVariants as cut
 use Rattle.tml_span.specs.declared.reader.MarkupFault.{MarkupFault}
 use Rattle.tml_span.specs.declared.reader.MarkupFault.TheVariants as markup
-use Rattle.tml_span.specs.Cutting.{FindsUnit}
+use Rattle.tml_span.specs.Cutting.{Stops, FindsUnit}
 use Rattle.tml_span.specs.Faults.{HasFault}
 use Rattle.tml_span.specs.Reader.{Progress, HasGiven}
 use Rattle.tml_span.specs.Reading.{ReadsAttributes}
@@ -22,9 +22,17 @@ FirstInOrder pieces (Some place) = (before : List Piece) × (piece : Piece) × (
 abbrev pub ChecksAttributes : ℕ → List ℕ → Checked → Type 0
 ChecksAttributes place bytes c = (attrs : List Attribute) × ReadsAttributes place bytes attrs c.rest.now × FirstInOrder (map value_piece attrs) c.bad
 
--- a unit and the first bad place in it
-abbrev pub ChecksUnit : ℕ → List ℕ → Checked → Type 0
-ChecksUnit place bytes c = (u : PlainUnit) × FindsUnit place bytes u c.rest.now × FirstBadIn (pieces_of u) c.bad
+-- with one piece more
+abbrev pub AddsPiece : Option ℕ → Piece → Option ℕ → Type 0
+AddsPiece old piece new = (pieces : List Piece) → FirstInOrder pieces old → FirstInOrder (pieces ++ piece ∷ []) new
+
+-- the bytes at a place begin with a unit, and this is the first bad place in it
+abbrev pub HasUnit : ℕ → List ℕ → Checked → Type 0
+HasUnit place bytes c = (u : PlainUnit) × FindsUnit place bytes u c.rest.now × FirstBadIn (pieces_of u) c.bad
+
+-- the same, or none where no unit begins
+abbrev pub ChecksUnit : ℕ → List ℕ → Option Checked → Type 0
+ChecksUnit place bytes found = MatchOption found (Stops place bytes) (HasUnit place bytes)
 
 -- the fault of a cut that this one is
 abbrev pub cut_of : MarkupFault → Cut

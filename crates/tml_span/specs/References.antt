@@ -1,7 +1,7 @@
 -- References, and where one is bad.
-use Rattle.std.specs.Prelude.{◌≡◌, ◌⊎◌, ℕ, ◌+◌, ◌-◌, ◌<◌, ◌≤◌, true, List, [], ◌∷◌, ◌++◌, length, codes, Contains, map, Option, MatchOption}
+use Rattle.std.specs.Prelude.{◌≡◌, ◌⊎◌, ℕ, ◌+◌, ◌-◌, ◌<◌, ◌≤◌, true, List, [], ◌∷◌, ◌++◌, length, codes, Contains, map, Option, Some, MatchOption, slice_get}
 use Rattle.std.specs.List.{list_all, AllByRecursion}
-use Rattle.tml_span.specs.Bytes.{is_digit, is_hex_digit}
+use Rattle.tml_span.specs.Bytes.{byte, is_digit, is_hex_digit}
 use Rattle.tml_span.specs.Units.{Attribute, Kind, text, start_tag, empty_tag, PlainUnit}
 
 -- `&lt;`, `&gt;`, `&amp;`, `&quot;` and `&apos;`
@@ -27,9 +27,17 @@ pub record IsHexReference (bytes : List ℕ) : Type 0 where
 abbrev pub IsReference : List ℕ → Type 0
 IsReference bytes = Contains named_references bytes ⊎ IsDecimalReference bytes ⊎ IsHexReference bytes
 
+-- a prefix of the bytes is so
+abbrev pub Begins : (List ℕ → Type 0) → List ℕ → Type 0
+Begins Is bytes = (prefix : List ℕ) × (suffix : List ℕ) × (bytes ≡ prefix ++ suffix) × Is prefix
+
 -- the bytes begin with a reference
 abbrev pub BeginsReference : List ℕ → Type 0
-BeginsReference bytes = (prefix : List ℕ) × (suffix : List ℕ) × (bytes ≡ prefix ++ suffix) × IsReference prefix
+BeginsReference bytes = Begins IsReference bytes
+
+-- after so many digits, of which there are some and at most so many, is a `;`
+abbrev pub IsClosed : ℕ → ℕ → List ℕ → Type 0
+IsClosed digits most bytes = (1 ≤ digits) × (digits ≤ most) × (slice_get bytes digits ≡ Some (byte (codes ";")))
 
 -- at an index of the bytes is an `&` with which no reference begins
 pub record IsBadAt (bytes : List ℕ) (index : ℕ) : Type 0 where

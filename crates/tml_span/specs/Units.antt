@@ -70,6 +70,10 @@ Lacks piece bytes = (prefix suffix : List ℕ) → bytes ≢ prefix ++ piece ++ 
 abbrev pub BeginsWith : List ℕ → List ℕ → Type 0
 BeginsWith piece bytes = (suffix : List ℕ) × (bytes ≡ piece ++ suffix)
 
+-- the bytes begin with this word and one white space
+abbrev pub BeginsWithWord : List ℕ → List ℕ → Type 0
+BeginsWithWord word bytes = (white : ℕ) × (suffix : List ℕ) × (bytes ≡ word ++ white ∷ suffix) × (is_white white ≡ true)
+
 -- How a kind of unit is spelled at a place: a Bom at place 0 alone, where no text begins with its bytes.
 abbrev pub SpelledKind : ℕ → Kind → List ℕ → Type 0
 SpelledKind place bom spelling = (place ≡ 0) × (spelling ≡ bom_bytes)

@@ -1,5 +1,7 @@
 -- The plain values of the types of the program.
-use Rattle.std.specs.Prelude.{ℕ, List, [], ◌∷◌, map, codes}
+use Rattle.std.specs.Prelude.{ℕ, List, [], ◌∷◌, map, codes, Option, MatchOption}
+use Rattle.std.specs.Borrow.{Bor}
+use Rattle.tml_span.specs.Cutting.{Stops, FindsUnit}
 use Rattle.tml_span.specs.Bytes.{byte}
 use Rattle.tml_span.specs.declared.unit.Quote.{Quote}
 use Rattle.tml_span.specs.declared.unit.Quote.TheVariants.{Single, Double}
@@ -24,3 +26,7 @@ unit_of (Text span bytes) = record { start = span.start; end = span.end; kind = 
 unit_of (StartTag span name attrs) = record { start = span.start; end = span.end; kind = start_tag name.now (map attribute_of attrs) }
 unit_of (EndTag span name) = record { start = span.start; end = span.end; kind = end_tag name.now }
 unit_of (EmptyTag span name attrs) = record { start = span.start; end = span.end; kind = empty_tag name.now (map attribute_of attrs) }
+
+-- the unit that the bytes at a place begin with, and what follows it, or none where no unit begins
+abbrev pub ReadsUnit : ℕ → List ℕ → Option (Unit × Bor (List ℕ)) → Type 0
+ReadsUnit place bytes found = MatchOption found (Stops place bytes) (λ r. FindsUnit place bytes (unit_of r.0) r.1.now)

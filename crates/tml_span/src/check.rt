@@ -1,7 +1,7 @@
 //! Units that are checked and not kept, which takes no memory.
 ghost use Rattle.std.specs.Prelude.{◌≡◌, ◌≢◌, ◌+◌, ◌<◌, ◌≤◌, ◌^◌, ◌∷◌, ◌++◌, [], codes, slice_index, length, IfSome, MatchOption, List as ListOf};
 ghost use Rattle.tml_span.specs.Bytes as kinds;
-ghost use Rattle.tml_span.specs.Checking.{ChecksAttributes, ChecksUnit, FirstInOrder};
+ghost use Rattle.tml_span.specs.Checking.{AddsPiece, ChecksAttributes, ChecksUnit, FirstInOrder};
 ghost use Rattle.tml_span.specs.Cutting.{Stops};
 ghost use Rattle.tml_span.specs.References.{FirstBadIn, IsPlaced, IsWithin, Piece, pieces_of, value_piece};
 ghost use Rattle.tml_span.specs.View.{attribute_of, unit_of};
@@ -21,7 +21,7 @@ pub struct Checked<'s> {
 /// The first bad reference in the values so far and one more.
 fn first_bad(bad: Option<u32>, attr: &Attr) -> Option<u32>
     requires { IsWithin (attribute_of attr.now) }
-    ensures { (pieces : ListOf Piece) → FirstInOrder pieces bad → FirstInOrder (pieces ++ value_piece (attribute_of attr.now) ∷ []) result }
+    ensures { AddsPiece bad (value_piece (attribute_of attr.now)) result }
 {
     match bad {
         Some(_) => bad,
@@ -52,7 +52,7 @@ fn check_tag(place: u32, bytes: &[u8]) -> Option<Checked<'_>>
     requires slash { slice_index bytes.now 0 ≢ kinds.byte (codes "/") }
     requires bang { slice_index bytes.now 0 ≢ kinds.byte (codes "!") }
     requires query { slice_index bytes.now 0 ≢ kinds.byte (codes "?") }
-    ensures unit { MatchOption result (Stops place (codes "<" ++ bytes.now)) (λ r. ChecksUnit place (codes "<" ++ bytes.now) r) }
+    ensures unit { ChecksUnit place (codes "<" ++ bytes.now) result }
     ensures shorter { IfSome result (λ r. length r.rest.now ≤ length bytes.now) }
 {
     let Some((name, mid)) = name_at(bytes) else {
@@ -81,7 +81,7 @@ fn check_found<'s>(found: (Unit<'s>, &'s [u8])) -> Checked<'s>
 /// The unit at the start. There is none where no unit begins.
 pub fn check_unit(place: u32, bytes: &[u8]) -> Option<Checked<'_>>
     requires { place + length bytes.now < 2 ^ 32 }
-    ensures unit { MatchOption result (Stops place bytes.now) (λ r. ChecksUnit place bytes.now r) }
+    ensures unit { ChecksUnit place bytes.now result }
     ensures shorter { IfSome result (λ r. length r.rest.now < length bytes.now) }
 {
     match bytes {

@@ -4,8 +4,8 @@ ghost use Rattle.std.specs.Bool.{Decides};
 ghost use Rattle.std.specs.List.{starts_with};
 ghost use Rattle.tml_span.specs.Bytes as kinds;
 ghost use Rattle.tml_span.specs.Cutting.{Stops, FindsUnit};
-ghost use Rattle.tml_span.specs.Units.{Lacks};
-ghost use Rattle.tml_span.specs.View.{unit_of};
+ghost use Rattle.tml_span.specs.Units.{BeginsWithWord, Lacks};
+ghost use Rattle.tml_span.specs.View.{ReadsUnit};
 
 use crate::bytes::{doctype_len, is_white};
 use crate::{Span, Unit};
@@ -30,7 +30,7 @@ fn split_past<'s>(bytes: &'s [u8], opening: usize, close: &[u8]) -> Option<(&'s 
 pub fn comment_at<'s>(place: u32, bytes: &'s [u8]) -> Option<(Unit<'s>, &'s [u8])>
     requires fits { place + length bytes.now < 2 ^ 32 }
     requires prefix { starts_with nat_eq bytes.now (codes "<!--") ≡ true }
-    ensures unit { MatchOption result (Stops place bytes.now) (λ r. FindsUnit place bytes.now (unit_of r.0) r.1.now) }
+    ensures unit { ReadsUnit place bytes.now result }
     ensures shorter { IfSome result (λ r. length r.1.now < length bytes.now) }
 {
     let Some((text, rest)) = split_past(bytes, 4, b"-->") else {
@@ -45,7 +45,7 @@ pub fn comment_at<'s>(place: u32, bytes: &'s [u8]) -> Option<(Unit<'s>, &'s [u8]
 
 /// Whether the bytes begin with a word and one white space.
 fn begins_with_word(bytes: &[u8], word: &[u8]) -> bool
-    ensures { Decides result ((white : ℕ) × (suffix : List ℕ) × (bytes.now ≡ word.now ++ white ∷ suffix) × (kinds.is_white white ≡ true)) }
+    ensures { Decides result (BeginsWithWord word.now bytes.now) }
 {
     let Some(rest) = bytes.strip_prefix(word) else {
         return false;
@@ -60,7 +60,7 @@ fn begins_with_word(bytes: &[u8], word: &[u8]) -> bool
 pub fn declaration_at<'s>(place: u32, bytes: &'s [u8]) -> Option<(Unit<'s>, &'s [u8])>
     requires fits { place + length bytes.now < 2 ^ 32 }
     requires prefix { starts_with nat_eq bytes.now (codes "<?") ≡ true }
-    ensures unit { MatchOption result (Stops place bytes.now) (λ r. FindsUnit place bytes.now (unit_of r.0) r.1.now) }
+    ensures unit { ReadsUnit place bytes.now result }
     ensures shorter { IfSome result (λ r. length r.1.now < length bytes.now) }
 {
     if !begins_with_word(bytes, b"<?xml") {
@@ -81,7 +81,7 @@ pub fn doctype_at<'s>(place: u32, bytes: &'s [u8]) -> Option<(Unit<'s>, &'s [u8]
     requires fits { place + length bytes.now < 2 ^ 32 }
     requires prefix { starts_with nat_eq bytes.now (codes "<!") ≡ true }
     requires other { starts_with nat_eq bytes.now (codes "<!--") ≡ false }
-    ensures unit { MatchOption result (Stops place bytes.now) (λ r. FindsUnit place bytes.now (unit_of r.0) r.1.now) }
+    ensures unit { ReadsUnit place bytes.now result }
     ensures shorter { IfSome result (λ r. length r.1.now < length bytes.now) }
 {
     if !begins_with_word(bytes, b"<!DOCTYPE") {

@@ -2,7 +2,7 @@
 ghost use Rattle.std.specs.Prelude.{◌≡◌, ◌↔◌, ◌+◌, ◌<◌, ◌≤◌, ◌^◌, ◌++◌, ℕ, List, [], ◌∷◌, length, Contains, IsTrue, IfSome, MatchOption, map, slice_get, nat_eq, Some, codes};
 ghost use Rattle.tml_span.specs.Bytes.{byte};
 ghost use Rattle.std.specs.List.{AllByRecursion, list_any, starts_with};
-ghost use Rattle.tml_span.specs.References.{named_references, IsDecimalReference, IsHexReference, BeginsReference, FirstBadIn, IsBadAt, IsFirst, IsNowhere, IsPlaced, IsWithin, Follows, pieces_of, value_piece};
+ghost use Rattle.tml_span.specs.References.{named_references, Begins, IsClosed, IsDecimalReference, IsHexReference, BeginsReference, FirstBadIn, IsBadAt, IsFirst, IsNowhere, IsPlaced, IsWithin, Follows, pieces_of, value_piece};
 ghost use Rattle.tml_span.specs.View.{unit_of, attribute_of};
 
 use crate::bytes::{digits_len, hex_digits_len};
@@ -11,7 +11,7 @@ use crate::{Attr, Span, Unit};
 /// Whether the digits at the start, of which at least 1 and at most `most` count, are closed by `;`.
 fn is_closed(digits: usize, most: usize, bytes: &[u8]) -> bool
     requires { digits ≤ length bytes.now }
-    ensures { IsTrue result ↔ ((1 ≤ digits) × (digits ≤ most) × (slice_get bytes.now digits ≡ Some (byte (codes ";")))) }
+    ensures { IsTrue result ↔ IsClosed digits most bytes.now }
 {
     1 <= digits && digits <= most && bytes.get(digits) == Some(&b';')
 }
@@ -29,7 +29,7 @@ fn begins_named(bytes: &[u8]) -> bool
 
 /// Whether the bytes begin with a reference by decimal digits.
 fn begins_decimal(bytes: &[u8]) -> bool
-    ensures { IsTrue result ↔ ((prefix : List ℕ) × (suffix : List ℕ) × (bytes.now ≡ prefix ++ suffix) × IsDecimalReference prefix) }
+    ensures { IsTrue result ↔ Begins IsDecimalReference bytes.now }
 {
     match bytes.strip_prefix(b"&#") {
         Some(digits) => is_closed(digits_len(digits), 7, digits),
@@ -39,7 +39,7 @@ fn begins_decimal(bytes: &[u8]) -> bool
 
 /// Whether the bytes begin with a reference by hexadecimal digits.
 fn begins_hex(bytes: &[u8]) -> bool
-    ensures { IsTrue result ↔ ((prefix : List ℕ) × (suffix : List ℕ) × (bytes.now ≡ prefix ++ suffix) × IsHexReference prefix) }
+    ensures { IsTrue result ↔ Begins IsHexReference bytes.now }
 {
     match bytes.strip_prefix(b"&#x") {
         Some(digits) => is_closed(hex_digits_len(digits), 6, digits),

@@ -4,7 +4,7 @@ ghost use Rattle.std.specs.List.{starts_with};
 ghost use Rattle.tml_span.specs.Bytes as kinds;
 ghost use Rattle.tml_span.specs.Cutting.{Stops, FindsUnit};
 ghost use Rattle.tml_span.specs.Units.{bom_bytes};
-ghost use Rattle.tml_span.specs.View.{unit_of};
+ghost use Rattle.tml_span.specs.View.{ReadsUnit, unit_of};
 
 use crate::bytes::text_len;
 use crate::enclosed::{comment_at, declaration_at, doctype_at};
@@ -49,7 +49,7 @@ pub fn text_or_bom_at<'s>(place: u32, bytes: &'s [u8]) -> (Unit<'s>, &'s [u8])
 pub fn comment_or_doctype_at<'s>(place: u32, bytes: &'s [u8]) -> Option<(Unit<'s>, &'s [u8])>
     requires fits { place + length bytes.now < 2 ^ 32 }
     requires prefix { starts_with nat_eq bytes.now (codes "<!") ≡ true }
-    ensures unit { MatchOption result (Stops place bytes.now) (λ r. FindsUnit place bytes.now (unit_of r.0) r.1.now) }
+    ensures unit { ReadsUnit place bytes.now result }
     ensures shorter { IfSome result (λ r. length r.1.now < length bytes.now) }
 {
     if bytes.starts_with(b"<!--") {
@@ -66,7 +66,7 @@ pub fn unit_at<'s>(
     bytes: &'s [u8],
 ) -> Result<Option<(Unit<'s>, &'s [u8])>, Memory>
     requires { place + length bytes.now < 2 ^ 32 }
-    ensures unit { IfOk result (λ o. MatchOption o (Stops place bytes.now) (λ r. FindsUnit place bytes.now (unit_of r.0) r.1.now)) }
+    ensures unit { IfOk result (λ o. ReadsUnit place bytes.now o) }
     ensures shorter { IfOk result (λ o. IfSome o (λ r. length r.1.now < length bytes.now)) }
 {
     match bytes {

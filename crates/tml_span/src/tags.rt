@@ -1,7 +1,7 @@
 //! Tags and their attributes, read from left to right.
 ghost use Rattle.std.specs.Prelude.{[], true, ◌≡◌, ◌≢◌, ◌+◌, ◌<◌, ◌≤◌, ◌^◌, ◌∷◌, ◌++◌, codes, cond, Bool, slice_index, List as ListOf, ℕ, length, map, option_map, IfOk, OnOk, IfSome, MatchOption};
 ghost use Rattle.tml_span.specs.Reading as reading;
-ghost use Rattle.tml_span.specs.View.{attribute_of, unit_of, quote_byte};
+ghost use Rattle.tml_span.specs.View.{ReadsUnit, attribute_of, quote_byte};
 ghost use Rattle.tml_span.specs.Bytes as kinds;
 ghost use Rattle.tml_span.specs.Cutting.{Stops, FindsUnit};
 
@@ -158,7 +158,7 @@ pub fn tag_at<'s>(
     requires slash { slice_index bytes.now 0 ≢ kinds.byte (codes "/") }
     requires bang { slice_index bytes.now 0 ≢ kinds.byte (codes "!") }
     requires query { slice_index bytes.now 0 ≢ kinds.byte (codes "?") }
-    ensures unit { IfOk result (λ o. MatchOption o (Stops place (codes "<" ++ bytes.now)) (λ r. FindsUnit place (codes "<" ++ bytes.now) (unit_of r.0) r.1.now)) }
+    ensures unit { IfOk result (λ o. ReadsUnit place (codes "<" ++ bytes.now) o) }
     ensures shorter { IfOk result (λ o. IfSome o (λ r. length r.1.now ≤ length bytes.now)) }
 {
     let Some((name, mid)) = name_at(bytes) else {
@@ -181,7 +181,7 @@ pub fn tag_at<'s>(
 /// An end tag after its `</`.
 pub fn end_tag_at<'s>(place: u32, bytes: &'s [u8]) -> Option<(Unit<'s>, &'s [u8])>
     requires { place + length bytes.now + 2 < 2 ^ 32 }
-    ensures unit { MatchOption result (Stops place (codes "</" ++ bytes.now)) (λ r. FindsUnit place (codes "</" ++ bytes.now) (unit_of r.0) r.1.now) }
+    ensures unit { ReadsUnit place (codes "</" ++ bytes.now) result }
     ensures shorter { IfSome result (λ r. length r.1.now ≤ length bytes.now) }
 {
     let Some((name, mid)) = name_at(bytes) else {

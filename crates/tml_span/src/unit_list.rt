@@ -20,14 +20,14 @@ pub struct UnitList<'s> {
 
 impl<'s> Model for UnitList<'s> {
     ghost use Rattle.std.specs.Prelude.{map, length, ◌<◌, ◌^◌};
-    ghost use Rattle.tml_span.specs.Whole.{Cutting, IsWhole};
+    ghost use Rattle.tml_span.specs.Whole.{Cutting, IsSmallWhole};
     ghost use Rattle.tml_span.specs.View.{unit_of};
 
     ghost Value = { Cutting };
 
     ghost view = { λ a. record { source = a.source.now; units = map unit_of a.units } };
 
-    ghost invariant = { λ a. (length a.source.now < 2 ^ 32) × IsWhole (record { source = a.source.now; units = map unit_of a.units }) };
+    ghost invariant = { λ a. IsSmallWhole (record { source = a.source.now; units = map unit_of a.units }) };
 }
 
 impl<'s> UnitList<'s> {
