@@ -2,6 +2,7 @@
 ghost use Rattle.std.specs.Prelude.{◌≡◌, ◌++◌, [], ◌∷◌, List as ListOf, map, OnOk, IfErr, MatchOption, IfSome, IsNone};
 ghost use Rattle.std.specs.List.{filter};
 ghost use Rattle.tml_span.specs.Units as units;
+ghost use Rattle.tml_span.specs.Units.{PlainUnit};
 ghost use Rattle.tml_span.specs.View.{attribute_of, unit_of};
 ghost use Rattle.tml_tree.specs.TagNames.{text_of};
 ghost use Rattle.tml_tree.specs.Plain.{element, nodes_of};
@@ -10,7 +11,7 @@ ghost use Rattle.tml_tree.specs.Rules as rules;
 ghost use Rattle.tml_tree.specs.Trees.{Document, Unclosed};
 ghost use Rattle.tml_tree.specs.Roots.{EndsIn};
 ghost use Rattle.tml_tree.specs.Taking.{HasTaken, MayBegin, OnlyInnermost, RefusesUnit, TakesUnit, history_of};
-ghost use Rattle.tml_tree.specs.View.{at_span, names_of, node_of, tag_node};
+ghost use Rattle.tml_tree.specs.View.{at_span, element_of, elements_in, empty_unit, names_of, node_of, start_unit, tag_node};
 
 use crate::rules::{MOST_OPEN, in_link, is_blank, is_name_of};
 use crate::{Node, Tag, TagName, TreeFault};
@@ -45,7 +46,7 @@ fn make_element<'s>(
     attrs: List<Attr<'s>>,
     children: Vec<Node<'s>>,
 ) -> Node<'s>
-    ensures { node_of result ≡ element span.start span.end (text_of name) (map attribute_of attrs.entry) (nodes_of (map node_of children.entry.items)) }
+    ensures { node_of result ≡ element_of span name attrs.entry children.entry.items }
 {
     Node::Element(Tag {
         span,
@@ -77,7 +78,7 @@ fn push_node<'s>(nodes: &mut Vec<Node<'s>>, node: Node<'s>) -> Result<(), AllocE
 
 /// The last element of nodes.
 fn root_of<'s>(nodes: Vec<Node<'s>>) -> Option<Tag<'s>>
-    ensures { MatchOption result (filter is_element (map node_of nodes.entry.items) ≡ []) (λ t. EndsIn (tag_node t) (filter is_element (map node_of nodes.entry.items))) }
+    ensures { MatchOption result (elements_in nodes.entry.items ≡ []) (λ t. EndsIn (tag_node t) (elements_in nodes.entry.items)) }
 {
     let mut nodes = nodes;
     while let Some(node) = nodes.pop() {
@@ -123,8 +124,8 @@ impl<'s> Builder<'s> {
 
     /// The root, where it was seen whole.
     pub fn finish(self) -> Option<Tag<'s>>
-        ensures none { IsNone result → (us : ListOf units.PlainUnit) → HasTaken us self.entry → Unclosed us }
-        ensures some { IfSome result (λ t. (us : ListOf units.PlainUnit) → HasTaken us self.entry → Document (tag_node t) us) }
+        ensures none { IsNone result → (us : ListOf PlainUnit) → HasTaken us self.entry → Unclosed us }
+        ensures some { IfSome result (λ t. (us : ListOf PlainUnit) → HasTaken us self.entry → Document (tag_node t) us) }
     {
         if !self.frames.is_empty() {
             return None;
@@ -217,8 +218,8 @@ impl<'s> Builder<'s> {
         attrs: List<Attr<'s>>,
     ) -> Result<(), TreeFault>
         requires { OnlyInnermost (names_of self.old.frames.items) }
-        ensures ok { OnOk result (TakesUnit self.old (at_span span (units.start_tag name.now (map attribute_of attrs.entry))) self.new) }
-        ensures err { IfErr result (λ e. RefusesUnit self.old (at_span span (units.start_tag name.now (map attribute_of attrs.entry))) e) }
+        ensures ok { OnOk result (TakesUnit self.old (start_unit span name.now attrs.entry) self.new) }
+        ensures err { IfErr result (λ e. RefusesUnit self.old (start_unit span name.now attrs.entry) e) }
     {
         let name = match self.tag(span.start, name) {
             Ok(name) => name,
@@ -252,8 +253,8 @@ impl<'s> Builder<'s> {
         attrs: List<Attr<'s>>,
     ) -> Result<(), TreeFault>
         requires { OnlyInnermost (names_of self.old.frames.items) }
-        ensures ok { OnOk result (TakesUnit self.old (at_span span (units.empty_tag name.now (map attribute_of attrs.entry))) self.new) }
-        ensures err { IfErr result (λ e. RefusesUnit self.old (at_span span (units.empty_tag name.now (map attribute_of attrs.entry))) e) }
+        ensures ok { OnOk result (TakesUnit self.old (empty_unit span name.now attrs.entry) self.new) }
+        ensures err { IfErr result (λ e. RefusesUnit self.old (empty_unit span name.now attrs.entry) e) }
     {
         let name = match self.tag(span.start, name) {
             Ok(name) => name,
