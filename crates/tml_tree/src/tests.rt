@@ -82,7 +82,7 @@ fn depths(rt: HostRuntime) -> Result<(), Fail> {
 fn child<'t, 's>(rt: &(impl Abort + AllocGlobal), tag: &'t Tag<'s>, index: usize) -> &'t Tag<'s> {
     match tag.children.get(index) {
         Some(Node::Element(inner)) => inner,
-        _ => panic!(rt; "no element stands there"),
+        _ => panic!(rt; "no element is there"),
     }
 }
 

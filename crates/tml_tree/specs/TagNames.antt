@@ -3,8 +3,8 @@ use Rattle.std.specs.Prelude.{ℕ, Bool, nat_eq, List, [], ◌∷◌, map, codes
 use Rattle.std.specs.Str.{bytes_eq}
 use Rattle.std.specs.List.{starts_with}
 use Rattle.named.specs.Texts.{is_one_of}
-use Rattle.tml_tree.specs.declared.names.TagName.{TagName}
-use Rattle.tml_tree.specs.declared.names.TagName.TheVariants as tag
+use Rattle.tml_tree.specs.declared.tag_name.TagName.{TagName}
+use Rattle.tml_tree.specs.declared.tag_name.TagName.TheVariants as tag
 
 abbrev pub text_of : TagName → List ℕ
 text_of tag.TimeMl = codes "TimeML"
@@ -47,6 +47,6 @@ is_known text = is_one_of (map text_of all_tags) text
 abbrev pub is_root : List ℕ → Bool
 is_root text = bytes_eq (codes "TimeML") text
 
--- inside these no tag stands, and no text but white space
+-- inside these there is no tag, and no text but white space
 abbrev pub is_link : List ℕ → Bool
 is_link text = is_one_of (codes "MAKEINSTANCE" ∷ codes "TLINK" ∷ codes "ALINK" ∷ codes "SLINK" ∷ []) text

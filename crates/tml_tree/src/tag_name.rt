@@ -3,7 +3,7 @@ ghost use Rattle.std.proofs.Common.{rules};
 ghost use Rattle.std.specs.Prelude.{◌≡◌};
 ghost use Rattle.std.specs.List.{filter};
 ghost use Rattle.named.specs.Texts.{named_of};
-ghost use Rattle.tml_tree.specs.Names as names;
+ghost use Rattle.tml_tree.specs.TagNames as names;
 
 use named::{Named, named_in};
 
@@ -39,7 +39,7 @@ pub enum TagName {
 }
 
 impl TagName {
-    /// The name as it stands in a document.
+    /// The name as it is in a document.
     pub fn text(self) -> &'static [u8]
         ensures { result.now ≡ names.text_of self }
     {
