@@ -1,5 +1,5 @@
 -- Units that are checked and not kept.
-use Rattle.std.proofs.Common.{◌≡◌, ◌⊎◌, inl, inr, ℕ, ◌+◌, ◌-◌, ◌<◌, Bool, true, false, List, [], ◌∷◌, ◌++◌, length, map, refl, sym, subst, append_assoc, append-nil, arith, Option, Some, None}
+use Rattle.std.proofs.Common.{◌≡◌, inl, inr, ℕ, ◌+◌, ◌-◌, Bool, true, false, List, [], ◌∷◌, ◌++◌, length, map, refl, sym, subst, append_assoc, append-nil, arith, Option, Some, None}
 use Rattle.std.proofs.lemmas.List.{map-append}
 use Rattle.tml_span.specs.Cutting.{FindsUnit}
 use Rattle.tml_span.specs.References.{Piece, Follows, FirstBadIn, IsBadIn, IsFirst, IsWithin, pieces_of, value_piece}
@@ -9,7 +9,7 @@ use Rattle.tml_span.specs.Units.{Attribute, PlainUnit}
 use Rattle.tml_span.proofs.FirstBad.{bad_in-append, first_in}
 use Rattle.tml_span.proofs.Parts.{attribute_takes}
 use Rattle.tml_span.proofs.Placing.{value_before_end, found_placed}
-use Rattle.tml_span.proofs.TagUnits.{ReadsTag, close_of, tag_of, tag_finds}
+use Rattle.tml_span.proofs.TagUnits.{ReadsTag, close_of, tag_finds}
 
 -- ---- the first bad place
 

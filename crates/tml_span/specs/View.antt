@@ -1,5 +1,5 @@
 -- The plain values of the types of the program.
-use Rattle.std.specs.Prelude.{ℕ, List, [], ◌∷◌, map, codes, Option, MatchOption}
+use Rattle.std.specs.Prelude.{ℕ, List, map, codes, Option, MatchOption}
 use Rattle.std.specs.Borrow.{Bor}
 use Rattle.tml_span.specs.Cutting.{Stops, FindsUnit}
 use Rattle.tml_span.specs.Bytes.{byte}

@@ -1,16 +1,16 @@
 -- At most 32 elements are inside each other.
-use Rattle.std.proofs.Common.{◌≡◌, ℕ, suc, Bool, true, false, cond, ◌+◌, ◌-◌, ◌≤◌, ◌<◌, nat_le, max, List, [], ◌∷◌, ◌++◌, length, map, refl, sym, ap, subst, ◌∙◌, append_assoc, arith, Option, Some, None}
+use Rattle.std.proofs.Common.{◌≡◌, ℕ, Bool, true, false, cond, ◌+◌, ◌-◌, ◌≤◌, nat_le, List, [], ◌∷◌, ◌++◌, length, map, refl, sym, subst, append_assoc, arith, Some, None}
 use Rattle.std.proofs.lemmas.Option.{same_Some}
 use Rattle.std.specs.List.{filter}
 use Rattle.std.specs.Str.{bytes_eq}
-use Rattle.std.proofs.lemmas.List.{append-nil, length-map}
+use Rattle.std.proofs.lemmas.List.{length-map}
 use Rattle.std.proofs.lemmas.Bool.Decides.{nat_tests}
 use Rattle.faults.specs.First.{NoneBreaks}
 use Rattle.faults.specs.declared.kind.FaultKind.TheVariants as fault
 use Rattle.tml_span.specs.Units.{Kind, bom, declaration, doctype, comment, text, start_tag, end_tag, empty_tag, PlainUnit}
-use Rattle.tml_tree.specs.Plain.{unit, PlainNode, PlainNodes, text_node, comment_node, element, none, more, nodes_of}
+use Rattle.tml_tree.specs.Plain.{unit, PlainNode, text_node, comment_node, element, none, nodes_of}
 use Rattle.tml_tree.specs.Nesting.{OpenTag, Opens, Nests, name_of, is_seen, is_content, is_element}
-use Rattle.tml_tree.specs.Rules.{history_of, is_too_deep, is_at_fault}
+use Rattle.tml_tree.specs.Rules.{history_of, is_too_deep}
 use Rattle.tml_tree.specs.Stage.{Stage, step, run}
 use Rattle.tml_tree.specs.Trees.{Breaks}
 use Rattle.tml_tree.specs.Places.{depth_of, deepest}

@@ -1,11 +1,11 @@
 -- The tree of a source is laid out as its units are.
-use Rattle.std.proofs.Common.{◌≡◌, inl, inr, ℕ, suc, Bool, true, false, cond, ◌+◌, ◌≤◌, ◌<◌, nat_le, max, List, [], ◌∷◌, ◌++◌, length, map, refl, sym, ap, subst, ◌∙◌, append_assoc, length-append, arith, Option, Some, None}
+use Rattle.std.proofs.Common.{◌≡◌, inl, inr, ℕ, Bool, true, false, cond, ◌+◌, ◌≤◌, List, [], ◌∷◌, ◌++◌, length, refl, sym, ap, subst, ◌∙◌, length-append, arith}
 use Rattle.std.specs.List.{AllByRecursion, filter}
 use Rattle.tml_span.specs.Cutting.{CutsFrom}
 use Rattle.tml_span.specs.Slices.{UnitIsIn}
-use Rattle.tml_span.specs.Units.{Kind, bom, declaration, doctype, comment, text, start_tag, end_tag, empty_tag, PlainUnit, Spelled}
+use Rattle.tml_span.specs.Units.{PlainUnit}
 use Rattle.tml_span.proofs.SlicesIn.{units_are_in}
-use Rattle.tml_tree.specs.Plain.{unit, PlainNode, PlainNodes, text_node, comment_node, element, none, more, nodes_of}
+use Rattle.tml_tree.specs.Plain.{PlainNode, PlainNodes, text_node, comment_node, element, none, more, nodes_of}
 use Rattle.tml_tree.specs.Nesting.{Item, Items, is_content, is_element}
 use Rattle.tml_tree.specs.Places.{HasSlices, HaveSlices, start_of, end_of, IsInOrder, AreInOrder, TreeIsLaidOut}
 use Rattle.tml_tree.specs.Whole.{IsTreeOf}

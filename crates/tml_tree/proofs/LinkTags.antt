@@ -1,5 +1,5 @@
 -- Only the innermost open tag can be a link tag.
-use Rattle.std.proofs.Common.{◌≡◌, ℕ, Bool, true, false, cond, not, ◌&&◌, ◌||◌, nat_le, List, [], ◌∷◌, length, refl, sym, subst, Some, None}
+use Rattle.std.proofs.Common.{◌≡◌, ℕ, Bool, true, false, not, ◌&&◌, ◌||◌, nat_le, List, [], ◌∷◌, length, refl, sym, subst, None}
 use Rattle.std.specs.List.{list_any}
 use Rattle.tml_span.specs.Units.{Kind, start_tag, end_tag}
 use Rattle.tml_tree.specs.TagNames.{is_known, is_link, is_root}

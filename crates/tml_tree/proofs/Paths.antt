@@ -1,10 +1,9 @@
 -- Laws of paths.
-use Rattle.std.proofs.Common.{◌≡◌, ◌⊎◌, inl, inr, ℕ, Bool, true, false, cond, List, [], ◌∷◌, ◌++◌, map, refl, sym, ap, subst, ◌∙◌, append_assoc, Option, Some, None}
+use Rattle.std.proofs.Common.{◌≡◌, ℕ, Bool, true, false, List, [], ◌∷◌, ◌++◌, map, refl, sym, ap, subst, ◌∙◌}
 use Rattle.std.specs.List.{filter}
-use Rattle.std.specs.Str.{bytes_eq}
-use Rattle.tml_span.specs.Units.{Kind, bom, declaration, doctype, comment, text, start_tag, end_tag, empty_tag, PlainUnit}
-use Rattle.tml_tree.specs.Plain.{unit, PlainNode}
-use Rattle.tml_tree.specs.Nesting.{OpenTag, Opens, Nests, name_of, is_seen, is_content, is_element}
+use Rattle.tml_span.specs.Units.{PlainUnit}
+use Rattle.tml_tree.specs.Plain.{PlainNode}
+use Rattle.tml_tree.specs.Nesting.{OpenTag, Nests, name_of, is_seen, is_element}
 use Rattle.faults.specs.declared.kind.FaultKind.{FaultKind}
 use Rattle.faults.proofs.First.{none_breaks_prefix}
 use Rattle.tml_tree.specs.Rules.{history_of, is_at_fault}

@@ -1,5 +1,5 @@
 -- A fault of units that are pulled one by one.
-use Rattle.std.proofs.Common.{◌≡◌, ℕ, List, [], ◌∷◌, ◌++◌, length, subst, append_assoc, inl, inr, Option, Some, None, IfSome}
+use Rattle.std.proofs.Common.{◌≡◌, ℕ, List, ◌++◌, length, subst, inl, inr, Option, Some, None, IfSome}
 use Rattle.faults.specs.declared.kind.FaultKind.{FaultKind}
 use Rattle.tml_span.specs.Units.{PlainUnit}
 use Rattle.tml_span.specs.Reader.{Progress, HasGiven}
@@ -8,7 +8,6 @@ use Rattle.tml_span.specs.Whole.{IsWhole}
 use Rattle.tml_span.specs.declared.reader.Cut.{Cut}
 use Rattle.tml_tree.specs.declared.whole.TreeFault.{TreeFault}
 use Rattle.tml_tree.specs.declared.pulled.SourceFault.{SourceFault}
-use Rattle.tml_tree.specs.declared.pulled.SourceFault.TheVariants as SourceFault
 use Rattle.tml_tree.specs.Pulled.{Outranks}
 use Rattle.tml_tree.specs.Whole.{FaultOf, UnitsFault, SourceFaultAt, HasSourceFault, kind_and_place}
 

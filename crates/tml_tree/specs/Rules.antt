@@ -5,7 +5,7 @@ use Rattle.std.specs.Str.{bytes_eq}
 use Rattle.faults.specs.declared.kind.FaultKind.{FaultKind}
 use Rattle.faults.specs.declared.kind.FaultKind.TheVariants as fault
 use Rattle.tml_span.specs.Bytes.{is_white}
-use Rattle.tml_span.specs.Units.{Kind, bom, declaration, doctype, comment, text, start_tag, end_tag, empty_tag, PlainUnit}
+use Rattle.tml_span.specs.Units.{Kind, bom, declaration, doctype, text, start_tag, end_tag, empty_tag, PlainUnit}
 use Rattle.tml_tree.specs.TagNames.{is_known, is_link, is_root}
 
 abbrev pub is_nil : List (List ℕ) → Bool

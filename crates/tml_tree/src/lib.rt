@@ -12,8 +12,10 @@ mod tag_tree;
 mod tests;
 mod whole;
 
-pub use laws::{last_unit, one_answer, one_path, one_source_answer, one_tree, one_tree_of_source, path_ends,
-    tree_is_laid_out};
+pub use laws::{
+    last_unit, one_answer, one_path, one_source_answer, one_tree, one_tree_of_source, path_ends,
+    tree_is_laid_out,
+};
 pub use node::{Node, Tag};
 pub use pulled::SourceFault;
 pub use tag_name::TagName;

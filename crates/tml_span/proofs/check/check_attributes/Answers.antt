@@ -1,5 +1,4 @@
-use Rattle.std.proofs.Common.{sym, ◌∙◌, arith, rules}
-use Rattle.std.proofs.lemmas.Grind.{common_steps}
+use Rattle.std.proofs.Common.{sym, arith}
 use Rattle.tml_span.proofs.Checks.{is_within, one_checked, all_checked}
 use Rattle.tml_span.proofs.check.check_attributes.Goals as goal
 
