@@ -45,12 +45,12 @@ fits_again y z (ShapeOf.Hour month day hour) leap weeks first h = (date_again y 
 fits_again y z (ShapeOf.Minute month day hour minute) leap weeks first h = (date_again y z month day leap first h.0, h.1)
 fits_again y z (ShapeOf.Second month day hour minute second) leap weeks first h = (date_again y z month day leap first h.0, h.1)
 
--- what fits some year fits one of the first 400
-pub fits_early : (y : ℕ) (shape : Shape) → 1 ≤ y → FitsYear y shape → (z : ℕ) × IsInRange 1 400 z × FitsYear z shape
-fits_early y shape first h =
-    let z = (y - 1) % 400 + 1 in
-    let k = (y - 1) / 400 in
+-- what fits some year from a first one on fits one of 400
+pub fits_early : (first y : ℕ) (shape : Shape) → 1 ≤ first → first ≤ y → FitsYear y shape → (z : ℕ) × IsInRange first (first + 399) z × (z ≤ y) × FitsYear z shape
+fits_early first y shape some from h =
+    let z = (y - first) % 400 + first in
+    let k = (y - first) / 400 in
     let e : z + 400 * k ≡ y = omega arith in
     let leap = sym (ap is_leap e) ∙ leap_again z k in
     let weeks = sym (ap weeks_of e) ∙ weeks_again z k (omega arith) in
-    (z, (omega arith, omega arith), fits_again y z shape leap weeks (omega arith) h)
+    (z, (omega arith, omega arith), omega arith, fits_again y z shape leap weeks (omega arith) h)

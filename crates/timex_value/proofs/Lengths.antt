@@ -1,10 +1,10 @@
 -- A duration is read in one way.
 use Rattle.std.proofs.Common.{◌≡◌, ◌≢◌, inl, inr, ℕ, Bool, true, false, ◌||◌, List, [], ◌∷◌, refl, sym, ◌∙◌, subst, arith}
-use Rattle.timex_value.specs.Durations.{ReadsCount, DateThen, ClockThen, ClockText, SpellsLength, is_written, has_clock}
+use Rattle.timex_value.specs.Durations.{ReadsCount, DateThen, ClockThen, ClockText, SpellsLength, is_present, has_clock}
 use Rattle.timex_value.specs.declared.length.Count.{Count}
 use Rattle.timex_value.specs.declared.length.Count.TheVariants.{Absent, Number, Unknown}
 use Rattle.timex_value.specs.declared.length.Length.{Length}
-use Rattle.timex_value.proofs.Counts.{unit_at, tail_is, unit_before, reads_count, same_count}
+use Rattle.timex_value.proofs.CountTexts.{unit_at, tail_is, unit_before, reads_count, same_count}
 
 -- no unit of a date comes first
 abbrev pub IsPastDate : List ℕ → Type 0
@@ -86,12 +86,12 @@ pub clock_read : (h m s h2 m2 s2 : Count) (text r : List ℕ) → ReadsClock h m
     → (h ≡ h2) × (m ≡ m2) × (s ≡ s2) × (r ≡ [])
 clock_read h m s h2 m2 s2 text r p k = same_clock h m s h2 m2 s2 text r [] p (clock_counts h2 m2 s2 text k)
 
-unwritten : (c d : Count) → is_written c ≡ false → is_written d ≡ false → c ≡ d
-unwritten Absent Absent p q = refl
-unwritten Absent (Number n) p q = absurd cc
-unwritten Absent Unknown p q = absurd cc
-unwritten (Number n) d p q = absurd cc
-unwritten Unknown d p q = absurd cc
+both_absent : (c d : Count) → is_present c ≡ false → is_present d ≡ false → c ≡ d
+both_absent Absent Absent p q = refl
+both_absent Absent (Number n) p q = absurd cc
+both_absent Absent Unknown p q = absurd cc
+both_absent (Number n) d p q = absurd cc
+both_absent Unknown d p q = absurd cc
 
 none_of : (a b c : Bool) → (a || b || c) ≡ false → (a ≡ false) × (b ≡ false) × (c ≡ false)
 none_of false false false e = (refl, refl, refl)
@@ -101,9 +101,9 @@ none_of false false true e = absurd cc
 
 no_clock : (h m s h2 m2 s2 : Count) → has_clock h m s ≡ false → has_clock h2 m2 s2 ≡ false → (h ≡ h2) × (m ≡ m2) × (s ≡ s2)
 no_clock h m s h2 m2 s2 p q =
-    let a = none_of (is_written h) (is_written m) (is_written s) p in
-    let b = none_of (is_written h2) (is_written m2) (is_written s2) q in
-    (unwritten h h2 a.0 b.0, unwritten m m2 a.1 b.1, unwritten s s2 a.2 b.2)
+    let a = none_of (is_present h) (is_present m) (is_present s) p in
+    let b = none_of (is_present h2) (is_present m2) (is_present s2) q in
+    (both_absent h h2 a.0 b.0, both_absent m m2 a.1 b.1, both_absent s s2 a.2 b.2)
 
 -- a text has the counts of one clock
 pub one_clock : (h m s h2 m2 s2 : Count) (text : List ℕ) → ClockText h m s text → ClockText h2 m2 s2 text → (h ≡ h2) × (m ≡ m2) × (s ≡ s2)

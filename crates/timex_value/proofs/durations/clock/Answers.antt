@@ -1,7 +1,7 @@
 use Rattle.std.proofs.Common.{[], inl, inr, sym, ◌∙◌, subst, arith}
 use Rattle.std.proofs.lemmas.Bool.Decides.{nat_tests}
 use Rattle.timex_value.specs.Durations.{ClockThen}
-use Rattle.timex_value.proofs.Counts.{tail_is}
+use Rattle.timex_value.proofs.CountTexts.{tail_is}
 use Rattle.timex_value.proofs.Lengths.{clock_read}
 use Rattle.timex_value.proofs.durations.clock.Goals as goal
 

@@ -1,16 +1,16 @@
 use Rattle.std.proofs.Common.{inl, inr, take, drop, ◌∙◌, ap, arith}
 use Rattle.std.proofs.lemmas.Bool.Decides.{nat_tests}
-use Rattle.timex_value.proofs.Counts.{digits_pass, number_is, number_stands}
+use Rattle.timex_value.proofs.CountTexts.{digits_pass, number_is, number_read}
 use Rattle.timex_value.proofs.durations.number_at.Goals as goal
 
 pub returns-then-is_empty : goal.returns-then-is_empty
 returns-then-is_empty c = λ n rest h.
-    let stands = number_stands c.args.unit n c.args.text.now rest c.requires h in
+    let stands = number_read c.args.unit n c.args.text.now rest c.requires h in
     elim c.then-is_empty.either [ inl e ↦ grind (arith, nat_tests) | inr e ↦ grind (arith, nat_tests) ]
 
 pub returns-in_default : goal.returns-in_default
 returns-in_default c = λ n rest h.
-    let stands = number_stands c.args.unit n c.args.text.now rest c.requires h in
+    let stands = number_read c.args.unit n c.args.text.now rest c.requires h in
     c.in_default.ensures rest (c.split_at.ensures.back ∙ (ap (λ n. drop n c.args.text.now) c.digits_len.ensures.len ∙ stands.1))
 
 pub number-requires-clause-digits : goal.number-requires-clause-digits

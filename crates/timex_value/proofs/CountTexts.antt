@@ -31,9 +31,9 @@ digits_end [] u rest h n = rw n refl
 digits_end (x ∷ xs) u rest h n = rw (digit_is x h.0, digits_end xs u rest h.1 n) (omega arith)
 
 -- a number and its unit are the longest front of digits and what follows it
-pub number_stands : (u n : ℕ) (text rest : List ℕ) → is_ascii_digit u ≡ false → CountThen u (Number n) text rest
+pub number_read : (u n : ℕ) (text rest : List ℕ) → is_ascii_digit u ≡ false → CountThen u (Number n) text rest
     → IsInRange 1 9 (prefix_len is_ascii_digit text) × (drop (prefix_len is_ascii_digit text) text ≡ u ∷ rest) × (n ≡ digits_value 10 (take (prefix_len is_ascii_digit text) text))
-number_stands u n text rest hu h =
+number_read u n text rest hu h =
     let digits = h.1.0 in
     let e : text ≡ digits ++ (u ∷ rest) = h.2 ∙ (ap (λ (x : List ℕ). x ++ rest) h.1.4 ∙ append_assoc digits (u ∷ []) rest) in
     let len : prefix_len is_ascii_digit text ≡ length digits = ap (λ (x : List ℕ). prefix_len is_ascii_digit x) e ∙ digits_end digits u rest h.1.1 hu in
@@ -49,10 +49,10 @@ number_is u n text digits back rest front behind few value e =
     (digits ++ (u ∷ []), (digits, rw front (digits_pass text), few, value, refl), whole ∙ (ap (λ (x : List ℕ). digits ++ x) e ∙ sym (append_assoc digits (u ∷ []) rest)))
 
 -- no count stands there: the unit has no X before it, and no number
-pub none_stands : (u : ℕ) (text : List ℕ)
+pub none_read : (u : ℕ) (text : List ℕ)
     → ((rest : List ℕ) → CountThen u Unknown text rest → ⊥) → ((n : ℕ) (rest : List ℕ) → CountThen u (Number n) text rest → ⊥)
     → ReadsCount u Absent text text
-none_stands u text no_x no_number = record {
+none_read u text no_x no_number = record {
   then = ([], refl, refl);
   other = λ e c after h. elim c as (λ d. CountThen u d text after → d ≡ Absent) [
     | Absent ↦ λ k. refl
@@ -127,7 +127,7 @@ tail_is e = cc
 
 x_or_number : (u n : ℕ) (text r s : List ℕ) → is_ascii_digit u ≡ false → CountThen u (Number n) text r → CountThen u Unknown text s → ⊥
 x_or_number u n text r s m h k =
-    let p = number_stands u n text r m h in
+    let p = number_read u n text r m h in
     let q : text ≡ 88 ∷ u ∷ s = k.2 ∙ ap (λ (x : List ℕ). x ++ s) k.1 in
     let none : prefix_len is_ascii_digit text ≡ 0 = ap (λ (x : List ℕ). prefix_len is_ascii_digit x) q in
     omega arith
@@ -139,8 +139,8 @@ same_count u Absent (Number b) text r s n h k = absurd (no_number b (h.other ref
 same_count u Absent Unknown text r s n h k = absurd (no_x (h.other refl Unknown s k.then))
 same_count u (Number a) Absent text r s n h k = absurd (no_number a (k.other refl (Number a) r h.then))
 same_count u (Number a) (Number b) text r s n h k =
-    let p = number_stands u a text r n h.then in
-    let q = number_stands u b text s n k.then in
+    let p = number_read u a text r n h.then in
+    let q = number_read u b text s n k.then in
     (ap Number (p.2 ∙ sym q.2), tail_is (sym p.1 ∙ q.1))
 same_count u (Number a) Unknown text r s n h k = absurd (x_or_number u a text r s n h.then k.then)
 same_count u Unknown Absent text r s n h k = absurd (no_x (k.other refl Unknown r h.then))
