@@ -10,7 +10,7 @@ use Rattle.timex_value.specs.declared.shape.Shape.{Shape}
 use Rattle.timex_value.specs.declared.shape.Shape.TheVariants as ShapeOf
 use Rattle.timex_value.specs.declared.value.Calendar.{Calendar}
 use Rattle.timex_value.specs.Text.{IsYearWritten, IsShapeWritten}
-use Rattle.timex_value.specs.Filling.{CanBe, DigitCanBe, YearCanBe, HasDate, HasClock, HasWeek, IsClock, FitsYear, HasFilling}
+use Rattle.timex_value.specs.Filling.{CanBe, DigitCanBe, YearCanBe, HasDate, HasClock, HasWeek, IsClock, IsValidIn, HasFilling}
 use Rattle.timex_value.specs.Values.{year_of, shape_of}
 use Rattle.timex_dates.specs.Valid.{HasYear, HasDateParts, HasWeekParts, HasQuarterPart, HasParts}
 use Rattle.std.proofs.Math.Logic.{∥∥₁_elim}
@@ -51,35 +51,35 @@ second_is : (s : ℕ) (h i : Part) → s ≤ 99 → HasClock h i (Known s) → s
 second_is s h i k f = omega (arith, part_is s f.2 k f.5, clock_bounds f.0 f.1 f.2 f.6)
 
 -- in a year that the shape fits
-parts_fit : (y : ℕ) (s : Shape) → IsShapeWritten s → FitsYear y s → HasParts (YearOf.Known y) s
-parts_fit y ShapeOf.Year w f = tt
-parts_fit y (ShapeOf.Month (Known m)) w f = subst (IsInRange 1 12) (part_is m f.0 w f.1) f.2
-parts_fit y (ShapeOf.Month Unknown) w f = tt
-parts_fit y (ShapeOf.Day (Known m) (Known d)) w f = date_is y m d w.0 w.1 f
-parts_fit y (ShapeOf.Day (Known m) Unknown) w f = month_is y m Unknown w.0 f
-parts_fit y (ShapeOf.Day Unknown d) w f = tt
-parts_fit y (ShapeOf.Week (Known k)) w f = week_is y k w f
-parts_fit y (ShapeOf.Week Unknown) w f = tt
-parts_fit y (ShapeOf.Weekday (Known k) (Known d)) w f = (week_is y k w.0 f.0, subst (IsInRange 1 7) (digit_is d f.1.0 w.1 f.1.1) f.1.2)
-parts_fit y (ShapeOf.Weekday (Known k) Unknown) w f = week_is y k w.0 f.0
-parts_fit y (ShapeOf.Weekday Unknown d) w f = tt
-parts_fit y (ShapeOf.Quarter (Known q)) w f = subst (IsInRange 1 4) (digit_is q f.0 w f.1) f.2
-parts_fit y (ShapeOf.Quarter Unknown) w f = tt
-parts_fit y (ShapeOf.Hour (Known m) (Known d) (Known h)) w f = (date_is y m d w.0 w.1 f.0, hour_is h (Known 0) (Known 0) w.2 f.1)
-parts_fit y (ShapeOf.Hour (Known m) (Known d) Unknown) w f = date_is y m d w.0 w.1 f.0
-parts_fit y (ShapeOf.Hour (Known m) Unknown h) w f = month_is y m Unknown w.0 f.0
-parts_fit y (ShapeOf.Hour Unknown d h) w f = tt
-parts_fit y (ShapeOf.Minute (Known m) (Known d) (Known h) (Known i)) w f = (date_is y m d w.0 w.1 f.0, hour_is h (Known i) (Known 0) w.2 f.1, minute_is i (Known h) (Known 0) w.3 f.1)
-parts_fit y (ShapeOf.Minute (Known m) (Known d) (Known h) Unknown) w f = (date_is y m d w.0 w.1 f.0, hour_is h Unknown (Known 0) w.2 f.1)
-parts_fit y (ShapeOf.Minute (Known m) (Known d) Unknown i) w f = date_is y m d w.0 w.1 f.0
-parts_fit y (ShapeOf.Minute (Known m) Unknown h i) w f = month_is y m Unknown w.0 f.0
-parts_fit y (ShapeOf.Minute Unknown d h i) w f = tt
-parts_fit y (ShapeOf.Second (Known m) (Known d) (Known h) (Known i) (Known s)) w f = (date_is y m d w.0 w.1 f.0, hour_is h (Known i) (Known s) w.2 f.1, minute_is i (Known h) (Known s) w.3 f.1, second_is s (Known h) (Known i) w.4 f.1)
-parts_fit y (ShapeOf.Second (Known m) (Known d) (Known h) (Known i) Unknown) w f = (date_is y m d w.0 w.1 f.0, hour_is h (Known i) Unknown w.2 f.1, minute_is i (Known h) Unknown w.3 f.1)
-parts_fit y (ShapeOf.Second (Known m) (Known d) (Known h) Unknown s) w f = (date_is y m d w.0 w.1 f.0, hour_is h Unknown s w.2 f.1)
-parts_fit y (ShapeOf.Second (Known m) (Known d) Unknown i s) w f = date_is y m d w.0 w.1 f.0
-parts_fit y (ShapeOf.Second (Known m) Unknown h i s) w f = month_is y m Unknown w.0 f.0
-parts_fit y (ShapeOf.Second Unknown d h i s) w f = tt
+parts_valid : (y : ℕ) (s : Shape) → IsShapeWritten s → IsValidIn y s → HasParts (YearOf.Known y) s
+parts_valid y ShapeOf.Year w f = tt
+parts_valid y (ShapeOf.Month (Known m)) w f = subst (IsInRange 1 12) (part_is m f.0 w f.1) f.2
+parts_valid y (ShapeOf.Month Unknown) w f = tt
+parts_valid y (ShapeOf.Day (Known m) (Known d)) w f = date_is y m d w.0 w.1 f
+parts_valid y (ShapeOf.Day (Known m) Unknown) w f = month_is y m Unknown w.0 f
+parts_valid y (ShapeOf.Day Unknown d) w f = tt
+parts_valid y (ShapeOf.Week (Known k)) w f = week_is y k w f
+parts_valid y (ShapeOf.Week Unknown) w f = tt
+parts_valid y (ShapeOf.Weekday (Known k) (Known d)) w f = (week_is y k w.0 f.0, subst (IsInRange 1 7) (digit_is d f.1.0 w.1 f.1.1) f.1.2)
+parts_valid y (ShapeOf.Weekday (Known k) Unknown) w f = week_is y k w.0 f.0
+parts_valid y (ShapeOf.Weekday Unknown d) w f = tt
+parts_valid y (ShapeOf.Quarter (Known q)) w f = subst (IsInRange 1 4) (digit_is q f.0 w f.1) f.2
+parts_valid y (ShapeOf.Quarter Unknown) w f = tt
+parts_valid y (ShapeOf.Hour (Known m) (Known d) (Known h)) w f = (date_is y m d w.0 w.1 f.0, hour_is h (Known 0) (Known 0) w.2 f.1)
+parts_valid y (ShapeOf.Hour (Known m) (Known d) Unknown) w f = date_is y m d w.0 w.1 f.0
+parts_valid y (ShapeOf.Hour (Known m) Unknown h) w f = month_is y m Unknown w.0 f.0
+parts_valid y (ShapeOf.Hour Unknown d h) w f = tt
+parts_valid y (ShapeOf.Minute (Known m) (Known d) (Known h) (Known i)) w f = (date_is y m d w.0 w.1 f.0, hour_is h (Known i) (Known 0) w.2 f.1, minute_is i (Known h) (Known 0) w.3 f.1)
+parts_valid y (ShapeOf.Minute (Known m) (Known d) (Known h) Unknown) w f = (date_is y m d w.0 w.1 f.0, hour_is h Unknown (Known 0) w.2 f.1)
+parts_valid y (ShapeOf.Minute (Known m) (Known d) Unknown i) w f = date_is y m d w.0 w.1 f.0
+parts_valid y (ShapeOf.Minute (Known m) Unknown h i) w f = month_is y m Unknown w.0 f.0
+parts_valid y (ShapeOf.Minute Unknown d h i) w f = tt
+parts_valid y (ShapeOf.Second (Known m) (Known d) (Known h) (Known i) (Known s)) w f = (date_is y m d w.0 w.1 f.0, hour_is h (Known i) (Known s) w.2 f.1, minute_is i (Known h) (Known s) w.3 f.1, second_is s (Known h) (Known i) w.4 f.1)
+parts_valid y (ShapeOf.Second (Known m) (Known d) (Known h) (Known i) Unknown) w f = (date_is y m d w.0 w.1 f.0, hour_is h (Known i) Unknown w.2 f.1, minute_is i (Known h) Unknown w.3 f.1)
+parts_valid y (ShapeOf.Second (Known m) (Known d) (Known h) Unknown s) w f = (date_is y m d w.0 w.1 f.0, hour_is h Unknown s w.2 f.1)
+parts_valid y (ShapeOf.Second (Known m) (Known d) Unknown i s) w f = date_is y m d w.0 w.1 f.0
+parts_valid y (ShapeOf.Second (Known m) Unknown h i s) w f = month_is y m Unknown w.0 f.0
+parts_valid y (ShapeOf.Second Unknown d h i s) w f = tt
 
 year_has : (year : Year) (s : Shape) → IsYearWritten year → HasFilling year s → HasYear year
 year_has (YearOf.Known y) s h f = subst (IsInRange 1 9999) (year_is y f.0 h f.1) f.2
@@ -124,7 +124,7 @@ parts_x year (ShapeOf.Second m d h i s) x = date_x year m d h i s x
 
 -- in some year
 parts_has : (year : Year) (s : Shape) → IsYearWritten year → IsShapeWritten s → HasFilling year s → HasParts year s
-parts_has (YearOf.Known y) s h w f = parts_fit y s w (subst (λ z. FitsYear z s) (year_is y f.0 h f.1) f.3)
+parts_has (YearOf.Known y) s h w f = parts_valid y s w (subst (λ z. IsValidIn z s) (year_is y f.0 h f.1) f.3)
 parts_has (YearOf.Decade d) s h w f = parts_x (YearOf.Decade d) s tt
 parts_has (YearOf.Century c) s h w f = parts_x (YearOf.Century c) s tt
 parts_has YearOf.Unknown s h w f = parts_x YearOf.Unknown s tt

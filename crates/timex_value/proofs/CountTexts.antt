@@ -5,6 +5,7 @@ use Rattle.std.proofs.lemmas.List.{take_at, drop_at, take-append-drop}
 use Rattle.std.specs.List.{prefix_len}
 use Rattle.std.specs.Int.{IsInRange}
 use Rattle.std.specs.Char.{is_ascii_digit, digit_value}
+use Rattle.std.specs.Str.{byte}
 use Rattle.std.specs.Str.Parse.{AllDigits, digits_value}
 use Rattle.timex_value.specs.Durations.{CountThen, ReadsCount}
 use Rattle.timex_value.specs.declared.length.Count.{Count}
@@ -17,7 +18,7 @@ digit_is d h = grind (arith, nat_tests)
 is_digit : (d : ℕ) → is_ascii_digit d ≡ true → digit_value d < 10
 is_digit d e = grind (arith, nat_tests)
 
--- the longest front of digits has digits alone
+-- the longest prefix of digits has digits alone
 pub digits_pass : (xs : List ℕ) → AllDigits 10 (take (prefix_len is_ascii_digit xs) xs)
 digits_pass [] = tt
 digits_pass (x ∷ xs) = elim (is_ascii_digit x) as (λ b. is_ascii_digit x ≡ b → AllDigits 10 (take (cond b (1 + prefix_len is_ascii_digit xs) 0) (x ∷ xs))) [
@@ -25,12 +26,12 @@ digits_pass (x ∷ xs) = elim (is_ascii_digit x) as (λ b. is_ascii_digit x ≡ 
   | false ↦ λ e. tt
 ] refl
 
--- the longest front of digits ends at a byte that is none
+-- the longest prefix of digits ends at a byte that is none
 pub digits_end : (xs : List ℕ) (u : ℕ) (rest : List ℕ) → AllDigits 10 xs → is_ascii_digit u ≡ false → prefix_len is_ascii_digit (xs ++ (u ∷ rest)) ≡ length xs
 digits_end [] u rest h n = rw n refl
 digits_end (x ∷ xs) u rest h n = rw (digit_is x h.0, digits_end xs u rest h.1 n) (omega arith)
 
--- a number and its unit are the longest front of digits and what follows it
+-- a number and its unit are the longest prefix of digits and what follows it
 pub number_read : (u n : ℕ) (text rest : List ℕ) → is_ascii_digit u ≡ false → CountThen u (Number n) text rest
     → IsInRange 1 9 (prefix_len is_ascii_digit text) × (drop (prefix_len is_ascii_digit text) text ≡ u ∷ rest) × (n ≡ digits_value 10 (take (prefix_len is_ascii_digit text) text))
 number_read u n text rest hu h =
@@ -39,16 +40,16 @@ number_read u n text rest hu h =
     let len : prefix_len is_ascii_digit text ≡ length digits = ap (λ (x : List ℕ). prefix_len is_ascii_digit x) e ∙ digits_end digits u rest h.1.1 hu in
     rw (len, e, take_at digits (u ∷ rest) (length digits) refl, drop_at digits (u ∷ rest) (length digits) refl) (h.1.2, refl, h.1.3)
 
--- a longest front of digits, not too long, and the unit that follows it
-pub number_is : (u n : ℕ) (text digits back rest : List ℕ)
-    → digits ≡ take (prefix_len is_ascii_digit text) text → back ≡ drop (prefix_len is_ascii_digit text) text
-    → IsInRange 1 9 (length digits) → n ≡ digits_value 10 digits → back ≡ u ∷ rest
+-- a longest prefix of digits, not too long, and the unit that follows it
+pub number_is : (u n : ℕ) (text digits tail rest : List ℕ)
+    → digits ≡ take (prefix_len is_ascii_digit text) text → tail ≡ drop (prefix_len is_ascii_digit text) text
+    → IsInRange 1 9 (length digits) → n ≡ digits_value 10 digits → tail ≡ u ∷ rest
     → CountThen u (Number n) text rest
-number_is u n text digits back rest front behind few value e =
-    let whole : text ≡ digits ++ back = rw (front, behind) (sym (take-append-drop (prefix_len is_ascii_digit text) text)) in
-    (digits ++ (u ∷ []), (digits, rw front (digits_pass text), few, value, refl), whole ∙ (ap (λ (x : List ℕ). digits ++ x) e ∙ sym (append_assoc digits (u ∷ []) rest)))
+number_is u n text digits tail rest prefix after few value e =
+    let whole : text ≡ digits ++ tail = rw (prefix, after) (sym (take-append-drop (prefix_len is_ascii_digit text) text)) in
+    (digits ++ (u ∷ []), (digits, rw prefix (digits_pass text), few, value, refl), whole ∙ (ap (λ (x : List ℕ). digits ++ x) e ∙ sym (append_assoc digits (u ∷ []) rest)))
 
--- no count stands there: the unit has no X before it, and no number
+-- no count is there: the unit has no X before it, and no number
 pub none_read : (u : ℕ) (text : List ℕ)
     → ((rest : List ℕ) → CountThen u Unknown text rest → ⊥) → ((n : ℕ) (rest : List ℕ) → CountThen u (Number n) text rest → ⊥)
     → ReadsCount u Absent text text
@@ -63,7 +64,7 @@ none_read u text no_x no_number = record {
 
 -- digits and X
 abbrev pub is_mark : ℕ → Bool
-is_mark b = is_ascii_digit b || (b == 88)
+is_mark b = is_ascii_digit b || (b == byte "X")
 
 -- the first byte that is neither a digit nor X, and 0 where there is none
 unfoldable pub unit_at : List ℕ → ℕ
@@ -79,7 +80,7 @@ unit_here : (u : ℕ) (rest : List ℕ) → is_mark u ≡ false → unit_at (u �
 unfolding unit_at
 unit_here u rest h = rw h refl
 
-unit_past_x : (text : List ℕ) → unit_at (88 ∷ text) ≡ unit_at text
+unit_past_x : (text : List ℕ) → unit_at (byte "X" ∷ text) ≡ unit_at text
 unfolding unit_at
 unit_past_x text = refl
 
@@ -89,7 +90,7 @@ no_number n e = absurd cc
 no_x : Unknown ≢ Absent
 no_x e = absurd cc
 
--- a count is told by its unit
+-- a count is known by its unit
 pub unit_of_count : (u : ℕ) (c : Count) (text rest : List ℕ) → is_mark u ≡ false → CountThen u c text rest → c ≢ Absent → unit_at text ≡ u
 unit_of_count u Absent text rest m h some = absurd (some refl)
 unit_of_count u (Number n) text rest m h some =
@@ -97,13 +98,13 @@ unit_of_count u (Number n) text rest m h some =
     let e : text ≡ digits ++ (u ∷ rest) = h.2 ∙ (ap (λ (x : List ℕ). x ++ rest) h.1.4 ∙ append_assoc digits (u ∷ []) rest) in
     ap unit_at e ∙ (unit_past digits (u ∷ rest) h.1.1 ∙ unit_here u rest m)
 unit_of_count u Unknown text rest m h some =
-    let e : text ≡ 88 ∷ u ∷ rest = h.2 ∙ ap (λ (x : List ℕ). x ++ rest) h.1 in
+    let e : text ≡ byte "X" ∷ u ∷ rest = h.2 ∙ ap (λ (x : List ℕ). x ++ rest) h.1 in
     ap unit_at e ∙ (unit_past_x (u ∷ rest) ∙ unit_here u rest m)
 
 absent_then : (u : ℕ) (text rest : List ℕ) → CountThen u Absent text rest → text ≡ rest
 absent_then u text rest h = h.2 ∙ ap (λ (x : List ℕ). x ++ rest) h.1
 
--- before a count of one unit no other unit comes, unless it comes behind it
+-- before a count of one unit no other unit comes, unless it comes after it
 pub unit_before : (u v : ℕ) (c : Count) (text rest : List ℕ) → is_mark u ≡ false → u ≢ v → CountThen u c text rest → unit_at rest ≢ v → unit_at text ≢ v
 unit_before u v Absent text rest m other h end = λ e. end (ap unit_at (sym (absent_then u text rest h)) ∙ e)
 unit_before u v (Number n) text rest m other h end = λ e. other (sym (unit_of_count u (Number n) text rest m h (no_number n)) ∙ e)
@@ -128,7 +129,7 @@ tail_is e = cc
 x_or_number : (u n : ℕ) (text r s : List ℕ) → is_ascii_digit u ≡ false → CountThen u (Number n) text r → CountThen u Unknown text s → ⊥
 x_or_number u n text r s m h k =
     let p = number_read u n text r m h in
-    let q : text ≡ 88 ∷ u ∷ s = k.2 ∙ ap (λ (x : List ℕ). x ++ s) k.1 in
+    let q : text ≡ byte "X" ∷ u ∷ s = k.2 ∙ ap (λ (x : List ℕ). x ++ s) k.1 in
     let none : prefix_len is_ascii_digit text ≡ 0 = ap (λ (x : List ℕ). prefix_len is_ascii_digit x) q in
     omega arith
 
@@ -146,6 +147,6 @@ same_count u (Number a) Unknown text r s n h k = absurd (x_or_number u a text r 
 same_count u Unknown Absent text r s n h k = absurd (no_x (k.other refl Unknown r h.then))
 same_count u Unknown (Number b) text r s n h k = absurd (x_or_number u b text s r n k.then h.then)
 same_count u Unknown Unknown text r s n h k =
-    let p : text ≡ 88 ∷ u ∷ r = h.then.2 ∙ ap (λ (x : List ℕ). x ++ r) h.then.1 in
-    let q : text ≡ 88 ∷ u ∷ s = k.then.2 ∙ ap (λ (x : List ℕ). x ++ s) k.then.1 in
+    let p : text ≡ byte "X" ∷ u ∷ r = h.then.2 ∙ ap (λ (x : List ℕ). x ++ r) h.then.1 in
+    let q : text ≡ byte "X" ∷ u ∷ s = k.then.2 ∙ ap (λ (x : List ℕ). x ++ s) k.then.1 in
     (refl, tail_is (tail_is (sym p ∙ q)))

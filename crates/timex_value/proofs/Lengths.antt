@@ -1,5 +1,6 @@
 -- A duration is read in one way.
 use Rattle.std.proofs.Common.{◌≡◌, ◌≢◌, inl, inr, ℕ, Bool, true, false, ◌||◌, List, [], ◌∷◌, refl, sym, ◌∙◌, subst, arith}
+use Rattle.std.specs.Str.{byte}
 use Rattle.timex_value.specs.Durations.{ReadsCount, DateThen, ClockThen, ClockText, SpellsLength, is_present, has_clock}
 use Rattle.timex_value.specs.declared.length.Count.{Count}
 use Rattle.timex_value.specs.declared.length.Count.TheVariants.{Absent, Number, Unknown}
@@ -8,13 +9,13 @@ use Rattle.timex_value.proofs.CountTexts.{unit_at, tail_is, unit_before, reads_c
 
 -- no unit of a date comes first
 abbrev pub IsPastDate : List ℕ → Type 0
-IsPastDate text = (unit_at text ≢ 89) × (unit_at text ≢ 77) × (unit_at text ≢ 87) × (unit_at text ≢ 68)
+IsPastDate text = (unit_at text ≢ byte "Y") × (unit_at text ≢ byte "M") × (unit_at text ≢ byte "W") × (unit_at text ≢ byte "D")
 
 none_past : IsPastDate []
 unfolding unit_at
 none_past = (λ e. omega arith, λ e. omega arith, λ e. omega arith, λ e. omega arith)
 
-clock_past : (text : List ℕ) → IsPastDate (84 ∷ text)
+clock_past : (text : List ℕ) → IsPastDate (byte "T" ∷ text)
 unfolding unit_at
 clock_past text = (λ e. omega arith, λ e. omega arith, λ e. omega arith, λ e. omega arith)
 
@@ -30,55 +31,55 @@ past_date h m s text (inr k) = rw k.1.1 (clock_past k.1.0)
 abbrev pub ReadsDate : Count → Count → Count → Count → List ℕ → List ℕ → Type 0
 ReadsDate years months weeks days text rest =
     (a : List ℕ) × (b : List ℕ) × (c : List ℕ)
-    × ReadsCount 89 years text a × ReadsCount 77 months a b × ReadsCount 87 weeks b c × ReadsCount 68 days c rest
+    × ReadsCount (byte "Y") years text a × ReadsCount (byte "M") months a b × ReadsCount (byte "W") weeks b c × ReadsCount (byte "D") days c rest
 
 -- and those of a clock
 abbrev pub ReadsClock : Count → Count → Count → List ℕ → List ℕ → Type 0
 ReadsClock hours minutes seconds text rest =
-    (a : List ℕ) × (b : List ℕ) × ReadsCount 72 hours text a × ReadsCount 77 minutes a b × ReadsCount 83 seconds b rest
+    (a : List ℕ) × (b : List ℕ) × ReadsCount (byte "H") hours text a × ReadsCount (byte "M") minutes a b × ReadsCount (byte "S") seconds b rest
 
 -- the counts of a date are read as they are written, where no unit of theirs follows
 date_counts : (y m w d : Count) (text rest : List ℕ) → DateThen y m w d text rest → IsPastDate rest → ReadsDate y m w d text rest
 date_counts y m w d text rest h past =
-    let before_days : (v : ℕ) → (68 ≡ v → ⊥) → unit_at rest ≢ v → unit_at h.2 ≢ v = λ v o p. unit_before 68 v d h.2 rest refl o h.6 p in
-    let before_weeks : (v : ℕ) → (87 ≡ v → ⊥) → (68 ≡ v → ⊥) → unit_at rest ≢ v → unit_at h.1 ≢ v = λ v o p q. unit_before 87 v w h.1 h.2 refl o h.5 (before_days v p q) in (
+    let before_days : (v : ℕ) → (byte "D" ≡ v → ⊥) → unit_at rest ≢ v → unit_at h.2 ≢ v = λ v o p. unit_before (byte "D") v d h.2 rest refl o h.6 p in
+    let before_weeks : (v : ℕ) → (byte "W" ≡ v → ⊥) → (byte "D" ≡ v → ⊥) → unit_at rest ≢ v → unit_at h.1 ≢ v = λ v o p q. unit_before (byte "W") v w h.1 h.2 refl o h.5 (before_days v p q) in (
       h.0,
       h.1,
       h.2,
-      reads_count 89 y text h.0 refl h.3 (unit_before 77 89 m h.0 h.1 refl (λ e. omega arith) h.4 (before_weeks 89 (λ e. omega arith) (λ e. omega arith) past.0)),
-      reads_count 77 m h.0 h.1 refl h.4 (before_weeks 77 (λ e. omega arith) (λ e. omega arith) past.1),
-      reads_count 87 w h.1 h.2 refl h.5 (before_days 87 (λ e. omega arith) past.2),
-      reads_count 68 d h.2 rest refl h.6 past.3,
+      reads_count (byte "Y") y text h.0 refl h.3 (unit_before (byte "M") (byte "Y") m h.0 h.1 refl (λ e. omega arith) h.4 (before_weeks (byte "Y") (λ e. omega arith) (λ e. omega arith) past.0)),
+      reads_count (byte "M") m h.0 h.1 refl h.4 (before_weeks (byte "M") (λ e. omega arith) (λ e. omega arith) past.1),
+      reads_count (byte "W") w h.1 h.2 refl h.5 (before_days (byte "W") (λ e. omega arith) past.2),
+      reads_count (byte "D") d h.2 rest refl h.6 past.3,
     )
 
 -- the counts of a clock are read as they are written
 clock_counts : (h m s : Count) (text : List ℕ) → ClockThen h m s text [] → ReadsClock h m s text []
 clock_counts h m s text k =
-    let before_seconds : (v : ℕ) → (83 ≡ v → ⊥) → v ≢ 0 → unit_at k.1 ≢ v = λ v o p. unit_before 83 v s k.1 [] refl o k.4 (none_at_end v p) in (
+    let before_seconds : (v : ℕ) → (byte "S" ≡ v → ⊥) → v ≢ 0 → unit_at k.1 ≢ v = λ v o p. unit_before (byte "S") v s k.1 [] refl o k.4 (none_at_end v p) in (
       k.0,
       k.1,
-      reads_count 72 h text k.0 refl k.2 (unit_before 77 72 m k.0 k.1 refl (λ e. omega arith) k.3 (before_seconds 72 (λ e. omega arith) (λ e. omega arith))),
-      reads_count 77 m k.0 k.1 refl k.3 (before_seconds 77 (λ e. omega arith) (λ e. omega arith)),
-      reads_count 83 s k.1 [] refl k.4 (none_at_end 83 (λ e. omega arith)),
+      reads_count (byte "H") h text k.0 refl k.2 (unit_before (byte "M") (byte "H") m k.0 k.1 refl (λ e. omega arith) k.3 (before_seconds (byte "H") (λ e. omega arith) (λ e. omega arith))),
+      reads_count (byte "M") m k.0 k.1 refl k.3 (before_seconds (byte "M") (λ e. omega arith) (λ e. omega arith)),
+      reads_count (byte "S") s k.1 [] refl k.4 (none_at_end (byte "S") (λ e. omega arith)),
     )
 
 -- the counts of a date are read in one way
 same_date : (y m w d y2 m2 w2 d2 : Count) (text r s : List ℕ) → ReadsDate y m w d text r → ReadsDate y2 m2 w2 d2 text s
     → (y ≡ y2) × (m ≡ m2) × (w ≡ w2) × (d ≡ d2) × (r ≡ s)
 same_date y m w d y2 m2 w2 d2 text r s h k =
-    let years = same_count 89 y y2 text h.0 k.0 refl h.3 k.3 in
-    let months = same_count 77 m m2 h.0 h.1 k.1 refl h.4 (subst (λ (x : List ℕ). ReadsCount 77 m2 x k.1) (sym years.1) k.4) in
-    let weeks = same_count 87 w w2 h.1 h.2 k.2 refl h.5 (subst (λ (x : List ℕ). ReadsCount 87 w2 x k.2) (sym months.1) k.5) in
-    let days = same_count 68 d d2 h.2 r s refl h.6 (subst (λ (x : List ℕ). ReadsCount 68 d2 x s) (sym weeks.1) k.6) in
+    let years = same_count (byte "Y") y y2 text h.0 k.0 refl h.3 k.3 in
+    let months = same_count (byte "M") m m2 h.0 h.1 k.1 refl h.4 (subst (λ (x : List ℕ). ReadsCount (byte "M") m2 x k.1) (sym years.1) k.4) in
+    let weeks = same_count (byte "W") w w2 h.1 h.2 k.2 refl h.5 (subst (λ (x : List ℕ). ReadsCount (byte "W") w2 x k.2) (sym months.1) k.5) in
+    let days = same_count (byte "D") d d2 h.2 r s refl h.6 (subst (λ (x : List ℕ). ReadsCount (byte "D") d2 x s) (sym weeks.1) k.6) in
     (years.0, months.0, weeks.0, days.0, days.1)
 
 -- the counts of a clock are read in one way
 same_clock : (h m s h2 m2 s2 : Count) (text r e : List ℕ) → ReadsClock h m s text r → ReadsClock h2 m2 s2 text e
     → (h ≡ h2) × (m ≡ m2) × (s ≡ s2) × (r ≡ e)
 same_clock h m s h2 m2 s2 text r e p q =
-    let hours = same_count 72 h h2 text p.0 q.0 refl p.2 q.2 in
-    let minutes = same_count 77 m m2 p.0 p.1 q.1 refl p.3 (subst (λ (x : List ℕ). ReadsCount 77 m2 x q.1) (sym hours.1) q.3) in
-    let seconds = same_count 83 s s2 p.1 r e refl p.4 (subst (λ (x : List ℕ). ReadsCount 83 s2 x e) (sym minutes.1) q.4) in
+    let hours = same_count (byte "H") h h2 text p.0 q.0 refl p.2 q.2 in
+    let minutes = same_count (byte "M") m m2 p.0 p.1 q.1 refl p.3 (subst (λ (x : List ℕ). ReadsCount (byte "M") m2 x q.1) (sym hours.1) q.3) in
+    let seconds = same_count (byte "S") s s2 p.1 r e refl p.4 (subst (λ (x : List ℕ). ReadsCount (byte "S") s2 x e) (sym minutes.1) q.4) in
     (hours.0, minutes.0, seconds.0, seconds.1)
 
 -- the counts of a clock that are read are all that can stand there, and nothing follows them
@@ -108,15 +109,15 @@ no_clock h m s h2 m2 s2 p q =
 -- a text has the counts of one clock
 pub one_clock : (h m s h2 m2 s2 : Count) (text : List ℕ) → ClockText h m s text → ClockText h2 m2 s2 text → (h ≡ h2) × (m ≡ m2) × (s ≡ s2)
 one_clock h m s h2 m2 s2 text (inl k) (inl l) = no_clock h m s h2 m2 s2 k.0 l.0
-one_clock h m s h2 m2 s2 text (inl k) (inr l) = let e : [] ≡ 84 ∷ l.1.0 = sym k.1 ∙ l.1.1 in absurd cc
-one_clock h m s h2 m2 s2 text (inr k) (inl l) = let e : [] ≡ 84 ∷ k.1.0 = sym l.1 ∙ k.1.1 in absurd cc
+one_clock h m s h2 m2 s2 text (inl k) (inr l) = let e : [] ≡ byte "T" ∷ l.1.0 = sym k.1 ∙ l.1.1 in absurd cc
+one_clock h m s h2 m2 s2 text (inr k) (inl l) = let e : [] ≡ byte "T" ∷ k.1.0 = sym l.1 ∙ k.1.1 in absurd cc
 one_clock h m s h2 m2 s2 text (inr k) (inr l) =
     let timed : l.1.0 ≡ k.1.0 = tail_is (sym l.1.1 ∙ k.1.1) in
     let e = clock_read h m s h2 m2 s2 k.1.0 [] (clock_counts h m s k.1.0 k.1.2) (subst (λ (x : List ℕ). ClockThen h2 m2 s2 x []) timed l.1.2) in
     (e.0, e.1, e.2)
 
--- the counts of a date that are read are those of each duration that the text spells, and its clock stands behind them
-pub length_read : (y m w d : Count) (l : Length) (text dated r : List ℕ) → text ≡ 80 ∷ dated → ReadsDate y m w d dated r → SpellsLength l text
+-- the counts of a date that are read are those of each duration that the text spells, and its clock comes after them
+pub length_read : (y m w d : Count) (l : Length) (text dated r : List ℕ) → text ≡ byte "P" ∷ dated → ReadsDate y m w d dated r → SpellsLength l text
     → (y ≡ l.years) × (m ≡ l.months) × (w ≡ l.weeks) × (d ≡ l.days) × ClockText l.hours l.minutes l.seconds r
 length_read y m w d l text dated r e reads h =
     let past = past_date l.hours l.minutes l.seconds h.1 h.4 in

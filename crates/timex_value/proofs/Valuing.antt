@@ -1,7 +1,8 @@
--- A text stands for one value, and then it has a valid filling if it has a calendar shape.
+-- A text has one value, and a calendar value has a valid filling.
 use Rattle.std.proofs.Common.{◌≡◌, ℕ, List, ◌∷◌, refl, ap, subst, arith}
 use Rattle.std.proofs.Math.Logic.{∥∥₁_prop, ∥∥₁_elim}
 use mathlib.Core.HLevel.{is_prop→PathP}
+use Rattle.std.specs.Str.{byte}
 use Rattle.timex_value.specs.declared.shape.Year.{Year}
 use Rattle.timex_value.specs.declared.shape.Year.TheVariants as YearOf
 use Rattle.timex_value.specs.declared.shape.Shape.{Shape}
@@ -18,7 +19,7 @@ use Rattle.timex_value.proofs.Places.{by_place}
 use Rattle.timex_value.proofs.Lengths.{one_length}
 
 -- no year begins with P
-year_no_p : (y : Year) (rest : List ℕ) → YearFirst y (80 ∷ rest) → ⊥
+year_no_p : (y : Year) (rest : List ℕ) → YearFirst y (byte "P" ∷ rest) → ⊥
 year_no_p (YearOf.Known y) rest h = grind arith
 year_no_p (YearOf.Decade y) rest h = grind arith
 year_no_p (YearOf.Century y) rest h = grind arith

@@ -37,24 +37,24 @@ abbrev pub is_present : Count → Bool
 is_present Absent = false
 is_present count = true
 
--- one count of a clock at least is written
+-- at least one count of a clock is written
 abbrev pub has_clock : Count → Count → Count → Bool
 has_clock hours minutes seconds = is_present hours || is_present minutes || is_present seconds
 
--- nothing, or T and then hours, minutes and seconds, one of them at least
+-- nothing, or T and then hours, minutes and seconds, at least one of them
 abbrev pub ClockText : Count → Count → Count → List ℕ → Type 0
 ClockText hours minutes seconds text =
     (IsFalse (has_clock hours minutes seconds) × (text ≡ []))
     ⊎ (IsTrue (has_clock hours minutes seconds)
       × ((timed : List ℕ) × (text ≡ codes "T" ++ timed) × ClockThen hours minutes seconds timed []))
 
--- one count at least is written
+-- at least one count is written
 abbrev pub is_length : Length → Bool
 is_length l =
     is_present l.years || is_present l.months || is_present l.weeks || is_present l.days
     || has_clock l.hours l.minutes l.seconds
 
--- P, then the counts of a date, then those of a clock, one of all at least
+-- P, then the counts of a date, then those of a clock, at least one count in all
 abbrev pub SpellsLength : Length → List ℕ → Type 0
 SpellsLength l text =
     (dated : List ℕ) × (timed : List ℕ)

@@ -59,7 +59,7 @@ fn class_of(text: &[u8]) -> Class {
 }
 
 #[test]
-fn texts_are_told_apart(rt: HostRuntime) {
+fn texts_are_kept_apart(rt: HostRuntime) {
     let cases: [(&[u8], Class); 60] = [
         (b"XXXX-02-30", Class::Bad),
         (b"1998-13", Class::Bad),

@@ -5,13 +5,13 @@ use Rattle.timex_value.proofs.durations.number_at.Goals as goal
 
 pub returns-then-is_empty : goal.returns-then-is_empty
 returns-then-is_empty c = λ n rest h.
-    let stands = number_read c.args.unit n c.args.text.now rest c.requires h in
+    let read = number_read c.args.unit n c.args.text.now rest c.requires h in
     elim c.then-is_empty.either [ inl e ↦ grind (arith, nat_tests) | inr e ↦ grind (arith, nat_tests) ]
 
 pub returns-in_default : goal.returns-in_default
 returns-in_default c = λ n rest h.
-    let stands = number_read c.args.unit n c.args.text.now rest c.requires h in
-    c.in_default.ensures rest (c.split_at.ensures.back ∙ (ap (λ n. drop n c.args.text.now) c.digits_len.ensures.len ∙ stands.1))
+    let read = number_read c.args.unit n c.args.text.now rest c.requires h in
+    c.in_default.ensures rest (c.split_at.ensures.back ∙ (ap (λ n. drop n c.args.text.now) c.digits_len.ensures.len ∙ read.1))
 
 pub number-requires-clause-digits : goal.number-requires-clause-digits
 number-requires-clause-digits c = rw (c.split_at.ensures.front, c.digits_len.ensures.len) (digits_pass c.args.text.now)
