@@ -3,8 +3,9 @@ use Rattle.std.proofs.Common.{◌≡◌, ℕ, ◌+◌, ◌-◌, ◌*◌, ◌/◌
 use Rattle.std.specs.Int.{IsInRange}
 use Rattle.jiff_core.proofs.SignedLemmas.{signed_arith}
 use Rattle.timex_value.specs.declared.shape.Year.{Year}
+use Rattle.timex_value.specs.Filling.{IsYearOf}
 use Rattle.timex_dates.specs.Seconds.{day_number, second_number, day_of, Extent, monday_of}
-use Rattle.timex_dates.specs.Sets.{IsYearOf, InYears, InMonth, InDay, InHour, InMinute, InSecond, InWeek, InWeekYears, InQuarter, InWeekday}
+use Rattle.timex_dates.specs.Sets.{InYears, InMonth, InDay, InHour, InMinute, InSecond, InWeek, InWeekYears, InQuarter, InWeekday}
 use Rattle.timex_value.specs.Civil.{year_start, year_length, month_start, month_length, day_index, IsDate, IsDateOf, IsInYear, IsInMonth, IsInWeek, weeks_of, thursday_of, weekday}
 use Rattle.timex_value.proofs.Days.{total-zero, year_length_bounds}
 use Rattle.timex_dates.proofs.Totals.{total_grows}

@@ -10,9 +10,9 @@ use Rattle.timex_value.specs.declared.shape.Shape.{Shape}
 use Rattle.timex_value.specs.declared.shape.Shape.TheVariants as ShapeOf
 use Rattle.timex_value.specs.declared.value.Calendar.{Calendar}
 use Rattle.timex_value.specs.Text.{IsYearWritten, IsShapeWritten}
-use Rattle.timex_value.specs.Filling.{CanBe, DigitCanBe, YearCanBe, HasDate, HasClock, HasWeek, IsClock, IsValidIn, HasFilling}
+use Rattle.timex_value.specs.Filling.{CanBe, DigitCanBe, YearCanBe, HasDate, HasClock, HasWeek, IsClock, IsValidIn, HasFilling, HasYear}
 use Rattle.timex_value.specs.Values.{year_of, shape_of}
-use Rattle.timex_dates.specs.Valid.{HasYear, HasDateParts, HasWeekParts, HasQuarterPart, HasParts}
+use Rattle.timex_dates.specs.Valid.{HasDateParts, HasWeekParts, HasQuarterPart, HasParts}
 use Rattle.std.proofs.Math.Logic.{∥∥₁_elim}
 use Rattle.std.proofs.Props.{props}
 
@@ -50,7 +50,7 @@ minute_is i h s k f = omega (arith, part_is i f.1 k f.4, clock_bounds f.0 f.1 f.
 second_is : (s : ℕ) (h i : Part) → s ≤ 99 → HasClock h i (Known s) → s < 60
 second_is s h i k f = omega (arith, part_is s f.2 k f.5, clock_bounds f.0 f.1 f.2 f.6)
 
--- in a year that the shape fits
+-- in a year in which the shape is valid
 parts_valid : (y : ℕ) (s : Shape) → IsShapeWritten s → IsValidIn y s → HasParts (YearOf.Known y) s
 parts_valid y ShapeOf.Year w f = tt
 parts_valid y (ShapeOf.Month (Known m)) w f = subst (IsInRange 1 12) (part_is m f.0 w f.1) f.2
@@ -82,7 +82,7 @@ parts_valid y (ShapeOf.Second (Known m) Unknown h i s) w f = month_is y m Unknow
 parts_valid y (ShapeOf.Second Unknown d h i s) w f = tt
 
 year_has : (year : Year) (s : Shape) → IsYearWritten year → HasFilling year s → HasYear year
-year_has (YearOf.Known y) s h f = subst (IsInRange 1 9999) (year_is y f.0 h f.1) f.2
+year_has (YearOf.Known y) s h f = subst (IsInRange 1 9999) (year_is y f.0 h f.1.1) f.1.0
 year_has (YearOf.Decade d) s h f = h
 year_has (YearOf.Century c) s h f = h
 year_has YearOf.Unknown s h f = tt
@@ -92,7 +92,7 @@ abbrev HasX : Year → Type 0
 HasX (YearOf.Known y) = ⊥
 HasX year = Unit {0}
 
--- behind such a year nothing is known
+-- after such a year nothing is known
 date_x : (year : Year) (m d h i s : Part) → HasX year → HasDateParts year m d h i s
 date_x (YearOf.Known y) m d h i s x = absurd x
 date_x (YearOf.Decade y) m d h i s x = tt
@@ -124,7 +124,7 @@ parts_x year (ShapeOf.Second m d h i s) x = date_x year m d h i s x
 
 -- in some year
 parts_has : (year : Year) (s : Shape) → IsYearWritten year → IsShapeWritten s → HasFilling year s → HasParts year s
-parts_has (YearOf.Known y) s h w f = parts_valid y s w (subst (λ z. IsValidIn z s) (year_is y f.0 h f.1) f.3)
+parts_has (YearOf.Known y) s h w f = parts_valid y s w (subst (λ z. IsValidIn z s) (year_is y f.0 h f.1.1) f.2)
 parts_has (YearOf.Decade d) s h w f = parts_x (YearOf.Decade d) s tt
 parts_has (YearOf.Century c) s h w f = parts_x (YearOf.Century c) s tt
 parts_has YearOf.Unknown s h w f = parts_x YearOf.Unknown s tt

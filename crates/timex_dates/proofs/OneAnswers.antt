@@ -15,7 +15,7 @@ use Rattle.timex_dates.specs.Seconds.{Extent}
 use Rattle.timex_dates.specs.KnownParts.{is_whole, Belongs}
 use Rattle.timex_dates.specs.Answers.{IsExact, IsWithin, ModifiedBounds, CalendarBounds, OneExtent, OneBounds}
 
--- each of two extents holds the ends of the other
+-- each of two extents has the ends of the other
 extent_once : (P : ℕ → Type 0) (lo hi low high : ℤ) → Extent P lo hi → Extent P low high → (lo ≡ low) × (hi ≡ high)
 unfolding Extent
 extent_once P lo hi low high h k =
@@ -43,8 +43,8 @@ within_once P (Within lo hi) Free h k = absurd k
 within_once P (Exact lo hi) b h k = absurd h
 within_once P Free b h k = absurd h
 
-free_once : (a b : Bounds) → a ≡ Free → b ≡ Free → a ≡ b
-free_once a b h k = rw h (sym k)
+unspecified_once : (a b : Bounds) → a ≡ Free → b ≡ Free → a ≡ b
+unspecified_once a b h k = rw h (sym k)
 
 -- by each modifier
 modified_once : (modifier : Option Modifier) (whole : Bool) (P : ℕ → Type 0) (a b : Bounds) → ModifiedBounds modifier whole P a → ModifiedBounds modifier whole P b → a ≡ b
@@ -53,30 +53,30 @@ modified_once None false P a b h k = within_once P a b h k
 modified_once (Some ModifierOf.Start) whole P a b h k = within_once P a b h k
 modified_once (Some ModifierOf.Mid) whole P a b h k = within_once P a b h k
 modified_once (Some ModifierOf.End) whole P a b h k = within_once P a b h k
-modified_once (Some ModifierOf.Before) whole P a b h k = free_once a b h k
-modified_once (Some ModifierOf.After) whole P a b h k = free_once a b h k
-modified_once (Some ModifierOf.OnOrBefore) whole P a b h k = free_once a b h k
-modified_once (Some ModifierOf.OnOrAfter) whole P a b h k = free_once a b h k
-modified_once (Some ModifierOf.LessThan) whole P a b h k = free_once a b h k
-modified_once (Some ModifierOf.MoreThan) whole P a b h k = free_once a b h k
-modified_once (Some ModifierOf.EqualOrLess) whole P a b h k = free_once a b h k
-modified_once (Some ModifierOf.EqualOrMore) whole P a b h k = free_once a b h k
-modified_once (Some ModifierOf.Approx) whole P a b h k = free_once a b h k
+modified_once (Some ModifierOf.Before) whole P a b h k = unspecified_once a b h k
+modified_once (Some ModifierOf.After) whole P a b h k = unspecified_once a b h k
+modified_once (Some ModifierOf.OnOrBefore) whole P a b h k = unspecified_once a b h k
+modified_once (Some ModifierOf.OnOrAfter) whole P a b h k = unspecified_once a b h k
+modified_once (Some ModifierOf.LessThan) whole P a b h k = unspecified_once a b h k
+modified_once (Some ModifierOf.MoreThan) whole P a b h k = unspecified_once a b h k
+modified_once (Some ModifierOf.EqualOrLess) whole P a b h k = unspecified_once a b h k
+modified_once (Some ModifierOf.EqualOrMore) whole P a b h k = unspecified_once a b h k
+modified_once (Some ModifierOf.Approx) whole P a b h k = unspecified_once a b h k
 
 calendar_once : (modifier : Option Modifier) (year : Year) (shape : Shape) (a b : Bounds) → CalendarBounds modifier year shape a → CalendarBounds modifier year shape b → a ≡ b
 calendar_once m (YearOf.Known y) s a b h k = modified_once m (is_whole (YearOf.Known y) s) (Belongs (YearOf.Known y) s) a b h k
 calendar_once m (YearOf.Decade d) s a b h k = modified_once m false (Belongs (YearOf.Decade d) s) a b h k
 calendar_once m (YearOf.Century c) s a b h k = modified_once m false (Belongs (YearOf.Century c) s) a b h k
-calendar_once m YearOf.Unknown s a b h k = free_once a b h k
+calendar_once m YearOf.Unknown s a b h k = unspecified_once a b h k
 
 pub one_bounds : OneBounds
-one_bounds KindOf.Duration m v a b h k = free_once a b h k
-one_bounds KindOf.Set m v a b h k = free_once a b h k
+one_bounds KindOf.Duration m v a b h k = unspecified_once a b h k
+one_bounds KindOf.Set m v a b h k = unspecified_once a b h k
 one_bounds KindOf.Date m (Some (ValueOf.Calendar c)) a b h k = calendar_once m (year_of c) (shape_of c) a b h k
-one_bounds KindOf.Date m (Some (ValueOf.Duration l)) a b h k = free_once a b h k
-one_bounds KindOf.Date m (Some ValueOf.Other) a b h k = free_once a b h k
-one_bounds KindOf.Date m None a b h k = free_once a b h k
+one_bounds KindOf.Date m (Some (ValueOf.Duration l)) a b h k = unspecified_once a b h k
+one_bounds KindOf.Date m (Some ValueOf.Other) a b h k = unspecified_once a b h k
+one_bounds KindOf.Date m None a b h k = unspecified_once a b h k
 one_bounds KindOf.Time m (Some (ValueOf.Calendar c)) a b h k = calendar_once m (year_of c) (shape_of c) a b h k
-one_bounds KindOf.Time m (Some (ValueOf.Duration l)) a b h k = free_once a b h k
-one_bounds KindOf.Time m (Some ValueOf.Other) a b h k = free_once a b h k
-one_bounds KindOf.Time m None a b h k = free_once a b h k
+one_bounds KindOf.Time m (Some (ValueOf.Duration l)) a b h k = unspecified_once a b h k
+one_bounds KindOf.Time m (Some ValueOf.Other) a b h k = unspecified_once a b h k
+one_bounds KindOf.Time m None a b h k = unspecified_once a b h k

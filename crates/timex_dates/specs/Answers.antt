@@ -25,8 +25,8 @@ abbrev pub IsWithin : (ℕ → Type 0) → Bounds → Type 0
 IsWithin P (Within lo hi) = Extent P lo hi
 IsWithin P b = ⊥
 
--- exact without a modifier, where no X stands in the value; within where an X stands, and for START, MID and END; free for every
--- other modifier
+-- exact without a modifier and without X; within where there is an X, and for START, MID and END; unspecified for every other
+-- modifier
 abbrev pub ModifiedBounds : Option Modifier → Bool → (ℕ → Type 0) → Bounds → Type 0
 ModifiedBounds None true P b = IsExact P b
 ModifiedBounds None false P b = IsWithin P b
@@ -35,12 +35,12 @@ ModifiedBounds (Some ModifierOf.Mid) whole P b = IsWithin P b
 ModifiedBounds (Some ModifierOf.End) whole P b = IsWithin P b
 ModifiedBounds (Some modifier) whole P b = b ≡ Free
 
--- free where nothing is known of the year
+-- unspecified where the year is all X
 abbrev pub CalendarBounds : Option Modifier → Year → Shape → Bounds → Type 0
 CalendarBounds modifier YearOf.Unknown shape b = b ≡ Free
 CalendarBounds modifier year shape b = ModifiedBounds modifier (is_whole year shape) (Belongs year shape) b
 
--- free for durations and sets, and without a calendar value
+-- unspecified for durations and sets, and without a calendar value
 abbrev pub BoundsOf : TimexKind → Option Modifier → Option Value → Bounds → Type 0
 BoundsOf KindOf.Duration modifier value b = b ≡ Free
 BoundsOf KindOf.Set modifier value b = b ≡ Free
@@ -55,8 +55,12 @@ IsCivil Free = Unit {0}
 
 -- the seconds that belong to a value have one extent
 abbrev pub OneExtent : Type 0
-OneExtent = (year : Year) (shape : Shape) (lo hi low high : ℤ) → Extent (Belongs year shape) lo hi → Extent (Belongs year shape) low high → (lo ≡ low) × (hi ≡ high)
+OneExtent =
+    (year : Year) (shape : Shape) (lo hi low high : ℤ)
+    → Extent (Belongs year shape) lo hi → Extent (Belongs year shape) low high → (lo ≡ low) × (hi ≡ high)
 
 -- a time has one answer
 abbrev pub OneBounds : Type 0
-OneBounds = (kind : TimexKind) (modifier : Option Modifier) (value : Option Value) (a b : Bounds) → BoundsOf kind modifier value a → BoundsOf kind modifier value b → a ≡ b
+OneBounds =
+    (kind : TimexKind) (modifier : Option Modifier) (value : Option Value) (a b : Bounds)
+    → BoundsOf kind modifier value a → BoundsOf kind modifier value b → a ≡ b

@@ -1,19 +1,19 @@
 -- The text of a civil date and time, `YYYY-MM-DDThh:mm:ss`.
-use Rattle.std.specs.Prelude.{◌≡◌, ℕ, ◌-◌, ◌/◌, ◌%◌, List, ◌∷◌, ◌++◌, drop, nat_lt, if◌then◌else◌}
+use Rattle.std.specs.Prelude.{◌≡◌, ℕ, ◌-◌, ◌/◌, ◌%◌, List, ◌++◌, codes, drop, nat_lt, if◌then◌else◌}
 use Rattle.timex_value.specs.Civil.{IsDateOf}
 use Rattle.timex_value.specs.Text.{digits2, digits4}
 use Rattle.timex_dates.specs.Seconds.{day_of, clock_of}
 use Rattle.timex_dates.specs.declared.civil.CivilText.{CivilText}
 
--- four digits, and for 10000 a `1` (49) before four of them
+-- four digits, and for 10000 a `1` before four of them
 abbrev pub civil_year : ℕ → List ℕ
-civil_year y = if nat_lt y 10_000 then digits4 y else 49 ∷ digits4 (y - 10_000)
+civil_year y = if nat_lt y 10_000 then digits4 y else codes "1" ++ digits4 (y - 10_000)
 
--- year, month, day, and the time that is so many seconds into the day, with `-` (45), `T` (84) and `:` (58) between them
+-- year, month, day, and the time that is so many seconds into the day
 abbrev pub printed : ℕ → ℕ → ℕ → ℕ → List ℕ
 printed y m d clock =
-    civil_year y ++ (45 ∷ digits2 m) ++ (45 ∷ digits2 d)
-    ++ (84 ∷ digits2 (clock / 3600)) ++ (58 ∷ digits2 (clock / 60 % 60)) ++ (58 ∷ digits2 (clock % 60))
+    civil_year y ++ codes "-" ++ digits2 m ++ codes "-" ++ digits2 d
+    ++ codes "T" ++ digits2 (clock / 3600) ++ codes ":" ++ digits2 (clock / 60 % 60) ++ codes ":" ++ digits2 (clock % 60)
 
 -- the bytes are the text of the date and the time of the second
 abbrev pub IsPrinted : ℕ → List ℕ → Type 0

@@ -9,14 +9,7 @@ use Rattle.timex_value.specs.declared.shape.Shape.{Shape}
 use Rattle.timex_value.specs.declared.shape.Shape.TheVariants as ShapeOf
 use Rattle.timex_value.specs.Civil.{IsDate, weeks_of}
 
--- some year from 1 to 9999 begins so
-abbrev pub HasYear : Year → Type 0
-HasYear (YearOf.Known y) = IsInRange 1 9999 y
-HasYear (YearOf.Decade d) = d ≤ 999
-HasYear (YearOf.Century c) = c ≤ 99
-HasYear YearOf.Unknown = Unit {0}
-
--- the year has what stands before the first X in a month, a day, an hour, a minute and a second
+-- the year has what comes before the first X in a month, a day, an hour, a minute and a second
 abbrev pub HasDateParts : Year → Part → Part → Part → Part → Part → Type 0
 HasDateParts (YearOf.Known y) (Known m) Unknown h i s = IsInRange 1 12 m
 HasDateParts (YearOf.Known y) (Known m) (Known d) Unknown i s = IsDate y m d
@@ -25,7 +18,7 @@ HasDateParts (YearOf.Known y) (Known m) (Known d) (Known h) (Known i) Unknown = 
 HasDateParts (YearOf.Known y) (Known m) (Known d) (Known h) (Known i) (Known s) = IsDate y m d × (h ≤ 24) × (i < 60) × (s < 60)
 HasDateParts year m d h i s = Unit {0}
 
--- the year of weeks has what stands before the first X in a week and its day
+-- the year of weeks has what comes before the first X in a week and its day
 abbrev pub HasWeekParts : Year → Part → Part → Type 0
 HasWeekParts (YearOf.Known y) (Known w) Unknown = IsInRange 1 (weeks_of y) w
 HasWeekParts (YearOf.Known y) (Known w) (Known d) = IsInRange 1 (weeks_of y) w × IsInRange 1 7 d
@@ -36,7 +29,7 @@ abbrev pub HasQuarterPart : Year → Part → Type 0
 HasQuarterPart (YearOf.Known y) (Known q) = IsInRange 1 4 q
 HasQuarterPart year q = Unit {0}
 
--- the year has what stands before the first X behind it
+-- the year has the known part of a shape
 abbrev pub HasParts : Year → Shape → Type 0
 HasParts year ShapeOf.Year = Unit {0}
 HasParts year (ShapeOf.Month m) = HasDateParts year m Unknown Unknown Unknown Unknown

@@ -1,9 +1,10 @@
-//! The known part of a value: what stands before its first `X`.
+//! The known part of a value: what comes before its first `X`.
 ghost use Rattle.std.specs.Prelude.{◌≡◌, ◌<ℤ◌};
 ghost use Rattle.timex_dates.specs.KnownParts as parts;
 ghost use Rattle.timex_dates.specs.KnownParts.{Belongs, InDate, InQuarterDate, InWeekDate};
 ghost use Rattle.timex_dates.specs.Seconds.{Extent, IsCivilSecond};
-ghost use Rattle.timex_dates.specs.Valid.{HasDateParts, HasParts, HasQuarterPart, HasWeekParts, HasYear};
+ghost use Rattle.timex_value.specs.Filling.{HasYear};
+ghost use Rattle.timex_dates.specs.Valid.{HasDateParts, HasParts, HasQuarterPart, HasWeekParts};
 
 use crate::interval;
 use crate::interval::Interval;
@@ -12,7 +13,7 @@ use timex_value::{Part, Shape, Year};
 /// A field that is not known, or that the shape has not.
 const X: Part = Part::Unknown;
 
-/// The interval of what stands before the first `X` in a date and its time.
+/// The interval of what comes before the first `X` in a date and its time.
 fn date(year: Year, month: Part, day: Part, hour: Part, minute: Part, second: Part) -> Interval
     requires year { HasYear year }
     requires parts { HasDateParts year month day hour minute second }
@@ -40,7 +41,7 @@ fn date(year: Year, month: Part, day: Part, hour: Part, minute: Part, second: Pa
     interval::second(y, m, d, h, i, s)
 }
 
-/// The interval of what stands before the first `X` in a week and its day.
+/// The interval of what comes before the first `X` in a week and its day.
 fn week_date(year: Year, week: Part, day: Part) -> Interval
     requires year { HasYear year }
     requires parts { HasWeekParts year week day }
@@ -59,7 +60,7 @@ fn week_date(year: Year, week: Part, day: Part) -> Interval
     interval::weekday(y, w, d)
 }
 
-/// The interval of what stands before the first `X` in a quarter.
+/// The interval of what comes before the first `X` in a quarter.
 fn quarter_date(year: Year, quarter: Part) -> Interval
     requires year { HasYear year }
     requires parts { HasQuarterPart year quarter }
@@ -108,7 +109,7 @@ pub(crate) fn interval_of(year: Year, shape: Shape) -> Interval
     }
 }
 
-/// Whether a field is no `X`.
+/// Whether a field is not `X`.
 fn is_known(part: Part) -> bool
     ensures { result ≡ parts.is_known part }
 {
@@ -118,7 +119,7 @@ fn is_known(part: Part) -> bool
     }
 }
 
-/// Whether no field behind the year is `X`.
+/// Whether no field after the year is `X`.
 fn is_full(shape: Shape) -> bool
     ensures { result ≡ parts.is_full shape }
 {
@@ -149,7 +150,7 @@ fn is_full(shape: Shape) -> bool
     }
 }
 
-/// Whether no `X` stands in a value with this year and this shape.
+/// Whether a value with this year and this shape has no `X`.
 pub(crate) fn is_whole(year: Year, shape: Shape) -> bool
     ensures { result ≡ parts.is_whole year shape }
 {
