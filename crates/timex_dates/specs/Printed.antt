@@ -1,8 +1,8 @@
 -- The text of a civil date and time, `YYYY-MM-DDThh:mm:ss`.
-use Rattle.std.specs.Prelude.{◌≡◌, ℕ, ◌-◌, ◌/◌, ◌%◌, List, ◌++◌, codes, drop, nat_lt, if◌then◌else◌}
+use Rattle.std.specs.Prelude.{◌≡◌, ℕ, ℤ, ◌-◌, ◌/◌, ◌%◌, List, ◌++◌, codes, drop, nat_lt, if◌then◌else◌}
 use Rattle.timex_value.specs.Civil.{IsDateOf}
 use Rattle.timex_value.specs.Text.{digits2, digits4}
-use Rattle.timex_dates.specs.Seconds.{day_of, clock_of}
+use Rattle.timex_dates.specs.Seconds.{day_of, clock_of, HasSecond}
 use Rattle.timex_dates.specs.declared.civil.CivilText.{CivilText}
 
 -- four digits, and for 10000 a `1` before four of them
@@ -20,10 +20,14 @@ abbrev pub IsPrinted : ℕ → List ℕ → Type 0
 IsPrinted t bytes =
     (y : ℕ) × (m : ℕ) × (d : ℕ) × IsDateOf (day_of t) y m d × (bytes ≡ printed y m d (clock_of t))
 
+-- the bytes are the civil text of the second that has this number
+abbrev pub IsCivilText : ℤ → List ℕ → Type 0
+IsCivilText second bytes = HasSecond (λ t. IsPrinted t bytes) second
+
 -- the text, which leaves out the first byte where the year has four digits
 abbrev pub bytes_of : CivilText → List ℕ
 bytes_of c = if c.wide then c.bytes else drop 1 c.bytes
 
 -- a second has one civil text
 abbrev pub OneText : Type 0
-OneText = (t : ℕ) (a b : List ℕ) → IsPrinted t a → IsPrinted t b → a ≡ b
+OneText = (second : ℤ) (a b : List ℕ) → IsCivilText second a → IsCivilText second b → a ≡ b
