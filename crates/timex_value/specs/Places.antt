@@ -26,44 +26,31 @@ DigitAt k p text = IsWritten 9 p × (digit_text p ≡ slice_index text k ∷ [])
 abbrev pub ByteAt : ℕ → ℕ → List ℕ → Type 0
 ByteAt k b text = slice_index text k ≡ b
 
--- -MM
-abbrev pub MonthAt : Part → List ℕ → Type 0
-MonthAt m text = ByteAt 4 (byte "-") text × PartAt 5 m text
+-- the byte b is there, and a field of two bytes after it
+abbrev pub PartAfter : ℕ → ℕ → Part → List ℕ → Type 0
+PartAfter k b p text = ByteAt k b text × PartAt (k + 1) p text
 
--- -DD
-abbrev pub DayAt : Part → List ℕ → Type 0
-DayAt d text = ByteAt 7 (byte "-") text × PartAt 8 d text
-
--- -Www
-abbrev pub WeekAt : Part → List ℕ → Type 0
-WeekAt w text = ByteAt 4 (byte "-") text × ByteAt 5 (byte "W") text × PartAt 6 w text
-
--- Thh
-abbrev pub HourAt : Part → List ℕ → Type 0
-HourAt h text = ByteAt 10 (byte "T") text × PartAt 11 h text
-
--- :mm
-abbrev pub MinuteAt : Part → List ℕ → Type 0
-MinuteAt i text = ByteAt 13 (byte ":") text × PartAt 14 i text
-
--- :ss
-abbrev pub SecondAt : Part → List ℕ → Type 0
-SecondAt s text = ByteAt 16 (byte ":") text × PartAt 17 s text
+-- -Www after the year
+abbrev pub WeekAfter : Part → List ℕ → Type 0
+WeekAfter w text = ByteAt 4 (byte "-") text × PartAfter 5 (byte "W") w text
 
 -- the text has this length, and these fields after the year
 abbrev pub HasShape : Shape → List ℕ → Type 0
 HasShape ShapeOf.Year text = length text ≡ 4
-HasShape (ShapeOf.Month m) text = (length text ≡ 7) × MonthAt m text
-HasShape (ShapeOf.Day m d) text = (length text ≡ 10) × MonthAt m text × DayAt d text
-HasShape (ShapeOf.Week w) text = (length text ≡ 8) × WeekAt w text
-HasShape (ShapeOf.Weekday w d) text = (length text ≡ 10) × WeekAt w text × ByteAt 8 (byte "-") text × DigitAt 9 d text
+HasShape (ShapeOf.Month m) text = (length text ≡ 7) × PartAfter 4 (byte "-") m text
+HasShape (ShapeOf.Day m d) text = (length text ≡ 10) × PartAfter 4 (byte "-") m text × PartAfter 7 (byte "-") d text
+HasShape (ShapeOf.Week w) text = (length text ≡ 8) × WeekAfter w text
+HasShape (ShapeOf.Weekday w d) text = (length text ≡ 10) × WeekAfter w text × ByteAt 8 (byte "-") text × DigitAt 9 d text
 HasShape (ShapeOf.Quarter q) text =
     (length text ≡ 7) × ByteAt 4 (byte "-") text × ByteAt 5 (byte "Q") text × DigitAt 6 q text
-HasShape (ShapeOf.Hour m d h) text = (length text ≡ 13) × MonthAt m text × DayAt d text × HourAt h text
+HasShape (ShapeOf.Hour m d h) text =
+    (length text ≡ 13) × PartAfter 4 (byte "-") m text × PartAfter 7 (byte "-") d text × PartAfter 10 (byte "T") h text
 HasShape (ShapeOf.Minute m d h i) text =
-    (length text ≡ 16) × MonthAt m text × DayAt d text × HourAt h text × MinuteAt i text
+    (length text ≡ 16) × PartAfter 4 (byte "-") m text × PartAfter 7 (byte "-") d text
+    × PartAfter 10 (byte "T") h text × PartAfter 13 (byte ":") i text
 HasShape (ShapeOf.Second m d h i s) text =
-    (length text ≡ 19) × MonthAt m text × DayAt d text × HourAt h text × MinuteAt i text × SecondAt s text
+    (length text ≡ 19) × PartAfter 4 (byte "-") m text × PartAfter 7 (byte "-") d text
+    × PartAfter 10 (byte "T") h text × PartAfter 13 (byte ":") i text × PartAfter 16 (byte ":") s text
 
 -- the text begins with the year, and has the shape
 abbrev pub SpellsByPlace : Year → Shape → List ℕ → Type 0
