@@ -1,6 +1,6 @@
 //! Bounds of times.
 ghost use Rattle.std.specs.Prelude.{option_map, ◌≡◌};
-ghost use Rattle.timex_dates.specs.Answers.{BoundsOf, CalendarBounds, IsCivil, ModifiedBounds};
+ghost use Rattle.timex_dates.specs.Answers.{BoundsOf, HasBounds, IsCivil, calendar_precision, modified_precision};
 ghost use Rattle.timex_dates.specs.KnownParts as parts;
 ghost use Rattle.timex_dates.specs.KnownParts.{Belongs};
 ghost use Rattle.timex_dates.specs.Valid.{HasParts};
@@ -16,7 +16,7 @@ use timex_value::{Calendar, Modifier, Shape, TimexKind, Value, Year};
 fn modified(modifier: Option<Modifier>, year: Year, shape: Shape) -> Bounds
     requires year { HasYear year }
     requires parts { HasParts year shape }
-    ensures bounds { ModifiedBounds modifier (parts.is_whole year shape) (Belongs year shape) result }
+    ensures bounds { HasBounds (modified_precision modifier (parts.is_whole year shape)) (Belongs year shape) result }
     ensures civil { IsCivil result }
 {
     let Interval { lo, hi } = interval_of(year, shape);
@@ -49,7 +49,11 @@ fn fields_of(calendar: &Calendar) -> (Year, Shape)
 }
 
 fn calendar_bounds(modifier: Option<Modifier>, calendar: &Calendar) -> Bounds
-    ensures bounds { CalendarBounds modifier (values.year_of calendar.now) (values.shape_of calendar.now) result }
+    ensures bounds {
+        let year = values.year_of calendar.now in
+        let shape = values.shape_of calendar.now in
+        HasBounds (calendar_precision modifier year shape) (Belongs year shape) result
+    }
     ensures civil { IsCivil result }
 {
     let (year, shape) = fields_of(calendar);
