@@ -1,7 +1,6 @@
 -- Texts of durations, as `P1Y2M3DT4H5M6S`.
 use Rattle.std.specs.Prelude.{◌≡◌, ℕ, ◌⊎◌, Bool, true, false, ◌||◌, List, [], ◌∷◌, ◌++◌, length, codes, IsTrue, IsFalse}
 use Rattle.std.specs.Int.{IsInRange}
-use Rattle.std.specs.Str.{byte}
 use Rattle.std.specs.Str.Parse.{AllDigits, digits_value}
 use Rattle.timex_value.specs.declared.length.Count.{Count}
 use Rattle.timex_value.specs.declared.length.Count.TheVariants.{Absent, Number, Unknown}
@@ -19,18 +18,20 @@ CountText unit Unknown text = text ≡ codes "X" ++ (unit ∷ [])
 abbrev pub CountThen : ℕ → Count → List ℕ → List ℕ → Type 0
 CountThen unit count text rest = (prefix : List ℕ) × CountText unit count prefix × (text ≡ prefix ++ rest)
 
+-- counts with these units in their order, and then the rest
+abbrev pub CountsThen : List ℕ → List Count → List ℕ → List ℕ → Type 0
+CountsThen [] [] text rest = text ≡ rest
+CountsThen (unit ∷ units) (count ∷ counts) text rest =
+    (next : List ℕ) × CountThen unit count text next × CountsThen units counts next rest
+CountsThen units counts text rest = ⊥
+
 -- years, months, weeks and days, and then the rest
 abbrev pub DateThen : Count → Count → Count → Count → List ℕ → List ℕ → Type 0
-DateThen years months weeks days text rest =
-    (a : List ℕ) × (b : List ℕ) × (c : List ℕ)
-    × CountThen (byte "Y") years text a × CountThen (byte "M") months a b
-    × CountThen (byte "W") weeks b c × CountThen (byte "D") days c rest
+DateThen years months weeks days = CountsThen (codes "YMWD") (years ∷ months ∷ weeks ∷ days ∷ [])
 
 -- hours, minutes and seconds, and then the rest
 abbrev pub ClockThen : Count → Count → Count → List ℕ → List ℕ → Type 0
-ClockThen hours minutes seconds text rest =
-    (a : List ℕ) × (b : List ℕ)
-    × CountThen (byte "H") hours text a × CountThen (byte "M") minutes a b × CountThen (byte "S") seconds b rest
+ClockThen hours minutes seconds = CountsThen (codes "HMS") (hours ∷ minutes ∷ seconds ∷ [])
 
 -- a number or an X is written
 abbrev pub is_present : Count → Bool
