@@ -1,5 +1,5 @@
 -- Counts of a duration are read in one way.
-use Rattle.std.proofs.Common.{◌≡◌, ◌≢◌, ℕ, ◌+◌, ◌<◌, Bool, true, false, cond, ◌||◌, ◌==◌, if◌then◌else◌, List, [], ◌∷◌, ◌++◌, length, take, drop, append_assoc, one-add, refl, sym, ap, ◌∙◌, subst, arith}
+use Rattle.std.proofs.Common.{◌≡◌, ◌≢◌, ◌⊎◌, inl, inr, ℕ, ◌+◌, ◌<◌, Bool, true, false, cond, ◌||◌, ◌==◌, if◌then◌else◌, List, [], ◌∷◌, ◌++◌, length, take, drop, append_assoc, one-add, refl, sym, ap, ◌∙◌, subst, arith}
 use Rattle.std.proofs.lemmas.Bool.Decides.{nat_tests}
 use Rattle.std.proofs.lemmas.List.{take_at, drop_at, take-append-drop}
 use Rattle.std.specs.List.{prefix_len}
@@ -31,12 +31,15 @@ pub digits_end : (xs : List ℕ) (u : ℕ) (rest : List ℕ) → AllDigits 10 xs
 digits_end [] u rest h n = rw n refl
 digits_end (x ∷ xs) u rest h n = rw (digit_is x h.0, digits_end xs u rest h.1 n) (omega arith)
 
+number_then : (u n : ℕ) (text rest : List ℕ) (h : CountThen u (Number n) text rest) → text ≡ h.1.0 ++ (u ∷ rest)
+number_then u n text rest h = h.2 ∙ (ap (λ (x : List ℕ). x ++ rest) h.1.4 ∙ append_assoc h.1.0 (u ∷ []) rest)
+
 -- a number and its unit are the longest prefix of digits and what follows it
 pub number_read : (u n : ℕ) (text rest : List ℕ) → is_ascii_digit u ≡ false → CountThen u (Number n) text rest
     → IsInRange 1 9 (prefix_len is_ascii_digit text) × (drop (prefix_len is_ascii_digit text) text ≡ u ∷ rest) × (n ≡ digits_value 10 (take (prefix_len is_ascii_digit text) text))
 number_read u n text rest hu h =
     let digits = h.1.0 in
-    let e : text ≡ digits ++ (u ∷ rest) = h.2 ∙ (ap (λ (x : List ℕ). x ++ rest) h.1.4 ∙ append_assoc digits (u ∷ []) rest) in
+    let e = number_then u n text rest h in
     let len : prefix_len is_ascii_digit text ≡ length digits = ap (λ (x : List ℕ). prefix_len is_ascii_digit x) e ∙ digits_end digits u rest h.1.1 hu in
     rw (len, e, take_at digits (u ∷ rest) (length digits) refl, drop_at digits (u ∷ rest) (length digits) refl) (h.1.2, refl, h.1.3)
 
@@ -84,43 +87,34 @@ unit_past_x : (text : List ℕ) → unit_at (byte "X" ∷ text) ≡ unit_at text
 unfolding unit_at
 unit_past_x text = refl
 
-no_number : (n : ℕ) → Number n ≢ Absent
-no_number n e = absurd cc
-
-no_x : Unknown ≢ Absent
-no_x e = absurd cc
-
--- a count is known by its unit
-pub unit_of_count : (u : ℕ) (c : Count) (text rest : List ℕ) → is_mark u ≡ false → CountThen u c text rest → c ≢ Absent → unit_at text ≡ u
-unit_of_count u Absent text rest m h some = absurd (some refl)
-unit_of_count u (Number n) text rest m h some =
-    let digits = h.1.0 in
-    let e : text ≡ digits ++ (u ∷ rest) = h.2 ∙ (ap (λ (x : List ℕ). x ++ rest) h.1.4 ∙ append_assoc digits (u ∷ []) rest) in
-    ap unit_at e ∙ (unit_past digits (u ∷ rest) h.1.1 ∙ unit_here u rest m)
-unit_of_count u Unknown text rest m h some =
-    let e : text ≡ byte "X" ∷ u ∷ rest = h.2 ∙ ap (λ (x : List ℕ). x ++ rest) h.1 in
-    ap unit_at e ∙ (unit_past_x (u ∷ rest) ∙ unit_here u rest m)
-
 absent_then : (u : ℕ) (text rest : List ℕ) → CountThen u Absent text rest → text ≡ rest
 absent_then u text rest h = h.2 ∙ ap (λ (x : List ℕ). x ++ rest) h.1
 
+x_then : (u : ℕ) (text rest : List ℕ) → CountThen u Unknown text rest → text ≡ byte "X" ∷ u ∷ rest
+x_then u text rest h = h.2 ∙ ap (λ (x : List ℕ). x ++ rest) h.1
+
+-- a count is absent, or it is known by its unit
+unit_or_rest : (u : ℕ) (c : Count) (text rest : List ℕ) → is_mark u ≡ false → CountThen u c text rest → ((c ≡ Absent) × (text ≡ rest)) ⊎ (unit_at text ≡ u)
+unit_or_rest u Absent text rest m h = inl (refl, absent_then u text rest h)
+unit_or_rest u (Number n) text rest m h =
+    inr (ap unit_at (number_then u n text rest h) ∙ (unit_past h.1.0 (u ∷ rest) h.1.1 ∙ unit_here u rest m))
+unit_or_rest u Unknown text rest m h = inr (ap unit_at (x_then u text rest h) ∙ (unit_past_x (u ∷ rest) ∙ unit_here u rest m))
+
 -- before a count of one unit no other unit comes, unless it comes after it
 pub unit_before : (u v : ℕ) (c : Count) (text rest : List ℕ) → is_mark u ≡ false → u ≢ v → CountThen u c text rest → unit_at rest ≢ v → unit_at text ≢ v
-unit_before u v Absent text rest m other h end = λ e. end (ap unit_at (sym (absent_then u text rest h)) ∙ e)
-unit_before u v (Number n) text rest m other h end = λ e. other (sym (unit_of_count u (Number n) text rest m h (no_number n)) ∙ e)
-unit_before u v Unknown text rest m other h end = λ e. other (sym (unit_of_count u Unknown text rest m h no_x) ∙ e)
+unit_before u v c text rest m other h end = λ e. elim (unit_or_rest u c text rest m h) [
+  | inl a ↦ end (ap unit_at (sym a.1) ∙ e)
+  | inr p ↦ other (sym p ∙ e)
+]
 
 -- a count is read so where its unit does not come again
 pub reads_count : (u : ℕ) (c : Count) (text rest : List ℕ) → is_mark u ≡ false → CountThen u c text rest → unit_at rest ≢ u → ReadsCount u c text rest
 reads_count u c text rest m h end = record {
   then = h;
-  other = λ e d after k.
-      let same : text ≡ rest = absent_then u text rest (subst (λ x. CountThen u x text rest) e h) in
-      elim d as (λ x. CountThen u x text after → x ≡ Absent) [
-        | Absent ↦ λ p. refl
-        | Number n ↦ λ p. absurd (end (ap unit_at (sym same) ∙ unit_of_count u (Number n) text after m p (no_number n)))
-        | Unknown ↦ λ p. absurd (end (ap unit_at (sym same) ∙ unit_of_count u Unknown text after m p no_x))
-      ] k;
+  other = λ e d after k. elim (unit_or_rest u d text after m k) [
+    | inl a ↦ a.0
+    | inr p ↦ absurd (end (ap unit_at (sym (absent_then u text rest (subst (λ x. CountThen u x text rest) e h))) ∙ p))
+  ];
 }
 
 pub tail_is : {a b : ℕ} {xs ys : List ℕ} → (a ∷ xs) ≡ (b ∷ ys) → xs ≡ ys
@@ -129,24 +123,24 @@ tail_is e = cc
 x_or_number : (u n : ℕ) (text r s : List ℕ) → is_ascii_digit u ≡ false → CountThen u (Number n) text r → CountThen u Unknown text s → ⊥
 x_or_number u n text r s m h k =
     let p = number_read u n text r m h in
-    let q : text ≡ byte "X" ∷ u ∷ s = k.2 ∙ ap (λ (x : List ℕ). x ++ s) k.1 in
-    let none : prefix_len is_ascii_digit text ≡ 0 = ap (λ (x : List ℕ). prefix_len is_ascii_digit x) q in
+    let none : prefix_len is_ascii_digit text ≡ 0 = ap (λ (x : List ℕ). prefix_len is_ascii_digit x) (x_then u text s k) in
     omega arith
+
+-- where no count is, there is none
+absent_once : (u : ℕ) (d : Count) (text r s : List ℕ) → ReadsCount u Absent text r → CountThen u d text s → (Absent ≡ d) × (r ≡ s)
+absent_once u d text r s h k =
+    let e = h.other refl d s k in
+    (sym e, sym (absent_then u text r h.then) ∙ absent_then u text s (subst (λ x. CountThen u x text s) e k))
 
 -- a count is read in one way
 pub same_count : (u : ℕ) (c d : Count) (text r s : List ℕ) → is_ascii_digit u ≡ false → ReadsCount u c text r → ReadsCount u d text s → (c ≡ d) × (r ≡ s)
-same_count u Absent Absent text r s n h k = (refl, sym (absent_then u text r h.then) ∙ absent_then u text s k.then)
-same_count u Absent (Number b) text r s n h k = absurd (no_number b (h.other refl (Number b) s k.then))
-same_count u Absent Unknown text r s n h k = absurd (no_x (h.other refl Unknown s k.then))
-same_count u (Number a) Absent text r s n h k = absurd (no_number a (k.other refl (Number a) r h.then))
+same_count u Absent d text r s n h k = absent_once u d text r s h k.then
+same_count u (Number a) Absent text r s n h k = let e = absent_once u (Number a) text s r k h.then in (sym e.0, sym e.1)
+same_count u Unknown Absent text r s n h k = let e = absent_once u Unknown text s r k h.then in (sym e.0, sym e.1)
 same_count u (Number a) (Number b) text r s n h k =
     let p = number_read u a text r n h.then in
     let q = number_read u b text s n k.then in
     (ap Number (p.2 ∙ sym q.2), tail_is (sym p.1 ∙ q.1))
 same_count u (Number a) Unknown text r s n h k = absurd (x_or_number u a text r s n h.then k.then)
-same_count u Unknown Absent text r s n h k = absurd (no_x (k.other refl Unknown r h.then))
 same_count u Unknown (Number b) text r s n h k = absurd (x_or_number u b text s r n k.then h.then)
-same_count u Unknown Unknown text r s n h k =
-    let p : text ≡ byte "X" ∷ u ∷ r = h.then.2 ∙ ap (λ (x : List ℕ). x ++ r) h.then.1 in
-    let q : text ≡ byte "X" ∷ u ∷ s = k.then.2 ∙ ap (λ (x : List ℕ). x ++ s) k.then.1 in
-    (refl, tail_is (tail_is (sym p ∙ q)))
+same_count u Unknown Unknown text r s n h k = (refl, tail_is (tail_is (sym (x_then u text r h.then) ∙ x_then u text s k.then)))
