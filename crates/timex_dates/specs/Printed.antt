@@ -13,7 +13,8 @@ civil_year y = if nat_lt y 10_000 then digits4 y else codes "1" ++ digits4 (y - 
 abbrev pub printed : ℕ → ℕ → ℕ → ℕ → List ℕ
 printed y m d clock =
     civil_year y ++ codes "-" ++ digits2 m ++ codes "-" ++ digits2 d
-    ++ codes "T" ++ digits2 (clock / 3600) ++ codes ":" ++ digits2 (clock / 60 % 60) ++ codes ":" ++ digits2 (clock % 60)
+    ++ codes "T" ++ digits2 (clock / 3600) ++ codes ":" ++ digits2 (clock / 60 % 60)
+    ++ codes ":" ++ digits2 (clock % 60)
 
 -- the bytes are the text of the date and the time of the second
 abbrev pub IsPrinted : ℕ → List ℕ → Type 0

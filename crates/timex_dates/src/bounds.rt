@@ -65,8 +65,8 @@ fn calendar_bounds(modifier: Option<Modifier>, calendar: &Calendar) -> Bounds
 
 /// When a time begins and ends, by its kind, its modifier and its value. A value without `X` and without a modifier has
 /// exact bounds. With START, MID or END the time lies within them, and so it does where the value has an `X`: then they
-/// are those of the part before the first `X`. With any other modifier, for a duration or a set, without a calendar value,
-/// and where the year is all `X`, the bounds are unspecified.
+/// are those of the part before the first `X`. With any other modifier, for a duration or a set, without a calendar
+/// value, and where the year is all `X`, the bounds are unspecified.
 pub fn bounds_of(kind: TimexKind, modifier: Option<Modifier>, value: Option<&Value>) -> Bounds
     ensures bounds { BoundsOf kind modifier (option_map (λ v. v.now) value.entry) result }
     ensures civil { IsCivil result }

@@ -40,7 +40,8 @@ HasShape ShapeOf.Year text = length text ≡ 4
 HasShape (ShapeOf.Month m) text = (length text ≡ 7) × PartAfter 4 (byte "-") m text
 HasShape (ShapeOf.Day m d) text = (length text ≡ 10) × PartAfter 4 (byte "-") m text × PartAfter 7 (byte "-") d text
 HasShape (ShapeOf.Week w) text = (length text ≡ 8) × WeekAfter w text
-HasShape (ShapeOf.Weekday w d) text = (length text ≡ 10) × WeekAfter w text × ByteAt 8 (byte "-") text × DigitAt 9 d text
+HasShape (ShapeOf.Weekday w d) text =
+    (length text ≡ 10) × WeekAfter w text × ByteAt 8 (byte "-") text × DigitAt 9 d text
 HasShape (ShapeOf.Quarter q) text =
     (length text ≡ 7) × ByteAt 4 (byte "-") text × ByteAt 5 (byte "Q") text × DigitAt 6 q text
 HasShape (ShapeOf.Hour m d h) text =

@@ -254,6 +254,21 @@ fn durations_have_their_counts(rt: HostRuntime) {
     }
 }
 
+#[test]
+fn years_have_their_ranges(rt: HostRuntime) {
+    let cases: [(Year, (u16, u16)); 6] = [
+        (Year::Known(1998), (1998, 1998)),
+        (Year::Decade(199), (1990, 1999)),
+        (Year::Century(19), (1900, 1999)),
+        (Year::Decade(0), (1, 9)),
+        (Year::Century(0), (1, 99)),
+        (Year::Unknown, (1, 9999)),
+    ];
+    for (year, want) in cases {
+        assert_eq!(rt; year.range(), want);
+    }
+}
+
 /// The text of the 53rd week of a year.
 fn week_53(year: u16) -> [u8; 8] {
     let digit = |n: u16| b'0' + (n % 10) as u8;
