@@ -47,7 +47,7 @@ abbrev pub ClockText : Count → Count → Count → List ℕ → Type 0
 ClockText hours minutes seconds text =
     (IsFalse (has_clock hours minutes seconds) × (text ≡ []))
     ⊎ (IsTrue (has_clock hours minutes seconds)
-      × ((timed : List ℕ) × (text ≡ codes "T" ++ timed) × ClockThen hours minutes seconds timed []))
+    × ((timed : List ℕ) × (text ≡ codes "T" ++ timed) × ClockThen hours minutes seconds timed []))
 
 -- at least one count is written
 abbrev pub is_length : Length → Bool
