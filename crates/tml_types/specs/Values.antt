@@ -5,18 +5,14 @@ use Rattle.std.specs.Str.{bytes_eq}
 use Rattle.named.specs.Texts.{named_of}
 use Rattle.net_core.specs.Rels.{rel_text, all_rels}
 use Rattle.timex_value.specs.Kinds.{kind_text, all_kinds, modifier_text, all_modifiers}
+use Rattle.tml_span.specs.Bytes.{is_digit, is_from_to, is_in}
 use Rattle.tml_span.specs.Units.{Attribute}
 use Rattle.tml_types.specs.Listed as listed
 use Rattle.tml_types.specs.Table as form
 
--- a byte is in one of these ranges, each given by its first and its last byte
-abbrev pub is_in_ranges : List ℕ → ℕ → Bool
-is_in_ranges (first ∷ last ∷ ranges) b = (nat_le first b && nat_le b last) || is_in_ranges ranges b
-is_in_ranges ranges b = false
-
 -- an ASCII letter, a digit, `_`, `-` or `.`
 abbrev pub is_id_byte : ℕ → Bool
-is_id_byte b = is_in_ranges (codes "AZaz09") b || list_any (nat_eq b) (codes "_-.")
+is_id_byte b = is_from_to (codes "AZ") b || is_from_to (codes "az") b || is_digit b || is_in (codes "_-.") b
 
 -- an identifier has 1 to 64 bytes
 abbrev pub is_id_len : ℕ → Bool
