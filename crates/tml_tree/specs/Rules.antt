@@ -51,11 +51,11 @@ abbrev pub is_unbalanced : History → Kind → Bool
 is_unbalanced h (end_tag name) = not (is_innermost name h.names)
 is_unbalanced h kind = false
 
--- outside the root and inside a link tag a text is white space alone
+-- a text other than white space, outside the root or inside a link tag
 abbrev pub is_misplaced_text : History → List ℕ → Bool
 is_misplaced_text h bytes = not (list_all is_white bytes) && (is_nil h.names || list_any is_link h.names)
 
--- no tag begins inside a link tag, a first tag is a TimeML, none follows the root, and no TimeML is inside another
+-- a tag inside a link tag, a first tag other than TimeML, any tag after the root, and TimeML where a tag is open
 abbrev pub is_misplaced_tag : History → List ℕ → Bool
 is_misplaced_tag h name = list_any is_link h.names || not h.tagged && not (is_root name) || h.seen || not (is_nil h.names) && is_root name
 

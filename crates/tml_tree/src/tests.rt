@@ -1,5 +1,6 @@
 //! Faults of small documents, and one tree.
-use crate::{Node, Tag, TagName, TreeFault, tree};
+use crate::{Node, Tag, TagName, TreeFault, tree, tree_of};
+use faults::FaultKind;
 use std::alloc::{AllocError, Global};
 use std::process::Abort;
 use std::test::Fail;
@@ -49,6 +50,34 @@ fn faults(rt: HostRuntime) -> Result<(), Fail> {
     ];
     for (doc, fault) in rows.iter() {
         assert_eq!(&rt; fault_of(&rt, doc), *fault);
+    }
+    Ok(())
+}
+
+#[test]
+fn faults_of_sources(rt: HostRuntime) -> Result<(), Fail> {
+    let rows: [(&'static [u8], FaultKind, u32); 6] = [
+        (b"<TimeML><FOO/>&x</TimeML>", FaultKind::BadReference, 14),
+        (
+            b"<TimeML><FOO/><P a='&#;' b='&'/></TimeML>",
+            FaultKind::BadReference,
+            20,
+        ),
+        (b"<TimeML><FOO/><P a='&'", FaultKind::BadMarkup, 14),
+        (
+            b"<TimeML><FOO/><P a='&lt;' b='&#x1F;'/></TimeML>",
+            FaultKind::UnknownTag,
+            8,
+        ),
+        (b"<TimeML>\xFF", FaultKind::NotUtf8, 8),
+        (b"<TimeML>", FaultKind::Unclosed, 8),
+    ];
+    for (doc, kind, place) in rows.iter() {
+        assert!(&rt; doc.len() < 1000);
+        match tree_of(rt.alloc(), doc) {
+            Ok(_) => panic!(&rt; "the source has a fault"),
+            Err(fault) => assert_eq!(&rt; fault.kind_and_place(), Some((*kind, *place))),
+        }
     }
     Ok(())
 }
