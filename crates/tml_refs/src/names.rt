@@ -1,168 +1,214 @@
-//! The identifiers of a document, and the tags that have them.
-ghost use Rattle.std.specs.Map.{lookup};
-ghost use Rattle.std.specs.Prelude.{◌≡◌, ◌||◌, [], ℕ, List, Some, IfOk, IfSome, IsSome, OnOk, option_map, true, if◌then◌else◌};
-ghost use Rattle.std.specs.Str.{bytes_eq};
-ghost use Rattle.tml_refs.specs.Owning.{is_found, is_lost, number_in, owns, with_tag};
-ghost use Rattle.tml_refs.specs.Tags.{end_reference, optional, reference};
+//! The names of a document: which tags have which identifiers.
+ghost use Rattle.std.specs.Option.{is_some, is_none};
 ghost use Rattle.std.specs.List.{list_any};
+ghost use Rattle.std.specs.Prelude.{◌≡◌, ◌<◌, ◌≤◌, ◌^◌, ◌||◌, ℕ, length, map, not, IfOk, IfSome};
+ghost use Rattle.tml_refs.specs.Naming as naming;
+ghost use Rattle.tml_refs.specs.Naming.{AreNamesOf, Finds, FindsInterval, Repeats, is_listed, is_unlisted};
+ghost use Rattle.tml_types.specs.References.{optional_reference, reference};
+ghost use Rattle.tml_types.specs.View.{end_of, text_of, typed_of};
 
-use net_core::Memory;
+use crate::document::DocLink;
+use net_core::{Memory, Rel};
 use std::alloc::Global;
-use std::collections::BTreeMap;
 use std::marker::Model;
-use tml_types::{LinkEnd, TypedTag};
+use tml_types::{LinkEnd, TagKind, TypedTag};
 
-/// A kind of tag that can be referred to.
-#[derive(Clone, Copy, Debug, PartialEq, Eq)]
-pub enum Target {
-    Event,
-    Instance,
-    Timex,
-    Signal,
+/// A kind of tag and an identifier. The first bytes of the identifier, as a number, are compared first, since numbers
+/// are compared faster than slices.
+#[derive(Clone, Copy, Debug, PartialEq, Eq, PartialOrd, Ord)]
+pub struct Key<'s> {
+    head: u64,
+    name: &'s [u8],
+    rank: u8,
 }
 
-/// The tags that have one identifier, by kind. In a document without fault there is one at most. Of an interval it
-/// keeps the number.
-#[derive(Clone, Copy, Debug, PartialEq, Eq)]
-pub struct Owners {
-    event: bool,
-    signal: bool,
-    instance: Option<u32>,
-    timex: Option<u32>,
-}
-
-impl Owners {
-    /// No tag that can be referred to.
-    pub const NONE: Owners = Owners {
-        event: false,
-        signal: false,
-        instance: None,
-        timex: None,
-    };
-
-    /// These tags and one more. Where that is an interval, it has this number.
-    pub fn with(self, tag: &TypedTag<'_>, number: u32) -> Owners
-        ensures { result ≡ with_tag tag.now number self }
+impl<'s> Key<'s> {
+    fn new(kind: TagKind, name: &'s [u8]) -> Key<'s>
+        ensures head { result.head ≡ naming.head_of name.now }
+        ensures name { result.name.now ≡ name.now }
+        ensures rank { result.rank ≡ naming.rank_of kind }
     {
-        match tag {
-            TypedTag::Event { .. } => Owners {
-                event: true,
-                ..self
-            },
-            TypedTag::Instance { .. } => Owners {
-                instance: Some(number),
-                ..self
-            },
-            TypedTag::Timex { .. } => Owners {
-                timex: Some(number),
-                ..self
-            },
-            TypedTag::Signal { .. } => Owners {
-                signal: true,
-                ..self
-            },
-            TypedTag::Tlink { .. } | TypedTag::Alink { .. } | TypedTag::Slink { .. } => self,
-        }
-    }
-
-    fn has(self, asked: Target) -> bool
-        ensures { result ≡ owns asked self }
-    {
-        match asked {
-            Target::Event => self.event,
-            Target::Instance => self.instance.is_some(),
-            Target::Timex => self.timex.is_some(),
-            Target::Signal => self.signal,
+        Key {
+            head: head_of(name),
+            name,
+            rank: rank_of(kind),
         }
     }
 }
 
-/// Names in their order, each with the tags that have it.
+/// The first eight bytes of a name, as a number.
+fn head_of(name: &[u8]) -> u64
+    ensures { result ≡ naming.head_of name.now }
+{
+    let mut head: u64 = 0;
+    for byte in name.iter().take(8) {
+        head = head.wrapping_mul(256).wrapping_add(u64::from(*byte));
+    }
+    head
+}
+
+/// The number of a kind of tag, in the order of the variants.
+fn rank_of(kind: TagKind) -> u8
+    ensures { result ≡ naming.rank_of kind }
+{
+    kind as u8
+}
+
+/// A tag that has an identifier.
+#[derive(Clone, Copy, Debug, PartialEq, Eq, PartialOrd, Ord)]
+pub struct Entry<'s> {
+    key: Key<'s>,
+    /// How many tags stand before it.
+    at: u32,
+    /// How many intervals stand before it. Where it is an interval, this is its number.
+    number: u32,
+}
+
+/// The tags of a document that have identifiers, ordered by these and, of one identifier, by their kinds.
 #[derive(Drop)]
 pub struct Names<'s> {
-    owners: BTreeMap<&'s [u8], Owners>,
+    entries: Vec<Entry<'s>>,
 }
 
 impl<'s> Model for Names<'s> {
-    ghost use Rattle.std.specs.Prelude.{List, ℕ, map};
-    ghost use Rattle.tml_refs.specs.Pairs.{pair_of};
-    ghost use Rattle.tml_refs.specs.declared.names.Owners.{Owners};
+    ghost use Rattle.std.specs.Prelude.{List};
+    ghost use Rattle.tml_refs.specs.Naming.{AreInOrder};
+    ghost use Rattle.tml_refs.specs.declared.names.Entry.{Entry};
 
-    ghost Value = { List (List ℕ × Owners) };
+    ghost Value = { List Entry };
 
-    ghost view = { λ a. map pair_of a.owners.entries };
+    ghost view = { λ a. a.entries.items };
+
+    ghost invariant = { λ a. AreInOrder a.entries.items };
 }
 
 impl<'s> Names<'s> {
-    /// No names. It takes no memory.
-    pub fn new(alloc: Global) -> Names<'s>
-        ensures { result ≡ [] }
+    /// The names of some tags, in n log n for n tags.
+    pub fn of_tags(alloc: Global, tags: &[TypedTag<'s>]) -> Result<Names<'s>, Memory>
+        requires { length tags.now < 2 ^ 32 }
+        ensures { IfOk result (AreNamesOf (map typed_of tags.now)) }
     {
-        Names {
-            owners: BTreeMap::new(alloc),
-        }
-    }
-
-    /// The tags that have a name.
-    pub fn get(&self, name: &'s [u8]) -> Option<Owners>
-        ensures { result ≡ lookup (bytes_eq name.now) self.now }
-    {
-        self.owners.get(&name).copied()
-    }
-
-    /// Gives a name these tags, and answers those that it had.
-    pub fn put(&mut self, name: &'s [u8], owners: Owners) -> Result<Option<Owners>, Memory>
-        ensures old { IfOk result (λ old. old ≡ lookup (bytes_eq name.now) self.old) }
-        ensures new { OnOk result ((q : List ℕ) → lookup (bytes_eq q) self.new ≡ (if bytes_eq name.now q then Some owners else lookup (bytes_eq q) self.old)) }
-    {
-        let Ok(old) = self.owners.insert(name, owners) else {
+        let Ok(mut entries) = entries_of(alloc, tags) else {
             return Err(Memory);
         };
-        Ok(old)
+        entries.sort_unstable();
+        Ok(Names { entries })
+    }
+
+    /// The least place in the list of tags at which a tag has the identifier of a tag before it. Where there is none, it
+    /// is the number of tags.
+    pub fn first_repeat(&self, tags: usize) -> usize
+        ensures at_most { result ≤ tags }
+        ensures none_before { (place : ℕ) → Repeats self.now place → result ≤ place }
+        ensures here { result < tags → Repeats self.now result }
+    {
+        let entries = self.entries.as_slice();
+        let [head, ..] = entries else {
+            return tags;
+        };
+        let mut first = tags;
+        // The least place of a tag that has the identifier of the last entry.
+        let mut least = head.at as usize;
+        for i in 1..entries.len() {
+            let at = entries[i].at as usize;
+            if entries[i - 1].key.name == entries[i].key.name {
+                first = first.min(least.max(at));
+                least = least.min(at);
+            } else {
+                least = at;
+            }
+        }
+        first
+    }
+
+    /// How many intervals stand before the tag of this kind and name, or none where there is no such tag. It takes time
+    /// in log n for n tags.
+    pub fn number_of(&self, kind: TagKind, name: &[u8]) -> Option<u32>
+        ensures listed { is_some result ≡ is_listed self.now (reference kind name.now) }
+        ensures number { IfSome result (Finds self.now (reference kind name.now)) }
+    {
+        let key = Key::new(kind, name);
+        let entries = self.entries.as_slice();
+        match entries.binary_search_by(|entry| entry.key.cmp(&key)) {
+            Ok(i) => Some(entries[i].number),
+            Err(_) => None,
+        }
     }
 
     /// No tag of this kind has the name.
-    pub fn lacks(&self, asked: Target, name: &'s [u8]) -> bool
-        ensures { result ≡ is_lost self.now (reference asked name.entry) }
+    pub fn lacks(&self, kind: TagKind, name: &[u8]) -> bool
+        ensures { result ≡ is_unlisted self.now (reference kind name.now) }
     {
-        match self.get(name) {
-            Some(owners) => !owners.has(asked),
-            None => true,
-        }
+        self.number_of(kind, name).is_none()
     }
 
     /// There is a name, and no tag of this kind has it.
-    pub fn lacks_some(&self, asked: Target, name: Option<&'s [u8]>) -> bool
-        ensures { result ≡ list_any (is_lost self.now) (optional asked name.entry) }
+    pub fn lacks_optional(&self, kind: TagKind, name: Option<&[u8]>) -> bool
+        ensures { result ≡ list_any (is_unlisted self.now) (optional_reference kind (text_of name)) }
     {
         match name {
-            Some(name) => self.lacks(asked, name),
+            Some(name) => self.lacks(kind, name),
             None => false,
         }
     }
 
-    /// What an end of a link refers to is not there.
-    pub fn lacks_end(&self, end: LinkEnd<'s>) -> bool
-        ensures { result ≡ is_lost self.now (end_reference end.entry) }
+    /// The number of the interval at an end of a link.
+    pub fn end(&self, end: LinkEnd<'_>) -> Option<u32>
+        ensures listed { is_some result ≡ is_listed self.now (end_of end.entry) }
+        ensures number { IfSome result (FindsInterval self.now (end_of end.entry)) }
     {
         match end {
-            LinkEnd::Instance(name) => self.lacks(Target::Instance, name),
-            LinkEnd::Time(name) => self.lacks(Target::Timex, name),
+            LinkEnd::Instance(name) => self.number_of(TagKind::Instance, name),
+            LinkEnd::Time(name) => self.number_of(TagKind::Timex, name),
         }
     }
 
-    /// The number of the interval that an end of a link refers to.
-    pub fn number_of(&self, end: LinkEnd<'s>) -> u32
-        requires { is_found self.now (end_reference end) ≡ true }
-        ensures { number_in self.now end.entry ≡ Some result }
+    /// The link between two ends, or none where one of them is to no tag.
+    pub fn link(&self, left: LinkEnd<'_>, rel: Rel, right: LinkEnd<'_>) -> Option<DocLink>
+        ensures none { is_none result ≡ (is_unlisted self.now (end_of left.entry) || is_unlisted self.now (end_of right.entry)) }
+        ensures left { IfSome result (λ link. FindsInterval self.now (end_of left.entry) link.a) }
+        ensures rel { IfSome result (λ link. link.rel ≡ rel) }
+        ensures right { IfSome result (λ link. FindsInterval self.now (end_of right.entry) link.b) }
     {
-        let number = match end {
-            LinkEnd::Instance(name) => self.get(name).and_then(|owners| owners.instance),
-            LinkEnd::Time(name) => self.get(name).and_then(|owners| owners.timex),
+        let Some(a) = self.end(left) else {
+            return None;
         };
-        match number {
-            Some(number) => number,
-            None => unreachable!(),
-        }
+        let Some(b) = self.end(right) else {
+            return None;
+        };
+        Some(DocLink { a, rel, b })
     }
+}
+
+/// An entry for each tag that has an identifier.
+fn entries_of<'s>(alloc: Global, tags: &[TypedTag<'s>]) -> Result<Vec<Entry<'s>>, Memory>
+    requires { length tags.now < 2 ^ 32 }
+    ensures { IfOk result (λ entries. AreNamesOf (map typed_of tags.now) entries.items) }
+{
+    let Ok(mut entries) = Vec::with_capacity(alloc, tags.len()) else {
+        return Err(Memory);
+    };
+    let mut number = 0;
+    for (at, tag) in tags.iter().enumerate() {
+        if let Some(name) = tag.id() {
+            let key = Key::new(tag.kind(), name);
+            let entry = Entry {
+                key,
+                at: at as u32,
+                number,
+            };
+            if entries.push(entry).is_err() {
+                return Err(Memory);
+            }
+        }
+        number += u32::from(is_interval(tag));
+    }
+    Ok(entries)
+}
+
+/// The tag stands for an interval of time.
+fn is_interval(tag: &TypedTag<'_>) -> bool
+    ensures { result ≡ naming.is_interval (typed_of tag.now) }
+{
+    matches!(tag, TypedTag::Instance { .. } | TypedTag::Timex { .. })
 }
