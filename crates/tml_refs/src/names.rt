@@ -144,7 +144,7 @@ impl<'s> Names<'s> {
 
     /// There is a name, and no tag of this kind has it.
     pub fn lacks_optional(&self, kind: TagKind, name: Option<&[u8]>) -> bool
-        ensures { result ≡ list_any (is_unlisted self.now) (optional_reference kind (text_of name)) }
+        ensures { result ≡ list_any (is_unlisted self.now) (optional_reference kind (text_of name.entry)) }
     {
         match name {
             Some(name) => self.lacks(kind, name),

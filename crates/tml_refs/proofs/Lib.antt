@@ -1,0 +1,4 @@
+pub mod Lists
+pub mod Locating
+pub mod Documents
+pub mod OneAnswer
