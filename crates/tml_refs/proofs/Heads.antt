@@ -1,0 +1,25 @@
+-- The first bytes of a name as a number, byte by byte.
+use Rattle.std.proofs.Common.{◌≡◌, ℕ, suc, ◌+◌, ◌*◌, ◌%◌, ◌^◌, List, [], ◌∷◌, take, refl, sym, ap, subst, ◌∙◌, arith}
+use Rattle.tml_refs.specs.Naming.{number_from}
+
+pub number_none : (n : ℕ) → number_from n [] ≡ n
+unfolding number_from
+number_none n = refl
+
+number_more : (n m byte : ℕ) (bytes : List ℕ) → number_from n (take (suc m) (byte ∷ bytes)) ≡ number_from ((n * 256 % 2 ^ 64 + byte) % 2 ^ 64) (take m bytes)
+unfolding number_from
+number_more n m byte bytes = refl
+
+-- one byte more is taken, and those that are left complete the same number
+pub head_more : (n m k byte next all : ℕ) (bytes rest : List ℕ) → bytes ≡ byte ∷ rest → m + 1 ≡ k → next ≡ byte → number_from n (take k bytes) ≡ all
+    → number_from ((n * 256 % 2 ^ 64 + next) % 2 ^ 64) (take m rest) ≡ all
+head_more n m k byte next all bytes rest e f g h =
+    let size : k ≡ suc m = omega (arith, f) in
+    ap (λ (b : ℕ). number_from ((n * 256 % 2 ^ 64 + b) % 2 ^ 64) (take m rest)) g
+    ∙ sym (number_more n m byte rest)
+    ∙ sym (λ i. number_from n (take (size i) (e i)))
+    ∙ h
+
+-- no byte is left
+pub head_whole : (n k all : ℕ) (bytes : List ℕ) → take k bytes ≡ [] → number_from n (take k bytes) ≡ all → n ≡ all
+head_whole n k all bytes e h = sym (number_none n) ∙ sym (ap (number_from n) e) ∙ h

@@ -1,0 +1,48 @@
+-- The order of keys, which is total.
+use Rattle.std.proofs.Common.{◌≡◌, ℕ, false, List, refl, sym, ap, ◌∙◌}
+use mathlib.Core.Bool.{true≢false}
+use Rattle.std.specs.Cmp.Lexicographic.{bytes_decides, slice_cmp}
+use Rattle.std.specs.Ordering.{MatchOrdering, nat_cmp, is_eq, is_lt, ordering_then}
+use Rattle.std.specs.declared.cmp.Ordering.{Ordering}
+use Rattle.std.specs.declared.cmp.Ordering.TheVariants.{Less, Equal, Greater}
+use Rattle.std.specs.Cmp.{IsTotalOrder}
+use Rattle.std.proofs.lemmas.Cmp.{nat_cmp_total, nat_list_cmp_total, on_total, ranked, then_total, tied_itself}
+use Rattle.std.proofs.lemmas.Map.Text.{is_eq-slice_cmp}
+use Rattle.tml_refs.specs.declared.names.Key.{Key}
+use Rattle.tml_refs.specs.Naming.{key_order}
+
+pub key_total : IsTotalOrder key_order
+key_total =
+    then_total (on_total (λ (k : Key). k.head) nat_cmp_total)
+    (then_total (on_total (λ (k : Key). k.name.now) nat_list_cmp_total) (on_total (λ (k : Key). k.rank) nat_cmp_total))
+
+-- ---- keys that compare as equal
+
+then_equal : (a b : Ordering) → ordering_then a b ≡ Equal → (a ≡ Equal) × (b ≡ Equal)
+then_equal Less b e = absurd (true≢false (sym (ap is_eq e)))
+then_equal Equal b e = (refl, e)
+then_equal Greater b e = absurd (true≢false (sym (ap is_eq e)))
+
+equal_numbers : (x y : ℕ) → nat_cmp x y ≡ Equal → x ≡ y
+equal_numbers x y e = ranked x y Equal (sym e)
+
+equal_texts : (xs ys : List ℕ) → slice_cmp nat_cmp xs ys ≡ Equal → xs ≡ ys
+equal_texts xs ys same = (bytes_decides xs ys).0 (sym (is_eq-slice_cmp xs ys) ∙ ap is_eq same)
+
+pub equal_keys : (k l : Key) → key_order k l ≡ Equal → (k.name.now ≡ l.name.now) × (k.rank ≡ l.rank)
+equal_keys k l e =
+    let rest = then_equal _ _ (then_equal (nat_cmp k.head l.head) _ e).1 in
+    (equal_texts k.name.now l.name.now rest.0, equal_numbers k.rank l.rank rest.1)
+
+pub keys_equal : (k l : Key) → k.head ≡ l.head → k.name.now ≡ l.name.now → k.rank ≡ l.rank → key_order k l ≡ Equal
+keys_equal k l head name rank =
+    ap (λ (p : ℕ × List ℕ × ℕ). ordering_then (nat_cmp p.0 l.head) (ordering_then (slice_cmp nat_cmp p.1 l.name.now) (nat_cmp p.2 l.rank))) (λ i. (head i, name i, rank i))
+    ∙ tied_itself key_total l
+
+-- ---- parts of an order
+
+-- where two answers together are not less, the first is not
+pub first_not_less : (a b : Ordering) → is_lt (ordering_then a b) ≡ false → is_lt a ≡ false
+first_not_less Less b not_less = not_less
+first_not_less Equal b not_less = refl
+first_not_less Greater b not_less = refl
