@@ -2,6 +2,8 @@ pub mod Heads
 pub mod Orders
 pub mod Searches
 pub mod Indexes
+pub mod Runs
+pub mod Scanning
 pub mod Lists
 pub mod Locating
 pub mod Documents

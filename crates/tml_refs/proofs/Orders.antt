@@ -2,7 +2,7 @@
 use Rattle.std.proofs.Common.{◌≡◌, ℕ, false, List, refl, sym, ap, ◌∙◌}
 use mathlib.Core.Bool.{true≢false}
 use Rattle.std.specs.Cmp.Lexicographic.{bytes_decides, slice_cmp}
-use Rattle.std.specs.Ordering.{MatchOrdering, nat_cmp, is_eq, is_lt, ordering_then}
+use Rattle.std.specs.Ordering.{nat_cmp, is_eq, is_lt, ordering_reverse, ordering_then}
 use Rattle.std.specs.declared.cmp.Ordering.{Ordering}
 use Rattle.std.specs.declared.cmp.Ordering.TheVariants.{Less, Equal, Greater}
 use Rattle.std.specs.Cmp.{IsTotalOrder}
@@ -46,3 +46,35 @@ pub first_not_less : (a b : Ordering) → is_lt (ordering_then a b) ≡ false �
 first_not_less Less b not_less = not_less
 first_not_less Equal b not_less = refl
 first_not_less Greater b not_less = refl
+
+-- ---- names
+
+-- keys by their names alone
+abbrev pub name_order : Key → Key → Ordering
+name_order k l = ordering_then (nat_cmp k.head l.head) (slice_cmp nat_cmp k.name.now l.name.now)
+
+pub name_total : IsTotalOrder name_order
+name_total = then_total (on_total (λ (k : Key). k.head) nat_cmp_total) (on_total (λ (k : Key). k.name.now) nat_list_cmp_total)
+
+pub equal_names : (k l : Key) → name_order k l ≡ Equal → k.name.now ≡ l.name.now
+equal_names k l e = equal_texts k.name.now l.name.now (then_equal (nat_cmp k.head l.head) _ e).1
+
+pub names_equal : (k l : Key) → k.head ≡ l.head → k.name.now ≡ l.name.now → name_order k l ≡ Equal
+names_equal k l head name =
+    ap (λ (p : ℕ × List ℕ). ordering_then (nat_cmp p.0 l.head) (slice_cmp nat_cmp p.1 l.name.now)) (λ i. (head i, name i))
+    ∙ tied_itself name_total l
+
+names_first : (a b c : Ordering) → is_lt (ordering_then a (ordering_then b c)) ≡ false → is_lt (ordering_then a b) ≡ false
+names_first Less b c not_less = not_less
+names_first Equal b c not_less = first_not_less b c not_less
+names_first Greater b c not_less = refl
+
+-- keys that are not less are not less by their names
+pub names_not_less : (k l : Key) → is_lt (key_order k l) ≡ false → is_lt (name_order k l) ≡ false
+names_not_less k l h = names_first (nat_cmp k.head l.head) (slice_cmp nat_cmp k.name.now l.name.now) (nat_cmp k.rank l.rank) h
+
+-- what is not less either way is equal
+pub neither_less : (r : Ordering) → is_lt r ≡ false → is_lt (ordering_reverse r) ≡ false → r ≡ Equal
+neither_less Less h k = absurd (true≢false h)
+neither_less Equal h k = refl
+neither_less Greater h k = absurd (true≢false k)
