@@ -1,12 +1,15 @@
 -- The least place at which a name is repeated.
 use Rattle.std.proofs.Common.{◌≡◌, ◌⊎◌, ℕ, suc, zero, ◌+◌, ◌-◌, ◌<◌, ◌≤◌, ◌==◌, min, max, Bool, true, false, cond, List, [], ◌∷◌, ◌++◌, length, take, drop, drop-cons, get_or, refl, sym, ap, subst, ◌∙◌, inl, inr, arith, length-take, eq-eqb}
+use mathlib.Core.Bool.{true≢false}
 use Rattle.std.specs.List.{Contains, count_by}
+use Rattle.std.specs.Str.{bytes_eq}
+use Rattle.std.proofs.lemmas.Slice.Eq.{bytes_eq-Decides}
 use Rattle.std.proofs.lemmas.Bool.{cases_lt}
 use Rattle.std.proofs.lemmas.List.{take_more, take_all, take-append-drop, get_or_default}
 use Rattle.std.proofs.lemmas.List.Elements.{Contains-append_left, Contains-get_or, Contains-push, Contains-push_cases}
 use Rattle.std.proofs.lemmas.List.Sums.{sum_by-append, sum_by-cons}
 use Rattle.tml_refs.specs.declared.names.Entry.{Entry}
-use Rattle.tml_refs.specs.Naming.{AreInOrder, Repeats, entry_name, is_at}
+use Rattle.tml_refs.specs.Naming.{AreInOrder, IsFirstRepeat, Repeats, entry_name, is_at}
 use Rattle.tml_refs.proofs.Runs.{place_in, side_by_side}
 
 -- Of the first entries, this many: no name is repeated at a place before `first`, a name is repeated there, if it is no end, and `least` is the least place of the entries of this name.
@@ -155,3 +158,43 @@ module _ (entries : List Entry) (order : AreInOrder entries) where
       ];
       least_is = (entry, last_of i d below, refl, sym l);
     }
+
+  -- ---- the steps of the loop
+
+  abbrev pub IsScannedTo : ℕ → ℕ → ℕ → ℕ → Type 0
+  IsScannedTo tags first least i = (d : Entry) → IsScanned entries tags first least i (entry_name (get_or entries (i - 1) d))
+
+  module _ (tags first least i : ℕ) (e : Entry) (from : 1 ≤ i) (below : i < length entries) (scanned : IsScannedTo tags first least i) where
+    moved : (now low : ℕ) → IsScanned entries tags now low (i + 1) (entry_name (get_or entries i e)) → IsScannedTo tags now low (i + 1)
+    moved now low h d =
+        let place : i ≡ i + 1 - 1 = omega arith in
+        let same : get_or entries i e ≡ get_or entries (i + 1 - 1) d = get_or_default entries i e d below ∙ ap (λ (n : ℕ). get_or entries n d) place in
+        subst (λ (x : Entry). IsScanned entries tags now low (i + 1) (entry_name x)) same h
+
+    pub scanned_same : (now low : ℕ) → bytes_eq (entry_name (get_or entries (i - 1) e)) (entry_name (get_or entries i e)) ≡ true
+        → now ≡ min first (max least (get_or entries i e).at) → low ≡ min least (get_or entries i e).at → IsScannedTo tags now low (i + 1)
+    scanned_same now low t f l = moved now low (same_name tags first least i e from below (scanned e) now low ((bytes_eq-Decides _ _).0 t) f l)
+
+    pub scanned_other : (now low : ℕ) → bytes_eq (entry_name (get_or entries (i - 1) e)) (entry_name (get_or entries i e)) ≡ false
+        → now ≡ first → low ≡ (get_or entries i e).at → IsScannedTo tags now low (i + 1)
+    scanned_other now low t f l =
+        let other : entry_name (get_or entries (i - 1) e) ≡ entry_name (get_or entries i e) → ⊥ = λ n. true≢false (sym ((bytes_eq-Decides _ _).1 n) ∙ t) in
+        moved now low (subst (λ (n : ℕ). IsScanned entries tags n low (i + 1) (entry_name (get_or entries i e))) (sym f) (other_name tags first least i e from below (scanned e) low other l))
+
+-- ---- all entries
+
+scanned_all : (entries : List Entry) (tags first least i : ℕ) (name : List ℕ) → length entries ≤ i → IsScanned entries tags first least i name → (place : ℕ) → Repeats entries place → first ≤ place
+scanned_all entries tags first least i name h s place r =
+    let whole : take i entries ≡ entries = take_all i entries h in
+    let e = r.0 in
+    let other = r.1 in
+    omega (arith, s.none_before e other (subst (λ (xs : List Entry). Contains xs e) (sym whole) r.2) (subst (λ (xs : List Entry). Contains xs other) (sym whole) r.3) r.4 r.5, r.6)
+
+some_entry : (entries : List Entry) → 1 ≤ length entries → Entry
+some_entry [] h = absurd (omega (arith, h))
+some_entry (e ∷ entries) h = e
+
+pub scanned_to_end : (entries : List Entry) (tags first least i : ℕ) → 1 ≤ length entries → length entries ≤ i → ((d : Entry) → IsScanned entries tags first least i (entry_name (get_or entries (i - 1) d))) → IsFirstRepeat entries tags first
+scanned_to_end entries tags first least i some h s =
+    let scanned = s (some_entry entries some) in
+    record { at_most = scanned.at_most; none_before = scanned_all entries tags first least i _ h scanned; here = scanned.here }

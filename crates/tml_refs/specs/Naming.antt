@@ -85,6 +85,12 @@ pub record AreInOrder (entries : List Entry) : Type 0 where
 abbrev pub Repeats : List Entry → ℕ → Type 0
 Repeats entries place = (e other : Entry) × Contains entries e × Contains entries other × (entry_name e ≡ entry_name other) × (e.at < other.at) × (other.at ≡ place)
 
+-- of the places below an end, the first one at which a name is repeated, or the end where there is none
+pub record IsFirstRepeat (entries : List Entry) (end first : ℕ) : Type 0 where
+  pub at_most : first ≤ end
+  pub none_before : (place : ℕ) → Repeats entries place → first ≤ place
+  pub here : first < end → Repeats entries first
+
 -- an entry is that of a tag that a reference asks for
 abbrev pub is_for : Reference → Entry → Bool
 is_for r e = e.key.rank == rank_of r.asked && bytes_eq r.name (entry_name e)

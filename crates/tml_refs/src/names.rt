@@ -3,7 +3,7 @@ ghost use Rattle.std.specs.Option.{is_some, is_none};
 ghost use Rattle.std.specs.List.{list_any};
 ghost use Rattle.std.specs.Prelude.{◌≡◌, ◌<◌, ◌≤◌, ◌^◌, ◌||◌, ℕ, length, map, not, IfOk, IfSome};
 ghost use Rattle.tml_refs.specs.Naming as naming;
-ghost use Rattle.tml_refs.specs.Naming.{AreNamesOf, Finds, FindsInterval, Repeats, is_listed, is_unlisted};
+ghost use Rattle.tml_refs.specs.Naming.{AreNamesOf, Finds, FindsInterval, IsFirstRepeat, is_listed, is_unlisted};
 ghost use Rattle.tml_types.specs.References.{optional_reference, reference};
 ghost use Rattle.tml_types.specs.View.{end_of, text_of, typed_of};
 
@@ -98,9 +98,7 @@ impl<'s> Names<'s> {
     /// The least place in the list of tags at which a tag has the identifier of a tag before it. Where there is none, it
     /// is the number of tags.
     pub fn first_repeat(&self, tags: usize) -> usize
-        ensures at_most { result ≤ tags }
-        ensures none_before { (place : ℕ) → Repeats self.now place → result ≤ place }
-        ensures here { result < tags → Repeats self.now result }
+        ensures { IsFirstRepeat self.now tags result }
     {
         let entries = self.entries.as_slice();
         let [head, ..] = entries else {
