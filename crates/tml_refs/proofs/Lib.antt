@@ -4,6 +4,8 @@ pub mod Searches
 pub mod Indexes
 pub mod Runs
 pub mod Scanning
+pub mod Listing
+pub mod Sorting
 pub mod Lists
 pub mod Locating
 pub mod Documents
