@@ -6,6 +6,11 @@ pub mod Runs
 pub mod Scanning
 pub mod Listing
 pub mod Sorting
+pub mod Knowing
+pub mod Repeating
+pub mod Making
+pub mod Ruling
+pub mod Steps
 pub mod Lists
 pub mod Locating
 pub mod Documents

@@ -27,11 +27,11 @@ entry_order key e = key_order e.key key
 pub inside : {A : Type 0} (xs before after : List A) (x : A) → xs ≡ before ++ x ∷ after → Contains xs x
 inside xs before after x e = (length before, omega (arith, ap length e, length-append before (x ∷ after)), ap (λ ys. get_or ys (length before) x) e ∙ get_or_at before x after x (length before) refl)
 
-both_true : (a b : Bool) → (a && b) ≡ true → (a ≡ true) × (b ≡ true)
+pub both_true : (a b : Bool) → (a && b) ≡ true → (a ≡ true) × (b ≡ true)
 both_true true b h = (refl, h)
 both_true false b h = absurd (true≢false (sym h))
 
-for_both : (r : Reference) (e : Entry) → is_for r e ≡ true → (e.key.rank ≡ rank_of r.asked) × (r.name ≡ entry_name e)
+pub for_both : (r : Reference) (e : Entry) → is_for r e ≡ true → (e.key.rank ≡ rank_of r.asked) × (r.name ≡ entry_name e)
 for_both r e h =
     let both = both_true (e.key.rank == rank_of r.asked) (bytes_eq r.name (entry_name e)) h in
     (eqb-true e.key.rank (rank_of r.asked) both.0, (bytes_eq-Decides r.name (entry_name e)).0 both.1)

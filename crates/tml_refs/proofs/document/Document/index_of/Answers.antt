@@ -1,6 +1,6 @@
 use Rattle.std.proofs.Common.{Some}
 use Rattle.tml_types.specs.declared.typed.TagKind.TheVariants as kind
-use Rattle.tml_refs.proofs.Indexes.{found_named, none_named}
+use Rattle.tml_refs.proofs.Indexes.{found_named}
 use Rattle.tml_refs.proofs.document.Document.index_of.Goals as goal
 
 pub returns-in-Some-clause-some : goal.returns-in-Some-clause-some
