@@ -1,6 +1,6 @@
 -- The first bytes of a name as a number, byte by byte.
 use Rattle.std.proofs.Common.{◌≡◌, ℕ, suc, ◌+◌, ◌*◌, ◌%◌, ◌^◌, List, [], ◌∷◌, take, refl, sym, ap, subst, ◌∙◌, arith}
-use Rattle.tml_refs.specs.Naming.{number_from}
+use Rattle.tml_refs.specs.NameIndex.{number_from}
 
 pub number_none : (n : ℕ) → number_from n [] ≡ n
 unfolding number_from

@@ -8,12 +8,12 @@ use Rattle.tml_types.specs.declared.typed.TagKind.{TagKind}
 use Rattle.tml_types.specs.declared.typed.TagKind.TheVariants as kind
 use Rattle.tml_types.specs.Content.{Reference}
 use Rattle.tml_types.specs.References.{reference}
-use Rattle.tml_refs.specs.declared.names.Entry.{Entry}
+use Rattle.tml_refs.specs.declared.name_index.Entry.{Entry}
 use Rattle.tml_refs.specs.Documents.{IsNamed, PlainInterval, instance, time, kind_of, name_of}
-use Rattle.tml_refs.specs.Naming.{Finds, IsIndexOf, IsOfIntervals, is_for, is_listed}
+use Rattle.tml_refs.specs.NameIndex.{HasNumber, IsIndexOf, IsOfIntervals, is_for, is_listed}
 
 module _ (intervals : List PlainInterval) (entries : List Entry) (index : IsIndexOf intervals entries) (name : List ℕ) where
   -- a number that is found is that of an interval of the name
-  pub found_named : (k : TagKind) (o : Option ℕ) → IsOfIntervals k → IfSome o (Finds entries (reference k name)) → IfSome o (IsNamed intervals name)
+  pub found_named : (k : TagKind) (o : Option ℕ) → IsOfIntervals k → IfSome o (HasNumber entries (reference k name)) → IfSome o (IsNamed intervals name)
   found_named k None of h = tt
   found_named k (Some i) of h = let refers = index.only (reference k name) i (of, h) in (refers.interval, refers.at, refers.name)

@@ -12,10 +12,10 @@ use Rattle.tml_types.specs.Content.{Content, PlainTyped, Reference}
 use Rattle.tml_types.specs.References.{id_of, is_of_kind, reference, references_of}
 use Rattle.tml_types.specs.References as references
 use Rattle.tml_refs.specs.declared.document.DocLink.{DocLink}
-use Rattle.tml_refs.specs.declared.names.Entry.{Entry}
+use Rattle.tml_refs.specs.declared.name_index.Entry.{Entry}
 use Rattle.tml_refs.specs.Documents.{IsLinkOf, PlainInterval, RefersTo, instance, interval_of, intervals_of, kind_of, name_of, time}
 use Rattle.tml_refs.specs.Gathering.{IsLinkBy, has_unlisted}
-use Rattle.tml_refs.specs.Naming.{AreNamesOf, Finds, FindsInterval, IsEntryIn, IsEntryOf, IsIndexOf, IsOfIntervals, entry_name, is_for, is_listed, is_unlisted, rank_of}
+use Rattle.tml_refs.specs.NameIndex.{AreEntriesOf, HasNumber, HasIntervalNumber, IsEntryIn, IsEntryOf, IsIndexOf, IsOfIntervals, entry_name, is_for, is_listed, is_unlisted, rank_of}
 use Rattle.tml_refs.specs.Rules.{has_id, is_target, is_unknown}
 use Rattle.tml_refs.proofs.Lists.{any_agree, any_inside, filter_map_at, passes_at}
 use Rattle.tml_refs.proofs.Locating.{has_own_id, its_id, its_kind, its_own_id, located}
@@ -68,7 +68,7 @@ same_tests true b h k = sym (h refl)
 same_tests false true h k = k refl
 same_tests false false h k = refl
 
-module _ (all : List PlainTyped) (names : List Entry) (known : AreNamesOf all names) where
+module _ (all : List PlainTyped) (names : List Entry) (known : AreEntriesOf all names) where
   -- ---- what is unknown
 
   listed_target : (r : Reference) → is_listed names r ≡ true → list_any (is_target r) all ≡ true
@@ -104,13 +104,13 @@ module _ (all : List PlainTyped) (names : List Entry) (known : AreNamesOf all na
         name = same_Some (name_of v.0) r.name (sym (its_id tag v.0 v.1) ∙ its_own_id tag r.name both.1);
       }
 
-  pub finds_refers : (r : Reference) (i : ℕ) → FindsInterval names r i → RefersTo (intervals_of all) r i
+  pub finds_refers : (r : Reference) (i : ℕ) → HasIntervalNumber names r i → RefersTo (intervals_of all) r i
   finds_refers r i h =
       let e = h.1 in
       let at : IsEntryIn all e.0 = All-contains (IsEntryIn all) names e.0 known.only e.1 in
       refers_by r i at.0 at.1 at.2 e.0 at.3 at.4 h.0 e.2 e.3
 
-  each_found : (i : ℕ) (v : PlainInterval) → slice_get (intervals_of all) i ≡ Some v → Finds names (reference (kind_of v) (name_of v)) i
+  each_found : (i : ℕ) (v : PlainInterval) → slice_get (intervals_of all) i ≡ Some v → HasNumber names (reference (kind_of v) (name_of v)) i
   each_found i v h =
       let l = located all i v h in
       let id = its_id l.tag v l.its in

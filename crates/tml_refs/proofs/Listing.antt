@@ -14,13 +14,13 @@ use Rattle.tml_types.specs.Content as content
 use Rattle.tml_types.specs.Content.{PlainTyped}
 use Rattle.tml_types.specs.References.{id_of, kind_of}
 use Rattle.tml_types.specs.View.{typed_of}
-use Rattle.tml_refs.specs.declared.names.Entry.{Entry}
+use Rattle.tml_refs.specs.declared.name_index.Entry.{Entry}
 use Rattle.tml_refs.specs.Documents.{interval_of, intervals_of}
-use Rattle.tml_refs.specs.Naming.{AreNamesOf, IsEntryIn, IsEntryOf, entry_name, head_of, is_at, is_interval, rank_of}
+use Rattle.tml_refs.specs.NameIndex.{AreEntriesOf, IsEntryIn, IsEntryOf, entry_name, head_of, is_at, is_interval, rank_of}
 use Rattle.tml_refs.proofs.Lists.{count_more, filter_map_more}
 
-pub names_none : (entries : List Entry) → entries ≡ [] → AreNamesOf [] entries
-names_none entries e = rw e (record {
+pub entries_none : (entries : List Entry) → entries ≡ [] → AreEntriesOf [] entries
+entries_none entries e = rw e (record {
   each = λ before after tag whole some. absurd (none_cut before after tag whole);
   only = All-nil (IsEntryIn []);
   apart = λ place. omega arith;
@@ -60,8 +60,8 @@ apart_by tags entries e place true t only at few more =
     omega (arith, none, more)
 apart_by tags entries e place false t only at few more = omega (arith, few, more)
 
-pub names_more : (tags : List PlainTyped) (tag : PlainTyped) (entries : List Entry) (e : Entry) → AreNamesOf tags entries → IsEntryOf tags tag e → AreNamesOf (tags ++ tag ∷ []) (entries ++ e ∷ [])
-names_more tags tag entries e names its = record {
+pub entries_more : (tags : List PlainTyped) (tag : PlainTyped) (entries : List Entry) (e : Entry) → AreEntriesOf tags entries → IsEntryOf tags tag e → AreEntriesOf (tags ++ tag ∷ []) (entries ++ e ∷ [])
+entries_more tags tag entries e names its = record {
   each = λ before after t whole some. elim (last_or_before tags before after tag t whole) [
     | inl k ↦ (e, Contains-push entries e, subst (λ (p : List PlainTyped × PlainTyped). IsEntryOf p.0 p.1 e) (λ i. (k.0 i, k.1 i)) its)
     | inr k ↦ let old = names.each before k.0 t k.1 some in (old.0, Contains-append_left entries (e ∷ []) old.0 old.1, old.2)
@@ -73,8 +73,8 @@ names_more tags tag entries e names its = record {
 none_some : (tag : PlainTyped) → id_of tag.content ≡ None → IsSome (id_of tag.content) → ⊥
 none_some tag e h = absurd (true≢false (sym (subst (λ (o : Option (List ℕ)). IsSome o) e h)))
 
-pub names_same : (tags : List PlainTyped) (tag : PlainTyped) (entries : List Entry) → AreNamesOf tags entries → id_of tag.content ≡ None → AreNamesOf (tags ++ tag ∷ []) entries
-names_same tags tag entries names none = record {
+pub entries_same : (tags : List PlainTyped) (tag : PlainTyped) (entries : List Entry) → AreEntriesOf tags entries → id_of tag.content ≡ None → AreEntriesOf (tags ++ tag ∷ []) entries
+entries_same tags tag entries names none = record {
   each = λ before after t whole some. elim (last_or_before tags before after tag t whole) [
     | inl k ↦ absurd (none_some t (ap (λ (u : PlainTyped). id_of u.content) (sym k.1) ∙ none) some)
     | inr k ↦ names.each before k.0 t k.1 some
@@ -120,11 +120,11 @@ module _ (tags : List TypedTag) (i : ℕ) (tag : TypedTag) (below : i < length t
   with_next : before ++ typed_of tag ∷ [] ≡ map typed_of (take (i + 1) tags)
   with_next = ap (λ (t : TypedTag). before ++ typed_of t ∷ []) is ∙ sym (plain_more tags i tag below)
 
-  pub names_next : (entries now : List Entry) (e : Entry) → AreNamesOf before entries → IsEntryOf before (typed_of tag) e → now ≡ entries ++ e ∷ [] → AreNamesOf (map typed_of (take (i + 1) tags)) now
-  names_next entries now e names its more = subst (λ (p : List PlainTyped × List Entry). AreNamesOf p.0 p.1) (λ k. (with_next k, sym more k)) (names_more before (typed_of tag) entries e names its)
+  pub entries_next : (entries now : List Entry) (e : Entry) → AreEntriesOf before entries → IsEntryOf before (typed_of tag) e → now ≡ entries ++ e ∷ [] → AreEntriesOf (map typed_of (take (i + 1) tags)) now
+  entries_next entries now e names its more = subst (λ (p : List PlainTyped × List Entry). AreEntriesOf p.0 p.1) (λ k. (with_next k, sym more k)) (entries_more before (typed_of tag) entries e names its)
 
-  pub names_next_same : (entries now : List Entry) → AreNamesOf before entries → id_of (typed_of tag).content ≡ None → now ≡ entries → AreNamesOf (map typed_of (take (i + 1) tags)) now
-  names_next_same entries now names none same = subst (λ (p : List PlainTyped × List Entry). AreNamesOf p.0 p.1) (λ k. (with_next k, sym same k)) (names_same before (typed_of tag) entries names none)
+  pub entries_next_same : (entries now : List Entry) → AreEntriesOf before entries → id_of (typed_of tag).content ≡ None → now ≡ entries → AreEntriesOf (map typed_of (take (i + 1) tags)) now
+  entries_next_same entries now names none same = subst (λ (p : List PlainTyped × List Entry). AreEntriesOf p.0 p.1) (λ k. (with_next k, sym same k)) (entries_same before (typed_of tag) entries names none)
 
   pub count_next : (n m : ℕ) → n ≡ length (intervals_of before) → m ≡ bool_byte (is_interval (typed_of tag)) → n + m ≡ length (intervals_of (map typed_of (take (i + 1) tags)))
   count_next n m e f = count_more_intervals before (typed_of tag) n m e f ∙ ap (λ (ts : List PlainTyped). length (intervals_of ts)) with_next

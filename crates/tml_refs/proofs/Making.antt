@@ -10,11 +10,11 @@ use Rattle.tml_types.specs.Content as content
 use Rattle.tml_types.specs.Content.{Content, PlainTyped}
 use Rattle.tml_types.specs.References.{is_of_kind, kind_of}
 use Rattle.tml_refs.specs.declared.document.Counts.{Counts}
-use Rattle.tml_refs.specs.declared.names.Entry.{Entry}
+use Rattle.tml_refs.specs.declared.name_index.Entry.{Entry}
 use Rattle.tml_refs.specs.Counting.{AreFew, one_at}
 use Rattle.tml_refs.specs.Documents.{IsLinkOf, PlainDocument, PlainInterval, count_of, interval_of, intervals_of}
-use Rattle.tml_refs.specs.Gathering.{Adds, Gathers, IsLinkBy}
-use Rattle.tml_refs.specs.Naming.{AreNamesOf}
+use Rattle.tml_refs.specs.Gathering.{AddsTag, Gathers, IsLinkBy}
+use Rattle.tml_refs.specs.NameIndex.{AreEntriesOf}
 use Rattle.tml_refs.specs.Rules.{is_tlink}
 use Rattle.tml_refs.proofs.Knowing.{link_named}
 use Rattle.tml_refs.proofs.Lists.{count_more, filter_map_more, zip_append, zip_weaker}
@@ -50,7 +50,7 @@ few_counts intervals tags doc g h = record {
 
 -- ---- one tag more
 
-pub gathers_more : (all tags : List PlainTyped) (tag : PlainTyped) (names : List Entry) (old new : PlainDocument) → AreNamesOf all names → Gathers (intervals_of all) tags old → Adds names old tag new
+pub gathers_more : (all tags : List PlainTyped) (tag : PlainTyped) (names : List Entry) (old new : PlainDocument) → AreEntriesOf all names → Gathers (intervals_of all) tags old → AddsTag names old tag new
     → Gathers (intervals_of all) (tags ++ tag ∷ []) new
 gathers_more all tags tag names old new known g a =
     let links = zip_weaker (IsLinkBy names) (IsLinkOf (intervals_of all)) (link_named all names known) (filter is_tlink (tag ∷ [])) a.links.0 a.links.1 in

@@ -8,8 +8,8 @@ use Rattle.std.specs.declared.cmp.Ordering.TheVariants.{Less, Equal, Greater}
 use Rattle.std.specs.Cmp.{IsTotalOrder}
 use Rattle.std.proofs.lemmas.Cmp.{nat_cmp_total, nat_list_cmp_total, on_total, ranked, then_total, tied_itself}
 use Rattle.std.proofs.lemmas.Map.Text.{is_eq-slice_cmp}
-use Rattle.tml_refs.specs.declared.names.Key.{Key}
-use Rattle.tml_refs.specs.Naming.{key_order}
+use Rattle.tml_refs.specs.declared.name_index.Key.{Key}
+use Rattle.tml_refs.specs.NameIndex.{key_order}
 
 pub key_total : IsTotalOrder key_order
 key_total =

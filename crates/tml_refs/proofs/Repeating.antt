@@ -8,8 +8,8 @@ use Rattle.faults.specs.declared.kind.FaultKind.TheVariants.{DuplicateId}
 use Rattle.faults.proofs.Cuts.{two_cuts}
 use Rattle.tml_types.specs.Content.{PlainTyped}
 use Rattle.tml_types.specs.References.{id_of}
-use Rattle.tml_refs.specs.declared.names.Entry.{Entry}
-use Rattle.tml_refs.specs.Naming.{AreNamesOf, IsEntryIn, IsEntryOf, IsFirstRepeat, Repeats, entry_name}
+use Rattle.tml_refs.specs.declared.name_index.Entry.{Entry}
+use Rattle.tml_refs.specs.NameIndex.{AreEntriesOf, IsEntryIn, IsEntryOf, IsFirstRepeat, Repeats, entry_name}
 use Rattle.tml_refs.specs.Rules.{Breaks, has_id}
 use Rattle.tml_refs.proofs.Knowing.{some_from}
 use Rattle.tml_refs.proofs.Lists.{any_inside, passes_at}
@@ -20,7 +20,7 @@ taken_by : (before : List PlainTyped) (o : Option (List ℕ)) → elim o [ None 
 taken_by before None h = absurd cc
 taken_by before (Some id) h = (id, refl, h)
 
-module _ (all : List PlainTyped) (names : List Entry) (known : AreNamesOf all names) where
+module _ (all : List PlainTyped) (names : List Entry) (known : AreEntriesOf all names) where
   repeated : (before after : List PlainTyped) (tag : PlainTyped) → all ≡ before ++ tag ∷ after → Breaks all DuplicateId before tag → Repeats names (length before)
   repeated before after tag whole broken =
       let taken = taken_by before (id_of tag.content) broken in

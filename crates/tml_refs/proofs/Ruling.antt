@@ -9,12 +9,12 @@ use Rattle.faults.specs.Kinds.{number_of}
 use Rattle.net_core.specs.Limits.{max_intervals, max_links}
 use Rattle.tml_types.specs.Content as content
 use Rattle.tml_types.specs.Content.{Content, PlainTyped}
-use Rattle.tml_refs.specs.declared.names.Entry.{Entry}
+use Rattle.tml_refs.specs.declared.name_index.Entry.{Entry}
 use Rattle.tml_refs.specs.declared.resolving.RefFault.{RefFault}
 use Rattle.tml_refs.specs.declared.resolving.RefFault.TheVariants as faults
 use Rattle.tml_refs.specs.Documents.{PlainDocument, intervals_of}
-use Rattle.tml_refs.specs.Gathering.{Adds, Gathers, HasLaterFault, has_unlisted, is_interval_too_many, is_link_too_many}
-use Rattle.tml_refs.specs.Naming.{AreNamesOf}
+use Rattle.tml_refs.specs.Gathering.{AddsTag, Gathers, HasLaterFault, has_unlisted, is_interval_too_many, is_link_too_many}
+use Rattle.tml_refs.specs.NameIndex.{AreEntriesOf}
 use Rattle.tml_refs.specs.Rules.{Breaks, FaultAt, HasFault, breaks, is_interval, is_tlink}
 use Rattle.tml_refs.proofs.Documents.{count_intervals, count_links}
 use Rattle.tml_refs.proofs.Knowing.{unknown_by_names}
@@ -56,7 +56,7 @@ module _ (all before after : List PlainTyped) (tag : PlainTyped) where
     pub duplicate_here : (place : ℕ) → Breaks all kinds.DuplicateId before tag → place ≡ tag.place → HasFault all (faults.DuplicateId place)
     duplicate_here place broken e = rw e (fault_here kinds.DuplicateId broken (at_least 14 (λ b. omega arith) (λ b. omega arith) (λ b. omega arith) (λ b. omega arith)))
 
-    module _ (names : List Entry) (doc : PlainDocument) (known : AreNamesOf all names) (made : Gathers (intervals_of all) before doc) (free : Breaks all kinds.DuplicateId before tag → ⊥) where
+    module _ (names : List Entry) (doc : PlainDocument) (known : AreEntriesOf all names) (made : Gathers (intervals_of all) before doc) (free : Breaks all kinds.DuplicateId before tag → ⊥) where
       unknown : breaks all kinds.UnknownReference before tag ≡ has_unlisted names tag
       unknown = sym (unknown_by_names all names known tag)
 
@@ -67,7 +67,7 @@ module _ (all before after : List PlainTyped) (tag : PlainTyped) where
       links = ap (λ (n : ℕ). is_tlink tag && n == max_links) (sym (count_links (intervals_of all) before doc made))
 
       -- a tag that was added breaks no rule
-      pub added_sound : (new : PlainDocument) → Adds names doc tag new → (rule : FaultKind) → Breaks all rule before tag → ⊥
+      pub added_sound : (new : PlainDocument) → AddsTag names doc tag new → (rule : FaultKind) → Breaks all rule before tag → ⊥
       added_sound new a = none_of free (λ b. differs _ b (unknown ∙ a.known)) (λ b. differs _ b (intervals ∙ a.interval_room)) (λ b. differs _ b (links ∙ a.link_room))
 
       -- a tag that was not added breaks the rule that is said

@@ -7,8 +7,8 @@ use Rattle.std.specs.declared.cmp.Ordering.TheVariants.{Equal}
 use Rattle.std.proofs.lemmas.List.{get_or-take, get_or_default}
 use Rattle.std.proofs.lemmas.List.Elements.{All-contains, Contains-get_or}
 use Rattle.std.proofs.lemmas.List.Sorted.{ranks_by, sorted_far}
-use Rattle.tml_refs.specs.declared.names.Entry.{Entry}
-use Rattle.tml_refs.specs.Naming.{AreInOrder, HasHead, entry_name, head_of, key_of}
+use Rattle.tml_refs.specs.declared.name_index.Entry.{Entry}
+use Rattle.tml_refs.specs.NameIndex.{AreInOrder, HasHead, entry_name, head_of, key_of}
 use Rattle.tml_refs.proofs.Orders.{equal_names, name_order, name_total, names_equal, names_not_less, neither_less}
 
 -- an element of a prefix stands below its end

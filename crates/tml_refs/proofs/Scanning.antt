@@ -8,8 +8,8 @@ use Rattle.std.proofs.lemmas.Bool.{cases_lt}
 use Rattle.std.proofs.lemmas.List.{take_more, take_all, take-append-drop, get_or_default}
 use Rattle.std.proofs.lemmas.List.Elements.{Contains-append_left, Contains-get_or, Contains-push, Contains-push_cases}
 use Rattle.std.proofs.lemmas.List.Sums.{sum_by-append, sum_by-cons}
-use Rattle.tml_refs.specs.declared.names.Entry.{Entry}
-use Rattle.tml_refs.specs.Naming.{AreInOrder, IsFirstRepeat, Repeats, entry_name, is_at}
+use Rattle.tml_refs.specs.declared.name_index.Entry.{Entry}
+use Rattle.tml_refs.specs.NameIndex.{AreInOrder, IsFirstRepeat, Repeats, entry_name, is_at}
 use Rattle.tml_refs.proofs.Runs.{place_in, side_by_side}
 
 -- Of the first entries, this many: no name is repeated at a place before `first`, a name is repeated there, if it is no end, and `least` is the least place of the entries of this name.

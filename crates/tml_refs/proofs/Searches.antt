@@ -14,9 +14,9 @@ use Rattle.std.proofs.lemmas.List.Folds.{list_any_at}
 use Rattle.std.proofs.lemmas.List.Sorted.{searchable_from_sorted}
 use Rattle.std.proofs.lemmas.Slice.Eq.{bytes_eq-Decides}
 use Rattle.tml_types.specs.Content.{Reference}
-use Rattle.tml_refs.specs.declared.names.Entry.{Entry}
-use Rattle.tml_refs.specs.declared.names.Key.{Key}
-use Rattle.tml_refs.specs.Naming.{AreInOrder, Finds, HasHead, entry_name, head_of, is_for, is_listed, key_of, key_order, rank_of}
+use Rattle.tml_refs.specs.declared.name_index.Entry.{Entry}
+use Rattle.tml_refs.specs.declared.name_index.Key.{Key}
+use Rattle.tml_refs.specs.NameIndex.{AreInOrder, HasNumber, HasHead, entry_name, head_of, is_for, is_listed, key_of, key_order, rank_of}
 use Rattle.tml_refs.proofs.Lists.{passes_at}
 use Rattle.tml_refs.proofs.Orders.{equal_keys, key_total, keys_equal}
 
@@ -51,7 +51,7 @@ module _ (entries slice : List Entry) (same : slice ≡ entries) (order : AreInO
       let d : Entry = record { key = key; at = 0; number = 0 } in
       sym (ap (λ (es : List Entry). is_listed es r) (sym same) ∙ list_any_at (is_for r) slice at d below (found at d below h))
 
-  pub found_number : (at : ℕ) (d : Entry) → at < length slice → IsBinarySearchResult (entry_order key) slice (Ok at) → Finds entries r (get_or slice at d).number
+  pub found_number : (at : ℕ) (d : Entry) → at < length slice → IsBinarySearchResult (entry_order key) slice (Ok at) → HasNumber entries r (get_or slice at d).number
   found_number at d below h = (get_or slice at d, subst (λ (es : List Entry). Contains es (get_or slice at d)) same (Contains-get_or slice at d below), found at d below h, refl)
 
   -- where the key is not found, no entry is

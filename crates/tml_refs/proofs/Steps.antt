@@ -10,13 +10,13 @@ use Rattle.tml_types.specs.Content.{PlainTyped}
 use Rattle.tml_types.specs.View.{typed_of}
 use Rattle.tml_refs.specs.declared.contents.Contents.{Contents}
 use Rattle.tml_refs.specs.declared.document.DocLink.{DocLink}
-use Rattle.tml_refs.specs.declared.names.Entry.{Entry}
+use Rattle.tml_refs.specs.declared.name_index.Entry.{Entry}
 use Rattle.tml_refs.specs.declared.resolving.RefFault.{RefFault}
 use Rattle.tml_refs.specs.declared.resolving.RefFault.TheVariants as faults
 use Rattle.tml_refs.specs.Counting.{AreFew}
 use Rattle.tml_refs.specs.Documents.{IsDocument, IsLinkOf, PlainDocument, PlainInterval, Resolved, intervals_of}
-use Rattle.tml_refs.specs.Gathering.{Adds, Gathers, HasLaterFault}
-use Rattle.tml_refs.specs.Naming.{AreNamesOf, IsFirstRepeat, IsIndexOf}
+use Rattle.tml_refs.specs.Gathering.{AddsTag, Gathers, HasLaterFault}
+use Rattle.tml_refs.specs.NameIndex.{AreEntriesOf, IsFirstRepeat, IsIndexOf}
 use Rattle.tml_refs.specs.Rules.{Breaks, HasFault}
 use Rattle.tml_refs.specs.View.{document_of}
 use Rattle.tml_refs.proofs.Documents.{document_is, resolved_is}
@@ -49,7 +49,7 @@ cut_at tags i tag h is =
     ap (map typed_of) (sym (take-append-drop i tags) ∙ ap (λ (ts : List TypedTag). take i tags ++ ts) (drop-cons tags i tag h ∙ ap (λ (t : TypedTag). t ∷ drop (suc i) tags) (sym is)))
     ∙ map-append typed_of (take i tags) (tag ∷ drop (suc i) tags)
 
-module _ (tags : List TypedTag) (names : List Entry) (known : AreNamesOf (map typed_of tags) names) (first : ℕ) (repeat : IsFirstRepeat names (length tags) first) (few : length tags < 2 ^ 32) where
+module _ (tags : List TypedTag) (names : List Entry) (known : AreEntriesOf (map typed_of tags) names) (first : ℕ) (repeat : IsFirstRepeat names (length tags) first) (few : length tags < 2 ^ 32) where
   abbrev all : List PlainTyped
   all = map typed_of tags
 
@@ -81,7 +81,7 @@ module _ (tags : List TypedTag) (names : List Entry) (known : AreNamesOf (map ty
         later_fault all before (map typed_of (drop (suc i) tags)) (typed_of tag) (cut_at tags i tag inside is) read.sound names doc known read.makes (free other) fault h
 
     -- or none, and is added
-    pub goes_on : (i ≡ first → ⊥) → (new : PlainDocument) → Adds names doc (typed_of tag) new → HasRead tags first (i + 1) new
+    pub goes_on : (i ≡ first → ⊥) → (new : PlainDocument) → AddsTag names doc (typed_of tag) new → HasRead tags first (i + 1) new
     goes_on other new a =
         let more : map typed_of (take (i + 1) tags) ≡ before ++ typed_of tag ∷ [] = plain_more tags i tag inside ∙ ap (λ (t : TypedTag). before ++ typed_of t ∷ []) (sym is) in
         let sound = none_breaks_more (Breaks all) before (typed_of tag) read.sound (added_sound all before (map typed_of (drop (suc i) tags)) (typed_of tag) (cut_at tags i tag inside is) read.sound names doc known read.makes (free other) new a) in

@@ -7,15 +7,15 @@ use Rattle.tml_types.specs.Content as content
 use Rattle.tml_types.specs.Content.{Content, PlainTyped}
 use Rattle.tml_types.specs.References.{kind_of, references_of}
 use Rattle.tml_refs.specs.declared.contents.Contents.{Contents}
-use Rattle.tml_refs.specs.declared.contents.Part.{Part}
-use Rattle.tml_refs.specs.declared.contents.Part.TheVariants as part
+use Rattle.tml_refs.specs.declared.contents.Addition.{Addition}
+use Rattle.tml_refs.specs.declared.contents.Addition.TheVariants as addition
 use Rattle.tml_refs.specs.declared.document.DocLink.{DocLink}
-use Rattle.tml_refs.specs.declared.names.Entry.{Entry}
+use Rattle.tml_refs.specs.declared.name_index.Entry.{Entry}
 use Rattle.tml_refs.specs.declared.resolving.RefFault.{RefFault}
 use Rattle.tml_refs.specs.declared.resolving.RefFault.TheVariants as faults
 use Rattle.tml_refs.specs.Counting.{IsOneMore}
 use Rattle.tml_refs.specs.Documents.{IsLinkOf, PlainDocument, PlainInterval, counts_of, interval_of, intervals_of}
-use Rattle.tml_refs.specs.Naming.{FindsInterval, is_unlisted}
+use Rattle.tml_refs.specs.NameIndex.{HasIntervalNumber, is_unlisted}
 use Rattle.tml_refs.specs.Rules.{is_interval, is_tlink}
 use Rattle.tml_refs.specs.View.{plain_interval}
 
@@ -39,11 +39,11 @@ is_link_too_many doc t = is_tlink t && length doc.links == max_links
 -- a link has the relation of a TLINK, and the numbers that the names find for its ends
 abbrev pub IsLinkBy : List Entry → PlainTyped → DocLink → Type 0
 IsLinkBy names t link = elim t.content [
-  | content.tlink l ↦ FindsInterval names l.left link.a × (link.rel ≡ l.rel) × FindsInterval names l.right link.b
+  | content.tlink l ↦ HasIntervalNumber names l.left link.a × (link.rel ≡ l.rel) × HasIntervalNumber names l.right link.b
   | _ ↦ ⊥
 ]
 
-pub record Adds (names : List Entry) (old : PlainDocument) (t : PlainTyped) (new : PlainDocument) : Type 0 where
+pub record AddsTag (names : List Entry) (old : PlainDocument) (t : PlainTyped) (new : PlainDocument) : Type 0 where
   pub known : has_unlisted names t ≡ false
   pub interval_room : is_interval_too_many old t ≡ false
   pub link_room : is_link_too_many old t ≡ false
@@ -59,20 +59,20 @@ HasLaterFault names doc t (faults.TooManyIntervals place) = (has_unlisted names 
 HasLaterFault names doc t (faults.TooManyLinks place) = (has_unlisted names t ≡ false) × (is_link_too_many doc t ≡ true) × (place ≡ t.place)
 HasLaterFault names doc t faults.Memory = ⊤
 
--- ---- what a tag is to a document
+-- ---- what a tag adds, besides being counted
 
-abbrev pub IsPartOf : List Entry → PlainTyped → Part → Type 0
-IsPartOf names t (part.Interval interval) = interval_of t ≡ Some (plain_interval interval)
-IsPartOf names t (part.Link link) = IsLinkBy names t link
-IsPartOf names t part.Neither = (is_interval t ≡ false) × (is_tlink t ≡ false)
+abbrev pub IsAdditionOf : List Entry → PlainTyped → Addition → Type 0
+IsAdditionOf names t (addition.Interval interval) = interval_of t ≡ Some (plain_interval interval)
+IsAdditionOf names t (addition.Link link) = IsLinkBy names t link
+IsAdditionOf names t addition.Nothing = (is_interval t ≡ false) × (is_tlink t ≡ false)
 
-abbrev pub AddsPart : Contents → Part → Contents → Type 0
-AddsPart old (part.Interval i) new = (new ≡ record old { intervals = old.intervals ++ i ∷ [] }) × ((length old.intervals == max_intervals) ≡ false)
-AddsPart old (part.Link l) new = (new ≡ record old { links = old.links ++ l ∷ [] }) × ((length old.links == max_links) ≡ false)
-AddsPart old part.Neither new = new ≡ old
+abbrev pub IsExtended : Contents → Addition → Contents → Type 0
+IsExtended old (addition.Interval i) new = (new ≡ record old { intervals = old.intervals ++ i ∷ [] }) × ((length old.intervals == max_intervals) ≡ false)
+IsExtended old (addition.Link l) new = (new ≡ record old { links = old.links ++ l ∷ [] }) × ((length old.links == max_links) ≡ false)
+IsExtended old addition.Nothing new = new ≡ old
 
-abbrev pub HasLimitFault : Contents → Part → ℕ → RefFault → Type 0
-HasLimitFault c (part.Interval i) place (faults.TooManyIntervals p) = (length c.intervals ≡ max_intervals) × (p ≡ place)
-HasLimitFault c (part.Link l) place (faults.TooManyLinks p) = (length c.links ≡ max_links) × (p ≡ place)
-HasLimitFault c part place faults.Memory = ⊤
-HasLimitFault c part place fault = ⊥
+abbrev pub HasLimitFault : Contents → Addition → ℕ → RefFault → Type 0
+HasLimitFault c (addition.Interval i) place (faults.TooManyIntervals p) = (length c.intervals ≡ max_intervals) × (p ≡ place)
+HasLimitFault c (addition.Link l) place (faults.TooManyLinks p) = (length c.links ≡ max_links) × (p ≡ place)
+HasLimitFault c other place faults.Memory = ⊤
+HasLimitFault c other place fault = ⊥

@@ -3,5 +3,5 @@ pub mod Documents
 pub mod Answers
 pub mod View
 pub mod Counting
-pub mod Naming
+pub mod NameIndex
 pub mod Gathering

@@ -3,14 +3,14 @@ ghost use Rattle.std.specs.List.{list_any};
 ghost use Rattle.std.specs.Option.{is_none};
 ghost use Rattle.std.specs.Prelude.{◌≡◌, [], OnOk, IfErr, IfSome};
 ghost use Rattle.tml_refs.specs.Counting.{AreFew};
-ghost use Rattle.tml_refs.specs.Gathering.{Adds, AddsPart, Gathers, HasLaterFault, HasLimitFault, IsPartOf};
-ghost use Rattle.tml_refs.specs.Naming.{is_unlisted, other_references};
+ghost use Rattle.tml_refs.specs.Gathering.{AddsTag, IsExtended, Gathers, HasLaterFault, HasLimitFault, IsAdditionOf};
+ghost use Rattle.tml_refs.specs.NameIndex.{is_unlisted, other_references};
 ghost use Rattle.tml_refs.specs.View.{document_of};
 ghost use Rattle.tml_types.specs.References.{references_of};
 ghost use Rattle.tml_types.specs.View.{typed_of};
 
 use crate::document::{Counts, DocLink, Interval};
-use crate::names::Names;
+use crate::name_index::NameIndex;
 use crate::resolving::RefFault;
 use net_core::{List, MAX_INTERVALS, MAX_LINKS, Memory};
 use std::alloc::Global;
@@ -24,12 +24,12 @@ pub struct Contents<'s> {
     pub links: List<DocLink>,
 }
 
-/// What a tag is to a document, besides being counted.
+/// What a tag adds to a document, besides being counted.
 #[derive(Clone, Copy, Debug, PartialEq, Eq)]
-pub enum Part<'s> {
+pub enum Addition<'s> {
     Interval(Interval<'s>),
     Link(DocLink),
-    Neither,
+    Nothing,
 }
 
 impl<'s> Contents<'s> {
@@ -49,16 +49,16 @@ impl<'s> Contents<'s> {
     /// # Errors
     ///
     /// The first fault of the tag but that of a repeated identifier.
-    pub fn add(&mut self, names: &Names<'s>, tag: &TypedTag<'s>) -> Result<(), RefFault>
+    pub fn add(&mut self, names: &NameIndex<'s>, tag: &TypedTag<'s>) -> Result<(), RefFault>
         requires { AreFew self.old.counts }
-        ensures ok { OnOk result (Adds names.now (document_of self.old) (typed_of tag.now) (document_of self.new)) }
+        ensures ok { OnOk result (AddsTag names.now (document_of self.old) (typed_of tag.now) (document_of self.new)) }
         ensures err { IfErr result (HasLaterFault names.now (document_of self.old) (typed_of tag.now)) }
     {
         let place = tag.place();
-        let Some(part) = part_of(names, tag) else {
+        let Some(addition) = addition_of(names, tag) else {
             return Err(RefFault::UnknownReference { place });
         };
-        if let Err(fault) = self.add_part(part, place) {
+        if let Err(fault) = self.extend(addition, place) {
             return Err(fault);
         }
         self.counts.add(tag.kind());
@@ -66,12 +66,12 @@ impl<'s> Contents<'s> {
     }
 
     /// Adds an interval or a link, unless there are as many as there may be.
-    fn add_part(&mut self, part: Part<'s>, place: u32) -> Result<(), RefFault>
-        ensures ok { OnOk result (AddsPart self.old part.entry self.new) }
-        ensures err { IfErr result (HasLimitFault self.old part.entry place) }
+    fn extend(&mut self, addition: Addition<'s>, place: u32) -> Result<(), RefFault>
+        ensures ok { OnOk result (IsExtended self.old addition.entry self.new) }
+        ensures err { IfErr result (HasLimitFault self.old addition.entry place) }
     {
-        match part {
-            Part::Interval(interval) => {
+        match addition {
+            Addition::Interval(interval) => {
                 if self.intervals.as_slice().len() == MAX_INTERVALS as usize {
                     return Err(RefFault::TooManyIntervals { place });
                 }
@@ -79,7 +79,7 @@ impl<'s> Contents<'s> {
                     return Err(RefFault::Memory);
                 }
             }
-            Part::Link(link) => {
+            Addition::Link(link) => {
                 if self.links.as_slice().len() == MAX_LINKS as usize {
                     return Err(RefFault::TooManyLinks { place });
                 }
@@ -87,23 +87,23 @@ impl<'s> Contents<'s> {
                     return Err(RefFault::Memory);
                 }
             }
-            Part::Neither => {}
+            Addition::Nothing => {}
         }
         Ok(())
     }
 }
 
-/// What a tag is to a document with these names, or none where one of its references is to no tag.
-fn part_of<'s>(names: &Names<'s>, tag: &TypedTag<'s>) -> Option<Part<'s>>
+/// What a tag adds to a document with these names, or none where one of its references is to no tag.
+fn addition_of<'s>(names: &NameIndex<'s>, tag: &TypedTag<'s>) -> Option<Addition<'s>>
     ensures none { is_none result ≡ list_any (is_unlisted names.now) (references_of (typed_of tag.now).content) }
-    ensures some { IfSome result (IsPartOf names.now (typed_of tag.now)) }
+    ensures some { IfSome result (IsAdditionOf names.now (typed_of tag.now)) }
 {
     if lacks_other(names, tag) {
         return None;
     }
     match *tag {
         TypedTag::Instance { eiid, .. } => {
-            Some(Part::Interval(Interval::Instance { name: eiid }))
+            Some(Addition::Interval(Interval::Instance { name: eiid }))
         }
         TypedTag::Timex {
             tid,
@@ -111,7 +111,7 @@ fn part_of<'s>(names: &Names<'s>, tag: &TypedTag<'s>) -> Option<Part<'s>>
             modifier,
             value,
             ..
-        } => Some(Part::Interval(Interval::Timex {
+        } => Some(Addition::Interval(Interval::Timex {
             name: tid,
             kind,
             modifier,
@@ -123,18 +123,18 @@ fn part_of<'s>(names: &Names<'s>, tag: &TypedTag<'s>) -> Option<Part<'s>>
             right,
             ..
         } => match names.link(left, rel, right) {
-            Some(link) => Some(Part::Link(link)),
+            Some(link) => Some(Addition::Link(link)),
             None => None,
         },
         TypedTag::Event { .. }
         | TypedTag::Signal { .. }
         | TypedTag::Alink { .. }
-        | TypedTag::Slink { .. } => Some(Part::Neither),
+        | TypedTag::Slink { .. } => Some(Addition::Nothing),
     }
 }
 
 /// One of the references of a tag, but for the ends of a TLINK, is to no tag.
-fn lacks_other<'s>(names: &Names<'s>, tag: &TypedTag<'s>) -> bool
+fn lacks_other<'s>(names: &NameIndex<'s>, tag: &TypedTag<'s>) -> bool
     ensures { result ≡ list_any (is_unlisted names.now) (other_references (typed_of tag.now).content) }
 {
     match *tag {

@@ -6,7 +6,7 @@ ghost use Rattle.tml_refs.specs.Documents.{IsDocument, IsNamed, name_of};
 ghost use Rattle.tml_refs.specs.View.{plain_interval};
 
 use crate::contents::Contents;
-use crate::names::Names;
+use crate::name_index::NameIndex;
 use net_core::Rel;
 use std::marker::Model;
 use timex_value::{Modifier, TimexKind, Value};
@@ -92,12 +92,12 @@ pub struct DocLink {
 #[derive(Drop)]
 pub struct Document<'s> {
     pub(crate) contents: Contents<'s>,
-    pub(crate) names: Names<'s>,
+    pub(crate) names: NameIndex<'s>,
 }
 
 impl<'s> Model for Document<'s> {
     ghost use Rattle.tml_refs.specs.Documents.{IsDocument, PlainDocument};
-    ghost use Rattle.tml_refs.specs.Naming.{IsIndexOf};
+    ghost use Rattle.tml_refs.specs.NameIndex.{IsIndexOf};
     ghost use Rattle.tml_refs.specs.View.{document_of};
 
     ghost Value = { PlainDocument };

@@ -4,7 +4,7 @@
 mod contents;
 mod document;
 mod laws;
-mod names;
+mod name_index;
 mod resolving;
 #[cfg(test)]
 mod tests;

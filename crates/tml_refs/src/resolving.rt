@@ -6,7 +6,7 @@ ghost use Rattle.tml_refs.specs.Rules.{HasFault};
 
 use crate::contents::Contents;
 use crate::document::Document;
-use crate::names::Names;
+use crate::name_index::NameIndex;
 use faults::FaultKind;
 use std::alloc::Global;
 use tml_types::Typed;
@@ -52,7 +52,7 @@ pub fn resolve<'s>(alloc: Global, typed: &Typed<'s>) -> Result<Document<'s>, Ref
     ensures err { IfErr result (λ e. HasFault typed.now e) }
 {
     let tags = typed.as_slice();
-    let Ok(names) = Names::of_tags(alloc, tags) else {
+    let Ok(names) = NameIndex::of_tags(alloc, tags) else {
         return Err(RefFault::Memory);
     };
     let repeat = names.first_repeat(tags.len());

@@ -4,7 +4,7 @@ use Rattle.tml_types.specs.Content.{PlainTyped}
 use Rattle.tml_types.specs.View.{typed_of}
 use Rattle.tml_refs.specs.declared.resolving.RefFault.TheVariants as faults
 use Rattle.tml_refs.specs.Documents.{Resolved}
-use Rattle.tml_refs.specs.Gathering.{Adds, HasLaterFault}
+use Rattle.tml_refs.specs.Gathering.{AddsTag, HasLaterFault}
 use Rattle.tml_refs.specs.Rules.{HasFault}
 use Rattle.tml_refs.specs.View.{document_of}
 use Rattle.tml_refs.proofs.Steps.{ends_document, ends_resolved, few_tags, goes_on, read_none, stops, stops_at_first}

@@ -1,8 +1,8 @@
 use Rattle.std.proofs.Common.{◌≤◌, ◌-◌, get_or}
-use Rattle.tml_refs.specs.declared.names.Entry.{Entry}
-use Rattle.tml_refs.specs.Naming.{entry_name}
+use Rattle.tml_refs.specs.declared.name_index.Entry.{Entry}
+use Rattle.tml_refs.specs.NameIndex.{entry_name}
 use Rattle.tml_refs.proofs.Scanning.{IsScanned}
-use Rattle.tml_refs.proofs.names.Names.first_repeat.Given as goal
+use Rattle.tml_refs.proofs.name_index.NameIndex.first_repeat.Given as goal
 
 abbrev pub invariant-loop-i : goal.invariant-loop-i
 invariant-loop-i l = record {

@@ -1,9 +1,9 @@
 use Rattle.std.proofs.Common.{◌≡◌, ◌∙◌, List, sym, ap, subst, max, min, arith, rules}
-use Rattle.tml_refs.specs.declared.names.Entry.{Entry}
-use Rattle.tml_refs.specs.Naming.{AreInOrder, IsFirstRepeat}
+use Rattle.tml_refs.specs.declared.name_index.Entry.{Entry}
+use Rattle.tml_refs.specs.NameIndex.{AreInOrder, IsFirstRepeat}
 use Rattle.tml_refs.proofs.Scanning.{scanned_other, scanned_same, scanned_to_end}
-use Rattle.tml_refs.proofs.names.Names.first_repeat.Goals as goal
-use Rattle.tml_refs.proofs.names.Names.first_repeat.Goals.{then-eq, else-eq}
+use Rattle.tml_refs.proofs.name_index.NameIndex.first_repeat.Goals as goal
+use Rattle.tml_refs.proofs.name_index.NameIndex.first_repeat.Goals.{then-eq, else-eq}
 
 pub loop-i-preserved : goal.loop-i-preserved
 loop-i-preserved c =

@@ -10,8 +10,8 @@ use Rattle.tml_types.specs.declared.typed.TagKind.{TagKind}
 use Rattle.tml_types.specs.declared.typed.TagKind.TheVariants as kind
 use Rattle.tml_types.specs.Content.{Content, PlainTyped, Reference, tlink}
 use Rattle.tml_types.specs.References.{id_of, kind_of, optional_reference, reference, references_of}
-use Rattle.tml_refs.specs.declared.names.Entry.{Entry}
-use Rattle.tml_refs.specs.declared.names.Key.{Key}
+use Rattle.tml_refs.specs.declared.name_index.Entry.{Entry}
+use Rattle.tml_refs.specs.declared.name_index.Key.{Key}
 use Rattle.tml_refs.specs.Documents.{PlainInterval, RefersTo, intervals_of, name_of}
 use Rattle.tml_refs.specs.Documents as documents
 use Rattle.tml_refs.specs.Rules as rules
@@ -57,7 +57,7 @@ abbrev pub is_at : ℕ → Entry → Bool
 is_at place e = e.at == place
 
 -- Each tag that has an identifier has an entry, each entry is that of a tag, and no two have one place.
-pub record AreNamesOf (tags : List PlainTyped) (entries : List Entry) : Type 0 where
+pub record AreEntriesOf (tags : List PlainTyped) (entries : List Entry) : Type 0 where
   pub each : (before after : List PlainTyped) (tag : PlainTyped) → tags ≡ before ++ tag ∷ after → IsSome (id_of tag.content) → (e : Entry) × Contains entries e × IsEntryOf before tag e
   pub only : All (IsEntryIn tags) entries
   pub apart : (place : ℕ) → count_by (is_at place) entries ≤ 1
@@ -102,16 +102,17 @@ abbrev pub is_unlisted : List Entry → Reference → Bool
 is_unlisted entries r = not (is_listed entries r)
 
 -- so many intervals stand before a tag that a reference asks for
-abbrev pub Finds : List Entry → Reference → ℕ → Type 0
-Finds entries r number = (e : Entry) × Contains entries e × (is_for r e ≡ true) × (e.number ≡ number)
+abbrev pub HasNumber : List Entry → Reference → ℕ → Type 0
+HasNumber entries r number = (e : Entry) × Contains entries e × (is_for r e ≡ true) × (e.number ≡ number)
 
+-- tags of this kind are intervals
 abbrev pub IsOfIntervals : TagKind → Type 0
 IsOfIntervals kind.Instance = ⊤
 IsOfIntervals kind.Timex = ⊤
 IsOfIntervals other = ⊥
 
-abbrev pub FindsInterval : List Entry → Reference → ℕ → Type 0
-FindsInterval entries r number = IsOfIntervals r.asked × Finds entries r number
+abbrev pub HasIntervalNumber : List Entry → Reference → ℕ → Type 0
+HasIntervalNumber entries r number = IsOfIntervals r.asked × HasNumber entries r number
 
 -- the references of a tag but for the ends of a TLINK
 abbrev pub other_references : Content → List Reference
@@ -120,5 +121,5 @@ other_references content = references_of content
 
 -- The entries find each interval by its kind and name, and an interval that is found is at the number that they say.
 pub record IsIndexOf (intervals : List PlainInterval) (entries : List Entry) : Type 0 where
-  pub each : (i : ℕ) (v : PlainInterval) → slice_get intervals i ≡ Some v → Finds entries (reference (documents.kind_of v) (name_of v)) i
-  pub only : (r : Reference) (i : ℕ) → FindsInterval entries r i → RefersTo intervals r i
+  pub each : (i : ℕ) (v : PlainInterval) → slice_get intervals i ≡ Some v → HasNumber entries (reference (documents.kind_of v) (name_of v)) i
+  pub only : (r : Reference) (i : ℕ) → HasIntervalNumber entries r i → RefersTo intervals r i

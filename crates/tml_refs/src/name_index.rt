@@ -2,8 +2,8 @@
 ghost use Rattle.std.specs.Option.{is_some, is_none};
 ghost use Rattle.std.specs.List.{list_any};
 ghost use Rattle.std.specs.Prelude.{◌≡◌, ◌<◌, ◌≤◌, ◌^◌, ◌||◌, ℕ, length, map, not, IfOk, IfSome};
-ghost use Rattle.tml_refs.specs.Naming as naming;
-ghost use Rattle.tml_refs.specs.Naming.{AreNamesOf, Finds, FindsInterval, IsFirstRepeat, is_listed, is_unlisted};
+ghost use Rattle.tml_refs.specs.NameIndex as index;
+ghost use Rattle.tml_refs.specs.NameIndex.{AreEntriesOf, HasNumber, HasIntervalNumber, IsFirstRepeat, is_listed, is_unlisted};
 ghost use Rattle.tml_types.specs.References.{optional_reference, reference};
 ghost use Rattle.tml_types.specs.View.{end_of, text_of, typed_of};
 
@@ -24,9 +24,9 @@ pub struct Key<'s> {
 
 impl<'s> Key<'s> {
     fn new(kind: TagKind, name: &'s [u8]) -> Key<'s>
-        ensures head { result.head ≡ naming.head_of name.now }
+        ensures head { result.head ≡ index.head_of name.now }
         ensures name { result.name.now ≡ name.now }
-        ensures rank { result.rank ≡ naming.rank_of kind }
+        ensures rank { result.rank ≡ index.rank_of kind }
     {
         Key {
             head: head_of(name),
@@ -38,7 +38,7 @@ impl<'s> Key<'s> {
 
 /// The first eight bytes of a name, as a number.
 fn head_of(name: &[u8]) -> u64
-    ensures { result ≡ naming.head_of name.now }
+    ensures { result ≡ index.head_of name.now }
 {
     let mut head: u64 = 0;
     for byte in name.iter().take(8) {
@@ -49,7 +49,7 @@ fn head_of(name: &[u8]) -> u64
 
 /// The number of a kind of tag, in the order of the variants.
 fn rank_of(kind: TagKind) -> u8
-    ensures { result ≡ naming.rank_of kind }
+    ensures { result ≡ index.rank_of kind }
 {
     kind as u8
 }
@@ -66,14 +66,14 @@ pub struct Entry<'s> {
 
 /// The tags of a document that have identifiers, ordered by these and, of one identifier, by their kinds.
 #[derive(Drop)]
-pub struct Names<'s> {
+pub struct NameIndex<'s> {
     entries: Vec<Entry<'s>>,
 }
 
-impl<'s> Model for Names<'s> {
+impl<'s> Model for NameIndex<'s> {
     ghost use Rattle.std.specs.Prelude.{List};
-    ghost use Rattle.tml_refs.specs.Naming.{AreInOrder};
-    ghost use Rattle.tml_refs.specs.declared.names.Entry.{Entry};
+    ghost use Rattle.tml_refs.specs.NameIndex.{AreInOrder};
+    ghost use Rattle.tml_refs.specs.declared.name_index.Entry.{Entry};
 
     ghost Value = { List Entry };
 
@@ -82,17 +82,17 @@ impl<'s> Model for Names<'s> {
     ghost invariant = { λ a. AreInOrder a.entries.items };
 }
 
-impl<'s> Names<'s> {
+impl<'s> NameIndex<'s> {
     /// The names of some tags, in n log n for n tags.
-    pub fn of_tags(alloc: Global, tags: &[TypedTag<'s>]) -> Result<Names<'s>, Memory>
+    pub fn of_tags(alloc: Global, tags: &[TypedTag<'s>]) -> Result<NameIndex<'s>, Memory>
         requires { length tags.now < 2 ^ 32 }
-        ensures { IfOk result (AreNamesOf (map typed_of tags.now)) }
+        ensures { IfOk result (AreEntriesOf (map typed_of tags.now)) }
     {
         let Ok(mut entries) = entries_of(alloc, tags) else {
             return Err(Memory);
         };
         entries.sort_unstable();
-        Ok(Names { entries })
+        Ok(NameIndex { entries })
     }
 
     /// The least place in the list of tags at which a tag has the identifier of a tag before it. Where there is none, it
@@ -123,7 +123,7 @@ impl<'s> Names<'s> {
     /// in log n for n tags.
     pub fn number_of(&self, kind: TagKind, name: &[u8]) -> Option<u32>
         ensures listed { is_some result ≡ is_listed self.now (reference kind name.now) }
-        ensures number { IfSome result (Finds self.now (reference kind name.now)) }
+        ensures number { IfSome result (HasNumber self.now (reference kind name.now)) }
     {
         let key = Key::new(kind, name);
         let entries = self.entries.as_slice();
@@ -153,7 +153,7 @@ impl<'s> Names<'s> {
     /// The number of the interval at an end of a link.
     pub fn end(&self, end: LinkEnd<'_>) -> Option<u32>
         ensures listed { is_some result ≡ is_listed self.now (end_of end.entry) }
-        ensures number { IfSome result (FindsInterval self.now (end_of end.entry)) }
+        ensures number { IfSome result (HasIntervalNumber self.now (end_of end.entry)) }
     {
         match end {
             LinkEnd::Instance(name) => self.number_of(TagKind::Instance, name),
@@ -164,9 +164,9 @@ impl<'s> Names<'s> {
     /// The link between two ends, or none where one of them is to no tag.
     pub fn link(&self, left: LinkEnd<'_>, rel: Rel, right: LinkEnd<'_>) -> Option<DocLink>
         ensures none { is_none result ≡ (is_unlisted self.now (end_of left.entry) || is_unlisted self.now (end_of right.entry)) }
-        ensures left { IfSome result (λ link. FindsInterval self.now (end_of left.entry) link.a) }
+        ensures left { IfSome result (λ link. HasIntervalNumber self.now (end_of left.entry) link.a) }
         ensures rel { IfSome result (λ link. link.rel ≡ rel) }
-        ensures right { IfSome result (λ link. FindsInterval self.now (end_of right.entry) link.b) }
+        ensures right { IfSome result (λ link. HasIntervalNumber self.now (end_of right.entry) link.b) }
     {
         let Some(a) = self.end(left) else {
             return None;
@@ -181,7 +181,7 @@ impl<'s> Names<'s> {
 /// An entry for each tag that has an identifier.
 fn entries_of<'s>(alloc: Global, tags: &[TypedTag<'s>]) -> Result<Vec<Entry<'s>>, Memory>
     requires { length tags.now < 2 ^ 32 }
-    ensures { IfOk result (λ entries. AreNamesOf (map typed_of tags.now) entries.items) }
+    ensures { IfOk result (λ entries. AreEntriesOf (map typed_of tags.now) entries.items) }
 {
     let Ok(mut entries) = Vec::with_capacity(alloc, tags.len()) else {
         return Err(Memory);
@@ -206,7 +206,7 @@ fn entries_of<'s>(alloc: Global, tags: &[TypedTag<'s>]) -> Result<Vec<Entry<'s>>
 
 /// The tag stands for an interval of time.
 fn is_interval(tag: &TypedTag<'_>) -> bool
-    ensures { result ≡ naming.is_interval (typed_of tag.now) }
+    ensures { result ≡ index.is_interval (typed_of tag.now) }
 {
     matches!(tag, TypedTag::Instance { .. } | TypedTag::Timex { .. })
 }

@@ -1,9 +1,9 @@
 use Rattle.std.proofs.Common.{rules, subst, ◌∙◌}
 use Rattle.std.proofs.lemmas.Fn.{always_returns_same}
 use Rattle.tml_types.specs.References.{reference}
-use Rattle.tml_refs.specs.Naming.{AreInOrder}
+use Rattle.tml_refs.specs.NameIndex.{AreInOrder}
 use Rattle.tml_refs.proofs.Searches.{entry_order, found_listed, found_number, not_found}
-use Rattle.tml_refs.proofs.names.Names.number_of.Goals as goal
+use Rattle.tml_refs.proofs.name_index.NameIndex.number_of.Goals as goal
 
 pub returns-in-Ok-clause-listed : goal.returns-in-Ok-clause-listed
 returns-in-Ok-clause-listed c =
