@@ -1,5 +1,5 @@
 -- A document without fault.
-use Rattle.std.proofs.Common.{◌≡◌, ◌≤◌, ◌<◌, ◌==◌, ℕ, cond, ◌+◌, List, [], ◌∷◌, length, refl, sym, ap, ◌∙◌, arith, eq-eqb}
+use Rattle.std.proofs.Common.{◌≡◌, ◌≤◌, ◌<◌, ◌==◌, cond, ◌+◌, List, [], ◌∷◌, length, refl, sym, ◌∙◌, arith, eq-eqb}
 use Rattle.std.specs.List.{All, AllZip, count_by, cons_option, filter}
 use Rattle.std.proofs.lemmas.Bool.{and_from}
 use Rattle.std.proofs.lemmas.List.Elements.{All-nil, All-cons}
@@ -16,7 +16,7 @@ use Rattle.tml_refs.specs.Documents.{IsDocument, IsLinkOf, PlainDocument, PlainI
 use Rattle.tml_refs.specs.Gathering.{Gathers}
 use Rattle.tml_refs.specs.Rules.{Breaks, is_interval, is_tlink}
 use Rattle.tml_refs.proofs.Lists.{few, zip_length}
-use Rattle.tml_refs.proofs.Locating.{distinct_names}
+use Rattle.tml_refs.proofs.Locating.{distinct_names, with_content}
 
 -- ---- limits
 
@@ -25,9 +25,6 @@ few_intervals all sound = few is_interval max_intervals all (λ before after tag
 
 few_links : (all : List PlainTyped) → NoneBreaks (Breaks all) all → count_by is_tlink all ≤ max_links
 few_links all sound = few is_tlink max_links all (λ before after tag e p n. sound before after tag TooManyLinks e (and_from (is_tlink tag) (count_by is_tlink before == max_links) p (eq-eqb (count_by is_tlink before) max_links n)))
-
-abbrev with_content : PlainTyped → Content → PlainTyped
-with_content tag c = record { place = tag.place; content = c }
 
 interval_counted : (tag : PlainTyped) (ns : List PlainInterval) → length (cons_option (interval_of tag) ns) ≡ cond (is_interval tag) (1 + length ns) (length ns)
 interval_counted tag ns = elim tag.content as (λ c. length (cons_option (interval_of (with_content tag c)) ns) ≡ cond (is_interval (with_content tag c)) (1 + length ns) (length ns)) [ content.instance x ↦ omega arith | content.timex x ↦ omega arith | _ ↦ refl ]

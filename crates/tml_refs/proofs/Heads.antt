@@ -1,10 +1,6 @@
 -- The first bytes of a name as a number, byte by byte.
-use Rattle.std.proofs.Common.{◌≡◌, ℕ, suc, ◌+◌, ◌*◌, ◌%◌, ◌^◌, List, [], ◌∷◌, take, refl, sym, ap, subst, ◌∙◌, arith}
+use Rattle.std.proofs.Common.{◌≡◌, ℕ, suc, ◌+◌, ◌*◌, ◌%◌, ◌^◌, List, ◌∷◌, take, refl, sym, ap, ◌∙◌, arith}
 use Rattle.tml_refs.specs.NameIndex.{number_from}
-
-pub number_none : (n : ℕ) → number_from n [] ≡ n
-unfolding number_from
-number_none n = refl
 
 number_more : (n m byte : ℕ) (bytes : List ℕ) → number_from n (take (suc m) (byte ∷ bytes)) ≡ number_from ((n * 256 % 2 ^ 64 + byte) % 2 ^ 64) (take m bytes)
 unfolding number_from
@@ -19,7 +15,3 @@ head_more n m k byte next all bytes rest e f g h =
     ∙ sym (number_more n m byte rest)
     ∙ sym (λ i. number_from n (take (size i) (e i)))
     ∙ h
-
--- no byte is left
-pub head_whole : (n k all : ℕ) (bytes : List ℕ) → take k bytes ≡ [] → number_from n (take k bytes) ≡ all → n ≡ all
-head_whole n k all bytes e h = sym (number_none n) ∙ sym (ap (number_from n) e) ∙ h

@@ -1,16 +1,11 @@
 -- What the names say of the intervals of a document.
-use Rattle.std.proofs.Common.{◌≡◌, ℕ, false, List, sym, ap, subst, ◌∙◌, Option, Some, None}
-use mathlib.Core.Bool.{true≢false}
-use Rattle.std.specs.List.{slice_get}
+use Rattle.std.proofs.Common.{ℕ, List, Option, Some, None}
 use Rattle.std.specs.Option.{IfSome}
-use Rattle.std.proofs.lemmas.List.Folds.{list_any_at}
 use Rattle.tml_types.specs.declared.typed.TagKind.{TagKind}
-use Rattle.tml_types.specs.declared.typed.TagKind.TheVariants as kind
-use Rattle.tml_types.specs.Content.{Reference}
 use Rattle.tml_types.specs.References.{reference}
 use Rattle.tml_refs.specs.declared.name_index.Entry.{Entry}
-use Rattle.tml_refs.specs.Documents.{IsNamed, PlainInterval, instance, time, kind_of, name_of}
-use Rattle.tml_refs.specs.NameIndex.{HasNumber, IsIndexOf, IsOfIntervals, is_for, is_listed}
+use Rattle.tml_refs.specs.Documents.{IsNamed, PlainInterval}
+use Rattle.tml_refs.specs.NameIndex.{HasNumber, IsIndexOf, IsOfIntervals}
 
 module _ (intervals : List PlainInterval) (entries : List Entry) (index : IsIndexOf intervals entries) (name : List ℕ) where
   -- a number that is found is that of an interval of the name

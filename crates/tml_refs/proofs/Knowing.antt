@@ -1,6 +1,6 @@
 -- What the names of a document say of its tags.
-use Rattle.std.proofs.Common.{◌≡◌, ◌==◌, ℕ, Bool, true, false, not, ◌&&◌, List, [], ◌∷◌, ◌++◌, length, get_or, refl, sym, ap, subst, ◌∙◌, Option, Some, None, IsSome, eq-eqb, eqb-true}
-use Rattle.std.specs.List.{All, Contains, list_any, slice_get}
+use Rattle.std.proofs.Common.{◌≡◌, ◌==◌, ℕ, Bool, true, false, not, List, ◌∷◌, ◌++◌, refl, sym, ap, subst, ◌∙◌, Option, Some, IsSome, eq-eqb, eqb-true}
+use Rattle.std.specs.List.{list_any, slice_get}
 use Rattle.std.proofs.lemmas.Bool.{and_from}
 use Rattle.std.proofs.lemmas.List.Elements.{All-contains}
 use Rattle.std.proofs.lemmas.List.Folds.{list_any_at}
@@ -18,7 +18,7 @@ use Rattle.tml_refs.specs.Gathering.{IsLinkBy, has_unlisted}
 use Rattle.tml_refs.specs.NameIndex.{AreEntriesOf, HasNumber, HasIntervalNumber, IsEntryIn, IsEntryOf, IsIndexOf, IsOfIntervals, entry_name, is_for, is_listed, is_unlisted, rank_of}
 use Rattle.tml_refs.specs.Rules.{has_id, is_target, is_unknown}
 use Rattle.tml_refs.proofs.Lists.{any_agree, any_inside, filter_map_at, passes_at}
-use Rattle.tml_refs.proofs.Locating.{has_own_id, its_id, its_kind, its_own_id, located}
+use Rattle.tml_refs.proofs.Locating.{has_own_id, its_id, its_kind, its_own_id, located, with_content}
 use Rattle.tml_refs.proofs.Searches.{both_true, for_both, inside, is_for_both}
 
 -- ---- kinds
@@ -35,9 +35,6 @@ kind_rank kind.Slink c = elim c as (λ d. is_of_kind kind.Slink d ≡ (rank_of (
 -- the interval of a tag of this kind
 abbrev IntervalOf : TagKind → PlainTyped → Type 0
 IntervalOf k tag = (v : PlainInterval) × (interval_of tag ≡ Some v) × (kind_of v ≡ k)
-
-abbrev with_content : PlainTyped → Content → PlainTyped
-with_content tag c = record { place = tag.place; content = c }
 
 interval_kind : (k : TagKind) (tag : PlainTyped) → IsOfIntervals k → is_of_kind k tag.content ≡ true → IntervalOf k tag
 interval_kind kind.Instance tag of = elim tag.content as (λ c. is_of_kind kind.Instance c ≡ true → IntervalOf kind.Instance (with_content tag c)) [ content.instance x ↦ λ h. (instance x.eiid, refl, refl) | _ ↦ λ h. absurd cc ]

@@ -1,14 +1,14 @@
 -- The entries of some tags, and of one tag more.
 use mir.Val.{bool_byte}
-use Rattle.std.proofs.Common.{◌≡◌, ℕ, zero, suc, ◌+◌, ◌<◌, ◌≤◌, ◌==◌, Bool, true, false, cond, List, [], ◌∷◌, ◌++◌, map, length, take, get_or, refl, sym, ap, subst, ◌∙◌, inl, inr, append_assoc, length-append, length-take, arith, Result, Ok, Err, Option, Some, None, IsSome, eqb-true}
-use Rattle.std.specs.List.{All, Contains, count_by}
+use Rattle.std.proofs.Common.{◌≡◌, ℕ, suc, ◌+◌, ◌<◌, ◌≤◌, Bool, true, false, cond, List, [], ◌∷◌, ◌++◌, map, length, take, get_or, refl, sym, ap, subst, ◌∙◌, inl, inr, append_assoc, length-append, length-take, arith, Result, Ok, Err, Option, Some, None, IsSome, eqb-true}
+use Rattle.std.specs.List.{All, count_by}
 use Rattle.std.specs.Option.{option_to_list}
 use mathlib.Core.Bool.{true≢false}
 use Rattle.std.specs.Result.{is_err, is_ok}
 use Rattle.std.proofs.lemmas.List.{length-map, map-append, take_more}
-use Rattle.std.proofs.lemmas.List.Elements.{All-nil, All-push, Contains-append_left, Contains-push}
+use Rattle.std.proofs.lemmas.List.Elements.{All-push, Contains-append_left, Contains-push}
 use Rattle.std.proofs.lemmas.List.Sums.{sum_by-cons}
-use Rattle.faults.proofs.Cuts.{last_or_before, none_cut}
+use Rattle.faults.proofs.Cuts.{last_or_before}
 use Rattle.tml_types.specs.declared.typed.TypedTag.{TypedTag}
 use Rattle.tml_types.specs.Content as content
 use Rattle.tml_types.specs.Content.{PlainTyped}
@@ -18,13 +18,6 @@ use Rattle.tml_refs.specs.declared.name_index.Entry.{Entry}
 use Rattle.tml_refs.specs.Documents.{interval_of, intervals_of}
 use Rattle.tml_refs.specs.NameIndex.{AreEntriesOf, IsEntryIn, IsEntryOf, entry_name, head_of, is_at, is_interval, rank_of}
 use Rattle.tml_refs.proofs.Lists.{count_more, filter_map_more}
-
-pub entries_none : (entries : List Entry) → entries ≡ [] → AreEntriesOf [] entries
-entries_none entries e = rw e (record {
-  each = λ before after tag whole some. absurd (none_cut before after tag whole);
-  only = All-nil (IsEntryIn []);
-  apart = λ place. omega arith;
-})
 
 -- ---- one tag more
 

@@ -1,5 +1,5 @@
 -- The tags of intervals, and that no two of them have one name.
-use Rattle.std.proofs.Common.{◌≡◌, ℕ, suc, zero, Bool, true, false, List, [], ◌∷◌, ◌++◌, length, refl, sym, ap, ◌∙◌, inl, inr, Option, Some, None, option_map}
+use Rattle.std.proofs.Common.{◌≡◌, ℕ, suc, zero, true, false, List, [], ◌∷◌, ◌++◌, length, refl, sym, ap, ◌∙◌, inl, inr, Option, Some, None, option_map}
 use Rattle.std.specs.List.{list_any, cons_option, slice_get}
 use Rattle.std.specs.Str.{bytes_eq}
 use Rattle.std.proofs.lemmas.Slice.Eq.{bytes_eq-Decides}
@@ -48,7 +48,7 @@ located (tag ∷ all) i v h = located_by tag all i v (interval_of tag) (λ j k. 
 
 -- ---- one tag
 
-abbrev with_content : PlainTyped → Content → PlainTyped
+abbrev pub with_content : PlainTyped → Content → PlainTyped
 with_content tag c = record { place = tag.place; content = c }
 
 -- the identifier and the kind of an interval are those of its tag
@@ -61,8 +61,8 @@ its_id tag v = elim tag.content as (λ c. interval_of (with_content tag c) ≡ S
 
 pub its_kind : (tag : PlainTyped) (v : PlainInterval) → interval_of tag ≡ Some v → references.kind_of tag.content ≡ kind_of v
 its_kind tag v = elim tag.content as (λ c. interval_of (with_content tag c) ≡ Some v → references.kind_of c ≡ kind_of v) [
-  | content.instance x ↦ λ h. cc (ap (option_map kind_of) h)
-  | content.timex x ↦ λ h. cc (ap (option_map kind_of) h)
+  | content.instance x ↦ λ h. cc
+  | content.timex x ↦ λ h. cc
   | _ ↦ λ h. absurd cc
 ]
 

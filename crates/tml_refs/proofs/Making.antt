@@ -1,9 +1,8 @@
 -- What the tags so far make once a tag is added.
-use Rattle.std.proofs.Common.{◌≡◌, ◌<◌, ◌+◌, ◌-◌, ◌^◌, ℕ, cond, List, [], ◌∷◌, ◌++◌, length, refl, sym, ap, subst, ◌∙◌, arith}
-use Rattle.std.specs.List.{AllZip, count_by, filter}
+use Rattle.std.proofs.Common.{◌≡◌, ◌+◌, ℕ, cond, List, [], ◌∷◌, ◌++◌, refl, sym, ap, ◌∙◌, arith}
+use Rattle.std.specs.List.{filter}
 use Rattle.std.specs.Option.{option_to_list}
 use Rattle.std.proofs.lemmas.List.Elements.{filter-append}
-use Rattle.std.proofs.lemmas.List.Sums.{count_by-le-length}
 use Rattle.tml_types.specs.declared.typed.TagKind.{TagKind}
 use Rattle.tml_types.specs.declared.typed.TagKind.TheVariants as kind
 use Rattle.tml_types.specs.Content as content
@@ -11,7 +10,7 @@ use Rattle.tml_types.specs.Content.{Content, PlainTyped}
 use Rattle.tml_types.specs.References.{is_of_kind, kind_of}
 use Rattle.tml_refs.specs.declared.document.Counts.{Counts}
 use Rattle.tml_refs.specs.declared.name_index.Entry.{Entry}
-use Rattle.tml_refs.specs.Counting.{AreFew, one_at}
+use Rattle.tml_refs.specs.Counting.{one_at}
 use Rattle.tml_refs.specs.Documents.{IsLinkOf, PlainDocument, PlainInterval, count_of, interval_of, intervals_of}
 use Rattle.tml_refs.specs.Gathering.{AddsTag, Gathers, IsLinkBy}
 use Rattle.tml_refs.specs.NameIndex.{AreEntriesOf}
@@ -32,21 +31,6 @@ one_kind kind.Slink c = elim c as (λ d. one_at kind.Slink (kind_of d) ≡ cond 
 
 one_counted : (k : TagKind) (tags : List PlainTyped) (tag : PlainTyped) (old new : ℕ) → old ≡ count_of k tags → new ≡ old + one_at k (kind_of tag.content) → new ≡ count_of k (tags ++ tag ∷ [])
 one_counted k tags tag old new h e = omega (arith, e, h, one_kind k tag.content, count_more (λ (t : PlainTyped). is_of_kind k t.content) tags tag)
-
-few_counted : (k : TagKind) (tags : List PlainTyped) (n : ℕ) → n ≡ count_of k tags → length tags + 1 < 2 ^ 32 → n < 2 ^ 32 - 1
-few_counted k tags n e h = omega (arith, e, count_by-le-length (λ (t : PlainTyped). is_of_kind k t.content) tags)
-
--- there is room for one tag more of each kind
-pub few_counts : (intervals : List PlainInterval) (tags : List PlainTyped) (doc : PlainDocument) → Gathers intervals tags doc → length tags + 1 < 2 ^ 32 → AreFew doc.counts
-few_counts intervals tags doc g h = record {
-  events = few_counted kind.Event tags doc.counts.events (ap (λ (c : Counts). c.events) g.counts_are) h;
-  instances = few_counted kind.Instance tags doc.counts.instances (ap (λ (c : Counts). c.instances) g.counts_are) h;
-  timex = few_counted kind.Timex tags doc.counts.timex (ap (λ (c : Counts). c.timex) g.counts_are) h;
-  signals = few_counted kind.Signal tags doc.counts.signals (ap (λ (c : Counts). c.signals) g.counts_are) h;
-  tlinks = few_counted kind.Tlink tags doc.counts.tlinks (ap (λ (c : Counts). c.tlinks) g.counts_are) h;
-  alinks = few_counted kind.Alink tags doc.counts.alinks (ap (λ (c : Counts). c.alinks) g.counts_are) h;
-  slinks = few_counted kind.Slink tags doc.counts.slinks (ap (λ (c : Counts). c.slinks) g.counts_are) h;
-}
 
 -- ---- one tag more
 

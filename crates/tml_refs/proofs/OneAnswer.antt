@@ -1,5 +1,5 @@
 -- Typed tags have one answer.
-use Rattle.std.proofs.Common.{◌≡◌, ℕ, List, sym, ap, subst, ◌∙◌}
+use Rattle.std.proofs.Common.{◌≡◌, ℕ, List, sym, subst, ◌∙◌}
 use Rattle.std.specs.List.{AllZip, filter}
 use Rattle.faults.specs.First.{NoneBreaks}
 use Rattle.faults.specs.Kinds.{number_of}

@@ -1,7 +1,7 @@
 -- The first rule that a tag breaks.
-use Rattle.std.proofs.Common.{◌≡◌, ◌≤◌, ◌==◌, ◌&&◌, ℕ, Bool, true, false, List, [], ◌∷◌, ◌++◌, length, refl, sym, ap, ◌∙◌, arith}
+use Rattle.std.proofs.Common.{◌≡◌, ◌≤◌, ◌==◌, ◌&&◌, ℕ, Bool, true, false, List, ◌∷◌, ◌++◌, length, refl, sym, ap, ◌∙◌, arith}
 use mathlib.Core.Bool.{true≢false}
-use Rattle.std.specs.List.{count_by, list_any}
+use Rattle.std.specs.List.{count_by}
 use Rattle.faults.specs.declared.kind.FaultKind.{FaultKind}
 use Rattle.faults.specs.declared.kind.FaultKind.TheVariants as kinds
 use Rattle.faults.specs.First.{NoneBreaks}

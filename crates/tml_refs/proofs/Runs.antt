@@ -1,6 +1,6 @@
 -- Entries of one name stand side by side.
-use Rattle.std.proofs.Common.{◌≡◌, ℕ, ◌+◌, ◌-◌, ◌<◌, ◌≤◌, false, List, length, take, get_or, refl, sym, ap, subst, ◌∙◌, arith, length-take}
-use Rattle.std.specs.List.{All, Contains}
+use Rattle.std.proofs.Common.{◌≡◌, ℕ, ◌+◌, ◌-◌, ◌<◌, ◌≤◌, false, List, length, take, get_or, sym, ap, subst, ◌∙◌, arith, length-take}
+use Rattle.std.specs.List.{Contains}
 use Rattle.std.specs.List.Sorted.{IsSortedByKey}
 use Rattle.std.specs.Ordering.{is_lt}
 use Rattle.std.specs.declared.cmp.Ordering.TheVariants.{Equal}

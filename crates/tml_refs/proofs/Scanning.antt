@@ -1,5 +1,5 @@
 -- The least place at which a name is repeated.
-use Rattle.std.proofs.Common.{◌≡◌, ◌⊎◌, ℕ, suc, zero, ◌+◌, ◌-◌, ◌<◌, ◌≤◌, ◌==◌, min, max, Bool, true, false, cond, List, [], ◌∷◌, ◌++◌, length, take, drop, drop-cons, get_or, refl, sym, ap, subst, ◌∙◌, inl, inr, arith, length-take, eq-eqb}
+use Rattle.std.proofs.Common.{◌≡◌, ◌⊎◌, ℕ, suc, zero, ◌+◌, ◌-◌, ◌<◌, ◌≤◌, min, max, Bool, true, false, cond, List, [], ◌∷◌, ◌++◌, length, take, drop, drop-cons, get_or, refl, sym, ap, subst, ◌∙◌, inl, inr, arith, eq-eqb}
 use mathlib.Core.Bool.{true≢false}
 use Rattle.std.specs.List.{Contains, count_by}
 use Rattle.std.specs.Str.{bytes_eq}
@@ -19,29 +19,6 @@ pub record IsScanned (entries : List Entry) (tags first least i : ℕ) (name : L
   pub here : first < tags → Repeats entries first
   pub low : (e : Entry) → Contains (take i entries) e → entry_name e ≡ name → least ≤ e.at
   pub least_is : (e : Entry) × Contains (take i entries) e × (entry_name e ≡ name) × (e.at ≡ least)
-
--- ---- the first entry
-
-only_first : (entries : List Entry) (e d : Entry) → 1 ≤ length entries → Contains (take 1 entries) e → get_or entries 0 d ≡ e
-only_first entries e d h x =
-    let at = place_in entries 1 e x in
-    let zero : at.0 ≡ 0 = omega (arith, at.1) in
-    get_or_default entries 0 d e (omega arith) ∙ ap (λ (n : ℕ). get_or entries n e) (sym zero) ∙ at.3
-
-first_in : (entries : List Entry) (d : Entry) → 1 ≤ length entries → Contains (take 1 entries) (get_or entries 0 d)
-first_in entries d h = subst (λ (xs : List Entry). Contains xs (get_or entries 0 d)) (sym (take_more entries 0 d h)) (Contains-push (take 0 entries) (get_or entries 0 d))
-
-pub scanned_one : (entries : List Entry) (tags : ℕ) (d : Entry) → 1 ≤ length entries → IsScanned entries tags tags (get_or entries 0 d).at 1 (entry_name (get_or entries 0 d))
-scanned_one entries tags d h = record {
-  at_most = omega arith;
-  none_before = λ e other x y n below.
-      let a : get_or entries 0 d ≡ e = only_first entries e d h x in
-      let b : get_or entries 0 d ≡ other = only_first entries other d h y in
-      absurd (omega (arith, below, ap (λ (f : Entry). f.at) a, ap (λ (f : Entry). f.at) b));
-  here = λ below. absurd (omega (arith, below));
-  low = λ e x n. omega (arith, ap (λ (f : Entry). f.at) (only_first entries e d h x));
-  least_is = (get_or entries 0 d, first_in entries d h, refl, refl);
-}
 
 -- ---- places
 

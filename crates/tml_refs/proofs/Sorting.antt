@@ -1,13 +1,12 @@
 -- The entries of some tags, once they are sorted.
-use Rattle.std.proofs.Common.{ℕ, ◌+◌, ◌≤◌, cond, List, get_or, arith}
-use Rattle.std.specs.List.{All, count_by}
+use Rattle.std.proofs.Common.{◌+◌, cond, List, get_or, arith}
 use Rattle.std.specs.List.Sorted.{IsPermutation, IsSorted}
 use Rattle.std.specs.Ordering.{nat_cmp, ordering_then}
 use Rattle.std.specs.declared.cmp.Ordering.{Ordering}
 use Rattle.std.proofs.lemmas.List.Sorted.{All-permutation, Contains-permutation, sum_by-IsPermutation}
 use Rattle.tml_types.specs.Content.{PlainTyped}
 use Rattle.tml_refs.specs.declared.name_index.Entry.{Entry}
-use Rattle.tml_refs.specs.NameIndex.{AreInOrder, AreEntriesOf, HasHead, IsEntryIn, is_at, key_order}
+use Rattle.tml_refs.specs.NameIndex.{AreInOrder, AreEntriesOf, IsEntryIn, is_at, key_order}
 use Rattle.tml_refs.proofs.Orders.{first_not_less}
 
 -- the order of entries: by their keys, and then by their places and numbers

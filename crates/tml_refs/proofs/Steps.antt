@@ -1,5 +1,5 @@
 -- How the tags of a document are resolved, one by one.
-use Rattle.std.proofs.Common.{◌≡◌, ◌≤◌, ◌<◌, ◌+◌, ◌^◌, ◌==◌, ℕ, suc, Bool, true, false, List, [], ◌∷◌, ◌++◌, map, length, take, drop, get_or, drop-cons, refl, sym, ap, subst, ◌∙◌, arith, length-append, eqb-true}
+use Rattle.std.proofs.Common.{◌≡◌, ◌≤◌, ◌<◌, ◌+◌, ℕ, suc, List, [], ◌∷◌, ◌++◌, map, length, take, drop, get_or, drop-cons, sym, ap, subst, ◌∙◌, arith}
 use Rattle.std.specs.List.{AllZip}
 use Rattle.std.proofs.lemmas.List.{map-append, length-map, take_all, take-append-drop}
 use Rattle.faults.specs.declared.kind.FaultKind.TheVariants.{DuplicateId}
@@ -8,21 +8,18 @@ use Rattle.faults.proofs.First.{none_breaks_more, none_breaks_nil}
 use Rattle.tml_types.specs.declared.typed.TypedTag.{TypedTag}
 use Rattle.tml_types.specs.Content.{PlainTyped}
 use Rattle.tml_types.specs.View.{typed_of}
-use Rattle.tml_refs.specs.declared.contents.Contents.{Contents}
 use Rattle.tml_refs.specs.declared.document.DocLink.{DocLink}
 use Rattle.tml_refs.specs.declared.name_index.Entry.{Entry}
 use Rattle.tml_refs.specs.declared.resolving.RefFault.{RefFault}
 use Rattle.tml_refs.specs.declared.resolving.RefFault.TheVariants as faults
-use Rattle.tml_refs.specs.Counting.{AreFew}
 use Rattle.tml_refs.specs.Documents.{IsDocument, IsLinkOf, PlainDocument, PlainInterval, Resolved, intervals_of}
 use Rattle.tml_refs.specs.Gathering.{AddsTag, Gathers, HasLaterFault}
 use Rattle.tml_refs.specs.NameIndex.{AreEntriesOf, IsFirstRepeat, IsIndexOf}
 use Rattle.tml_refs.specs.Rules.{Breaks, HasFault}
-use Rattle.tml_refs.specs.View.{document_of}
 use Rattle.tml_refs.proofs.Documents.{document_is, resolved_is}
 use Rattle.tml_refs.proofs.Knowing.{index_is}
 use Rattle.tml_refs.proofs.Listing.{place_next, plain_more}
-use Rattle.tml_refs.proofs.Making.{few_counts, gathers_more}
+use Rattle.tml_refs.proofs.Making.{gathers_more}
 use Rattle.tml_refs.proofs.Repeating.{not_taken, taken_first}
 use Rattle.tml_refs.proofs.Ruling.{added_sound, duplicate_here, later_fault}
 
@@ -49,7 +46,7 @@ cut_at tags i tag h is =
     ap (map typed_of) (sym (take-append-drop i tags) ∙ ap (λ (ts : List TypedTag). take i tags ++ ts) (drop-cons tags i tag h ∙ ap (λ (t : TypedTag). t ∷ drop (suc i) tags) (sym is)))
     ∙ map-append typed_of (take i tags) (tag ∷ drop (suc i) tags)
 
-module _ (tags : List TypedTag) (names : List Entry) (known : AreEntriesOf (map typed_of tags) names) (first : ℕ) (repeat : IsFirstRepeat names (length tags) first) (few : length tags < 2 ^ 32) where
+module _ (tags : List TypedTag) (names : List Entry) (known : AreEntriesOf (map typed_of tags) names) (first : ℕ) (repeat : IsFirstRepeat names (length tags) first) where
   abbrev all : List PlainTyped
   all = map typed_of tags
 
@@ -59,10 +56,6 @@ module _ (tags : List TypedTag) (names : List Entry) (known : AreEntriesOf (map 
   module _ (i : ℕ) (doc : PlainDocument) (tag : TypedTag) (read : HasRead tags first i doc) (inside : i < length tags) (is : tag ≡ get_or tags i tag) where
     abbrev before : List PlainTyped
     before = map typed_of (take i tags)
-
-    -- there is room for it
-    pub room : AreFew doc.counts
-    room = few_counts (intervals_of all) before doc read.makes (omega (arith, place_next tags i inside))
 
     -- it is the first one whose identifier is taken
     pub stops_at_first : (place : ℕ) → i ≡ first → place ≡ (typed_of tag).place → HasFault all (faults.DuplicateId place)
@@ -104,6 +97,3 @@ module _ (tags : List TypedTag) (names : List Entry) (known : AreEntriesOf (map 
 
   pub ends_resolved : (i : ℕ) (doc : PlainDocument) → HasRead tags first i doc → length tags ≤ i → Resolved all doc
   ends_resolved i doc read h = let made = ends i doc read h in resolved_is all doc made.0 made.1
-
-pub few_tags : (tags : List TypedTag) (typed : List PlainTyped) → map typed_of tags ≡ typed → length typed < 2 ^ 32 → length tags < 2 ^ 32
-few_tags tags typed same few = omega (arith, few, ap length same, length-map tags typed_of)

@@ -1,5 +1,5 @@
 -- What the tags so far make, and what one tag more adds.
-use Rattle.std.specs.Prelude.{◌≡◌, ℕ, Bool, true, false, ◌&&◌, ◌==◌, List, [], ◌∷◌, ◌++◌, length, Some, None, ⊤}
+use Rattle.std.specs.Prelude.{◌≡◌, ℕ, Bool, true, false, ◌&&◌, ◌==◌, List, [], ◌∷◌, ◌++◌, length, Some, ⊤}
 use Rattle.std.specs.List.{list_any, AllZip, filter}
 use Rattle.std.specs.Option.{option_to_list}
 use Rattle.net_core.specs.Limits.{max_intervals, max_links}

@@ -1,5 +1,5 @@
 use mir.Val.{bool_byte}
-use Rattle.std.proofs.Common.{◌≡◌, ◌∙◌, Vec, Global, map, take, sym, ap, arith, rules}
+use Rattle.std.proofs.Common.{◌∙◌, Vec, Global, map, take, sym, ap}
 use Rattle.tml_types.specs.View.{text_of, typed_of}
 use Rattle.tml_refs.specs.declared.name_index.Entry.{Entry}
 use Rattle.tml_refs.specs.NameIndex.{rank_of}

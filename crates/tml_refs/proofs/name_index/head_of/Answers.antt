@@ -1,4 +1,4 @@
-use Rattle.std.proofs.Common.{◌≡◌, rules}
+use Rattle.std.proofs.Common.{rules}
 use Rattle.tml_refs.specs.NameIndex.{number_from}
 use Rattle.tml_refs.proofs.Heads.{head_more}
 use Rattle.tml_refs.proofs.name_index.head_of.Goals as goal

@@ -1,4 +1,4 @@
-use Rattle.std.proofs.Common.{◌≡◌, ◌∙◌, List, sym, ap, subst, max, min, arith, rules}
+use Rattle.std.proofs.Common.{◌∙◌, List, sym, ap, subst, min, arith}
 use Rattle.tml_refs.specs.declared.name_index.Entry.{Entry}
 use Rattle.tml_refs.specs.NameIndex.{AreInOrder, IsFirstRepeat}
 use Rattle.tml_refs.proofs.Scanning.{scanned_other, scanned_same, scanned_to_end}

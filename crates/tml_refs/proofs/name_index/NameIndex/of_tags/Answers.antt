@@ -1,4 +1,4 @@
-use Rattle.std.proofs.Common.{map, rules}
+use Rattle.std.proofs.Common.{map}
 use Rattle.tml_types.specs.View.{typed_of}
 use Rattle.tml_refs.proofs.Sorting.{in_order, entries_sorted}
 use Rattle.tml_refs.proofs.name_index.NameIndex.of_tags.Goals as goal
