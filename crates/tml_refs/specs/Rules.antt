@@ -8,11 +8,11 @@ use Rattle.faults.specs.First.{FirstFault}
 use Rattle.faults.specs.Kinds.{number_of}
 use Rattle.net_core.specs.Limits.{max_intervals, max_links}
 use Rattle.tml_types.specs.declared.typed.TagKind.TheVariants as kind
-use Rattle.tml_types.specs.Content.{Content, PlainTyped, Reference}
+use Rattle.tml_types.specs.Content.{PlainTyped, Reference}
 use Rattle.tml_types.specs.Places.{place_of}
 use Rattle.tml_types.specs.References.{id_of, is_of_kind, references_of}
-use Rattle.tml_refs.specs.declared.resolve.RefFault.{RefFault}
-use Rattle.tml_refs.specs.declared.resolve.RefFault.TheVariants as faults
+use Rattle.tml_refs.specs.declared.resolving.RefFault.{RefFault}
+use Rattle.tml_refs.specs.declared.resolving.RefFault.TheVariants as faults
 
 -- a tag has this identifier
 abbrev pub has_id : List ℕ → PlainTyped → Bool
