@@ -6,8 +6,8 @@ ghost use Rattle.std.specs.Prelude.{IfSome, IsNone, ◌≡◌, ◌↔◌};
 
 use named::{Named, named_by};
 
-/// How an interval of time `a` stands to an interval `b`: the values of `relType` of TLINK in TimeML 1.2.1, in which `a`
-/// is the interval that is related to `b`. The readings by starts and ends are this project's.
+/// How an interval of time `a` is related to an interval `b`: the values of `relType` of TLINK in TimeML 1.2.1. What
+/// they say of starts and ends is the reading of this project.
 #[derive(Clone, Copy, Debug, PartialEq, Eq)]
 pub enum Rel {
     /// `a` ends before `b` begins.
@@ -95,7 +95,7 @@ impl Named for Rel {
     }
 }
 
-/// The relation whose text this is, byte for byte. None comes exactly where it is the text of none of the fourteen.
+/// The relation that has this text, byte for byte. None comes exactly where none of the fourteen has it.
 pub fn rel_of(text: &[u8]) -> Option<Rel>
     ensures exact { result ≡ named_of names.rel_text names.all_rels text.now }
     ensures some { IfSome result (λ rel. names.rel_text rel ≡ text.now) }

@@ -1,9 +1,10 @@
 -- A day has one date, and a second one civil text.
-use Rattle.std.proofs.Common.{◌≡◌, ℕ, suc, ◌-◌, ◌<◌, ◌≤◌, inl, inr, arith, refl, sym, subst}
+use Rattle.std.proofs.Common.{◌≡◌, ℕ, List, suc, ◌-◌, ◌<◌, ◌≤◌, inl, inr, arith, refl, sym, subst}
 use Rattle.std.proofs.lemmas.Bool.{cases_lt}
+use Rattle.jiff_core.proofs.SignedLemmas.{signed_arith}
 use Rattle.timex_value.specs.Civil.{month_length, IsDateOf, IsInYear, IsInMonth}
 use Rattle.timex_dates.specs.Seconds.{day_of}
-use Rattle.timex_dates.specs.Printed.{OneText}
+use Rattle.timex_dates.specs.Printed.{IsPrinted, OneText}
 use Rattle.timex_dates.proofs.Totals.{total_grows}
 use Rattle.timex_dates.proofs.Intervals.{next_year, next_month, year_start_grows, year_days, month_days}
 
@@ -40,7 +41,12 @@ one_date n y m d z k e h j =
     let same : IsDateOf n y m e = subst (λ x. IsDateOf n y x e) (sym month) there in
     (year, month, omega arith)
 
-pub one_text : OneText
-one_text t a b h k =
+printed_once : (t : ℕ) (a b : List ℕ) → IsPrinted t a → IsPrinted t b → a ≡ b
+printed_once t a b h k =
     let e = one_date (day_of t) h.0 h.1 h.2 k.0 k.1 k.2 h.3 k.3 in
     rw (h.4, k.4, e.0, e.1, e.2) refl
+
+pub one_text : OneText
+one_text second a b h k =
+    let same : h.0 ≡ k.0 = omega (arith, signed_arith) in
+    printed_once k.0 a b (subst (λ (t : ℕ). IsPrinted t a) same h.2) k.2

@@ -15,36 +15,43 @@ use Rattle.timex_value.specs.Values.{year_of, shape_of}
 use Rattle.timex_dates.specs.Seconds.{Extent, IsCivilSecond}
 use Rattle.timex_dates.specs.KnownParts.{is_whole, Belongs}
 
--- exact, with the extent of the set
-abbrev pub IsExact : (ℕ → Type 0) → Bounds → Type 0
-IsExact P (Exact lo hi) = Extent P lo hi
-IsExact P b = ⊥
+-- how well the bounds of a time are known: they are its ends, or it lies within them, or there are none
+pub data Precision : Type 0 where
+  exact : Precision
+  within : Precision
+  unspecified : Precision
 
--- within the extent of the set
-abbrev pub IsWithin : (ℕ → Type 0) → Bounds → Type 0
-IsWithin P (Within lo hi) = Extent P lo hi
-IsWithin P b = ⊥
+-- exact without a modifier and without X; within where there is an X, and for START, MID and END; and else unspecified
+abbrev pub modified_precision : Option Modifier → Bool → Precision
+modified_precision None true = exact
+modified_precision None false = within
+modified_precision (Some ModifierOf.Start) whole = within
+modified_precision (Some ModifierOf.Mid) whole = within
+modified_precision (Some ModifierOf.End) whole = within
+modified_precision (Some modifier) whole = unspecified
 
--- exact without a modifier, where no X stands in the value; within where an X stands, and for START, MID and END; free for every
--- other modifier
-abbrev pub ModifiedBounds : Option Modifier → Bool → (ℕ → Type 0) → Bounds → Type 0
-ModifiedBounds None true P b = IsExact P b
-ModifiedBounds None false P b = IsWithin P b
-ModifiedBounds (Some ModifierOf.Start) whole P b = IsWithin P b
-ModifiedBounds (Some ModifierOf.Mid) whole P b = IsWithin P b
-ModifiedBounds (Some ModifierOf.End) whole P b = IsWithin P b
-ModifiedBounds (Some modifier) whole P b = b ≡ Free
+-- unspecified where the year is all X
+abbrev pub calendar_precision : Option Modifier → Year → Shape → Precision
+calendar_precision modifier YearOf.Unknown shape = unspecified
+calendar_precision modifier year shape = modified_precision modifier (is_whole year shape)
 
--- free where nothing is known of the year
-abbrev pub CalendarBounds : Option Modifier → Year → Shape → Bounds → Type 0
-CalendarBounds modifier YearOf.Unknown shape b = b ≡ Free
-CalendarBounds modifier year shape b = ModifiedBounds modifier (is_whole year shape) (Belongs year shape) b
+-- unspecified for durations and sets
+abbrev pub precision_of : TimexKind → Option Modifier → Year → Shape → Precision
+precision_of KindOf.Duration modifier year shape = unspecified
+precision_of KindOf.Set modifier year shape = unspecified
+precision_of kind modifier year shape = calendar_precision modifier year shape
 
--- free for durations and sets, and without a calendar value
+-- bounds of this precision, whose numbers are the extent of the set
+abbrev pub HasBounds : Precision → (ℕ → Type 0) → Bounds → Type 0
+HasBounds exact P (Exact lo hi) = Extent P lo hi
+HasBounds within P (Within lo hi) = Extent P lo hi
+HasBounds unspecified P b = b ≡ Free
+HasBounds precision P b = ⊥
+
+-- the bounds of a time are those of its calendar value, and unspecified without one
 abbrev pub BoundsOf : TimexKind → Option Modifier → Option Value → Bounds → Type 0
-BoundsOf KindOf.Duration modifier value b = b ≡ Free
-BoundsOf KindOf.Set modifier value b = b ≡ Free
-BoundsOf kind modifier (Some (ValueOf.Calendar c)) b = CalendarBounds modifier (year_of c) (shape_of c) b
+BoundsOf kind modifier (Some (ValueOf.Calendar c)) b =
+    HasBounds (precision_of kind modifier (year_of c) (shape_of c)) (Belongs (year_of c) (shape_of c)) b
 BoundsOf kind modifier value b = b ≡ Free
 
 -- numbers of bounds are in order, and civil texts have both
@@ -55,8 +62,12 @@ IsCivil Free = Unit {0}
 
 -- the seconds that belong to a value have one extent
 abbrev pub OneExtent : Type 0
-OneExtent = (year : Year) (shape : Shape) (lo hi low high : ℤ) → Extent (Belongs year shape) lo hi → Extent (Belongs year shape) low high → (lo ≡ low) × (hi ≡ high)
+OneExtent =
+    (year : Year) (shape : Shape) (lo hi low high : ℤ)
+    → Extent (Belongs year shape) lo hi → Extent (Belongs year shape) low high → (lo ≡ low) × (hi ≡ high)
 
 -- a time has one answer
 abbrev pub OneBounds : Type 0
-OneBounds = (kind : TimexKind) (modifier : Option Modifier) (value : Option Value) (a b : Bounds) → BoundsOf kind modifier value a → BoundsOf kind modifier value b → a ≡ b
+OneBounds =
+    (kind : TimexKind) (modifier : Option Modifier) (value : Option Value) (a b : Bounds)
+    → BoundsOf kind modifier value a → BoundsOf kind modifier value b → a ≡ b

@@ -1,4 +1,4 @@
--- The known part of a calendar value: what stands before its first X.
+-- The known part of a calendar value: what comes before its first X.
 use Rattle.std.specs.Prelude.{ℕ, Bool, true, false, ◌&&◌}
 use Rattle.timex_value.specs.declared.shape.Year.{Year}
 use Rattle.timex_value.specs.declared.shape.Year.TheVariants as YearOf
@@ -8,44 +8,55 @@ use Rattle.timex_value.specs.declared.shape.Shape.{Shape}
 use Rattle.timex_value.specs.declared.shape.Shape.TheVariants as ShapeOf
 use Rattle.timex_dates.specs.Sets.{InYears, InWeekYears, InMonth, InQuarter, InDay, InWeek, InWeekday, InHour, InMinute, InSecond}
 
--- the seconds of what stands before the first X in a year, a month, a day, an hour, a minute and a second
-abbrev pub InDate : Year → Part → Part → Part → Part → Part → ℕ → Type 0
-InDate (YearOf.Known y) (Known m) Unknown h i s = InMonth y m
-InDate (YearOf.Known y) (Known m) (Known d) Unknown i s = InDay y m d
-InDate (YearOf.Known y) (Known m) (Known d) (Known h) Unknown s = InHour y m d h
-InDate (YearOf.Known y) (Known m) (Known d) (Known h) (Known i) Unknown = InMinute y m d h i
-InDate (YearOf.Known y) (Known m) (Known d) (Known h) (Known i) (Known s) = InSecond y m d h i s
-InDate year m d h i s = InYears year
+-- the seconds of what comes before the first X in a month, a day, an hour, a minute and a second of the year
+abbrev pub InDate : ℕ → Part → Part → Part → Part → Part → ℕ → Type 0
+InDate y Unknown d h i s = InYears (YearOf.Known y)
+InDate y (Known m) Unknown h i s = InMonth y m
+InDate y (Known m) (Known d) Unknown i s = InDay y m d
+InDate y (Known m) (Known d) (Known h) Unknown s = InHour y m d h
+InDate y (Known m) (Known d) (Known h) (Known i) Unknown = InMinute y m d h i
+InDate y (Known m) (Known d) (Known h) (Known i) (Known s) = InSecond y m d h i s
 
--- the seconds of what stands before the first X in a year of weeks, a week and its day
-abbrev pub InWeekDate : Year → Part → Part → ℕ → Type 0
-InWeekDate (YearOf.Known y) (Known w) Unknown = InWeek y w
-InWeekDate (YearOf.Known y) (Known w) (Known d) = InWeekday y w d
-InWeekDate year w d = InWeekYears year
+-- the seconds of what comes before the first X in a week of the year and its day
+abbrev pub InWeekDate : ℕ → Part → Part → ℕ → Type 0
+InWeekDate y Unknown d = InWeekYears (YearOf.Known y)
+InWeekDate y (Known w) Unknown = InWeek y w
+InWeekDate y (Known w) (Known d) = InWeekday y w d
 
--- the seconds of what stands before the first X in a year and a quarter
-abbrev pub InQuarterDate : Year → Part → ℕ → Type 0
-InQuarterDate (YearOf.Known y) (Known q) = InQuarter y q
-InQuarterDate year q = InYears year
+-- the seconds of what comes before the first X in a quarter of the year
+abbrev pub InQuarterDate : ℕ → Part → ℕ → Type 0
+InQuarterDate y Unknown = InYears (YearOf.Known y)
+InQuarterDate y (Known q) = InQuarter y q
 
--- the seconds that belong to a value; a field that its shape has not is like one that is X
+-- the seconds that belong to a value with this year; a field that its shape does not have counts as X
+abbrev pub InShape : ℕ → Shape → ℕ → Type 0
+InShape y ShapeOf.Year = InYears (YearOf.Known y)
+InShape y (ShapeOf.Month m) = InDate y m Unknown Unknown Unknown Unknown
+InShape y (ShapeOf.Day m d) = InDate y m d Unknown Unknown Unknown
+InShape y (ShapeOf.Week w) = InWeekDate y w Unknown
+InShape y (ShapeOf.Weekday w d) = InWeekDate y w d
+InShape y (ShapeOf.Quarter q) = InQuarterDate y q
+InShape y (ShapeOf.Hour m d h) = InDate y m d h Unknown Unknown
+InShape y (ShapeOf.Minute m d h i) = InDate y m d h i Unknown
+InShape y (ShapeOf.Second m d h i s) = InDate y m d h i s
+
+-- the seconds of all years that the year can be, which are years of weeks where the shape has a week
+abbrev pub InAllYears : Year → Shape → ℕ → Type 0
+InAllYears year (ShapeOf.Week w) = InWeekYears year
+InAllYears year (ShapeOf.Weekday w d) = InWeekYears year
+InAllYears year shape = InYears year
+
+-- the seconds that belong to a value
 abbrev pub Belongs : Year → Shape → ℕ → Type 0
-Belongs year ShapeOf.Year = InYears year
-Belongs year (ShapeOf.Month m) = InDate year m Unknown Unknown Unknown Unknown
-Belongs year (ShapeOf.Day m d) = InDate year m d Unknown Unknown Unknown
-Belongs year (ShapeOf.Week w) = InWeekDate year w Unknown
-Belongs year (ShapeOf.Weekday w d) = InWeekDate year w d
-Belongs year (ShapeOf.Quarter q) = InQuarterDate year q
-Belongs year (ShapeOf.Hour m d h) = InDate year m d h Unknown Unknown
-Belongs year (ShapeOf.Minute m d h i) = InDate year m d h i Unknown
-Belongs year (ShapeOf.Second m d h i s) = InDate year m d h i s
+Belongs (YearOf.Known y) shape = InShape y shape
+Belongs year shape = InAllYears year shape
 
--- the field is no X
+-- the field is not X
 abbrev pub is_known : Part → Bool
 is_known (Known n) = true
 is_known Unknown = false
 
--- no field behind the year is X
+-- no field after the year is X
 abbrev pub is_full : Shape → Bool
 is_full ShapeOf.Year = true
 is_full (ShapeOf.Month m) = is_known m
@@ -57,7 +68,7 @@ is_full (ShapeOf.Hour m d h) = is_known m && is_known d && is_known h
 is_full (ShapeOf.Minute m d h i) = is_known m && is_known d && is_known h && is_known i
 is_full (ShapeOf.Second m d h i s) = is_known m && is_known d && is_known h && is_known i && is_known s
 
--- no X stands in the value
+-- the value has no X
 abbrev pub is_whole : Year → Shape → Bool
 is_whole (YearOf.Known y) shape = is_full shape
 is_whole year shape = false

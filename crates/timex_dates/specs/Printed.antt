@@ -1,24 +1,29 @@
 -- The text of a civil date and time, `YYYY-MM-DDThh:mm:ss`.
-use Rattle.std.specs.Prelude.{◌≡◌, ℕ, ◌-◌, ◌/◌, ◌%◌, List, ◌∷◌, ◌++◌, drop, nat_lt, if◌then◌else◌}
+use Rattle.std.specs.Prelude.{◌≡◌, ℕ, ℤ, ◌-◌, ◌/◌, ◌%◌, List, ◌++◌, codes, drop, nat_lt, if◌then◌else◌}
 use Rattle.timex_value.specs.Civil.{IsDateOf}
 use Rattle.timex_value.specs.Text.{digits2, digits4}
-use Rattle.timex_dates.specs.Seconds.{day_of, clock_of}
+use Rattle.timex_dates.specs.Seconds.{day_of, clock_of, HasSecond}
 use Rattle.timex_dates.specs.declared.civil.CivilText.{CivilText}
 
--- four digits, and for 10000 a `1` (49) before four of them
+-- four digits, and for 10000 a `1` before four of them
 abbrev pub civil_year : ℕ → List ℕ
-civil_year y = if nat_lt y 10_000 then digits4 y else 49 ∷ digits4 (y - 10_000)
+civil_year y = if nat_lt y 10_000 then digits4 y else codes "1" ++ digits4 (y - 10_000)
 
--- year, month, day, and the time that is so many seconds into the day, with `-` (45), `T` (84) and `:` (58) between them
+-- year, month, day, and the time that is so many seconds into the day
 abbrev pub printed : ℕ → ℕ → ℕ → ℕ → List ℕ
 printed y m d clock =
-    civil_year y ++ (45 ∷ digits2 m) ++ (45 ∷ digits2 d)
-    ++ (84 ∷ digits2 (clock / 3600)) ++ (58 ∷ digits2 (clock / 60 % 60)) ++ (58 ∷ digits2 (clock % 60))
+    civil_year y ++ codes "-" ++ digits2 m ++ codes "-" ++ digits2 d
+    ++ codes "T" ++ digits2 (clock / 3600) ++ codes ":" ++ digits2 (clock / 60 % 60)
+    ++ codes ":" ++ digits2 (clock % 60)
 
 -- the bytes are the text of the date and the time of the second
 abbrev pub IsPrinted : ℕ → List ℕ → Type 0
 IsPrinted t bytes =
     (y : ℕ) × (m : ℕ) × (d : ℕ) × IsDateOf (day_of t) y m d × (bytes ≡ printed y m d (clock_of t))
+
+-- the bytes are the civil text of the second that has this number
+abbrev pub IsCivilText : ℤ → List ℕ → Type 0
+IsCivilText second bytes = HasSecond (λ t. IsPrinted t bytes) second
 
 -- the text, which leaves out the first byte where the year has four digits
 abbrev pub bytes_of : CivilText → List ℕ
@@ -26,4 +31,4 @@ bytes_of c = if c.wide then c.bytes else drop 1 c.bytes
 
 -- a second has one civil text
 abbrev pub OneText : Type 0
-OneText = (t : ℕ) (a b : List ℕ) → IsPrinted t a → IsPrinted t b → a ≡ b
+OneText = (second : ℤ) (a b : List ℕ) → IsCivilText second a → IsCivilText second b → a ≡ b

@@ -22,15 +22,15 @@ clock_of t = t % 86_400
 abbrev pub monday_of : ℕ → ℕ
 monday_of n = n - weekday n
 
--- the number is that of a second of the set
-abbrev pub Holds : (ℕ → Type 0) → ℤ → Type 0
-Holds P s = (t : ℕ) × (s ≡ second_number t) × P t
+-- the set has the second with this number
+abbrev pub HasSecond : (ℕ → Type 0) → ℤ → Type 0
+HasSecond P s = (t : ℕ) × (s ≡ second_number t) × P t
 
 -- lo is the least second of the set, and hi is one past its greatest
 unfoldable pub Extent : (ℕ → Type 0) → ℤ → ℤ → Type 0
 Extent P lo hi =
-    Holds P lo × ((s : ℤ) → Holds P s → lo ≤ℤ s)
-    × Holds P (hi -ℤ pos 1) × ((s : ℤ) → Holds P s → s <ℤ hi)
+    HasSecond P lo × ((s : ℤ) → HasSecond P s → lo ≤ℤ s)
+    × HasSecond P (hi -ℤ pos 1) × ((s : ℤ) → HasSecond P s → s <ℤ hi)
 
 -- from 0001-01-01 to 9999-12-31
 abbrev pub IsDayNumber : ℤ → Type 0

@@ -1,27 +1,15 @@
 -- Sets of seconds, which are counted from 0001-01-01T00:00:00. The weeks are those of ISO 8601.
 use Rattle.std.specs.Prelude.{◌≡◌, ℕ, ◌+◌, ◌/◌, ◌%◌}
-use Rattle.std.specs.Int.{IsInRange}
 use Rattle.timex_value.specs.declared.shape.Year.{Year}
-use Rattle.timex_value.specs.declared.shape.Year.TheVariants as YearOf
 use Rattle.timex_value.specs.Civil.{IsDate, day_index, weekday, IsInYear, IsInMonth, IsDateOf, IsInWeek, thursday_of}
+use Rattle.timex_value.specs.Filling.{IsYearOf}
 use Rattle.timex_dates.specs.Seconds.{day_of, clock_of}
 
--- the four digits of the year begin with those that are written
-abbrev pub BeginsWith : Year → ℕ → Type 0
-BeginsWith (YearOf.Known y) z = z ≡ y
-BeginsWith (YearOf.Decade d) z = z / 10 ≡ d
-BeginsWith (YearOf.Century c) z = z / 100 ≡ c
-BeginsWith YearOf.Unknown z = Unit {0}
-
--- a year from 1 to 9999 that begins so
-abbrev pub IsYearOf : Year → ℕ → Type 0
-IsYearOf year y = IsInRange 1 9999 y × BeginsWith year y
-
--- the days of these years
+-- the days of the years that a year with X can be
 abbrev pub InYears : Year → ℕ → Type 0
 InYears year t = (y : ℕ) × IsYearOf year y × IsInYear (day_of t) y
 
--- the weeks of these years, where a week is one of the year of its Thursday
+-- the weeks of these years, where a week belongs to the year of its Thursday
 abbrev pub InWeekYears : Year → ℕ → Type 0
 InWeekYears year t = (y : ℕ) × IsYearOf year y × IsInYear (thursday_of (day_of t)) y
 

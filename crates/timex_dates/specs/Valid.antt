@@ -1,5 +1,5 @@
 -- The calendar has the known part of a value.
-use Rattle.std.specs.Prelude.{◌<◌, ◌≤◌}
+use Rattle.std.specs.Prelude.{ℕ, ◌<◌, ◌≤◌}
 use Rattle.std.specs.Int.{IsInRange}
 use Rattle.timex_value.specs.declared.shape.Year.{Year}
 use Rattle.timex_value.specs.declared.shape.Year.TheVariants as YearOf
@@ -9,41 +9,42 @@ use Rattle.timex_value.specs.declared.shape.Shape.{Shape}
 use Rattle.timex_value.specs.declared.shape.Shape.TheVariants as ShapeOf
 use Rattle.timex_value.specs.Civil.{IsDate, weeks_of}
 
--- some year from 1 to 9999 begins so
-abbrev pub HasYear : Year → Type 0
-HasYear (YearOf.Known y) = IsInRange 1 9999 y
-HasYear (YearOf.Decade d) = d ≤ 999
-HasYear (YearOf.Century c) = c ≤ 99
-HasYear YearOf.Unknown = Unit {0}
+-- the number of the field has the property, if it is known
+abbrev pub IfKnown : Part → (ℕ → Type 0) → Type 0
+IfKnown (Known n) P = P n
+IfKnown Unknown P = Unit {0}
 
--- the year has what stands before the first X in a month, a day, an hour, a minute and a second
-abbrev pub HasDateParts : Year → Part → Part → Part → Part → Part → Type 0
-HasDateParts (YearOf.Known y) (Known m) Unknown h i s = IsInRange 1 12 m
-HasDateParts (YearOf.Known y) (Known m) (Known d) Unknown i s = IsDate y m d
-HasDateParts (YearOf.Known y) (Known m) (Known d) (Known h) Unknown s = IsDate y m d × (h ≤ 24)
-HasDateParts (YearOf.Known y) (Known m) (Known d) (Known h) (Known i) Unknown = IsDate y m d × (h ≤ 24) × (i < 60)
-HasDateParts (YearOf.Known y) (Known m) (Known d) (Known h) (Known i) (Known s) = IsDate y m d × (h ≤ 24) × (i < 60) × (s < 60)
-HasDateParts year m d h i s = Unit {0}
+-- a day has what comes before the first X in an hour, a minute and a second
+abbrev pub HasClockParts : Part → Part → Part → Type 0
+HasClockParts hour minute second =
+    IfKnown hour (λ h. (h ≤ 24) × IfKnown minute (λ i. (i < 60) × IfKnown second (λ s. s < 60)))
 
--- the year of weeks has what stands before the first X in a week and its day
-abbrev pub HasWeekParts : Year → Part → Part → Type 0
-HasWeekParts (YearOf.Known y) (Known w) Unknown = IsInRange 1 (weeks_of y) w
-HasWeekParts (YearOf.Known y) (Known w) (Known d) = IsInRange 1 (weeks_of y) w × IsInRange 1 7 d
-HasWeekParts year w d = Unit {0}
+-- the year has what comes before the first X in a month, a day, an hour, a minute and a second
+abbrev pub HasDateParts : ℕ → Part → Part → Part → Part → Part → Type 0
+HasDateParts y month day hour minute second =
+    IfKnown month (λ m. IsInRange 1 12 m × IfKnown day (λ d. IsDate y m d × HasClockParts hour minute second))
 
--- the year has the quarter
-abbrev pub HasQuarterPart : Year → Part → Type 0
-HasQuarterPart (YearOf.Known y) (Known q) = IsInRange 1 4 q
-HasQuarterPart year q = Unit {0}
+-- the year of weeks has what comes before the first X in a week and its day
+abbrev pub HasWeekParts : ℕ → Part → Part → Type 0
+HasWeekParts y week day = IfKnown week (λ w. IsInRange 1 (weeks_of y) w × IfKnown day (λ d. IsInRange 1 7 d))
 
--- the year has what stands before the first X behind it
+-- a year has the quarter
+abbrev pub HasQuarterPart : Part → Type 0
+HasQuarterPart quarter = IfKnown quarter (λ q. IsInRange 1 4 q)
+
+-- the year has the known part of the shape
+abbrev pub HasShapeParts : ℕ → Shape → Type 0
+HasShapeParts y ShapeOf.Year = Unit {0}
+HasShapeParts y (ShapeOf.Month m) = HasDateParts y m Unknown Unknown Unknown Unknown
+HasShapeParts y (ShapeOf.Day m d) = HasDateParts y m d Unknown Unknown Unknown
+HasShapeParts y (ShapeOf.Week w) = HasWeekParts y w Unknown
+HasShapeParts y (ShapeOf.Weekday w d) = HasWeekParts y w d
+HasShapeParts y (ShapeOf.Quarter q) = HasQuarterPart q
+HasShapeParts y (ShapeOf.Hour m d h) = HasDateParts y m d h Unknown Unknown
+HasShapeParts y (ShapeOf.Minute m d h i) = HasDateParts y m d h i Unknown
+HasShapeParts y (ShapeOf.Second m d h i s) = HasDateParts y m d h i s
+
+-- the same for a year that is known
 abbrev pub HasParts : Year → Shape → Type 0
-HasParts year ShapeOf.Year = Unit {0}
-HasParts year (ShapeOf.Month m) = HasDateParts year m Unknown Unknown Unknown Unknown
-HasParts year (ShapeOf.Day m d) = HasDateParts year m d Unknown Unknown Unknown
-HasParts year (ShapeOf.Week w) = HasWeekParts year w Unknown
-HasParts year (ShapeOf.Weekday w d) = HasWeekParts year w d
-HasParts year (ShapeOf.Quarter q) = HasQuarterPart year q
-HasParts year (ShapeOf.Hour m d h) = HasDateParts year m d h Unknown Unknown
-HasParts year (ShapeOf.Minute m d h i) = HasDateParts year m d h i Unknown
-HasParts year (ShapeOf.Second m d h i s) = HasDateParts year m d h i s
+HasParts (YearOf.Known y) shape = HasShapeParts y shape
+HasParts year shape = Unit {0}

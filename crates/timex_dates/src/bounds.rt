@@ -1,9 +1,10 @@
 //! Bounds of times.
 ghost use Rattle.std.specs.Prelude.{option_map, ◌≡◌};
-ghost use Rattle.timex_dates.specs.Answers.{BoundsOf, CalendarBounds, IsCivil, ModifiedBounds};
+ghost use Rattle.timex_dates.specs.Answers.{BoundsOf, HasBounds, IsCivil, calendar_precision, modified_precision};
 ghost use Rattle.timex_dates.specs.KnownParts as parts;
 ghost use Rattle.timex_dates.specs.KnownParts.{Belongs};
-ghost use Rattle.timex_dates.specs.Valid.{HasParts, HasYear};
+ghost use Rattle.timex_dates.specs.Valid.{HasParts};
+ghost use Rattle.timex_value.specs.Filling.{HasYear};
 ghost use Rattle.timex_value.specs.Values as values;
 
 use crate::interval::Interval;
@@ -15,7 +16,7 @@ use timex_value::{Calendar, Modifier, Shape, TimexKind, Value, Year};
 fn modified(modifier: Option<Modifier>, year: Year, shape: Shape) -> Bounds
     requires year { HasYear year }
     requires parts { HasParts year shape }
-    ensures bounds { ModifiedBounds modifier (parts.is_whole year shape) (Belongs year shape) result }
+    ensures bounds { HasBounds (modified_precision modifier (parts.is_whole year shape)) (Belongs year shape) result }
     ensures civil { IsCivil result }
 {
     let Interval { lo, hi } = interval_of(year, shape);
@@ -48,7 +49,9 @@ fn fields_of(calendar: &Calendar) -> (Year, Shape)
 }
 
 fn calendar_bounds(modifier: Option<Modifier>, calendar: &Calendar) -> Bounds
-    ensures bounds { CalendarBounds modifier (values.year_of calendar.now) (values.shape_of calendar.now) result }
+    ensures bounds { let year = values.year_of calendar.now in
+        let shape = values.shape_of calendar.now in
+        HasBounds (calendar_precision modifier year shape) (Belongs year shape) result }
     ensures civil { IsCivil result }
 {
     let (year, shape) = fields_of(calendar);
@@ -58,10 +61,10 @@ fn calendar_bounds(modifier: Option<Modifier>, calendar: &Calendar) -> Bounds
     }
 }
 
-/// When a time begins and ends: the bounds of its value, as its kind and its modifier leave them. A value without `X`
-/// and without a modifier has exact bounds. With START, MID or END the time lies within them, and so it does where an
-/// `X` stands in the value: then they are those of the part before the first `X`. Nothing is said by another modifier,
-/// by a duration or a set, without a calendar value, and where nothing is known of the year.
+/// When a time begins and ends, by its kind, its modifier and its value. A value without `X` and without a modifier has
+/// exact bounds. With START, MID or END the time lies within them, and so it does where the value has an `X`: then they
+/// are those of the part before the first `X`. With any other modifier, for a duration or a set, without a calendar
+/// value, and where the year is all `X`, the bounds are unspecified.
 pub fn bounds_of(kind: TimexKind, modifier: Option<Modifier>, value: Option<&Value>) -> Bounds
     ensures bounds { BoundsOf kind modifier (option_map (λ v. v.now) value.entry) result }
     ensures civil { IsCivil result }

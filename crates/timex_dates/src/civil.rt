@@ -1,11 +1,12 @@
 //! Texts of civil seconds.
 ghost use Rattle.std.specs.Prelude.{◌≡◌, ◌+◌, ◌/◌, ◌%◌, ◌<◌, ◌≤◌, ◌∷◌, ◌++◌};
 ghost use Rattle.timex_dates.specs.Printed.{bytes_of, printed};
+ghost use Rattle.timex_value.specs.Text.{digit_byte};
 
 /// A civil date and time, `YYYY-MM-DDThh:mm:ss`. The year has four digits, or is 10000.
 #[derive(Clone, Copy, Debug, PartialEq, Eq)]
 pub struct CivilText {
-    /// The text, behind a `1` that belongs to it where it is wide.
+    /// The text. Where the year has four digits, the first byte is not part of it.
     bytes: [u8; 20],
     /// The year is 10000.
     wide: bool,
@@ -13,7 +14,7 @@ pub struct CivilText {
 
 fn digit(n: u32) -> u8
     requires { n ≤ 9 }
-    ensures { result ≡ 48 + n }
+    ensures { result ≡ digit_byte n }
 {
     b'0' + n as u8
 }

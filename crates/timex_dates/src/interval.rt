@@ -2,9 +2,9 @@
 ghost use Rattle.std.specs.Int.{IsInRange};
 ghost use Rattle.std.specs.Prelude.{◌*◌, ◌*ℤ◌, ◌+◌, ◌+ℤ◌, ◌-◌, ◌↔◌, ◌≡◌, ◌≤◌, ◌≤ℤ◌, ◌<◌, pos, ℕ};
 ghost use Rattle.timex_dates.specs.Seconds.{Extent, IsCivilSecond, IsDayNumber};
-ghost use Rattle.timex_dates.specs.Sets.{InDay, InHour, InMinute, InMonth, InQuarter, InSecond, InWeek, InWeekYears, InWeekday, InYears, IsYearOf};
-ghost use Rattle.timex_dates.specs.Valid.{HasYear};
+ghost use Rattle.timex_dates.specs.Sets.{InDay, InHour, InMinute, InMonth, InQuarter, InSecond, InWeek, InWeekYears, InWeekday, InYears};
 ghost use Rattle.timex_value.specs.Civil.{IsDate, weeks_of};
+ghost use Rattle.timex_value.specs.Filling.{HasYear};
 
 use crate::days::{day_number, last_of_month, monday_number};
 use timex_value::Year;
@@ -17,18 +17,18 @@ pub(crate) struct Interval {
 }
 
 /// From the start of a day up to so many days after the start of another one.
-fn days_to(first: i64, last: i64, more: u8) -> Interval
+fn days_to(first: i64, last: i64, count: u8) -> Interval
     requires first { IsDayNumber first }
     requires last { IsDayNumber last }
-    requires more { more ≤ 7 }
-    requires end { (last +ℤ pos more) ≤ℤ pos 2_932_899 }
+    requires count { count ≤ 7 }
+    requires end { (last +ℤ pos count) ≤ℤ pos 2_932_899 }
     ensures lo { result.lo ≡ first *ℤ pos 86_400 }
-    ensures hi { result.hi ≡ (last +ℤ pos more) *ℤ pos 86_400 }
+    ensures hi { result.hi ≡ (last +ℤ pos count) *ℤ pos 86_400 }
     ensures range { IsCivilSecond result.lo × IsCivilSecond result.hi }
 {
     Interval {
         lo: first * 86_400,
-        hi: (last + more as i64) * 86_400,
+        hi: (last + count as i64) * 86_400,
     }
 }
 
@@ -63,39 +63,25 @@ fn part_of_day(number: i64, from: u32, size: u16) -> Interval
     }
 }
 
-/// The first and the last of the years that begin with the digits of a value's year.
-fn run_of(year: Year) -> (u16, u16)
-    requires { HasYear year }
-    ensures first { 1 ≤ result.0 }
-    ensures last { result.0 ≤ result.1 }
-    ensures limit { result.1 ≤ 9999 }
-    ensures years { (y : ℕ) → IsYearOf year y ↔ IsInRange result.0 result.1 y }
-{
-    match year {
-        Year::Known(y) => (y, y),
-        Year::Decade(d) => ((d * 10).max(1), d * 10 + 9),
-        Year::Century(c) => ((c * 100).max(1), c * 100 + 99),
-        Year::Unknown => (1, 9999),
-    }
-}
-
 /// The days of years.
+#[tactic(auto, using(timex_value::proofs::Years::year_written))]
 pub(crate) fn years(year: Year) -> Interval
     requires { HasYear year }
     ensures extent { Extent (InYears year) result.lo result.hi }
     ensures range { IsCivilSecond result.lo × IsCivilSecond result.hi }
 {
-    let (first, last) = run_of(year);
+    let (first, last) = year.range();
     days_to(day_number(first, 1, 1), day_number(last, 12, 31), 1)
 }
 
 /// The weeks of years, where the first week of a year has 4 January and the last one 28 December.
+#[tactic(auto, using(timex_value::proofs::Years::year_written))]
 pub(crate) fn week_years(year: Year) -> Interval
     requires { HasYear year }
     ensures extent { Extent (InWeekYears year) result.lo result.hi }
     ensures range { IsCivilSecond result.lo × IsCivilSecond result.hi }
 {
-    let (first, last) = run_of(year);
+    let (first, last) = year.range();
     days_to(monday_number(first, 1, 4), monday_number(last, 12, 28), 7)
 }
 

@@ -1,91 +1,82 @@
-//! The known part of a value: what stands before its first `X`.
+//! The known part of a value: what comes before its first `X`.
+ghost use Rattle.std.specs.Int.{IsInRange};
 ghost use Rattle.std.specs.Prelude.{◌≡◌, ◌<ℤ◌};
 ghost use Rattle.timex_dates.specs.KnownParts as parts;
-ghost use Rattle.timex_dates.specs.KnownParts.{Belongs, InDate, InQuarterDate, InWeekDate};
+ghost use Rattle.timex_dates.specs.KnownParts.{Belongs, InAllYears, InDate, InQuarterDate, InShape, InWeekDate};
 ghost use Rattle.timex_dates.specs.Seconds.{Extent, IsCivilSecond};
-ghost use Rattle.timex_dates.specs.Valid.{HasDateParts, HasParts, HasQuarterPart, HasWeekParts, HasYear};
+ghost use Rattle.timex_value.specs.Filling.{HasYear};
+ghost use Rattle.timex_dates.specs.Valid.{HasDateParts, HasParts, HasQuarterPart, HasShapeParts, HasWeekParts};
 
 use crate::interval;
 use crate::interval::Interval;
 use timex_value::{Part, Shape, Year};
 
-/// A field that is not known, or that the shape has not.
+/// A field that is unknown, or that the shape does not have.
 const X: Part = Part::Unknown;
 
-/// The interval of what stands before the first `X` in a date and its time.
-fn date(year: Year, month: Part, day: Part, hour: Part, minute: Part, second: Part) -> Interval
-    requires year { HasYear year }
+/// The interval of what comes before the first `X` in a date and its time.
+fn date(year: u16, month: Part, day: Part, hour: Part, minute: Part, second: Part) -> Interval
+    requires year { IsInRange 1 9999 year }
     requires parts { HasDateParts year month day hour minute second }
     ensures extent { Extent (InDate year month day hour minute second) result.lo result.hi }
     ensures range { IsCivilSecond result.lo × IsCivilSecond result.hi }
 {
-    let Year::Known(y) = year else {
-        return interval::years(year);
-    };
     let Part::Known(m) = month else {
-        return interval::years(year);
+        return interval::years(Year::Known(year));
     };
     let Part::Known(d) = day else {
-        return interval::month(y, m);
+        return interval::month(year, m);
     };
     let Part::Known(h) = hour else {
-        return interval::day(y, m, d);
+        return interval::day(year, m, d);
     };
     let Part::Known(i) = minute else {
-        return interval::hour(y, m, d, h);
+        return interval::hour(year, m, d, h);
     };
     let Part::Known(s) = second else {
-        return interval::minute(y, m, d, h, i);
+        return interval::minute(year, m, d, h, i);
     };
-    interval::second(y, m, d, h, i, s)
+    interval::second(year, m, d, h, i, s)
 }
 
-/// The interval of what stands before the first `X` in a week and its day.
-fn week_date(year: Year, week: Part, day: Part) -> Interval
-    requires year { HasYear year }
+/// The interval of what comes before the first `X` in a week and its day.
+fn week_date(year: u16, week: Part, day: Part) -> Interval
+    requires year { IsInRange 1 9999 year }
     requires parts { HasWeekParts year week day }
     ensures extent { Extent (InWeekDate year week day) result.lo result.hi }
     ensures range { IsCivilSecond result.lo × IsCivilSecond result.hi }
 {
-    let Year::Known(y) = year else {
-        return interval::week_years(year);
-    };
     let Part::Known(w) = week else {
-        return interval::week_years(year);
+        return interval::week_years(Year::Known(year));
     };
     let Part::Known(d) = day else {
-        return interval::week(y, w);
+        return interval::week(year, w);
     };
-    interval::weekday(y, w, d)
+    interval::weekday(year, w, d)
 }
 
-/// The interval of what stands before the first `X` in a quarter.
-fn quarter_date(year: Year, quarter: Part) -> Interval
-    requires year { HasYear year }
-    requires parts { HasQuarterPart year quarter }
+/// The interval of what comes before the first `X` in a quarter.
+fn quarter_date(year: u16, quarter: Part) -> Interval
+    requires year { IsInRange 1 9999 year }
+    requires parts { HasQuarterPart quarter }
     ensures extent { Extent (InQuarterDate year quarter) result.lo result.hi }
     ensures range { IsCivilSecond result.lo × IsCivilSecond result.hi }
 {
-    let Year::Known(y) = year else {
-        return interval::years(year);
-    };
     let Part::Known(q) = quarter else {
-        return interval::years(year);
+        return interval::years(Year::Known(year));
     };
-    interval::quarter(y, q)
+    interval::quarter(year, q)
 }
 
-/// The interval of the known part of a value.
-#[tactic(auto, using(crate::proofs::Extents::extent_order))]
-pub(crate) fn interval_of(year: Year, shape: Shape) -> Interval
-    requires year { HasYear year }
-    requires parts { HasParts year shape }
-    ensures extent { Extent (Belongs year shape) result.lo result.hi }
-    ensures order { result.lo <ℤ result.hi }
+/// The interval of a value whose year is known.
+fn in_year(year: u16, shape: Shape) -> Interval
+    requires year { IsInRange 1 9999 year }
+    requires parts { HasShapeParts year shape }
+    ensures extent { Extent (InShape year shape) result.lo result.hi }
     ensures range { IsCivilSecond result.lo × IsCivilSecond result.hi }
 {
     match shape {
-        Shape::Year => interval::years(year),
+        Shape::Year => interval::years(Year::Known(year)),
         Shape::Month { month } => date(year, month, X, X, X, X),
         Shape::Day { month, day } => date(year, month, day, X, X, X),
         Shape::Week { week } => week_date(year, week, X),
@@ -108,7 +99,40 @@ pub(crate) fn interval_of(year: Year, shape: Shape) -> Interval
     }
 }
 
-/// Whether a field is no `X`.
+/// The interval of all years that a year can be, which are years of weeks where the shape has a week.
+fn all_years(year: Year, shape: Shape) -> Interval
+    requires year { HasYear year }
+    ensures extent { Extent (InAllYears year shape) result.lo result.hi }
+    ensures range { IsCivilSecond result.lo × IsCivilSecond result.hi }
+{
+    match shape {
+        Shape::Week { .. } | Shape::Weekday { .. } => interval::week_years(year),
+        Shape::Year
+        | Shape::Month { .. }
+        | Shape::Day { .. }
+        | Shape::Quarter { .. }
+        | Shape::Hour { .. }
+        | Shape::Minute { .. }
+        | Shape::Second { .. } => interval::years(year),
+    }
+}
+
+/// The interval of the known part of a value.
+#[tactic(auto, using(crate::proofs::Extents::extent_order))]
+pub(crate) fn interval_of(year: Year, shape: Shape) -> Interval
+    requires year { HasYear year }
+    requires parts { HasParts year shape }
+    ensures extent { Extent (Belongs year shape) result.lo result.hi }
+    ensures order { result.lo <ℤ result.hi }
+    ensures range { IsCivilSecond result.lo × IsCivilSecond result.hi }
+{
+    match year {
+        Year::Known(y) => in_year(y, shape),
+        Year::Decade(_) | Year::Century(_) | Year::Unknown => all_years(year, shape),
+    }
+}
+
+/// Whether a field is not `X`.
 fn is_known(part: Part) -> bool
     ensures { result ≡ parts.is_known part }
 {
@@ -118,7 +142,7 @@ fn is_known(part: Part) -> bool
     }
 }
 
-/// Whether no field behind the year is `X`.
+/// Whether no field after the year is `X`.
 fn is_full(shape: Shape) -> bool
     ensures { result ≡ parts.is_full shape }
 {
@@ -149,7 +173,7 @@ fn is_full(shape: Shape) -> bool
     }
 }
 
-/// Whether no `X` stands in a value with this year and this shape.
+/// Whether a value with this year and this shape has no `X`.
 pub(crate) fn is_whole(year: Year, shape: Shape) -> bool
     ensures { result ≡ parts.is_whole year shape }
 {

@@ -1,7 +1,7 @@
 //! Printing civil texts.
 ghost use Rattle.std.specs.Prelude.{◌≡◌, ℕ, ◌+◌, ◌-◌, ◌/◌, ◌%◌, ◌<◌, ◌≤◌, pos, neg_ℤ, ◌+ℤ◌, ◌-ℤ◌, ◌≤ℤ◌};
-ghost use Rattle.timex_dates.specs.Printed.{bytes_of, IsPrinted};
-ghost use Rattle.timex_dates.specs.Seconds.{Holds, IsCivilSecond};
+ghost use Rattle.timex_dates.specs.Printed.{bytes_of, IsCivilText};
+ghost use Rattle.timex_dates.specs.Seconds.{IsCivilSecond};
 ghost use Rattle.timex_value.specs.Civil.{IsDateOf};
 
 use crate::CivilText;
@@ -31,7 +31,7 @@ fn date_at(day: u32) -> (u16, u8, u8)
 /// 0001-01-01T00:00:00 to 10000-01-03T00:00:00, so from -62135596800 to 253402473600.
 pub fn civil_text(second: i64) -> CivilText
     requires { IsCivilSecond second }
-    ensures { Holds (λ t. IsPrinted t (bytes_of result)) second }
+    ensures { IsCivilText second (bytes_of result) }
 {
     let since = (second + 62_135_596_800) as u64;
     let (year, month, day) = date_at((since / 86_400) as u32);

@@ -1,29 +1,32 @@
--- A text stands for one value, and then it has a valid filling if it has a calendar shape.
+-- A text has one value, and a calendar value has a valid filling.
 use Rattle.std.proofs.Common.{◌≡◌, ℕ, List, ◌∷◌, refl, ap, subst, arith}
 use Rattle.std.proofs.Math.Logic.{∥∥₁_prop, ∥∥₁_elim}
 use mathlib.Core.HLevel.{is_prop→PathP}
+use Rattle.std.specs.Str.{byte}
 use Rattle.timex_value.specs.declared.shape.Year.{Year}
 use Rattle.timex_value.specs.declared.shape.Year.TheVariants as YearOf
 use Rattle.timex_value.specs.declared.shape.Shape.{Shape}
 use Rattle.timex_value.specs.declared.length.Length.{Length}
 use Rattle.timex_value.specs.declared.value.Calendar.{Calendar as CalendarOf}
 use Rattle.timex_value.specs.declared.value.Value.TheVariants.{Calendar, Duration, Other}
-use Rattle.timex_value.specs.Text.{Spells, YearAt, IsYearWritten, IsShapeWritten}
+use Rattle.timex_value.specs.Text.{Spells, IsYearWritten, IsShapeWritten}
+use Rattle.timex_value.specs.Places.{YearFirst}
 use Rattle.timex_value.specs.Filling.{HasFilling}
 use Rattle.timex_value.specs.Durations.{SpellsLength}
 use Rattle.timex_value.specs.Values.{year_of, shape_of, OneValue, ValueOrBad}
 use Rattle.timex_value.proofs.Spelling.{one_spelling, filled_once}
+use Rattle.timex_value.proofs.Places.{by_place}
 use Rattle.timex_value.proofs.Lengths.{one_length}
 
 -- no year begins with P
-year_no_p : (y : Year) (rest : List ℕ) → YearAt 0 y (80 ∷ rest) → ⊥
+year_no_p : (y : Year) (rest : List ℕ) → YearFirst y (byte "P" ∷ rest) → ⊥
 year_no_p (YearOf.Known y) rest h = grind arith
 year_no_p (YearOf.Decade y) rest h = grind arith
 year_no_p (YearOf.Century y) rest h = grind arith
 year_no_p YearOf.Unknown rest h = grind arith
 
 pub no_both : (y : Year) (s : Shape) (l : Length) (text : List ℕ) → Spells y s text → SpellsLength l text → ⊥
-no_both y s l text h k = year_no_p y k.0 (subst (λ (x : List ℕ). YearAt 0 y x) k.2 h.0)
+no_both y s l text h k = year_no_p y k.0 (subst (λ (x : List ℕ). YearFirst y x) k.2 (by_place y s text h).0)
 
 -- a calendar value is its year and its shape
 one_calendar : (c d : CalendarOf) → year_of c ≡ year_of d → shape_of c ≡ shape_of d → c ≡ d

@@ -1,5 +1,5 @@
--- Texts of durations.
-use Rattle.std.specs.Prelude.{◌≡◌, ℕ, ◌⊎◌, Bool, true, false, ◌||◌, List, [], ◌∷◌, ◌++◌, length, IsTrue, IsFalse}
+-- Texts of durations, as `P1Y2M3DT4H5M6S`.
+use Rattle.std.specs.Prelude.{◌≡◌, ℕ, ◌⊎◌, Bool, true, false, ◌||◌, List, [], ◌∷◌, ◌++◌, length, codes, IsTrue, IsFalse}
 use Rattle.std.specs.Int.{IsInRange}
 use Rattle.std.specs.Str.Parse.{AllDigits, digits_value}
 use Rattle.timex_value.specs.declared.length.Count.{Count}
@@ -7,57 +7,78 @@ use Rattle.timex_value.specs.declared.length.Count.TheVariants.{Absent, Number, 
 use Rattle.timex_value.specs.declared.length.Length.{Length}
 
 -- a count with its unit: nothing, or one to nine digits and the unit, or X and the unit
-abbrev pub Counts : ℕ → Count → List ℕ → Type 0
-Counts unit Absent text = text ≡ []
-Counts unit (Number n) text =
+abbrev pub CountText : ℕ → Count → List ℕ → Type 0
+CountText unit Absent text = text ≡ []
+CountText unit (Number n) text =
     (digits : List ℕ) × AllDigits 10 digits × IsInRange 1 9 (length digits) × (n ≡ digits_value 10 digits)
     × (text ≡ digits ++ (unit ∷ []))
-Counts unit Unknown text = text ≡ 88 ∷ unit ∷ []
+CountText unit Unknown text = text ≡ codes "X" ++ (unit ∷ [])
 
 -- a count with its unit, and then the rest
 abbrev pub CountThen : ℕ → Count → List ℕ → List ℕ → Type 0
-CountThen unit count text rest = (front : List ℕ) × Counts unit count front × (text ≡ front ++ rest)
+CountThen unit count text rest = (prefix : List ℕ) × CountText unit count prefix × (text ≡ prefix ++ rest)
 
--- years, months, weeks and days with their units Y, M, W and D, and then the rest
+-- counts with these units in their order, and then the rest
+abbrev pub CountsThen : List ℕ → List Count → List ℕ → List ℕ → Type 0
+CountsThen [] [] text rest = text ≡ rest
+CountsThen (unit ∷ units) (count ∷ counts) text rest =
+    (next : List ℕ) × CountThen unit count text next × CountsThen units counts next rest
+CountsThen units counts text rest = ⊥
+
+-- years, months, weeks and days, and then the rest
 abbrev pub DateThen : Count → Count → Count → Count → List ℕ → List ℕ → Type 0
-DateThen years months weeks days text rest =
-    (a : List ℕ) × (b : List ℕ) × (c : List ℕ)
-    × CountThen 89 years text a × CountThen 77 months a b × CountThen 87 weeks b c × CountThen 68 days c rest
+DateThen years months weeks days = CountsThen (codes "YMWD") (years ∷ months ∷ weeks ∷ days ∷ [])
 
--- hours, minutes and seconds with their units H, M and S, and then the rest
+-- hours, minutes and seconds, and then the rest
 abbrev pub ClockThen : Count → Count → Count → List ℕ → List ℕ → Type 0
-ClockThen hours minutes seconds text rest =
-    (a : List ℕ) × (b : List ℕ) × CountThen 72 hours text a × CountThen 77 minutes a b × CountThen 83 seconds b rest
+ClockThen hours minutes seconds = CountsThen (codes "HMS") (hours ∷ minutes ∷ seconds ∷ [])
 
--- a number or an X is there
-abbrev pub is_written : Count → Bool
-is_written Absent = false
-is_written count = true
+-- a number or an X is written
+abbrev pub is_present : Count → Bool
+is_present Absent = false
+is_present count = true
 
--- one count of a clock at least is written
+-- at least one count of a clock is written
 abbrev pub has_clock : Count → Count → Count → Bool
-has_clock hours minutes seconds = is_written hours || is_written minutes || is_written seconds
+has_clock hours minutes seconds = is_present hours || is_present minutes || is_present seconds
 
--- nothing, or T and then hours, minutes and seconds, one of them at least
+-- nothing, or T and then hours, minutes and seconds, at least one of them
 abbrev pub ClockText : Count → Count → Count → List ℕ → Type 0
 ClockText hours minutes seconds text =
     (IsFalse (has_clock hours minutes seconds) × (text ≡ []))
-    ⊎ (IsTrue (has_clock hours minutes seconds) × ((timed : List ℕ) × (text ≡ 84 ∷ timed) × ClockThen hours minutes seconds timed []))
+    ⊎ (IsTrue (has_clock hours minutes seconds)
+    × ((timed : List ℕ) × (text ≡ codes "T" ++ timed) × ClockThen hours minutes seconds timed []))
 
--- one count at least is written
+-- at least one count is written
 abbrev pub is_length : Length → Bool
 is_length l =
-    is_written l.years || is_written l.months || is_written l.weeks || is_written l.days
+    is_present l.years || is_present l.months || is_present l.weeks || is_present l.days
     || has_clock l.hours l.minutes l.seconds
 
--- P, then the counts of a date, then those of a clock, one of all at least
+-- P, then the counts of a date, then those of a clock, at least one count in all
 abbrev pub SpellsLength : Length → List ℕ → Type 0
 SpellsLength l text =
     (dated : List ℕ) × (timed : List ℕ)
-    × (text ≡ 80 ∷ dated) × DateThen l.years l.months l.weeks l.days dated timed × ClockText l.hours l.minutes l.seconds timed
-    × IsTrue (is_length l)
+    × (text ≡ codes "P" ++ dated) × DateThen l.years l.months l.weeks l.days dated timed
+    × ClockText l.hours l.minutes l.seconds timed × IsTrue (is_length l)
 
--- a count as it is read: absent only where no other stands in front
+-- the text is that of no duration
+abbrev pub NoLength : List ℕ → Type 0
+NoLength text = (l : Length) → SpellsLength l text → ⊥
+
+-- the text begins with no number of this unit
+abbrev pub NoNumber : ℕ → List ℕ → Type 0
+NoNumber unit text = (n : ℕ) (rest : List ℕ) → CountThen unit (Number n) text rest → ⊥
+
+-- the text begins with no X of this unit
+abbrev pub NoUnknown : ℕ → List ℕ → Type 0
+NoUnknown unit text = (rest : List ℕ) → CountThen unit Unknown text rest → ⊥
+
+-- the text is that of no clock
+abbrev pub NoClock : List ℕ → Type 0
+NoClock text = (hours minutes seconds : Count) → ClockText hours minutes seconds text → ⊥
+
+-- a count as it is read: absent only where the text begins with no number and no X of its unit
 pub record ReadsCount (unit : ℕ) (count : Count) (text rest : List ℕ) : Type 0 where
   pub then : CountThen unit count text rest
-  pub other : count ≡ Absent → (c : Count) (after : List ℕ) → CountThen unit c text after → c ≡ Absent
+  pub none : count ≡ Absent → NoNumber unit text × NoUnknown unit text

@@ -4,10 +4,9 @@ ghost use Rattle.std.specs.Char.{is_ascii_digit};
 ghost use Rattle.std.specs.List.{prefix_len};
 ghost use Rattle.std.specs.Str.Parse.{AllDigits, digits_value};
 ghost use Rattle.timex_value.specs.Durations as durations;
-ghost use Rattle.timex_value.specs.Durations.{CountThen, ReadsCount, ClockText, SpellsLength};
+ghost use Rattle.timex_value.specs.Durations.{CountThen, NoNumber, NoUnknown, NoClock, ReadsCount, ClockText, SpellsLength};
 ghost use Rattle.timex_value.specs.declared.length.Count.TheVariants as count;
-ghost use Rattle.timex_value.specs.declared.length.Count.{Count as CountOf};
-ghost use Rattle.timex_value.specs.Text.{Finds};
+ghost use Rattle.timex_value.specs.Text.{FindsExactly};
 
 use crate::{Count, Length};
 
@@ -31,7 +30,7 @@ fn number(digits: &[u8]) -> u32
     n
 }
 
-/// What follows a byte in front of a text.
+/// What follows the first byte of a text, where it is this one.
 fn after(byte: u8, text: &[u8]) -> Option<&[u8]>
     ensures { MatchOption result ((rest : ListOf ℕ) → text.now ≢ byte ∷ rest) (λ rest. text.now ≡ byte ∷ rest.now) }
 {
@@ -41,10 +40,10 @@ fn after(byte: u8, text: &[u8]) -> Option<&[u8]>
     }
 }
 
-/// One to nine digits with their unit in front of a text, and the rest.
+/// One to nine digits with their unit at the start of a text, and the rest.
 fn number_at(unit: u8, text: &[u8]) -> Option<(u32, &[u8])>
     requires { IsFalse (is_ascii_digit unit) }
-    ensures { MatchOption result ((n : ℕ) (rest : ListOf ℕ) → CountThen unit (count.Number n) text.now rest → ⊥) (λ r. CountThen unit (count.Number r.0) text.now r.1.now) }
+    ensures { MatchOption result (NoNumber unit text.now) (λ r. CountThen unit (count.Number r.0) text.now r.1.now) }
 {
     let (digits, rest) = text.split_at(digits_len(text));
     if digits.is_empty() || 9 < digits.len() {
@@ -56,15 +55,15 @@ fn number_at(unit: u8, text: &[u8]) -> Option<(u32, &[u8])>
     Some((number(digits), rest))
 }
 
-/// What follows `X` and its unit in front of a text.
+/// What follows `X` and its unit at the start of a text.
 fn unknown_at(unit: u8, text: &[u8]) -> Option<&[u8]>
-    ensures { MatchOption result ((rest : ListOf ℕ) → CountThen unit count.Unknown text.now rest → ⊥) (λ rest. CountThen unit count.Unknown text.now rest.now) }
+    ensures { MatchOption result (NoUnknown unit text.now) (λ rest. CountThen unit count.Unknown text.now rest.now) }
 {
     let text = after(b'X', text)?;
     after(unit, text)
 }
 
-/// A count with its unit in front of a text, and the rest.
+/// A count with its unit at the start of a text, and the rest.
 fn count_at(unit: u8, text: &[u8]) -> (Count, &[u8])
     requires { IsFalse (is_ascii_digit unit) }
     ensures { ReadsCount unit result.0 text.now result.1.now }
@@ -78,15 +77,15 @@ fn count_at(unit: u8, text: &[u8]) -> (Count, &[u8])
     (Count::Absent, text)
 }
 
-fn is_written(count: Count) -> bool
-    ensures { result ≡ durations.is_written count }
+fn is_present(count: Count) -> bool
+    ensures { result ≡ durations.is_present count }
 {
     !matches!(count, Count::Absent)
 }
 
-/// The hours, minutes and seconds of a duration, from the rest of its text behind the days.
+/// The hours, minutes and seconds of a duration, from the rest of its text after the days.
 fn clock(text: &[u8]) -> Option<(Count, Count, Count)>
-    ensures { MatchOption result ((hours minutes seconds : CountOf) → ClockText hours minutes seconds text.now → ⊥) (λ r. ClockText r.0 r.1 r.2 text.now) }
+    ensures { MatchOption result (NoClock text.now) (λ r. ClockText r.0 r.1 r.2 text.now) }
 {
     if text.is_empty() {
         return Some((Count::Absent, Count::Absent, Count::Absent));
@@ -100,7 +99,7 @@ fn clock(text: &[u8]) -> Option<(Count, Count, Count)>
     if !text.is_empty() {
         return None;
     }
-    if is_written(hours) || is_written(minutes) || is_written(seconds) {
+    if is_present(hours) || is_present(minutes) || is_present(seconds) {
         return Some((hours, minutes, seconds));
     }
     None
@@ -109,18 +108,18 @@ fn clock(text: &[u8]) -> Option<(Count, Count, Count)>
 fn is_length(length: &Length) -> bool
     ensures { result ≡ durations.is_length length.now }
 {
-    is_written(length.years)
-        || is_written(length.months)
-        || is_written(length.weeks)
-        || is_written(length.days)
-        || is_written(length.hours)
-        || is_written(length.minutes)
-        || is_written(length.seconds)
+    is_present(length.years)
+        || is_present(length.months)
+        || is_present(length.weeks)
+        || is_present(length.days)
+        || is_present(length.hours)
+        || is_present(length.minutes)
+        || is_present(length.seconds)
 }
 
 /// The duration that a text spells.
 pub(crate) fn duration(text: &[u8]) -> Option<Length>
-    ensures { Finds (λ l. SpellsLength l text.now) result }
+    ensures { FindsExactly (λ l. SpellsLength l text.now) result }
 {
     let text = after(b'P', text)?;
     let (years, text) = count_at(b'Y', text);

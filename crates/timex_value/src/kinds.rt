@@ -14,7 +14,7 @@ pub enum TimexKind {
     Time,
     /// A length of time.
     Duration,
-    /// A time that comes again and again.
+    /// A time that recurs.
     Set,
 }
 

@@ -59,7 +59,7 @@ fn class_of(text: &[u8]) -> Class {
 }
 
 #[test]
-fn texts_are_told_apart(rt: HostRuntime) {
+fn texts_are_kept_apart(rt: HostRuntime) {
     let cases: [(&[u8], Class); 60] = [
         (b"XXXX-02-30", Class::Bad),
         (b"1998-13", Class::Bad),
@@ -251,6 +251,21 @@ fn durations_have_their_counts(rt: HostRuntime) {
     ];
     for (text, want) in cases {
         assert_eq!(rt; read_value(text), Ok(Value::Duration(want)));
+    }
+}
+
+#[test]
+fn years_have_their_ranges(rt: HostRuntime) {
+    let cases: [(Year, (u16, u16)); 6] = [
+        (Year::Known(1998), (1998, 1998)),
+        (Year::Decade(199), (1990, 1999)),
+        (Year::Century(19), (1900, 1999)),
+        (Year::Decade(0), (1, 9)),
+        (Year::Century(0), (1, 99)),
+        (Year::Unknown, (1, 9999)),
+    ];
+    for (year, want) in cases {
+        assert_eq!(rt; year.range(), want);
     }
 }
 

@@ -1,246 +1,126 @@
--- What names know once a tag is added.
-use mir.Val.{bool_byte}
-use Rattle.std.proofs.Common.{◌≡◌, ℕ, suc, zero, ◌+◌, ◌<◌, ◌≤◌, arith, take, get_or, length-append, Bool, true, false, ◌||◌, ◌&&◌, cond, List, [], ◌∷◌, ◌++◌, length, refl, sym, ap, subst, ◌∙◌, Option, Some, None, IfSome, rules}
-use Rattle.std.specs.Bool.{Decides}
-use Rattle.std.specs.List.{list_any, filter_map, cons_option, slice_get}
-use Rattle.std.specs.Map.{lookup}
-use Rattle.std.specs.Option.{is_some, option_and_then, option_to_list}
-use Rattle.std.specs.Str.{bytes_eq}
-use Rattle.std.proofs.lemmas.Bool.{and_right}
-use Rattle.std.proofs.lemmas.List.{take_more}
-use Rattle.std.proofs.lemmas.List.Elements.{filter_map-append}
-use Rattle.std.proofs.lemmas.List.Folds.{list_any-append}
-use Rattle.std.proofs.lemmas.Slice.Eq.{bytes_eq-Decides}
-use Rattle.tml_types.specs.declared.typed.LinkEnd.{LinkEnd}
-use Rattle.tml_types.specs.declared.typed.LinkEnd.TheVariants as end
-use Rattle.tml_types.specs.declared.typed.TypedTag.{TypedTag}
-use Rattle.tml_types.specs.declared.typed.TypedTag.TheVariants.{Event, Instance, Timex, Signal}
-use Rattle.tml_refs.specs.declared.contents.Interval.{Interval}
-use Rattle.tml_refs.specs.declared.contents.Interval.TheVariants as interval
-use Rattle.tml_refs.specs.declared.names.Owners.{Owners}
-use Rattle.tml_refs.specs.declared.names.Target.{Target}
-use Rattle.tml_refs.specs.declared.names.Target.TheVariants as target
-use Rattle.tml_refs.specs.declared.rules.Rule.TheVariants.{DuplicateId}
-use Rattle.tml_refs.specs.Identifying.{AddsId, AddsTag, is_taken, or_nobody}
-use Rattle.tml_refs.specs.Kinds.{is_event, is_instance, is_timex, is_signal, is_interval}
-use Rattle.tml_refs.specs.Owning.{Knows, number_in, owns, with_tag}
-use Rattle.tml_refs.specs.Resolved.{NamesAt, interval_of}
-use Rattle.tml_refs.specs.Rules.{breaks}
-use Rattle.tml_refs.specs.Tags.{has_id, id_of, is_target}
+-- What the names of a document say of its tags.
+use Rattle.std.proofs.Common.{◌≡◌, ◌==◌, ℕ, Bool, true, false, not, List, ◌∷◌, ◌++◌, refl, sym, ap, subst, ◌∙◌, Option, Some, IsSome, eq-eqb, eqb-true}
+use Rattle.std.specs.List.{list_any, slice_get}
+use Rattle.std.proofs.lemmas.Bool.{and_from}
+use Rattle.std.proofs.lemmas.List.Elements.{All-contains}
+use Rattle.std.proofs.lemmas.List.Folds.{list_any_at}
+use Rattle.std.proofs.lemmas.Option.{same_Some}
+use Rattle.tml_types.specs.declared.typed.TagKind.{TagKind}
+use Rattle.tml_types.specs.declared.typed.TagKind.TheVariants as kind
+use Rattle.tml_types.specs.Content as content
+use Rattle.tml_types.specs.Content.{Content, PlainTyped, Reference}
+use Rattle.tml_types.specs.References.{id_of, is_of_kind, reference, references_of}
+use Rattle.tml_types.specs.References as references
+use Rattle.tml_refs.specs.declared.document.DocLink.{DocLink}
+use Rattle.tml_refs.specs.declared.name_index.Entry.{Entry}
+use Rattle.tml_refs.specs.Documents.{IsLinkOf, PlainInterval, RefersTo, instance, interval_of, intervals_of, kind_of, name_of, time}
+use Rattle.tml_refs.specs.Gathering.{IsLinkBy, has_unlisted}
+use Rattle.tml_refs.specs.NameIndex.{AreEntriesOf, HasNumber, HasIntervalNumber, IsEntryIn, IsEntryOf, IsIndexOf, IsOfIntervals, entry_name, is_for, is_listed, is_unlisted, rank_of}
+use Rattle.tml_refs.specs.Rules.{has_id, is_target, is_unknown}
+use Rattle.tml_refs.proofs.Lists.{any_agree, any_inside, filter_map_at, passes_at}
+use Rattle.tml_refs.proofs.Locating.{has_own_id, its_id, its_kind, its_own_id, located, with_content}
+use Rattle.tml_refs.proofs.Searches.{both_true, for_both, inside, is_for_both}
 
--- ---- lists
+-- ---- kinds
 
-or_false : (b : Bool) → (b || false) ≡ b
-or_false true = refl
-or_false false = refl
+kind_rank : (k : TagKind) (c : Content) → is_of_kind k c ≡ (rank_of (references.kind_of c) == rank_of k)
+kind_rank kind.Event c = elim c as (λ d. is_of_kind kind.Event d ≡ (rank_of (references.kind_of d) == rank_of kind.Event)) [ content.event x ↦ refl | _ ↦ refl ]
+kind_rank kind.Instance c = elim c as (λ d. is_of_kind kind.Instance d ≡ (rank_of (references.kind_of d) == rank_of kind.Instance)) [ content.instance x ↦ refl | _ ↦ refl ]
+kind_rank kind.Timex c = elim c as (λ d. is_of_kind kind.Timex d ≡ (rank_of (references.kind_of d) == rank_of kind.Timex)) [ content.timex x ↦ refl | _ ↦ refl ]
+kind_rank kind.Signal c = elim c as (λ d. is_of_kind kind.Signal d ≡ (rank_of (references.kind_of d) == rank_of kind.Signal)) [ content.signal x ↦ refl | _ ↦ refl ]
+kind_rank kind.Tlink c = elim c as (λ d. is_of_kind kind.Tlink d ≡ (rank_of (references.kind_of d) == rank_of kind.Tlink)) [ content.tlink x ↦ refl | _ ↦ refl ]
+kind_rank kind.Alink c = elim c as (λ d. is_of_kind kind.Alink d ≡ (rank_of (references.kind_of d) == rank_of kind.Alink)) [ content.alink x ↦ refl | _ ↦ refl ]
+kind_rank kind.Slink c = elim c as (λ d. is_of_kind kind.Slink d ≡ (rank_of (references.kind_of d) == rank_of kind.Slink)) [ content.slink x ↦ refl | _ ↦ refl ]
 
-pub any_more : {A : Type 0} (p : A → Bool) (xs : List A) (x : A) → list_any p (xs ++ x ∷ []) ≡ (list_any p xs || p x)
-any_more p xs x = list_any-append p xs (x ∷ []) ∙ ap (λ (b : Bool). list_any p xs || b) (or_false (p x))
+-- the interval of a tag of this kind
+abbrev IntervalOf : TagKind → PlainTyped → Type 0
+IntervalOf k tag = (v : PlainInterval) × (interval_of tag ≡ Some v) × (kind_of v ≡ k)
 
-get_kept : {A : Type 0} (xs ys : List A) (i : ℕ) (v : A) → slice_get xs i ≡ Some v → slice_get (xs ++ ys) i ≡ Some v
-get_kept [] ys i v h = absurd cc
-get_kept (x ∷ xs) ys zero v h = h
-get_kept (x ∷ xs) ys (suc i) v h = get_kept xs ys i v h
+interval_kind : (k : TagKind) (tag : PlainTyped) → IsOfIntervals k → is_of_kind k tag.content ≡ true → IntervalOf k tag
+interval_kind kind.Instance tag of = elim tag.content as (λ c. is_of_kind kind.Instance c ≡ true → IntervalOf kind.Instance (with_content tag c)) [ content.instance x ↦ λ h. (instance x.eiid, refl, refl) | _ ↦ λ h. absurd cc ]
+interval_kind kind.Timex tag of = elim tag.content as (λ c. is_of_kind kind.Timex c ≡ true → IntervalOf kind.Timex (with_content tag c)) [ content.timex x ↦ λ h. (time _, refl, refl) | _ ↦ λ h. absurd cc ]
+interval_kind k tag of = absurd of
 
-get_pushed : {A : Type 0} (xs : List A) (v : A) → slice_get (xs ++ v ∷ []) (length xs) ≡ Some v
-get_pushed [] v = refl
-get_pushed (x ∷ xs) v = get_pushed xs v
+-- ---- one entry
 
-cons_some : {A B : Type 0} (f : A → Option B) (x : A) → filter_map f (x ∷ []) ≡ option_to_list (f x)
-cons_some f x = elim (f x) as (λ o. cons_option o [] ≡ option_to_list o) [ None ↦ refl | Some y ↦ refl ]
+target_by : (before : List PlainTyped) (tag : PlainTyped) (e : Entry) (r : Reference) → IsEntryOf before tag e → is_for r e ≡ true → is_target r tag ≡ true
+target_by before tag e r its h =
+    let both = for_both r e h in
+    and_from (is_of_kind r.asked tag.content) (has_id r.name tag)
+    (kind_rank r.asked tag.content ∙ eq-eqb (rank_of (references.kind_of tag.content)) (rank_of r.asked) (sym its.rank ∙ both.0))
+    (has_own_id tag r.name (its.name ∙ ap (λ (n : List ℕ). Some n) (sym both.1)))
 
-pub filter_map_pushed : {A B : Type 0} (f : A → Option B) (xs : List A) (x : A) → filter_map f (xs ++ x ∷ []) ≡ filter_map f xs ++ option_to_list (f x)
-filter_map_pushed f xs x = filter_map-append f xs (x ∷ []) ∙ ap (λ ys. filter_map f xs ++ ys) (cons_some f x)
+for_by : (before : List PlainTyped) (tag : PlainTyped) (e : Entry) (r : Reference) → IsEntryOf before tag e → is_target r tag ≡ true → is_for r e ≡ true
+for_by before tag e r its h =
+    let both = both_true (is_of_kind r.asked tag.content) (has_id r.name tag) h in
+    is_for_both r e
+    (its.rank ∙ eqb-true (rank_of (references.kind_of tag.content)) (rank_of r.asked) (sym (kind_rank r.asked tag.content) ∙ both.0))
+    (same_Some r.name (entry_name e) (sym (its_own_id tag r.name both.1) ∙ its.name))
 
-pub turned : (a b : List ℕ) → bytes_eq a b ≡ bytes_eq b a
-turned a b =
-    let back : Decides (bytes_eq a b) (b ≡ a) = (λ h. sym ((bytes_eq-Decides a b).0 h), λ e. (bytes_eq-Decides a b).1 (sym e)) in
-    search (rules, bytes_eq-Decides)
+pub some_from : {A : Type 0} (o : Option A) (x : A) → o ≡ Some x → IsSome o
+some_from {A} o x e = subst (λ (p : Option A). IsSome p) (sym e) refl
 
--- ---- one tag
+same_tests : (a b : Bool) → (a ≡ true → b ≡ true) → (b ≡ true → a ≡ true) → a ≡ b
+same_tests true b h k = sym (h refl)
+same_tests false true h k = k refl
+same_tests false false h k = refl
 
-abbrev is_kind : Target → TypedTag → Bool
-is_kind target.Event tag = is_event tag
-is_kind target.Instance tag = is_instance tag
-is_kind target.Timex tag = is_timex tag
-is_kind target.Signal tag = is_signal tag
+module _ (all : List PlainTyped) (names : List Entry) (known : AreEntriesOf all names) where
+  -- ---- what is unknown
 
-target_is : (asked : Target) (name : List ℕ) (tag : TypedTag) → is_target asked name tag ≡ (is_kind asked tag && has_id name tag)
-target_is target.Event name tag = elim tag as (λ t. is_target target.Event name t ≡ (is_event t && has_id name t)) [ Event place eid class ↦ refl | _ ↦ refl ]
-target_is target.Instance name tag = elim tag as (λ t. is_target target.Instance name t ≡ (is_instance t && has_id name t)) [ Instance place eiid event signal tense aspect pos polarity ↦ refl | _ ↦ refl ]
-target_is target.Timex name tag = elim tag as (λ t. is_target target.Timex name t ≡ (is_timex t && has_id name t)) [ Timex place tid kind value modifier function temporal anchor begin finish ↦ refl | _ ↦ refl ]
-target_is target.Signal name tag = elim tag as (λ t. is_target target.Signal name t ≡ (is_signal t && has_id name t)) [ Signal place sid ↦ refl | _ ↦ refl ]
+  listed_target : (r : Reference) → is_listed names r ≡ true → list_any (is_target r) all ≡ true
+  listed_target r h =
+      let p = passes_at (is_for r) names h in
+      let at : IsEntryIn all p.element = All-contains (IsEntryIn all) names p.element known.only (inside names p.before p.after p.element p.whole) in
+      ap (list_any (is_target r)) at.3 ∙ any_inside (is_target r) at.0 at.1 at.2 (target_by at.0 at.2 p.element r at.4 p.passes)
 
-owns_more : (asked : Target) (tag : TypedTag) (n : ℕ) (o : Owners) → owns asked (with_tag tag n o) ≡ (is_kind asked tag || owns asked o)
-owns_more target.Event tag n o = elim tag as (λ t. owns target.Event (with_tag t n o) ≡ (is_event t || owns target.Event o)) [ Event place eid class ↦ refl | _ ↦ refl ]
-owns_more target.Instance tag n o = elim tag as (λ t. owns target.Instance (with_tag t n o) ≡ (is_instance t || owns target.Instance o)) [ Instance place eiid event signal tense aspect pos polarity ↦ refl | _ ↦ refl ]
-owns_more target.Timex tag n o = elim tag as (λ t. owns target.Timex (with_tag t n o) ≡ (is_timex t || owns target.Timex o)) [ Timex place tid kind value modifier function temporal anchor begin finish ↦ refl | _ ↦ refl ]
-owns_more target.Signal tag n o = elim tag as (λ t. owns target.Signal (with_tag t n o) ≡ (is_signal t || owns target.Signal o)) [ Signal place sid ↦ refl | _ ↦ refl ]
+  target_listed : (r : Reference) → list_any (is_target r) all ≡ true → is_listed names r ≡ true
+  target_listed r h =
+      let p = passes_at (is_target r) all h in
+      let both = both_true (is_of_kind r.asked p.element.content) (has_id r.name p.element) p.passes in
+      let e = known.each p.before p.after p.element p.whole (some_from (id_of p.element.content) r.name (its_own_id p.element r.name both.1)) in
+      let stands = e.1 in
+      list_any_at (is_for r) names stands.0 e.0 stands.1 (ap (is_for r) stands.2 ∙ for_by p.before p.element e.0 r e.2 p.passes)
 
--- ---- owners
+  unlisted_unknown : (r : Reference) → is_unlisted names r ≡ is_unknown all r
+  unlisted_unknown r = ap not (same_tests (is_listed names r) (list_any (is_target r) all) (listed_target r) (target_listed r))
 
-abbrev owned : Target → Option Owners → Bool
-owned asked o = elim o [ None ↦ false | Some p ↦ owns asked p ]
+  pub unknown_by_names : (tag : PlainTyped) → has_unlisted names tag ≡ list_any (is_unknown all) (references_of tag.content)
+  unknown_by_names tag = any_agree (is_unlisted names) (is_unknown all) unlisted_unknown (references_of tag.content)
 
-owned_is : (asked : Target) (o : Option Owners) → owned asked o ≡ owns asked (or_nobody o)
-owned_is target.Event None = refl
-owned_is target.Instance None = refl
-owned_is target.Timex None = refl
-owned_is target.Signal None = refl
-owned_is asked (Some p) = refl
+  -- ---- numbers of intervals
 
-joined : (k f h : Bool) → h ≡ true → (k || f) ≡ (f || (k && h))
-joined true true h e = refl
-joined true false h e = sym e
-joined false true h e = refl
-joined false false h e = refl
+  refers_by : (r : Reference) (i : ℕ) (before after : List PlainTyped) (tag : PlainTyped) (e : Entry) → all ≡ before ++ tag ∷ after → IsEntryOf before tag e → IsOfIntervals r.asked → is_for r e ≡ true → e.number ≡ i → RefersTo (intervals_of all) r i
+  refers_by r i before after tag e whole its of h number =
+      let both = both_true (is_of_kind r.asked tag.content) (has_id r.name tag) (target_by before tag e r its h) in
+      let v = interval_kind r.asked tag of both.0 in
+      record {
+        interval = v.0;
+        at = ap (λ (p : List PlainTyped × ℕ). slice_get (intervals_of p.0) p.1) (λ k. (whole k, (sym number ∙ its.number) k)) ∙ filter_map_at interval_of before after tag v.0 v.1;
+        kind = v.2;
+        name = same_Some (name_of v.0) r.name (sym (its_id tag v.0 v.1) ∙ its_own_id tag r.name both.1);
+      }
 
-apart : (k f h : Bool) → h ≡ false → f ≡ (f || (k && h))
-apart true true h e = refl
-apart true false h e = sym e
-apart false true h e = refl
-apart false false h e = refl
+  pub finds_refers : (r : Reference) (i : ℕ) → HasIntervalNumber names r i → RefersTo (intervals_of all) r i
+  finds_refers r i h =
+      let e = h.1 in
+      let at : IsEntryIn all e.0 = All-contains (IsEntryIn all) names e.0 known.only e.1 in
+      refers_by r i at.0 at.1 at.2 e.0 at.3 at.4 h.0 e.2 e.3
 
-has_own : (q id : List ℕ) (tag : TypedTag) (b : Bool) → id_of tag ≡ Some id → bytes_eq id q ≡ b → has_id q tag ≡ b
-has_own q id tag b e s = ap (λ (o : Option (List ℕ)). elim o [ None ↦ false | Some i ↦ bytes_eq q i ]) e ∙ turned q id ∙ s
+  each_found : (i : ℕ) (v : PlainInterval) → slice_get (intervals_of all) i ≡ Some v → HasNumber names (reference (kind_of v) (name_of v)) i
+  each_found i v h =
+      let l = located all i v h in
+      let id = its_id l.tag v l.its in
+      let e = known.each l.before l.after l.tag l.whole (some_from (id_of l.tag.content) (name_of v) id) in
+      let asked = is_for_both (reference (kind_of v) (name_of v)) e.0 (e.2.rank ∙ ap rank_of (its_kind l.tag v l.its)) (same_Some (name_of v) (entry_name e.0) (sym id ∙ e.2.name)) in
+      (e.0, e.1, asked, e.2.number ∙ l.number)
 
--- what the names find once a tag with an identifier is added
-module _ (old new : List (List ℕ × Owners)) (id : List ℕ) (tag : TypedTag) (n : ℕ) (here : id_of tag ≡ Some id) (adds : AddsId old id tag n new) where
-  abbrev now_at : List ℕ → Bool → Option Owners
-  now_at q b = cond b (Some (with_tag tag n (or_nobody (lookup (bytes_eq id) old)))) (lookup (bytes_eq q) old)
+  pub index_is : IsIndexOf (intervals_of all) names
+  index_is = record { each = each_found; only = finds_refers }
 
-  at_name : (q : List ℕ) (b : Bool) → bytes_eq id q ≡ b → lookup (bytes_eq q) new ≡ now_at q b
-  at_name q b s = adds q ∙ ap (λ (c : Bool). now_at q c) s
-
-  ids_by : (q : List ℕ) (b : Bool) → bytes_eq id q ≡ b → is_some (lookup (bytes_eq q) new) ≡ (is_some (lookup (bytes_eq q) old) || has_id q tag)
-  ids_by q true s = ap is_some (at_name q true s) ∙ joined true (is_some (lookup (bytes_eq q) old)) (has_id q tag) (has_own q id tag true here s)
-  ids_by q false s = ap is_some (at_name q false s) ∙ apart true (is_some (lookup (bytes_eq q) old)) (has_id q tag) (has_own q id tag false here s)
-
-  found_by : (asked : Target) (q : List ℕ) (b : Bool) → bytes_eq id q ≡ b → owned asked (lookup (bytes_eq q) new) ≡ (owned asked (lookup (bytes_eq q) old) || is_target asked q tag)
-  found_by asked q true s =
-      let same = (bytes_eq-Decides id q).0 s in
-      ap (owned asked) (at_name q true s) ∙ owns_more asked tag n (or_nobody (lookup (bytes_eq id) old))
-      ∙ ap (λ (f : Bool). is_kind asked tag || f) (sym (owned_is asked (lookup (bytes_eq id) old)) ∙ ap (λ (w : List ℕ). owned asked (lookup (bytes_eq w) old)) same)
-      ∙ joined (is_kind asked tag) (owned asked (lookup (bytes_eq q) old)) (has_id q tag) (has_own q id tag true here s)
-      ∙ ap (λ (t : Bool). owned asked (lookup (bytes_eq q) old) || t) (sym (target_is asked q tag))
-  found_by asked q false s =
-      ap (owned asked) (at_name q false s)
-      ∙ apart (is_kind asked tag) (owned asked (lookup (bytes_eq q) old)) (has_id q tag) (has_own q id tag false here s)
-      ∙ ap (λ (t : Bool). owned asked (lookup (bytes_eq q) old) || t) (sym (target_is asked q tag))
-
--- ---- numbers
-
-kept : (o : Option ℕ) (xs ys : List Interval) (e : LinkEnd) → IfSome o (NamesAt xs e) → IfSome o (NamesAt (xs ++ ys) e)
-kept None xs ys e h = tt
-kept (Some i) xs ys e h = (h.0, get_kept xs ys i h.0 h.1, h.2)
-
-abbrev name_in : LinkEnd → List ℕ
-name_in (end.Instance name) = name.now
-name_in (end.Time name) = name.now
-
-abbrev numbered : LinkEnd → Owners → Option ℕ
-numbered (end.Instance name) o = o.instance
-numbered (end.Time name) o = o.timex
-
-number_is : (names : List (List ℕ × Owners)) (e : LinkEnd) → number_in names e ≡ option_and_then (numbered e) (lookup (bytes_eq (name_in e)) names)
-number_is names (end.Instance name) = refl
-number_is names (end.Time name) = refl
-
-nobody_numbered : (e : LinkEnd) (o : Option Owners) → option_and_then (numbered e) o ≡ numbered e (or_nobody o)
-nobody_numbered (end.Instance name) None = refl
-nobody_numbered (end.Time name) None = refl
-nobody_numbered e (Some o) = refl
-
--- an interval more has the next number
-number_more : (xs : List Interval) (e : LinkEnd) (tag : TypedTag) (o : Owners) → id_of tag ≡ Some (name_in e) → IfSome (numbered e o) (NamesAt xs e)
-    → IfSome (numbered e (with_tag tag (length xs) o)) (NamesAt (xs ++ option_to_list (interval_of tag)) e)
-number_more xs (end.Instance name) tag o =
-    elim tag as (λ t. id_of t ≡ Some name.now → IfSome o.instance (NamesAt xs (end.Instance name)) → IfSome (with_tag t (length xs) o).instance (NamesAt (xs ++ option_to_list (interval_of t)) (end.Instance name))) [
-      | Instance place eiid event signal tense aspect pos polarity ↦ λ i h. (interval.Instance eiid, get_pushed xs (interval.Instance eiid), cc)
-      | _ ↦ λ i h. kept o.instance xs _ (end.Instance name) h
-    ]
-number_more xs (end.Time name) tag o =
-    elim tag as (λ t. id_of t ≡ Some name.now → IfSome o.timex (NamesAt xs (end.Time name)) → IfSome (with_tag t (length xs) o).timex (NamesAt (xs ++ option_to_list (interval_of t)) (end.Time name))) [
-      | Timex place tid kind value modifier function temporal anchor begin finish ↦ λ i h. (interval.Timex tid kind modifier value, get_pushed xs (interval.Timex tid kind modifier value), cc)
-      | _ ↦ λ i h. kept o.timex xs _ (end.Time name) h
-    ]
-
--- the number that the names find once a tag with an identifier is added
-number_by : (old new : List (List ℕ × Owners)) (id : List ℕ) (tag : TypedTag) (n : ℕ) (xs : List Interval) (e : LinkEnd) (b : Bool) → id_of tag ≡ Some id → AddsId old id tag n new → n ≡ length xs
-    → IfSome (number_in old e) (NamesAt xs e) → bytes_eq id (name_in e) ≡ b → IfSome (number_in new e) (NamesAt (xs ++ option_to_list (interval_of tag)) e)
-number_by old new id tag n xs e true here adds m h s =
-    let same = (bytes_eq-Decides id (name_in e)).0 s in
-    let before = number_is old e ∙ nobody_numbered e (lookup (bytes_eq (name_in e)) old) ∙ ap (λ (w : List ℕ). numbered e (or_nobody (lookup (bytes_eq w) old))) (sym same) in
-    let was = subst (λ (o : Option ℕ). IfSome o (NamesAt xs e)) before h in
-    let after = number_is new e ∙ ap (λ (o : Option Owners). option_and_then (numbered e) o) (at_name old new id tag n here adds (name_in e) true s) ∙ ap (λ (k : ℕ). numbered e (with_tag tag k (or_nobody (lookup (bytes_eq id) old)))) m in
-    subst (λ (o : Option ℕ). IfSome o (NamesAt (xs ++ option_to_list (interval_of tag)) e)) (sym after) (number_more xs e tag (or_nobody (lookup (bytes_eq id) old)) (here ∙ ap Some same) was)
-number_by old new id tag n xs e false here adds m h s =
-    let after = number_is new e ∙ ap (λ (o : Option Owners). option_and_then (numbered e) o) (at_name old new id tag n here adds (name_in e) false s) ∙ sym (number_is old e) in
-    kept (number_in new e) xs (option_to_list (interval_of tag)) e (subst (λ (o : Option ℕ). IfSome o (NamesAt xs e)) (sym after) h)
-
--- ---- the names of one tag more
-
-knows_by : (tags : List TypedTag) (tag : TypedTag) (old new : List (List ℕ × Owners)) → Knows tags old
-    → ((q : List ℕ) → is_some (lookup (bytes_eq q) new) ≡ (is_some (lookup (bytes_eq q) old) || has_id q tag))
-    → ((asked : Target) (q : List ℕ) → owned asked (lookup (bytes_eq q) new) ≡ (owned asked (lookup (bytes_eq q) old) || is_target asked q tag))
-    → ((e : LinkEnd) → IfSome (number_in new e) (NamesAt (filter_map interval_of tags ++ option_to_list (interval_of tag)) e)) → Knows (tags ++ tag ∷ []) new
-knows_by tags tag old new k ids targets numbers = record {
-  ids = λ q. ids q ∙ ap (λ (b : Bool). b || has_id q tag) (k.ids q) ∙ sym (any_more (has_id q) tags tag);
-  targets = λ r. targets r.asked r.name ∙ ap (λ (b : Bool). b || is_target r.asked r.name tag) (k.targets r) ∙ sym (any_more (is_target r.asked r.name) tags tag);
-  numbers = λ e. rw (filter_map_pushed interval_of tags tag) (numbers e);
-}
-
-no_id : (q : List ℕ) (tag : TypedTag) → id_of tag ≡ None → has_id q tag ≡ false
-no_id q tag e = ap (λ (o : Option (List ℕ)). elim o [ None ↦ false | Some i ↦ bytes_eq q i ]) e
-
-no_target : (asked : Target) (q : List ℕ) (tag : TypedTag) → id_of tag ≡ None → is_target asked q tag ≡ false
-no_target asked q tag e = target_is asked q tag ∙ and_right (is_kind asked tag) (has_id q tag) (no_id q tag e)
-
-knows_same : (tags : List TypedTag) (tag : TypedTag) (old new : List (List ℕ × Owners)) → Knows tags old → id_of tag ≡ None → new ≡ old → Knows (tags ++ tag ∷ []) new
-knows_same tags tag old new k e same = rw same (
-    knows_by tags tag old old k
-    (λ q. sym (ap (λ (b : Bool). is_some (lookup (bytes_eq q) old) || b) (no_id q tag e) ∙ or_false _))
-    (λ asked q. sym (ap (λ (b : Bool). owned asked (lookup (bytes_eq q) old) || b) (no_target asked q tag e) ∙ or_false _))
-    (λ e. kept (number_in old e) (filter_map interval_of tags) (option_to_list (interval_of tag)) e (k.numbers e))
-    )
-
-knows_id : (tags : List TypedTag) (tag : TypedTag) (old new : List (List ℕ × Owners)) (n : ℕ) (id : List ℕ) → Knows tags old → n ≡ length (filter_map interval_of tags) → id_of tag ≡ Some id → AddsId old id tag n new → Knows (tags ++ tag ∷ []) new
-knows_id tags tag old new n id k m e a = knows_by tags tag old new k
-    (λ q. ids_by old new id tag n e a q _ refl)
-    (λ asked q. found_by old new id tag n e a asked q _ refl)
-    (λ l. number_by old new id tag n (filter_map interval_of tags) l _ e a m (k.numbers l) refl)
-
-abbrev AddsAt : List (List ℕ × Owners) → TypedTag → ℕ → List (List ℕ × Owners) → Option (List ℕ) → Type 0
-AddsAt old tag n new o = elim o [ None ↦ new ≡ old | Some id ↦ AddsId old id tag n new ]
-
--- the names of some tags, and then those of one tag more
-pub knows_more : (tags : List TypedTag) (tag : TypedTag) (old new : List (List ℕ × Owners)) (n : ℕ) → Knows tags old → AddsTag old tag n new → n ≡ length (filter_map interval_of tags) → Knows (tags ++ tag ∷ []) new
-knows_more tags tag old new n k a m =
-    elim (id_of tag) as (λ o. id_of tag ≡ o → AddsAt old tag n new o → Knows (tags ++ tag ∷ []) new) [
-      | None ↦ λ e h. knows_same tags tag old new k e h
-      | Some id ↦ λ e h. knows_id tags tag old new n id k m e h
-    ] refl a
-
-pub knows_none : Knows [] []
-knows_none = record { ids = λ q. refl; targets = λ r. refl; numbers = λ e. elim e as (λ l. IfSome (number_in [] l) (NamesAt [] l)) [ end.Instance name ↦ tt | end.Time name ↦ tt ] }
-
--- an identifier is taken where a tag before has it
-pub taken_is : (all tags : List TypedTag) (tag : TypedTag) (names : List (List ℕ × Owners)) → Knows tags names → is_taken names tag ≡ breaks DuplicateId all tags tag
-taken_is all tags tag names k = elim (id_of tag) as (λ o. elim o [ None ↦ false | Some id ↦ is_some (lookup (bytes_eq id) names) ] ≡ elim o [ None ↦ false | Some id ↦ list_any (has_id id) tags ]) [ None ↦ refl | Some id ↦ k.ids id ]
-
--- ---- a front of some tags, and one tag more
-
-pub knows_next : (tags : List TypedTag) (i : ℕ) (d : TypedTag) (old new : List (List ℕ × Owners)) (n : ℕ) → i < length tags → Knows (take i tags) old → AddsTag old (get_or tags i d) n new → n ≡ length (filter_map interval_of (take i tags))
-    → Knows (take (i + 1) tags) new
-knows_next tags i d old new n h k a m = rw (take_more tags i d h) (knows_more (take i tags) (get_or tags i d) old new n k a m)
-
-pub one_interval : (tag : TypedTag) → length (option_to_list (interval_of tag)) ≡ bool_byte (is_interval tag)
-one_interval tag = elim tag as (λ t. length (option_to_list (interval_of t)) ≡ bool_byte (is_interval t)) [ Instance place eiid event signal tense aspect pos polarity ↦ refl | Timex place tid kind value modifier function temporal anchor begin finish ↦ refl | _ ↦ refl ]
-
-pub count_next : (tags : List TypedTag) (i : ℕ) (d : TypedTag) (n : ℕ) → i < length tags → n ≡ length (filter_map interval_of (take i tags)) → n + bool_byte (is_interval (get_or tags i d)) ≡ length (filter_map interval_of (take (i + 1) tags))
-count_next tags i d n h m =
-    rw (take_more tags i d h, filter_map_pushed interval_of (take i tags) (get_or tags i d), length-append (filter_map interval_of (take i tags)) (option_to_list (interval_of (get_or tags i d))), one_interval (get_or tags i d), m) refl
-
-pub one_more : (b : Bool) (n i k : ℕ) → n ≤ i → k ≡ bool_byte b → n + k ≤ i + 1
-one_more true n i k h e = omega arith
-one_more false n i k h e = omega arith
+  -- a link by names is a link of the document
+  pub link_named : (tag : PlainTyped) (link : DocLink) → IsLinkBy names tag link → IsLinkOf (intervals_of all) tag link
+  link_named tag link = elim tag.content as (λ c. IsLinkBy names (with_content tag c) link → IsLinkOf (intervals_of all) (with_content tag c) link) [
+    | content.tlink l ↦ λ h. (finds_refers l.left link.a h.0, h.1, finds_refers l.right link.b h.2)
+    | _ ↦ λ h. absurd h
+  ]

@@ -1,15 +1,17 @@
-mod Indexes
-mod Searches
-pub mod Lookups
+pub mod Heads
+pub mod Orders
+pub mod Searches
+pub mod Indexes
+pub mod Runs
+pub mod Scanning
+pub mod Listing
+pub mod Sorting
 pub mod Knowing
-pub mod Distinctness
-pub mod Cuts
-pub mod Ruling
+pub mod Repeating
 pub mod Making
+pub mod Ruling
+pub mod Steps
+pub mod Lists
+pub mod Locating
 pub mod Documents
-pub mod Resolving
-pub mod Faults
-pub mod Zips
-pub mod Alike
-pub mod SameFaults
-pub mod SameDocuments
+pub mod OneAnswer

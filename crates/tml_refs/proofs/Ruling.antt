@@ -1,82 +1,84 @@
--- The first rule that a tag breaks, by names and by tags.
-use Rattle.std.proofs.Common.{◌≡◌, inl, inr, ◌≤◌, ◌+◌, ℕ, Bool, true, false, cond, not, ◌&&◌, ◌==◌, List, [], ◌∷◌, ◌++◌, length, refl, sym, ap, subst, ◌∙◌, arith, Option, Some, None}
-use Rattle.std.specs.List.{list_any, cons_option, count_by, filter_map, filter}
-use Rattle.std.proofs.lemmas.List.Recursion.{is_count_by}
-use Rattle.std.proofs.lemmas.List.Sums.{length-filter}
-use Rattle.net_core.specs.declared.limits.TheConstants.{MAX_INTERVALS, MAX_LINKS}
-use Rattle.tml_types.specs.declared.typed.TypedTag.{TypedTag}
-use Rattle.tml_types.specs.declared.typed.TypedTag.TheVariants.{Instance, Timex}
-use Rattle.tml_types.specs.Places.{place_of}
-use Rattle.tml_refs.specs.declared.contents.Contents.{Contents}
-use Rattle.tml_refs.specs.declared.contents.Interval.{Interval}
-use Rattle.tml_refs.specs.declared.names.Owners.{Owners}
-use Rattle.tml_refs.specs.declared.rules.Rule.{Rule}
-use Rattle.tml_refs.specs.declared.rules.Rule.TheVariants.{DuplicateId, UnknownReference, TooManyIntervals, TooManyLinks}
-use Rattle.tml_refs.specs.declared.rules.RefFault.{RefFault}
-use Rattle.tml_refs.specs.Gathering.{Gathers, later_rule}
-use Rattle.tml_refs.specs.Kinds.{is_interval, is_tlink}
-use Rattle.tml_refs.specs.Owning.{Knows, is_lost}
-use Rattle.tml_refs.specs.Resolved.{IsLinkOf, interval_of}
-use Rattle.tml_refs.specs.Rules.{AreSound, HasFault, breaks, is_unknown, number, told}
-use Rattle.tml_refs.specs.Tags.{references_of}
-use Rattle.tml_refs.proofs.Cuts.{any_agree, none_cut, zip_length}
-use Rattle.tml_tree.proofs.Paths.{last_or_before}
+-- The first rule that a tag breaks.
+use Rattle.std.proofs.Common.{◌≡◌, ◌≤◌, ◌==◌, ◌&&◌, ℕ, Bool, true, false, List, ◌∷◌, ◌++◌, length, refl, sym, ap, ◌∙◌, arith}
+use mathlib.Core.Bool.{true≢false}
+use Rattle.std.specs.List.{count_by}
+use Rattle.faults.specs.declared.kind.FaultKind.{FaultKind}
+use Rattle.faults.specs.declared.kind.FaultKind.TheVariants as kinds
+use Rattle.faults.specs.First.{NoneBreaks}
+use Rattle.faults.specs.Kinds.{number_of}
+use Rattle.net_core.specs.Limits.{max_intervals, max_links}
+use Rattle.tml_types.specs.Content as content
+use Rattle.tml_types.specs.Content.{Content, PlainTyped}
+use Rattle.tml_refs.specs.declared.name_index.Entry.{Entry}
+use Rattle.tml_refs.specs.declared.resolving.RefFault.{RefFault}
+use Rattle.tml_refs.specs.declared.resolving.RefFault.TheVariants as faults
+use Rattle.tml_refs.specs.Documents.{PlainDocument, intervals_of}
+use Rattle.tml_refs.specs.Gathering.{AddsTag, Gathers, HasLaterFault, has_unlisted, is_interval_too_many, is_link_too_many}
+use Rattle.tml_refs.specs.NameIndex.{AreEntriesOf}
+use Rattle.tml_refs.specs.Rules.{Breaks, FaultAt, HasFault, breaks, is_interval, is_tlink}
+use Rattle.tml_refs.proofs.Documents.{count_intervals, count_links}
+use Rattle.tml_refs.proofs.Knowing.{unknown_by_names}
+use Rattle.tml_refs.proofs.Searches.{both_true}
 
--- ---- the first of the rules
+differs : (b : Bool) → b ≡ true → b ≡ false → ⊥
+differs b h k = true≢false (sym h ∙ k)
 
--- of some tests the first that holds has the least number
-abbrev First : (Rule → Bool) → Option Rule → Type 0
-First test None = (rule : Rule) → test rule ≡ true → ⊥
-First test (Some rule) = (test rule ≡ true) × ((other : Rule) → test other ≡ true → number rule ≤ number other)
+-- a TLINK is no interval
+tlink_only : (tag : PlainTyped) → is_tlink tag ≡ true → is_interval tag ≡ true → ⊥
+tlink_only tag = elim tag.content as (λ c. let t : PlainTyped = record { place = tag.place; content = c } in is_tlink t ≡ true → is_interval t ≡ true → ⊥) [ content.tlink x ↦ λ h k. absurd cc | _ ↦ λ h k. absurd cc ]
 
-pub first_duplicate : (test : Rule → Bool) → test DuplicateId ≡ true → First test (Some DuplicateId)
-first_duplicate test h = (h, λ other k. elim other as (λ o. 14 ≤ number o) [ DuplicateId ↦ omega arith | UnknownReference ↦ omega arith | TooManyIntervals ↦ omega arith | TooManyLinks ↦ omega arith ])
+module _ (all before after : List PlainTyped) (tag : PlainTyped) where
+  -- only four rules are broken
+  at_least : (n : ℕ) → (Breaks all kinds.DuplicateId before tag → n ≤ 14) → (Breaks all kinds.UnknownReference before tag → n ≤ 15) → (Breaks all kinds.TooManyIntervals before tag → n ≤ 16)
+      → (Breaks all kinds.TooManyLinks before tag → n ≤ 17) → (other : FaultKind) → Breaks all other before tag → n ≤ number_of other
+  at_least n duplicate unknown intervals links other = elim other as (λ o. Breaks all o before tag → n ≤ number_of o) [
+    | kinds.DuplicateId ↦ duplicate
+    | kinds.UnknownReference ↦ unknown
+    | kinds.TooManyIntervals ↦ intervals
+    | kinds.TooManyLinks ↦ links
+    | _ ↦ λ b. absurd cc
+  ]
 
-first_by : (test : Rule → Bool) (p q r : Bool) → test DuplicateId ≡ false → test UnknownReference ≡ p → test TooManyIntervals ≡ q → test TooManyLinks ≡ r
-    → First test (cond p (Some UnknownReference) (cond q (Some TooManyIntervals) (cond r (Some TooManyLinks) None)))
-first_by test true q r d a b c = (a, λ other. elim other as (λ o. test o ≡ true → 15 ≤ number o) [ DuplicateId ↦ λ h. absurd cc | UnknownReference ↦ λ h. omega arith | TooManyIntervals ↦ λ h. omega arith | TooManyLinks ↦ λ h. omega arith ])
-first_by test false true r d a b c = (b, λ other. elim other as (λ o. test o ≡ true → 16 ≤ number o) [ DuplicateId ↦ λ h. absurd cc | UnknownReference ↦ λ h. absurd cc | TooManyIntervals ↦ λ h. omega arith | TooManyLinks ↦ λ h. omega arith ])
-first_by test false false true d a b c = (c, λ other. elim other as (λ o. test o ≡ true → 17 ≤ number o) [ DuplicateId ↦ λ h. absurd cc | UnknownReference ↦ λ h. absurd cc | TooManyIntervals ↦ λ h. absurd cc | TooManyLinks ↦ λ h. omega arith ])
-first_by test false false false d a b c = λ other. elim other as (λ o. test o ≡ true → ⊥) [ DuplicateId ↦ λ h. cc | UnknownReference ↦ λ h. cc | TooManyIntervals ↦ λ h. cc | TooManyLinks ↦ λ h. cc ]
+  none_of : (Breaks all kinds.DuplicateId before tag → ⊥) → (Breaks all kinds.UnknownReference before tag → ⊥) → (Breaks all kinds.TooManyIntervals before tag → ⊥) → (Breaks all kinds.TooManyLinks before tag → ⊥)
+      → (other : FaultKind) → Breaks all other before tag → ⊥
+  none_of duplicate unknown intervals links other = elim other as (λ o. Breaks all o before tag → ⊥) [
+    | kinds.DuplicateId ↦ duplicate
+    | kinds.UnknownReference ↦ unknown
+    | kinds.TooManyIntervals ↦ intervals
+    | kinds.TooManyLinks ↦ links
+    | _ ↦ λ b. absurd cc
+  ]
 
--- ---- the rule by names and contents is the rule by tags
+  module _ (whole : all ≡ before ++ tag ∷ after) (sound : NoneBreaks (Breaks all) before) where
+    fault_here : (rule : FaultKind) → Breaks all rule before tag → ((other : FaultKind) → Breaks all other before tag → number_of rule ≤ number_of other) → FaultAt all tag.place rule
+    fault_here rule broken least = record { before = before; element = tag; after = after; whole = whole; none_before = sound; broken = broken; least = least; place_is = refl }
 
-interval_counted : (tag : TypedTag) (ns : List Interval) → length (cons_option (interval_of tag) ns) ≡ cond (is_interval tag) (1 + length ns) (length ns)
-interval_counted tag ns = elim tag as (λ t. length (cons_option (interval_of t) ns) ≡ cond (is_interval t) (1 + length ns) (length ns)) [ Instance place eiid event signal tense aspect pos polarity ↦ omega arith | Timex place tid kind value modifier function temporal anchor begin finish ↦ omega arith | _ ↦ refl ]
+    pub duplicate_here : (place : ℕ) → Breaks all kinds.DuplicateId before tag → place ≡ tag.place → HasFault all (faults.DuplicateId place)
+    duplicate_here place broken e = rw e (fault_here kinds.DuplicateId broken (at_least 14 (λ b. omega arith) (λ b. omega arith) (λ b. omega arith) (λ b. omega arith)))
 
-pub count_intervals : (tags : List TypedTag) → length (filter_map interval_of tags) ≡ count_by is_interval tags
-count_intervals tags = is_count_by (λ (ts : List TypedTag). length (filter_map interval_of ts)) is_interval refl (λ tag ts. interval_counted tag (filter_map interval_of ts)) tags
+    module _ (names : List Entry) (doc : PlainDocument) (known : AreEntriesOf all names) (made : Gathers (intervals_of all) before doc) (free : Breaks all kinds.DuplicateId before tag → ⊥) where
+      unknown : breaks all kinds.UnknownReference before tag ≡ has_unlisted names tag
+      unknown = sym (unknown_by_names all names known tag)
 
-pub count_links : (intervals : List Interval) (tags : List TypedTag) (c : Contents) → Gathers intervals tags c → length c.links ≡ count_by is_tlink tags
-count_links intervals tags c g = sym (zip_length (IsLinkOf intervals) (filter is_tlink tags) c.links g.links_are) ∙ length-filter is_tlink tags
+      intervals : breaks all kinds.TooManyIntervals before tag ≡ is_interval_too_many doc tag
+      intervals = ap (λ (n : ℕ). is_interval tag && n == max_intervals) (sym (ap length made.intervals_are ∙ count_intervals before))
 
-lost_is : (all : List TypedTag) (names : List (List ℕ × Owners)) (tag : TypedTag) → Knows all names → list_any (is_lost names) (references_of tag) ≡ list_any (is_unknown all) (references_of tag)
-lost_is all names tag k = any_agree (is_lost names) (is_unknown all) (λ r. ap not (k.targets r)) (references_of tag)
+      links : breaks all kinds.TooManyLinks before tag ≡ is_link_too_many doc tag
+      links = ap (λ (n : ℕ). is_tlink tag && n == max_links) (sym (count_links (intervals_of all) before doc made))
 
--- a tag whose identifier is free breaks the rule that names and contents say, or none
-pub later_told : (all before : List TypedTag) (intervals : List Interval) (tag : TypedTag) (names : List (List ℕ × Owners)) (c : Contents) (o : Option Rule) → Knows all names → Gathers intervals before c → breaks DuplicateId all before tag ≡ false → o ≡ later_rule names c tag
-    → First (λ (r : Rule). breaks r all before tag) o
-later_told all before intervals tag names c o k g d e =
-    let counted = ap length g.intervals_are ∙ count_intervals before in
-    let links = count_links intervals before c g in
-    subst (First (λ (r : Rule). breaks r all before tag)) (sym e) (
-    first_by (λ (r : Rule). breaks r all before tag) _ _ _ d (sym (lost_is all names tag k)) (ap (λ (n : ℕ). is_interval tag && n == MAX_INTERVALS) (sym counted)) (ap (λ (n : ℕ). is_tlink tag && n == MAX_LINKS) (sym links))
-    )
+      -- a tag that was added breaks no rule
+      pub added_sound : (new : PlainDocument) → AddsTag names doc tag new → (rule : FaultKind) → Breaks all rule before tag → ⊥
+      added_sound new a = none_of free (λ b. differs _ b (unknown ∙ a.known)) (λ b. differs _ b (intervals ∙ a.interval_room)) (λ b. differs _ b (links ∙ a.link_room))
 
--- ---- faults
-
-pub sound_none : (all : List TypedTag) → AreSound all []
-sound_none all = λ before after tag rule e. absurd (none_cut before after tag e)
-
-pub sound_more : (all tags : List TypedTag) (tag : TypedTag) → AreSound all tags → ((rule : Rule) → breaks rule all tags tag ≡ true → ⊥) → AreSound all (tags ++ tag ∷ [])
-sound_more all tags tag h n = λ before after other rule e.
-    elim (last_or_before tags before after tag other e) [
-      | inl k ↦ λ b. n rule ((λ i. breaks rule all (k.0 i) (k.1 i)) ∙ b)
-      | inr k ↦ h before k.0 other rule k.1
-    ]
-
--- the fault that is told of the first tag that breaks a rule
-pub fault_told : (all before after : List TypedTag) (tag : TypedTag) (rule : Rule) (fault : RefFault) → all ≡ before ++ tag ∷ after → AreSound all before → First (λ (r : Rule). breaks r all before tag) (Some rule)
-    → told fault ≡ Some (place_of tag, rule) → HasFault all fault
-fault_told all before after tag rule fault w s f t =
-    rw t (record { before = before; tag = tag; after = after; whole = w; sound = s; broken = f.0; least = f.1; place_is = refl })
+      -- a tag that was not added breaks the rule that is said
+      pub later_fault : (fault : RefFault) → HasLaterFault names doc tag fault → HasFault all fault
+      later_fault (faults.DuplicateId place) h = absurd h.1
+      later_fault (faults.UnknownReference place) h =
+          rw h.0 (fault_here kinds.UnknownReference (unknown ∙ h.1) (at_least 15 (λ b. absurd (free b)) (λ b. omega arith) (λ b. omega arith) (λ b. omega arith)))
+      later_fault (faults.TooManyIntervals place) h =
+          rw h.0 (fault_here kinds.TooManyIntervals (intervals ∙ h.1.1) (at_least 16 (λ b. absurd (free b)) (λ b. absurd (differs _ b (unknown ∙ h.1.0))) (λ b. omega arith) (λ b. omega arith)))
+      later_fault (faults.TooManyLinks place) h =
+          let link = (both_true (is_tlink tag) (length doc.links == max_links) h.1.1).0 in
+          let no_interval = λ (b : Breaks all kinds.TooManyIntervals before tag). tlink_only tag link (both_true (is_interval tag) (count_by is_interval before == max_intervals) b).0 in
+          rw h.0 (fault_here kinds.TooManyLinks (links ∙ h.1.1) (at_least 17 (λ b. absurd (free b)) (λ b. absurd (differs _ b (unknown ∙ h.1.0))) (λ b. absurd (no_interval b)) (λ b. omega arith)))
+      later_fault faults.Memory h = tt

@@ -1,11 +1,7 @@
-pub mod Kinds
-pub mod Tags
 pub mod Rules
-pub mod Resolved
-pub mod Pairs
-pub mod Owning
-pub mod Identifying
-pub mod Gathering
-pub mod Indexing
-pub mod Sameness
+pub mod Documents
 pub mod Answers
+pub mod View
+pub mod Counting
+pub mod NameIndex
+pub mod Gathering

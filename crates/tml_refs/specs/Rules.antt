@@ -1,59 +1,61 @@
 -- The rules of identifiers, references and limits, and the first tag that breaks one.
-use Rattle.std.specs.Prelude.{◌≡◌, ◌≤◌, ℕ, Bool, true, false, ◌&&◌, not, ◌==◌, List, ◌∷◌, ◌++◌, Option, Some, None, IfSome}
+use Rattle.std.specs.Prelude.{◌≡◌, ℕ, Bool, true, false, ◌&&◌, ◌||◌, not, ◌==◌, List, Option, Some, None, IfSome}
 use Rattle.std.specs.List.{list_any, count_by}
-use Rattle.net_core.specs.declared.limits.TheConstants.{MAX_INTERVALS, MAX_LINKS}
-use Rattle.tml_types.specs.declared.typed.TypedTag.{TypedTag}
+use Rattle.std.specs.Str.{bytes_eq}
+use Rattle.faults.specs.declared.kind.FaultKind.{FaultKind}
+use Rattle.faults.specs.declared.kind.FaultKind.TheVariants as kinds
+use Rattle.faults.specs.First.{FirstFault}
+use Rattle.faults.specs.Kinds.{number_of}
+use Rattle.net_core.specs.Limits.{max_intervals, max_links}
+use Rattle.tml_types.specs.declared.typed.TagKind.TheVariants as kind
+use Rattle.tml_types.specs.Content.{PlainTyped, Reference}
 use Rattle.tml_types.specs.Places.{place_of}
-use Rattle.tml_refs.specs.declared.rules.Rule.{Rule}
-use Rattle.tml_refs.specs.declared.rules.Rule.TheVariants.{DuplicateId, UnknownReference, TooManyIntervals, TooManyLinks}
-use Rattle.tml_refs.specs.declared.rules.RefFault.{RefFault}
-use Rattle.tml_refs.specs.declared.rules.RefFault.TheVariants as faults
-use Rattle.tml_refs.specs.Kinds.{is_interval, is_tlink}
-use Rattle.tml_refs.specs.Tags.{Reference, id_of, has_id, is_target, references_of}
+use Rattle.tml_types.specs.References.{id_of, is_of_kind, references_of}
+use Rattle.tml_refs.specs.declared.resolving.RefFault.{RefFault}
+use Rattle.tml_refs.specs.declared.resolving.RefFault.TheVariants as faults
+
+-- a tag has this identifier
+abbrev pub has_id : List ℕ → PlainTyped → Bool
+has_id name t = elim (id_of t.content) [ None ↦ false | Some id ↦ bytes_eq name id ]
+
+-- a tag is what a reference asks for
+abbrev pub is_target : Reference → PlainTyped → Bool
+is_target r t = is_of_kind r.asked t.content && has_id r.name t
 
 -- no tag of the document is what the reference asks for
-abbrev pub is_unknown : List TypedTag → Reference → Bool
-is_unknown all r = not (list_any (is_target r.asked r.name) all)
+abbrev pub is_unknown : List PlainTyped → Reference → Bool
+is_unknown all r = not (list_any (is_target r) all)
 
--- A tag of a document, behind the tags before it, breaks a rule: its identifier is that of a tag before it, one of its references is to no tag of the document, it is the first interval too many, or the first link too many.
-abbrev pub breaks : Rule → List TypedTag → List TypedTag → TypedTag → Bool
-breaks DuplicateId all before tag = elim (id_of tag) [ None ↦ false | Some id ↦ list_any (has_id id) before ]
-breaks UnknownReference all before tag = list_any (is_unknown all) (references_of tag)
-breaks TooManyIntervals all before tag = is_interval tag && count_by is_interval before == MAX_INTERVALS
-breaks TooManyLinks all before tag = is_tlink tag && count_by is_tlink before == MAX_LINKS
+-- a tag stands for an interval of time, or for a link
+abbrev pub is_interval : PlainTyped → Bool
+is_interval t = is_of_kind kind.Instance t.content || is_of_kind kind.Timex t.content
 
-abbrev pub HasRule : Rule → List TypedTag → List TypedTag → TypedTag → Type 0
-HasRule rule all before tag = breaks rule all before tag ≡ true
+abbrev pub is_tlink : PlainTyped → Bool
+is_tlink t = is_of_kind kind.Tlink t.content
 
-abbrev pub number : Rule → ℕ
-number DuplicateId = 14
-number UnknownReference = 15
-number TooManyIntervals = 16
-number TooManyLinks = 17
+-- A tag of a document, after the tags before it, breaks a rule: its identifier is that of a tag before it, one of its references is to no tag of the document, it is the first interval too many, or the first link too many.
+abbrev pub breaks : List PlainTyped → FaultKind → List PlainTyped → PlainTyped → Bool
+breaks all kinds.DuplicateId before tag = elim (id_of tag.content) [ None ↦ false | Some id ↦ list_any (has_id id) before ]
+breaks all kinds.UnknownReference before tag = list_any (is_unknown all) (references_of tag.content)
+breaks all kinds.TooManyIntervals before tag = is_interval tag && count_by is_interval before == max_intervals
+breaks all kinds.TooManyLinks before tag = is_tlink tag && count_by is_tlink before == max_links
+breaks all other before tag = false
 
--- no one of these first tags of a document breaks a rule
-abbrev pub AreSound : List TypedTag → List TypedTag → Type 0
-AreSound all tags = (before after : List TypedTag) (tag : TypedTag) (rule : Rule) → tags ≡ before ++ tag ∷ after → HasRule rule all before tag → ⊥
+abbrev pub Breaks : List PlainTyped → FaultKind → List PlainTyped → PlainTyped → Type 0
+Breaks all rule before tag = breaks all rule before tag ≡ true
 
--- At a place stands the first tag that breaks a rule, and of the rules that it breaks this is the one with the least number.
-pub record FaultAt (all : List TypedTag) (place : ℕ) (rule : Rule) : Type 0 where
-  pub before : List TypedTag
-  pub tag : TypedTag
-  pub after : List TypedTag
-  pub whole : all ≡ before ++ tag ∷ after
-  pub sound : AreSound all before
-  pub broken : HasRule rule all before tag
-  pub least : (other : Rule) → HasRule other all before tag → number rule ≤ number other
-  pub place_is : place ≡ place_of tag
+-- at a place stands the first tag of a document that breaks a rule, and this is the first rule that it breaks
+abbrev pub FaultAt : List PlainTyped → ℕ → FaultKind → Type 0
+FaultAt all place rule = FirstFault (Breaks all) number_of place_of all place rule
 
--- the place and the rule of a fault; want of memory has none
-abbrev pub told : RefFault → Option (ℕ × Rule)
-told (faults.DuplicateId place) = Some (place, DuplicateId)
-told (faults.UnknownReference place) = Some (place, UnknownReference)
-told (faults.TooManyIntervals place) = Some (place, TooManyIntervals)
-told (faults.TooManyLinks place) = Some (place, TooManyLinks)
-told faults.Memory = None
+-- the kind and the place of a fault; out of memory has none
+abbrev pub kind_and_place : RefFault → Option (FaultKind × ℕ)
+kind_and_place (faults.DuplicateId place) = Some (kinds.DuplicateId, place)
+kind_and_place (faults.UnknownReference place) = Some (kinds.UnknownReference, place)
+kind_and_place (faults.TooManyIntervals place) = Some (kinds.TooManyIntervals, place)
+kind_and_place (faults.TooManyLinks place) = Some (kinds.TooManyLinks, place)
+kind_and_place faults.Memory = None
 
--- a fault of the typed tags of a document; want of memory says nothing
-abbrev pub HasFault : List TypedTag → RefFault → Type 0
-HasFault all fault = IfSome (told fault) (λ (f : ℕ × Rule). FaultAt all f.0 f.1)
+-- the fault of the typed tags of a document; out of memory says nothing
+abbrev pub HasFault : List PlainTyped → RefFault → Type 0
+HasFault all fault = IfSome (kind_and_place fault) (λ (f : FaultKind × ℕ). FaultAt all f.1 f.0)

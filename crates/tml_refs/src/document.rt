@@ -1,36 +1,110 @@
 //! The intervals and links of a document, and the names of its intervals.
 ghost use Rattle.std.specs.List.{slice_get};
-ghost use Rattle.std.specs.Prelude.{◌≡◌, ◌<◌, ◌^◌, ℕ, length, Some, None, IfOk, IfErr, IfSome, IsNone, MatchOption};
-ghost use Rattle.tml_refs.specs.Indexing.{IsIndexOf};
-ghost use Rattle.tml_refs.specs.Resolved.{IsDocument, IsNamed, Resolved};
-ghost use Rattle.tml_refs.specs.Rules.{HasFault};
+ghost use Rattle.std.specs.Prelude.{◌≡◌, ◌<◌, ℕ, length, Some, IfSome, IsNone};
+ghost use Rattle.tml_refs.specs.Counting.{AreFew, IsOneMore};
+ghost use Rattle.tml_refs.specs.Documents.{IsDocument, IsNamed, name_of};
+ghost use Rattle.tml_refs.specs.View.{plain_interval};
 
-use crate::contents::{Contents, Counts, DocLink, Interval};
-use crate::identify::identify;
-use crate::rules::{RefFault, Rule, fault_at};
-use net_core::{List, Memory};
-use std::alloc::Global;
+use crate::contents::Contents;
+use crate::name_index::NameIndex;
+use net_core::Rel;
 use std::marker::Model;
-use tml_types::Typed;
+use timex_value::{Modifier, TimexKind, Value};
+use tml_types::TagKind;
 
-/// A document without fault: how many tags of each kind it has, its intervals and its links. It keeps an order of the
-/// names of its intervals, by which they are found.
+/// How many tags of each kind a document has.
+#[derive(Clone, Copy, Debug, PartialEq, Eq)]
+pub struct Counts {
+    pub events: u32,
+    pub instances: u32,
+    pub timex: u32,
+    pub signals: u32,
+    pub tlinks: u32,
+    pub alinks: u32,
+    pub slinks: u32,
+}
+
+impl Counts {
+    pub(crate) const NONE: Counts = Counts {
+        events: 0,
+        instances: 0,
+        timex: 0,
+        signals: 0,
+        tlinks: 0,
+        alinks: 0,
+        slinks: 0,
+    };
+
+    /// Counts a tag of this kind.
+    pub(crate) fn add(&mut self, kind: TagKind)
+        requires { AreFew self.old }
+        ensures { IsOneMore kind self.old self.new }
+    {
+        match kind {
+            TagKind::Event => self.events += 1,
+            TagKind::Instance => self.instances += 1,
+            TagKind::Timex => self.timex += 1,
+            TagKind::Signal => self.signals += 1,
+            TagKind::Tlink => self.tlinks += 1,
+            TagKind::Alink => self.alinks += 1,
+            TagKind::Slink => self.slinks += 1,
+        }
+    }
+}
+
+/// An interval of time: an event instance or a time, with its identifier. A time has its `type`, and where they are
+/// there its `mod` and its `value`.
+#[derive(Clone, Copy, Debug, PartialEq, Eq)]
+pub enum Interval<'s> {
+    Instance {
+        name: &'s [u8],
+    },
+    Timex {
+        name: &'s [u8],
+        kind: TimexKind,
+        modifier: Option<Modifier>,
+        value: Option<Value>,
+    },
+}
+
+impl<'s> Interval<'s> {
+    /// The identifier of the tag.
+    pub fn name(self) -> &'s [u8]
+        ensures { result.now ≡ name_of (plain_interval self.entry) }
+    {
+        match self {
+            Interval::Instance { name } | Interval::Timex { name, .. } => name,
+        }
+    }
+}
+
+/// A TLINK, with the numbers of its intervals: `a` is that of `eventInstanceID` or `timeID`, and `b` that of
+/// `relatedToEventInstance` or `relatedToTime`.
+#[derive(Clone, Copy, Debug, PartialEq, Eq)]
+pub struct DocLink {
+    pub a: u32,
+    pub rel: Rel,
+    pub b: u32,
+}
+
+/// A document without fault: how many tags of each kind it has, its intervals and its links. It keeps the order of its
+/// names, by which its intervals are found.
 #[derive(Drop)]
 pub struct Document<'s> {
-    contents: Contents<'s>,
-    by_name: List<(&'s [u8], u32)>,
+    pub(crate) contents: Contents<'s>,
+    pub(crate) names: NameIndex<'s>,
 }
 
 impl<'s> Model for Document<'s> {
-    ghost use Rattle.tml_refs.specs.declared.contents.Contents.{Contents};
-    ghost use Rattle.tml_refs.specs.Indexing.{IsIndexOf};
-    ghost use Rattle.tml_refs.specs.Resolved.{IsDocument};
+    ghost use Rattle.tml_refs.specs.Documents.{PlainDocument};
+    ghost use Rattle.tml_refs.specs.NameIndex.{IsIndexedDocument};
+    ghost use Rattle.tml_refs.specs.View.{document_of};
 
-    ghost Value = { Contents };
+    ghost Value = { PlainDocument };
 
-    ghost view = { λ a. a.contents };
+    ghost view = { λ a. document_of a.contents };
 
-    ghost invariant = { λ a. IsDocument a.contents × IsIndexOf a.contents.intervals a.by_name };
+    ghost invariant = { λ a. IsIndexedDocument (document_of a.contents) a.names };
 }
 
 impl<'s> Document<'s> {
@@ -53,7 +127,7 @@ impl<'s> Document<'s> {
     /// The interval of this number.
     pub fn interval(&self, i: u32) -> Interval<'s>
         requires { i < length self.now.intervals }
-        ensures { slice_get self.now.intervals i ≡ Some result }
+        ensures { slice_get self.now.intervals i ≡ Some (plain_interval result) }
     {
         self.contents.intervals.as_slice()[i as usize]
     }
@@ -78,67 +152,14 @@ impl<'s> Document<'s> {
     }
 
     /// The number of the interval whose identifier this is, or none where it is that of no interval. It takes time in
-    /// log n for n intervals.
+    /// log n for n tags.
     pub fn index_of(&self, name: &[u8]) -> Option<u32>
         ensures some { IfSome result (IsNamed self.now.intervals name.now) }
         ensures none { IsNone result → (i : ℕ) → IsNamed self.now.intervals name.now i → ⊥ }
     {
-        let by_name = self.by_name.as_slice();
-        match by_name.binary_search_by(|entry| entry.0.cmp(name)) {
-            Ok(at) => Some(by_name[at].1),
-            Err(_) => None,
+        match self.names.number_of(TagKind::Instance, name) {
+            Some(number) => Some(number),
+            None => self.names.number_of(TagKind::Timex, name),
         }
-    }
-}
-
-/// Resolves the references of typed tags.
-///
-/// # Errors
-///
-/// The first tag in document order that has a fault, and of its faults the one with the least number, in the order
-/// of `RefFault`. `Memory` may come at any place.
-pub fn resolve<'s>(alloc: Global, typed: &Typed<'s>) -> Result<Document<'s>, RefFault>
-    ensures ok { IfOk result (λ d. Resolved typed.now d) }
-    ensures err { IfErr result (λ e. HasFault typed.now e) }
-{
-    let tags = typed.as_slice();
-    let Ok(ids) = identify(alloc, tags) else {
-        return Err(RefFault::Memory);
-    };
-    let (distinct, rest) = tags.split_at(ids.distinct);
-    let mut contents = Contents::new(alloc);
-    for tag in distinct {
-        if let Some(rule) = contents.rule(&ids.names, tag) {
-            return Err(fault_at(rule, tag.place()));
-        }
-        if contents.add(&ids.names, tag).is_err() {
-            return Err(RefFault::Memory);
-        }
-    }
-    if let [duplicate, ..] = rest {
-        return Err(fault_at(Rule::DuplicateId, duplicate.place()));
-    }
-    match names_in_order(alloc, contents.intervals.as_slice()) {
-        Ok(by_name) => Ok(Document { contents, by_name }),
-        Err(Memory) => Err(RefFault::Memory),
-    }
-}
-
-/// The names of intervals in their order, each with the number of its interval.
-fn names_in_order<'s>(
-    alloc: Global,
-    intervals: &[Interval<'s>],
-) -> Result<List<(&'s [u8], u32)>, Memory>
-    requires { length intervals.now < 2 ^ 32 }
-    ensures { IfOk result (IsIndexOf intervals.now) }
-{
-    let mut names = List::new(alloc);
-    for (number, interval) in intervals.iter().enumerate() {
-        names.push((interval.name(), number as u32))?;
-    }
-    let mut by_name = names.into_vec();
-    match by_name.sort() {
-        Ok(()) => Ok(List::from_vec(by_name)),
-        Err(_) => Err(Memory),
     }
 }

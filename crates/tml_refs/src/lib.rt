@@ -3,14 +3,12 @@
 
 mod contents;
 mod document;
-mod identify;
 mod laws;
-mod names;
-mod rules;
+mod name_index;
+mod resolving;
 #[cfg(test)]
 mod tests;
 
-pub use contents::{Counts, DocLink, Interval};
-pub use document::{Document, resolve};
-pub use laws::{one_answer, one_document, same_faults};
-pub use rules::RefFault;
+pub use document::{Counts, DocLink, Document, Interval};
+pub use laws::one_answer;
+pub use resolving::{RefFault, resolve};

@@ -1,8 +1,9 @@
-pub mod FirstRules
-pub mod NamedValues
 pub mod RepeatedNames
-pub mod SeenNames
+pub mod NameEntries
+pub mod KindNames
+pub mod OneRule
+pub mod OneTag
+pub mod OneTyped
+pub mod OneAnswer
 pub mod Walks
 pub mod Rising
-pub mod Faults
-pub mod Sameness

@@ -4,7 +4,7 @@ use Rattle.std.specs.List.{list_any}
 use Rattle.std.specs.Str.{bytes_eq}
 use Rattle.tml_span.specs.Units.{Attribute}
 use Rattle.tml_types.specs.Rules.{has_name, is_repeated}
-use Rattle.tml_types.specs.Seen.{is_in}
+use Rattle.tml_types.specs.NameSets.{is_in}
 
 -- an attribute has one of these names, or that of an attribute before it
 abbrev pub repeats : List (List ℕ) → List Attribute → Bool

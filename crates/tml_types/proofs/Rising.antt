@@ -1,8 +1,9 @@
 -- The tags of a source stand one behind another, so the places of its typed tags rise.
-use Rattle.std.proofs.Common.{◌≡◌, ℕ, suc, Bool, true, false, cond, ◌+◌, ◌<◌, ◌≤◌, ◌^◌, List, [], ◌∷◌, ◌++◌, length, map, refl, sym, ap, ◌∙◌, inl, inr, append-nil, length-append, arith, rules, codes, All}
+use Rattle.std.proofs.Common.{◌≡◌, ℕ, suc, Bool, true, false, cond, ◌+◌, ◌<◌, ◌≤◌, ◌^◌, List, [], ◌∷◌, ◌++◌, length, map, refl, sym, ap, ◌∙◌, inl, inr, append-nil, length-append, arith, rules, codes, All, subst, Some, None}
+use Rattle.std.specs.Option.{IfSome}
 use Rattle.std.specs.List.{AllZip, filter}
 use Rattle.std.proofs.lemmas.List.{map-append}
-use Rattle.std.proofs.lemmas.List.Elements.{filter-append, All-head, All-tail}
+use Rattle.std.proofs.lemmas.List.Elements.{filter-append, All-nil, All-cons, All-head, All-tail}
 use Rattle.tml_span.specs.Cutting.{CutsFrom}
 use Rattle.tml_span.specs.Units.{Attribute, Kind, PlainUnit, SpelledTag, Spelled, bom, declaration, doctype, comment, text, start_tag, end_tag, empty_tag}
 use Rattle.tml_tree.specs.Nesting.{Item, Items, is_content, is_element}
@@ -10,11 +11,14 @@ use Rattle.tml_tree.specs.Plain.{PlainNode, PlainNodes, text_node, comment_node,
 use Rattle.tml_tree.specs.Trees.{Document}
 use Rattle.tml_tree.specs.Walking.{PlainTag, elements, all_elements}
 use Rattle.tml_tree.specs.Whole.{IsTreeOf}
-use Rattle.tml_types.specs.declared.typed.TypedTag.{TypedTag}
-use Rattle.tml_types.specs.declared.typed.TypedTag.TheVariants.{Event, Instance, Timex, Signal, Tlink, Alink, Slink}
-use Rattle.tml_types.specs.Places.{place_of, Rises, Fits, IsPlaced}
+use Rattle.tml_types.specs.Content.{PlainTyped}
+use Rattle.tml_types.specs.Places.{place_of, Rises, IsPlaceSmall, ArePlaced}
+use Rattle.tml_types.specs.Rules.{AreSoundBefore, Breaks, IsSound}
 use Rattle.tml_types.specs.Typing.{TypedAs}
-use Rattle.tml_types.specs.Whole.{has_rows, AreTyped}
+use Rattle.tml_types.specs.Whole.{AreTyped, FaultAt, HasFault, IsAtLeastPlace, has_rows, kind_and_place}
+use Rattle.tml_types.specs.declared.walk.TypeFault.{TypeFault}
+use Rattle.faults.specs.declared.kind.FaultKind.{FaultKind}
+use Rattle.faults.proofs.First.{all_of_none}
 
 -- ---- the starts of tags
 
@@ -110,15 +114,6 @@ tree_spaced source root t = rw (root_starts root t.0 t.2) (cut_spaced 0 source t
 
 -- ---- the places of typed tags
 
-pub typed_place : (tag : PlainTag) (t : TypedTag) → TypedAs tag t → place_of t ≡ tag.place
-typed_place tag (Event place eid class) h = h.1
-typed_place tag (Instance place eiid event signal tense aspect pos polarity) h = h.1
-typed_place tag (Timex place tid kind value modifier function temporal anchor begin finish) h = h.1
-typed_place tag (Signal place sid) h = h.1
-typed_place tag (Tlink place lid signal left rel right) h = h.1
-typed_place tag (Alink place lid signal event related rel) h = h.1
-typed_place tag (Slink place lid signal event subordinated rel) h = h.1
-
 filter_spaced : (low : ℕ) (tags : List PlainTag) → Spaced low (map at tags) → Spaced low (map at (filter has_rows tags))
 filter_spaced low [] s = tt
 filter_spaced low (tag ∷ tags) s =
@@ -127,28 +122,53 @@ filter_spaced low (tag ∷ tags) s =
       | false ↦ filter_spaced low tags (spaced_lower low (tag.place + 2) (map at tags) (omega arith) s.1)
     ]
 
-typed_spaced : (low : ℕ) (tags : List PlainTag) (typed : List TypedTag) → AllZip TypedAs tags typed → Spaced low (map at tags) → Spaced low (map place_of typed)
+typed_spaced : (low : ℕ) (tags : List PlainTag) (typed : List PlainTyped) → AllZip TypedAs tags typed → Spaced low (map at tags) → Spaced low (map place_of typed)
 typed_spaced low [] [] h s = tt
 typed_spaced low [] (t ∷ ts) h s = absurd h
 typed_spaced low (tag ∷ tags) [] h s = tt
-typed_spaced low (tag ∷ tags) (t ∷ ts) h s = rw (typed_place tag t h.0) (s.0, typed_spaced (tag.place + 2) tags ts h.1 s.1)
+typed_spaced low (tag ∷ tags) (t ∷ ts) h s = rw (h.0.place) (s.0, typed_spaced (tag.place + 2) tags ts h.1 s.1)
 
 spaced_rises : (low : ℕ) (ns : List ℕ) → Spaced low ns → Rises low ns
 spaced_rises low [] h = tt
 spaced_rises low (n ∷ ns) h = (h.0, spaced_rises (n + 1) ns (spaced_lower (n + 1) (n + 2) ns (omega arith) h.1))
 
-spaced_few : (low high : ℕ) (ts : List TypedTag) → Spaced low (map place_of ts) → low ≤ high + 1 → All (λ (t : TypedTag). place_of t < high) ts → low + (length ts + length ts) ≤ high + 1
+spaced_few : (low high : ℕ) (ts : List PlainTyped) → Spaced low (map place_of ts) → low ≤ high + 1 → All (λ (t : PlainTyped). t.place < high) ts → low + (length ts + length ts) ≤ high + 1
 spaced_few low high [] h k f = omega arith
 spaced_few low high (t ∷ ts) h k f =
-    let here : place_of t < high = All-head (λ (t : TypedTag). place_of t < high) t ts f in
+    let here : t.place < high = All-head (λ (t : PlainTyped). t.place < high) t ts f in
     let least = h.0 in
-    let rest = spaced_few (place_of t + 2) high ts h.1 (omega arith) (All-tail (λ (t : TypedTag). place_of t < high) t ts f) in
+    let rest = spaced_few (t.place + 2) high ts h.1 (omega arith) (All-tail (λ (t : PlainTyped). t.place < high) t ts f) in
     omega arith
 
 half : (n high : ℕ) → 0 + (n + n) ≤ high + 1 → 1 < high → n < high
 half n high h k = omega arith
 
-pub tree_placed : (source : List ℕ) (root : PlainNode) (typed : List TypedTag) → IsTreeOf source root → AreTyped (elements root) typed → All Fits typed → IsPlaced typed
+pub tree_placed : (source : List ℕ) (root : PlainNode) (typed : List PlainTyped) → IsTreeOf source root → AreTyped (elements root) typed → All IsPlaceSmall typed → ArePlaced typed
 tree_placed source root typed t a f =
     let spaced = typed_spaced 0 (filter has_rows (elements root)) typed a (filter_spaced 0 (elements root) (tree_spaced source root t)) in
-    record { rising = spaced_rises 0 (map place_of typed) spaced; fits = f; few = half (length typed) (2 ^ 32) (spaced_few 0 (2 ^ 32) typed spaced (search rules) f) (search rules) }
+    record { rising = spaced_rises 0 (map place_of typed) spaced; small = f; few = half (length typed) (2 ^ 32) (spaced_few 0 (2 ^ 32) typed spaced (search rules) f) (search rules) }
+
+-- ---- the first tag at fault is the one at the least place
+
+sound_before : (place : ℕ) (tags : List PlainTag) → All IsSound tags → AreSoundBefore place tags
+sound_before place [] h = All-nil _
+sound_before place (tag ∷ tags) h = All-cons (λ (t : PlainTag). t.place < place → IsSound t) tag tags (λ below. All-head IsSound tag tags h) (sound_before place tags (All-tail IsSound tag tags h))
+
+none_before : (place low : ℕ) (tags : List PlainTag) → place ≤ low → Spaced low (map at tags) → AreSoundBefore place tags
+none_before place low [] l s = All-nil _
+none_before place low (tag ∷ tags) l s =
+    let least = s.0 in
+    All-cons (λ (t : PlainTag). t.place < place → IsSound t) tag tags (λ below. absurd (omega arith)) (none_before place (tag.place + 2) tags (omega arith) s.1)
+
+least_place : (low : ℕ) (before after : List PlainTag) (tag : PlainTag) → All IsSound before → Spaced low (map at (before ++ tag ∷ after)) → AreSoundBefore tag.place (before ++ tag ∷ after)
+least_place low [] after tag h s = none_before tag.place tag.place (tag ∷ after) (omega arith) (omega arith, s.1)
+least_place low (b ∷ before) after tag h s =
+    All-cons (λ (t : PlainTag). t.place < tag.place → IsSound t) b (before ++ tag ∷ after) (λ below. All-head IsSound b before h) (least_place (b.place + 2) before after tag (All-tail IsSound b before h) s.1)
+
+pub tree_least : (source : List ℕ) (root : PlainNode) (fault : TypeFault) → IsTreeOf source root → HasFault (elements root) fault → IsAtLeastPlace (elements root) fault
+tree_least source root fault t h = elim (kind_and_place fault) as (λ o. IfSome o (λ (f : FaultKind × ℕ). FaultAt (elements root) f.1 f.0) → IfSome o (λ (f : FaultKind × ℕ). AreSoundBefore f.1 (elements root))) [
+  | None ↦ λ k. tt
+  | Some f ↦ λ k.
+      let spaced : Spaced 0 (map at (k.before ++ k.element ∷ k.after)) = subst (λ (tags : List PlainTag). Spaced 0 (map at tags)) k.whole (tree_spaced source root t) in
+      rw (k.whole, k.place_is) (least_place 0 k.before k.after k.element (all_of_none Breaks k.before k.none_before) spaced)
+] h

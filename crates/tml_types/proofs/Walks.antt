@@ -2,6 +2,7 @@
 use Rattle.std.proofs.Common.{◌≡◌, ℕ, suc, ◌+◌, ◌<◌, add-one, drop-cons, drop, get_or, length, List, [], ◌∷◌, ◌++◌, map, sym, ap, ◌∙◌, append_assoc, Some, None, All}
 use Rattle.std.specs.List.{AllZip, filter}
 use Rattle.std.specs.Option.{IfSome}
+use Rattle.std.proofs.lemmas.List.{map-append}
 use Rattle.std.proofs.lemmas.List.Elements.{All-append, filter-append}
 use Rattle.tml_tree.specs.declared.node.Tag.{Tag}
 use Rattle.tml_tree.specs.declared.node.Node.{Node}
@@ -9,14 +10,18 @@ use Rattle.tml_tree.specs.Plain.{PlainNode, nodes_of}
 use Rattle.tml_tree.specs.View.{node_of, tag_node}
 use Rattle.tml_tree.specs.Walking.{PlainTag, elements, all_elements}
 use Rattle.tml_tree.proofs.Rows.{element_is}
-use Rattle.tml_types.specs.declared.rules.Rule.{Rule}
+use Rattle.faults.specs.declared.kind.FaultKind.{FaultKind}
+use Rattle.faults.specs.Kinds.{number_of}
+use Rattle.faults.proofs.First.{fault_within}
 use Rattle.tml_types.specs.declared.typed.TypedTag.{TypedTag}
-use Rattle.tml_types.specs.declared.whole.TypeFault.{TypeFault}
-use Rattle.tml_types.specs.Holding.{plain_of}
-use Rattle.tml_types.specs.Places.{Fits}
-use Rattle.tml_types.specs.Rules.{IsSound}
+use Rattle.tml_types.specs.declared.walk.TypeFault.{TypeFault}
+use Rattle.tml_types.specs.Content.{PlainTyped}
+use Rattle.tml_types.specs.Places.{IsPlaceSmall}
+use Rattle.tml_types.specs.Rules.{Breaks, IsSound}
 use Rattle.tml_types.specs.Typing.{TypedAs}
-use Rattle.tml_types.specs.Whole.{has_rows, Types, FaultAt, told, HasFault, Adds}
+use Rattle.tml_types.specs.View.{typed_of}
+use Rattle.tml_types.specs.Walking.{Adds, plain_of}
+use Rattle.tml_types.specs.Whole.{FaultAt, HasFault, Types, has_rows, kind_and_place, place_of}
 
 pub zip_append : {A B : Type 0} (R : A → B → Type 0) (xs xs' : List A) (ys ys' : List B) → AllZip R xs ys → AllZip R xs' ys' → AllZip R (xs ++ xs') (ys ++ ys')
 zip_append R [] xs' [] ys' h k = k
@@ -24,35 +29,25 @@ zip_append R [] xs' (y ∷ ys) ys' h k = absurd h
 zip_append R (x ∷ xs) xs' [] ys' h k = absurd h
 zip_append R (x ∷ xs) xs' (y ∷ ys) ys' h k = (h.0, zip_append R xs xs' ys ys' h.1 k)
 
-types_append : (tags others : List PlainTag) (ts us : List TypedTag) → Types tags ts → Types others us → Types (tags ++ others) (ts ++ us)
+types_append : (tags others : List PlainTag) (ts us : List PlainTyped) → Types tags ts → Types others us → Types (tags ++ others) (ts ++ us)
 types_append tags others ts us h k = record {
   sound = All-append IsSound tags others h.sound k.sound;
-  fields = rw (filter-append has_rows tags others) (zip_append TypedAs (filter has_rows tags) (filter has_rows others) ts us h.fields k.fields);
+  typed_tags = rw (filter-append has_rows tags others) (zip_append TypedAs (filter has_rows tags) (filter has_rows others) ts us h.typed_tags k.typed_tags);
 }
 
 -- the typed tags of more tags behind those of some
 pub adds_more : (tags others : List PlainTag) (a b c : List TypedTag) → Adds tags a b → Adds others b c → Adds (tags ++ others) a c
 adds_more tags others a b c h k =
-    (h.0 ++ k.0, types_append tags others h.0 k.0 h.1 k.1, All-append Fits h.0 k.0 h.2 k.2, k.3 ∙ ap (λ (ts : List TypedTag). ts ++ k.0) h.3 ∙ append_assoc a h.0 k.0)
-
-fault_within : (before tags after : List PlainTag) (place : ℕ) (rule : Rule) → All IsSound before → FaultAt tags place rule → FaultAt (before ++ tags ++ after) place rule
-fault_within before tags after place rule sound f = record {
-  before = before ++ f.before;
-  tag = f.tag;
-  after = f.after ++ after;
-  whole = ap (λ (ts : List PlainTag). before ++ ts ++ after) f.whole ∙ simp append_assoc;
-  sound = All-append IsSound before f.before sound f.sound;
-  first = f.first;
-  place_is = f.place_is;
-}
+    let both : map typed_of (h.0 ++ k.0) ≡ map typed_of h.0 ++ map typed_of k.0 = map-append typed_of h.0 k.0 in
+    (h.0 ++ k.0, rw both (types_append tags others (map typed_of h.0) (map typed_of k.0) h.1 k.1), rw both (All-append IsPlaceSmall (map typed_of h.0) (map typed_of k.0) h.2 k.2), k.3 ∙ ap (λ (ts : List TypedTag). ts ++ k.0) h.3 ∙ append_assoc a h.0 k.0)
 
 -- the first fault of some tags is that of more, where those before them have none
 pub fault_of_more : (before tags after all : List PlainTag) (fault : TypeFault) → before ++ tags ++ after ≡ all → All IsSound before → HasFault tags fault → HasFault all fault
 fault_of_more before tags after all fault e sound h =
     rw (← e)
-    (elim (told fault) as (λ t. IfSome t (λ (f : ℕ × Rule). FaultAt tags f.0 f.1) → IfSome t (λ (f : ℕ × Rule). FaultAt (before ++ tags ++ after) f.0 f.1)) [
+    (elim (kind_and_place fault) as (λ t. IfSome t (λ (f : FaultKind × ℕ). FaultAt tags f.1 f.0) → IfSome t (λ (f : FaultKind × ℕ). FaultAt (before ++ tags ++ after) f.1 f.0)) [
       | None ↦ λ k. tt
-      | Some f ↦ λ k. fault_within before tags after f.0 f.1 sound k
+      | Some f ↦ λ k. fault_within Breaks number_of place_of before tags after f.1 f.0 sound k
     ] h)
 
 -- a tag and those inside it, one after another

@@ -1,68 +1,89 @@
--- The attributes of the tags that mean something, and the texts that their values have.
-use Rattle.std.specs.Prelude.{ℕ, List, [], ◌∷◌, codes}
-use Rattle.tml_tree.specs.declared.names.TagName.{TagName}
-use Rattle.tml_tree.specs.declared.names.TagName.TheVariants as tag
-use Rattle.tml_types.specs.declared.table.Form.{Form}
-use Rattle.tml_types.specs.declared.table.Form.TheVariants as form
+-- The attributes of the tags that mean something: this project's profile of TimeML 1.2.1.
+use Rattle.std.specs.Prelude.{ℕ, List, [], ◌∷◌, codes, Some, None}
+use Rattle.named.specs.Texts.{named_of}
+use Rattle.tml_tree.specs.TagNames.{text_of, all_tags}
+use Rattle.tml_tree.specs.declared.tag_name.TagName.{TagName}
+use Rattle.tml_tree.specs.declared.tag_name.TagName.TheVariants as tag
+
+-- What a value has to be: an identifier, which a reference looks like too; any text; or one of a list.
+pub data ValueForm : Type 0 where
+  identifier : ValueForm
+  any_text : ValueForm
+  truth : ValueForm
+  event_class : ValueForm
+  tense : ValueForm
+  aspect : ValueForm
+  part_of_speech : ValueForm
+  polarity : ValueForm
+  timex_kind : ValueForm
+  modifier : ValueForm
+  doc_function : ValueForm
+  relation : ValueForm
+  aspect_relation : ValueForm
+  sub_relation : ValueForm
 
 -- an attribute that has to be there, one that may be there, or two of which one has to be there
 pub data Row : Type 0 where
-  required : List ℕ → Form → Row
-  optional : List ℕ → Form → Row
-  one_of : List ℕ → List ℕ → Form → Row
+  required : List ℕ → ValueForm → Row
+  optional : List ℕ → ValueForm → Row
+  one_of : List ℕ → List ℕ → ValueForm → Row
 
 -- the attributes of a tag; the root and the wrappers have none
 abbrev pub rows_of : TagName → List Row
 rows_of tag.Event =
-    required (codes "eid") form.Identifier
-    ∷ required (codes "class") form.EventClass
+    required (codes "eid") identifier
+    ∷ required (codes "class") event_class
     ∷ []
 rows_of tag.MakeInstance =
-    required (codes "eiid") form.Identifier
-    ∷ required (codes "eventID") form.Reference
-    ∷ optional (codes "tense") form.Tense
-    ∷ optional (codes "aspect") form.Aspect
-    ∷ optional (codes "pos") form.Pos
-    ∷ optional (codes "polarity") form.Polarity
-    ∷ optional (codes "signalID") form.Reference
-    ∷ optional (codes "modality") form.AnyText
-    ∷ optional (codes "cardinality") form.AnyText
+    required (codes "eiid") identifier
+    ∷ required (codes "eventID") identifier
+    ∷ optional (codes "tense") tense
+    ∷ optional (codes "aspect") aspect
+    ∷ optional (codes "pos") part_of_speech
+    ∷ optional (codes "polarity") polarity
+    ∷ optional (codes "signalID") identifier
+    ∷ optional (codes "modality") any_text
+    ∷ optional (codes "cardinality") any_text
     ∷ []
 rows_of tag.Timex3 =
-    required (codes "tid") form.Identifier
-    ∷ required (codes "type") form.TimexKind
-    ∷ optional (codes "value") form.AnyText
-    ∷ optional (codes "mod") form.Modifier
-    ∷ optional (codes "functionInDocument") form.DocFunction
-    ∷ optional (codes "temporalFunction") form.Truth
-    ∷ optional (codes "anchorTimeID") form.Reference
-    ∷ optional (codes "beginPoint") form.Reference
-    ∷ optional (codes "endPoint") form.Reference
-    ∷ optional (codes "quant") form.AnyText
-    ∷ optional (codes "freq") form.AnyText
+    required (codes "tid") identifier
+    ∷ required (codes "type") timex_kind
+    ∷ optional (codes "value") any_text
+    ∷ optional (codes "mod") modifier
+    ∷ optional (codes "functionInDocument") doc_function
+    ∷ optional (codes "temporalFunction") truth
+    ∷ optional (codes "anchorTimeID") identifier
+    ∷ optional (codes "beginPoint") identifier
+    ∷ optional (codes "endPoint") identifier
+    ∷ optional (codes "quant") any_text
+    ∷ optional (codes "freq") any_text
     ∷ []
 rows_of tag.Signal =
-    required (codes "sid") form.Identifier
+    required (codes "sid") identifier
     ∷ []
 rows_of tag.Tlink =
-    required (codes "relType") form.Rel
-    ∷ one_of (codes "eventInstanceID") (codes "timeID") form.Reference
-    ∷ one_of (codes "relatedToEventInstance") (codes "relatedToTime") form.Reference
-    ∷ optional (codes "lid") form.Identifier
-    ∷ optional (codes "signalID") form.Reference
+    required (codes "relType") relation
+    ∷ one_of (codes "eventInstanceID") (codes "timeID") identifier
+    ∷ one_of (codes "relatedToEventInstance") (codes "relatedToTime") identifier
+    ∷ optional (codes "lid") identifier
+    ∷ optional (codes "signalID") identifier
     ∷ []
 rows_of tag.Alink =
-    required (codes "eventInstanceID") form.Reference
-    ∷ required (codes "relatedToEventInstance") form.Reference
-    ∷ required (codes "relType") form.AspectRel
-    ∷ optional (codes "lid") form.Identifier
-    ∷ optional (codes "signalID") form.Reference
+    required (codes "eventInstanceID") identifier
+    ∷ required (codes "relatedToEventInstance") identifier
+    ∷ required (codes "relType") aspect_relation
+    ∷ optional (codes "lid") identifier
+    ∷ optional (codes "signalID") identifier
     ∷ []
 rows_of tag.Slink =
-    required (codes "subordinatedEventInstance") form.Reference
-    ∷ required (codes "relType") form.SubRel
-    ∷ optional (codes "eventInstanceID") form.Reference
-    ∷ optional (codes "lid") form.Identifier
-    ∷ optional (codes "signalID") form.Reference
+    required (codes "subordinatedEventInstance") identifier
+    ∷ required (codes "relType") sub_relation
+    ∷ optional (codes "eventInstanceID") identifier
+    ∷ optional (codes "lid") identifier
+    ∷ optional (codes "signalID") identifier
     ∷ []
 rows_of other = []
+
+-- the rows of the tag with this name
+unfoldable pub rows_at : List ℕ → List Row
+rows_at name = elim (named_of text_of all_tags name) [ None ↦ [] | Some t ↦ rows_of t ]

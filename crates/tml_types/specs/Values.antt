@@ -1,19 +1,20 @@
 -- The values of attributes.
-use Rattle.std.specs.Prelude.{ℕ, Bool, true, false, ◌&&◌, ◌||◌, nat_le, ◌==◌, List, [], ◌∷◌, length, codes, Option, Some, None, is_some, if◌then◌else◌}
+use Rattle.std.specs.Prelude.{ℕ, Bool, true, false, ◌&&◌, ◌||◌, nat_le, List, [], ◌∷◌, length, codes, Option, Some, None, is_some, if◌then◌else◌}
 use Rattle.std.specs.List.{list_all}
 use Rattle.std.specs.Str.{bytes_eq}
 use Rattle.named.specs.Texts.{named_of}
 use Rattle.net_core.specs.Rels.{rel_text, all_rels}
 use Rattle.timex_value.specs.Kinds.{kind_text, all_kinds, modifier_text, all_modifiers}
+use Rattle.tml_span.specs.Bytes.{is_digit, is_from_to, is_in}
 use Rattle.tml_span.specs.Units.{Attribute}
-use Rattle.tml_types.specs.declared.table.Form.{Form}
-use Rattle.tml_types.specs.declared.table.Form.TheVariants as form
-use Rattle.tml_types.specs.Names as names
+use Rattle.tml_types.specs.Listed as listed
+use Rattle.tml_types.specs.Table as form
 
--- 1 to 64 bytes, each an ASCII letter, a digit, `_`, `-` or `.`
+-- an ASCII letter, a digit, `_`, `-` or `.`
 abbrev pub is_id_byte : ℕ → Bool
-is_id_byte b = (nat_le 65 b && nat_le b 90) || (nat_le 97 b && nat_le b 122) || (nat_le 48 b && nat_le b 57) || b == 95 || b == 45 || b == 46
+is_id_byte b = is_from_to (codes "AZ") b || is_from_to (codes "az") b || is_digit b || is_in (codes "_-.") b
 
+-- an identifier has 1 to 64 bytes
 abbrev pub is_id_len : ℕ → Bool
 is_id_len n = nat_le 1 n && nat_le n 64
 
@@ -32,23 +33,25 @@ all_truths = true ∷ false ∷ []
 abbrev pub is_named : {T : Type 0} → (T → List ℕ) → List T → List ℕ → Bool
 is_named text_of all text = is_some (named_of text_of all text)
 
+abbrev pub is_truth : List ℕ → Bool
+is_truth text = is_named truth_text all_truths text
+
 -- a text is of a form
-abbrev pub fits : Form → List ℕ → Bool
-fits form.Identifier text = is_identifier text
-fits form.Reference text = is_identifier text
-fits form.AnyText text = true
-fits form.Truth text = is_named truth_text all_truths text
-fits form.EventClass text = is_named names.class_text names.all_classes text
-fits form.Tense text = is_named names.tense_text names.all_tenses text
-fits form.Aspect text = is_named names.aspect_text names.all_aspects text
-fits form.Pos text = is_named names.pos_text names.all_pos text
-fits form.Polarity text = is_named names.polarity_text names.all_polarities text
-fits form.TimexKind text = is_named kind_text all_kinds text
-fits form.Modifier text = is_named modifier_text all_modifiers text
-fits form.DocFunction text = is_named names.function_text names.all_functions text
-fits form.Rel text = is_named rel_text all_rels text
-fits form.AspectRel text = is_named names.aspect_rel_text names.all_aspect_rels text
-fits form.SubRel text = is_named names.sub_rel_text names.all_sub_rels text
+abbrev pub is_of_form : form.ValueForm → List ℕ → Bool
+is_of_form form.identifier text = is_identifier text
+is_of_form form.any_text text = true
+is_of_form form.truth text = is_truth text
+is_of_form form.event_class text = is_named listed.class_text listed.all_classes text
+is_of_form form.tense text = is_named listed.tense_text listed.all_tenses text
+is_of_form form.aspect text = is_named listed.aspect_text listed.all_aspects text
+is_of_form form.part_of_speech text = is_named listed.pos_text listed.all_pos text
+is_of_form form.polarity text = is_named listed.polarity_text listed.all_polarities text
+is_of_form form.timex_kind text = is_named kind_text all_kinds text
+is_of_form form.modifier text = is_named modifier_text all_modifiers text
+is_of_form form.doc_function text = is_named listed.function_text listed.all_functions text
+is_of_form form.relation text = is_named rel_text all_rels text
+is_of_form form.aspect_relation text = is_named listed.aspect_rel_text listed.all_aspect_rels text
+is_of_form form.sub_relation text = is_named listed.sub_rel_text listed.all_sub_rels text
 
 -- an empty value counts as absent
 abbrev pub filled : List ℕ → Option (List ℕ)

@@ -1,9 +1,51 @@
--- Rows of the program as plain rows.
-use Rattle.tml_types.specs.declared.table.Row.{Row as RustRow}
-use Rattle.tml_types.specs.declared.table.Row.TheVariants as row
-use Rattle.tml_types.specs.Table.{Row, required, optional, one_of}
+-- The plain values that typed tags stand for.
+use Rattle.std.specs.Prelude.{ℕ, List, Option, option_map}
+use Rattle.std.specs.Borrow.{Bor}
+use Rattle.tml_types.specs.declared.typed.LinkEnd.{LinkEnd}
+use Rattle.tml_types.specs.declared.typed.LinkEnd.TheVariants as end
+use Rattle.tml_types.specs.declared.typed.TagKind.TheVariants as kind
+use Rattle.tml_types.specs.declared.typed.TypedTag.{TypedTag}
+use Rattle.tml_types.specs.declared.typed.TypedTag.TheVariants.{Event, Instance, Timex, Signal, Tlink, Alink, Slink}
+use Rattle.tml_types.specs.Content.{Reference, PlainTyped, event, instance, timex, signal, tlink, alink, slink}
 
-abbrev pub row_of : RustRow → Row
-row_of (row.Required name form) = required name.now form
-row_of (row.Optional name form) = optional name.now form
-row_of (row.OneOf name other form) = one_of name.now other.now form
+-- the text of a slice that may be absent
+abbrev pub text_of : Option (Bor (List ℕ)) → Option (List ℕ)
+text_of slice = option_map (λ (s : Bor (List ℕ)). s.now) slice
+
+abbrev pub end_of : LinkEnd → Reference
+end_of (end.Instance name) = record { asked = kind.Instance; name = name.now }
+end_of (end.Time name) = record { asked = kind.Timex; name = name.now }
+
+abbrev pub typed_of : TypedTag → PlainTyped
+typed_of (Event place eid class) = record { place = place; content = event (record { eid = eid.now; class = class }) }
+typed_of (Instance place eiid of_event by_signal tense aspect pos polarity) = record {
+  place = place;
+  content = instance (record { eiid = eiid.now; event = of_event.now; signal = text_of by_signal; tense = tense; aspect = aspect; pos = pos; polarity = polarity });
+}
+typed_of (Timex place tid kind value modifier function temporal anchor begin finish) = record {
+  place = place;
+  content = timex (record {
+    tid = tid.now;
+    kind = kind;
+    value = value;
+    modifier = modifier;
+    function = function;
+    temporal = temporal;
+    anchor = text_of anchor;
+    begin = text_of begin;
+    finish = text_of finish;
+  });
+}
+typed_of (Signal place sid) = record { place = place; content = signal (record { sid = sid.now }) }
+typed_of (Tlink place lid by_signal left rel right) = record {
+  place = place;
+  content = tlink (record { lid = text_of lid; signal = text_of by_signal; left = end_of left; rel = rel; right = end_of right });
+}
+typed_of (Alink place lid by_signal of_event related rel) = record {
+  place = place;
+  content = alink (record { lid = text_of lid; signal = text_of by_signal; event = of_event.now; related = related.now; rel = rel });
+}
+typed_of (Slink place lid by_signal of_event subordinated rel) = record {
+  place = place;
+  content = slink (record { lid = text_of lid; signal = text_of by_signal; event = text_of of_event; subordinated = subordinated.now; rel = rel });
+}

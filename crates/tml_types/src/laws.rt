@@ -1,12 +1,7 @@
 //! Laws of typed tags: public functions that do nothing, each with the law as its contract.
-ghost use Rattle.tml_types.specs.Answers.{OneAnswers, OneTyped};
+ghost use Rattle.tml_types.specs.Answers.{OneAnswers};
 
-/// Typed tags and a fault exclude each other, and tags have one fault at most.
+/// Typed tags and a fault exclude each other. Tags have one fault at most, and one list of typed tags at most.
 pub fn one_answer()
     ensures { OneAnswers }
-{}
-
-/// The typed tags of some tags are the only ones, but for where their slices lie.
-pub fn one_typed()
-    ensures { OneTyped }
 {}

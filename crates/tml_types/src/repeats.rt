@@ -3,7 +3,7 @@ ghost use Rattle.std.specs.Prelude.{◌≡◌, map, IfOk};
 ghost use Rattle.tml_span.specs.View.{attribute_of};
 ghost use Rattle.tml_types.specs.Rules as rules;
 
-use crate::seen::Seen;
+use crate::name_set::NameSet;
 use std::alloc::Global;
 use tml_span::{Attr, Memory};
 
@@ -47,9 +47,9 @@ fn has_name(name: &[u8], attrs: &[Attr<'_>]) -> bool
 fn is_repeated_in_many(alloc: Global, attrs: &[Attr<'_>]) -> Result<bool, Memory>
     ensures { IfOk result (λ r. r ≡ rules.is_repeated (map attribute_of attrs.now)) }
 {
-    let mut seen = Seen::new(alloc);
+    let mut seen = NameSet::new(alloc);
     for attr in attrs {
-        match seen.add(attr.name) {
+        match seen.insert(attr.name) {
             Ok(true) => {}
             Ok(false) => return Ok(true),
             Err(Memory) => return Err(Memory),

@@ -1,10 +1,23 @@
 //! Tags with the values of their attributes.
 ghost use Rattle.std.specs.Prelude.{◌≡◌};
-ghost use Rattle.tml_types.specs.Places.{place_of};
+ghost use Rattle.tml_types.specs.References as references;
+ghost use Rattle.tml_types.specs.View as view;
 
-use crate::names::{Aspect, AspectRel, DocFunction, EventClass, Polarity, Pos, SubRel, Tense};
+use crate::listed::{Aspect, AspectRel, DocFunction, EventClass, Polarity, Pos, SubRel, Tense};
 use net_core::Rel;
 use timex_value::{Modifier, TimexKind, Value};
+
+/// What kind of tag a typed tag is.
+#[derive(Clone, Copy, Debug, PartialEq, Eq)]
+pub enum TagKind {
+    Event,
+    Instance,
+    Timex,
+    Signal,
+    Tlink,
+    Alink,
+    Slink,
+}
 
 /// An end of a TLINK: an event instance or a time, by its identifier.
 #[derive(Clone, Copy, Debug, PartialEq, Eq)]
@@ -84,10 +97,10 @@ pub enum TypedTag<'s> {
     },
 }
 
-impl TypedTag<'_> {
+impl<'s> TypedTag<'s> {
     /// Where the tag begins, as a byte offset from 0.
     pub fn place(&self) -> u32
-        ensures { result ≡ place_of self.now }
+        ensures { result ≡ (view.typed_of self.now).place }
     {
         match *self {
             TypedTag::Event { place, .. }
@@ -97,6 +110,36 @@ impl TypedTag<'_> {
             | TypedTag::Tlink { place, .. }
             | TypedTag::Alink { place, .. }
             | TypedTag::Slink { place, .. } => place,
+        }
+    }
+
+    /// The kind of the tag.
+    pub fn kind(&self) -> TagKind
+        ensures { result ≡ references.kind_of (view.typed_of self.now).content }
+    {
+        match self {
+            TypedTag::Event { .. } => TagKind::Event,
+            TypedTag::Instance { .. } => TagKind::Instance,
+            TypedTag::Timex { .. } => TagKind::Timex,
+            TypedTag::Signal { .. } => TagKind::Signal,
+            TypedTag::Tlink { .. } => TagKind::Tlink,
+            TypedTag::Alink { .. } => TagKind::Alink,
+            TypedTag::Slink { .. } => TagKind::Slink,
+        }
+    }
+
+    /// The identifier of the tag. A link may have none.
+    pub fn id(&self) -> Option<&'s [u8]>
+        ensures { view.text_of result ≡ references.id_of (view.typed_of self.now).content }
+    {
+        match *self {
+            TypedTag::Event { eid, .. } => Some(eid),
+            TypedTag::Instance { eiid, .. } => Some(eiid),
+            TypedTag::Timex { tid, .. } => Some(tid),
+            TypedTag::Signal { sid, .. } => Some(sid),
+            TypedTag::Tlink { lid, .. }
+            | TypedTag::Alink { lid, .. }
+            | TypedTag::Slink { lid, .. } => lid,
         }
     }
 }

@@ -23,16 +23,16 @@ next digits i h lt =
     digits_value_more 10 digits i lt ∙ ap (λ d. digits_value 10 (take i digits) * 10 + d) value
 
 -- and no sum on the way is too large
-fits : (digits : List ℕ) (i : ℕ) → AllDigits 10 digits → length digits ≤ 9 → i < length digits
+next_below : (digits : List ℕ) (i : ℕ) → AllDigits 10 digits → length digits ≤ 9 → i < length digits
     → digits_value 10 (take i digits) * 10 + (get_or digits i 0 - 48) < 1_000_000_000
-fits digits i h few lt =
+next_below digits i h few lt =
     omega (arith, below digits h few, sym (next digits i h lt), digits_value-take-le 10 digits (i + 1) (omega arith))
 
 pub overflow_mul-n : goal.overflow_mul-n
-overflow_mul-n c = omega (arith, c.loop-b.invariant, fits c.args.digits.now c.loop-b.b-index c.requires.digits c.requires.few (omega arith))
+overflow_mul-n c = omega (arith, c.loop-b.invariant, next_below c.args.digits.now c.loop-b.b-index c.requires.digits c.requires.few (omega arith))
 
 pub overflow_add-n : goal.overflow_add-n
-overflow_add-n c = omega (arith, c.loop-b.invariant, fits c.args.digits.now c.loop-b.b-index c.requires.digits c.requires.few (omega arith))
+overflow_add-n c = omega (arith, c.loop-b.invariant, next_below c.args.digits.now c.loop-b.b-index c.requires.digits c.requires.few (omega arith))
 
 pub loop-b-preserved : goal.loop-b-preserved
 loop-b-preserved c = ap (λ n. n * 10 + (get_or c.args.digits.now c.loop-b.b-index 0 - 48)) c.loop-b.invariant ∙ sym (next c.args.digits.now c.loop-b.b-index c.requires.digits (omega arith))

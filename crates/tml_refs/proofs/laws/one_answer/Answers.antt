@@ -1,4 +1,4 @@
-use Rattle.tml_refs.proofs.Faults as law
+use Rattle.tml_refs.proofs.OneAnswer as law
 use Rattle.tml_refs.proofs.laws.one_answer.Goals as goal
 
 pub returns : goal.returns

@@ -1,4 +1,4 @@
-use Rattle.tml_types.proofs.Faults as law
+use Rattle.tml_types.proofs.OneAnswer as law
 use Rattle.tml_types.proofs.laws.one_answer.Goals as goal
 
 pub returns : goal.returns

@@ -1,7 +1,7 @@
 use Rattle.std.proofs.Common.{◌≡◌, ℕ, List, map, drop}
 use Rattle.tml_span.specs.View.{attribute_of}
 use Rattle.tml_types.specs.Rules.{is_repeated}
-use Rattle.tml_types.specs.Seen.{is_in}
+use Rattle.tml_types.specs.NameSets.{is_in}
 use Rattle.tml_types.proofs.RepeatedNames.{repeats}
 use Rattle.tml_types.proofs.repeats.is_repeated_in_many.Given as goal
 

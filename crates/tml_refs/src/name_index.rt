@@ -1,0 +1,213 @@
+//! The names of a document: which tags have which identifiers.
+ghost use Rattle.std.specs.Option.{is_some, is_none};
+ghost use Rattle.std.specs.List.{list_any};
+ghost use Rattle.std.specs.Prelude.{◌≡◌, ◌<◌, ◌≤◌, ◌^◌, ◌||◌, ℕ, length, map, not, IfOk, IfSome};
+ghost use Rattle.tml_refs.specs.NameIndex as index;
+ghost use Rattle.tml_refs.specs.NameIndex.{AreEntriesOf, HasNumber, HasIntervalNumber, IsFirstRepeat, is_either_unlisted, is_listed, is_unlisted};
+ghost use Rattle.tml_refs.specs.Rules as rules;
+ghost use Rattle.tml_types.specs.References.{optional_reference, reference};
+ghost use Rattle.tml_types.specs.View.{end_of, text_of, typed_of};
+
+use crate::document::DocLink;
+use net_core::{Memory, Rel};
+use std::alloc::Global;
+use std::marker::Model;
+use tml_types::{LinkEnd, TagKind, TypedTag};
+
+/// A kind of tag and an identifier. The first bytes of the identifier are compared first, as a number, which is faster
+/// than to compare slices.
+#[derive(Clone, Copy, Debug, PartialEq, Eq, PartialOrd, Ord)]
+pub struct Key<'s> {
+    head: u64,
+    name: &'s [u8],
+    rank: u8,
+}
+
+impl<'s> Key<'s> {
+    fn new(kind: TagKind, name: &'s [u8]) -> Key<'s>
+        ensures head { result.head ≡ index.head_of name.now }
+        ensures name { result.name.now ≡ name.now }
+        ensures rank { result.rank ≡ index.rank_of kind }
+    {
+        Key {
+            head: head_of(name),
+            name,
+            rank: rank_of(kind),
+        }
+    }
+}
+
+/// The first eight bytes of a name, as a number.
+fn head_of(name: &[u8]) -> u64
+    ensures { result ≡ index.head_of name.now }
+{
+    let mut head: u64 = 0;
+    for byte in name.iter().take(8) {
+        head = head.wrapping_mul(256).wrapping_add(u64::from(*byte));
+    }
+    head
+}
+
+/// The number of a kind of tag, in the order of the variants.
+fn rank_of(kind: TagKind) -> u8
+    ensures { result ≡ index.rank_of kind }
+{
+    kind as u8
+}
+
+/// A tag that has an identifier.
+#[derive(Clone, Copy, Debug, PartialEq, Eq, PartialOrd, Ord)]
+pub struct Entry<'s> {
+    key: Key<'s>,
+    /// How many tags stand before it.
+    at: u32,
+    /// How many intervals stand before it. Where it is an interval, this is its number.
+    number: u32,
+}
+
+/// The tags of a document that have identifiers, ordered by these and, of one identifier, by their kinds.
+#[derive(Drop)]
+pub struct NameIndex<'s> {
+    entries: Vec<Entry<'s>>,
+}
+
+impl<'s> Model for NameIndex<'s> {
+    ghost use Rattle.std.specs.Prelude.{List};
+    ghost use Rattle.tml_refs.specs.NameIndex.{AreInOrder};
+    ghost use Rattle.tml_refs.specs.declared.name_index.Entry.{Entry};
+
+    ghost Value = { List Entry };
+
+    ghost view = { λ a. a.entries.items };
+
+    ghost invariant = { λ a. AreInOrder a.entries.items };
+}
+
+impl<'s> NameIndex<'s> {
+    /// The names of some tags, in n log n for n tags.
+    pub fn of_tags(alloc: Global, tags: &[TypedTag<'s>]) -> Result<NameIndex<'s>, Memory>
+        requires { length tags.now < 2 ^ 32 }
+        ensures { IfOk result (AreEntriesOf (map typed_of tags.now)) }
+    {
+        let Ok(mut entries) = entries_of(alloc, tags) else {
+            return Err(Memory);
+        };
+        entries.sort_unstable();
+        Ok(NameIndex { entries })
+    }
+
+    /// The least place in the list of tags at which a tag has the identifier of a tag before it, or the number of tags
+    /// where there is none.
+    pub fn first_repeat(&self, tags: usize) -> usize
+        ensures { IsFirstRepeat self.now tags result }
+    {
+        let entries = self.entries.as_slice();
+        let [head, ..] = entries else {
+            return tags;
+        };
+        let mut first = tags;
+        // The least place of a tag that has the identifier of the last entry.
+        let mut least = head.at as usize;
+        for i in 1..entries.len() {
+            let at = entries[i].at as usize;
+            if entries[i - 1].key.name == entries[i].key.name {
+                first = first.min(least.max(at));
+                least = least.min(at);
+            } else {
+                least = at;
+            }
+        }
+        first
+    }
+
+    /// How many intervals stand before the tag of this kind and name, or none where there is no such tag. It takes time
+    /// in log n for n tags.
+    pub fn number_of(&self, kind: TagKind, name: &[u8]) -> Option<u32>
+        ensures listed { is_some result ≡ is_listed self.now (reference kind name.now) }
+        ensures number { IfSome result (HasNumber self.now (reference kind name.now)) }
+    {
+        let key = Key::new(kind, name);
+        let entries = self.entries.as_slice();
+        match entries.binary_search_by(|entry| entry.key.cmp(&key)) {
+            Ok(i) => Some(entries[i].number),
+            Err(_) => None,
+        }
+    }
+
+    /// No tag of this kind has the name.
+    pub fn lacks(&self, kind: TagKind, name: &[u8]) -> bool
+        ensures { result ≡ is_unlisted self.now (reference kind name.now) }
+    {
+        self.number_of(kind, name).is_none()
+    }
+
+    /// There is a name, and no tag of this kind has it.
+    pub fn lacks_optional(&self, kind: TagKind, name: Option<&[u8]>) -> bool
+        ensures { result ≡ list_any (is_unlisted self.now) (optional_reference kind (text_of name.entry)) }
+    {
+        match name {
+            Some(name) => self.lacks(kind, name),
+            None => false,
+        }
+    }
+
+    /// The number of the interval at an end of a link.
+    pub fn end(&self, end: LinkEnd<'_>) -> Option<u32>
+        ensures listed { is_some result ≡ is_listed self.now (end_of end.entry) }
+        ensures number { IfSome result (HasIntervalNumber self.now (end_of end.entry)) }
+    {
+        match end {
+            LinkEnd::Instance(name) => self.number_of(TagKind::Instance, name),
+            LinkEnd::Time(name) => self.number_of(TagKind::Timex, name),
+        }
+    }
+
+    /// The link between two ends, or none where one of them is to no tag.
+    pub fn link(&self, left: LinkEnd<'_>, rel: Rel, right: LinkEnd<'_>) -> Option<DocLink>
+        ensures none { is_none result ≡ is_either_unlisted self.now (end_of left.entry) (end_of right.entry) }
+        ensures left { IfSome result (λ link. HasIntervalNumber self.now (end_of left.entry) link.a) }
+        ensures rel { IfSome result (λ link. link.rel ≡ rel) }
+        ensures right { IfSome result (λ link. HasIntervalNumber self.now (end_of right.entry) link.b) }
+    {
+        let Some(a) = self.end(left) else {
+            return None;
+        };
+        let Some(b) = self.end(right) else {
+            return None;
+        };
+        Some(DocLink { a, rel, b })
+    }
+}
+
+/// An entry for each tag that has an identifier.
+fn entries_of<'s>(alloc: Global, tags: &[TypedTag<'s>]) -> Result<Vec<Entry<'s>>, Memory>
+    requires { length tags.now < 2 ^ 32 }
+    ensures { IfOk result (λ entries. AreEntriesOf (map typed_of tags.now) entries.items) }
+{
+    let Ok(mut entries) = Vec::with_capacity(alloc, tags.len()) else {
+        return Err(Memory);
+    };
+    let mut number = 0;
+    for (at, tag) in tags.iter().enumerate() {
+        if let Some(name) = tag.id() {
+            let key = Key::new(tag.kind(), name);
+            let entry = Entry {
+                key,
+                at: at as u32,
+                number,
+            };
+            if entries.push(entry).is_err() {
+                return Err(Memory);
+            }
+        }
+        number += u32::from(is_interval(tag));
+    }
+    Ok(entries)
+}
+
+/// The tag stands for an interval of time.
+fn is_interval(tag: &TypedTag<'_>) -> bool
+    ensures { result ≡ rules.is_interval (typed_of tag.now) }
+{
+    matches!(tag, TypedTag::Instance { .. } | TypedTag::Timex { .. })
+}

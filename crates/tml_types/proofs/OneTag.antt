@@ -1,0 +1,73 @@
+-- One tag more, with its typed tag or without one.
+use Rattle.std.proofs.Common.{◌≡◌, ℕ, Bool, true, false, cond, List, [], ◌∷◌, ◌++◌, codes, refl, sym, ap, ◌∙◌}
+use Rattle.std.specs.List.{AllZip, list_any}
+use Rattle.std.proofs.lemmas.List.{append-nil}
+use Rattle.std.proofs.lemmas.List.Elements.{All-nil, All-cons}
+use Rattle.named.proofs.Tables.{texts_tell}
+use Rattle.tml_span.specs.Units.{Attribute}
+use Rattle.tml_tree.specs.declared.tag_name.TagName.{TagName}
+use Rattle.tml_tree.specs.declared.tag_name.TagName.TheVariants as tag
+use Rattle.tml_tree.specs.TagNames.{text_of, all_tags}
+use Rattle.tml_tree.specs.Walking.{PlainTag}
+use Rattle.tml_types.specs.declared.typed.TagKind.{TagKind}
+use Rattle.tml_types.specs.declared.typed.TagKind.TheVariants as kind
+use Rattle.tml_types.specs.declared.typed.TypedTag.{TypedTag}
+use Rattle.tml_types.specs.References.{kind_of, tag_name}
+use Rattle.tml_types.specs.Content.{PlainTyped}
+use Rattle.tml_types.specs.Places.{IsPlaceSmall}
+use Rattle.tml_types.specs.Rules.{IsSound, is_bad, is_conflict, is_missing, is_repeated}
+use Rattle.tml_types.specs.Table.{Row, rows_at, rows_of}
+use Rattle.tml_types.specs.Typing.{TypedAs}
+use Rattle.tml_types.specs.View.{typed_of}
+use Rattle.tml_types.specs.Walking.{Adds, Reads, tag_at}
+use Rattle.tml_types.specs.Whole.{AreTyped, has_rows}
+use Rattle.tml_types.proofs.OneRule.{known, rows_known, sound_by, read_sound, read_typed}
+
+abbrev any_row : List Row → Bool
+any_row rows = elim rows [ [] ↦ false | row ∷ more ↦ true ]
+
+-- each kind of typed tag has rows in the table
+kind_rows : (k : TagKind) → any_row (rows_at (tag_name k)) ≡ true
+kind_rows kind.Event = ap any_row (rows_known tag.Event)
+kind_rows kind.Instance = ap any_row (rows_known tag.MakeInstance)
+kind_rows kind.Timex = ap any_row (rows_known tag.Timex3)
+kind_rows kind.Signal = ap any_row (rows_known tag.Signal)
+kind_rows kind.Tlink = ap any_row (rows_known tag.Tlink)
+kind_rows kind.Alink = ap any_row (rows_known tag.Alink)
+kind_rows kind.Slink = ap any_row (rows_known tag.Slink)
+
+-- a tag is typed alone
+typed_alone : (t : PlainTag) (typed : List PlainTyped) (b : Bool) → has_rows t ≡ b → AllZip TypedAs (cond b (t ∷ []) []) typed → AreTyped (t ∷ []) typed
+typed_alone t typed b e h = rw e h
+
+cons_nil : {A : Type 0} (x : A) (xs : List A) → x ∷ xs ≡ [] → ⊥
+cons_nil x xs e = absurd cc
+
+no_timex_row : (name : TagName) → rows_of name ≡ [] → text_of name ≡ codes "TIMEX3" → ⊥
+no_timex_row name e n = cons_nil _ _ (sym (ap rows_of (texts_tell text_of all_tags name tag.Timex3 known n)) ∙ e)
+
+module _ (name : TagName) (attrs : List Attribute) (place : ℕ) where
+  -- a tag without rows has no typed tag
+  pub adds_none : (old : List TypedTag) → is_repeated attrs ≡ false → rows_of name ≡ [] → Adds (tag_at place name attrs ∷ []) old old
+  adds_none old r e =
+      let sound = sound_by name attrs place r (ap (list_any (is_missing attrs)) e) (ap (list_any (is_bad attrs)) e) (ap (list_any (is_conflict attrs)) e) (λ b. no_timex_row name e b.0) in (
+        [],
+        record {
+          sound = All-cons IsSound (tag_at place name attrs) [] sound (All-nil IsSound);
+          typed_tags = typed_alone (tag_at place name attrs) [] false (ap any_row (rows_known name ∙ e)) tt;
+        },
+        All-nil IsPlaceSmall,
+        sym (append-nil old),
+      )
+
+  -- another has the one that is read
+  pub adds_one : (old : List TypedTag) (t : TypedTag) → is_repeated attrs ≡ false → Reads name attrs place (typed_of t) → Adds (tag_at place name attrs ∷ []) old (old ++ t ∷ [])
+  adds_one old t r h = (
+    t ∷ [],
+    record {
+      sound = All-cons IsSound (tag_at place name attrs) [] (read_sound name attrs place (typed_of t) r h) (All-nil IsSound);
+      typed_tags = typed_alone (tag_at place name attrs) (typed_of t ∷ []) true (ap (λ (n : List ℕ). any_row (rows_at n)) h.kind ∙ kind_rows (kind_of (typed_of t).content)) (read_typed name attrs place (typed_of t) h, tt);
+    },
+    All-cons IsPlaceSmall (typed_of t) [] h.small (All-nil IsPlaceSmall),
+    refl,
+  )

@@ -1,0 +1,71 @@
+-- How the tags of a tree are typed, one after another: what the private contracts say.
+use Rattle.std.specs.Prelude.{◌≡◌, ℕ, true, false, List, ◌++◌, map, codes, [], Option, Some, None, Result, Ok, Err}
+use Rattle.std.specs.List.{All, list_any}
+use Rattle.tml_span.specs.Units.{Attribute}
+use Rattle.tml_span.specs.View.{attribute_of}
+use Rattle.tml_tree.specs.declared.tag_name.TagName.{TagName}
+use Rattle.tml_tree.specs.declared.tag_name.TagName.TheVariants as tag
+use Rattle.tml_tree.specs.declared.node.Tag.{Tag}
+use Rattle.tml_tree.specs.TagNames.{text_of}
+use Rattle.tml_tree.specs.Walking.{PlainTag}
+use Rattle.tml_types.specs.declared.typed.TypedTag.{TypedTag}
+use Rattle.tml_types.specs.declared.walk.TypeFault.{TypeFault}
+use Rattle.tml_types.specs.declared.walk.TypeFault.TheVariants as faults
+use Rattle.tml_types.specs.Content.{PlainTyped}
+use Rattle.tml_types.specs.Places.{IsPlaceSmall}
+use Rattle.tml_types.specs.Rules.{IsNoDate, is_missing, is_bad, is_conflict}
+use Rattle.tml_types.specs.References.{kind_of, tag_name}
+use Rattle.tml_types.specs.Table.{rows_of}
+use Rattle.tml_types.specs.Typing.{HasFields}
+use Rattle.tml_types.specs.Values.{value_of}
+use Rattle.tml_types.specs.View.{typed_of}
+use Rattle.tml_types.specs.Whole.{Types}
+
+-- a tag of a known name
+abbrev pub tag_at : ℕ → TagName → List Attribute → PlainTag
+tag_at place name attrs = record { place = place; name = text_of name; attrs = attrs }
+
+-- a tag without its children
+abbrev pub plain_of : Tag → PlainTag
+plain_of tag = tag_at tag.span.start tag.name (map attribute_of tag.attrs)
+
+-- no rule is broken by a tag of this name with these attributes, but maybe that of repeated names, and this is its typed tag
+pub record Reads (name : TagName) (attrs : List Attribute) (place : ℕ) (t : PlainTyped) : Type 0 where
+  pub none_missing : list_any (is_missing attrs) (rows_of name) ≡ false
+  pub none_bad : list_any (is_bad attrs) (rows_of name) ≡ false
+  pub no_conflict : list_any (is_conflict attrs) (rows_of name) ≡ false
+  pub place_is : t.place ≡ place
+  pub small : IsPlaceSmall t
+  pub kind : text_of name ≡ tag_name (kind_of t.content)
+  pub fields : HasFields attrs t.content
+
+-- this is the first rule that is broken, but maybe that of repeated names
+abbrev pub Refuses : TagName → List Attribute → ℕ → TypeFault → Type 0
+Refuses name attrs place (faults.MissingAttribute at) = (at ≡ place) × (list_any (is_missing attrs) (rows_of name) ≡ true)
+Refuses name attrs place (faults.BadValue at) =
+    (at ≡ place)
+    × (list_any (is_missing attrs) (rows_of name) ≡ false)
+    × (list_any (is_bad attrs) (rows_of name) ≡ true)
+Refuses name attrs place (faults.Conflict at) =
+    (at ≡ place)
+    × (list_any (is_missing attrs) (rows_of name) ≡ false)
+    × (list_any (is_bad attrs) (rows_of name) ≡ false)
+    × (list_any (is_conflict attrs) (rows_of name) ≡ true)
+Refuses name attrs place (faults.BadDate at) =
+    (at ≡ place)
+    × (list_any (is_missing attrs) (rows_of name) ≡ false)
+    × (list_any (is_bad attrs) (rows_of name) ≡ false)
+    × (list_any (is_conflict attrs) (rows_of name) ≡ false)
+    × (name ≡ tag.Timex3)
+    × IsNoDate (value_of (codes "value") attrs)
+Refuses name attrs place fault = ⊥
+
+-- a tag of this name that repeats no name of an attribute has a typed tag, or none where the table has no rows for it, or it breaks a rule
+abbrev pub TypesOne : TagName → PlainTag → Result (Option TypedTag) TypeFault → Type 0
+TypesOne name tag (Ok (Some t)) = Reads name tag.attrs tag.place (typed_of t)
+TypesOne name tag (Ok None) = rows_of name ≡ []
+TypesOne name tag (Err fault) = Refuses name tag.attrs tag.place fault
+
+-- the typed tags of some tags are added, and none of these tags breaks a rule
+abbrev pub Adds : List PlainTag → List TypedTag → List TypedTag → Type 0
+Adds tags old new = (more : List TypedTag) × Types tags (map typed_of more) × All IsPlaceSmall (map typed_of more) × (new ≡ old ++ more)

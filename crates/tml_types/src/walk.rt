@@ -1,0 +1,166 @@
+//! The typed tags of a document.
+ghost use Rattle.std.specs.Prelude.{◌≡◌, [], ◌∷◌, Some, IfOk, IfErr, OnOk};
+ghost use Rattle.tml_tree.specs.Plain.{PlainNode};
+ghost use Rattle.tml_tree.specs.View.{node_of, tag_node};
+ghost use Rattle.tml_tree.specs.Walking.{elements};
+ghost use Rattle.tml_tree.specs.Whole.{IsTreeOf};
+ghost use Rattle.tml_types.specs.Walking.{Adds, plain_of};
+ghost use Rattle.tml_types.specs.Whole as whole;
+ghost use Rattle.tml_types.specs.Whole.{HasFault, IsAtLeastPlace, Types};
+
+use crate::repeats::is_repeated;
+use crate::typed::TypedTag;
+use crate::typing::typed_tag;
+use faults::FaultKind;
+use std::alloc::Global;
+use std::marker::Model;
+use tml_span::{List, Memory};
+use tml_tree::{Node, Tag, TagTree};
+
+/// The tags of a document that mean something, typed, in document order. Their places rise strictly, and there are
+/// fewer than 2^32 of them.
+#[derive(Drop)]
+pub struct Typed<'s> {
+    tags: List<TypedTag<'s>>,
+}
+
+impl<'s> Model for Typed<'s> {
+    ghost use Rattle.std.specs.Prelude.{List as ListOf, map};
+    ghost use Rattle.tml_types.specs.Content.{PlainTyped};
+    ghost use Rattle.tml_types.specs.Places.{ArePlaced};
+    ghost use Rattle.tml_types.specs.View.{typed_of};
+
+    ghost Value = { ListOf PlainTyped };
+
+    ghost view = { λ a. map typed_of a.tags };
+
+    ghost invariant = { λ a. ArePlaced (map typed_of a.tags) };
+}
+
+impl<'s> Typed<'s> {
+    ghost use Rattle.std.specs.Prelude.{map};
+    ghost use Rattle.tml_types.specs.Places.{ArePlaced};
+    ghost use Rattle.tml_types.specs.View.{typed_of};
+
+    /// The typed tags, in document order.
+    pub fn as_slice(&self) -> &[TypedTag<'s>]
+        ensures tags { map typed_of result.now ≡ self.now }
+        ensures placed { ArePlaced self.now }
+    {
+        self.tags.as_slice()
+    }
+}
+
+/// The first tag that is at fault, by the place where it begins, and its first fault.
+#[derive(Clone, Copy, Debug, PartialEq, Eq)]
+pub enum TypeFault {
+    /// Two attributes of the tag have one name. Empty values count too.
+    RepeatedAttribute { place: u32 },
+    /// An attribute that has to be there is absent or empty, or both of a pair are.
+    MissingAttribute { place: u32 },
+    /// A value is not of its form.
+    BadValue { place: u32 },
+    /// Both of a pair are there, and neither is empty.
+    Conflict { place: u32 },
+    /// The value of a TIMEX3 has the form of a calendar value, and none of the dates and times that it may stand for
+    /// exists.
+    BadDate { place: u32 },
+    /// Out of memory.
+    Memory,
+}
+
+impl TypeFault {
+    /// The kind of the fault and its place, or none where it is that of memory.
+    pub fn kind_and_place(self) -> Option<(FaultKind, u32)>
+        ensures { result ≡ whole.kind_and_place self }
+    {
+        match self {
+            TypeFault::RepeatedAttribute { place } => Some((FaultKind::RepeatedAttribute, place)),
+            TypeFault::MissingAttribute { place } => Some((FaultKind::MissingAttribute, place)),
+            TypeFault::BadValue { place } => Some((FaultKind::BadValue, place)),
+            TypeFault::Conflict { place } => Some((FaultKind::Conflict, place)),
+            TypeFault::BadDate { place } => Some((FaultKind::BadDate, place)),
+            TypeFault::Memory => None,
+        }
+    }
+}
+
+/// Types the tags of a tree.
+///
+/// # Errors
+///
+/// The first tag in document order that has a fault, and of its faults the one with the least number, in the order
+/// of `TypeFault`. `Memory` may come at any place.
+pub fn type_tags<'s>(alloc: Global, tree: &TagTree<'s>) -> Result<Typed<'s>, TypeFault>
+    ensures ok { IfOk result (λ t. (root : PlainNode) × IsTreeOf tree.now root × Types (elements root) t) }
+    ensures err { IfErr result (λ e. (root : PlainNode) × IsTreeOf tree.now root × HasFault (elements root) e) }
+    ensures least { IfErr result (λ e. (root : PlainNode) × IsTreeOf tree.now root × IsAtLeastPlace (elements root) e) }
+{
+    let mut typed = List::new(alloc);
+    if let Err(fault) = type_tag(alloc, tree.root(), &mut typed) {
+        return Err(fault);
+    }
+    Ok(Typed { tags: typed })
+}
+
+/// Types a tag and then the tags inside it.
+#[cycle(walk)]
+fn type_tag<'s>(
+    alloc: Global,
+    tag: &Tag<'s>,
+    typed: &mut List<TypedTag<'s>>,
+) -> Result<(), TypeFault>
+    ensures ok { OnOk result (Adds (elements (tag_node tag.now)) typed.old typed.new) }
+    ensures err { IfErr result (λ e. HasFault (elements (tag_node tag.now)) e) }
+{
+    if let Err(fault) = type_one(alloc, tag, typed) {
+        return Err(fault);
+    }
+    for child in &tag.children {
+        if let Err(fault) = type_node(alloc, child, typed) {
+            return Err(fault);
+        }
+    }
+    Ok(())
+}
+
+/// Types the tags of a node.
+#[cycle(walk)]
+fn type_node<'s>(
+    alloc: Global,
+    node: &Node<'s>,
+    typed: &mut List<TypedTag<'s>>,
+) -> Result<(), TypeFault>
+    ensures ok { OnOk result (Adds (elements (node_of node.now)) typed.old typed.new) }
+    ensures err { IfErr result (λ e. HasFault (elements (node_of node.now)) e) }
+{
+    match node {
+        Node::Text { .. } | Node::Comment { .. } => Ok(()),
+        Node::Element(tag) => type_tag(alloc, tag, typed),
+    }
+}
+
+/// Puts the typed tag of a tag last, where it has one.
+fn type_one<'s>(
+    alloc: Global,
+    tag: &Tag<'s>,
+    typed: &mut List<TypedTag<'s>>,
+) -> Result<(), TypeFault>
+    ensures ok { OnOk result (Adds (plain_of tag.now ∷ []) typed.old typed.new) }
+    ensures err { IfErr result (λ e. HasFault (plain_of tag.now ∷ []) e) }
+{
+    let place = tag.span.start;
+    match is_repeated(alloc, tag.attrs.as_slice()) {
+        Ok(false) => {}
+        Ok(true) => return Err(TypeFault::RepeatedAttribute { place }),
+        Err(Memory) => return Err(TypeFault::Memory),
+    }
+    match typed_tag(tag) {
+        Ok(None) => Ok(()),
+        Ok(Some(value)) => match typed.push(value) {
+            Ok(()) => Ok(()),
+            Err(Memory) => Err(TypeFault::Memory),
+        },
+        Err(fault) => Err(fault),
+    }
+}
