@@ -24,20 +24,20 @@ RUNS = 5
 LIMIT = 10.0
 NULL = subprocess.DEVNULL
 
-FRONT, BACK = b"<TimeML>", b"</TimeML>"
+PREFIX, SUFFIX = b"<TimeML>", b"</TimeML>"
 DEPTH = 32
 
 
 def filled(piece, size):
     """A root element that holds the piece as often as it fits."""
-    count = (size - len(FRONT) - len(BACK)) // len(piece)
-    return FRONT + piece * count + BACK
+    count = (size - len(PREFIX) - len(SUFFIX)) // len(piece)
+    return PREFIX + piece * count + SUFFIX
 
 
 def one_text(size):
     body = b"The bank said on Wednesday that rates fell before the meeting. "
-    room = size - len(FRONT) - len(BACK)
-    return FRONT + (body * (room // len(body) + 1))[:room] + BACK
+    room = size - len(PREFIX) - len(SUFFIX)
+    return PREFIX + (body * (room // len(body) + 1))[:room] + SUFFIX
 
 
 def shortest_tags(size):
@@ -48,14 +48,14 @@ def one_tag(size):
     """One start tag with as many attributes as fit, each with a name of its own."""
     letters = string.ascii_letters + "_"
     names = ("".join(t) for n in itertools.count(1) for t in itertools.product(letters, repeat=n))
-    parts, room = [FRONT[:-1]], size - len(FRONT) - len(BACK)
+    parts, room = [PREFIX[:-1]], size - len(PREFIX) - len(SUFFIX)
     for name in names:
         part = b' %s=""' % name.encode()
         if len(part) > room:
             break
         parts.append(part)
         room -= len(part)
-    return b"".join(parts) + b">" + BACK
+    return b"".join(parts) + b">" + SUFFIX
 
 
 def comments_and_references(size):
@@ -75,13 +75,13 @@ def deepest_of_long_names(size):
     return nested(b"TIMEX3INTERVAL", size)
 
 
-def numbered(front, part_of, size):
-    """A root element that holds a front, and then the parts of the numbers from 0 on, as many as fit."""
-    parts, room = [FRONT, front], size - len(FRONT) - len(front) - len(BACK)
+def numbered(prefix, part_of, size):
+    """A root element that holds a prefix, and then the parts of the numbers from 0 on, as many as fit."""
+    parts, room = [PREFIX, prefix], size - len(PREFIX) - len(prefix) - len(SUFFIX)
     for number in itertools.count():
         part = part_of(number)
         if len(part) > room:
-            return b"".join(parts) + BACK
+            return b"".join(parts) + SUFFIX
         parts.append(part)
         room -= len(part)
 
@@ -103,17 +103,17 @@ def times(size):
 
 def signals_and_links(size):
     """SIGNALs, each referred to by a link of its own."""
-    front = b'<EVENT eid="e" class="STATE"/><MAKEINSTANCE eiid="i" eventID="e"/>'
+    prefix = b'<EVENT eid="e" class="STATE"/><MAKEINSTANCE eiid="i" eventID="e"/>'
     link = b'<SIGNAL sid="s%d"/><SLINK signalID="s%d" subordinatedEventInstance="i" relType="MODAL"/>'
-    return numbered(front, lambda n: link % (n, n), size)
+    return numbered(prefix, lambda n: link % (n, n), size)
 
 
 def text_with_times(size):
-    """As many TIMEX3s as a document may have, and a text behind them."""
+    """As many TIMEX3s as a document may have, and a text after them."""
     shapes = (b"1998", b"199X-02-29", b"1998-01-08", b"1998-Q3", b"1998-W53-7", b"XXXX-12-25", b"1998-01-08T18:30:00", b"P3D")
     marks = b"".join(b'<TIMEX3 tid="t%d" type="DATE" value="%s"/>' % (k, shapes[k % len(shapes)]) for k in range(512))
     text = one_text(size - len(marks))
-    return text[: len(FRONT)] + marks + text[len(FRONT) :]
+    return text[: len(PREFIX)] + marks + text[len(PREFIX) :]
 
 
 ROWS = [("spans", make) for make in (one_text, shortest_tags, one_tag, comments_and_references)]

@@ -10,6 +10,7 @@ use Rattle.tml_types.specs.declared.typed.TagKind.{TagKind}
 use Rattle.tml_types.specs.declared.typed.TagKind.TheVariants as kind
 use Rattle.tml_types.specs.Content.{Content, PlainTyped, Reference, tlink}
 use Rattle.tml_types.specs.References.{id_of, kind_of, optional_reference, reference, references_of}
+pub use Rattle.tml_types.specs.References.{rank_of}
 use Rattle.tml_refs.specs.declared.name_index.Entry.{Entry}
 use Rattle.tml_refs.specs.declared.name_index.Key.{Key}
 use Rattle.tml_refs.specs.Documents.{IsDocument, PlainDocument, PlainInterval, RefersTo, intervals_of, name_of}
@@ -23,15 +24,6 @@ number_from n (b ∷ bytes) = number_from ((n * 256 % 2 ^ 64 + b) % 2 ^ 64) byte
 -- the first eight bytes of a name, as a number
 abbrev pub head_of : List ℕ → ℕ
 head_of name = number_from 0 (take 8 name)
-
-abbrev pub rank_of : TagKind → ℕ
-rank_of kind.Event = 0
-rank_of kind.Instance = 1
-rank_of kind.Timex = 2
-rank_of kind.Signal = 3
-rank_of kind.Tlink = 4
-rank_of kind.Alink = 5
-rank_of kind.Slink = 6
 
 -- ---- an entry
 

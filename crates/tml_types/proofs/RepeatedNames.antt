@@ -1,4 +1,4 @@
--- Repeated names, sought from the front with the names before.
+-- Repeated names, sought from the first one on, with the names before.
 use Rattle.std.proofs.Common.{◌≡◌, ℕ, Bool, true, false, ◌||◌, List, [], ◌∷◌, refl, ap, ◌∙◌}
 use Rattle.std.specs.List.{list_any}
 use Rattle.std.specs.Str.{bytes_eq}

@@ -1,4 +1,4 @@
--- The tags of a source stand one behind another, so the places of its typed tags rise.
+-- The tags of a source follow one another, so the places of its typed tags rise.
 use Rattle.std.proofs.Common.{◌≡◌, ℕ, suc, Bool, true, false, cond, ◌+◌, ◌<◌, ◌≤◌, ◌^◌, List, [], ◌∷◌, ◌++◌, length, map, refl, sym, ap, ◌∙◌, inl, inr, append-nil, length-append, arith, rules, codes, All, subst, Some, None}
 use Rattle.std.specs.Option.{IfSome}
 use Rattle.std.specs.List.{AllZip, filter}
@@ -77,7 +77,7 @@ root_starts root us d =
     let all : all_elements (nodes_of nodes) ≡ elements root ++ [] = only_elements nodes ∙ ap (λ (ns : List PlainNode). all_elements (nodes_of ns)) d.1.2 in
     ap (λ (ts : List PlainTag). map at ts) (sym (all ∙ append-nil (elements root))) ∙ items_starts (nodes_of nodes) (filter is_content us) d.1.1 ∙ starts_of_content us
 
--- ---- units stand one behind another, and a tag has two bytes or more
+-- ---- units follow one another, and a tag has two bytes or more
 
 abbrev Spaced : ℕ → List ℕ → Type 0
 Spaced low [] = Unit {0}
@@ -92,18 +92,18 @@ tag_len place name attrs close spelling s k =
     let e : length spelling ≡ suc (length (name ++ s.inner ++ s.white)) + length close = ap length s.whole ∙ length-append (60 ∷ (name ++ s.inner ++ s.white)) close in
     omega arith
 
-spaced_tag : (place start : ℕ) (front : List ℕ) (ns : List ℕ) → start ≡ place → 2 ≤ length front → Spaced (place + length front) ns → Spaced place (start ∷ ns)
-spaced_tag place start front ns e k h = (omega arith, spaced_lower (start + 2) (place + length front) ns (omega arith) h)
+spaced_tag : (place start : ℕ) (prefix : List ℕ) (ns : List ℕ) → start ≡ place → 2 ≤ length prefix → Spaced (place + length prefix) ns → Spaced place (start ∷ ns)
+spaced_tag place start prefix ns e k h = (omega arith, spaced_lower (start + 2) (place + length prefix) ns (omega arith) h)
 
-spaced_kind : (place start end : ℕ) (k : Kind) (front : List ℕ) (us : List PlainUnit) → Spelled place (unit start end k) front → Spaced (place + length front) (starts us) → Spaced place (starts (unit start end k ∷ us))
-spaced_kind place start end bom front us s h = spaced_lower place (place + length front) (starts us) (omega arith) h
-spaced_kind place start end (declaration b) front us s h = spaced_lower place (place + length front) (starts us) (omega arith) h
-spaced_kind place start end (doctype b) front us s h = spaced_lower place (place + length front) (starts us) (omega arith) h
-spaced_kind place start end (comment b) front us s h = spaced_lower place (place + length front) (starts us) (omega arith) h
-spaced_kind place start end (text b) front us s h = spaced_lower place (place + length front) (starts us) (omega arith) h
-spaced_kind place start end (end_tag name) front us s h = spaced_lower place (place + length front) (starts us) (omega arith) h
-spaced_kind place start end (start_tag name attrs) front us s h = spaced_tag place start front (starts us) s.start (tag_len place name attrs (codes ">") front s.kind (omega arith)) h
-spaced_kind place start end (empty_tag name attrs) front us s h = spaced_tag place start front (starts us) s.start (tag_len place name attrs (codes "/>") front s.kind (omega arith)) h
+spaced_kind : (place start end : ℕ) (k : Kind) (prefix : List ℕ) (us : List PlainUnit) → Spelled place (unit start end k) prefix → Spaced (place + length prefix) (starts us) → Spaced place (starts (unit start end k ∷ us))
+spaced_kind place start end bom prefix us s h = spaced_lower place (place + length prefix) (starts us) (omega arith) h
+spaced_kind place start end (declaration b) prefix us s h = spaced_lower place (place + length prefix) (starts us) (omega arith) h
+spaced_kind place start end (doctype b) prefix us s h = spaced_lower place (place + length prefix) (starts us) (omega arith) h
+spaced_kind place start end (comment b) prefix us s h = spaced_lower place (place + length prefix) (starts us) (omega arith) h
+spaced_kind place start end (text b) prefix us s h = spaced_lower place (place + length prefix) (starts us) (omega arith) h
+spaced_kind place start end (end_tag name) prefix us s h = spaced_lower place (place + length prefix) (starts us) (omega arith) h
+spaced_kind place start end (start_tag name attrs) prefix us s h = spaced_tag place start prefix (starts us) s.start (tag_len place name attrs (codes ">") prefix s.kind (omega arith)) h
+spaced_kind place start end (empty_tag name attrs) prefix us s h = spaced_tag place start prefix (starts us) s.start (tag_len place name attrs (codes "/>") prefix s.kind (omega arith)) h
 
 cut_spaced : (place : ℕ) (bytes : List ℕ) (us : List PlainUnit) (rest : List ℕ) → CutsFrom place bytes us rest → Spaced place (starts us)
 cut_spaced place bytes [] rest c = tt

@@ -1,4 +1,4 @@
--- Typed tags and faults of tags one behind another.
+-- Typed tags and faults of tags one after another.
 use Rattle.std.proofs.Common.{◌≡◌, ℕ, suc, ◌+◌, ◌<◌, add-one, drop-cons, drop, get_or, length, List, [], ◌∷◌, ◌++◌, map, sym, ap, ◌∙◌, append_assoc, Some, None, All}
 use Rattle.std.specs.List.{AllZip, filter}
 use Rattle.std.specs.Option.{IfSome}
@@ -35,7 +35,7 @@ types_append tags others ts us h k = record {
   typed_tags = rw (filter-append has_rows tags others) (zip_append TypedAs (filter has_rows tags) (filter has_rows others) ts us h.typed_tags k.typed_tags);
 }
 
--- the typed tags of more tags behind those of some
+-- the typed tags of more tags after those of some
 pub adds_more : (tags others : List PlainTag) (a b c : List TypedTag) → Adds tags a b → Adds others b c → Adds (tags ++ others) a c
 adds_more tags others a b c h k =
     let both : map typed_of (h.0 ++ k.0) ≡ map typed_of h.0 ++ map typed_of k.0 = map-append typed_of h.0 k.0 in

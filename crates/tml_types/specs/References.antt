@@ -24,6 +24,16 @@ tag_name kind.Tlink = codes "TLINK"
 tag_name kind.Alink = codes "ALINK"
 tag_name kind.Slink = codes "SLINK"
 
+-- the kinds in their order
+abbrev pub rank_of : TagKind → ℕ
+rank_of kind.Event = 0
+rank_of kind.Instance = 1
+rank_of kind.Timex = 2
+rank_of kind.Signal = 3
+rank_of kind.Tlink = 4
+rank_of kind.Alink = 5
+rank_of kind.Slink = 6
+
 -- a tag is of this kind
 abbrev pub is_of_kind : TagKind → Content → Bool
 is_of_kind kind.Event (event e) = true
