@@ -16,7 +16,8 @@ use Rattle.tml_types.specs.References.{id_of, kind_of}
 use Rattle.tml_types.specs.View.{typed_of}
 use Rattle.tml_refs.specs.declared.name_index.Entry.{Entry}
 use Rattle.tml_refs.specs.Documents.{interval_of, intervals_of}
-use Rattle.tml_refs.specs.NameIndex.{AreEntriesOf, IsEntryIn, IsEntryOf, entry_name, head_of, is_at, is_interval, rank_of}
+use Rattle.tml_refs.specs.NameIndex.{AreEntriesOf, IsEntryIn, IsEntryOf, entry_name, head_of, is_at, rank_of}
+use Rattle.tml_refs.specs.Rules.{is_interval}
 use Rattle.tml_refs.proofs.Lists.{count_more, filter_map_more}
 
 -- ---- one tag more

@@ -42,8 +42,8 @@ module _ (entries : List Entry) (order : AreInOrder entries) where
       let before = count_at test (take i entries) h.0 e h.1 stands in
       let after : 1 ≤ count_by test (get_or entries i d ∷ drop (suc i) entries) = count_at test (get_or entries i d ∷ drop (suc i) entries) 0 d (omega arith) its in
       let whole : count_by test entries ≡ count_by test (take i entries) + count_by test (get_or entries i d ∷ drop (suc i) entries) =
-          ap (count_by test) (sym (take-append-drop i entries) ∙ ap (λ (xs : List Entry). take i entries ++ xs) (drop-cons entries i d below))
-          ∙ sum_by-append (λ (x : Entry). cond (test x) 1 0) (take i entries) (get_or entries i d ∷ drop (suc i) entries) in
+      ap (count_by test) (sym (take-append-drop i entries) ∙ ap (λ (xs : List Entry). take i entries ++ xs) (drop-cons entries i d below))
+      ∙ sum_by-append (λ (x : Entry). cond (test x) 1 0) (take i entries) (get_or entries i d ∷ drop (suc i) entries) in
       absurd (omega (arith, before, after, whole, order.apart e.at))
 
   -- two entries of one name, of which the places are two

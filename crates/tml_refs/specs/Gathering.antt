@@ -1,7 +1,9 @@
 -- What the tags so far make, and what one tag more adds.
-use Rattle.std.specs.Prelude.{◌≡◌, ℕ, Bool, true, false, ◌&&◌, ◌==◌, List, [], ◌∷◌, ◌++◌, length, Some, ⊤}
+use Rattle.std.specs.Prelude.{◌≡◌, ℕ, Bool, true, false, ◌&&◌, ◌==◌, List, [], ◌∷◌, ◌++◌, length, Some, IfSome, ⊤}
 use Rattle.std.specs.List.{list_any, AllZip, filter}
 use Rattle.std.specs.Option.{option_to_list}
+use Rattle.faults.specs.declared.kind.FaultKind.{FaultKind}
+use Rattle.faults.specs.declared.kind.FaultKind.TheVariants as kinds
 use Rattle.net_core.specs.Limits.{max_intervals, max_links}
 use Rattle.tml_types.specs.Content as content
 use Rattle.tml_types.specs.Content.{Content, PlainTyped}
@@ -16,7 +18,7 @@ use Rattle.tml_refs.specs.declared.resolving.RefFault.TheVariants as faults
 use Rattle.tml_refs.specs.Counting.{IsOneMore}
 use Rattle.tml_refs.specs.Documents.{IsLinkOf, PlainDocument, PlainInterval, counts_of, interval_of, intervals_of}
 use Rattle.tml_refs.specs.NameIndex.{HasIntervalNumber, is_unlisted}
-use Rattle.tml_refs.specs.Rules.{is_interval, is_tlink}
+use Rattle.tml_refs.specs.Rules.{is_interval, is_tlink, kind_and_place}
 use Rattle.tml_refs.specs.View.{plain_interval}
 
 -- some tags make this, in a document with these intervals
@@ -43,21 +45,29 @@ IsLinkBy names t link = elim t.content [
   | _ ↦ ⊥
 ]
 
+-- the link of a tag, where it is a TLINK, stands last
+abbrev pub AddsLinks : List Entry → List DocLink → PlainTyped → List DocLink → Type 0
+AddsLinks names old t new = (added : List DocLink) × AllZip (IsLinkBy names) (filter is_tlink (t ∷ [])) added × (new ≡ old ++ added)
+
+-- a tag breaks no rule but perhaps that of identifiers, and is added
 pub record AddsTag (names : List Entry) (old : PlainDocument) (t : PlainTyped) (new : PlainDocument) : Type 0 where
   pub known : has_unlisted names t ≡ false
   pub interval_room : is_interval_too_many old t ≡ false
   pub link_room : is_link_too_many old t ≡ false
   pub intervals : new.intervals ≡ old.intervals ++ option_to_list (interval_of t)
-  pub links : (added : List DocLink) × AllZip (IsLinkBy names) (filter is_tlink (t ∷ [])) added × (new.links ≡ old.links ++ added)
+  pub links : AddsLinks names old.links t new.links
   pub counts : IsOneMore (kind_of t.content) old.counts new.counts
 
--- the first fault of a tag but that of a repeated identifier, by the names of the document and what the tags before it make
+-- the first rule that a tag breaks, but that of identifiers, by the names of the document and what the tags before it make
+abbrev pub BreaksFirst : List Entry → PlainDocument → PlainTyped → FaultKind → Type 0
+BreaksFirst names doc t kinds.UnknownReference = has_unlisted names t ≡ true
+BreaksFirst names doc t kinds.TooManyIntervals = (has_unlisted names t ≡ false) × (is_interval_too_many doc t ≡ true)
+BreaksFirst names doc t kinds.TooManyLinks = (has_unlisted names t ≡ false) × (is_link_too_many doc t ≡ true)
+BreaksFirst names doc t other = ⊥
+
 abbrev pub HasLaterFault : List Entry → PlainDocument → PlainTyped → RefFault → Type 0
-HasLaterFault names doc t (faults.DuplicateId place) = ⊥
-HasLaterFault names doc t (faults.UnknownReference place) = (has_unlisted names t ≡ true) × (place ≡ t.place)
-HasLaterFault names doc t (faults.TooManyIntervals place) = (has_unlisted names t ≡ false) × (is_interval_too_many doc t ≡ true) × (place ≡ t.place)
-HasLaterFault names doc t (faults.TooManyLinks place) = (has_unlisted names t ≡ false) × (is_link_too_many doc t ≡ true) × (place ≡ t.place)
-HasLaterFault names doc t faults.Memory = ⊤
+HasLaterFault names doc t fault =
+    IfSome (kind_and_place fault) (λ (f : FaultKind × ℕ). (f.1 ≡ t.place) × BreaksFirst names doc t f.0)
 
 -- ---- what a tag adds, besides being counted
 
@@ -67,8 +77,10 @@ IsAdditionOf names t (addition.Link link) = IsLinkBy names t link
 IsAdditionOf names t addition.Nothing = (is_interval t ≡ false) × (is_tlink t ≡ false)
 
 abbrev pub IsExtended : Contents → Addition → Contents → Type 0
-IsExtended old (addition.Interval i) new = (new ≡ record old { intervals = old.intervals ++ i ∷ [] }) × ((length old.intervals == max_intervals) ≡ false)
-IsExtended old (addition.Link l) new = (new ≡ record old { links = old.links ++ l ∷ [] }) × ((length old.links == max_links) ≡ false)
+IsExtended old (addition.Interval i) new =
+    (new ≡ record old { intervals = old.intervals ++ i ∷ [] }) × ((length old.intervals == max_intervals) ≡ false)
+IsExtended old (addition.Link l) new =
+    (new ≡ record old { links = old.links ++ l ∷ [] }) × ((length old.links == max_links) ≡ false)
 IsExtended old addition.Nothing new = new ≡ old
 
 abbrev pub HasLimitFault : Contents → Addition → ℕ → RefFault → Type 0

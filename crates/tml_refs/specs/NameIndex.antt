@@ -1,5 +1,5 @@
 -- The names of a document: an entry for each tag that has an identifier, in the order of the identifiers.
-use Rattle.std.specs.Prelude.{◌≡◌, ◌+◌, ◌<◌, ◌≤◌, ◌*◌, ◌%◌, ◌^◌, ℕ, Bool, true, not, ◌&&◌, ◌==◌, List, [], ◌∷◌, ◌++◌, length, take, Some, IsSome, ⊤}
+use Rattle.std.specs.Prelude.{◌≡◌, ◌+◌, ◌<◌, ◌≤◌, ◌*◌, ◌%◌, ◌^◌, ℕ, Bool, true, not, ◌&&◌, ◌||◌, ◌==◌, List, [], ◌∷◌, ◌++◌, length, take, Some, IsSome, ⊤}
 use Rattle.std.specs.Cmp.Lexicographic.{slice_cmp}
 use Rattle.std.specs.List.{All, Contains, count_by, list_any, slice_get}
 use Rattle.std.specs.List.Sorted.{IsSortedByKey}
@@ -12,12 +12,8 @@ use Rattle.tml_types.specs.Content.{Content, PlainTyped, Reference, tlink}
 use Rattle.tml_types.specs.References.{id_of, kind_of, optional_reference, reference, references_of}
 use Rattle.tml_refs.specs.declared.name_index.Entry.{Entry}
 use Rattle.tml_refs.specs.declared.name_index.Key.{Key}
-use Rattle.tml_refs.specs.Documents.{PlainInterval, RefersTo, intervals_of, name_of}
+use Rattle.tml_refs.specs.Documents.{IsDocument, PlainDocument, PlainInterval, RefersTo, intervals_of, name_of}
 use Rattle.tml_refs.specs.Documents as documents
-use Rattle.tml_refs.specs.Rules as rules
-
-abbrev pub is_interval : PlainTyped → Bool
-is_interval t = rules.is_interval t
 
 -- the number that bytes make after this number, to the base 256, up to multiples of 2^64
 unfoldable pub number_from : ℕ → List ℕ → ℕ
@@ -51,21 +47,27 @@ pub record IsEntryOf (before : List PlainTyped) (tag : PlainTyped) (e : Entry) :
   pub number : e.number ≡ length (intervals_of before)
 
 abbrev pub IsEntryIn : List PlainTyped → Entry → Type 0
-IsEntryIn tags e = (before after : List PlainTyped) × (tag : PlainTyped) × (tags ≡ before ++ tag ∷ after) × IsEntryOf before tag e
+IsEntryIn tags e =
+    (before after : List PlainTyped) × (tag : PlainTyped) × (tags ≡ before ++ tag ∷ after) × IsEntryOf before tag e
 
 abbrev pub is_at : ℕ → Entry → Bool
 is_at place e = e.at == place
 
+abbrev pub HasEntry : List Entry → List PlainTyped → PlainTyped → Type 0
+HasEntry entries before tag = (e : Entry) × Contains entries e × IsEntryOf before tag e
+
 -- Each tag that has an identifier has an entry, each entry is that of a tag, and no two have one place.
 pub record AreEntriesOf (tags : List PlainTyped) (entries : List Entry) : Type 0 where
-  pub each : (before after : List PlainTyped) (tag : PlainTyped) → tags ≡ before ++ tag ∷ after → IsSome (id_of tag.content) → (e : Entry) × Contains entries e × IsEntryOf before tag e
+  pub each : (before after : List PlainTyped) (tag : PlainTyped)
+      → tags ≡ before ++ tag ∷ after → IsSome (id_of tag.content) → HasEntry entries before tag
   pub only : All (IsEntryIn tags) entries
   pub apart : (place : ℕ) → count_by (is_at place) entries ≤ 1
 
 -- ---- the order
 
 abbrev pub key_order : Key → Key → Ordering
-key_order k l = ordering_then (nat_cmp k.head l.head) (ordering_then (slice_cmp nat_cmp k.name.now l.name.now) (nat_cmp k.rank l.rank))
+key_order k l =
+    ordering_then (nat_cmp k.head l.head) (ordering_then (slice_cmp nat_cmp k.name.now l.name.now) (nat_cmp k.rank l.rank))
 
 abbrev pub key_of : Entry → Key
 key_of e = e.key
@@ -83,7 +85,9 @@ pub record AreInOrder (entries : List Entry) : Type 0 where
 
 -- at a place stands a tag that has the name of a tag before it
 abbrev pub Repeats : List Entry → ℕ → Type 0
-Repeats entries place = (e other : Entry) × Contains entries e × Contains entries other × (entry_name e ≡ entry_name other) × (e.at < other.at) × (other.at ≡ place)
+Repeats entries place =
+    (e other : Entry) × Contains entries e × Contains entries other
+    × (entry_name e ≡ entry_name other) × (e.at < other.at) × (other.at ≡ place)
 
 -- of the places below an end, the first one at which a name is repeated, or the end where there is none
 pub record IsFirstRepeat (entries : List Entry) (end first : ℕ) : Type 0 where
@@ -100,6 +104,10 @@ is_listed entries r = list_any (is_for r) entries
 
 abbrev pub is_unlisted : List Entry → Reference → Bool
 is_unlisted entries r = not (is_listed entries r)
+
+-- one of two references is to no tag
+abbrev pub is_either_unlisted : List Entry → Reference → Reference → Bool
+is_either_unlisted entries r other = is_unlisted entries r || is_unlisted entries other
 
 -- so many intervals stand before a tag that a reference asks for
 abbrev pub HasNumber : List Entry → Reference → ℕ → Type 0
@@ -121,5 +129,9 @@ other_references content = references_of content
 
 -- The entries find each interval by its kind and name, and an interval that is found is at the number that they say.
 pub record IsIndexOf (intervals : List PlainInterval) (entries : List Entry) : Type 0 where
-  pub each : (i : ℕ) (v : PlainInterval) → slice_get intervals i ≡ Some v → HasNumber entries (reference (documents.kind_of v) (name_of v)) i
+  pub each : (i : ℕ) (v : PlainInterval)
+      → slice_get intervals i ≡ Some v → HasNumber entries (reference (documents.kind_of v) (name_of v)) i
   pub only : (r : Reference) (i : ℕ) → HasIntervalNumber entries r i → RefersTo intervals r i
+
+abbrev pub IsIndexedDocument : PlainDocument → List Entry → Type 0
+IsIndexedDocument doc entries = IsDocument doc × IsIndexOf doc.intervals entries

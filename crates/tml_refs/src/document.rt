@@ -96,15 +96,15 @@ pub struct Document<'s> {
 }
 
 impl<'s> Model for Document<'s> {
-    ghost use Rattle.tml_refs.specs.Documents.{IsDocument, PlainDocument};
-    ghost use Rattle.tml_refs.specs.NameIndex.{IsIndexOf};
+    ghost use Rattle.tml_refs.specs.Documents.{PlainDocument};
+    ghost use Rattle.tml_refs.specs.NameIndex.{IsIndexedDocument};
     ghost use Rattle.tml_refs.specs.View.{document_of};
 
     ghost Value = { PlainDocument };
 
     ghost view = { λ a. document_of a.contents };
 
-    ghost invariant = { λ a. IsDocument (document_of a.contents) × IsIndexOf (document_of a.contents).intervals a.names };
+    ghost invariant = { λ a. IsIndexedDocument (document_of a.contents) a.names };
 }
 
 impl<'s> Document<'s> {

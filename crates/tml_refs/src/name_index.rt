@@ -3,7 +3,8 @@ ghost use Rattle.std.specs.Option.{is_some, is_none};
 ghost use Rattle.std.specs.List.{list_any};
 ghost use Rattle.std.specs.Prelude.{◌≡◌, ◌<◌, ◌≤◌, ◌^◌, ◌||◌, ℕ, length, map, not, IfOk, IfSome};
 ghost use Rattle.tml_refs.specs.NameIndex as index;
-ghost use Rattle.tml_refs.specs.NameIndex.{AreEntriesOf, HasNumber, HasIntervalNumber, IsFirstRepeat, is_listed, is_unlisted};
+ghost use Rattle.tml_refs.specs.NameIndex.{AreEntriesOf, HasNumber, HasIntervalNumber, IsFirstRepeat, is_either_unlisted, is_listed, is_unlisted};
+ghost use Rattle.tml_refs.specs.Rules as rules;
 ghost use Rattle.tml_types.specs.References.{optional_reference, reference};
 ghost use Rattle.tml_types.specs.View.{end_of, text_of, typed_of};
 
@@ -13,8 +14,8 @@ use std::alloc::Global;
 use std::marker::Model;
 use tml_types::{LinkEnd, TagKind, TypedTag};
 
-/// A kind of tag and an identifier. The first bytes of the identifier, as a number, are compared first, since numbers
-/// are compared faster than slices.
+/// A kind of tag and an identifier. The first bytes of the identifier are compared first, as a number, which is faster
+/// than to compare slices.
 #[derive(Clone, Copy, Debug, PartialEq, Eq, PartialOrd, Ord)]
 pub struct Key<'s> {
     head: u64,
@@ -95,8 +96,8 @@ impl<'s> NameIndex<'s> {
         Ok(NameIndex { entries })
     }
 
-    /// The least place in the list of tags at which a tag has the identifier of a tag before it. Where there is none, it
-    /// is the number of tags.
+    /// The least place in the list of tags at which a tag has the identifier of a tag before it, or the number of tags
+    /// where there is none.
     pub fn first_repeat(&self, tags: usize) -> usize
         ensures { IsFirstRepeat self.now tags result }
     {
@@ -163,7 +164,7 @@ impl<'s> NameIndex<'s> {
 
     /// The link between two ends, or none where one of them is to no tag.
     pub fn link(&self, left: LinkEnd<'_>, rel: Rel, right: LinkEnd<'_>) -> Option<DocLink>
-        ensures none { is_none result ≡ (is_unlisted self.now (end_of left.entry) || is_unlisted self.now (end_of right.entry)) }
+        ensures none { is_none result ≡ is_either_unlisted self.now (end_of left.entry) (end_of right.entry) }
         ensures left { IfSome result (λ link. HasIntervalNumber self.now (end_of left.entry) link.a) }
         ensures rel { IfSome result (λ link. link.rel ≡ rel) }
         ensures right { IfSome result (λ link. HasIntervalNumber self.now (end_of right.entry) link.b) }
@@ -206,7 +207,7 @@ fn entries_of<'s>(alloc: Global, tags: &[TypedTag<'s>]) -> Result<Vec<Entry<'s>>
 
 /// The tag stands for an interval of time.
 fn is_interval(tag: &TypedTag<'_>) -> bool
-    ensures { result ≡ index.is_interval (typed_of tag.now) }
+    ensures { result ≡ rules.is_interval (typed_of tag.now) }
 {
     matches!(tag, TypedTag::Instance { .. } | TypedTag::Timex { .. })
 }

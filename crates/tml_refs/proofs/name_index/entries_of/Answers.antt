@@ -20,8 +20,8 @@ loop-at-preserved c =
         | in-Some+else-is_err w ↦
             let entry : Entry = record { key = w.new-key.result; at = loop.at; number = loop.number } in
             let its = next_entry (map typed_of (take loop.at tags)) (typed_of tag) entry w.in-Some.name.now
-                (sym c.id.ensures ∙ ap text_of w.in-Some.is) w.new-key.ensures.head w.new-key.ensures.name (w.new-key.ensures.rank ∙ ap rank_of w.kind.ensures)
-                (place_next tags loop.at inside) so_far.count in
+            (sym c.id.ensures ∙ ap text_of w.in-Some.is) w.new-key.ensures.head w.new-key.ensures.name (w.new-key.ensures.rank ∙ ap rank_of w.kind.ensures)
+            (place_next tags loop.at inside) so_far.count in
             entries_next tags loop.at tag inside item loop.entries.items c.match-id.entries.items entry so_far.names its (ap (λ (v : Vec Entry Global). v.items) w.entries-is ∙ pushed w.push.result _ _ _ w.if-is_err.ensures.value w.push.ensures.items)
         | in_default-id w ↦ entries_next_same tags loop.at tag inside item loop.entries.items c.match-id.entries.items so_far.names (sym c.id.ensures ∙ ap text_of w.in_default-id.is) (ap (λ (v : Vec Entry Global). v.items) w.entries-is)
       ];
