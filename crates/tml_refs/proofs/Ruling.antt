@@ -76,9 +76,9 @@ module _ (all before after : List PlainTyped) (tag : PlainTyped) where
       later_fault (faults.UnknownReference place) h =
           rw h.0 (fault_here kinds.UnknownReference (unknown ∙ h.1) (at_least 15 (λ b. absurd (free b)) (λ b. omega arith) (λ b. omega arith) (λ b. omega arith)))
       later_fault (faults.TooManyIntervals place) h =
-          rw h.0 (fault_here kinds.TooManyIntervals (intervals ∙ h.2) (at_least 16 (λ b. absurd (free b)) (λ b. absurd (differs _ b (unknown ∙ h.1))) (λ b. omega arith) (λ b. omega arith)))
+          rw h.0 (fault_here kinds.TooManyIntervals (intervals ∙ h.1.1) (at_least 16 (λ b. absurd (free b)) (λ b. absurd (differs _ b (unknown ∙ h.1.0))) (λ b. omega arith) (λ b. omega arith)))
       later_fault (faults.TooManyLinks place) h =
-          let link = (both_true (is_tlink tag) (length doc.links == max_links) h.2).0 in
+          let link = (both_true (is_tlink tag) (length doc.links == max_links) h.1.1).0 in
           let no_interval = λ (b : Breaks all kinds.TooManyIntervals before tag). tlink_only tag link (both_true (is_interval tag) (count_by is_interval before == max_intervals) b).0 in
-          rw h.0 (fault_here kinds.TooManyLinks (links ∙ h.2) (at_least 17 (λ b. absurd (free b)) (λ b. absurd (differs _ b (unknown ∙ h.1))) (λ b. absurd (no_interval b)) (λ b. omega arith)))
+          rw h.0 (fault_here kinds.TooManyLinks (links ∙ h.1.1) (at_least 17 (λ b. absurd (free b)) (λ b. absurd (differs _ b (unknown ∙ h.1.0))) (λ b. absurd (no_interval b)) (λ b. omega arith)))
       later_fault faults.Memory h = tt
