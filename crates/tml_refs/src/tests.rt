@@ -1,6 +1,7 @@
 //! A document, and its intervals by their names.
-use crate::{Counts, DocLink, Interval, RefFault, resolve};
+use crate::{Counts, DocLink, Document, Interval, RefFault, resolve};
 use net_core::Rel;
+use std::process::Abort;
 use std::test::Fail;
 use tml_tree::tree_of;
 use tml_types::type_tags;
@@ -8,16 +9,20 @@ use tml_types::type_tags;
 const DOC: &[u8] =
     b"<TimeML><SIGNAL sid='s'/><TLINK timeID='t' relatedToEventInstance='i' relType='INCLUDES'/><MAKEINSTANCE eiid='i' eventID='e' signalID='s'/><EVENT eid='e' class='STATE'/><TIMEX3 tid='t' type='SET'/></TimeML>";
 
+fn resolved<'s>(rt: &(impl Abort + AllocGlobal), doc: &'s [u8]) -> Result<Document<'s>, RefFault> {
+    assert!(rt; doc.len() < 4096);
+    let Ok(tree) = tree_of(rt.alloc(), doc) else {
+        panic!(rt; "no tree");
+    };
+    let Ok(typed) = type_tags(rt.alloc(), &tree) else {
+        panic!(rt; "no typed tags");
+    };
+    resolve(rt.alloc(), &typed)
+}
+
 #[test]
-fn intervals_are_found_by_their_names(rt: HostRuntime) -> Result<(), Fail> {
-    let alloc = rt.alloc();
-    let Ok(tree) = tree_of(alloc, DOC) else {
-        panic!(&rt; "no tree");
-    };
-    let Ok(typed) = type_tags(alloc, &tree) else {
-        panic!(&rt; "no typed tags");
-    };
-    let Ok(document) = resolve(alloc, &typed) else {
+fn a_document_has_intervals_and_links(rt: HostRuntime) -> Result<(), Fail> {
+    let Ok(document) = resolved(&rt, DOC) else {
         panic!(&rt; "no document");
     };
     let counts = Counts {
@@ -29,17 +34,24 @@ fn intervals_are_found_by_their_names(rt: HostRuntime) -> Result<(), Fail> {
         alinks: 0,
         slinks: 0,
     };
-    assert_eq!(&rt; document.counts(), counts);
-    assert_eq!(&rt; document.intervals(), 2);
-    assert_eq!(&rt; document.interval(0), Interval::Instance { name: b"i" });
-    assert_eq!(&rt; document.interval(1).name(), b"t".as_slice());
-    assert_eq!(&rt; document.links(), 1);
     let link = DocLink {
         a: 1,
         rel: Rel::Includes,
         b: 0,
     };
+    assert_eq!(&rt; document.counts(), counts);
+    assert!(&rt; document.intervals() == 2 && document.links() == 1);
+    assert_eq!(&rt; document.interval(0), Interval::Instance { name: b"i" });
+    assert_eq!(&rt; document.interval(1).name(), b"t".as_slice());
     assert_eq!(&rt; document.link(0), link);
+    Ok(())
+}
+
+#[test]
+fn intervals_are_found_by_their_names(rt: HostRuntime) -> Result<(), Fail> {
+    let Ok(document) = resolved(&rt, DOC) else {
+        panic!(&rt; "no document");
+    };
     let names: [(&[u8], Option<u32>); 6] = [
         (b"i", Some(0)),
         (b"t", Some(1)),
@@ -56,15 +68,7 @@ fn intervals_are_found_by_their_names(rt: HostRuntime) -> Result<(), Fail> {
 
 #[test]
 fn a_fault_has_the_place_of_its_tag(rt: HostRuntime) -> Result<(), Fail> {
-    let alloc = rt.alloc();
-    let doc = b"<TimeML><SIGNAL sid='s'/><SIGNAL sid='s'/></TimeML>".as_slice();
-    let Ok(tree) = tree_of(alloc, doc) else {
-        panic!(&rt; "no tree");
-    };
-    let Ok(typed) = type_tags(alloc, &tree) else {
-        panic!(&rt; "no typed tags");
-    };
-    match resolve(alloc, &typed) {
+    match resolved(&rt, b"<TimeML><SIGNAL sid='s'/><SIGNAL sid='s'/></TimeML>") {
         Ok(_) => panic!(&rt; "a document"),
         Err(fault) => assert_eq!(&rt; fault, RefFault::DuplicateId { place: 25 }),
     }
