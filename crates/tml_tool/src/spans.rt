@@ -34,14 +34,13 @@ fn unit_table(alloc: Global, doc: &[u8]) -> Result<Vec<u8>, Cut>
     };
     let mut table = Vec::new(alloc);
     loop {
-        match reader.pull(alloc) {
-            Ok(Some(unit)) => {
-                if push_unit(&mut table, &unit).is_err() {
-                    return Err(Cut::Memory);
-                }
-            }
+        let unit = match reader.pull(alloc) {
+            Ok(Some(unit)) => unit,
             Ok(None) => return Ok(table),
             Err(fault) => return Err(fault),
+        };
+        if push_unit(&mut table, &unit).is_err() {
+            return Err(Cut::Memory);
         }
     }
 }
