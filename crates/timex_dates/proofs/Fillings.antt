@@ -1,7 +1,6 @@
 -- A value with a valid filling has a known part that the calendar has.
 use Rattle.std.proofs.Common.{◌≡◌, ℕ, ◌<◌, ◌≤◌, inl, inr, arith, subst}
 use Rattle.std.specs.Int.{IsInRange}
-use Rattle.timex_value.specs.Civil.{IsDate, weeks_of}
 use Rattle.timex_value.specs.declared.shape.Year.{Year}
 use Rattle.timex_value.specs.declared.shape.Year.TheVariants as YearOf
 use Rattle.timex_value.specs.declared.shape.Part.{Part}
@@ -10,7 +9,7 @@ use Rattle.timex_value.specs.declared.shape.Shape.{Shape}
 use Rattle.timex_value.specs.declared.shape.Shape.TheVariants as ShapeOf
 use Rattle.timex_value.specs.declared.value.Calendar.{Calendar}
 use Rattle.timex_value.specs.Text.{IsWritten, IsYearWritten, IsShapeWritten}
-use Rattle.timex_value.specs.Filling.{CanBe, DigitCanBe, YearCanBe, HasDate, HasClock, HasWeek, IsClock, IsValidIn, HasFilling, HasYear}
+use Rattle.timex_value.specs.Filling.{CanBe, DigitCanBe, YearCanBe, HasDate, HasClock, IsClock, IsValidIn, HasFilling, HasYear}
 use Rattle.timex_value.specs.Values.{year_of, shape_of}
 use Rattle.timex_dates.specs.Valid.{IfKnown, HasClockParts, HasDateParts, HasShapeParts, HasParts}
 use Rattle.std.proofs.Math.Logic.{∥∥₁_elim}

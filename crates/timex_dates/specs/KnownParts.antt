@@ -28,7 +28,7 @@ abbrev pub InQuarterDate : ℕ → Part → ℕ → Type 0
 InQuarterDate y Unknown = InYears (YearOf.Known y)
 InQuarterDate y (Known q) = InQuarter y q
 
--- the seconds that belong to a value with this year; a field that its shape has not is like one that is X
+-- the seconds that belong to a value with this year; a field that its shape does not have counts as X
 abbrev pub InShape : ℕ → Shape → ℕ → Type 0
 InShape y ShapeOf.Year = InYears (YearOf.Known y)
 InShape y (ShapeOf.Month m) = InDate y m Unknown Unknown Unknown Unknown

@@ -49,11 +49,9 @@ fn fields_of(calendar: &Calendar) -> (Year, Shape)
 }
 
 fn calendar_bounds(modifier: Option<Modifier>, calendar: &Calendar) -> Bounds
-    ensures bounds {
-        let year = values.year_of calendar.now in
+    ensures bounds { let year = values.year_of calendar.now in
         let shape = values.shape_of calendar.now in
-        HasBounds (calendar_precision modifier year shape) (Belongs year shape) result
-    }
+        HasBounds (calendar_precision modifier year shape) (Belongs year shape) result }
     ensures civil { IsCivil result }
 {
     let (year, shape) = fields_of(calendar);

@@ -6,7 +6,7 @@ ghost use Rattle.timex_value.specs.Text.{digit_byte};
 /// A civil date and time, `YYYY-MM-DDThh:mm:ss`. The year has four digits, or is 10000.
 #[derive(Clone, Copy, Debug, PartialEq, Eq)]
 pub struct CivilText {
-    /// The text of a narrow year after an unused `1`, and that of a wide year whole.
+    /// The text. Where the year has four digits, the first byte is not part of it.
     bytes: [u8; 20],
     /// The year is 10000.
     wide: bool,

@@ -11,7 +11,7 @@ use crate::interval;
 use crate::interval::Interval;
 use timex_value::{Part, Shape, Year};
 
-/// A field that is not known, or that the shape has not.
+/// A field that is unknown, or that the shape does not have.
 const X: Part = Part::Unknown;
 
 /// The interval of what comes before the first `X` in a date and its time.

@@ -1,5 +1,5 @@
 -- Counts of a duration are read in one way.
-use Rattle.std.proofs.Common.{◌≡◌, ◌≢◌, ◌⊎◌, inl, inr, ℕ, ◌+◌, ◌<◌, Bool, true, false, cond, ◌||◌, ◌==◌, if◌then◌else◌, List, [], ◌∷◌, ◌++◌, length, take, drop, append_assoc, one-add, refl, sym, ap, ◌∙◌, subst, arith}
+use Rattle.std.proofs.Common.{◌≡◌, ◌≢◌, ℕ, ◌+◌, ◌<◌, Bool, true, false, cond, ◌||◌, ◌==◌, if◌then◌else◌, List, [], ◌∷◌, ◌++◌, length, take, drop, append_assoc, one-add, refl, sym, ap, ◌∙◌, subst, arith}
 use Rattle.std.proofs.lemmas.Bool.Decides.{nat_tests}
 use Rattle.std.proofs.lemmas.List.{take_at, drop_at, take-append-drop}
 use Rattle.std.specs.List.{prefix_len}
@@ -52,19 +52,6 @@ number_is u n text digits tail rest prefix after few value e =
     let whole : text ≡ digits ++ tail = rw (prefix, after) (sym (take-append-drop (prefix_len is_ascii_digit text) text)) in
     (digits ++ (u ∷ []), (digits, rw prefix (digits_pass text), few, value, refl), whole ∙ (ap (λ (x : List ℕ). digits ++ x) e ∙ sym (append_assoc digits (u ∷ []) rest)))
 
--- no count is there: the unit has no X before it, and no number
-pub none_read : (u : ℕ) (text : List ℕ)
-    → ((rest : List ℕ) → CountThen u Unknown text rest → ⊥) → ((n : ℕ) (rest : List ℕ) → CountThen u (Number n) text rest → ⊥)
-    → ReadsCount u Absent text text
-none_read u text no_x no_number = record {
-  then = ([], refl, refl);
-  other = λ e c after h. elim c as (λ d. CountThen u d text after → d ≡ Absent) [
-    | Absent ↦ λ k. refl
-    | Number n ↦ λ k. absurd (no_number n after k)
-    | Unknown ↦ λ k. absurd (no_x after k)
-  ] h;
-}
-
 -- digits and X
 abbrev pub is_mark : ℕ → Bool
 is_mark b = is_ascii_digit b || (b == byte "X")
@@ -93,28 +80,26 @@ absent_then u text rest h = h.2 ∙ ap (λ (x : List ℕ). x ++ rest) h.1
 x_then : (u : ℕ) (text rest : List ℕ) → CountThen u Unknown text rest → text ≡ byte "X" ∷ u ∷ rest
 x_then u text rest h = h.2 ∙ ap (λ (x : List ℕ). x ++ rest) h.1
 
--- a count is absent, or it is known by its unit
-unit_or_rest : (u : ℕ) (c : Count) (text rest : List ℕ) → is_mark u ≡ false → CountThen u c text rest → ((c ≡ Absent) × (text ≡ rest)) ⊎ (unit_at text ≡ u)
-unit_or_rest u Absent text rest m h = inl (refl, absent_then u text rest h)
-unit_or_rest u (Number n) text rest m h =
-    inr (ap unit_at (number_then u n text rest h) ∙ (unit_past h.1.0 (u ∷ rest) h.1.1 ∙ unit_here u rest m))
-unit_or_rest u Unknown text rest m h = inr (ap unit_at (x_then u text rest h) ∙ (unit_past_x (u ∷ rest) ∙ unit_here u rest m))
+-- a number or an X is known by its unit
+number_unit : (u n : ℕ) (text rest : List ℕ) → is_mark u ≡ false → CountThen u (Number n) text rest → unit_at text ≡ u
+number_unit u n text rest m h = ap unit_at (number_then u n text rest h) ∙ (unit_past h.1.0 (u ∷ rest) h.1.1 ∙ unit_here u rest m)
+
+x_unit : (u : ℕ) (text rest : List ℕ) → is_mark u ≡ false → CountThen u Unknown text rest → unit_at text ≡ u
+x_unit u text rest m h = ap unit_at (x_then u text rest h) ∙ (unit_past_x (u ∷ rest) ∙ unit_here u rest m)
 
 -- before a count of one unit no other unit comes, unless it comes after it
 pub unit_before : (u v : ℕ) (c : Count) (text rest : List ℕ) → is_mark u ≡ false → u ≢ v → CountThen u c text rest → unit_at rest ≢ v → unit_at text ≢ v
-unit_before u v c text rest m other h end = λ e. elim (unit_or_rest u c text rest m h) [
-  | inl a ↦ end (ap unit_at (sym a.1) ∙ e)
-  | inr p ↦ other (sym p ∙ e)
-]
+unit_before u v Absent text rest m other h end = λ e. end (ap unit_at (sym (absent_then u text rest h)) ∙ e)
+unit_before u v (Number n) text rest m other h end = λ e. other (sym (number_unit u n text rest m h) ∙ e)
+unit_before u v Unknown text rest m other h end = λ e. other (sym (x_unit u text rest m h) ∙ e)
 
 -- a count is read so where its unit does not come again
 pub reads_count : (u : ℕ) (c : Count) (text rest : List ℕ) → is_mark u ≡ false → CountThen u c text rest → unit_at rest ≢ u → ReadsCount u c text rest
 reads_count u c text rest m h end = record {
   then = h;
-  other = λ e d after k. elim (unit_or_rest u d text after m k) [
-    | inl a ↦ a.0
-    | inr p ↦ absurd (end (ap unit_at (sym (absent_then u text rest (subst (λ x. CountThen u x text rest) e h))) ∙ p))
-  ];
+  none = λ e.
+      let same = ap unit_at (sym (absent_then u text rest (subst (λ x. CountThen u x text rest) e h))) in
+      (λ n after k. end (same ∙ number_unit u n text after m k), λ after k. end (same ∙ x_unit u text after m k));
 }
 
 pub tail_is : {a b : ℕ} {xs ys : List ℕ} → (a ∷ xs) ≡ (b ∷ ys) → xs ≡ ys
@@ -128,9 +113,9 @@ x_or_number u n text r s m h k =
 
 -- where no count is, there is none
 absent_once : (u : ℕ) (d : Count) (text r s : List ℕ) → ReadsCount u Absent text r → CountThen u d text s → (Absent ≡ d) × (r ≡ s)
-absent_once u d text r s h k =
-    let e = h.other refl d s k in
-    (sym e, sym (absent_then u text r h.then) ∙ absent_then u text s (subst (λ x. CountThen u x text s) e k))
+absent_once u Absent text r s h k = (refl, sym (absent_then u text r h.then) ∙ absent_then u text s k)
+absent_once u (Number n) text r s h k = absurd ((h.none refl).0 n s k)
+absent_once u Unknown text r s h k = absurd ((h.none refl).1 s k)
 
 -- a count is read in one way
 pub same_count : (u : ℕ) (c d : Count) (text r s : List ℕ) → is_ascii_digit u ≡ false → ReadsCount u c text r → ReadsCount u d text s → (c ≡ d) × (r ≡ s)

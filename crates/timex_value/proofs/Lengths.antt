@@ -2,7 +2,7 @@
 use Rattle.std.proofs.Common.{◌≡◌, ◌≢◌, inl, inr, ℕ, Bool, true, false, ◌||◌, List, [], ◌∷◌, codes, refl, sym, ap, ◌∙◌, subst, arith}
 use Rattle.std.specs.Str.{byte}
 use Rattle.std.specs.Char.{is_ascii_digit}
-use Rattle.timex_value.specs.Durations.{ReadsCount, CountsThen, DateThen, ClockThen, ClockText, SpellsLength, is_present, has_clock}
+use Rattle.timex_value.specs.Durations.{ReadsCount, CountsThen, ClockThen, ClockText, SpellsLength, is_present, has_clock}
 use Rattle.timex_value.specs.declared.length.Count.{Count}
 use Rattle.timex_value.specs.declared.length.Count.TheVariants.{Absent, Number, Unknown}
 use Rattle.timex_value.specs.declared.length.Length.{Length}
@@ -82,12 +82,10 @@ pub clock_read : (h m s h2 m2 s2 : Count) (text r : List ℕ) → ReadsCounts (c
 clock_read h m s h2 m2 s2 text r p k =
     same_counts (codes "HMS") (h ∷ m ∷ s ∷ []) (h2 ∷ m2 ∷ s2 ∷ []) text r [] clock_units p (counts_read (codes "HMS") (h2 ∷ m2 ∷ s2 ∷ []) text [] clock_units none_at_end k)
 
-both_absent : (c d : Count) → is_present c ≡ false → is_present d ≡ false → c ≡ d
-both_absent Absent Absent p q = refl
-both_absent Absent (Number n) p q = absurd cc
-both_absent Absent Unknown p q = absurd cc
-both_absent (Number n) d p q = absurd cc
-both_absent Unknown d p q = absurd cc
+absent : (c : Count) → is_present c ≡ false → c ≡ Absent
+absent Absent e = refl
+absent (Number n) e = absurd cc
+absent Unknown e = absurd cc
 
 none_of : (a b c : Bool) → (a || b || c) ≡ false → (a ≡ false) × (b ≡ false) × (c ≡ false)
 none_of false false false e = (refl, refl, refl)
@@ -95,15 +93,15 @@ none_of true b c e = absurd cc
 none_of false true c e = absurd cc
 none_of false false true e = absurd cc
 
-no_clock : (h m s h2 m2 s2 : Count) → has_clock h m s ≡ false → has_clock h2 m2 s2 ≡ false → (h ≡ h2) × (m ≡ m2) × (s ≡ s2)
-no_clock h m s h2 m2 s2 p q =
-    let a = none_of (is_present h) (is_present m) (is_present s) p in
-    let b = none_of (is_present h2) (is_present m2) (is_present s2) q in
-    (both_absent h h2 a.0 b.0, both_absent m m2 a.1 b.1, both_absent s s2 a.2 b.2)
+no_clock : (h m s : Count) → has_clock h m s ≡ false → (h ≡ Absent) × (m ≡ Absent) × (s ≡ Absent)
+no_clock h m s e = let each = none_of (is_present h) (is_present m) (is_present s) e in (absent h each.0, absent m each.1, absent s each.2)
 
 -- a text has the counts of one clock
 pub one_clock : (h m s h2 m2 s2 : Count) (text : List ℕ) → ClockText h m s text → ClockText h2 m2 s2 text → (h ≡ h2) × (m ≡ m2) × (s ≡ s2)
-one_clock h m s h2 m2 s2 text (inl k) (inl l) = no_clock h m s h2 m2 s2 k.0 l.0
+one_clock h m s h2 m2 s2 text (inl k) (inl l) =
+    let a = no_clock h m s k.0 in
+    let b = no_clock h2 m2 s2 l.0 in
+    (a.0 ∙ sym b.0, a.1 ∙ sym b.1, a.2 ∙ sym b.2)
 one_clock h m s h2 m2 s2 text (inl k) (inr l) = let e : [] ≡ byte "T" ∷ l.1.0 = sym k.1 ∙ l.1.1 in absurd cc
 one_clock h m s h2 m2 s2 text (inr k) (inl l) = let e : [] ≡ byte "T" ∷ k.1.0 = sym l.1 ∙ k.1.1 in absurd cc
 one_clock h m s h2 m2 s2 text (inr k) (inr l) =

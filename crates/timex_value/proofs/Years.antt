@@ -1,5 +1,4 @@
 -- Years that there are.
-use Rattle.std.proofs.Common.{◌≤◌, arith}
 use Rattle.timex_value.specs.declared.shape.Year.{Year}
 use Rattle.timex_value.specs.declared.shape.Year.TheVariants.{Known, Decade, Century, Unknown}
 use Rattle.timex_value.specs.Text.{IsYearWritten}

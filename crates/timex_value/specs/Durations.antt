@@ -47,7 +47,7 @@ abbrev pub ClockText : Count → Count → Count → List ℕ → Type 0
 ClockText hours minutes seconds text =
     (IsFalse (has_clock hours minutes seconds) × (text ≡ []))
     ⊎ (IsTrue (has_clock hours minutes seconds)
-      × ((timed : List ℕ) × (text ≡ codes "T" ++ timed) × ClockThen hours minutes seconds timed []))
+    × ((timed : List ℕ) × (text ≡ codes "T" ++ timed) × ClockThen hours minutes seconds timed []))
 
 -- at least one count is written
 abbrev pub is_length : Length → Bool
@@ -78,7 +78,7 @@ NoUnknown unit text = (rest : List ℕ) → CountThen unit Unknown text rest →
 abbrev pub NoClock : List ℕ → Type 0
 NoClock text = (hours minutes seconds : Count) → ClockText hours minutes seconds text → ⊥
 
--- a count as it is read: absent only where the text begins with no other
+-- a count as it is read: absent only where the text begins with no number and no X of its unit
 pub record ReadsCount (unit : ℕ) (count : Count) (text rest : List ℕ) : Type 0 where
   pub then : CountThen unit count text rest
-  pub other : count ≡ Absent → (c : Count) (after : List ℕ) → CountThen unit c text after → c ≡ Absent
+  pub none : count ≡ Absent → NoNumber unit text × NoUnknown unit text

@@ -1,4 +1,4 @@
--- Where a piece stands first within bytes.
+-- Where a piece is first within bytes.
 use Rattle.std.proofs.Common.{◌≡◌, ◌≢◌, ◌⊎◌, ℕ, ◌+◌, ◌<◌, ◌≤◌, Bool, true, List, get_or, [], ◌∷◌, ◌++◌, length, take, drop, refl, sym, ap, ◌∙◌, append_assoc, arith, Some, None, inl, inr, ⊎_elim, length-append, length-take, length-drop}
 use Rattle.std.specs.Prelude.{nat_eq, codes}
 use Rattle.std.specs.Bool.{Decides}
@@ -12,7 +12,7 @@ use Rattle.memchr.specs.Find.{OccursAt, FindsNeedle}
 use Rattle.tml_span.specs.Bytes.{is_white}
 use Rattle.tml_span.specs.Units.{Lacks, BeginsWith}
 
--- ---- at the front
+-- ---- at the prefix
 
 -- the test tells whether the bytes begin with the piece
 pub begins_true : (piece bytes : List ℕ) → starts_with nat_eq bytes piece ≡ true → BeginsWith piece bytes
@@ -24,9 +24,9 @@ begins_or_not piece bytes = ⊎_elim
     (λ no_is. inr (λ h. both_ways _ no_is ((starts_is Decides-eqb bytes piece (starts_with nat_eq bytes piece) refl).1 h.0 h.1)))
     (cases_Bool (starts_with nat_eq bytes piece))
 
--- a word and one white space stand at the front
+-- the bytes begin with a word and one white space
 abbrev pub BeginsWithWord : List ℕ → List ℕ → Type 0
-BeginsWithWord word bytes = (white : ℕ) × (back : List ℕ) × (bytes ≡ word ++ white ∷ back) × (is_white white ≡ true)
+BeginsWithWord word bytes = (white : ℕ) × (suffix : List ℕ) × (bytes ≡ word ++ white ∷ suffix) × (is_white white ≡ true)
 
 -- the byte that follows the word decides it
 pub word_decides : (word bytes rest : List ℕ) (r : Bool) → bytes ≡ word ++ rest → 1 ≤ length rest → r ≡ is_white (get_or rest 0 0) → Decides r (BeginsWithWord word bytes)
@@ -54,16 +54,16 @@ begins_with_word_or_not word bytes = ⊎_elim
 -- ---- the first place
 
 lacks_empty : (piece : List ℕ) → piece ≢ [] → Lacks piece []
-lacks_empty [] some front back e = some refl
-lacks_empty (p ∷ piece) some [] back e = absurd cc
-lacks_empty (p ∷ piece) some (c ∷ front) back e = absurd cc
+lacks_empty [] some prefix suffix e = some refl
+lacks_empty (p ∷ piece) some [] suffix e = absurd cc
+lacks_empty (p ∷ piece) some (c ∷ prefix) suffix e = absurd cc
 
 lacks_more : (piece : List ℕ) (b : ℕ) (bytes : List ℕ) → (BeginsWith piece (b ∷ bytes) → ⊥) → Lacks piece bytes → Lacks piece (b ∷ bytes)
-lacks_more piece b bytes not_here l [] back e = not_here (back, e)
-lacks_more piece b bytes not_here l (c ∷ front) back e = l front back (cc e)
+lacks_more piece b bytes not_here l [] suffix e = not_here (suffix, e)
+lacks_more piece b bytes not_here l (c ∷ prefix) suffix e = l prefix suffix (cc e)
 
 lacks_tail : (piece : List ℕ) (b : ℕ) (bytes : List ℕ) → Lacks piece (b ∷ bytes) → Lacks piece bytes
-lacks_tail piece b bytes l front back e = l (b ∷ front) back (ap (λ (x : List ℕ). b ∷ x) e)
+lacks_tail piece b bytes l prefix suffix e = l (b ∷ prefix) suffix (ap (λ (x : List ℕ). b ∷ x) e)
 
 -- the bytes are a body that lacks the piece, the piece and a rest
 abbrev pub SplitsAt : List ℕ → List ℕ → Type 0
@@ -77,7 +77,7 @@ split_more piece b bytes not_here s = (
   lacks_more piece b s.0 (λ h. not_here (h.0 ++ (piece ++ s.1), ap (λ (x : List ℕ). b ∷ x) s.2 ∙ ap (λ (x : List ℕ). x ++ (piece ++ s.1)) h.1 ∙ append_assoc piece h.0 (piece ++ s.1))) s.3,
 )
 
--- a piece stands in the bytes for a first time, or in no part of them
+-- a piece is in the bytes for a first time, or in no part of them
 pub find_piece : (piece bytes : List ℕ) → piece ≢ [] → SplitsAt piece bytes ⊎ Lacks piece bytes
 find_piece piece [] some = inr (lacks_empty piece some)
 find_piece piece (b ∷ bytes) some = ⊎_elim
@@ -121,32 +121,32 @@ one_body piece apart (b ∷ body) (c ∷ other) rest after e l k =
 pub occurs_splits : (bytes piece : List ℕ) (k : ℕ) → OccursAt bytes piece k → bytes ≡ take k bytes ++ (piece ++ drop (k + length piece) bytes)
 occurs_splits bytes piece k h = sym (take-append-drop k bytes) ∙ ap (λ (x : List ℕ). take k bytes ++ x) (at_from_reads 0 bytes piece k h.fits h.reads)
 
-pub splits_occurs : (bytes piece front back : List ℕ) → bytes ≡ front ++ piece ++ back → OccursAt bytes piece (length front)
-splits_occurs bytes piece front back e =
-    let whole : bytes ≡ front ++ (piece ++ back) = e ∙ append_assoc front piece back in record {
-      fits = omega (arith, ap length whole, length-append front (piece ++ back), length-append piece back);
-      reads = at_reads 0 bytes piece (length front) back (ap (drop (length front)) whole ∙ drop_at front (piece ++ back) (length front) refl);
+pub splits_occurs : (bytes piece prefix suffix : List ℕ) → bytes ≡ prefix ++ piece ++ suffix → OccursAt bytes piece (length prefix)
+splits_occurs bytes piece prefix suffix e =
+    let whole : bytes ≡ prefix ++ (piece ++ suffix) = e ∙ append_assoc prefix piece suffix in record {
+      fits = omega (arith, ap length whole, length-append prefix (piece ++ suffix), length-append piece suffix);
+      reads = at_reads 0 bytes piece (length prefix) suffix (ap (drop (length prefix)) whole ∙ drop_at prefix (piece ++ suffix) (length prefix) refl);
     }
 
 -- a search that finds nothing
 pub none_lacks : (bytes piece : List ℕ) → FindsNeedle bytes piece 0 None → Lacks piece bytes
-none_lacks bytes piece h front back e =
-    let occurs = splits_occurs bytes piece front back e in
-    h (length front) (omega arith) (omega (arith, occurs.fits)) occurs
+none_lacks bytes piece h prefix suffix e =
+    let occurs = splits_occurs bytes piece prefix suffix e in
+    h (length prefix) (omega arith) (omega (arith, occurs.fits)) occurs
 
 -- before the place that a search finds
 pub before_lacks : (bytes piece : List ℕ) (k : ℕ) → 0 < length piece → FindsNeedle bytes piece 0 (Some k) → Lacks piece (take k bytes)
-before_lacks bytes piece k some h front back e =
-    let whole : bytes ≡ front ++ piece ++ (back ++ drop k bytes) = sym (take-append-drop k bytes) ∙ ap (λ (x : List ℕ). x ++ drop k bytes) e ∙ append_assoc (front ++ piece) back (drop k bytes) in
-    let below : length front < k = omega (arith, ap length e, length-append (front ++ piece) back, length-append front piece, length-take k bytes) in
-    h.0.before (length front) (omega arith) below (splits_occurs bytes piece front (back ++ drop k bytes) whole)
+before_lacks bytes piece k some h prefix suffix e =
+    let whole : bytes ≡ prefix ++ piece ++ (suffix ++ drop k bytes) = sym (take-append-drop k bytes) ∙ ap (λ (x : List ℕ). x ++ drop k bytes) e ∙ append_assoc (prefix ++ piece) suffix (drop k bytes) in
+    let below : length prefix < k = omega (arith, ap length e, length-append (prefix ++ piece) suffix, length-append prefix piece, length-take k bytes) in
+    h.0.before (length prefix) (omega arith) below (splits_occurs bytes piece prefix (suffix ++ drop k bytes) whole)
 
--- the bytes up to past a piece that occurs behind a number of them
+-- the bytes up to past a piece that occurs after a number of them
 pub past_piece : (bytes piece : List ℕ) (n k : ℕ) → n ≤ length bytes → OccursAt (drop n bytes) piece k → take (n + k + length piece) bytes ≡ take n bytes ++ take k (drop n bytes) ++ piece
 past_piece bytes piece n k within h =
     let inner = drop n bytes in
-    let front = take n bytes ++ take k inner ++ piece in
+    let prefix = take n bytes ++ take k inner ++ piece in
     let rest = drop (k + length piece) inner in
-    let whole : bytes ≡ front ++ rest = sym (take-append-drop n bytes) ∙ ap (λ (x : List ℕ). take n bytes ++ x) (occurs_splits inner piece k h) ∙ sym (simp append_assoc) in
-    let long : length front ≡ n + k + length piece = omega (arith, h.fits, length-drop n bytes, length-append (take n bytes ++ take k inner) piece, length-append (take n bytes) (take k inner), length-take n bytes, length-take k inner) in
-    ap (take (n + k + length piece)) whole ∙ take_at front rest (n + k + length piece) long
+    let whole : bytes ≡ prefix ++ rest = sym (take-append-drop n bytes) ∙ ap (λ (x : List ℕ). take n bytes ++ x) (occurs_splits inner piece k h) ∙ sym (simp append_assoc) in
+    let long : length prefix ≡ n + k + length piece = omega (arith, h.fits, length-drop n bytes, length-append (take n bytes ++ take k inner) piece, length-append (take n bytes) (take k inner), length-take n bytes, length-take k inner) in
+    ap (take (n + k + length piece)) whole ∙ take_at prefix rest (n + k + length piece) long

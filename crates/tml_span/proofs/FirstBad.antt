@@ -12,22 +12,22 @@ use Rattle.tml_span.specs.View.{attribute_of}
 
 -- a bad index is one of the bytes
 pub bad_at_within : (bytes : List ℕ) (index : ℕ) → IsBadAt bytes index → index < length bytes
-bad_at_within bytes index h = omega (arith, h.index_is, ap length h.whole, length-append h.front (38 ∷ h.back))
+bad_at_within bytes index h = omega (arith, h.index_is, ap length h.whole, length-append h.prefix (38 ∷ h.suffix))
 
 -- an `&` is bad if no reference begins there
 bad_here : (bytes : List ℕ) (index : ℕ) → index < length bytes → slice_index bytes index ≡ 38 → (BeginsReference (drop index bytes) → ⊥) → IsBadAt bytes index
 bad_here bytes index within is none =
     let split : drop index bytes ≡ 38 ∷ drop (index + 1) bytes = drop_more bytes index 0 within ∙ ap (λ (b : ℕ). b ∷ drop (index + 1) bytes) is in record {
-      front = take index bytes;
-      back = drop (index + 1) bytes;
+      prefix = take index bytes;
+      suffix = drop (index + 1) bytes;
       whole = sym (take-append-drop index bytes) ∙ ap (λ (x : List ℕ). take index bytes ++ x) split;
       index_is = omega (arith, length-take index bytes, within);
       bad = λ b. none (subst BeginsReference (sym split) b);
     }
 
--- what stands behind a bad index begins with `&`
-from_bad : (bytes : List ℕ) (index : ℕ) → (h : IsBadAt bytes index) → drop index bytes ≡ 38 ∷ h.back
-from_bad bytes index h = ap (drop index) h.whole ∙ drop_at h.front (38 ∷ h.back) index (sym h.index_is)
+-- what follows a bad index begins with `&`
+from_bad : (bytes : List ℕ) (index : ℕ) → (h : IsBadAt bytes index) → drop index bytes ≡ 38 ∷ h.suffix
+from_bad bytes index h = ap (drop index) h.whole ∙ drop_at h.prefix (38 ∷ h.suffix) index (sym h.index_is)
 
 -- a bad index is an `&`
 bad_is : (bytes : List ℕ) (index : ℕ) → IsBadAt bytes index → slice_index bytes index ≡ 38
@@ -47,7 +47,7 @@ NoneBelow bytes index = (k : ℕ) → k < index → IsBadAt bytes k → ⊥
 abbrev pub from : List ℕ → ℕ → List ℕ
 from bytes index = take (length bytes - index) (drop index bytes)
 
--- where no `&` stands from an index on, none is bad
+-- where there is no `&` from an index on, none is bad
 further : (bytes : List ℕ) (i j : ℕ) → NoneBelow bytes i → ((k : ℕ) → k < j → is_byte 38 (slice_index (drop i bytes) k) ≡ true → ⊥) → NoneBelow bytes (i + j)
 further bytes i j so_far none k below bad = elim (cases_lt k i) [
   | inl lt ↦ so_far k lt bad
@@ -91,7 +91,7 @@ passes_reference bytes i ahead so_far h begun k below bad = elim (cases_lt k (i 
       not_begun bytes k bad (subst BeginsReference (take_rest bytes (i + ahead) ∙ ap (λ (n : ℕ). drop n bytes) (sym here)) begun)
 ]
 
--- what is bad in pieces one behind another is bad in the first of them or in the others
+-- what is bad in pieces that follow each other is bad in the first of them or in the others
 pub bad_in-append : (xs ys : List Piece) (place : ℕ) → IsBadIn (xs ++ ys) place → IsBadIn xs place ⊎ IsBadIn ys place
 bad_in-append [] ys place h = inr h
 bad_in-append (x ∷ xs) ys place (inl here) = inl (inl here)
@@ -129,7 +129,7 @@ follows_on : (xs ys : List Piece) (low high : ℕ) → Follows low (xs ++ ys) hi
 follows_on [] ys low high h = (low, h)
 follows_on (x ∷ xs) ys low high h = follows_on xs ys (x.0 + length x.1) high h.1
 
--- the first bad index of bytes that stand at a place
+-- the first bad index of bytes at a place
 pub first_at : (start index : ℕ) (bytes : List ℕ) → IsFirst (IsBadAt bytes) index → IsFirst (IsBadIn ((start, bytes) ∷ [])) (start + index)
 first_at start index bytes first = (
   inl (index, first.0, refl),
@@ -142,24 +142,24 @@ nowhere_at start bytes none place (inl here) = none here.0 here.1
 nowhere_at start bytes none place (inr nothing) = nothing
 
 -- the first bad place of the first piece with a bad one is the first of all
-first_in : (xs : List Piece) (piece : Piece) (ys : List Piece) (low high place : ℕ) → Follows low (xs ++ piece ∷ ys) high → IsNowhere (IsBadIn xs) → IsFirst (IsBadIn (piece ∷ [])) place → IsFirst (IsBadIn (xs ++ piece ∷ ys)) place
+pub first_in : (xs : List Piece) (piece : Piece) (ys : List Piece) (low high place : ℕ) → Follows low (xs ++ piece ∷ ys) high → IsNowhere (IsBadIn xs) → IsFirst (IsBadIn (piece ∷ [])) place → IsFirst (IsBadIn (xs ++ piece ∷ ys)) place
 first_in xs piece ys low high place h none first =
     let on = follows_on xs (piece ∷ ys) low high h in
     let one = (bad_in_from (piece ∷ []) on.0 (piece.0 + length piece.1) place (on.1.0, omega arith) first.0).1 in
     let least = λ (other : ℕ) (bad : IsBadIn ((piece ∷ []) ++ ys) other). elim (bad_in-append (piece ∷ []) ys other bad) as (λ _. place ≤ other) [
       | inl here ↦ first.1 other here
-      | inr behind ↦ omega (arith, one, (bad_in_from ys (piece.0 + length piece.1) high other on.1.1 behind).0)
+      | inr beyond ↦ omega (arith, one, (bad_in_from ys (piece.0 + length piece.1) high other on.1.1 beyond).0)
     ] in (
       bad_in-append_right xs (piece ∷ ys) place (bad_in-append_left (piece ∷ []) ys place first.0),
       λ other bad. elim (bad_in-append xs (piece ∷ ys) other bad) [ inl before ↦ absurd (none other before) | inr bad' ↦ least other bad' ],
     )
 
--- the pieces are those below an index, the piece there, and those behind it
+-- the pieces are those below an index, the piece there, and those after it
 split_at : (pieces : List Piece) (i : ℕ) (piece : Piece) → i < length pieces → get_or pieces i piece ≡ piece → pieces ≡ take i pieces ++ piece ∷ drop (i + 1) pieces
 split_at pieces i piece below is =
     sym (take-append-drop i pieces) ∙ ap (λ (x : List Piece). take i pieces ++ x) (drop_more pieces i piece below ∙ ap (λ (x : Piece). x ∷ drop (i + 1) pieces) is)
 
--- the first bad place of the first piece with a bad one, which stands at an index, is the first of all
+-- the first bad place of the first piece with a bad one, which is at an index, is the first of all
 pub first_in_piece : (pieces : List Piece) (i : ℕ) (piece : Piece) (low high place : ℕ) → i < length pieces → get_or pieces i piece ≡ piece → Follows low pieces high → IsNowhere (IsBadIn (take i pieces)) → IsFirst (IsBadIn (piece ∷ [])) place → IsFirst (IsBadIn pieces) place
 first_in_piece pieces i piece low high place below is h none first =
     let split = split_at pieces i piece below is in
@@ -189,7 +189,7 @@ value_at [] i d below = absurd (omega arith)
 value_at (a ∷ attrs) zero d below = refl
 value_at (a ∷ attrs) (suc i) d below = value_at attrs i d (omega arith)
 
--- the value of the attribute at an index stands before its end
+-- the value of the attribute at an index ends before it does
 pub value_within : (attrs : List Attr) (i : ℕ) (d : Attr) → i < length attrs → AllByRecursion IsWithin (map attribute_of attrs) → IsWithin (attribute_of (get_or attrs i d))
 value_within [] i d below h = absurd (omega arith)
 value_within (a ∷ attrs) zero d below h = h.0
@@ -207,7 +207,7 @@ none_in_value attrs i d below none here =
     let piece = value_piece (attribute_of (get_or attrs i d)) in
     none_in_more (values attrs) i piece (omega (arith, length-values attrs, below)) (value_at attrs i d below) none here
 
--- what is bad in units one behind another is bad in the first of them or in the others
+-- what is bad in units that follow each other is bad in the first of them or in the others
 pub bad-append : (us vs : List PlainUnit) (place : ℕ) → IsBad (us ++ vs) place → IsBad us place ⊎ IsBad vs place
 bad-append [] vs place h = inr h
 bad-append (u ∷ us) vs place (inl here) = inl (inl here)

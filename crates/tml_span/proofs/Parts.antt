@@ -1,5 +1,6 @@
 -- Values and attributes: what is read is spelled so, and what is spelled so is read.
 use Rattle.std.proofs.Common.{◌≡◌, ℕ, ◌+◌, ◌-◌, Bool, true, false, cond, eqb, eq-eqb, List, [], ◌∷◌, ◌++◌, length, refl, sym, ap, subst, ◌∙◌, append_assoc, arith, Option, Some, None, length-append}
+use Rattle.std.proofs.lemmas.Option.{same_Some}
 use Rattle.std.specs.List.{prefix_len, list_all}
 use Rattle.std.proofs.lemmas.Bool.{eqb-true}
 use Rattle.std.proofs.lemmas.Bool.Decides.{nat_tests}
@@ -7,7 +8,7 @@ use Rattle.std.proofs.lemmas.List.{take-append-drop}
 use Rattle.tml_span.specs.Bytes.{is_white, is_name_byte, is_name, is_name_start, is_quote, is_value_byte}
 use Rattle.tml_span.specs.Units.{Attribute, SpelledAttribute, SpelledAttributes}
 use Rattle.tml_span.specs.Reading.{◌>>=◌, run_at, after_white, after_byte, name_at, quote_at, value_at, attribute_at, ReadsAttributes}
-use Rattle.tml_span.proofs.Runs.{both, when, guard, some_is, Not, run_again, front_passes, prefix_len_again, white_again, white_takes, name_takes, name_again}
+use Rattle.tml_span.proofs.Runs.{both, when, guard, Not, run_again, prefix_passes, prefix_len_again, white_again, white_takes, name_takes, name_again}
 
 -- the value of a step that did not fail
 pub bind_some : {A B : Type 0} (o : Option A) (f : A → Option B) (y : B) → (o >>= f) ≡ Some y → (x : A) × (o ≡ Some x) × (f x ≡ Some y)
@@ -59,10 +60,10 @@ value_takes (b ∷ bs) q value rest e =
     let x = guard_bind (is_quote b) (b, bs) _ (q, value, rest) e in
     let run = run_at (is_value_byte b) bs in
     let y = bind_some (after_byte b run.1) _ (q, value, rest) x.1 in
-    subst (λ (t : ℕ × List ℕ × List ℕ). (b ∷ bs ≡ t.0 ∷ t.1 ++ t.0 ∷ t.2) × (is_quote t.0 ≡ true) × (list_all (is_value_byte t.0) t.1 ≡ true)) (some_is y.2) (
+    subst (λ (t : ℕ × List ℕ × List ℕ). (b ∷ bs ≡ t.0 ∷ t.1 ++ t.0 ∷ t.2) × (is_quote t.0 ≡ true) × (list_all (is_value_byte t.0) t.1 ≡ true)) (same_Some _ _ y.2) (
       ap (λ (r : List ℕ). b ∷ r) (sym (take-append-drop (prefix_len (is_value_byte b) bs) bs) ∙ ap (λ (r : List ℕ). run.0 ++ r) (byte_takes b run.1 y.0 y.1)),
       x.0,
-      front_passes (is_value_byte b) bs,
+      prefix_passes (is_value_byte b) bs,
     )
 
 pub value_again : (q : ℕ) (value rest : List ℕ) → is_quote q ≡ true → list_all (is_value_byte q) value ≡ true → value_at (q ∷ value ++ q ∷ rest) ≡ Some (q, value, rest)
@@ -82,11 +83,11 @@ spelled_parts : (place : ℕ) (bytes before left right rest : List ℕ) (a : Att
     → list_all is_white before ≡ true → list_all is_white left ≡ true → list_all is_white right ≡ true
     → is_name a.name ≡ true → is_quote a.quote ≡ true → list_all (is_value_byte a.quote) a.value ≡ true
     → (length before ≡ 0 → ⊥) → a.start ≡ place + length before → a.end ≡ place + (length bytes - length rest)
-    → (front : List ℕ) × (bytes ≡ front ++ rest) × SpelledAttribute place a front
+    → (prefix : List ℕ) × (bytes ≡ prefix ++ rest) × SpelledAttribute place a prefix
 spelled_parts place bytes before left right rest a whole wb wl wr name quote value some start end =
-    let front = before ++ a.name ++ left ++ 61 ∷ right ++ a.quote ∷ a.value ++ a.quote ∷ [] in
-    let parts : bytes ≡ front ++ rest = whole ∙ sym (simp append_assoc) in (
-      front,
+    let prefix = before ++ a.name ++ left ++ 61 ∷ right ++ a.quote ∷ a.value ++ a.quote ∷ [] in
+    let parts : bytes ≡ prefix ++ rest = whole ∙ sym (simp append_assoc) in (
+      prefix,
       parts,
       record {
         before = before;
@@ -101,11 +102,11 @@ spelled_parts place bytes before left right rest a whole wb wl wr name quote val
         quote = quote;
         value = value;
         start = start;
-        end = end ∙ ap (λ (n : ℕ). place + n) (omega (arith, ap length parts, length-append front rest));
+        end = end ∙ ap (λ (n : ℕ). place + n) (omega (arith, ap length parts, length-append prefix rest));
       },
     )
 
-pub attribute_takes : (place : ℕ) (bytes : List ℕ) (a : Attribute) (rest : List ℕ) → attribute_at place bytes ≡ Some (a, rest) → (front : List ℕ) × (bytes ≡ front ++ rest) × SpelledAttribute place a front
+pub attribute_takes : (place : ℕ) (bytes : List ℕ) (a : Attribute) (rest : List ℕ) → attribute_at place bytes ≡ Some (a, rest) → (prefix : List ℕ) × (bytes ≡ prefix ++ rest) × SpelledAttribute place a prefix
 unfolding attribute_at
 attribute_takes place bytes a rest e =
     let some_white = guard_not (eqb (prefix_len is_white bytes) 0) _ (a, rest) e in
@@ -121,7 +122,7 @@ attribute_takes place bytes a rest e =
     before.1 ∙ ap (λ (x : List ℕ). before.0 ++ x) (name.0 ∙ ap (λ (x : List ℕ). n.0.0 ++ x) (left.1 ∙ ap (λ (x : List ℕ). left.0 ++ x) (byte_takes 61 (after_white n.0.1) r.0 r.1
     ∙ ap (λ (x : List ℕ). 61 ∷ x) (right.1 ∙ ap (λ (x : List ℕ). right.0 ++ x) value.0)))) in
     let some : length before.0 ≡ 0 → ⊥ = λ z. zero_is (prefix_len is_white bytes) (before.3 ∙ z) some_white.0 in
-    subst (λ (p : Attribute × List ℕ). (front : List ℕ) × (bytes ≡ front ++ p.1) × SpelledAttribute place p.0 front) (some_is v.2)
+    subst (λ (p : Attribute × List ℕ). (prefix : List ℕ) × (bytes ≡ prefix ++ p.1) × SpelledAttribute place p.0 prefix) (same_Some _ _ v.2)
     (spelled_parts place bytes before.0 left.0 right.0 v.0.2 _ whole before.2 left.2 right.2 name.1 value.1 value.2 some (ap (λ (k : ℕ). place + k) before.3) refl)
 
 name_stops : (left rest : List ℕ) → list_all is_white left ≡ true → Not is_name_byte (left ++ 61 ∷ rest)
@@ -165,15 +166,15 @@ attribute_reads place before left right rest a wb wl wr name quote value some st
     bind_is (value_at valued) (a.quote, a.value, rest) _ (value_again a.quote a.value rest quote value)
     ∙ ap (λ (x : Attribute). Some (x, rest)) (same_attribute a _ _ (sym start) (sym end)))))
 
-pub attribute_again : (place : ℕ) (a : Attribute) (front rest : List ℕ) → SpelledAttribute place a front → attribute_at place (front ++ rest) ≡ Some (a, rest)
-attribute_again place a front rest h =
-    let parts : front ++ rest ≡ attribute_text h.before h.left h.right a rest = ap (λ (f : List ℕ). f ++ rest) h.whole ∙ simp append_assoc in
-    let end : a.end ≡ place + (length (attribute_text h.before h.left h.right a rest) - length rest) = h.end ∙ ap (λ (n : ℕ). place + n) (omega (arith, ap length parts, length-append front rest)) in
+pub attribute_again : (place : ℕ) (a : Attribute) (prefix rest : List ℕ) → SpelledAttribute place a prefix → attribute_at place (prefix ++ rest) ≡ Some (a, rest)
+attribute_again place a prefix rest h =
+    let parts : prefix ++ rest ≡ attribute_text h.before h.left h.right a rest = ap (λ (f : List ℕ). f ++ rest) h.whole ∙ simp append_assoc in
+    let end : a.end ≡ place + (length (attribute_text h.before h.left h.right a rest) - length rest) = h.end ∙ ap (λ (n : ℕ). place + n) (omega (arith, ap length parts, length-append prefix rest)) in
     rw parts (attribute_reads place h.before h.left h.right rest a h.white_before h.white_left h.white_right h.name h.quote h.value h.apart h.start end)
 
 -- ---- all attributes
 
-pub attributes_take : (place : ℕ) (bytes : List ℕ) (attrs : List Attribute) (rest : List ℕ) → ReadsAttributes place bytes attrs rest → (front : List ℕ) × (bytes ≡ front ++ rest) × SpelledAttributes place attrs front
+pub attributes_take : (place : ℕ) (bytes : List ℕ) (attrs : List Attribute) (rest : List ℕ) → ReadsAttributes place bytes attrs rest → (prefix : List ℕ) × (bytes ≡ prefix ++ rest) × SpelledAttributes place attrs prefix
 attributes_take place bytes [] rest h = ([], h.0, refl)
 attributes_take place bytes (a ∷ attrs) rest h =
     let one = attribute_takes place bytes a h.0 h.1 in
@@ -181,21 +182,21 @@ attributes_take place bytes (a ∷ attrs) rest h =
     let others = attributes_take (place + (length bytes - length h.0)) h.0 attrs rest h.2 in
     (one.0 ++ others.0, one.1 ∙ ap (λ (x : List ℕ). one.0 ++ x) others.1 ∙ sym (append_assoc one.0 others.0 rest), (one.0, others.0, refl, one.2, subst (λ (n : ℕ). SpelledAttributes (place + n) attrs others.0) len others.2))
 
-pub attributes_again : (place : ℕ) (attrs : List Attribute) (front rest : List ℕ) → SpelledAttributes place attrs front → ((at : ℕ) → attribute_at at rest ≡ None) → ReadsAttributes place (front ++ rest) attrs rest
-attributes_again place [] front rest h none = (ap (λ (x : List ℕ). x ++ rest) h, rw h (none place))
-attributes_again place (a ∷ attrs) front rest h none =
+pub attributes_again : (place : ℕ) (attrs : List Attribute) (prefix rest : List ℕ) → SpelledAttributes place attrs prefix → ((at : ℕ) → attribute_at at rest ≡ None) → ReadsAttributes place (prefix ++ rest) attrs rest
+attributes_again place [] prefix rest h none = (ap (λ (x : List ℕ). x ++ rest) h, rw h (none place))
+attributes_again place (a ∷ attrs) prefix rest h none =
     let f = h.0 in
-    let back = h.1 in
-    let parts : front ++ rest ≡ f ++ (back ++ rest) = ap (λ (x : List ℕ). x ++ rest) h.2 ∙ append_assoc f back rest in
-    let len : length (front ++ rest) - length (back ++ rest) ≡ length f = omega (arith, ap length parts, length-append f (back ++ rest)) in
-    (back ++ rest, rw parts (attribute_again place a f (back ++ rest) h.3), rw len (attributes_again (place + length f) attrs back rest h.4 none))
+    let suffix = h.1 in
+    let parts : prefix ++ rest ≡ f ++ (suffix ++ rest) = ap (λ (x : List ℕ). x ++ rest) h.2 ∙ append_assoc f suffix rest in
+    let len : length (prefix ++ rest) - length (suffix ++ rest) ≡ length f = omega (arith, ap length parts, length-append f (suffix ++ rest)) in
+    (suffix ++ rest, rw parts (attribute_again place a f (suffix ++ rest) h.3), rw len (attributes_again (place + length f) attrs suffix rest h.4 none))
 
 pub one_reading : (place : ℕ) (bytes : List ℕ) (attrs others : List Attribute) (rest after : List ℕ) → ReadsAttributes place bytes attrs rest → ReadsAttributes place bytes others after → (attrs ≡ others) × (rest ≡ after)
 one_reading place bytes [] [] rest after h k = (refl, cc)
 one_reading place bytes [] (b ∷ others) rest after h k = absurd cc
 one_reading place bytes (a ∷ attrs) [] rest after h k = absurd cc
 one_reading place bytes (a ∷ attrs) (b ∷ others) rest after h k =
-    let same = some_is (sym h.1 ∙ k.1) in
+    let same = same_Some _ _ (sym h.1 ∙ k.1) in
     let mid : k.0 ≡ h.0 = sym (ap (λ (p : Attribute × List ℕ). p.1) same) in
     let first : a ≡ b = ap (λ (p : Attribute × List ℕ). p.0) same in
     let tail = one_reading (place + (length bytes - length h.0)) h.0 attrs others rest after h.2 (subst (λ (m : List ℕ). ReadsAttributes (place + (length bytes - length m)) m others after) mid k.2) in

@@ -1,17 +1,17 @@
--- The pieces of a unit stand within its span.
+-- The pieces of a unit are within its span.
 use Rattle.std.proofs.Common.{ℕ, ◌+◌, ◌-◌, ◌<◌, ◌≤◌, List, [], ◌∷◌, length, map, sym, ap, subst, ◌∙◌, arith, length-append}
 use Rattle.std.specs.List.{AllByRecursion}
 use Rattle.tml_span.specs.Units.{Attribute, SpelledAttribute, SpelledAttributes, Kind, bom, declaration, doctype, comment, text, start_tag, end_tag, empty_tag, SpelledTag, PlainUnit, SpelledKind, Spelled}
-use Rattle.tml_span.specs.Cutting.{Finds}
+use Rattle.tml_span.specs.Cutting.{FindsUnit}
 use Rattle.tml_span.specs.References.{value_piece, kind_pieces, kind_attributes, Follows, IsWithin, IsPlaced}
 
--- a value stands between its place and the closing quote
-value_before_end : (place : ℕ) (a : Attribute) (bytes : List ℕ) → SpelledAttribute place a bytes → place + length a.value < a.end
+-- a value is between its place and the closing quote
+pub value_before_end : (place : ℕ) (a : Attribute) (bytes : List ℕ) → SpelledAttribute place a bytes → place + length a.value < a.end
 value_before_end place a bytes h =
     let total = simp length-append at (ap length h.whole) in
     omega (arith, h.end, total)
 
--- the values of attributes stand in order
+-- the values of attributes are in order
 attributes_placed : (low place high : ℕ) (attrs : List Attribute) (inner : List ℕ) → low ≤ place → place + length inner ≤ high → SpelledAttributes place attrs inner → Follows low (map value_piece attrs) high × AllByRecursion IsWithin attrs
 attributes_placed low place high [] inner l m h = (omega arith, tt)
 attributes_placed low place high (a ∷ attrs) inner l m h =
@@ -20,29 +20,29 @@ attributes_placed low place high (a ∷ attrs) inner l m h =
     let others = attributes_placed (a.end - 1 - length a.value + length a.value) (place + length h.0) high attrs h.1 (omega (arith, h.3.end)) (omega arith) h.4 in
     ((omega arith, others.0), (omega arith, others.1))
 
-tag_placed : (place : ℕ) (name : List ℕ) (attrs : List Attribute) (close front : List ℕ) → SpelledTag place name attrs close front → Follows place (map value_piece attrs) (place + length front) × AllByRecursion IsWithin attrs
-tag_placed place name attrs close front h =
+tag_placed : (place : ℕ) (name : List ℕ) (attrs : List Attribute) (close prefix : List ℕ) → SpelledTag place name attrs close prefix → Follows place (map value_piece attrs) (place + length prefix) × AllByRecursion IsWithin attrs
+tag_placed place name attrs close prefix h =
     let total = simp length-append at (ap length h.whole) in
-    attributes_placed place (place + 1 + length name) (place + length front) attrs h.inner (omega arith) (omega (arith, total)) h.attributes
+    attributes_placed place (place + 1 + length name) (place + length prefix) attrs h.inner (omega arith) (omega (arith, total)) h.attributes
 
-kind_placed : (place : ℕ) (k : Kind) (front : List ℕ) → SpelledKind place k front → Follows place (kind_pieces place k) (place + length front) × AllByRecursion IsWithin (kind_attributes k)
-kind_placed place bom front h = (omega arith, tt)
-kind_placed place (declaration bytes) front h = (omega arith, tt)
-kind_placed place (doctype bytes) front h = (omega arith, tt)
-kind_placed place (comment bytes) front h = (omega arith, tt)
-kind_placed place (text bytes) front h = ((omega arith, omega (arith, ap length h.0)), tt)
-kind_placed place (start_tag name attrs) front h = tag_placed place name attrs _ front h
-kind_placed place (end_tag name) front h = (omega arith, tt)
-kind_placed place (empty_tag name attrs) front h = tag_placed place name attrs _ front h
+kind_placed : (place : ℕ) (k : Kind) (prefix : List ℕ) → SpelledKind place k prefix → Follows place (kind_pieces place k) (place + length prefix) × AllByRecursion IsWithin (kind_attributes k)
+kind_placed place bom prefix h = (omega arith, tt)
+kind_placed place (declaration bytes) prefix h = (omega arith, tt)
+kind_placed place (doctype bytes) prefix h = (omega arith, tt)
+kind_placed place (comment bytes) prefix h = (omega arith, tt)
+kind_placed place (text bytes) prefix h = ((omega arith, omega (arith, ap length h.0)), tt)
+kind_placed place (start_tag name attrs) prefix h = tag_placed place name attrs _ prefix h
+kind_placed place (end_tag name) prefix h = (omega arith, tt)
+kind_placed place (empty_tag name attrs) prefix h = tag_placed place name attrs _ prefix h
 
--- the pieces of a unit that is spelled at a place stand in order within its span
-pub placed : (place : ℕ) (u : PlainUnit) (front : List ℕ) → Spelled place u front → IsPlaced u
-placed place u front h =
-    let k = kind_placed place u.kind front h.kind in
+-- the pieces of a unit that is spelled at a place are in order within its span
+pub placed : (place : ℕ) (u : PlainUnit) (prefix : List ℕ) → Spelled place u prefix → IsPlaced u
+placed place u prefix h =
+    let k = kind_placed place u.kind prefix h.kind in
     record {
       follows = subst (λ (p : ℕ × ℕ). Follows p.0 (kind_pieces p.0 u.kind) p.1) (λ i. (sym h.start i, sym h.end i)) k.0;
       within = k.1;
     }
 
-pub found_placed : (place : ℕ) (bytes : List ℕ) (u : PlainUnit) (rest : List ℕ) → Finds place bytes u rest → IsPlaced u
+pub found_placed : (place : ℕ) (bytes : List ℕ) (u : PlainUnit) (rest : List ℕ) → FindsUnit place bytes u rest → IsPlaced u
 found_placed place bytes u rest found = placed place u found.0 found.2

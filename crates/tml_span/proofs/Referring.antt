@@ -1,4 +1,4 @@
--- A reference at the front of some bytes.
+-- A reference that bytes begin with.
 use Rattle.std.proofs.Common.{◌≡◌, ◌↔◌, ◌⊎◌, inl, inr, ℕ, zero, suc, ◌≤◌, Bool, true, false, List, [], ◌∷◌, ◌++◌, length, take, drop, refl, sym, ap, subst, ◌∙◌, append_assoc, arith, Some, length-take}
 use Rattle.std.specs.Prelude.{codes, nat_eq, slice_get, Contains, IsTrue}
 use Rattle.std.specs.List.{list_all, list_any, prefix_len, starts_with}
@@ -7,12 +7,8 @@ use Rattle.std.proofs.lemmas.List.Folds.{Any-from_list_any, list_any_at}
 use Rattle.std.proofs.lemmas.Option.{slice_get_within}
 use Rattle.std.proofs.lemmas.Slice.Eq.{starts_is}
 use Rattle.tml_span.specs.Bytes.{is_digit, is_hex_digit}
-use Rattle.tml_span.specs.References.{named_references, IsDecimalReference, IsHexReference, BeginsReference}
-use Rattle.tml_span.proofs.Runs.{prefix_len_again, front_passes}
-
--- a front of the bytes is so
-abbrev pub Begins : (List ℕ → Type 0) → List ℕ → Type 0
-Begins Is bytes = (front : List ℕ) × (back : List ℕ) × (bytes ≡ front ++ back) × Is front
+use Rattle.tml_span.specs.References.{named_references, Begins, IsDecimalReference, IsHexReference, BeginsReference}
+use Rattle.tml_span.proofs.Runs.{prefix_len_again, prefix_passes}
 
 -- what passes the test of one of some names begins with one of them
 one_begins : (names : List (List ℕ)) (bytes : List ℕ) → list_any (starts_with nat_eq bytes) names ≡ true → Begins (Contains names) bytes
@@ -35,43 +31,43 @@ reference_begins bytes (inr (inr h)) = (h.0, h.1, h.2, inr (inr h.3))
 
 -- where neither a name nor decimal digits begin, hexadecimal digits do
 pub hex_is_left : (bytes : List ℕ) → (Begins (Contains named_references) bytes → ⊥) → (Begins IsDecimalReference bytes → ⊥) → BeginsReference bytes → Begins IsHexReference bytes
-hex_is_left bytes no_name no_decimal (front, back, whole, inl h) = absurd (no_name (front, back, whole, h))
-hex_is_left bytes no_name no_decimal (front, back, whole, inr (inl h)) = absurd (no_decimal (front, back, whole, h))
-hex_is_left bytes no_name no_decimal (front, back, whole, inr (inr h)) = (front, back, whole, h)
+hex_is_left bytes no_name no_decimal (prefix, suffix, whole, inl h) = absurd (no_name (prefix, suffix, whole, h))
+hex_is_left bytes no_name no_decimal (prefix, suffix, whole, inr (inl h)) = absurd (no_decimal (prefix, suffix, whole, h))
+hex_is_left bytes no_name no_decimal (prefix, suffix, whole, inr (inr h)) = (prefix, suffix, whole, h)
 
--- the test of the named references says whether one of them stands in front
+-- the test of the named references says whether the bytes begin with one of them
 pub named_begins : (bytes : List ℕ) (r : Bool) → r ≡ list_any (starts_with nat_eq bytes) named_references → IsTrue r ↔ Begins (Contains named_references) bytes
 named_begins bytes r e = (λ t. one_begins named_references bytes (sym e ∙ t), λ h. e ∙ begins_one named_references bytes h)
 
--- the bytes are those below an index, the byte there, and those behind it
+-- the bytes are those below an index, the byte there, and those after it
 at_index : (bytes : List ℕ) (n x : ℕ) → slice_get bytes n ≡ Some x → bytes ≡ take n bytes ++ x ∷ drop (suc n) bytes
 at_index [] n x h = absurd cc
 at_index (b ∷ bytes) zero x h = cc
 at_index (b ∷ bytes) (suc n) x h = ap (λ (xs : List ℕ). b ∷ xs) (at_index bytes n x h)
 
--- the byte behind a front
-behind : (front back : List ℕ) (x : ℕ) → slice_get (front ++ x ∷ back) (length front) ≡ Some x
-behind [] back x = refl
-behind (b ∷ front) back x = behind front back x
+-- the byte after a prefix
+byte_after : (prefix suffix : List ℕ) (x : ℕ) → slice_get (prefix ++ x ∷ suffix) (length prefix) ≡ Some x
+byte_after [] suffix x = refl
+byte_after (b ∷ prefix) suffix x = byte_after prefix suffix x
 
 -- the bytes begin with digits of a kind, at least 1 and at most so many, and `;`
 abbrev Closed : (ℕ → Bool) → ℕ → List ℕ → Type 0
-Closed p most bytes = (digits : List ℕ) × (back : List ℕ) × (bytes ≡ digits ++ 59 ∷ back) × (1 ≤ length digits) × (length digits ≤ most) × (list_all p digits ≡ true)
+Closed p most bytes = (digits : List ℕ) × (suffix : List ℕ) × (bytes ≡ digits ++ 59 ∷ suffix) × (1 ≤ length digits) × (length digits ≤ most) × (list_all p digits ≡ true)
 
 -- a run of digits that is closed by `;`
 closed : (p : ℕ → Bool) (most n : ℕ) (bytes : List ℕ) → n ≡ prefix_len p bytes → (1 ≤ n) × (n ≤ most) × (slice_get bytes n ≡ Some 59) → Closed p most bytes
 closed p most n bytes e h =
     let len : length (take n bytes) ≡ n = omega (arith, length-take n bytes, slice_get_within bytes n 59 h.2) in
-    (take n bytes, drop (suc n) bytes, at_index bytes n 59 h.2, omega (arith, len, h.0), omega (arith, len, h.1), subst (λ (m : ℕ). list_all p (take m bytes) ≡ true) (sym e) (front_passes p bytes))
+    (take n bytes, drop (suc n) bytes, at_index bytes n 59 h.2, omega (arith, len, h.0), omega (arith, len, h.1), subst (λ (m : ℕ). list_all p (take m bytes) ≡ true) (sym e) (prefix_passes p bytes))
 
 -- digits that are closed by `;` are the run
 closed_run : (p : ℕ → Bool) (most n : ℕ) (bytes : List ℕ) → p 59 ≡ false → n ≡ prefix_len p bytes → Closed p most bytes → (1 ≤ n) × (n ≤ most) × (slice_get bytes n ≡ Some 59)
 closed_run p most n bytes other e h =
     let is : n ≡ length h.0 = e ∙ ap (prefix_len p) h.2 ∙ prefix_len_again p h.0 (59 ∷ h.1) h.5 other in
-    let semicolon : slice_get bytes n ≡ Some 59 = ap (slice_get bytes) is ∙ ap (λ (x : List ℕ). slice_get x (length h.0)) h.2 ∙ behind h.0 h.1 59 in
+    let semicolon : slice_get bytes n ≡ Some 59 = ap (slice_get bytes) is ∙ ap (λ (x : List ℕ). slice_get x (length h.0)) h.2 ∙ byte_after h.0 h.1 59 in
     (omega (arith, is, h.3), omega (arith, is, h.4), semicolon)
 
--- the test of a run of digits behind `&#`
+-- the test of a run of digits after `&#`
 pub decimal_begins : (bytes digits : List ℕ) (n : ℕ) (r : Bool) → bytes ≡ codes "&#" ++ digits → n ≡ prefix_len is_digit digits → (IsTrue r ↔ ((1 ≤ n) × (n ≤ 7) × (slice_get digits n ≡ Some 59))) → IsTrue r ↔ Begins IsDecimalReference bytes
 decimal_begins bytes digits n r e len h = (
   λ t. let c = closed is_digit 7 n digits len (h.0 t) in
@@ -81,7 +77,7 @@ decimal_begins bytes digits n r e len h = (
       h.1 (closed_run is_digit 7 n digits refl len (d.digits, b.1, cc whole, d.some, d.most, d.kind)),
 )
 
--- the test of a run of hexadecimal digits behind `&#x`
+-- the test of a run of hexadecimal digits after `&#x`
 pub hex_begins : (bytes digits : List ℕ) (n : ℕ) (r : Bool) → bytes ≡ codes "&#x" ++ digits → n ≡ prefix_len is_hex_digit digits → (IsTrue r ↔ ((1 ≤ n) × (n ≤ 6) × (slice_get digits n ≡ Some 59))) → IsTrue r ↔ Begins IsHexReference bytes
 hex_begins bytes digits n r e len h = (
   λ t. let c = closed is_hex_digit 6 n digits len (h.0 t) in

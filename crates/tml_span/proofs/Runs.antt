@@ -1,5 +1,6 @@
--- The longest front of one kind of bytes, and names.
+-- The longest prefix of one kind of bytes, and names.
 use Rattle.std.proofs.Common.{one-add, subst, ◌≡◌, ℕ, ◌+◌, ◌≤◌, Bool, true, false, cond, ◌&&◌, List, [], ◌∷◌, ◌++◌, length, take, drop, refl, sym, ap, ◌∙◌, arith, Some, None, length-take}
+use Rattle.std.proofs.lemmas.Option.{same_Some}
 use Rattle.std.specs.List.{prefix_len, list_all}
 use Rattle.std.proofs.lemmas.List.{take-append-drop, take_at, drop_at}
 use Rattle.tml_span.specs.Bytes.{is_white, is_name_start, is_name_byte, is_name}
@@ -30,10 +31,10 @@ prefix_len_again p [] [] h n = refl
 prefix_len_again p [] (y ∷ ys) h n = rw n refl
 prefix_len_again p (x ∷ xs) ys h n = let s = both (p x) (list_all p xs) h in rw (s.0, prefix_len_again p xs ys s.1 n) (omega arith)
 
-pub front_passes : (p : ℕ → Bool) (xs : List ℕ) → list_all p (take (prefix_len p xs) xs) ≡ true
-front_passes p [] = refl
-front_passes p (x ∷ xs) = elim (p x) as (λ b. p x ≡ b → list_all p (take (cond b (1 + prefix_len p xs) 0) (x ∷ xs)) ≡ true) [
-  | true ↦ λ e. rw (one-add (prefix_len p xs), e) (front_passes p xs)
+pub prefix_passes : (p : ℕ → Bool) (xs : List ℕ) → list_all p (take (prefix_len p xs) xs) ≡ true
+prefix_passes p [] = refl
+prefix_passes p (x ∷ xs) = elim (p x) as (λ b. p x ≡ b → list_all p (take (cond b (1 + prefix_len p xs) 0) (x ∷ xs)) ≡ true) [
+  | true ↦ λ e. rw (one-add (prefix_len p xs), e) (prefix_passes p xs)
   | false ↦ λ e. refl
 ] refl
 
@@ -57,22 +58,19 @@ prefix_len-le p (x ∷ xs) = elim (p x) as (λ b. cond b (1 + prefix_len p xs) 0
 pub white_takes : (bytes : List ℕ) → (white : List ℕ) × (bytes ≡ white ++ after_white bytes) × (list_all is_white white ≡ true) × (prefix_len is_white bytes ≡ length white)
 white_takes bytes =
     let n = prefix_len is_white bytes in
-    (take n bytes, sym (take-append-drop n bytes), front_passes is_white bytes, omega (arith, length-take n bytes, prefix_len-le is_white bytes))
+    (take n bytes, sym (take-append-drop n bytes), prefix_passes is_white bytes, omega (arith, length-take n bytes, prefix_len-le is_white bytes))
 
 start_is_byte : (b : ℕ) → is_name_start b ≡ true → is_name_byte b ≡ true
 start_is_byte b h = rw h refl
-
-pub some_is : {A : Type 0} {x y : A} → Some x ≡ Some y → x ≡ y
-some_is e = cc
 
 name_parts : (b : ℕ) (bs name rest : List ℕ) (s : Bool) → is_name_start b ≡ s → cond s (Some (run_at is_name_byte (b ∷ bs))) None ≡ Some (name, rest) → (b ∷ bs ≡ name ++ rest) × (is_name name ≡ true)
 name_parts b bs name rest false h e = absurd cc
 name_parts b bs name rest true h e =
     let n = prefix_len is_name_byte bs in
-    let p : run_at is_name_byte (b ∷ bs) ≡ (name, rest) = some_is e in
-    let front : is_name (take (prefix_len is_name_byte (b ∷ bs)) (b ∷ bs)) ≡ true =
-    rw (start_is_byte b h, one-add n, h) (front_passes is_name_byte bs) in
-    subst (λ (q : List ℕ × List ℕ). (b ∷ bs ≡ q.0 ++ q.1) × (is_name q.0 ≡ true)) p (sym (take-append-drop (prefix_len is_name_byte (b ∷ bs)) (b ∷ bs)), front)
+    let p : run_at is_name_byte (b ∷ bs) ≡ (name, rest) = same_Some _ _ e in
+    let prefix : is_name (take (prefix_len is_name_byte (b ∷ bs)) (b ∷ bs)) ≡ true =
+    rw (start_is_byte b h, one-add n, h) (prefix_passes is_name_byte bs) in
+    subst (λ (q : List ℕ × List ℕ). (b ∷ bs ≡ q.0 ++ q.1) × (is_name q.0 ≡ true)) p (sym (take-append-drop (prefix_len is_name_byte (b ∷ bs)) (b ∷ bs)), prefix)
 
 pub name_takes : (bytes name rest : List ℕ) → name_at bytes ≡ Some (name, rest) → (bytes ≡ name ++ rest) × (is_name name ≡ true)
 unfolding name_at

@@ -1,62 +1,63 @@
--- Texts and tags at the front of a source: there is one at most, and where none is no unit begins.
+-- Texts and tags at the prefix of a source: there is one at most, and where none is no unit begins.
 use Rattle.std.proofs.Common.{get_or, ◌≡◌, ◌≢◌, ◌⊎◌, inl, inr, ℕ, zero, suc, ◌+◌, ◌-◌, ◌<◌, ◌≤◌, Bool, true, false, not, cond, eqb, List, [], ◌∷◌, ◌++◌, length, take, drop, refl, sym, ap, ◌∙◌, arith, Some, None, length-append}
+use Rattle.std.proofs.lemmas.Option.{same_Some}
 use Rattle.std.specs.Prelude.{nat_eq, codes}
 use Rattle.std.specs.List.{prefix_len, starts_with}
 use Rattle.std.proofs.lemmas.Bool.{eqb-true, eqb-false}
 use Rattle.std.proofs.lemmas.List.{take_at, drop_at}
 use Rattle.tml_span.specs.Bytes.{is_text_byte}
 use Rattle.tml_span.specs.Units.{Attribute, Kind, text, start_tag, end_tag, empty_tag, PlainUnit, bom_bytes, SpelledKind}
-use Rattle.tml_span.specs.Cutting.{Ends, Stops, Finds}
+use Rattle.tml_span.specs.Cutting.{Ends, Stops, FindsUnit}
 use Rattle.tml_span.specs.Reading.{after_white, name_at, attribute_at, ReadsAttributes}
-use Rattle.tml_span.proofs.Runs.{some_is, Not, prefix_len_again}
+use Rattle.tml_span.proofs.Runs.{Not, prefix_len_again}
 use Rattle.tml_span.proofs.Parts.{attribute_takes}
-use Rattle.tml_span.proofs.Leads.{plain, ending, remark, decree, query, opening, lead, lead_behind, lead_of, tag_parts}
+use Rattle.tml_span.proofs.Leads.{plain, ending, comments, doctypes, query, opening, lead, lead_after, lead_of, tag_parts}
 use Rattle.tml_span.proofs.TagUnits.{text_finds, bom_finds, close_of, tag_of, one_tag_reading, as_tag, tag_finds, no_name_stops, no_close_stops, one_end_tag_reading, end_tag_parts, end_tag_again, end_tag_finds, no_end_tag_stops, no_name_end_stops}
 
 -- ---- one text, one tag
 
--- two fronts of one list with the same rest are one
-fronts : (xs ys back after : List ℕ) → xs ++ back ≡ ys ++ after → length xs ≡ length ys → (xs ≡ ys) × (back ≡ after)
-fronts xs ys back after e len = (
-  sym (take_at xs back (length xs) refl) ∙ ap (take (length xs)) e ∙ take_at ys after (length xs) (sym len),
-  sym (drop_at xs back (length xs) refl) ∙ ap (drop (length xs)) e ∙ drop_at ys after (length xs) (sym len),
+-- two prefixes of one list with the same rest are one
+prefixes : (xs ys suffix after : List ℕ) → xs ++ suffix ≡ ys ++ after → length xs ≡ length ys → (xs ≡ ys) × (suffix ≡ after)
+prefixes xs ys suffix after e len = (
+  sym (take_at xs suffix (length xs) refl) ∙ ap (take (length xs)) e ∙ take_at ys after (length xs) (sym len),
+  sym (drop_at xs suffix (length xs) refl) ∙ ap (drop (length xs)) e ∙ drop_at ys after (length xs) (sym len),
 )
 
 ends_not : (bytes rest : List ℕ) → Ends (text bytes) rest → Not is_text_byte rest
 ends_not bytes [] h = tt
 ends_not bytes (b ∷ rest) h = h
 
-pub one_text : (place : ℕ) (t s back after : List ℕ) → t ++ back ≡ s ++ after → SpelledKind place (text t) t → Ends (text t) back → SpelledKind place (text s) s → Ends (text s) after → (t ≡ s) × (back ≡ after)
-one_text place t s back after e h m k n =
-    fronts t s back after e (sym (prefix_len_again is_text_byte t back h.2 (ends_not t back m)) ∙ ap (prefix_len is_text_byte) e ∙ prefix_len_again is_text_byte s after k.2 (ends_not s after n))
+pub one_text : (place : ℕ) (t s suffix after : List ℕ) → t ++ suffix ≡ s ++ after → SpelledKind place (text t) t → Ends (text t) suffix → SpelledKind place (text s) s → Ends (text s) after → (t ≡ s) × (suffix ≡ after)
+one_text place t s suffix after e h m k n =
+    prefixes t s suffix after e (sym (prefix_len_again is_text_byte t suffix h.2 (ends_not t suffix m)) ∙ ap (prefix_len is_text_byte) e ∙ prefix_len_again is_text_byte s after k.2 (ends_not s after n))
 
-pub one_end_tag : (place : ℕ) (name other front back ahead after : List ℕ) → front ++ back ≡ ahead ++ after → SpelledKind place (end_tag name) front → SpelledKind place (end_tag other) ahead → (end_tag name ≡ end_tag other) × (back ≡ after)
-one_end_tag place name other front back ahead after e h k =
-    let bytes = name ++ (h.0 ++ 62 ∷ back) in
-    let parts = end_tag_parts front back name h.0 h.1 in
-    let one = one_end_tag_reading bytes name other back after (end_tag_again place bytes name front back (sym parts) h) (end_tag_again place bytes other ahead after (sym parts ∙ e) k) in
+pub one_end_tag : (place : ℕ) (name other prefix suffix ahead after : List ℕ) → prefix ++ suffix ≡ ahead ++ after → SpelledKind place (end_tag name) prefix → SpelledKind place (end_tag other) ahead → (end_tag name ≡ end_tag other) × (suffix ≡ after)
+one_end_tag place name other prefix suffix ahead after e h k =
+    let bytes = name ++ (h.0 ++ 62 ∷ suffix) in
+    let parts = end_tag_parts prefix suffix name h.0 h.1 in
+    let one = one_end_tag_reading bytes name other suffix after (end_tag_again place bytes name prefix suffix (sym parts) h) (end_tag_again place bytes other ahead after (sym parts ∙ e) k) in
     (ap (λ (n : List ℕ). end_tag n) one.0, one.1)
 
 -- no `>` is a `/>`
-one_close : (a b : Bool) (back after : List ℕ) → close_of a ++ back ≡ close_of b ++ after → (a ≡ b) × (back ≡ after)
-one_close true true back after e = (refl, ap (drop 2) e)
-one_close false false back after e = (refl, ap (drop 1) e)
-one_close true false back after e = absurd (omega (arith, ap (λ (x : List ℕ). get_or x 0 0) e))
-one_close false true back after e = absurd (omega (arith, ap (λ (x : List ℕ). get_or x 0 0) e))
+one_close : (a b : Bool) (suffix after : List ℕ) → close_of a ++ suffix ≡ close_of b ++ after → (a ≡ b) × (suffix ≡ after)
+one_close true true suffix after e = (refl, ap (drop 2) e)
+one_close false false suffix after e = (refl, ap (drop 1) e)
+one_close true false suffix after e = absurd (omega (arith, ap (λ (x : List ℕ). get_or x 0 0) e))
+one_close false true suffix after e = absurd (omega (arith, ap (λ (x : List ℕ). get_or x 0 0) e))
 
--- the bytes behind the `<` of a tag
-behind : (place : ℕ) (k : Kind) (front back : List ℕ) → lead_of k ≡ opening → SpelledKind place k front → (bytes : List ℕ) × (60 ∷ bytes ≡ front ++ back)
-behind place (start_tag name attrs) front back opens h = (name ++ (h.inner ++ (h.white ++ (codes ">" ++ back))), sym (tag_parts place name attrs (codes ">") front back h))
-behind place (empty_tag name attrs) front back opens h = (name ++ (h.inner ++ (h.white ++ (codes "/>" ++ back))), sym (tag_parts place name attrs (codes "/>") front back h))
-behind place k front back opens h = absurd cc
+-- the bytes after the `<` of a tag
+after_opening : (place : ℕ) (k : Kind) (prefix suffix : List ℕ) → lead_of k ≡ opening → SpelledKind place k prefix → (bytes : List ℕ) × (60 ∷ bytes ≡ prefix ++ suffix)
+after_opening place (start_tag name attrs) prefix suffix opens h = (name ++ (h.inner ++ (h.white ++ (codes ">" ++ suffix))), sym (tag_parts place name attrs (codes ">") prefix suffix h))
+after_opening place (empty_tag name attrs) prefix suffix opens h = (name ++ (h.inner ++ (h.white ++ (codes "/>" ++ suffix))), sym (tag_parts place name attrs (codes "/>") prefix suffix h))
+after_opening place k prefix suffix opens h = absurd cc
 
-pub one_tag : (place : ℕ) (k j : Kind) (front back ahead after : List ℕ) → front ++ back ≡ ahead ++ after → lead_of k ≡ opening → lead_of j ≡ opening → SpelledKind place k front → SpelledKind place j ahead → (k ≡ j) × (back ≡ after)
-one_tag place k j front back ahead after e k_opens j_opens h g =
-    let bytes = behind place k front back k_opens h in
-    let t = as_tag place k bytes.0 front back k_opens bytes.1 h in
+pub one_tag : (place : ℕ) (k j : Kind) (prefix suffix ahead after : List ℕ) → prefix ++ suffix ≡ ahead ++ after → lead_of k ≡ opening → lead_of j ≡ opening → SpelledKind place k prefix → SpelledKind place j ahead → (k ≡ j) × (suffix ≡ after)
+one_tag place k j prefix suffix ahead after e k_opens j_opens h g =
+    let bytes = after_opening place k prefix suffix k_opens h in
+    let t = as_tag place k bytes.0 prefix suffix k_opens bytes.1 h in
     let s = as_tag place j bytes.0 ahead after j_opens (bytes.1 ∙ e) g in
-    let one = one_tag_reading place bytes.0 t.name s.name (close_of t.is_empty ++ back) (close_of s.is_empty ++ after) t.attrs s.attrs t.reads s.reads in
-    let closed = one_close t.is_empty s.is_empty back after one.2 in
+    let one = one_tag_reading place bytes.0 t.name s.name (close_of t.is_empty ++ suffix) (close_of s.is_empty ++ after) t.attrs s.attrs t.reads s.reads in
+    let closed = one_close t.is_empty s.is_empty suffix after one.2 in
     (t.is ∙ (λ i. tag_of (closed.0 i) (one.0 i) (one.1 i)) ∙ sym s.is, closed.1)
 
 -- ---- a tag or none
@@ -94,7 +95,7 @@ byte_or_none c (b ∷ bytes) = elim (eqb b c) as (λ t. eqb b c ≡ t → ((rest
   | false ↦ λ e. inr (λ rest whole. eqb-false b c e (cc))
 ] refl
 
--- what follows the white space behind attributes closes a tag, or doesn't
+-- what follows the white space after attributes closes a tag, or doesn't
 abbrev CloseOrNone : List ℕ → Type 0
 CloseOrNone tail = ((is_empty : Bool) × ((rest : List ℕ) × (tail ≡ close_of is_empty ++ rest))) ⊎ ((is_empty : Bool) (rest : List ℕ) → tail ≢ close_of is_empty ++ rest)
 
@@ -112,7 +113,7 @@ close_or tail (inr none) (inl slash) = slash_or_none tail slash.0 none slash.1 (
 close_or tail (inr none) (inr other) = inr (not_closed tail none (λ rest. other (62 ∷ rest)))
 
 abbrev FoundOrNone : ℕ → List ℕ → Type 0
-FoundOrNone place bytes = ((u : PlainUnit) × ((rest : List ℕ) × Finds place bytes u rest)) ⊎ Stops place bytes
+FoundOrNone place bytes = ((u : PlainUnit) × ((rest : List ℕ) × FindsUnit place bytes u rest)) ⊎ Stops place bytes
 
 closed_or_none : (place : ℕ) (bytes name mid after : List ℕ) (attrs : List Attribute) → lead (60 ∷ bytes) ≡ opening → name_at bytes ≡ Some (name, mid) → ReadsAttributes (place + 1 + length name) mid attrs after → CloseOrNone (after_white after) → FoundOrNone place (60 ∷ bytes)
 closed_or_none place bytes name mid after attrs opens named reads (inl close) =
@@ -120,7 +121,7 @@ closed_or_none place bytes name mid after attrs opens named reads (inl close) =
 closed_or_none place bytes name mid after attrs opens named reads (inr none) =
     inr (no_close_stops place bytes name (after_white after) attrs opens (record { mid = mid; after = after; named = named; attributes = reads; closed = refl }) none)
 
-pub tag_or_none : (place : ℕ) (bytes : List ℕ) → lead (60 ∷ bytes) ≡ opening → ((u : PlainUnit) × ((rest : List ℕ) × Finds place (60 ∷ bytes) u rest)) ⊎ Stops place (60 ∷ bytes)
+pub tag_or_none : (place : ℕ) (bytes : List ℕ) → lead (60 ∷ bytes) ≡ opening → ((u : PlainUnit) × ((rest : List ℕ) × FindsUnit place (60 ∷ bytes) u rest)) ⊎ Stops place (60 ∷ bytes)
 tag_or_none place bytes opens = elim (name_at bytes) as (λ o. name_at bytes ≡ o → FoundOrNone place (60 ∷ bytes)) [
   | None ↦ λ e. inr (no_name_stops place bytes opens e)
   | Some p ↦ λ e.
@@ -132,10 +133,10 @@ tag_or_none place bytes opens = elim (name_at bytes) as (λ o. name_at bytes ≡
 ended_or_none : (place : ℕ) (bytes name mid : List ℕ) → name_at bytes ≡ Some (name, mid) → ((rest : List ℕ) × (after_white mid ≡ 62 ∷ rest)) ⊎ ((rest : List ℕ) → after_white mid ≢ 62 ∷ rest) → FoundOrNone place (60 ∷ 47 ∷ bytes)
 ended_or_none place bytes name mid named (inl close) = inl (_, (close.0, end_tag_finds place bytes name close.0 (record { mid = mid; named = named; closed = close.1 })))
 ended_or_none place bytes name mid named (inr none) = inr (no_end_tag_stops place bytes (λ other rest reads.
-    let same : mid ≡ reads.mid = ap (λ (p : List ℕ × List ℕ). p.1) (some_is (sym named ∙ reads.named)) in
+    let same : mid ≡ reads.mid = ap (λ (p : List ℕ × List ℕ). p.1) (same_Some _ _ (sym named ∙ reads.named)) in
     none rest (ap after_white same ∙ reads.closed)))
 
-pub end_tag_or_none : (place : ℕ) (bytes : List ℕ) → ((u : PlainUnit) × ((rest : List ℕ) × Finds place (60 ∷ 47 ∷ bytes) u rest)) ⊎ Stops place (60 ∷ 47 ∷ bytes)
+pub end_tag_or_none : (place : ℕ) (bytes : List ℕ) → ((u : PlainUnit) × ((rest : List ℕ) × FindsUnit place (60 ∷ 47 ∷ bytes) u rest)) ⊎ Stops place (60 ∷ 47 ∷ bytes)
 end_tag_or_none place bytes = elim (name_at bytes) as (λ o. name_at bytes ≡ o → FoundOrNone place (60 ∷ 47 ∷ bytes)) [
   | None ↦ λ e. inr (no_name_end_stops place bytes e)
   | Some p ↦ λ e. ended_or_none place bytes p.0 p.1 e (byte_or_none 62 (after_white p.1))
@@ -143,23 +144,23 @@ end_tag_or_none place bytes = elim (name_at bytes) as (λ o. name_at bytes ≡ o
 
 -- ---- a text or a Bom
 
-not_plain : (a b c d : Bool) → cond a ending (cond b (cond c remark decree) (cond d query opening)) ≡ plain → ⊥
+not_plain : (a b c d : Bool) → cond a ending (cond b (cond c comments doctypes) (cond d query opening)) ≡ plain → ⊥
 not_plain true b c d e = cc
 not_plain false true true d e = cc
 not_plain false true false d e = cc
 not_plain false false c true e = cc
 not_plain false false c false e = cc
 
-behind_not_plain : (bytes : List ℕ) → lead_behind bytes ≡ plain → ⊥
-behind_not_plain [] e = cc
-behind_not_plain (b ∷ bytes) e = not_plain (nat_eq b 47) (nat_eq b 33) (starts_with nat_eq bytes (codes "--")) (nat_eq b 63) e
+after_not_plain : (bytes : List ℕ) → lead_after bytes ≡ plain → ⊥
+after_not_plain [] e = cc
+after_not_plain (b ∷ bytes) e = not_plain (nat_eq b 47) (nat_eq b 33) (starts_with nat_eq bytes (codes "--")) (nat_eq b 63) e
 
-plain_first : (t : Bool) (bytes : List ℕ) → cond t (lead_behind bytes) plain ≡ plain → t ≡ false
-plain_first true bytes e = absurd (behind_not_plain bytes e)
+plain_first : (t : Bool) (bytes : List ℕ) → cond t (lead_after bytes) plain ≡ plain → t ≡ false
+plain_first true bytes e = absurd (after_not_plain bytes e)
 plain_first false bytes e = refl
 
 abbrev Found : ℕ → List ℕ → Type 0
-Found place bytes = (u : PlainUnit) × ((rest : List ℕ) × Finds place bytes u rest)
+Found place bytes = (u : PlainUnit) × ((rest : List ℕ) × FindsUnit place bytes u rest)
 
 text_found : (place b : ℕ) (bytes : List ℕ) → nat_eq b 60 ≡ false → (place ≡ 0 → starts_with nat_eq (b ∷ bytes) bom_bytes ≡ false) → Found place (b ∷ bytes)
 text_found place b bytes first other =
@@ -171,5 +172,5 @@ bom_or_text place b bytes false at first s z = text_found place b bytes first (�
 bom_or_text place b bytes true false first s z = text_found place b bytes first (λ e. absurd (eqb-false place 0 z e))
 bom_or_text place b bytes true true first s z = (_, (_, bom_finds place (b ∷ bytes) (eqb-true place 0 z) s))
 
-pub plain_found : (place b : ℕ) (bytes : List ℕ) → lead (b ∷ bytes) ≡ plain → (u : PlainUnit) × ((rest : List ℕ) × Finds place (b ∷ bytes) u rest)
+pub plain_found : (place b : ℕ) (bytes : List ℕ) → lead (b ∷ bytes) ≡ plain → (u : PlainUnit) × ((rest : List ℕ) × FindsUnit place (b ∷ bytes) u rest)
 plain_found place b bytes e = bom_or_text place b bytes (starts_with nat_eq (b ∷ bytes) bom_bytes) (eqb place 0) (plain_first (nat_eq b 60) bytes e) refl refl

@@ -1,5 +1,6 @@
 -- Texts and tags: what is read is spelled so, and where nothing is read no unit begins.
 use Rattle.std.proofs.Common.{get_or, add-one, ◌≡◌, ◌≢◌, ℕ, ◌+◌, ◌-◌, ◌<◌, Bool, true, false, cond, List, [], ◌∷◌, ◌++◌, length, take, drop, refl, sym, ap, subst, ◌∙◌, append_assoc, arith, Some, None, length-append, length-take}
+use Rattle.std.proofs.lemmas.Option.{same_Some}
 use Rattle.std.specs.Prelude.{nat_eq, codes}
 use Rattle.std.specs.List.{prefix_len, list_all, starts_with}
 use Rattle.std.proofs.lemmas.Bool.Decides.{nat_tests, Decides-eqb}
@@ -7,15 +8,15 @@ use Rattle.std.proofs.lemmas.List.{take-append-drop}
 use Rattle.std.proofs.lemmas.Slice.Eq.{starts_is}
 use Rattle.tml_span.specs.Bytes.{is_white, is_text_byte, is_name_start, is_name_byte}
 use Rattle.tml_span.specs.Units.{Attribute, SpelledAttribute, SpelledAttributes, Kind, bom, text, start_tag, end_tag, empty_tag, SpelledTag, bom_bytes, BeginsWith, SpelledKind}
-use Rattle.tml_span.specs.Cutting.{Ends, Stops, Finds}
+use Rattle.tml_span.specs.Cutting.{Ends, Stops, FindsUnit}
 use Rattle.tml_span.specs.Reading.{after_white, after_byte, name_at, attribute_at, ReadsAttributes}
-use Rattle.tml_span.proofs.Runs.{both, some_is, Not, front_passes, rest_stops, white_again, white_takes, name_takes, name_again}
+use Rattle.tml_span.proofs.Runs.{both, Not, prefix_passes, rest_stops, white_again, white_takes, name_takes, name_again}
 use Rattle.tml_span.proofs.Parts.{attribute_text, white_no_name, attributes_take, attributes_again, one_reading}
 use Rattle.tml_span.proofs.Leads.{ending, opening, lead, lead_of, leads, tag_parts}
 
 -- a spelling is found, and its end is counted from what is left
-pub spelled_finds : (place : ℕ) (bytes front rest : List ℕ) (k : Kind) → bytes ≡ front ++ rest → SpelledKind place k front → Ends k rest → Finds place bytes (record { start = place; end = place + (length bytes - length rest); kind = k }) rest
-spelled_finds place bytes front rest k whole h ends = (front, whole, record { kind = h; start = refl; end = ap (λ (n : ℕ). place + n) (omega (arith, ap length whole, length-append front rest)) }, ends)
+pub spelled_finds : (place : ℕ) (bytes prefix rest : List ℕ) (k : Kind) → bytes ≡ prefix ++ rest → SpelledKind place k prefix → Ends k rest → FindsUnit place bytes (record { start = place; end = place + (length bytes - length rest); kind = k }) rest
+spelled_finds place bytes prefix rest k whole h ends = (prefix, whole, record { kind = h; start = refl; end = ap (λ (n : ℕ). place + n) (omega (arith, ap length whole, length-append prefix rest)) }, ends)
 
 -- ---- a text and the Bom
 
@@ -32,19 +33,19 @@ no_bom : (bytes t rest : List ℕ) → bytes ≡ t ++ rest → starts_with nat_e
 no_bom bytes t rest whole none begins = cc (sym none ∙ ap (λ (x : List ℕ). starts_with nat_eq x bom_bytes) (whole ∙ ap (λ (x : List ℕ). x ++ rest) begins.1))
 
 pub text_finds : (place : ℕ) (bytes t rest : List ℕ) (n : ℕ) → n ≡ prefix_len is_text_byte bytes → t ≡ take n bytes → rest ≡ drop n bytes → 0 < length bytes → is_text_byte (get_or bytes 0 0) ≡ true → (place ≡ 0 → starts_with nat_eq bytes bom_bytes ≡ false)
-    → Finds place bytes (record { start = place; end = place + length t; kind = text t }) rest
+    → FindsUnit place bytes (record { start = place; end = place + length t; kind = text t }) rest
 text_finds place bytes t rest n en et er some h other =
-    let front : take (prefix_len is_text_byte bytes) bytes ≡ t = ap (λ (k : ℕ). take k bytes) (sym en) ∙ sym et in
-    let back : drop (prefix_len is_text_byte bytes) bytes ≡ rest = ap (λ (k : ℕ). drop k bytes) (sym en) ∙ sym er in
+    let prefix : take (prefix_len is_text_byte bytes) bytes ≡ t = ap (λ (k : ℕ). take k bytes) (sym en) ∙ sym et in
+    let suffix : drop (prefix_len is_text_byte bytes) bytes ≡ rest = ap (λ (k : ℕ). drop k bytes) (sym en) ∙ sym er in
     let some_t : t ≡ [] → ⊥ = λ z. omega (arith, text_some bytes some h, ap length z, ap length et, length-take n bytes, en) in
     let whole : bytes ≡ t ++ rest = sym (take-append-drop n bytes) ∙ cc in (
       t,
       whole,
-      record { kind = (refl, some_t, rw front at (front_passes is_text_byte bytes), λ zero. no_bom bytes t rest whole (other zero)); start = refl; end = refl },
-      not_ends t rest (rw back at (rest_stops is_text_byte bytes)),
+      record { kind = (refl, some_t, rw prefix at (prefix_passes is_text_byte bytes), λ zero. no_bom bytes t rest whole (other zero)); start = refl; end = refl },
+      not_ends t rest (rw suffix at (rest_stops is_text_byte bytes)),
     )
 
-pub bom_finds : (place : ℕ) (bytes : List ℕ) → place ≡ 0 → starts_with nat_eq bytes bom_bytes ≡ true → Finds place bytes (record { start = 0; end = 3; kind = bom }) (drop 3 bytes)
+pub bom_finds : (place : ℕ) (bytes : List ℕ) → place ≡ 0 → starts_with nat_eq bytes bom_bytes ≡ true → FindsUnit place bytes (record { start = 0; end = 3; kind = bom }) (drop 3 bytes)
 bom_finds place bytes zero begins = (bom_bytes, (starts_is Decides-eqb bytes bom_bytes true (sym begins)).0 refl, record { kind = (zero, refl); start = sym zero; end = ap (λ (n : ℕ). n + 3) (sym zero) }, tt)
 
 -- ---- what follows the parts of a tag
@@ -61,9 +62,9 @@ before_stops : (before tail : List ℕ) → (before ≡ [] → ⊥) → list_all
 before_stops [] tail some w = absurd (some refl)
 before_stops (b ∷ before) tail some w = white_no_name b (both (is_white b) (list_all is_white before) w).0
 
-attribute_stops : (place : ℕ) (a : Attribute) (front rest : List ℕ) → SpelledAttribute place a front → Not is_name_byte (front ++ rest)
-attribute_stops place a front rest h =
-    let parts : front ++ rest ≡ attribute_text h.before h.left h.right a rest = ap (λ (f : List ℕ). f ++ rest) h.whole ∙ simp append_assoc in
+attribute_stops : (place : ℕ) (a : Attribute) (prefix rest : List ℕ) → SpelledAttribute place a prefix → Not is_name_byte (prefix ++ rest)
+attribute_stops place a prefix rest h =
+    let parts : prefix ++ rest ≡ attribute_text h.before h.left h.right a rest = ap (λ (f : List ℕ). f ++ rest) h.whole ∙ simp append_assoc in
     rw parts (before_stops h.before (a.name ++ (h.left ++ (61 ∷ (h.right ++ (a.quote ∷ (a.value ++ (a.quote ∷ rest))))))) h.apart h.white_before)
 
 -- attributes and white space do not go on with a name
@@ -90,7 +91,7 @@ no_attribute : (white tail : List ℕ) → list_all is_white white ≡ true → 
 unfolding attribute_at
 no_attribute white tail w closing place = rw (white_again white tail w closing.0, no_name tail closing.1) (either_way _ None)
 
--- ---- a tag behind its `<`
+-- ---- a tag after its `<`
 
 other_byte : (b c : ℕ) → b ≢ c → nat_eq b c ≡ false
 other_byte b c h = grind (arith, nat_tests)
@@ -107,7 +108,7 @@ close_of is_empty = cond is_empty (codes "/>") (codes ">")
 abbrev pub tag_of : Bool → List ℕ → List Attribute → Kind
 tag_of is_empty name attrs = cond is_empty (empty_tag name attrs) (start_tag name attrs)
 
--- its name, its attributes, and what follows the white space behind them
+-- its name, its attributes, and what follows the white space after them
 pub record ReadsTag (place : ℕ) (bytes name : List ℕ) (attrs : List Attribute) (tail : List ℕ) : Type 0 where
   pub mid : List ℕ
   pub after : List ℕ
@@ -116,7 +117,7 @@ pub record ReadsTag (place : ℕ) (bytes name : List ℕ) (attrs : List Attribut
   pub closed : after_white after ≡ tail
 
 -- what is read is spelled so
-tag_takes : (place : ℕ) (bytes name close rest : List ℕ) (attrs : List Attribute) → ReadsTag place bytes name attrs (close ++ rest) → (front : List ℕ) × (60 ∷ bytes ≡ front ++ rest) × SpelledTag place name attrs close front
+tag_takes : (place : ℕ) (bytes name close rest : List ℕ) (attrs : List Attribute) → ReadsTag place bytes name attrs (close ++ rest) → (prefix : List ℕ) × (60 ∷ bytes ≡ prefix ++ rest) × SpelledTag place name attrs close prefix
 tag_takes place bytes name close rest attrs h =
     let n = name_takes bytes name h.mid h.named in
     let inner = attributes_take (place + 1 + length name) h.mid attrs h.after h.attributes in
@@ -126,62 +127,62 @@ tag_takes place bytes name close rest attrs h =
     (60 ∷ name ++ inner.0 ++ white.0 ++ close, whole ∙ sym (simp append_assoc), record { inner = inner.0; white = white.0; whole = refl; named = n.1; attributes = inner.2; white_inner = white.2 })
 
 -- what is spelled so is read
-tag_again : (place : ℕ) (bytes name close front back : List ℕ) (attrs : List Attribute) → 60 ∷ bytes ≡ front ++ back → SpelledTag place name attrs close front → Closing (close ++ back) → ReadsTag place bytes name attrs (close ++ back)
-tag_again place bytes name close front back attrs e h closing =
-    let tail = h.white ++ (close ++ back) in
-    let is : bytes ≡ name ++ (h.inner ++ tail) = cc (e ∙ tag_parts place name attrs close front back h) in
+tag_again : (place : ℕ) (bytes name close prefix suffix : List ℕ) (attrs : List Attribute) → 60 ∷ bytes ≡ prefix ++ suffix → SpelledTag place name attrs close prefix → Closing (close ++ suffix) → ReadsTag place bytes name attrs (close ++ suffix)
+tag_again place bytes name close prefix suffix attrs e h closing =
+    let tail = h.white ++ (close ++ suffix) in
+    let is : bytes ≡ name ++ (h.inner ++ tail) = cc (e ∙ tag_parts place name attrs close prefix suffix h) in
     record {
       mid = h.inner ++ tail;
       after = tail;
-      named = ap name_at is ∙ name_again name (h.inner ++ tail) h.named (inner_stops _ attrs h.inner h.white (close ++ back) h.attributes h.white_inner closing.1);
-      attributes = attributes_again (place + 1 + length name) attrs h.inner tail h.attributes (no_attribute h.white (close ++ back) h.white_inner closing);
-      closed = white_again h.white (close ++ back) h.white_inner closing.0;
+      named = ap name_at is ∙ name_again name (h.inner ++ tail) h.named (inner_stops _ attrs h.inner h.white (close ++ suffix) h.attributes h.white_inner closing.1);
+      attributes = attributes_again (place + 1 + length name) attrs h.inner tail h.attributes (no_attribute h.white (close ++ suffix) h.white_inner closing);
+      closed = white_again h.white (close ++ suffix) h.white_inner closing.0;
     }
 
 -- a tag is read in one way
 pub one_tag_reading : (place : ℕ) (bytes name other tail after : List ℕ) (attrs others : List Attribute) → ReadsTag place bytes name attrs tail → ReadsTag place bytes other others after → (name ≡ other) × (attrs ≡ others) × (tail ≡ after)
 one_tag_reading place bytes name other tail after attrs others h k =
-    let same = some_is (sym h.named ∙ k.named) in
+    let same = same_Some _ _ (sym h.named ∙ k.named) in
     let reads = subst (λ (p : List ℕ × List ℕ). ReadsAttributes (place + 1 + length p.0) p.1 attrs h.after) same h.attributes in
     let one = one_reading (place + 1 + length other) k.mid attrs others h.after k.after reads k.attributes in
     (ap (λ (p : List ℕ × List ℕ). p.0) same, one.0, sym h.closed ∙ ap after_white one.1 ∙ k.closed)
 
-closes : (is_empty : Bool) (back : List ℕ) → Closing (close_of is_empty ++ back)
-closes true back = (refl, refl)
-closes false back = (refl, refl)
+closes : (is_empty : Bool) (suffix : List ℕ) → Closing (close_of is_empty ++ suffix)
+closes true suffix = (refl, refl)
+closes false suffix = (refl, refl)
 
 -- a unit that is a start tag or an empty tag, as it is read
-pub record AsTag (place : ℕ) (k : Kind) (bytes back : List ℕ) : Type 0 where
+pub record AsTag (place : ℕ) (k : Kind) (bytes suffix : List ℕ) : Type 0 where
   pub is_empty : Bool
   pub name : List ℕ
   pub attrs : List Attribute
   pub is : k ≡ tag_of is_empty name attrs
-  pub reads : ReadsTag place bytes name attrs (close_of is_empty ++ back)
+  pub reads : ReadsTag place bytes name attrs (close_of is_empty ++ suffix)
 
-pub as_tag : (place : ℕ) (k : Kind) (bytes front back : List ℕ) → lead_of k ≡ opening → 60 ∷ bytes ≡ front ++ back → SpelledKind place k front → AsTag place k bytes back
-as_tag place (start_tag name attrs) bytes front back opens e h = record { is_empty = false; name = name; attrs = attrs; is = refl; reads = tag_again place bytes name (close_of false) front back attrs e h (closes false back) }
-as_tag place (empty_tag name attrs) bytes front back opens e h = record { is_empty = true; name = name; attrs = attrs; is = refl; reads = tag_again place bytes name (close_of true) front back attrs e h (closes true back) }
-as_tag place k bytes front back opens e h = absurd cc
+pub as_tag : (place : ℕ) (k : Kind) (bytes prefix suffix : List ℕ) → lead_of k ≡ opening → 60 ∷ bytes ≡ prefix ++ suffix → SpelledKind place k prefix → AsTag place k bytes suffix
+as_tag place (start_tag name attrs) bytes prefix suffix opens e h = record { is_empty = false; name = name; attrs = attrs; is = refl; reads = tag_again place bytes name (close_of false) prefix suffix attrs e h (closes false suffix) }
+as_tag place (empty_tag name attrs) bytes prefix suffix opens e h = record { is_empty = true; name = name; attrs = attrs; is = refl; reads = tag_again place bytes name (close_of true) prefix suffix attrs e h (closes true suffix) }
+as_tag place k bytes prefix suffix opens e h = absurd cc
 
-tag_spelled : (place : ℕ) (is_empty : Bool) (name front : List ℕ) (attrs : List Attribute) → SpelledTag place name attrs (close_of is_empty) front → SpelledKind place (tag_of is_empty name attrs) front
-tag_spelled place true name front attrs h = h
-tag_spelled place false name front attrs h = h
+tag_spelled : (place : ℕ) (is_empty : Bool) (name prefix : List ℕ) (attrs : List Attribute) → SpelledTag place name attrs (close_of is_empty) prefix → SpelledKind place (tag_of is_empty name attrs) prefix
+tag_spelled place true name prefix attrs h = h
+tag_spelled place false name prefix attrs h = h
 
 tag_ends : (is_empty : Bool) (name rest : List ℕ) (attrs : List Attribute) → Ends (tag_of is_empty name attrs) rest
 tag_ends true name rest attrs = tt
 tag_ends false name rest attrs = tt
 
 pub tag_finds : (place : ℕ) (is_empty : Bool) (bytes name rest : List ℕ) (attrs : List Attribute) → ReadsTag place bytes name attrs (close_of is_empty ++ rest)
-    → Finds place (60 ∷ bytes) (record { start = place; end = place + (length bytes + 1 - length rest); kind = tag_of is_empty name attrs }) rest
+    → FindsUnit place (60 ∷ bytes) (record { start = place; end = place + (length bytes + 1 - length rest); kind = tag_of is_empty name attrs }) rest
 tag_finds place is_empty bytes name rest attrs h =
     let t = tag_takes place bytes name (close_of is_empty) rest attrs h in
     rw add-one (spelled_finds place (60 ∷ bytes) t.0 rest (tag_of is_empty name attrs) t.1 (tag_spelled place is_empty name t.0 attrs t.2) (tag_ends is_empty name rest attrs))
 
 -- where no other unit begins, none does where no tag is read
 pub no_tag_stops : (place : ℕ) (bytes : List ℕ) → lead (60 ∷ bytes) ≡ opening → ((is_empty : Bool) (name rest : List ℕ) (attrs : List Attribute) → ReadsTag place bytes name attrs (close_of is_empty ++ rest) → ⊥) → Stops place (60 ∷ bytes)
-no_tag_stops place bytes opens none u front back e h =
-    let t = as_tag place u.kind bytes front back (sym (leads place u.kind front back h.kind) ∙ ap lead (sym e) ∙ opens) e h.kind in
-    none t.is_empty t.name back t.attrs t.reads
+no_tag_stops place bytes opens none u prefix suffix e h =
+    let t = as_tag place u.kind bytes prefix suffix (sym (leads place u.kind prefix suffix h.kind) ∙ ap lead (sym e) ∙ opens) e h.kind in
+    none t.is_empty t.name suffix t.attrs t.reads
 
 pub no_name_stops : (place : ℕ) (bytes : List ℕ) → lead (60 ∷ bytes) ≡ opening → name_at bytes ≡ None → Stops place (60 ∷ bytes)
 no_name_stops place bytes opens nothing = no_tag_stops place bytes opens (λ is_empty name rest attrs reads. cc (sym nothing ∙ reads.named))
@@ -189,53 +190,53 @@ no_name_stops place bytes opens nothing = no_tag_stops place bytes opens (λ is_
 pub no_close_stops : (place : ℕ) (bytes name tail : List ℕ) (attrs : List Attribute) → lead (60 ∷ bytes) ≡ opening → ReadsTag place bytes name attrs tail → ((is_empty : Bool) (rest : List ℕ) → tail ≢ close_of is_empty ++ rest) → Stops place (60 ∷ bytes)
 no_close_stops place bytes name tail attrs opens h none = no_tag_stops place bytes opens (λ is_empty other rest others reads. none is_empty rest (one_tag_reading place bytes name other tail (close_of is_empty ++ rest) attrs others h reads).2)
 
--- ---- an end tag behind its `</`
+-- ---- an end tag after its `</`
 
--- its name, and what follows the white space and the `>` behind it
+-- its name, and what follows the white space and the `>` after it
 pub record ReadsEndTag (bytes name rest : List ℕ) : Type 0 where
   pub mid : List ℕ
   pub named : name_at bytes ≡ Some (name, mid)
   pub closed : after_white mid ≡ 62 ∷ rest
 
 -- the parts of an end tag, and what follows it
-pub end_tag_parts : (front back name white : List ℕ) → front ≡ 60 ∷ 47 ∷ name ++ white ++ 62 ∷ [] → front ++ back ≡ 60 ∷ 47 ∷ (name ++ (white ++ 62 ∷ back))
-end_tag_parts front back name white e = ap (λ (x : List ℕ). x ++ back) e ∙ simp append_assoc
+pub end_tag_parts : (prefix suffix name white : List ℕ) → prefix ≡ 60 ∷ 47 ∷ name ++ white ++ 62 ∷ [] → prefix ++ suffix ≡ 60 ∷ 47 ∷ (name ++ (white ++ 62 ∷ suffix))
+end_tag_parts prefix suffix name white e = ap (λ (x : List ℕ). x ++ suffix) e ∙ simp append_assoc
 
-pub end_tag_again : (place : ℕ) (bytes name front back : List ℕ) → 60 ∷ 47 ∷ bytes ≡ front ++ back → SpelledKind place (end_tag name) front → ReadsEndTag bytes name back
-end_tag_again place bytes name front back e h =
-    let is : bytes ≡ name ++ (h.0 ++ 62 ∷ back) = cc (e ∙ end_tag_parts front back name h.0 h.1) in
-    record { mid = h.0 ++ 62 ∷ back; named = ap name_at is ∙ name_again name (h.0 ++ 62 ∷ back) h.2 (white_stops h.0 (62 ∷ back) h.3 refl); closed = white_again h.0 (62 ∷ back) h.3 refl }
+pub end_tag_again : (place : ℕ) (bytes name prefix suffix : List ℕ) → 60 ∷ 47 ∷ bytes ≡ prefix ++ suffix → SpelledKind place (end_tag name) prefix → ReadsEndTag bytes name suffix
+end_tag_again place bytes name prefix suffix e h =
+    let is : bytes ≡ name ++ (h.0 ++ 62 ∷ suffix) = cc (e ∙ end_tag_parts prefix suffix name h.0 h.1) in
+    record { mid = h.0 ++ 62 ∷ suffix; named = ap name_at is ∙ name_again name (h.0 ++ 62 ∷ suffix) h.2 (white_stops h.0 (62 ∷ suffix) h.3 refl); closed = white_again h.0 (62 ∷ suffix) h.3 refl }
 
 -- an end tag is read in one way
 pub one_end_tag_reading : (bytes name other rest after : List ℕ) → ReadsEndTag bytes name rest → ReadsEndTag bytes other after → (name ≡ other) × (rest ≡ after)
 one_end_tag_reading bytes name other rest after h k =
-    let same = some_is (sym h.named ∙ k.named) in
+    let same = same_Some _ _ (sym h.named ∙ k.named) in
     (ap (λ (p : List ℕ × List ℕ). p.0) same, cc (sym h.closed ∙ ap (λ (p : List ℕ × List ℕ). after_white p.1) same ∙ k.closed))
 
-pub end_tag_finds : (place : ℕ) (bytes name rest : List ℕ) → ReadsEndTag bytes name rest → Finds place (60 ∷ 47 ∷ bytes) (record { start = place; end = place + (length bytes + 2 - length rest); kind = end_tag name }) rest
+pub end_tag_finds : (place : ℕ) (bytes name rest : List ℕ) → ReadsEndTag bytes name rest → FindsUnit place (60 ∷ 47 ∷ bytes) (record { start = place; end = place + (length bytes + 2 - length rest); kind = end_tag name }) rest
 end_tag_finds place bytes name rest h =
     let n = name_takes bytes name h.mid h.named in
     let white = white_takes h.mid in
-    let front = 60 ∷ 47 ∷ name ++ white.0 ++ 62 ∷ [] in
+    let prefix = 60 ∷ 47 ∷ name ++ white.0 ++ 62 ∷ [] in
     let whole : 60 ∷ 47 ∷ bytes ≡ 60 ∷ 47 ∷ (name ++ (white.0 ++ 62 ∷ rest)) = ap (λ (x : List ℕ). 60 ∷ 47 ∷ x) (n.0 ∙ ap (λ (x : List ℕ). name ++ x) (white.1 ∙ ap (λ (x : List ℕ). white.0 ++ x) h.closed)) in
     let two : length (60 ∷ 47 ∷ bytes) ≡ length bytes + 2 = omega arith in
-    subst (λ (n : ℕ). Finds place (60 ∷ 47 ∷ bytes) (record { start = place; end = place + (n - length rest); kind = end_tag name }) rest) two
-    (spelled_finds place (60 ∷ 47 ∷ bytes) front rest (end_tag name) (whole ∙ sym (end_tag_parts front rest name white.0 refl)) (white.0, refl, n.1, white.2) tt)
+    subst (λ (n : ℕ). FindsUnit place (60 ∷ 47 ∷ bytes) (record { start = place; end = place + (n - length rest); kind = end_tag name }) rest) two
+    (spelled_finds place (60 ∷ 47 ∷ bytes) prefix rest (end_tag name) (whole ∙ sym (end_tag_parts prefix rest name white.0 refl)) (white.0, refl, n.1, white.2) tt)
 
-end_tag_is : (place : ℕ) (k : Kind) (bytes front back : List ℕ) → lead_of k ≡ ending → 60 ∷ 47 ∷ bytes ≡ front ++ back → SpelledKind place k front → (name : List ℕ) × ReadsEndTag bytes name back
-end_tag_is place (end_tag name) bytes front back ends e h = (name, end_tag_again place bytes name front back e h)
-end_tag_is place k bytes front back ends e h = absurd cc
+end_tag_is : (place : ℕ) (k : Kind) (bytes prefix suffix : List ℕ) → lead_of k ≡ ending → 60 ∷ 47 ∷ bytes ≡ prefix ++ suffix → SpelledKind place k prefix → (name : List ℕ) × ReadsEndTag bytes name suffix
+end_tag_is place (end_tag name) bytes prefix suffix ends e h = (name, end_tag_again place bytes name prefix suffix e h)
+end_tag_is place k bytes prefix suffix ends e h = absurd cc
 
--- behind `</` no unit begins where no end tag is read
+-- after `</` no unit begins where no end tag is read
 pub no_end_tag_stops : (place : ℕ) (bytes : List ℕ) → ((name rest : List ℕ) → ReadsEndTag bytes name rest → ⊥) → Stops place (60 ∷ 47 ∷ bytes)
-no_end_tag_stops place bytes none u front back e h =
-    let t = end_tag_is place u.kind bytes front back (sym (leads place u.kind front back h.kind) ∙ ap lead (sym e)) e h.kind in
-    none t.0 back t.1
+no_end_tag_stops place bytes none u prefix suffix e h =
+    let t = end_tag_is place u.kind bytes prefix suffix (sym (leads place u.kind prefix suffix h.kind) ∙ ap lead (sym e)) e h.kind in
+    none t.0 suffix t.1
 
 pub no_name_end_stops : (place : ℕ) (bytes : List ℕ) → name_at bytes ≡ None → Stops place (60 ∷ 47 ∷ bytes)
 no_name_end_stops place bytes nothing = no_end_tag_stops place bytes (λ name rest reads. cc (sym nothing ∙ reads.named))
 
 pub no_close_end_stops : (place : ℕ) (bytes name mid : List ℕ) → name_at bytes ≡ Some (name, mid) → after_byte 62 (after_white mid) ≡ None → Stops place (60 ∷ 47 ∷ bytes)
 no_close_end_stops place bytes name mid named none = no_end_tag_stops place bytes (λ other rest reads.
-    let same : mid ≡ reads.mid = ap (λ (p : List ℕ × List ℕ). p.1) (some_is (sym named ∙ reads.named)) in
+    let same : mid ≡ reads.mid = ap (λ (p : List ℕ × List ℕ). p.1) (same_Some _ _ (sym named ∙ reads.named)) in
     cc (sym none ∙ ap (λ (x : List ℕ). after_byte 62 (after_white x)) same ∙ ap (after_byte 62) reads.closed))

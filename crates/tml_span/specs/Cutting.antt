@@ -11,16 +11,16 @@ Ends kind rest = Unit {0}
 
 -- no unit begins there
 abbrev pub Stops : ℕ → List ℕ → Type 0
-Stops place rest = (u : PlainUnit) (front back : List ℕ) → rest ≡ front ++ back → Spelled place u front → ⊥
+Stops place rest = (u : PlainUnit) (prefix suffix : List ℕ) → rest ≡ prefix ++ suffix → Spelled place u prefix → ⊥
 
--- a unit stands at the front, and the rest follows it
-abbrev pub Finds : ℕ → List ℕ → PlainUnit → List ℕ → Type 0
-Finds place bytes u rest = (front : List ℕ) × (bytes ≡ front ++ rest) × Spelled place u front × Ends u.kind rest
+-- the bytes begin with this unit, and the rest follows it
+abbrev pub FindsUnit : ℕ → List ℕ → PlainUnit → List ℕ → Type 0
+FindsUnit place bytes u rest = (prefix : List ℕ) × (bytes ≡ prefix ++ rest) × Spelled place u prefix × Ends u.kind rest
 
 -- from a place on, the bytes are these units and then a rest with which no unit begins
 abbrev pub CutsFrom : ℕ → List ℕ → List PlainUnit → List ℕ → Type 0
 CutsFrom place bytes [] rest = (bytes ≡ rest) × Stops place rest
-CutsFrom place bytes (u ∷ units) rest = (front : List ℕ) × (back : List ℕ) × (bytes ≡ front ++ back) × Spelled place u front × Ends u.kind back × CutsFrom (place + length front) back units rest
+CutsFrom place bytes (u ∷ units) rest = (prefix : List ℕ) × (suffix : List ℕ) × (bytes ≡ prefix ++ suffix) × Spelled place u prefix × Ends u.kind suffix × CutsFrom (place + length prefix) suffix units rest
 
 -- The cut of a source: its units, and the rest with which no unit begins.
 abbrev pub Cuts : List ℕ → List PlainUnit → List ℕ → Type 0

@@ -1,6 +1,8 @@
 -- Why a source is not cut into units whole.
-use Rattle.std.specs.Prelude.{◌≡◌, ◌≢◌, ℕ, ◌+◌, List, [], length, IsUtf8, ⊤}
+use Rattle.std.specs.Prelude.{◌≡◌, ◌≢◌, ℕ, ◌+◌, List, [], length, IsUtf8, Option, Some, None, IfSome}
 use Rattle.std.specs.Str.{IsValidUpTo}
+use Rattle.faults.specs.declared.kind.FaultKind.{FaultKind}
+use Rattle.faults.specs.declared.kind.FaultKind.TheVariants as fault
 use Rattle.tml_span.specs.declared.reader.Cut.{Cut}
 use Rattle.tml_span.specs.declared.reader.Cut.TheVariants.{NotUtf8, BadReference, BadMarkup, Memory}
 use Rattle.tml_span.specs.Units.{PlainUnit}
@@ -8,29 +10,40 @@ use Rattle.tml_span.specs.Cutting.{Cuts}
 use Rattle.tml_span.specs.References.{IsBad, IsFirst, IsNowhere}
 use Rattle.tml_span.specs.Whole.{IsWhole}
 
--- a fault, with its place
-pub data SourceFault : Type 0 where
-  not_utf8 : ℕ → SourceFault
-  bad_reference : ℕ → SourceFault
-  bad_markup : ℕ → SourceFault
+-- the source is not UTF-8, and its longest valid prefix has this length
+abbrev pub IsNotUtf8 : List ℕ → ℕ → Type 0
+IsNotUtf8 source place = ¬ (IsUtf8 source) × IsValidUpTo source place
 
--- The fault of a source. It is not UTF-8, and the place is the length of its longest valid front. Or a reference in the units of its cut is bad, and the place is the first one. Or none is and the cut has a rest, and the place is where that begins.
-abbrev pub CutFault : List ℕ → SourceFault → Type 0
-CutFault source (not_utf8 place) = ¬ (IsUtf8 source) × IsValidUpTo source place
-CutFault source (bad_reference place) = IsUtf8 source × (units : List PlainUnit) × (rest : List ℕ) × Cuts source units rest × IsFirst (IsBad units) place
-CutFault source (bad_markup place) = IsUtf8 source × (units : List PlainUnit) × (rest : List ℕ) × Cuts source units rest × IsNowhere (IsBad units) × (rest ≢ []) × (place + length rest ≡ length source)
+-- the first bad reference in the units of the cut is here
+abbrev pub HasBadReference : List ℕ → ℕ → Type 0
+HasBadReference source place = IsUtf8 source × (units : List PlainUnit) × (rest : List ℕ) × Cuts source units rest × IsFirst (IsBad units) place
 
--- what a refusal says of the source; want of memory says nothing
+-- no reference in the units of the cut is bad, but the cut has a rest, which begins here
+abbrev pub HasBadMarkup : List ℕ → ℕ → Type 0
+HasBadMarkup source place = IsUtf8 source × (units : List PlainUnit) × (rest : List ℕ) × Cuts source units rest × IsNowhere (IsBad units) × (rest ≢ []) × (place + length rest ≡ length source)
+
+-- the fault of a source; the other kinds are not those of a cut
+abbrev pub CutFault : List ℕ → ℕ → FaultKind → Type 0
+CutFault source place fault.NotUtf8 = IsNotUtf8 source place
+CutFault source place fault.BadReference = HasBadReference source place
+CutFault source place fault.BadMarkup = HasBadMarkup source place
+CutFault source place kind = ⊥
+
+-- the kind of a fault and its place; none where it is that memory ran out
+abbrev pub kind_and_place : Cut → Option (FaultKind × ℕ)
+kind_and_place (NotUtf8 place) = Some (fault.NotUtf8, place)
+kind_and_place (BadReference place) = Some (fault.BadReference, place)
+kind_and_place (BadMarkup place) = Some (fault.BadMarkup, place)
+kind_and_place Memory = None
+
+-- what a refusal says of the source
 abbrev pub HasFault : List ℕ → Cut → Type 0
-HasFault source (NotUtf8 place) = CutFault source (not_utf8 place)
-HasFault source (BadReference place) = CutFault source (bad_reference place)
-HasFault source (BadMarkup place) = CutFault source (bad_markup place)
-HasFault source Memory = ⊤
+HasFault source cut = IfSome (kind_and_place cut) (λ f. CutFault source f.1 f.0)
 
 -- a source has one fault at most, and none where it is cut whole
 pub record OneFault (source : List ℕ) : Type 0 where
-  pub whole_or_fault : (units : List PlainUnit) (fault : SourceFault) → IsWhole (record { source = source; units = units }) → CutFault source fault → ⊥
-  pub one_fault : (fault other : SourceFault) → CutFault source fault → CutFault source other → fault ≡ other
+  pub whole_or_fault : (units : List PlainUnit) (place : ℕ) (kind : FaultKind) → IsWhole (record { source = source; units = units }) → CutFault source place kind → ⊥
+  pub one_fault : (place other : ℕ) (kind same : FaultKind) → CutFault source place kind → CutFault source other same → (place ≡ other) × (kind ≡ same)
 
 abbrev pub OneFaults : Type 0
 OneFaults = (source : List ℕ) → OneFault source

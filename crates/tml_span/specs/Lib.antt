@@ -8,3 +8,4 @@ pub mod View
 pub mod Whole
 pub mod Reader
 pub mod Reading
+pub mod Checking

@@ -1,14 +1,14 @@
 -- Reading one unit from left to right.
-use Rattle.std.specs.Prelude.{◌≡◌, ℕ, ◌+◌, ◌-◌, Bool, ◌==◌, List, [], ◌∷◌, length, take, drop, Option, Some, None, option_and_then, if◌then◌else◌}
+use Rattle.std.specs.Prelude.{◌≡◌, ℕ, ◌+◌, ◌-◌, Bool, ◌==◌, List, [], ◌∷◌, length, take, drop, Option, Some, None, option_and_then, codes, if◌then◌else◌}
 use Rattle.std.specs.List.{prefix_len}
-use Rattle.tml_span.specs.Bytes.{is_white, is_name_start, is_name_byte, is_quote, is_value_byte}
+use Rattle.tml_span.specs.Bytes.{byte, is_white, is_name_start, is_name_byte, is_quote, is_value_byte}
 use Rattle.tml_span.specs.Units.{Attribute}
 
 infixl 10 ◌>>=◌
 abbrev pub ◌>>=◌ : {A B : Type 0} → Option A → (A → Option B) → Option B
 o >>= f = option_and_then f o
 
--- the longest front that passes, and what follows it
+-- the longest prefix that passes, and what follows it
 abbrev pub run_at : (ℕ → Bool) → List ℕ → List ℕ × List ℕ
 run_at p bytes = (take (prefix_len p bytes) bytes, drop (prefix_len p bytes) bytes)
 
@@ -36,11 +36,11 @@ value_at bytes = do
   rest ← after_byte quote.0 (run_at (is_value_byte quote.0) quote.1).1
   Some (quote.0, (run_at (is_value_byte quote.0) quote.1).0, rest)
 
--- an attribute behind white space, of which there is some
+-- an attribute after white space, of which there is some
 unfoldable pub attribute_at : ℕ → List ℕ → Option (Attribute × List ℕ)
 attribute_at place bytes = if prefix_len is_white bytes == 0 then None else do
   name ← name_at (after_white bytes)
-  right ← after_byte 61 (after_white name.1)
+  right ← after_byte (byte (codes "=")) (after_white name.1)
   value ← value_at (after_white right)
   Some (record { start = place + prefix_len is_white bytes; end = place + (length bytes - length value.2); name = name.0; value = value.1; quote = value.0 }, value.2)
 

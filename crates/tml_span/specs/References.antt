@@ -1,7 +1,7 @@
 -- References, and where one is bad.
-use Rattle.std.specs.Prelude.{◌≡◌, ◌⊎◌, ℕ, ◌+◌, ◌-◌, ◌<◌, ◌≤◌, true, List, [], ◌∷◌, ◌++◌, length, codes, Contains, map}
+use Rattle.std.specs.Prelude.{◌≡◌, ◌⊎◌, ℕ, ◌+◌, ◌-◌, ◌<◌, ◌≤◌, true, List, [], ◌∷◌, ◌++◌, length, codes, Contains, map, Option, Some, MatchOption, slice_get}
 use Rattle.std.specs.List.{list_all, AllByRecursion}
-use Rattle.tml_span.specs.Bytes.{is_digit, is_hex_digit}
+use Rattle.tml_span.specs.Bytes.{byte, is_digit, is_hex_digit}
 use Rattle.tml_span.specs.Units.{Attribute, Kind, text, start_tag, empty_tag, PlainUnit}
 
 -- `&lt;`, `&gt;`, `&amp;`, `&quot;` and `&apos;`
@@ -27,23 +27,31 @@ pub record IsHexReference (bytes : List ℕ) : Type 0 where
 abbrev pub IsReference : List ℕ → Type 0
 IsReference bytes = Contains named_references bytes ⊎ IsDecimalReference bytes ⊎ IsHexReference bytes
 
--- a reference stands at the front of the bytes
+-- a prefix of the bytes is so
+abbrev pub Begins : (List ℕ → Type 0) → List ℕ → Type 0
+Begins Is bytes = (prefix : List ℕ) × (suffix : List ℕ) × (bytes ≡ prefix ++ suffix) × Is prefix
+
+-- the bytes begin with a reference
 abbrev pub BeginsReference : List ℕ → Type 0
-BeginsReference bytes = (front : List ℕ) × (back : List ℕ) × (bytes ≡ front ++ back) × IsReference front
+BeginsReference bytes = Begins IsReference bytes
 
--- at an index of the bytes stands an `&` with which no reference begins
+-- after so many digits, of which there are some and at most so many, is a `;`
+abbrev pub IsClosed : ℕ → ℕ → List ℕ → Type 0
+IsClosed digits most bytes = (1 ≤ digits) × (digits ≤ most) × (slice_get bytes digits ≡ Some (byte (codes ";")))
+
+-- at an index of the bytes is an `&` with which no reference begins
 pub record IsBadAt (bytes : List ℕ) (index : ℕ) : Type 0 where
-  pub front : List ℕ
-  pub back : List ℕ
-  pub whole : bytes ≡ front ++ 38 ∷ back
-  pub index_is : index ≡ length front
-  pub bad : BeginsReference (38 ∷ back) → ⊥
+  pub prefix : List ℕ
+  pub suffix : List ℕ
+  pub whole : bytes ≡ prefix ++ (codes "&" ++ suffix)
+  pub index_is : index ≡ length prefix
+  pub bad : BeginsReference (codes "&" ++ suffix) → ⊥
 
--- bytes in which references stand, with their place
+-- bytes that may hold references, with their place
 abbrev pub Piece : Type 0
 Piece = ℕ × List ℕ
 
--- the value of an attribute stands before its closing quote
+-- the value of an attribute ends before its closing quote
 abbrev pub value_piece : Attribute → Piece
 value_piece a = (a.end - 1 - length a.value, a.value)
 
@@ -53,11 +61,11 @@ kind_pieces start (start_tag name attrs) = map value_piece attrs
 kind_pieces start (empty_tag name attrs) = map value_piece attrs
 kind_pieces start kind = []
 
--- references stand in a text, and in the values of attributes
+-- references are in a text, and in the values of attributes
 abbrev pub pieces_of : PlainUnit → List Piece
 pieces_of u = kind_pieces u.start u.kind
 
--- at a place in one of the pieces stands an `&` with which no reference begins
+-- at a place in one of the pieces is an `&` with which no reference begins
 abbrev pub IsBadIn : List Piece → ℕ → Type 0
 IsBadIn [] place = ⊥
 IsBadIn (piece ∷ pieces) place = ((index : ℕ) × IsBadAt piece.1 index × (place ≡ piece.0 + index)) ⊎ IsBadIn pieces place
@@ -75,12 +83,16 @@ IsFirst Bad place = Bad place × ((other : ℕ) → Bad other → place ≤ othe
 abbrev pub IsNowhere : (ℕ → Type 0) → Type 0
 IsNowhere Bad = (place : ℕ) → Bad place → ⊥
 
--- the pieces stand one behind another, from a place up to another
+-- the first bad place in these pieces, or none where none is bad
+abbrev pub FirstBadIn : List Piece → Option ℕ → Type 0
+FirstBadIn pieces bad = MatchOption bad (IsNowhere (IsBadIn pieces)) (IsFirst (IsBadIn pieces))
+
+-- the pieces follow each other, from a place up to another
 abbrev pub Follows : ℕ → List Piece → ℕ → Type 0
 Follows low [] high = low ≤ high
 Follows low (piece ∷ pieces) high = (low ≤ piece.0) × Follows (piece.0 + length piece.1) pieces high
 
--- a value stands before the end of its attribute
+-- a value ends before its attribute does
 abbrev pub IsWithin : Attribute → Type 0
 IsWithin a = length a.value < a.end
 
@@ -89,7 +101,7 @@ kind_attributes (start_tag name attrs) = attrs
 kind_attributes (empty_tag name attrs) = attrs
 kind_attributes kind = []
 
--- the pieces of a unit stand in order within its span
+-- the pieces of a unit are in order within its span
 pub record IsPlaced (u : PlainUnit) : Type 0 where
   pub follows : Follows u.start (pieces_of u) u.end
   pub within : AllByRecursion IsWithin (kind_attributes u.kind)

@@ -28,12 +28,12 @@ pub record PlainUnit : Type 0 where
   pub end : ℕ
   pub kind : Kind
 
--- At a place stands an attribute: one or more white space, a name, `=` with white space about it, and a value between two quotes.
+-- An attribute at a place: one or more white space, a name, `=` with white space about it, and a value between two quotes.
 pub record SpelledAttribute (place : ℕ) (a : Attribute) (bytes : List ℕ) : Type 0 where
   pub before : List ℕ
   pub left : List ℕ
   pub right : List ℕ
-  pub whole : bytes ≡ before ++ a.name ++ left ++ 61 ∷ right ++ a.quote ∷ a.value ++ a.quote ∷ []
+  pub whole : bytes ≡ before ++ a.name ++ left ++ (codes "=" ++ right) ++ a.quote ∷ a.value ++ a.quote ∷ []
   pub white_before : list_all is_white before ≡ true
   pub white_left : list_all is_white left ≡ true
   pub white_right : list_all is_white right ≡ true
@@ -44,31 +44,35 @@ pub record SpelledAttribute (place : ℕ) (a : Attribute) (bytes : List ℕ) : T
   pub start : a.start ≡ place + length before
   pub end : a.end ≡ place + length bytes
 
--- attributes one behind another
+-- attributes that follow each other
 abbrev pub SpelledAttributes : ℕ → List Attribute → List ℕ → Type 0
 SpelledAttributes place [] bytes = bytes ≡ []
-SpelledAttributes place (a ∷ attrs) bytes = (front : List ℕ) × (back : List ℕ) × (bytes ≡ front ++ back) × SpelledAttribute place a front × SpelledAttributes (place + length front) attrs back
+SpelledAttributes place (a ∷ attrs) bytes = (prefix : List ℕ) × (suffix : List ℕ) × (bytes ≡ prefix ++ suffix) × SpelledAttribute place a prefix × SpelledAttributes (place + length prefix) attrs suffix
 
--- A tag that stands at a place: `<`, a name, attributes, white space, and `>` or `/>`.
+-- A tag at a place: `<`, a name, attributes, white space, and `>` or `/>`.
 pub record SpelledTag (place : ℕ) (name : List ℕ) (attrs : List Attribute) (close spelling : List ℕ) : Type 0 where
   pub inner : List ℕ
   pub white : List ℕ
-  pub whole : spelling ≡ 60 ∷ name ++ inner ++ white ++ close
+  pub whole : spelling ≡ codes "<" ++ name ++ inner ++ white ++ close
   pub named : is_name name ≡ true
   pub attributes : SpelledAttributes (place + 1 + length name) attrs inner
   pub white_inner : list_all is_white white ≡ true
 
 -- the bytes EF BB BF
 abbrev pub bom_bytes : List ℕ
-bom_bytes = 239 ∷ 187 ∷ 191 ∷ []
+bom_bytes = 0xEF ∷ 0xBB ∷ 0xBF ∷ []
 
 -- no part of the bytes is this piece
 abbrev pub Lacks : List ℕ → List ℕ → Type 0
-Lacks piece bytes = (front back : List ℕ) → bytes ≢ front ++ piece ++ back
+Lacks piece bytes = (prefix suffix : List ℕ) → bytes ≢ prefix ++ piece ++ suffix
 
 -- the bytes begin with this piece
 abbrev pub BeginsWith : List ℕ → List ℕ → Type 0
-BeginsWith piece bytes = (back : List ℕ) × (bytes ≡ piece ++ back)
+BeginsWith piece bytes = (suffix : List ℕ) × (bytes ≡ piece ++ suffix)
+
+-- the bytes begin with this word and one white space
+abbrev pub BeginsWithWord : List ℕ → List ℕ → Type 0
+BeginsWithWord word bytes = (white : ℕ) × (suffix : List ℕ) × (bytes ≡ word ++ white ∷ suffix) × (is_white white ≡ true)
 
 -- How a kind of unit is spelled at a place: a Bom at place 0 alone, where no text begins with its bytes.
 abbrev pub SpelledKind : ℕ → Kind → List ℕ → Type 0
@@ -78,10 +82,10 @@ SpelledKind place (doctype bytes) spelling = (spelling ≡ bytes) × (white : �
 SpelledKind place (comment bytes) spelling = (spelling ≡ bytes) × (body : List ℕ) × (bytes ≡ codes "<!--" ++ body ++ codes "-->") × Lacks (codes "-->") body
 SpelledKind place (text bytes) spelling = (spelling ≡ bytes) × (bytes ≢ []) × (list_all is_text_byte bytes ≡ true) × (place ≡ 0 → BeginsWith bom_bytes bytes → ⊥)
 SpelledKind place (start_tag name attrs) spelling = SpelledTag place name attrs (codes ">") spelling
-SpelledKind place (end_tag name) spelling = (white : List ℕ) × (spelling ≡ 60 ∷ 47 ∷ name ++ white ++ 62 ∷ []) × (is_name name ≡ true) × (list_all is_white white ≡ true)
+SpelledKind place (end_tag name) spelling = (white : List ℕ) × (spelling ≡ codes "</" ++ name ++ white ++ codes ">") × (is_name name ≡ true) × (list_all is_white white ≡ true)
 SpelledKind place (empty_tag name attrs) spelling = SpelledTag place name attrs (codes "/>") spelling
 
--- a unit that stands at a place is spelled so
+-- a unit at a place is spelled so
 pub record Spelled (place : ℕ) (u : PlainUnit) (spelling : List ℕ) : Type 0 where
   pub kind : SpelledKind place u.kind spelling
   pub start : u.start ≡ place

@@ -1,5 +1,5 @@
 -- A source with all its units.
-use Rattle.std.specs.Prelude.{ℕ, List, [], IsUtf8}
+use Rattle.std.specs.Prelude.{ℕ, ◌<◌, ◌^◌, List, [], length, IsUtf8}
 use Rattle.tml_span.specs.Units.{PlainUnit}
 use Rattle.tml_span.specs.Cutting.{Cuts}
 use Rattle.tml_span.specs.References.{IsBad, IsNowhere}
@@ -11,3 +11,7 @@ pub record Cutting : Type 0 where
 -- the source has no fault, and these are all its units
 abbrev pub IsWhole : Cutting → Type 0
 IsWhole c = IsUtf8 c.source × Cuts c.source c.units [] × IsNowhere (IsBad c.units)
+
+-- the same of a source of fewer than 2^32 bytes
+abbrev pub IsSmallWhole : Cutting → Type 0
+IsSmallWhole c = (length c.source < 2 ^ 32) × IsWhole c

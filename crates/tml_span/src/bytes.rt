@@ -1,4 +1,4 @@
-//! Kinds of bytes, and how long the run of one kind is at the front.
+//! Kinds of bytes, and how long the run of one kind is at the start.
 ghost use Rattle.std.specs.Prelude.{◌≡◌, ◌≤◌, length};
 ghost use Rattle.std.specs.List.{prefix_len};
 ghost use Rattle.tml_span.specs.Bytes as kinds;

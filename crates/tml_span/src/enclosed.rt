@@ -3,15 +3,15 @@ ghost use Rattle.std.specs.Prelude.{true, false, ◌≡◌, ◌+◌, ◌<◌, �
 ghost use Rattle.std.specs.Bool.{Decides};
 ghost use Rattle.std.specs.List.{starts_with};
 ghost use Rattle.tml_span.specs.Bytes as kinds;
-ghost use Rattle.tml_span.specs.Cutting.{Stops, Finds};
-ghost use Rattle.tml_span.specs.Units.{Lacks};
-ghost use Rattle.tml_span.specs.View.{unit_of};
+ghost use Rattle.tml_span.specs.Cutting.{Stops, FindsUnit};
+ghost use Rattle.tml_span.specs.Units.{BeginsWithWord, Lacks};
+ghost use Rattle.tml_span.specs.View.{ReadsUnit};
 
 use crate::bytes::{doctype_len, is_white};
 use crate::{Span, Unit};
 use memchr::memmem;
 
-/// Splits the bytes past the first closing text that begins at or behind `opening`.
+/// Splits the bytes past the first closing text that begins at or after `opening`.
 fn split_past<'s>(bytes: &'s [u8], opening: usize, close: &[u8]) -> Option<(&'s [u8], &'s [u8])>
     requires within { opening ≤ length bytes.now }
     requires some { 0 < length close.now }
@@ -29,8 +29,8 @@ fn split_past<'s>(bytes: &'s [u8], opening: usize, close: &[u8]) -> Option<(&'s 
 /// A comment, whose first bytes are `<!--`, and what follows it.
 pub fn comment_at<'s>(place: u32, bytes: &'s [u8]) -> Option<(Unit<'s>, &'s [u8])>
     requires fits { place + length bytes.now < 2 ^ 32 }
-    requires front { starts_with nat_eq bytes.now (codes "<!--") ≡ true }
-    ensures unit { MatchOption result (Stops place bytes.now) (λ r. Finds place bytes.now (unit_of r.0) r.1.now) }
+    requires prefix { starts_with nat_eq bytes.now (codes "<!--") ≡ true }
+    ensures unit { ReadsUnit place bytes.now result }
     ensures shorter { IfSome result (λ r. length r.1.now < length bytes.now) }
 {
     let Some((text, rest)) = split_past(bytes, 4, b"-->") else {
@@ -43,9 +43,9 @@ pub fn comment_at<'s>(place: u32, bytes: &'s [u8]) -> Option<(Unit<'s>, &'s [u8]
     Some((Unit::Comment { span, text }, rest))
 }
 
-/// Whether a word and one white space stand at the front.
+/// Whether the bytes begin with a word and one white space.
 fn begins_with_word(bytes: &[u8], word: &[u8]) -> bool
-    ensures { Decides result ((white : ℕ) × (back : List ℕ) × (bytes.now ≡ word.now ++ white ∷ back) × (kinds.is_white white ≡ true)) }
+    ensures { Decides result (BeginsWithWord word.now bytes.now) }
 {
     let Some(rest) = bytes.strip_prefix(word) else {
         return false;
@@ -59,8 +59,8 @@ fn begins_with_word(bytes: &[u8], word: &[u8]) -> bool
 /// A declaration, whose first bytes are `<?`, and what follows it.
 pub fn declaration_at<'s>(place: u32, bytes: &'s [u8]) -> Option<(Unit<'s>, &'s [u8])>
     requires fits { place + length bytes.now < 2 ^ 32 }
-    requires front { starts_with nat_eq bytes.now (codes "<?") ≡ true }
-    ensures unit { MatchOption result (Stops place bytes.now) (λ r. Finds place bytes.now (unit_of r.0) r.1.now) }
+    requires prefix { starts_with nat_eq bytes.now (codes "<?") ≡ true }
+    ensures unit { ReadsUnit place bytes.now result }
     ensures shorter { IfSome result (λ r. length r.1.now < length bytes.now) }
 {
     if !begins_with_word(bytes, b"<?xml") {
@@ -79,9 +79,9 @@ pub fn declaration_at<'s>(place: u32, bytes: &'s [u8]) -> Option<(Unit<'s>, &'s 
 /// A doctype, whose first bytes are `<!` but not `<!--`, and what follows it.
 pub fn doctype_at<'s>(place: u32, bytes: &'s [u8]) -> Option<(Unit<'s>, &'s [u8])>
     requires fits { place + length bytes.now < 2 ^ 32 }
-    requires front { starts_with nat_eq bytes.now (codes "<!") ≡ true }
+    requires prefix { starts_with nat_eq bytes.now (codes "<!") ≡ true }
     requires other { starts_with nat_eq bytes.now (codes "<!--") ≡ false }
-    ensures unit { MatchOption result (Stops place bytes.now) (λ r. Finds place bytes.now (unit_of r.0) r.1.now) }
+    ensures unit { ReadsUnit place bytes.now result }
     ensures shorter { IfSome result (λ r. length r.1.now < length bytes.now) }
 {
     if !begins_with_word(bytes, b"<!DOCTYPE") {

@@ -1,7 +1,7 @@
 //! Laws of the cut: public functions that do nothing, each with the law as its contract.
 ghost use Rattle.tml_span.specs.Cutting.{EveryCut, OneCut};
 ghost use Rattle.tml_span.specs.Faults.{OneFaults};
-ghost use Rattle.tml_span.specs.Slices.{SlicesStand};
+ghost use Rattle.tml_span.specs.Slices.{SlicesAreInSource};
 
 /// Every source has a cut.
 pub fn every_cut()
@@ -19,6 +19,6 @@ pub fn one_fault()
 {}
 
 /// Each slice of a unit is the source at its place.
-pub fn slices_stand()
-    ensures { SlicesStand }
+pub fn slices_are_in_source()
+    ensures { SlicesAreInSource }
 {}

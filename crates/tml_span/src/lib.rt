@@ -2,6 +2,7 @@
 #![tactic(auto)]
 
 mod bytes;
+mod check;
 mod enclosed;
 mod laws;
 mod list;
@@ -12,8 +13,9 @@ mod tags;
 mod unit;
 mod unit_list;
 
-pub use laws::{every_cut, one_cut, one_fault, slices_stand};
+pub use bytes::is_white;
+pub use laws::{every_cut, one_cut, one_fault, slices_are_in_source};
 pub use list::{List, Memory};
-pub use reader::{Cut, UnitReader};
+pub use reader::{Cut, MarkupFault, NotUtf8, UnitReader};
 pub use unit::{Attr, Quote, Span, Unit};
 pub use unit_list::{UnitList, units};

@@ -1,27 +1,69 @@
 //! The units of a source, one by one.
-ghost use Rattle.std.specs.Prelude.{◌≡◌, ◌≢◌, ◌∷◌, ◌++◌, [], ℕ, ◌+◌, ◌<◌, ◌^◌, List as ListOf, length, drop, IfOk, IfErr, OnErr, MatchOption};
-ghost use Rattle.tml_span.specs.Units.{PlainUnit};
-ghost use Rattle.tml_span.specs.Cutting.{Cuts};
-ghost use Rattle.tml_span.specs.Faults.{HasFault};
-ghost use Rattle.tml_span.specs.View.{unit_of};
+ghost use Rattle.std.specs.Prelude.{◌≡◌, ◌≢◌, ◌∷◌, ◌++◌, [], ℕ, ◌+◌, ◌<◌, ◌^◌, List as ListOf, length, drop, IfOk, IfErr, OnOk, IsUtf8};
+ghost use Rattle.tml_span.specs.Faults.{HasFault, IsNotUtf8};
+ghost use Rattle.tml_span.specs.Checking as checking;
+ghost use Rattle.tml_span.specs.Faults as faults;
 
 use crate::Unit;
+use crate::check::{Checked, check_unit};
 use crate::references::bad_reference_in;
 use crate::scan::unit_at;
+use faults::FaultKind;
 use std::alloc::Global;
 use std::marker::Model;
 
 /// Why a source is not cut into units whole.
 #[derive(Clone, Copy, Debug, PartialEq, Eq)]
 pub enum Cut {
-    /// The source is not UTF-8: its longest valid front has `place` bytes.
+    /// The source is not UTF-8: its longest valid prefix has `place` bytes.
     NotUtf8 { place: u32 },
-    /// At that place stands an `&` with which no reference begins.
+    /// At that place is an `&` with which no reference begins.
     BadReference { place: u32 },
     /// No unit begins at that place.
     BadMarkup { place: u32 },
-    /// Memory is wanting.
+    /// The allocator refused a growth.
     Memory,
+}
+
+impl Cut {
+    /// The kind of the fault and its place, or none where it is that memory ran out.
+    pub fn kind_and_place(self) -> Option<(FaultKind, u32)>
+        ensures { result ≡ faults.kind_and_place self }
+    {
+        match self {
+            Cut::NotUtf8 { place } => Some((FaultKind::NotUtf8, place)),
+            Cut::BadReference { place } => Some((FaultKind::BadReference, place)),
+            Cut::BadMarkup { place } => Some((FaultKind::BadMarkup, place)),
+            Cut::Memory => None,
+        }
+    }
+}
+
+/// A source is not UTF-8: its longest valid prefix has `place` bytes.
+#[derive(Clone, Copy, Debug, PartialEq, Eq)]
+pub struct NotUtf8 {
+    pub place: u32,
+}
+
+/// Why a source that is UTF-8 is not cut into units whole.
+#[derive(Clone, Copy, Debug, PartialEq, Eq)]
+pub enum MarkupFault {
+    /// At that place is an `&` with which no reference begins.
+    BadReference { place: u32 },
+    /// No unit begins at that place.
+    BadMarkup { place: u32 },
+}
+
+impl MarkupFault {
+    /// The fault of a cut that it is.
+    pub fn into_cut(self) -> Cut
+        ensures { result ≡ checking.cut_of self }
+    {
+        match self {
+            MarkupFault::BadReference { place } => Cut::BadReference { place },
+            MarkupFault::BadMarkup { place } => Cut::BadMarkup { place },
+        }
+    }
 }
 
 /// Gives the units of a source one by one, from the first on.
@@ -45,16 +87,18 @@ impl<'s> Model for UnitReader<'s> {
 }
 
 impl<'s> UnitReader<'s> {
+    ghost use Rattle.tml_span.specs.Checking.{GoesOnWhole, Skips};
     ghost use Rattle.tml_span.specs.Reader.{IsProgress, Gives};
 
     /// A reader that has given no unit. The source has fewer than 2^32 bytes.
-    pub fn new(source: &'s [u8]) -> Result<UnitReader<'s>, Cut>
+    pub fn new(source: &'s [u8]) -> Result<UnitReader<'s>, NotUtf8>
         requires { length source.now < 2 ^ 32 }
         ensures ok { IfOk result (λ r. (r.source ≡ source.now) × (r.place ≡ 0) × (r.rest ≡ source.now)) }
-        ensures err { IfErr result (λ e. HasFault source.now e) }
+        ensures utf8 { OnOk result (IsUtf8 source.now) }
+        ensures err { IfErr result (λ e. IsNotUtf8 source.now e.place) }
     {
         if let Err(e) = simdutf8::compat::from_utf8(source) {
-            return Err(Cut::NotUtf8 {
+            return Err(NotUtf8 {
                 place: e.valid_up_to() as u32,
             });
         }
@@ -65,7 +109,7 @@ impl<'s> UnitReader<'s> {
         })
     }
 
-    /// The next unit, or none behind the last. A refusal leaves the reader as it is.
+    /// The next unit, or none after the last. A refusal leaves the reader as it is.
     pub fn pull(&mut self, alloc: Global) -> Result<Option<Unit<'s>>, Cut>
         ensures gives { Gives self.old self.new result }
     {
@@ -84,5 +128,33 @@ impl<'s> UnitReader<'s> {
         self.place += (self.rest.len() - rest.len()) as u32;
         self.rest = rest;
         Ok(Some(unit))
+    }
+
+    /// Checks the units that are left, and keeps none.
+    pub fn finish(self) -> Result<(), MarkupFault>
+        ensures ok { OnOk result (GoesOnWhole self.entry) }
+        ensures err { IfErr result (λ e. HasFault self.entry.source (checking.cut_of e)) }
+    {
+        let mut reader = self;
+        while reader.skip()? {}
+        Ok(())
+    }
+
+    /// Goes over the next unit, where there is one.
+    fn skip(&mut self) -> Result<bool, MarkupFault>
+        ensures skips { Skips self.old self.new result }
+    {
+        if self.rest.is_empty() {
+            return Ok(false);
+        }
+        let Some(Checked { bad, rest }) = check_unit(self.place, self.rest) else {
+            return Err(MarkupFault::BadMarkup { place: self.place });
+        };
+        if let Some(place) = bad {
+            return Err(MarkupFault::BadReference { place });
+        }
+        self.place += (self.rest.len() - rest.len()) as u32;
+        self.rest = rest;
+        Ok(true)
     }
 }

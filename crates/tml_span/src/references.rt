@@ -1,21 +1,22 @@
 //! References in texts and values, and the first that is bad.
-ghost use Rattle.std.specs.Prelude.{◌≡◌, ◌↔◌, ◌+◌, ◌<◌, ◌≤◌, ◌^◌, ◌++◌, ℕ, List, [], ◌∷◌, length, Contains, IsTrue, IfSome, MatchOption, map, slice_get, nat_eq, Some};
+ghost use Rattle.std.specs.Prelude.{◌≡◌, ◌↔◌, ◌+◌, ◌<◌, ◌≤◌, ◌^◌, ◌++◌, ℕ, List, [], ◌∷◌, length, Contains, IsTrue, IfSome, MatchOption, map, slice_get, nat_eq, Some, codes};
+ghost use Rattle.tml_span.specs.Bytes.{byte};
 ghost use Rattle.std.specs.List.{AllByRecursion, list_any, starts_with};
-ghost use Rattle.tml_span.specs.References.{named_references, IsDecimalReference, IsHexReference, BeginsReference, IsBadAt, IsBadIn, IsFirst, IsNowhere, IsPlaced, IsWithin, Follows, pieces_of, value_piece};
+ghost use Rattle.tml_span.specs.References.{named_references, Begins, IsClosed, IsDecimalReference, IsHexReference, BeginsReference, FirstBadIn, IsBadAt, IsFirst, IsNowhere, IsPlaced, IsWithin, Follows, pieces_of, value_piece};
 ghost use Rattle.tml_span.specs.View.{unit_of, attribute_of};
 
 use crate::bytes::{digits_len, hex_digits_len};
 use crate::{Attr, Span, Unit};
 
-/// Whether the digits in front, of which at least 1 and at most `most` count, are closed by `;`.
+/// Whether the digits at the start, of which at least 1 and at most `most` count, are closed by `;`.
 fn is_closed(digits: usize, most: usize, bytes: &[u8]) -> bool
     requires { digits ≤ length bytes.now }
-    ensures { IsTrue result ↔ ((1 ≤ digits) × (digits ≤ most) × (slice_get bytes.now digits ≡ Some 59)) }
+    ensures { IsTrue result ↔ IsClosed digits most bytes.now }
 {
     1 <= digits && digits <= most && bytes.get(digits) == Some(&b';')
 }
 
-/// Whether one of the named references stands at the front of the bytes.
+/// Whether the bytes begin with one of the named references.
 fn begins_named(bytes: &[u8]) -> bool
     ensures { result ≡ list_any (starts_with nat_eq bytes.now) named_references }
 {
@@ -26,9 +27,9 @@ fn begins_named(bytes: &[u8]) -> bool
         || bytes.starts_with(b"&apos;")
 }
 
-/// Whether a reference by decimal digits stands at the front of the bytes.
+/// Whether the bytes begin with a reference by decimal digits.
 fn begins_decimal(bytes: &[u8]) -> bool
-    ensures { IsTrue result ↔ ((front : List ℕ) × (back : List ℕ) × (bytes.now ≡ front ++ back) × IsDecimalReference front) }
+    ensures { IsTrue result ↔ Begins IsDecimalReference bytes.now }
 {
     match bytes.strip_prefix(b"&#") {
         Some(digits) => is_closed(digits_len(digits), 7, digits),
@@ -36,9 +37,9 @@ fn begins_decimal(bytes: &[u8]) -> bool
     }
 }
 
-/// Whether a reference by hexadecimal digits stands at the front of the bytes.
+/// Whether the bytes begin with a reference by hexadecimal digits.
 fn begins_hex(bytes: &[u8]) -> bool
-    ensures { IsTrue result ↔ ((front : List ℕ) × (back : List ℕ) × (bytes.now ≡ front ++ back) × IsHexReference front) }
+    ensures { IsTrue result ↔ Begins IsHexReference bytes.now }
 {
     match bytes.strip_prefix(b"&#x") {
         Some(digits) => is_closed(hex_digits_len(digits), 6, digits),
@@ -46,7 +47,7 @@ fn begins_hex(bytes: &[u8]) -> bool
     }
 }
 
-/// Whether a reference stands at the front of the bytes.
+/// Whether the bytes begin with a reference.
 fn begins_reference(bytes: &[u8]) -> bool
     ensures { IsTrue result ↔ BeginsReference bytes.now }
 {
@@ -69,10 +70,10 @@ fn bad_reference(bytes: &[u8]) -> Option<usize>
     None
 }
 
-/// The place of the first bad reference in bytes that stand at a place.
+/// The place of the first bad reference in bytes that begin at a place.
 fn bad_place(start: u32, bytes: &[u8]) -> Option<u32>
     requires { start + length bytes.now < 2 ^ 32 }
-    ensures { MatchOption result (IsNowhere (IsBadIn ((start, bytes.now) ∷ []))) (IsFirst (IsBadIn ((start, bytes.now) ∷ []))) }
+    ensures { FirstBadIn ((start, bytes.now) ∷ []) result }
 {
     match bad_reference(bytes) {
         Some(index) => Some(start + index as u32),
@@ -83,15 +84,15 @@ fn bad_place(start: u32, bytes: &[u8]) -> Option<u32>
 /// The place of the first bad reference in a text.
 fn bad_place_in_text(span: Span, text: &[u8]) -> Option<u32>
     requires { span.start + length text.now ≤ span.end }
-    ensures { MatchOption result (IsNowhere (IsBadIn ((span.start, text.now) ∷ []))) (IsFirst (IsBadIn ((span.start, text.now) ∷ []))) }
+    ensures { FirstBadIn ((span.start, text.now) ∷ []) result }
 {
     bad_place(span.start, text)
 }
 
 /// The place of the first bad reference in the value of an attribute.
-fn bad_place_in_value(attr: &Attr) -> Option<u32>
+pub fn bad_place_in_value(attr: &Attr) -> Option<u32>
     requires { IsWithin (attribute_of attr.now) }
-    ensures { MatchOption result (IsNowhere (IsBadIn (value_piece (attribute_of attr.now) ∷ []))) (IsFirst (IsBadIn (value_piece (attribute_of attr.now) ∷ []))) }
+    ensures { FirstBadIn (value_piece (attribute_of attr.now) ∷ []) result }
 {
     bad_place(attr.span.end - 1 - attr.value.len() as u32, attr.value)
 }
@@ -100,7 +101,7 @@ fn bad_place_in_value(attr: &Attr) -> Option<u32>
 fn bad_value(attrs: &[Attr]) -> Option<u32>
     requires within { AllByRecursion IsWithin (map attribute_of attrs.now) }
     requires follows { (low : ℕ) × (high : ℕ) × Follows low (map value_piece (map attribute_of attrs.now)) high }
-    ensures { MatchOption result (IsNowhere (IsBadIn (map value_piece (map attribute_of attrs.now)))) (IsFirst (IsBadIn (map value_piece (map attribute_of attrs.now)))) }
+    ensures { FirstBadIn (map value_piece (map attribute_of attrs.now)) result }
 {
     for attr in attrs {
         if let Some(place) = bad_place_in_value(attr) {
@@ -113,7 +114,7 @@ fn bad_value(attrs: &[Attr]) -> Option<u32>
 /// The place of the first bad reference in a unit.
 pub fn bad_reference_in(unit: &Unit) -> Option<u32>
     requires { IsPlaced (unit_of unit.now) }
-    ensures { MatchOption result (IsNowhere (IsBadIn (pieces_of (unit_of unit.now)))) (IsFirst (IsBadIn (pieces_of (unit_of unit.now)))) }
+    ensures { FirstBadIn (pieces_of (unit_of unit.now)) result }
 {
     match unit {
         Unit::Text { span, text } => bad_place_in_text(*span, text),

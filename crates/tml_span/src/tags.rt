@@ -1,15 +1,15 @@
 //! Tags and their attributes, read from left to right.
-ghost use Rattle.std.specs.Prelude.{true, ◌≡◌, ◌≢◌, ◌+◌, ◌<◌, ◌≤◌, ◌^◌, ◌∷◌, ◌++◌, codes, cond, Bool, slice_index, List as ListOf, ℕ, length, map, option_map, IfOk, IfSome, MatchOption};
+ghost use Rattle.std.specs.Prelude.{[], true, ◌≡◌, ◌≢◌, ◌+◌, ◌<◌, ◌≤◌, ◌^◌, ◌∷◌, ◌++◌, codes, cond, Bool, slice_index, List as ListOf, ℕ, length, map, option_map, IfOk, OnOk, IfSome, MatchOption};
 ghost use Rattle.tml_span.specs.Reading as reading;
-ghost use Rattle.tml_span.specs.View.{attribute_of, unit_of, quote_byte};
+ghost use Rattle.tml_span.specs.View.{ReadsUnit, attribute_of, quote_byte};
 ghost use Rattle.tml_span.specs.Bytes as kinds;
-ghost use Rattle.tml_span.specs.Cutting.{Stops, Finds};
+ghost use Rattle.tml_span.specs.Cutting.{Stops, FindsUnit};
 
 use crate::bytes::{is_name_start, name_len, value_len, white_len};
 use crate::{Attr, List, Memory, Quote, Span, Unit};
 use std::alloc::Global;
 
-fn after_white(bytes: &[u8]) -> &[u8]
+pub fn after_white(bytes: &[u8]) -> &[u8]
     ensures white { result.now ≡ reading.after_white bytes.now }
     ensures shorter { length result.now ≤ length bytes.now }
 {
@@ -29,7 +29,7 @@ fn after_byte(b: u8, bytes: &[u8]) -> Option<&[u8]>
 
 /// A name, and what follows it.
 #[tactic(auto, unfolding(crate::specs::Reading::name_at))]
-fn name_at(bytes: &[u8]) -> Option<(&[u8], &[u8])>
+pub fn name_at(bytes: &[u8]) -> Option<(&[u8], &[u8])>
     ensures reads { option_map (λ r. (r.0.now, r.1.now)) result ≡ reading.name_at bytes.now }
     ensures len { IfSome result (λ r. length r.0.now + length r.1.now ≡ length bytes.now) }
 {
@@ -73,9 +73,9 @@ fn value_at(bytes: &[u8]) -> Option<(Quote, &[u8], &[u8])>
     Some((quote, value, rest))
 }
 
-/// An attribute behind white space, and what follows it.
+/// An attribute after white space, and what follows it.
 #[tactic(auto, unfolding(crate::specs::Reading::attribute_at))]
-fn attribute_at<'s>(place: u32, bytes: &'s [u8]) -> Option<(Attr<'s>, &'s [u8])>
+pub fn attribute_at<'s>(place: u32, bytes: &'s [u8]) -> Option<(Attr<'s>, &'s [u8])>
     requires { place + length bytes.now < 2 ^ 32 }
     ensures reads { option_map (λ r. (attribute_of r.0, r.1.now)) result ≡ reading.attribute_at place bytes.now }
     ensures shorter { IfSome result (λ r. length r.1.now < length bytes.now) }
@@ -103,6 +103,16 @@ fn attribute_at<'s>(place: u32, bytes: &'s [u8]) -> Option<(Attr<'s>, &'s [u8])>
     ))
 }
 
+/// Puts the attribute last. Most tags have at most two, so the first one gets room for two.
+fn push_attribute<'s>(attrs: &mut List<Attr<'s>>, attr: Attr<'s>) -> Result<(), Memory>
+    ensures { OnOk result (attrs.new ≡ attrs.old ++ attr.entry ∷ []) }
+{
+    if attrs.as_slice().is_empty() {
+        attrs.reserve_exact(2)?;
+    }
+    attrs.push(attr)
+}
+
 /// As many attributes as there are, and what follows them.
 fn attributes_at<'s>(
     alloc: Global,
@@ -117,15 +127,15 @@ fn attributes_at<'s>(
     let mut at = place;
     let mut rest = bytes;
     while let Some((attr, after)) = attribute_at(at, rest) {
-        attrs.push(attr)?;
+        push_attribute(&mut attrs, attr)?;
         at += (rest.len() - after.len()) as u32;
         rest = after;
     }
     Ok((attrs, rest))
 }
 
-/// The `>` or `/>` of a tag, where true stands for `/>`, and what follows it.
-fn close_at(bytes: &[u8]) -> Option<(bool, &[u8])>
+/// The `>` or `/>` of a tag, true for `/>`, and what follows it.
+pub fn close_at(bytes: &[u8]) -> Option<(bool, &[u8])>
     ensures close { MatchOption result
         ((is_empty : Bool) (rest : ListOf ℕ) → bytes.now ≢ cond is_empty (codes "/>") (codes ">") ++ rest)
         (λ r. bytes.now ≡ cond r.0 (codes "/>") (codes ">") ++ r.1.now) }
@@ -138,17 +148,17 @@ fn close_at(bytes: &[u8]) -> Option<(bool, &[u8])>
     }
 }
 
-/// A start tag or an empty tag behind its `<`, with which none of the other units begins.
+/// A start tag or an empty tag after its `<`, with which none of the other units begins.
 pub fn tag_at<'s>(
     alloc: Global,
     place: u32,
     bytes: &'s [u8],
 ) -> Result<Option<(Unit<'s>, &'s [u8])>, Memory>
     requires fits { place + length bytes.now + 1 < 2 ^ 32 }
-    requires slash { slice_index bytes.now 0 ≢ 47 }
-    requires bang { slice_index bytes.now 0 ≢ 33 }
-    requires query { slice_index bytes.now 0 ≢ 63 }
-    ensures unit { IfOk result (λ o. MatchOption o (Stops place (60 ∷ bytes.now)) (λ r. Finds place (60 ∷ bytes.now) (unit_of r.0) r.1.now)) }
+    requires slash { slice_index bytes.now 0 ≢ kinds.byte (codes "/") }
+    requires bang { slice_index bytes.now 0 ≢ kinds.byte (codes "!") }
+    requires query { slice_index bytes.now 0 ≢ kinds.byte (codes "?") }
+    ensures unit { IfOk result (λ o. ReadsUnit place (codes "<" ++ bytes.now) o) }
     ensures shorter { IfOk result (λ o. IfSome o (λ r. length r.1.now ≤ length bytes.now)) }
 {
     let Some((name, mid)) = name_at(bytes) else {
@@ -168,10 +178,10 @@ pub fn tag_at<'s>(
     Ok(Some((Unit::StartTag { span, name, attrs }, rest)))
 }
 
-/// An end tag behind its `</`.
+/// An end tag after its `</`.
 pub fn end_tag_at<'s>(place: u32, bytes: &'s [u8]) -> Option<(Unit<'s>, &'s [u8])>
     requires { place + length bytes.now + 2 < 2 ^ 32 }
-    ensures unit { MatchOption result (Stops place (60 ∷ 47 ∷ bytes.now)) (λ r. Finds place (60 ∷ 47 ∷ bytes.now) (unit_of r.0) r.1.now) }
+    ensures unit { ReadsUnit place (codes "</" ++ bytes.now) result }
     ensures shorter { IfSome result (λ r. length r.1.now ≤ length bytes.now) }
 {
     let Some((name, mid)) = name_at(bytes) else {

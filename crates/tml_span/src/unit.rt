@@ -8,7 +8,7 @@ pub struct Span {
     pub end: u32,
 }
 
-/// What a value stands between: two `'` or two `"`.
+/// What a value is between: two `'` or two `"`.
 #[derive(Clone, Copy, Debug, PartialEq, Eq)]
 pub enum Quote {
     Single,
@@ -31,7 +31,7 @@ pub enum Unit<'s> {
     Bom {
         span: Span,
     },
-    /// `<?xml`, one white space, a body, and the first `?>` behind that.
+    /// `<?xml`, one white space, a body, and the first `?>` after that.
     Declaration {
         span: Span,
         text: &'s [u8],
@@ -41,7 +41,7 @@ pub enum Unit<'s> {
         span: Span,
         text: &'s [u8],
     },
-    /// `<!--`, a body, and the first `-->` behind that.
+    /// `<!--`, a body, and the first `-->` after that.
     Comment {
         span: Span,
         text: &'s [u8],

@@ -2,10 +2,10 @@
 ghost use Rattle.std.specs.Prelude.{◌≡◌, ◌<◌, ◌^◌, length, map, IfOk, IfErr};
 ghost use Rattle.std.specs.List.{AllByRecursion};
 ghost use Rattle.tml_span.specs.Faults.{HasFault};
-ghost use Rattle.tml_span.specs.Slices.{UnitStands};
+ghost use Rattle.tml_span.specs.Slices.{UnitIsIn};
 ghost use Rattle.tml_span.specs.Whole.{IsWhole};
 
-use crate::reader::{Cut, UnitReader};
+use crate::reader::{Cut, NotUtf8, UnitReader};
 use crate::{List, Unit};
 use std::alloc::Global;
 use std::marker::Model;
@@ -20,14 +20,14 @@ pub struct UnitList<'s> {
 
 impl<'s> Model for UnitList<'s> {
     ghost use Rattle.std.specs.Prelude.{map, length, ◌<◌, ◌^◌};
-    ghost use Rattle.tml_span.specs.Whole.{Cutting, IsWhole};
+    ghost use Rattle.tml_span.specs.Whole.{Cutting, IsSmallWhole};
     ghost use Rattle.tml_span.specs.View.{unit_of};
 
     ghost Value = { Cutting };
 
     ghost view = { λ a. record { source = a.source.now; units = map unit_of a.units } };
 
-    ghost invariant = { λ a. (length a.source.now < 2 ^ 32) × IsWhole (record { source = a.source.now; units = map unit_of a.units }) };
+    ghost invariant = { λ a. IsSmallWhole (record { source = a.source.now; units = map unit_of a.units }) };
 }
 
 impl<'s> UnitList<'s> {
@@ -70,12 +70,12 @@ pub fn units<'s>(alloc: Global, source: &'s [u8]) -> Result<UnitList<'s>, Cut>
     requires { length source.now < 2 ^ 32 }
     ensures source { IfOk result (λ l. l.source ≡ source.now) }
     ensures whole { IfOk result (λ l. IsWhole l) }
-    ensures slices { IfOk result (λ l. AllByRecursion (UnitStands l.source) l.units) }
+    ensures slices { IfOk result (λ l. AllByRecursion (UnitIsIn l.source) l.units) }
     ensures fault { IfErr result (λ e. HasFault source.now e) }
 {
     let mut reader = match UnitReader::new(source) {
         Ok(reader) => reader,
-        Err(fault) => return Err(fault),
+        Err(NotUtf8 { place }) => return Err(Cut::NotUtf8 { place }),
     };
     let mut units = List::new(alloc);
     loop {

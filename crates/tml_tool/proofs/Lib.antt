@@ -1,9 +1,12 @@
 pub mod Tables
-pub mod Delivery
+pub mod HowItEnds
 pub mod Digits
 pub mod Lines
 pub mod Times
+pub mod UsageRoom
 pub mod Phases
-pub mod OneContents
 pub mod OneDateLines
-mod OneAnswers
+pub mod OneAnswers
+pub mod OneNext
+pub mod OneReply
+pub mod TwoFiles

@@ -1,26 +1,32 @@
--- What a run answers and writes.
-use Rattle.std.specs.Prelude.{◌≡◌, ◌≢◌, ℕ, List, [], ◌∷◌}
+-- The outcome of a run: its status, and what was written of the text of its reply.
+use Rattle.std.specs.Prelude.{◌⊎◌, ℕ, List}
 use Rattle.std.specs.declared.option.Option.{Option}
-use Rattle.tml_io.specs.Files.{Files, IsThere}
+use Rattle.std.specs.Io.KnownBytes.{Appends}
+use Rattle.tml_io.specs.Faults.{HasRisen}
+use Rattle.tml_io.specs.Files.{Files, CountsTaken}
+use Rattle.tml_io.specs.Whole.{WritesPrefix}
 use Rattle.tml_tool.specs.declared.status.Status.{Status}
-use Rattle.tml_tool.specs.declared.status.Status.TheVariants.{Done, ReadFault, WriteFault, NoMemory}
-use Rattle.tml_tool.specs.Words.{Form, names_of}
-use Rattle.tml_tool.specs.Answer.{Answer}
-use Rattle.tml_tool.specs.Written.{Wrote}
-use Rattle.tml_tool.specs.Texts as texts
+use Rattle.tml_tool.specs.declared.status.Status.TheVariants.{Done, WriteFault}
+use Rattle.tml_tool.specs.Rows.{Rows}
+use Rattle.tml_tool.specs.Replies.{Replies}
 
--- The text that goes with a status. Only a command that reads files meets a fault of reading; only after the answer was found does writing it fail.
-abbrev pub Says : Option Files → Option Form → Status → List ℕ → Type 0
-Says told form ReadFault text = (names_of form ≢ []) × (text ≡ texts.read_fault)
-Says told form NoMemory text = (names_of form ≢ []) × (text ≡ [])
-Says told form WriteFault text = Answer told form Done text
-Says told form status text = Answer told form status text
+-- the sink failed before the text was written whole
+abbrev pub IsCutOff : List ℕ → Option (List ℕ) → Option (List ℕ) → ℕ → ℕ → Type 0
+IsCutOff text old new before now = HasRisen before now × WritesPrefix old new text
 
--- some text goes with the status, and as much of it was written as the status says
-abbrev pub Outcome : Option Files → Option Form → Status → Option (List ℕ) → Option (List ℕ) → ℕ → ℕ → Type 0
-Outcome told form status old new before now = (text : List ℕ) × Says told form status text × Wrote status text old new before now
+-- What was written of a text, by the status of the run: a refusal keeps its status where the sink fails.
+abbrev pub Written : Status → List ℕ → Option (List ℕ) → Option (List ℕ) → ℕ → ℕ → Type 0
+Written Done text old new before now = Appends old new text
+Written WriteFault text old new before now = IsCutOff text old new before now
+Written status text old new before now = Appends old new text ⊎ IsCutOff text old new before now
 
--- each of the names is there, as far as the files are told
-abbrev pub AreThere : Option Files → List (List ℕ) → Type 0
-AreThere told [] = Unit {0}
-AreThere told (name ∷ names) = IsThere told name × AreThere told names
+-- the status of the reply: a fault of the sink changes it only where it is Done
+abbrev pub before_writing : Status → Status
+before_writing WriteFault = Done
+before_writing status = status
+
+-- There is a reply to the command, the bytes of its files were taken, and its text was written.
+pub record Outcome (known : Option Files) (rows : Rows) (status : Status) (given_before given_now : ℕ) (old new : Option (List ℕ)) (before now : ℕ) : Type 0 where
+  pub text : List ℕ
+  pub replies : CountsTaken given_before given_now (Replies known rows (before_writing status) text)
+  pub written : Written status text old new before now

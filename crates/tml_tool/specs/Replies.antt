@@ -1,34 +1,40 @@
--- What is replied to a command, before it is written.
-use Rattle.std.specs.Prelude.{◌≡◌, ℕ, ◌+◌, ◌≤◌, List, [], None, Some}
+-- A reply: the status and the text that are to be written. It is the answer, or says why there is none.
+use Rattle.std.specs.Prelude.{◌≡◌, ◌⊎◌, ℕ, ◌+◌, ◌<◌, ◌≤◌, List, [], ◌++◌, codes, length}
 use Rattle.std.specs.declared.option.Option.{Option}
-use Rattle.tml_io.specs.Files.{Files}
-use Rattle.tml_tool.specs.declared.command.Question.{Question}
+use Rattle.tml_io.specs.Files.{Files, HasContents}
 use Rattle.tml_tool.specs.declared.status.Status.{Status}
-use Rattle.tml_tool.specs.declared.status.Status.TheVariants.{DocFault, ReadFault, NoMemory, TooLong}
-use Rattle.tml_tool.specs.Words.{Form, of_document}
-use Rattle.tml_tool.specs.Answer.{Answer, OverBytes, doc_limit}
-use Rattle.tml_tool.specs.Texts as texts
+use Rattle.tml_tool.specs.declared.status.Status.TheVariants.{ReadFault, TooLong, NoMemory}
+use Rattle.tml_tool.specs.Rows.{File, Rows, reads, answers}
+use Rattle.tml_tool.specs.Reading.{Reading, total}
 
--- the answer, a fault of reading, or want of memory
-abbrev pub Replies : Option Files → Option Form → Status → List ℕ → Type 0
-Replies told form ReadFault out = out ≡ texts.read_fault
-Replies told form NoMemory out = out ≡ []
-Replies told form status out = Answer told form status out
+abbrev pub read_fault : List ℕ
+read_fault = codes "read fault\n"
 
--- the answer over known bytes, or want of memory
-abbrev pub RepliesOver : Question → List ℕ → Status → List ℕ → Type 0
-RepliesOver question doc NoMemory out = out ≡ []
-RepliesOver question doc status out = OverBytes question doc status out
+abbrev pub too_long : List ℕ → List ℕ
+too_long word = codes "too long " ++ word ++ codes "\n"
 
--- the line of a fault, or want of memory
-abbrev pub Refuses : Option (List ℕ) → Status → List ℕ → Type 0
-Refuses line NoMemory out = out ≡ []
-Refuses line DocFault out = line ≡ Some out
-Refuses line other out = ⊥
+-- the file has more bytes than its limit, as far as the files are known
+abbrev pub IsTooLong : Option Files → File → Type 0
+IsTooLong known file = (bytes : List ℕ) × HasContents known file.name bytes × (file.limit < length bytes)
 
--- how many bytes a command takes of its files, by its status
-abbrev pub Takes : Option Form → Status → ℕ → Type 0
-Takes None status taken = taken ≡ 0
-Takes (Some (of_document question name)) TooLong taken = taken ≡ doc_limit + 1
-Takes (Some (of_document question name)) NoMemory taken = taken ≤ doc_limit + 1
-Takes (Some (of_document question name)) status taken = taken ≤ doc_limit
+-- The file cannot be read whole, and so many of its bytes were taken: a device failed, it is too long, or out of memory.
+abbrev pub CannotRead : Option Files → File → Status → List ℕ → ℕ → Type 0
+CannotRead known file ReadFault text part = (text ≡ read_fault) × (part ≤ file.limit)
+CannotRead known file TooLong text part = (text ≡ too_long file.word) × IsTooLong known file × (part ≡ file.limit + 1)
+CannotRead known file NoMemory text part = (text ≡ []) × (part ≤ file.limit + 1)
+CannotRead known file other text part = ⊥
+
+-- The reply after some contents, with so many bytes taken of the next file: the answer, that the file cannot be read, or out of memory before it is started.
+abbrev pub RepliesAfter : Option Files → Rows → List (List ℕ) → Status → List ℕ → ℕ → Type 0
+RepliesAfter known rows contents status text part =
+    (rows contents (answers status text) × (part ≡ 0))
+    ⊎ ((file : File) × rows contents (reads file) × CannotRead known file status text part)
+    ⊎ ((status ≡ NoMemory) × (text ≡ []) × (part ≡ 0))
+
+-- the reply to a command, and how many bytes were taken of all its files
+pub record Replies (known : Option Files) (rows : Rows) (status : Status) (text : List ℕ) (taken : ℕ) : Type 0 where
+  pub contents : List (List ℕ)
+  pub reading : Reading known rows contents
+  pub part : ℕ
+  pub ends : RepliesAfter known rows contents status text part
+  pub bytes : taken ≡ total contents + part

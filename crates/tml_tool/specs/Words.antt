@@ -1,5 +1,6 @@
--- The words of a run, and the commands that they are forms of.
-use Rattle.std.specs.Prelude.{ℕ, List, [], ◌∷◌, codes, option_map, String, string_bytes, map, None, Some}
+-- The words of a run, and the forms that they have.
+use Rattle.std.specs.Prelude.{ℕ, List, [], ◌∷◌, ◌++◌, codes, option_map, String, string_bytes, map, None, Some}
+use Rattle.std.specs.List.{flat_map}
 use Rattle.std.specs.declared.alloc.Global.{Global}
 use Rattle.std.specs.declared.option.Option.{Option}
 use Rattle.named.specs.Texts.{named_of}
@@ -20,16 +21,19 @@ abbrev pub all_questions : List Question
 all_questions = Spans ∷ Check ∷ Dates ∷ []
 
 -- a command, with the names of the files that it reads
-pub data Form : Type 0 where
-  of_document : Question → List ℕ → Form
+pub data CommandForm : Type 0 where
+  of_document : Question → List ℕ → CommandForm
 
 -- The command that some words are a form of: no words stand for `spans -`.
-abbrev pub form_of : List (List ℕ) → Option Form
+abbrev pub form_of : List (List ℕ) → Option CommandForm
 form_of [] = Some (of_document Spans (codes "-"))
 form_of (command ∷ name ∷ []) = option_map (λ question. of_document question name) (named_of question_text all_questions command)
 form_of words = None
 
--- the names of the files that a command reads, in the order in which it starts them
-abbrev pub names_of : Option Form → List (List ℕ)
-names_of None = []
-names_of (Some (of_document question name)) = name ∷ []
+-- the line of a question in the usage text
+abbrev pub usage_line : Question → List ℕ
+usage_line question = codes "tml " ++ question_text question ++ codes " DOC\n"
+
+-- the usage text has a line for each question
+abbrev pub usage : List ℕ
+usage = codes "usage:\n" ++ flat_map usage_line all_questions

@@ -1,36 +1,30 @@
 //! The question `check`: whether a document is well annotated.
 ghost use Rattle.std.specs.Prelude.{◌≡◌, ◌≤◌, ◌<◌, ◌++◌, length, IfOk, OnOk};
-ghost use Rattle.tml_tool.specs.Answer.{doc_limit};
-ghost use Rattle.tml_tool.specs.Replies.{RepliesOver};
+ghost use Rattle.tml_refs.specs.View.{plain_interval};
+ghost use Rattle.tml_tool.specs.Questions.{doc_limit};
 ghost use Rattle.tml_tool.specs.Texts as texts;
-ghost use Rattle.tml_tool.specs.View.{text_of};
+ghost use Rattle.tml_tool.specs.View.{IsAnswer};
 ghost use Rattle.tml_tool.specs.declared.command.Question.TheVariants as questions;
 
-use crate::Status;
 use crate::accept::accept;
-use crate::faults::refusal;
-use crate::reply::{Reply, Text};
-use crate::table::{push_number, push_numbered};
+use crate::answer::Answer;
+use crate::refusal::refusal;
+use crate::table::{push_numbered, push_prefix};
 use net_core::Rel;
 use std::alloc::{AllocError, Global};
 use tml_refs::{Counts, DocLink, Document, Interval};
 
 /// How many tags of each kind the document has, its intervals and its links, or its first fault.
-pub fn check(alloc: Global, doc: &[u8]) -> Reply
+pub fn check(alloc: Global, doc: &[u8]) -> Result<Answer, AllocError>
     requires { length doc.now ≤ doc_limit }
-    ensures { RepliesOver questions.Check doc.now result.status (text_of result.text) }
+    ensures { IfOk result (IsAnswer questions.Check doc.now) }
 {
     let document = match accept(alloc, doc) {
         Ok(document) => document,
         Err(fault) => return refusal(alloc, fault),
     };
-    match accepted(alloc, &document) {
-        Ok(text) => Reply {
-            status: Status::Done,
-            text: Text::Made(text),
-        },
-        Err(AllocError) => Reply::no_memory(),
-    }
+    let text = accepted(alloc, &document)?;
+    Ok(Answer::done(text))
 }
 
 /// The text for an accepted document.
@@ -67,9 +61,9 @@ fn push_intervals(out: &mut Vec<u8>, document: &Document<'_>) -> Result<(), Allo
 
 /// The number and the name of an interval.
 fn push_interval(out: &mut Vec<u8>, i: u32, interval: Interval<'_>) -> Result<(), AllocError>
-    ensures { OnOk result (out.new.items ≡ out.old.items ++ texts.interval_line i interval.entry) }
+    ensures { OnOk result (out.new.items ≡ out.old.items ++ texts.interval_line i (plain_interval interval.entry)) }
 {
-    push_front(out, b"interval ", i)?;
+    push_prefix(out, b"interval ", i)?;
     out.extend_from_slice(interval.name())?;
     out.extend_from_slice(b"\n")
 }
@@ -94,7 +88,7 @@ fn push_link(
     requires b { link.b < length document.now.intervals }
     ensures { OnOk result (out.new.items ≡ out.old.items ++ texts.link_line document.now.intervals k link) }
 {
-    push_front(out, b"tlink ", k)?;
+    push_prefix(out, b"tlink ", k)?;
     let a = document.interval(link.a).name();
     let b = document.interval(link.b).name();
     push_related(out, a, link.rel, b)?;
@@ -110,13 +104,4 @@ fn push_related(out: &mut Vec<u8>, a: &[u8], rel: Rel, b: &[u8]) -> Result<(), A
     out.extend_from_slice(rel.text())?;
     out.extend_from_slice(b" ")?;
     out.extend_from_slice(b)
-}
-
-/// A word that ends in a space, a number, and a space behind it.
-fn push_front(out: &mut Vec<u8>, word: &[u8], n: u32) -> Result<(), AllocError>
-    ensures { OnOk result (out.new.items ≡ out.old.items ++ texts.front word.now n) }
-{
-    out.extend_from_slice(word)?;
-    push_number(out, u64::from(n))?;
-    out.extend_from_slice(b" ")
 }

@@ -45,7 +45,7 @@ pub enum Command<'w> {
     /// To print the usage text: the words are of no known form.
     Usage,
     /// To answer a question of a document.
-    OfDocument { question: Question, doc: &'w str },
+    OfDocument { question: Question, name: &'w str },
 }
 
 /// The command that the words are a form of. With no words it is `spans` of standard input.
@@ -55,12 +55,12 @@ pub fn command_of(words: &[String]) -> Command<'_>
     match words {
         [] => Command::OfDocument {
             question: Question::Spans,
-            doc: "-",
+            name: "-",
         },
-        [command, doc] => match named_by(command.as_bytes()) {
+        [command, name] => match named_by(command.as_bytes()) {
             Some(question) => Command::OfDocument {
                 question,
-                doc: doc.as_str(),
+                name: name.as_str(),
             },
             None => Command::Usage,
         },

@@ -1,18 +1,17 @@
 //! The question `dates`: when the times of a document are by the calendar.
 ghost use Rattle.std.specs.Fmt.{signed_decimal};
-ghost use Rattle.std.specs.Prelude.{◌≡◌, ◌≤◌, ◌++◌, ℕ, List, codes, length, IfOk, OnOk};
+ghost use Rattle.std.specs.Prelude.{◌≡◌, ◌≤◌, ◌++◌, codes, length, IfOk, OnOk};
 ghost use Rattle.timex_dates.specs.Answers.{IsCivil};
 ghost use Rattle.timex_dates.specs.Seconds.{IsCivilSecond};
-ghost use Rattle.tml_tool.specs.Answer.{doc_limit};
-ghost use Rattle.tml_tool.specs.DateTexts.{BoundsText, DateLine, DateLines, EndsText};
-ghost use Rattle.tml_tool.specs.Replies.{RepliesOver};
-ghost use Rattle.tml_tool.specs.View.{text_of};
+ghost use Rattle.tml_refs.specs.View.{plain_interval};
+ghost use Rattle.tml_tool.specs.Questions.{doc_limit};
+ghost use Rattle.tml_tool.specs.DateTexts.{Adds, BoundsText, DateLine, DateLines, EndsText, numbers};
+ghost use Rattle.tml_tool.specs.View.{IsAnswer};
 ghost use Rattle.tml_tool.specs.declared.command.Question.TheVariants as questions;
 
-use crate::Status;
 use crate::accept::accept;
-use crate::faults::refusal;
-use crate::reply::{Reply, Text};
+use crate::answer::Answer;
+use crate::refusal::refusal;
 use itoa::Buffer;
 use net_core::Bounds;
 use std::alloc::{AllocError, Global};
@@ -20,21 +19,16 @@ use timex_dates::{bounds_of, civil_text};
 use tml_refs::{Document, Interval};
 
 /// A line for each TIMEX3 of the document, or its first fault.
-pub fn dates(alloc: Global, doc: &[u8]) -> Reply
+pub fn dates(alloc: Global, doc: &[u8]) -> Result<Answer, AllocError>
     requires { length doc.now ≤ doc_limit }
-    ensures { RepliesOver questions.Dates doc.now result.status (text_of result.text) }
+    ensures { IfOk result (IsAnswer questions.Dates doc.now) }
 {
     let document = match accept(alloc, doc) {
         Ok(document) => document,
         Err(fault) => return refusal(alloc, fault),
     };
-    match date_lines(alloc, &document) {
-        Ok(text) => Reply {
-            status: Status::Done,
-            text: Text::Made(text),
-        },
-        Err(AllocError) => Reply::no_memory(),
-    }
+    let text = date_lines(alloc, &document)?;
+    Ok(Answer::done(text))
 }
 
 /// A line for each time.
@@ -50,7 +44,7 @@ fn date_lines(alloc: Global, document: &Document<'_>) -> Result<Vec<u8>, AllocEr
 
 /// The line of a time: its name and its bounds. An instance has none.
 fn push_date(out: &mut Vec<u8>, interval: Interval<'_>) -> Result<(), AllocError>
-    ensures { OnOk result ((line : List ℕ) × DateLine interval.entry line × (out.new.items ≡ out.old.items ++ line)) }
+    ensures { OnOk result (Adds (DateLine (plain_interval interval.entry)) out.old.items out.new.items) }
 {
     match interval {
         Interval::Instance { .. } => Ok(()),
@@ -70,7 +64,7 @@ fn push_date(out: &mut Vec<u8>, interval: Interval<'_>) -> Result<(), AllocError
 
 fn push_bounds(out: &mut Vec<u8>, bounds: Bounds) -> Result<(), AllocError>
     requires { IsCivil bounds }
-    ensures { OnOk result ((text : List ℕ) × BoundsText bounds text × (out.new.items ≡ out.old.items ++ text)) }
+    ensures { OnOk result (Adds (BoundsText bounds) out.old.items out.new.items) }
 {
     match bounds {
         Bounds::Exact { lo, hi } => push_ends(out, b"exact ", lo, hi),
@@ -83,7 +77,7 @@ fn push_bounds(out: &mut Vec<u8>, bounds: Bounds) -> Result<(), AllocError>
 fn push_ends(out: &mut Vec<u8>, word: &[u8], lo: i64, hi: i64) -> Result<(), AllocError>
     requires lo { IsCivilSecond lo }
     requires hi { IsCivilSecond hi }
-    ensures { OnOk result ((ends : List ℕ) × EndsText lo hi ends × (out.new.items ≡ out.old.items ++ (word.now ++ ends))) }
+    ensures { OnOk result (Adds (EndsText lo hi) (out.old.items ++ word.now) out.new.items) }
 {
     let from = civil_text(lo);
     let to = civil_text(hi);
@@ -101,15 +95,15 @@ fn push_texts(out: &mut Vec<u8>, from: &[u8], to: &[u8]) -> Result<(), AllocErro
     out.extend_from_slice(to)
 }
 
-/// Two numbers, each with a space behind it.
+/// Two numbers, each followed by a space.
 fn push_numbers(out: &mut Vec<u8>, lo: i64, hi: i64) -> Result<(), AllocError>
-    ensures { OnOk result (out.new.items ≡ out.old.items ++ (signed_decimal lo ++ codes " " ++ signed_decimal hi ++ codes " ")) }
+    ensures { OnOk result (out.new.items ≡ out.old.items ++ numbers lo hi) }
 {
     push_second(out, lo)?;
     push_second(out, hi)
 }
 
-/// A number, and a space behind it.
+/// A number, and a space.
 fn push_second(out: &mut Vec<u8>, second: i64) -> Result<(), AllocError>
     ensures { OnOk result (out.new.items ≡ out.old.items ++ (signed_decimal second ++ codes " ")) }
 {

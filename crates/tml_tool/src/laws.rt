@@ -1,13 +1,41 @@
-//! Laws of documents: public functions that do nothing, each with the law as its contract.
+//! Laws of documents and of commands: public functions that do nothing, each with the law as its contract.
+ghost use Rattle.std.specs.Prelude.{true, ◌≡◌};
+ghost use Rattle.std.specs.declared.option.Option.{Option};
 ghost use Rattle.tml_tool.specs.Acceptance.{OneAcceptances};
-ghost use Rattle.tml_tool.specs.Answer.{OneAnswers};
+ghost use Rattle.tml_tool.specs.Commands.{rows_of, is_determined};
+ghost use Rattle.tml_tool.specs.OneReply.{HasOneNext, HasOneText, HasOneReply};
+ghost use Rattle.tml_tool.specs.TwoFiles.{VerifyJudgesFirst, ScoreReadsFirst};
+ghost use Rattle.tml_tool.specs.Words.{CommandForm};
+
+use crate::Status;
 
 /// A document has at most one first fault, and none where it is accepted.
 pub fn one_acceptance()
     ensures { OneAcceptances }
 {}
 
-/// A question of a document has one answer: one status and one text.
-pub fn one_answer()
-    ensures { OneAnswers }
+/// After what a command has read one thing comes next: one file is read, or one status is answered.
+pub fn one_status()
+    ensures { (form : Option CommandForm) → HasOneNext (rows_of form) }
+{}
+
+/// Where what a command has read determines the text of a status, there is one text.
+pub fn one_text()
+    ensures { (form : Option CommandForm) (status : Status) → is_determined form status ≡ true
+        → HasOneText (rows_of form) status }
+{}
+
+/// Over known files a command has one reply that is neither a fault of a device nor out of memory.
+pub fn one_reply()
+    ensures { (form : Option CommandForm) → HasOneReply (rows_of form) }
+{}
+
+/// An example of rows that read two files: where the first one is at fault the second one is not started.
+pub fn verify_judges_first()
+    ensures { VerifyJudgesFirst }
+{}
+
+/// An example of rows that read two files: a missing second one is found before both are judged.
+pub fn score_reads_first()
+    ensures { ScoreReadsFirst }
 {}

@@ -1,21 +1,28 @@
-//! The commands of `tml`: what the words ask for, the answer, and its printing.
+//! The commands of `tml`: what the words ask for, the reply, and its writing.
 #![tactic(auto)]
 
 mod accept;
+mod answer;
 mod check;
 mod command;
 mod dates;
-mod document;
-mod faults;
 mod laws;
+mod questions;
+mod reading;
+mod refusal;
 mod reply;
+mod replying;
+mod role;
 mod spans;
 mod status;
 mod table;
 #[cfg(test)]
 mod tests;
 mod top;
+mod usage;
 
-pub use laws::{one_acceptance, one_answer};
+pub use laws::{
+    one_acceptance, one_reply, one_status, one_text, score_reads_first, verify_judges_first,
+};
 pub use status::Status;
 pub use top::run;

@@ -1,92 +1,92 @@
-//! A reply, and its delivery to the sink.
-ghost use Rattle.std.specs.Prelude.{◌≡◌, ◌≤◌, []};
-ghost use Rattle.tml_io.specs.Room.{EndsCalm};
-ghost use Rattle.tml_tool.specs.View.{text_of};
-ghost use Rattle.tml_tool.specs.Written.{Delivers};
-ghost use Rattle.tml_tool.specs.Texts as texts;
+//! The reply to a command: the answer, or why there is none; and its writing.
+ghost use Rattle.std.specs.Prelude.{◌≡◌, ◌≤◌, OnOk, OnErr};
+ghost use Rattle.std.specs.Io.KnownBytes.{Appends};
+ghost use Rattle.tml_io.specs.Faults.{HasCause};
+ghost use Rattle.tml_io.specs.Room.{FaultsOnlyWhenFull};
+ghost use Rattle.tml_io.specs.Whole.{WritesPrefix};
+ghost use Rattle.tml_tool.specs.Outcome.{Written, before_writing};
+ghost use Rattle.tml_tool.specs.View.{status_of, text_of, reply_of};
 
 use crate::Status;
-use tml_io::{Sink, write_all};
+use crate::answer::{Answer, Finding};
+use crate::role::Role;
+use crate::usage::usage_text;
+use std::alloc::AllocError;
+use tml_io::{Sink, WriteFault, write_all};
 
-/// A text that stands in the program, or one that was made.
+/// The reply to a command, before anything of it is written.
 #[derive(Drop)]
-pub enum Text {
-    Fixed(&'static [u8]),
-    Made(Vec<u8>),
-}
-
-impl Text {
-    fn as_bytes(&self) -> &[u8]
-        ensures { result.now ≡ text_of self.now }
-    {
-        match self {
-            Text::Fixed(bytes) => bytes,
-            Text::Made(bytes) => bytes.as_slice(),
-        }
-    }
-}
-
-/// A status, with the text that is written for it.
-#[derive(Drop)]
-pub struct Reply {
-    pub status: Status,
-    pub text: Text,
+pub enum Reply {
+    /// There is an answer.
+    Answered(Answer),
+    /// The words are of no known form.
+    Usage,
+    /// An input failed, or is not there.
+    ReadFault,
+    /// A file that is read for this has more bytes than its limit.
+    TooLong(Role),
+    /// Out of memory.
+    NoMemory,
 }
 
 impl Reply {
-    /// The text of usage, with a line for each command.
-    pub fn usage() -> Reply
-        ensures status { result.status ≡ Status.Usage }
-        ensures text { text_of result.text ≡ texts.usage }
+    /// The answer, where there was memory for it.
+    pub fn from_answer(answer: Result<Answer, AllocError>) -> Reply
+        ensures { result ≡ reply_of answer }
     {
-        Reply {
-            status: Status::Usage,
-            text: Text::Fixed(b"usage:\ntml spans DOC\ntml check DOC\ntml dates DOC\n"),
+        match answer {
+            Ok(answer) => Reply::Answered(answer),
+            Err(AllocError) => Reply::NoMemory,
         }
     }
 
-    pub fn read_fault() -> Reply
-        ensures status { result.status ≡ Status.ReadFault }
-        ensures text { text_of result.text ≡ texts.read_fault }
+    fn status(&self) -> Status
+        ensures { result ≡ status_of self.now }
     {
-        Reply {
-            status: Status::ReadFault,
-            text: Text::Fixed(b"read fault\n"),
+        match self {
+            Reply::Answered(answer) => match answer.finding {
+                Finding::Done => Status::Done,
+                Finding::DocFault => Status::DocFault,
+            },
+            Reply::Usage => Status::Usage,
+            Reply::ReadFault => Status::ReadFault,
+            Reply::TooLong(_) => Status::TooLong,
+            Reply::NoMemory => Status::NoMemory,
         }
     }
 
-    pub fn document_too_long() -> Reply
-        ensures status { result.status ≡ Status.TooLong }
-        ensures text { text_of result.text ≡ texts.document_too_long }
+    /// Writes the text. Out of memory there is none, and the sink is left alone.
+    fn write_text<S: Sink>(&self, sink: &mut S) -> Result<(), WriteFault>
+        ensures ok { OnOk result (Appends (S.written sink.old) (S.written sink.new) (text_of self.now)) }
+        ensures err { OnErr result (WritesPrefix (S.written sink.old) (S.written sink.new) (text_of self.now)) }
+        ensures cause { HasCause (S.faults sink.old) (S.faults sink.new) result }
+        ensures untouched { status_of self.now ≡ Status.NoMemory → sink.new ≡ sink.old }
+        ensures no_fault { FaultsOnlyWhenFull (S.room sink.old) (S.room sink.new) (S.faults sink.old) (S.faults sink.new) }
     {
-        Reply {
-            status: Status::TooLong,
-            text: Text::Fixed(b"too long DOC\n"),
-        }
-    }
-
-    /// Memory is wanting: there is no text.
-    pub fn no_memory() -> Reply
-        ensures status { result.status ≡ Status.NoMemory }
-        ensures text { text_of result.text ≡ [] }
-    {
-        Reply {
-            status: Status::NoMemory,
-            text: Text::Fixed(b""),
+        match self {
+            Reply::Answered(answer) => write_all(sink, answer.text.as_slice()),
+            Reply::Usage => write_all(sink, usage_text().as_slice()),
+            Reply::ReadFault => write_all(sink, b"read fault\n"),
+            Reply::TooLong(role) => write_all(sink, role.too_long()),
+            Reply::NoMemory => write_all(sink, b""),
         }
     }
 }
 
-/// Writes the text of a reply, and answers the status of the run. A fault of the sink changes the status
-/// only where it was Done.
+/// Writes the text of a reply, and answers the status of the run. A fault of the sink changes the status only where it
+/// was Done.
 pub fn deliver<S: Sink>(sink: &mut S, reply: Reply) -> Status
-    ensures delivers { Delivers reply.status (text_of reply.text) result (S.written sink.old) (S.written sink.new) (S.faults sink.old) (S.faults sink.new) }
-    ensures later { S.faults sink.old ≤ S.faults sink.new }
-    ensures calm { EndsCalm (S.room sink.old) (S.room sink.new) (S.faults sink.old) (S.faults sink.new) }
+    ensures status { before_writing result ≡ status_of reply }
+    ensures written { Written result (text_of reply)
+        (S.written sink.old) (S.written sink.new) (S.faults sink.old) (S.faults sink.new) }
+    ensures no_memory { result ≡ Status.NoMemory → sink.new ≡ sink.old }
+    ensures never_falls { S.faults sink.old ≤ S.faults sink.new }
+    ensures no_fault { FaultsOnlyWhenFull (S.room sink.old) (S.room sink.new) (S.faults sink.old) (S.faults sink.new) }
 {
-    let written = write_all(sink, reply.text.as_bytes());
-    if written.is_err() && reply.status == Status::Done {
+    let status = reply.status();
+    let written = reply.write_text(sink);
+    if written.is_err() && status == Status::Done {
         return Status::WriteFault;
     }
-    reply.status
+    status
 }

@@ -1,33 +1,28 @@
 //! The question `spans`: the units of a document.
 ghost use Rattle.std.specs.Prelude.{◌≡◌, ◌≤◌, length, IfOk, IfErr};
 ghost use Rattle.tml_span.specs.Faults.{HasFault};
-ghost use Rattle.tml_tool.specs.Answer.{HasTable, doc_limit};
-ghost use Rattle.tml_tool.specs.Replies.{RepliesOver};
-ghost use Rattle.tml_tool.specs.View.{text_of};
+ghost use Rattle.tml_tool.specs.Questions.{HasTable, doc_limit};
+ghost use Rattle.tml_tool.specs.View.{IsAnswer};
 ghost use Rattle.tml_tool.specs.declared.command.Question.TheVariants as questions;
 
-use crate::Status;
-use crate::faults::{cut_fault, refusal};
-use crate::reply::{Reply, Text};
+use crate::answer::Answer;
+use crate::refusal::refusal;
 use crate::table::push_unit;
-use std::alloc::Global;
-use tml_span::{Cut, UnitReader};
+use std::alloc::{AllocError, Global};
+use tml_span::{Cut, NotUtf8, UnitReader};
 
 /// The table of the units, or the fault of the cut.
-pub fn spans(alloc: Global, doc: &[u8]) -> Reply
+pub fn spans(alloc: Global, doc: &[u8]) -> Result<Answer, AllocError>
     requires { length doc.now ≤ doc_limit }
-    ensures { RepliesOver questions.Spans doc.now result.status (text_of result.text) }
+    ensures { IfOk result (IsAnswer questions.Spans doc.now) }
 {
     match unit_table(alloc, doc) {
-        Ok(table) => Reply {
-            status: Status::Done,
-            text: Text::Made(table),
-        },
-        Err(fault) => refusal(alloc, cut_fault(fault)),
+        Ok(table) => Ok(Answer::done(table)),
+        Err(fault) => refusal(alloc, fault.kind_and_place()),
     }
 }
 
-/// A line for each unit, and behind a start tag one for each attribute.
+/// A line for each unit, and after that of a start tag one for each attribute.
 fn unit_table(alloc: Global, doc: &[u8]) -> Result<Vec<u8>, Cut>
     requires { length doc.now ≤ doc_limit }
     ensures ok { IfOk result (λ table. HasTable doc.now table.items) }
@@ -35,7 +30,7 @@ fn unit_table(alloc: Global, doc: &[u8]) -> Result<Vec<u8>, Cut>
 {
     let mut reader = match UnitReader::new(doc) {
         Ok(reader) => reader,
-        Err(fault) => return Err(fault),
+        Err(NotUtf8 { place }) => return Err(Cut::NotUtf8 { place }),
     };
     let mut table = Vec::new(alloc);
     loop {

@@ -1,7 +1,7 @@
 //! Worked rows of the commands, by `run` over the objects in memory.
 mod checks;
 mod dates;
-mod faults;
+mod each_fault;
 
 use crate::{Status, run};
 use std::alloc::{AllocError, Global};
@@ -186,7 +186,7 @@ fn rows_of_references(rt: HostRuntime) -> Result<(), Fail> {
             b"<TimeML><SIGNAL sid=\"s1\"/><SIGNAL sid=\"s1\"/><MAKEINSTANCE eiid=\"i1\" eventID=\"e9\"/></TimeML>&x",
             b"fault 2 BadReference 91\n",
         ),
-        // A bad reference before the stop outranks the bad markup there, and one behind it does not.
+        // A bad reference before the stop outranks the bad markup there, and one after it does not.
         fault(b"a&b<", b"fault 2 BadReference 1\n"),
         fault(b"ab<&c", b"fault 3 BadMarkup 2\n"),
         fault(b"<a b='&'", b"fault 3 BadMarkup 0\n"),

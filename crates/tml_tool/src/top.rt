@@ -1,50 +1,54 @@
 //! The top call.
-ghost use Rattle.std.specs.Prelude.{true, ◌≡◌, ◌≤◌, ◌↔◌, ℕ, None};
-ghost use Rattle.tml_io.specs.Faults.{Rose};
-ghost use Rattle.tml_io.specs.Files.{more};
-ghost use Rattle.tml_io.specs.Room.{EndsCalm};
-ghost use Rattle.tml_tool.specs.Outcome.{Outcome, AreThere};
-ghost use Rattle.tml_tool.specs.Replies.{Takes};
-ghost use Rattle.tml_tool.specs.Words.{texts_of, form_of, names_of};
+ghost use Rattle.std.specs.Prelude.{true, ◌≡◌, ◌≤◌, ◌↔◌, None};
+ghost use Rattle.tml_io.specs.Faults.{HasRisen};
+ghost use Rattle.tml_io.specs.Room.{FaultsOnlyWhenFull};
+ghost use Rattle.tml_tool.specs.Commands.{rows_of_words};
+ghost use Rattle.tml_tool.specs.Outcome.{Outcome};
+ghost use Rattle.tml_tool.specs.Reading.{AllThere, NoneReached};
+ghost use Rattle.tml_tool.specs.Words.{texts_of, form_of};
 
 use crate::Status;
-use crate::command::{Command, command_of};
-use crate::document::answer;
-use crate::reply::{Reply, deliver};
+use crate::command::command_of;
+use crate::reply::deliver;
+use crate::replying::reply_to;
 use std::alloc::Global;
 use tml_io::{Inputs, Sink};
 
-/// Does what the words ask for: reads the files that they name from `inputs`, and writes the answer, or
-/// the text of a refusal, to `sink`. The answer is made whole before its first byte is written.
+/// Does what the words ask for: reads the files that they name from `inputs`, and writes the answer, or the text of a
+/// refusal, to `sink`. The reply is made whole before its first byte is written.
 ///
-/// The refusals come in this order: Usage, ReadFault or TooLong, DocFault, WriteFault. NoMemory may come at
-/// any place between Usage and the writing.
+/// The refusals come in this order: Usage, ReadFault or TooLong of a file, what the contents of the files read so far
+/// decide, and so on with the next file, WriteFault. NoMemory may come at any place between Usage and the writing.
 pub fn run<I: Inputs, S: Sink>(
     alloc: Global,
     words: &[String],
     inputs: &mut I,
     sink: &mut S,
 ) -> Status
-    // The status is that of the answer to the words, and its text is what was written.
-    ensures outcome { Outcome (I.files inputs.old) (form_of (texts_of words.now)) result (S.written sink.old) (S.written sink.new) (S.faults sink.old) (S.faults sink.new) }
+    // The status is that of the reply to the words, its text is what was written, and the bytes that were taken are
+    // those of the files that were read for it.
+    ensures outcome { Outcome (I.files inputs.old) (rows_of_words words.now) result
+        (I.given inputs.old) (I.given inputs.new)
+        (S.written sink.old) (S.written sink.new) (S.faults sink.old) (S.faults sink.new) }
     ensures usage { (result ≡ Status.Usage) ↔ (form_of (texts_of words.now) ≡ None) }
-    ensures usage_reads_nothing { result ≡ Status.Usage → inputs.new ≡ inputs.old }
 
-    // A fault of a device is answered only where its count rose in this call, or stands at its last value.
-    ensures read_fault { result ≡ Status.ReadFault → Rose (I.faults inputs.old) (I.faults inputs.new) }
-    ensures write_fault { result ≡ Status.WriteFault → Rose (S.faults sink.old) (S.faults sink.new) }
-    // How many bytes the inputs gave: past the limit only where a file is too long, or memory wanting.
-    ensures taken { (taken : ℕ) × Takes (form_of (texts_of words.now)) result taken × (I.given inputs.new ≡ more (I.given inputs.old) taken) }
+    // A fault of a device is answered only where its count rose in this call, or has its greatest value. Out of memory
+    // nothing was written.
+    ensures read_fault { result ≡ Status.ReadFault → HasRisen (I.faults inputs.old) (I.faults inputs.new) }
+    ensures write_fault { result ≡ Status.WriteFault → HasRisen (S.faults sink.old) (S.faults sink.new) }
+    ensures no_memory { result ≡ Status.NoMemory → sink.new ≡ sink.old }
 
-    // Sound inputs that have the files fail nothing, and a sink fails nothing before its room is used up.
-    ensures sound { I.sound inputs.old ≡ true → AreThere (I.files inputs.old) (names_of (form_of (texts_of words.now))) → I.faults inputs.new ≡ I.faults inputs.old }
-    ensures room { EndsCalm (S.room sink.old) (S.room sink.new) (S.faults sink.old) (S.faults sink.new) }
+    // Sound inputs fail nothing where each file that is reached is there, and a sink fails nothing before it is full.
+    ensures sound { I.sound inputs.old ≡ true → AllThere (I.files inputs.old) (rows_of_words words.now)
+        → I.faults inputs.new ≡ I.faults inputs.old }
+    ensures room { FaultsOnlyWhenFull (S.room sink.old) (S.room sink.new) (S.faults sink.old) (S.faults sink.new) }
+
+    // Inputs are untouched where no file is reached. What is known of them stays known, and no count of faults falls.
+    ensures untouched { NoneReached (I.files inputs.old) (rows_of_words words.now) → inputs.new ≡ inputs.old }
+    ensures files { I.files inputs.new ≡ I.files inputs.old }
+    ensures stays_sound { I.sound inputs.new ≡ I.sound inputs.old }
+    ensures reading_never_falls { I.faults inputs.old ≤ I.faults inputs.new }
+    ensures writing_never_falls { S.faults sink.old ≤ S.faults sink.new }
 {
-    match command_of(words) {
-        Command::Usage => deliver(sink, Reply::usage()),
-        Command::OfDocument { question, doc } => deliver(
-            sink,
-            answer(alloc, question, doc, inputs),
-        ),
-    }
+    deliver(sink, reply_to(alloc, command_of(words), inputs))
 }

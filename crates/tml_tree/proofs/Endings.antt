@@ -2,7 +2,7 @@
 use Rattle.std.proofs.Common.{◌≡◌, ℕ, true, List, [], ◌∷◌, ◌++◌, refl, ap, ◌∙◌, Some}
 use Rattle.std.specs.Str.{bytes_eq}
 use Rattle.tml_tree.specs.declared.builder.Frame.{Frame}
-use Rattle.tml_tree.specs.Names.{text_of}
+use Rattle.tml_tree.specs.TagNames.{text_of}
 use Rattle.tml_tree.specs.Plain.{PlainNode, element, nodes_of}
 use Rattle.tml_tree.specs.Nesting.{OpenTag}
 use Rattle.tml_tree.specs.Rules.{is_innermost}

@@ -1,60 +1,53 @@
 -- Units have one answer.
-use Rattle.std.proofs.Common.{◌≡◌, ◌⊎◌, inl, inr, ℕ, Bool, List, [], ◌∷◌, ◌++◌, refl, sym, ap, subst, ◌∙◌, append_assoc}
-use Rattle.std.proofs.lemmas.List.{append-nil}
+use Rattle.std.proofs.Common.{◌≡◌, ℕ, List, [], length, refl, sym, subst, ◌∙◌, inl, inr}
+use Rattle.faults.specs.declared.kind.FaultKind.{FaultKind}
+use Rattle.faults.specs.Kinds.{number_of}
+use Rattle.faults.proofs.First as first
+use Rattle.faults.proofs.Numbered.{kinds_are_numbered}
 use Rattle.tml_span.specs.Units.{PlainUnit}
-use Rattle.tml_tree.specs.declared.rules.Rule.{Rule}
-use Rattle.tml_tree.specs.Rules.{rule}
-use Rattle.tml_tree.specs.Trees.{Path, HasPath, FaultAt, OneAnswers}
-use Rattle.tml_tree.proofs.Running.{some_is}
-use Rattle.tml_tree.proofs.Paths.{one_path, path_before}
+use Rattle.tml_span.specs.Whole.{IsWhole}
+use Rattle.tml_span.proofs.Excluding.{one_faults}
+use Rattle.tml_span.proofs.OneCut.{one_cut_from}
+use Rattle.tml_tree.specs.Plain.{PlainNode}
+use Rattle.tml_tree.specs.Trees.{Breaks, Document, start_of, OneAnswers, PathEnds}
+use Rattle.tml_tree.specs.Whole.{FaultOf, IsTreeOf, SourceFaultAt, OneSourceAnswers}
 
--- each front of units with a path has one
-path_front : (xs ys : List PlainUnit) → HasPath (xs ++ ys) → HasPath xs
-path_front xs [] h = subst (λ (us : List PlainUnit). HasPath us) (append-nil xs) h
-path_front xs (y ∷ ys) h = path_before xs y (path_front (xs ++ y ∷ []) ys (subst (λ (us : List PlainUnit). HasPath us) (sym (append_assoc xs (y ∷ []) ys)) h))
-
--- a list cut twice at an element: at one place, or at two
-pub two_cuts : {A : Type 0} (before other after rest : List A) (u v : A) → before ++ u ∷ after ≡ other ++ v ∷ rest
-    → ((before ≡ other) × (u ≡ v)) ⊎ ((mid : List A) × (other ≡ before ++ u ∷ mid)) ⊎ ((mid : List A) × (before ≡ other ++ v ∷ mid))
-two_cuts [] [] after rest u v e = inl (refl, cc)
-two_cuts [] (o ∷ other) after rest u v e = inr (inl (other, cc))
-two_cuts (b ∷ before) [] after rest u v e = inr (inr (before, cc))
-two_cuts (b ∷ before) (o ∷ other) after rest u v e =
-    let head : b ≡ o = cc in
-    let tail : before ++ u ∷ after ≡ other ++ v ∷ rest = cc in
-    elim (two_cuts before other after rest u v tail) [
-      | inl k ↦ inl (cc (k.0), k.1)
-      | inr (inl k) ↦ inr (inl (k.0, cc (k.1)))
-      | inr (inr k) ↦ inr (inr (k.0, cc (k.1)))
-    ]
-
--- no path goes on past a fault
-stops : (before after : List PlainUnit) (u : PlainUnit) → (HasPath (before ++ u ∷ []) → ⊥) → HasPath (before ++ u ∷ after) → ⊥
-stops before after u none h = none (path_front (before ++ u ∷ []) after (subst (λ (us : List PlainUnit). HasPath us) (sym (append_assoc before (u ∷ []) after)) h))
-
-no_fault : (us : List PlainUnit) (at : ℕ) (r : Rule) → HasPath us → FaultAt us at r → ⊥
-no_fault us at r h f = stops f.before f.after f.u f.no_path (subst (λ (vs : List PlainUnit). HasPath vs) f.whole h)
-
-has_path : (us : List PlainUnit) (at : ℕ) (r : Rule) (f : FaultAt us at r) (before : List PlainUnit) → f.before ≡ before → HasPath before
-has_path us at r f before e = subst (λ (vs : List PlainUnit). HasPath vs) e (f.names, f.seen, f.path)
-
-same_fault : (us : List PlainUnit) (at other : ℕ) (r s : Rule) (f : FaultAt us at r) (g : FaultAt us other s) → f.before ≡ g.before → f.u ≡ g.u → (at ≡ other) × (r ≡ s)
-same_fault us at other r s f g e k =
-    let n = one_path g.before f.names g.names f.seen g.seen (subst (λ (vs : List PlainUnit). Path vs f.names f.seen) e f.path) g.path in
-    let same = ap (λ (q : List PlainUnit × List (List ℕ) × Bool × PlainUnit). rule q.0 q.1 q.2 q.3) (λ i. (e i, n.0 i, n.1 i, k i)) in
-    (f.place ∙ ap (λ (u : PlainUnit). u.start) k ∙ sym g.place, some_is (sym f.first ∙ same ∙ g.first))
-
-one_fault : (us : List PlainUnit) (at other : ℕ) (r s : Rule) → FaultAt us at r → FaultAt us other s → (at ≡ other) × (r ≡ s)
-one_fault us at other r s f g = elim (two_cuts f.before g.before f.after g.after f.u g.u (sym f.whole ∙ g.whole)) [
-  | inl k ↦ same_fault us at other r s f g k.0 k.1
-  | inr (inl k) ↦ absurd (stops f.before k.0 f.u f.no_path (has_path us other s g _ k.1))
-  | inr (inr k) ↦ absurd (stops g.before k.0 g.u g.no_path (has_path us at r f _ k.1))
-]
+pub path_ends : PathEnds
+path_ends = λ us place kind f. ((f.broken.0, f.broken.1, (f.broken.2, f.none_before)), λ h. h.2.1 f.before [] f.element kind refl f.broken)
 
 pub one_answer : OneAnswers
 one_answer = λ us. record {
-  tree_or_fault = λ root at r d f. no_fault us at r ([], _, d.0) f;
+  tree_or_fault = λ root place kind d f. first.none_or_fault Breaks number_of start_of us place kind d.0.1 f;
   tree_or_unclosed = λ root d n. n.1 d.0;
-  fault_or_unclosed = λ at r f n. no_fault us at r n.0 f;
-  one_fault = one_fault us;
+  fault_or_unclosed = λ place kind f n. first.none_or_fault Breaks number_of start_of us place kind n.0.2.1 f;
+  one_fault = first.one_fault Breaks number_of start_of kinds_are_numbered us;
 }
+
+-- ---- of a source
+
+one_of_units : (end : ℕ) (us : List PlainUnit) (place other : ℕ) (kind same : FaultKind) → FaultOf end us place kind → FaultOf end us other same → (place ≡ other) × (kind ≡ same)
+one_of_units end us place other kind same (inl f) (inl g) = (one_answer us).one_fault place other kind same f g
+one_of_units end us place other kind same (inl f) (inr g) = absurd ((one_answer us).fault_or_unclosed place kind f g.2)
+one_of_units end us place other kind same (inr f) (inl g) = absurd ((one_answer us).fault_or_unclosed other same g f.2)
+one_of_units end us place other kind same (inr f) (inr g) = (f.1 ∙ sym g.1, f.0 ∙ sym g.0)
+
+no_fault : (end : ℕ) (us : List PlainUnit) (root : PlainNode) (place : ℕ) (kind : FaultKind) → Document root us → FaultOf end us place kind → ⊥
+no_fault end us root place kind d (inl f) = (one_answer us).tree_or_fault root place kind d f
+no_fault end us root place kind d (inr f) = (one_answer us).tree_or_unclosed root d f.2
+
+same_units : (source : List ℕ) (us vs : List PlainUnit) → IsWhole (record { source = source; units = us }) → IsWhole (record { source = source; units = vs }) → us ≡ vs
+same_units source us vs h k = (one_cut_from 0 source us vs [] [] h.1 k.1).0
+
+tree_or_fault : (source : List ℕ) (root : PlainNode) (place : ℕ) (kind : FaultKind) → IsTreeOf source root → SourceFaultAt source place kind → ⊥
+tree_or_fault source root place kind t (inl f) = (one_faults source).whole_or_fault t.0 place kind t.1 f
+tree_or_fault source root place kind t (inr f) = no_fault (length source) f.0 root place kind (subst (λ (us : List PlainUnit). Document root us) (same_units source t.0 f.0 t.1 f.1) t.2) f.2
+
+one_source_fault : (source : List ℕ) (place other : ℕ) (kind same : FaultKind) → SourceFaultAt source place kind → SourceFaultAt source other same → (place ≡ other) × (kind ≡ same)
+one_source_fault source place other kind same (inl f) (inl g) = (one_faults source).one_fault place other kind same f g
+one_source_fault source place other kind same (inl f) (inr g) = absurd ((one_faults source).whole_or_fault g.0 place kind g.1 f)
+one_source_fault source place other kind same (inr f) (inl g) = absurd ((one_faults source).whole_or_fault f.0 other same f.1 g)
+one_source_fault source place other kind same (inr f) (inr g) =
+    one_of_units (length source) g.0 place other kind same (subst (λ (us : List PlainUnit). FaultOf (length source) us place kind) (same_units source f.0 g.0 f.1 g.1) f.2) g.2
+
+pub one_source_answer : OneSourceAnswers
+one_source_answer = λ source. record { tree_or_fault = tree_or_fault source; one_fault = one_source_fault source }

@@ -1,16 +1,18 @@
--- The tag of a name, and the rule of a start or empty tag.
-use Rattle.std.proofs.Common.{◌≡◌, ◌≤◌, ◌<◌, ℕ, Bool, true, false, cond, not, nat_le, List, [], ◌∷◌, length, slice_index_or, sym, ap, ◌∙◌, arith, Some, None}
+-- The tag of a name, and the first fault of a start or empty tag.
+use Rattle.std.proofs.Common.{◌≡◌, ◌≤◌, ◌<◌, ℕ, Bool, true, false, not, nat_le, List, [], ◌∷◌, length, slice_index_or, sym, ap, ◌∙◌, arith, Some}
 use Rattle.std.specs.List.{filter}
 use Rattle.std.proofs.lemmas.List.{length-map, length-reverse}
 use Rattle.std.proofs.lemmas.Bool.Decides.{nat_tests}
 use Rattle.named.specs.Texts.{named_of}
 use Rattle.named.proofs.Tables.{found_among, named_some}
-use Rattle.tml_tree.specs.declared.names.TagName.{TagName}
-use Rattle.tml_tree.specs.declared.rules.Rule.TheVariants.{UnknownTag, Misplaced, TooDeep}
+use Rattle.tml_tree.specs.declared.tag_name.TagName.{TagName}
+use Rattle.tml_span.specs.Units.{start_tag}
 use Rattle.tml_tree.specs.declared.builder.Frame.{Frame}
-use Rattle.tml_tree.specs.Names.{text_of, all_tags, begins_with, is_known}
-use Rattle.tml_tree.specs.Rules.{History, is_misplaced_tag, tag_rule}
+use Rattle.tml_tree.specs.TagNames.{text_of, all_tags, begins_with, is_known}
+use Rattle.tml_tree.specs.Rules.{History, is_misplaced_tag}
+use Rattle.tml_tree.specs.Taking.{first_fault}
 use Rattle.tml_tree.specs.View.{names_of}
+use Rattle.tml_tree.proofs.FirstFaults.{first_of}
 use Rattle.tml_tree.proofs.Running.{same_name}
 
 -- the tag of a name is one of those that begin with the first byte of the name
@@ -21,10 +23,9 @@ pub found_by_first : (name : List ℕ) → 1 ≤ length name → named_of text_o
 found_by_first [] some = absurd (omega arith)
 found_by_first (first ∷ rest) some = found_among text_of (begins_with first) all_tags (first ∷ rest) (begins first rest)
 
--- the rule by its three tests
-pub rule_by : (h : History) (name : List ℕ) (known misplaced deep : Bool) → is_known name ≡ known → is_misplaced_tag h name ≡ misplaced → nat_le 32 (length h.names) ≡ deep
-    → tag_rule h name ≡ cond (not known) (Some UnknownTag) (cond misplaced (Some Misplaced) (cond deep (Some TooDeep) None))
-rule_by h name known misplaced deep k m d = λ i. cond (not (k i)) (Some UnknownTag) (cond (m i) (Some Misplaced) (cond (d i) (Some TooDeep) None))
+-- the first fault of a start tag by its three tests
+pub fault_by : (h : History) (name : List ℕ) (known misplaced deep : Bool) → is_known name ≡ known → is_misplaced_tag h name ≡ misplaced → nat_le 32 (length h.names) ≡ deep → first_fault h (start_tag name []) ≡ first_of (not known) false misplaced deep
+fault_by h name known misplaced deep k m d = λ i. first_of (not (k i)) false (m i) (d i)
 
 deep_is : (frames : List Frame) → length (names_of frames) ≡ length frames
 deep_is frames = simp (length-map, length-reverse)
@@ -35,9 +36,9 @@ is_deep frames h = rw (deep_is frames) (grind (arith, nat_tests))
 pub is_flat : (frames : List Frame) → length frames < 32 → nat_le 32 (length (names_of frames)) ≡ false
 is_flat frames h = rw (deep_is frames) (grind (arith, nat_tests))
 
--- the rule where the name is that of a tag
-pub tag_rule_by : (h : History) (name : List ℕ) (tag : TagName) (misplaced deep : Bool) → named_of text_of all_tags name ≡ Some tag → is_misplaced_tag h (text_of tag) ≡ misplaced → nat_le 32 (length h.names) ≡ deep
-    → tag_rule h name ≡ cond misplaced (Some Misplaced) (cond deep (Some TooDeep) None)
-tag_rule_by h name tag misplaced deep n m d =
+-- the same where the name is that of a tag
+pub tag_fault_by : (h : History) (name : List ℕ) (tag : TagName) (misplaced deep : Bool) → named_of text_of all_tags name ≡ Some tag → is_misplaced_tag h (text_of tag) ≡ misplaced → nat_le 32 (length h.names) ≡ deep
+    → first_fault h (start_tag name []) ≡ first_of false false misplaced deep
+tag_fault_by h name tag misplaced deep n m d =
     let named = named_some text_of all_tags name tag n in
-    rule_by h name true misplaced deep named.1 (ap (λ (t : List ℕ). is_misplaced_tag h t) (sym named.0) ∙ m) d
+    fault_by h name true misplaced deep named.1 (ap (λ (t : List ℕ). is_misplaced_tag h t) (sym named.0) ∙ m) d

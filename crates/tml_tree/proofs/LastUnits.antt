@@ -1,17 +1,18 @@
 -- What the last unit does to the open names.
 use Rattle.std.proofs.Common.{◌≡◌, ℕ, Bool, true, false, cond, List, [], ◌∷◌, map, refl, sym, ap, subst, Some, None}
+use Rattle.std.proofs.lemmas.Option.{same_Some}
 use Rattle.std.specs.Str.{bytes_eq}
 use Rattle.std.proofs.lemmas.Slice.Eq.{bytes_eq-Decides}
+use Rattle.faults.proofs.First.{none_breaks_prefix}
 use Rattle.tml_span.specs.Units.{Kind, bom, declaration, doctype, comment, text, start_tag, end_tag, empty_tag}
 use Rattle.tml_tree.specs.Plain.{unit, PlainNode}
 use Rattle.tml_tree.specs.Nesting.{OpenTag, name_of, is_seen}
 use Rattle.tml_tree.specs.Stage.{Stage, step}
-use Rattle.tml_tree.specs.Trees.{Differs, LastUnit}
-use Rattle.tml_tree.proofs.Running.{some_is, nests_before}
-use Rattle.tml_tree.proofs.Paths.{lawful_before}
+use Rattle.tml_tree.specs.Trees.{Breaks, Differs, LastUnit}
+use Rattle.tml_tree.proofs.Running.{nests_before}
 
 tags_are : (s t : Stage) → Some s ≡ Some t → map name_of t.tags ≡ map name_of s.tags
-tags_are s t e = ap (λ (r : Stage). map name_of r.tags) (sym (some_is e))
+tags_are s t e = ap (λ (r : Stage). map name_of r.tags) (sym (same_Some _ _ e))
 
 taken : (t : OpenTag) (tags : List OpenTag) (name : List ℕ) (nodes : List PlainNode) (s : Stage) (b : Bool) → bytes_eq t.name name ≡ b → cond b (Some (record { tags = tags; nodes = nodes })) None ≡ Some s → map name_of (t ∷ tags) ≡ name ∷ map name_of s.tags
 taken t tags name nodes s false e h = absurd cc
@@ -37,6 +38,6 @@ last_unit = λ us u names seen h.
     let b = nests_before us u n.0 n.1 n.2 in (
       map name_of b.0.tags,
       is_seen b.0.tags b.0.nodes,
-      ((b.0.tags, b.0.nodes, b.1, refl, refl), lawful_before us u h.1),
+      ((b.0.tags, b.0.nodes, b.1, refl, refl), none_breaks_prefix Breaks us (u ∷ []) h.1),
       subst (λ (ns : List (List ℕ)). Differs u.kind (map name_of b.0.tags) ns) (sym n.3) (differs u.start u.end u.kind b.0.tags b.0.nodes _ b.2),
     )

@@ -1,11 +1,14 @@
+pub mod Depths
 pub mod Endings
 pub mod Faults
+pub mod FirstFaults
 pub mod Known
 pub mod LastUnits
+pub mod LaidOut
 pub mod LinkTags
 pub mod Paths
 pub mod Pulling
 pub mod Rows
 pub mod Running
 pub mod Stacks
-pub mod Standing
+pub mod Taken

@@ -1,16 +1,15 @@
 -- Only the innermost open tag can be a link tag.
-use Rattle.std.proofs.Common.{◌≡◌, ℕ, Bool, true, false, cond, not, ◌&&◌, ◌||◌, nat_le, List, [], ◌∷◌, length, refl, sym, subst, Some, None}
+use Rattle.std.proofs.Common.{◌≡◌, ℕ, Bool, true, false, not, ◌&&◌, ◌||◌, nat_le, List, [], ◌∷◌, length, refl, sym, subst, None}
 use Rattle.std.specs.List.{list_any}
 use Rattle.tml_span.specs.Units.{Kind, start_tag, end_tag}
-use Rattle.tml_tree.specs.declared.rules.Rule.TheVariants.{UnknownTag, Misplaced, TooDeep}
-use Rattle.tml_tree.specs.Plain.{unit}
-use Rattle.tml_tree.specs.Names.{is_known, is_link, is_root}
-use Rattle.tml_tree.specs.Rules.{History, is_nil, unit_rule}
-use Rattle.tml_tree.specs.Taking.{OnlyInnermost}
+use Rattle.tml_tree.specs.TagNames.{is_known, is_link, is_root}
+use Rattle.tml_tree.specs.Rules.{History, is_nil}
+use Rattle.tml_tree.specs.Taking.{OnlyInnermost, first_fault}
 use Rattle.tml_tree.specs.Trees.{Differs}
+use Rattle.tml_tree.proofs.FirstFaults.{first_of}
 
--- a tag that is allowed stands in no link tag
-outside_rule : (a l m s r d : Bool) → cond a (Some UnknownTag) (cond (l || m || s || r) (Some Misplaced) (cond d (Some TooDeep) None)) ≡ None → l ≡ false
+-- a tag that is allowed is in no link tag
+outside_rule : (a l m s r d : Bool) → first_of a false (l || m || s || r) d ≡ None → l ≡ false
 outside_rule true l m s r d e = absurd cc
 outside_rule false true m s r d e = absurd cc
 outside_rule false false m s r d e = refl
@@ -23,8 +22,8 @@ no_links (n ∷ names) e = elim (is_link n) as (λ b. (b || list_any is_link nam
 ] e
 
 -- a unit that no rule forbids keeps it so
-pub links_kept : (start end : ℕ) (k : Kind) (h : History) (after : List (List ℕ)) → OnlyInnermost h.names → unit_rule h (unit start end k) ≡ None → Differs k h.names after → OnlyInnermost after
-links_kept start end (start_tag name attrs) h after o r d =
+pub links_kept : (k : Kind) (h : History) (after : List (List ℕ)) → OnlyInnermost h.names → first_fault h k ≡ None → Differs k h.names after → OnlyInnermost after
+links_kept (start_tag name attrs) h after o r d =
     subst (λ (ns : List (List ℕ)). OnlyInnermost ns) (sym d) (outside_rule (not (is_known name)) (list_any is_link h.names) (not h.tagged && not (is_root name)) h.seen (not (is_nil h.names) && is_root name) (nat_le 32 (length h.names)) r)
-links_kept start end (end_tag name) h after o r d = no_links after (subst (λ (ns : List (List ℕ)). OnlyInnermost ns) d o)
-links_kept start end k h after o r d = subst (λ (ns : List (List ℕ)). OnlyInnermost ns) (sym d) o
+links_kept (end_tag name) h after o r d = no_links after (subst (λ (ns : List (List ℕ)). OnlyInnermost ns) d o)
+links_kept k h after o r d = subst (λ (ns : List (List ℕ)). OnlyInnermost ns) (sym d) o

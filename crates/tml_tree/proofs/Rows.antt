@@ -4,7 +4,7 @@ use mathlib.Core.Former.{Count}
 use Rattle.tml_span.specs.View.{attribute_of}
 use Rattle.tml_tree.specs.declared.node.Tag.{Tag}
 use Rattle.tml_tree.specs.declared.node.Node.{Node, Element, Element', Row_of-Node, end_of-Node, more_of-Node, items-the_row-Node, items_hidden-the_row-Node-0}
-use Rattle.tml_tree.specs.Names.{text_of}
+use Rattle.tml_tree.specs.TagNames.{text_of}
 use Rattle.tml_tree.specs.Plain.{PlainNodes, more, element, nodes_of}
 use Rattle.tml_tree.specs.View.{node_of, row_of}
 

@@ -1,5 +1,6 @@
 -- Nesting and running give the same.
 use Rattle.std.proofs.Common.{◌≡◌, inl, inr, ℕ, Bool, true, false, cond, List, [], ◌∷◌, ◌++◌, refl, sym, ap, subst, ◌∙◌, append_assoc, Option, Some, None}
+use Rattle.std.proofs.lemmas.Option.{same_Some}
 use Rattle.std.specs.Prelude.{option_and_then}
 use Rattle.std.specs.List.{filter}
 use Rattle.std.specs.Str.{bytes_eq}
@@ -10,9 +11,6 @@ use Rattle.tml_span.specs.Units.{Kind, bom, declaration, doctype, comment, text,
 use Rattle.tml_tree.specs.Plain.{unit, PlainNode, PlainNodes, text_node, comment_node, element, none, more, nodes_of}
 use Rattle.tml_tree.specs.Nesting.{Item, Items, OpenTag, tag_unit, Opens, is_content}
 use Rattle.tml_tree.specs.Stage.{Stage, step, run}
-
-pub some_is : {A : Type 0} {x y : A} → Some x ≡ Some y → x ≡ y
-some_is e = cc
 
 pub then_some : {A B : Type 0} (o : Option A) (f : A → Option B) (y : B) → option_and_then f o ≡ Some y → (x : A) × (o ≡ Some x) × (f x ≡ Some y)
 then_some (Some x) f y e = (x, refl, e)
@@ -84,11 +82,11 @@ pub opens_more : (tags : List OpenTag) (nodes : List PlainNode) (n : PlainNode) 
 opens_more [] nodes n us vs h i = items_more nodes n us vs h i
 opens_more (t ∷ tags) nodes n us vs h i = (h.0, h.1 ++ vs, rw h.2 (append_assoc h.0 (tag_unit t ∷ h.1) vs), h.3, items_more nodes n h.1 vs h.4 i)
 
--- a start tag stands open behind what stood
+-- a start tag is open after what was there
 pub opens_tag : (tags : List OpenTag) (nodes : List PlainNode) (us : List PlainUnit) (t : OpenTag) → Opens us tags nodes → t.before ≡ nodes → Opens (us ++ tag_unit t ∷ []) (t ∷ tags) []
 opens_tag tags nodes us t h e = (us, [], refl, rw e h, refl)
 
--- an end tag makes an element of what stands behind its start tag
+-- an end tag makes an element of what follows its start tag
 pub opens_end : (t : OpenTag) (tags : List OpenTag) (nodes : List PlainNode) (us : List PlainUnit) (turn end : ℕ) → Opens us (t ∷ tags) nodes
     → Opens (us ++ unit turn end (end_tag t.name) ∷ []) tags (t.before ++ element t.start end t.name t.attrs (nodes_of nodes) ∷ [])
 opens_end t tags nodes us turn end h =
@@ -102,20 +100,20 @@ closes : (t : OpenTag) (tags : List OpenTag) (nodes : List PlainNode) (us : List
 closes t tags nodes us start end name s false e h w = absurd cc
 closes t tags nodes us start end name s true e h w =
     let same = (bytes_eq-Decides t.name name).0 e in
-    subst (λ (r : Stage). Opens (us ++ unit start end (end_tag name) ∷ []) r.tags r.nodes) (some_is w) (subst (λ (n : List ℕ). Opens (us ++ unit start end (end_tag n) ∷ []) tags (t.before ++ element t.start end t.name t.attrs (nodes_of nodes) ∷ [])) same (opens_end t tags nodes us start end h))
+    subst (λ (r : Stage). Opens (us ++ unit start end (end_tag name) ∷ []) r.tags r.nodes) (same_Some _ _ w) (subst (λ (n : List ℕ). Opens (us ++ unit start end (end_tag n) ∷ []) tags (t.before ++ element t.start end t.name t.attrs (nodes_of nodes) ∷ [])) same (opens_end t tags nodes us start end h))
 
 opens_kind : (start end : ℕ) (k : Kind) (tags : List OpenTag) (nodes : List PlainNode) (us : List PlainUnit) (s : Stage) → Opens us tags nodes → step tags nodes (unit start end k) ≡ Some s → Opens (us ++ filter is_content (unit start end k ∷ [])) s.tags s.nodes
-opens_kind start end bom tags nodes us s h e = rw (append-nil us) (subst (λ (r : Stage). Opens us r.tags r.nodes) (some_is e) h)
-opens_kind start end (declaration b) tags nodes us s h e = rw (append-nil us) (subst (λ (r : Stage). Opens us r.tags r.nodes) (some_is e) h)
-opens_kind start end (doctype b) tags nodes us s h e = rw (append-nil us) (subst (λ (r : Stage). Opens us r.tags r.nodes) (some_is e) h)
-opens_kind start end (comment b) tags nodes us s h e = subst (λ (r : Stage). Opens (us ++ unit start end (comment b) ∷ []) r.tags r.nodes) (some_is e) (opens_more tags nodes (comment_node start end b) us _ h refl)
-opens_kind start end (text b) tags nodes us s h e = subst (λ (r : Stage). Opens (us ++ unit start end (text b) ∷ []) r.tags r.nodes) (some_is e) (opens_more tags nodes (text_node start end b) us _ h refl)
-opens_kind start end (start_tag name attrs) tags nodes us s h e = subst (λ (r : Stage). Opens (us ++ unit start end (start_tag name attrs) ∷ []) r.tags r.nodes) (some_is e) (us, [], refl, h, refl)
-opens_kind start end (empty_tag name attrs) tags nodes us s h e = subst (λ (r : Stage). Opens (us ++ unit start end (empty_tag name attrs) ∷ []) r.tags r.nodes) (some_is e) (opens_more tags nodes (element start end name attrs none) us _ h (inl (refl, refl)))
+opens_kind start end bom tags nodes us s h e = rw (append-nil us) (subst (λ (r : Stage). Opens us r.tags r.nodes) (same_Some _ _ e) h)
+opens_kind start end (declaration b) tags nodes us s h e = rw (append-nil us) (subst (λ (r : Stage). Opens us r.tags r.nodes) (same_Some _ _ e) h)
+opens_kind start end (doctype b) tags nodes us s h e = rw (append-nil us) (subst (λ (r : Stage). Opens us r.tags r.nodes) (same_Some _ _ e) h)
+opens_kind start end (comment b) tags nodes us s h e = subst (λ (r : Stage). Opens (us ++ unit start end (comment b) ∷ []) r.tags r.nodes) (same_Some _ _ e) (opens_more tags nodes (comment_node start end b) us _ h refl)
+opens_kind start end (text b) tags nodes us s h e = subst (λ (r : Stage). Opens (us ++ unit start end (text b) ∷ []) r.tags r.nodes) (same_Some _ _ e) (opens_more tags nodes (text_node start end b) us _ h refl)
+opens_kind start end (start_tag name attrs) tags nodes us s h e = subst (λ (r : Stage). Opens (us ++ unit start end (start_tag name attrs) ∷ []) r.tags r.nodes) (same_Some _ _ e) (us, [], refl, h, refl)
+opens_kind start end (empty_tag name attrs) tags nodes us s h e = subst (λ (r : Stage). Opens (us ++ unit start end (empty_tag name attrs) ∷ []) r.tags r.nodes) (same_Some _ _ e) (opens_more tags nodes (element start end name attrs none) us _ h (inl (refl, refl)))
 opens_kind start end (end_tag name) [] nodes us s h e = absurd cc
 opens_kind start end (end_tag name) (t ∷ tags) nodes us s h e = closes t tags nodes us start end name s (bytes_eq t.name name) refl h e
 
--- what stands open behind one more unit
+-- what is open after one more unit
 pub opens_step : (us : List PlainUnit) (u : PlainUnit) (tags : List OpenTag) (nodes : List PlainNode) (s : Stage) → Opens (filter is_content us) tags nodes → step tags nodes u ≡ Some s → Opens (filter is_content (us ++ u ∷ [])) s.tags s.nodes
 opens_step us u tags nodes s h e = rw (filter-append is_content us (u ∷ [])) (opens_kind u.start u.end u.kind tags nodes (filter is_content us) s h e)
 
@@ -125,7 +123,7 @@ pub open_runs : (us : List PlainUnit) (tags : List OpenTag) (nodes : List PlainN
 open_runs us tags nodes h = sym (contents_run us [] []) ∙ ap (λ (vs : List PlainUnit). run [] [] vs) (sym (append-nil (filter is_content us))) ∙ opens_run tags nodes (filter is_content us) [] h
 
 run_from : (done us : List PlainUnit) (tags : List OpenTag) (nodes : List PlainNode) (s : Stage) → Opens (filter is_content done) tags nodes → run tags nodes us ≡ Some s → Opens (filter is_content (done ++ us)) s.tags s.nodes
-run_from done [] tags nodes s h e = rw (append-nil done) (subst (λ (r : Stage). Opens (filter is_content done) r.tags r.nodes) (some_is e) h)
+run_from done [] tags nodes s h e = rw (append-nil done) (subst (λ (r : Stage). Opens (filter is_content done) r.tags r.nodes) (same_Some _ _ e) h)
 run_from done (u ∷ us) tags nodes s h e =
     let one = then_some (step tags nodes u) (λ r. run r.tags r.nodes us) s e in
     subst (λ (vs : List PlainUnit). Opens (filter is_content vs) s.tags s.nodes) (append_assoc done (u ∷ []) us) (run_from (done ++ u ∷ []) us one.0.tags one.0.nodes s (opens_step done u tags nodes one.0 h one.1) one.2)
@@ -144,7 +142,7 @@ run_append (u ∷ us) vs tags nodes = elim (step tags nodes u) as (λ o. option_
 pub one_nesting : (us : List PlainUnit) (tags others : List OpenTag) (nodes rest : List PlainNode) → Opens (filter is_content us) tags nodes → Opens (filter is_content us) others rest → (tags ≡ others) × (nodes ≡ rest)
 one_nesting us tags others nodes rest h k =
     let e = sym (open_runs us tags nodes h) ∙ open_runs us others rest k in
-    (ap (λ (s : Stage). s.tags) (some_is e), ap (λ (s : Stage). s.nodes) (some_is e))
+    (ap (λ (s : Stage). s.tags) (same_Some _ _ e), ap (λ (s : Stage). s.nodes) (same_Some _ _ e))
 
 -- units that nest do so without the last
 pub nests_before : (us : List PlainUnit) (u : PlainUnit) (tags : List OpenTag) (nodes : List PlainNode) → Opens (filter is_content (us ++ u ∷ [])) tags nodes

@@ -1,10 +1,11 @@
-pub mod Names
 pub mod Nesting
+pub mod Places
 pub mod Plain
 pub mod Pulled
 pub mod Roots
 pub mod Rules
 pub mod Stage
+pub mod TagNames
 pub mod Taking
 pub mod Trees
 pub mod View

@@ -15,7 +15,7 @@ abbrev mutual
 
   pub Items : PlainNodes → List PlainUnit → Type 0
   Items none us = us ≡ []
-  Items (more n ns) us = (front : List PlainUnit) × (back : List PlainUnit) × (us ≡ front ++ back) × Item n front × Items ns back
+  Items (more n ns) us = (prefix : List PlainUnit) × (suffix : List PlainUnit) × (us ≡ prefix ++ suffix) × Item n prefix × Items ns suffix
 
 -- a start tag that is still open, and the nodes before it, back to the start tag that is open about it
 pub record OpenTag : Type 0 where
@@ -34,7 +34,7 @@ name_of t = t.name
 -- whole items, and for each open tag, the innermost first, its start tag and then whole items
 abbrev pub Opens : List PlainUnit → List OpenTag → List PlainNode → Type 0
 Opens us [] nodes = Items (nodes_of nodes) us
-Opens us (t ∷ ts) nodes = (front : List PlainUnit) × (back : List PlainUnit) × (us ≡ front ++ tag_unit t ∷ back) × Opens front ts t.before × Items (nodes_of nodes) back
+Opens us (t ∷ ts) nodes = (prefix : List PlainUnit) × (suffix : List PlainUnit) × (us ≡ prefix ++ tag_unit t ∷ suffix) × Opens prefix ts t.before × Items (nodes_of nodes) suffix
 
 -- a Bom, a declaration and a doctype are part of no item
 abbrev pub is_content : PlainUnit → Bool

@@ -15,4 +15,4 @@ AtMostOne [] nodes = (filter is_element nodes ≡ []) ⊎ ((root : PlainNode) ×
 AtMostOne (t ∷ ts) nodes = filter is_element (outer ts t.before) ≡ []
 
 abbrev pub EndsIn : PlainNode → List PlainNode → Type 0
-EndsIn n ns = (front : List PlainNode) × (ns ≡ front ++ n ∷ [])
+EndsIn n ns = (prefix : List PlainNode) × (ns ≡ prefix ++ n ∷ [])

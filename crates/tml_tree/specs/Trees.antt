@@ -1,26 +1,21 @@
 -- Paths, the tree of a document and the first fault.
-use Rattle.std.specs.Prelude.{◌≡◌, ℕ, Bool, true, List, [], ◌∷◌, ◌++◌, Option, Some, None}
+use Rattle.std.specs.Prelude.{◌≡◌, ℕ, Bool, true, List, [], ◌∷◌, ◌++◌}
 use Rattle.std.specs.List.{filter}
+use Rattle.faults.specs.First.{FirstFault, NoneBreaks}
+use Rattle.faults.specs.Kinds.{number_of}
+use Rattle.faults.specs.declared.kind.FaultKind.{FaultKind}
 use Rattle.tml_span.specs.Units.{Kind, start_tag, end_tag, PlainUnit}
 use Rattle.tml_tree.specs.Plain.{PlainNode}
 use Rattle.tml_tree.specs.Nesting.{Opens, Nests, is_content, is_element}
-use Rattle.tml_tree.specs.declared.rules.Rule.{Rule}
-use Rattle.tml_tree.specs.declared.rules.Rule.TheVariants.{Unbalanced}
-use Rattle.tml_tree.specs.Rules.{rule}
+use Rattle.tml_tree.specs.Rules.{history_of, is_at_fault}
 
--- no rule applies but that of balance, of which nesting speaks
-abbrev pub Passes : Option Rule → Type 0
-Passes None = Unit {0}
-Passes (Some Unbalanced) = Unit {0}
-Passes (Some r) = ⊥
+-- the units before this one nest, and given these it is at fault in this way
+abbrev pub Breaks : FaultKind → List PlainUnit → PlainUnit → Type 0
+Breaks kind before u = (names : List (List ℕ)) × (seen : Bool) × Nests before names seen × (is_at_fault kind (history_of before names seen) u.kind ≡ true)
 
--- the rules apply to no unit, where it follows those before it
-abbrev pub Lawful : List PlainUnit → Type 0
-Lawful us = (before after : List PlainUnit) (u : PlainUnit) (names : List (List ℕ)) (seen : Bool) → us ≡ before ++ u ∷ after → Nests before names seen → Passes (rule before names seen u)
-
--- the units nest, and the rules apply to none
+-- the units nest, and none breaks a rule
 abbrev pub Path : List PlainUnit → List (List ℕ) → Bool → Type 0
-Path us names seen = Nests us names seen × Lawful us
+Path us names seen = Nests us names seen × NoneBreaks Breaks us
 
 abbrev pub HasPath : List PlainUnit → Type 0
 HasPath us = (names : List (List ℕ)) × (seen : Bool) × Path us names seen
@@ -29,18 +24,12 @@ HasPath us = (names : List (List ℕ)) × (seen : Bool) × Path us names seen
 abbrev pub Document : PlainNode → List PlainUnit → Type 0
 Document root us = Path us [] true × ((nodes : List PlainNode) × Opens (filter is_content us) [] nodes × (filter is_element nodes ≡ root ∷ []))
 
--- the units before this one have a path, with it they have none, and this is the first rule that applies to it
-pub record FaultAt (us : List PlainUnit) (at : ℕ) (r : Rule) : Type 0 where
-  pub before : List PlainUnit
-  pub u : PlainUnit
-  pub after : List PlainUnit
-  pub names : List (List ℕ)
-  pub seen : Bool
-  pub whole : us ≡ before ++ u ∷ after
-  pub path : Path before names seen
-  pub no_path : HasPath (before ++ u ∷ []) → ⊥
-  pub first : rule before names seen u ≡ Some r
-  pub place : at ≡ u.start
+abbrev pub start_of : PlainUnit → ℕ
+start_of u = u.start
+
+-- at a place begins the first unit that breaks a rule
+abbrev pub FaultAt : List PlainUnit → ℕ → FaultKind → Type 0
+FaultAt us place kind = FirstFault Breaks number_of start_of us place kind
 
 -- the units have a path, but none on which the root was seen whole
 abbrev pub Unclosed : List PlainUnit → Type 0
@@ -60,16 +49,20 @@ LastUnit = (us : List PlainUnit) (u : PlainUnit) (names : List (List ℕ)) (seen
 abbrev pub OnePath : Type 0
 OnePath = (us : List PlainUnit) (names others : List (List ℕ)) (seen was : Bool) → Path us names seen → Path us others was → (names ≡ others) × (seen ≡ was)
 
+-- the units before one at fault have a path, and with it they have none
+abbrev pub PathEnds : Type 0
+PathEnds = (us : List PlainUnit) (place : ℕ) (kind : FaultKind) (f : FaultAt us place kind) → HasPath f.before × (HasPath (f.before ++ f.element ∷ []) → ⊥)
+
 -- units make one tree
 abbrev pub OneTree : Type 0
 OneTree = (us : List PlainUnit) (root other : PlainNode) → Document root us → Document other us → root ≡ other
 
--- a tree, a fault and the want of a whole root exclude each other, and of faults there is one
+-- a tree, a fault and a root that is not closed exclude each other, and of faults there is one
 pub record OneAnswer (us : List PlainUnit) : Type 0 where
-  pub tree_or_fault : (root : PlainNode) (at : ℕ) (r : Rule) → Document root us → FaultAt us at r → ⊥
+  pub tree_or_fault : (root : PlainNode) (place : ℕ) (kind : FaultKind) → Document root us → FaultAt us place kind → ⊥
   pub tree_or_unclosed : (root : PlainNode) → Document root us → Unclosed us → ⊥
-  pub fault_or_unclosed : (at : ℕ) (r : Rule) → FaultAt us at r → Unclosed us → ⊥
-  pub one_fault : (at other : ℕ) (r s : Rule) → FaultAt us at r → FaultAt us other s → (at ≡ other) × (r ≡ s)
+  pub fault_or_unclosed : (place : ℕ) (kind : FaultKind) → FaultAt us place kind → Unclosed us → ⊥
+  pub one_fault : (place other : ℕ) (kind same : FaultKind) → FaultAt us place kind → FaultAt us other same → (place ≡ other) × (kind ≡ same)
 
 abbrev pub OneAnswers : Type 0
 OneAnswers = (us : List PlainUnit) → OneAnswer us

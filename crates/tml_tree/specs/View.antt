@@ -1,12 +1,17 @@
--- The plain values that tags and nodes stand for.
+-- The plain values of tags and nodes.
 use Rattle.std.specs.Prelude.{ℕ, List, map, reverse}
+use Rattle.std.specs.List.{filter}
+use Rattle.tml_span.specs.declared.unit.Span.{Span}
+use Rattle.tml_span.specs.Units.{Kind, PlainUnit, start_tag, empty_tag}
+use Rattle.tml_span.specs.declared.unit.Attr.{Attr}
 use Rattle.tml_span.specs.View.{attribute_of}
 use Rattle.tml_tree.specs.declared.builder.Frame.{Frame}
 use Rattle.tml_tree.specs.declared.node.Tag.{Tag}
+use Rattle.tml_tree.specs.declared.tag_name.TagName.{TagName}
 use Rattle.tml_tree.specs.declared.node.Node.{Node, Element, Text, Comment, Element', Row_of-Node, end_of-Node, more_of-Node}
-use Rattle.tml_tree.specs.Names.{text_of}
-use Rattle.tml_tree.specs.Plain.{PlainNode, PlainNodes, text_node, comment_node, element, none, more}
-use Rattle.tml_tree.specs.Nesting.{OpenTag}
+use Rattle.tml_tree.specs.TagNames.{text_of}
+use Rattle.tml_tree.specs.Plain.{PlainNode, PlainNodes, text_node, comment_node, element, none, more, nodes_of, unit}
+use Rattle.tml_tree.specs.Nesting.{OpenTag, is_element}
 
 abbrev mutual
   pub node_of : Node → PlainNode
@@ -20,6 +25,25 @@ abbrev mutual
 
 abbrev pub tag_node : Tag → PlainNode
 tag_node t = node_of (Element t)
+
+-- a unit of that kind at a span
+abbrev pub at_span : Span → Kind → PlainUnit
+at_span span kind = unit span.start span.end kind
+
+-- a start tag and an empty tag at a span
+abbrev pub start_unit : Span → List ℕ → List Attr → PlainUnit
+start_unit span name attrs = at_span span (start_tag name (map attribute_of attrs))
+
+abbrev pub empty_unit : Span → List ℕ → List Attr → PlainUnit
+empty_unit span name attrs = at_span span (empty_tag name (map attribute_of attrs))
+
+-- an element at a span
+abbrev pub element_of : Span → TagName → List Attr → List Node → PlainNode
+element_of span name attrs children = element span.start span.end (text_of name) (map attribute_of attrs) (nodes_of (map node_of children))
+
+-- the elements among some nodes
+abbrev pub elements_in : List Node → List PlainNode
+elements_in nodes = filter is_element (map node_of nodes)
 
 -- ---- what a builder has open
 

@@ -9,7 +9,7 @@ pub record PlainTag : Type 0 where
   pub name : List ℕ
   pub attrs : List Attribute
 
--- an element stands before those inside it, and these in their order
+-- an element is before those inside it, and these are in their order
 abbrev mutual
   pub elements : PlainNode → List PlainTag
   elements (text_node start end bytes) = []

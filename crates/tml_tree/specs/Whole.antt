@@ -1,13 +1,14 @@
 -- A source, its tree and its fault.
-use Rattle.std.specs.Prelude.{◌≡◌, ℕ, List, length, ⊤}
+use Rattle.std.specs.Prelude.{◌≡◌, ◌⊎◌, ℕ, List, length, Option, Some, None, IfSome}
+use Rattle.faults.specs.declared.kind.FaultKind.{FaultKind}
+use Rattle.faults.specs.declared.kind.FaultKind.TheVariants as fault
 use Rattle.tml_span.specs.Units.{PlainUnit}
 use Rattle.tml_span.specs.Whole.{Cutting, IsWhole}
-use Rattle.tml_tree.specs.declared.rules.Rule.TheVariants.{UnknownTag, Unbalanced, Misplaced, TooDeep}
-use Rattle.tml_span.specs.Faults.{HasFault as HasCutFault}
+use Rattle.tml_span.specs.Faults.{CutFault, kind_and_place as cut_kind_and_place}
 use Rattle.tml_tree.specs.declared.pulled.SourceFault.{SourceFault}
 use Rattle.tml_tree.specs.declared.pulled.SourceFault.TheVariants.{Cut, Tree}
 use Rattle.tml_tree.specs.declared.whole.TreeFault.{TreeFault}
-use Rattle.tml_tree.specs.declared.whole.TreeFault.TheVariants as faults
+use Rattle.tml_tree.specs.declared.whole.TreeFault.TheVariants as tree
 use Rattle.tml_tree.specs.Plain.{PlainNode}
 use Rattle.tml_tree.specs.Trees.{Document, FaultAt, Unclosed}
 
@@ -19,20 +20,43 @@ IsTreeOf source root = (units : List PlainUnit) × IsWhole (record { source = so
 abbrev pub OneTreeOfSource : Type 0
 OneTreeOfSource = (source : List ℕ) (root other : PlainNode) → IsTreeOf source root → IsTreeOf source other → root ≡ other
 
--- what a refusal says of units whose source has this length; want of memory says nothing
-abbrev pub FaultOf : ℕ → List PlainUnit → TreeFault → Type 0
-FaultOf end us (faults.UnknownTag place) = FaultAt us place UnknownTag
-FaultOf end us (faults.Unbalanced place) = FaultAt us place Unbalanced
-FaultOf end us (faults.Unclosed place) = Unclosed us × (place ≡ end)
-FaultOf end us (faults.Misplaced place) = FaultAt us place Misplaced
-FaultOf end us (faults.TooDeep place) = FaultAt us place TooDeep
-FaultOf end us faults.Memory = ⊤
+-- the kind of a fault and its place; none where it is that memory ran out
+abbrev pub kind_and_place : TreeFault → Option (FaultKind × ℕ)
+kind_and_place (tree.UnknownTag place) = Some (fault.UnknownTag, place)
+kind_and_place (tree.Unbalanced place) = Some (fault.Unbalanced, place)
+kind_and_place (tree.Unclosed place) = Some (fault.Unclosed, place)
+kind_and_place (tree.Misplaced place) = Some (fault.Misplaced, place)
+kind_and_place (tree.TooDeep place) = Some (fault.TooDeep, place)
+kind_and_place tree.Memory = None
+
+-- a fault of units whose source has this length: the first unit that breaks a rule, or at the end a root that is not closed
+abbrev pub FaultOf : ℕ → List PlainUnit → ℕ → FaultKind → Type 0
+FaultOf end us place kind = FaultAt us place kind ⊎ ((kind ≡ fault.Unclosed) × (place ≡ end) × Unclosed us)
+
+-- what a fault says of units whose source has this length
+abbrev pub UnitsFault : ℕ → List PlainUnit → TreeFault → Type 0
+UnitsFault end us fault = IfSome (kind_and_place fault) (λ f. FaultOf end us f.1 f.0)
 
 -- the same of a source with its units
 abbrev pub HasFault : Cutting → TreeFault → Type 0
-HasFault c fault = FaultOf (length c.source) c.units fault
+HasFault c fault = UnitsFault (length c.source) c.units fault
 
 -- why a source has no tree: the fault of its cut, or where it has none that of its units
+abbrev pub SourceFaultAt : List ℕ → ℕ → FaultKind → Type 0
+SourceFaultAt source place kind = CutFault source place kind ⊎ ((units : List PlainUnit) × IsWhole (record { source = source; units = units }) × FaultOf (length source) units place kind)
+
+abbrev pub source_kind_and_place : SourceFault → Option (FaultKind × ℕ)
+source_kind_and_place (Cut fault) = cut_kind_and_place fault
+source_kind_and_place (Tree fault) = kind_and_place fault
+
+-- what a refusal says of a source
 abbrev pub HasSourceFault : List ℕ → SourceFault → Type 0
-HasSourceFault source (Cut fault) = HasCutFault source fault
-HasSourceFault source (Tree fault) = (cut : Cutting) × (cut.source ≡ source) × IsWhole cut × HasFault cut fault
+HasSourceFault source fault = IfSome (source_kind_and_place fault) (λ f. SourceFaultAt source f.1 f.0)
+
+-- a source has a tree or a fault, and of faults there is one
+pub record OneSourceAnswer (source : List ℕ) : Type 0 where
+  pub tree_or_fault : (root : PlainNode) (place : ℕ) (kind : FaultKind) → IsTreeOf source root → SourceFaultAt source place kind → ⊥
+  pub one_fault : (place other : ℕ) (kind same : FaultKind) → SourceFaultAt source place kind → SourceFaultAt source other same → (place ≡ other) × (kind ≡ same)
+
+abbrev pub OneSourceAnswers : Type 0
+OneSourceAnswers = (source : List ℕ) → OneSourceAnswer source

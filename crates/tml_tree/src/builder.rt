@@ -2,18 +2,19 @@
 ghost use Rattle.std.specs.Prelude.{◌≡◌, ◌++◌, [], ◌∷◌, List as ListOf, map, OnOk, IfErr, MatchOption, IfSome, IsNone};
 ghost use Rattle.std.specs.List.{filter};
 ghost use Rattle.tml_span.specs.Units as units;
+ghost use Rattle.tml_span.specs.Units.{PlainUnit};
 ghost use Rattle.tml_span.specs.View.{attribute_of, unit_of};
-ghost use Rattle.tml_tree.specs.Names.{text_of};
-ghost use Rattle.tml_tree.specs.Plain.{element, nodes_of, unit};
+ghost use Rattle.tml_tree.specs.TagNames.{text_of};
+ghost use Rattle.tml_tree.specs.Plain.{element, nodes_of};
 ghost use Rattle.tml_tree.specs.Nesting.{is_element};
 ghost use Rattle.tml_tree.specs.Rules as rules;
 ghost use Rattle.tml_tree.specs.Trees.{Document, Unclosed};
 ghost use Rattle.tml_tree.specs.Roots.{EndsIn};
-ghost use Rattle.tml_tree.specs.Taking.{OnlyInnermost, Takes, Refuses, Stands, TagRule, history_of};
-ghost use Rattle.tml_tree.specs.View.{names_of, node_of, tag_node};
+ghost use Rattle.tml_tree.specs.Taking.{HasTaken, MayBegin, OnlyInnermost, RefusesUnit, TakesUnit, history_of};
+ghost use Rattle.tml_tree.specs.View.{at_span, element_of, elements_in, empty_unit, names_of, node_of, start_unit, tag_node};
 
-use crate::rules::{MOST_OPEN, Rule, in_link, is_blank, is_name_of};
-use crate::{Node, Tag, TagName};
+use crate::rules::{MOST_OPEN, in_link, is_blank, is_name_of};
+use crate::{Node, Tag, TagName, TreeFault};
 use std::alloc::{AllocError, Global};
 use std::mem;
 use tml_span::{Attr, List, Span, Unit};
@@ -27,14 +28,7 @@ pub struct Frame<'s> {
     before: Vec<Node<'s>>,
 }
 
-/// Why a unit was not taken.
-#[derive(Clone, Copy, Debug, PartialEq, Eq)]
-pub enum Stop {
-    Broken(Rule),
-    Memory,
-}
-
-/// What the units so far make: the open tags, the innermost last, and the nodes behind its start tag. It knows
+/// What the units so far make: the open tags, the innermost last, and the nodes that follow its start tag. It knows
 /// whether a unit other than a Bom stood among the units, a tag, a doctype, and whether the root was seen whole.
 #[derive(Drop)]
 pub struct Builder<'s> {
@@ -52,7 +46,7 @@ fn make_element<'s>(
     attrs: List<Attr<'s>>,
     children: Vec<Node<'s>>,
 ) -> Node<'s>
-    ensures { node_of result ≡ element span.start span.end (text_of name) (map attribute_of attrs.entry) (nodes_of (map node_of children.entry.items)) }
+    ensures { node_of result ≡ element_of span name attrs.entry children.entry.items }
 {
     Node::Element(Tag {
         span,
@@ -73,7 +67,7 @@ fn reserve_node<'s>(nodes: &mut Vec<Node<'s>>) -> Result<(), AllocError>
     }
 }
 
-/// Adds a node behind the others.
+/// Adds a node after the others.
 fn push_node<'s>(nodes: &mut Vec<Node<'s>>, node: Node<'s>) -> Result<(), AllocError>
     ensures { OnOk result (nodes.new.items ≡ nodes.old.items ++ node.entry ∷ []) }
 {
@@ -84,7 +78,7 @@ fn push_node<'s>(nodes: &mut Vec<Node<'s>>, node: Node<'s>) -> Result<(), AllocE
 
 /// The last element of nodes.
 fn root_of<'s>(nodes: Vec<Node<'s>>) -> Option<Tag<'s>>
-    ensures { MatchOption result (filter is_element (map node_of nodes.entry.items) ≡ []) (λ t. EndsIn (tag_node t) (filter is_element (map node_of nodes.entry.items))) }
+    ensures { MatchOption result (elements_in nodes.entry.items ≡ []) (λ t. EndsIn (tag_node t) (elements_in nodes.entry.items)) }
 {
     let mut nodes = nodes;
     while let Some(node) = nodes.pop() {
@@ -98,7 +92,7 @@ fn root_of<'s>(nodes: Vec<Node<'s>>) -> Option<Tag<'s>>
 
 impl<'s> Builder<'s> {
     pub fn new(alloc: Global) -> Builder<'s>
-        ensures { Stands [] result }
+        ensures { HasTaken [] result }
     {
         Builder {
             frames: Vec::new(alloc),
@@ -110,11 +104,11 @@ impl<'s> Builder<'s> {
         }
     }
 
-    /// Takes one more unit, or says why it may not stand there.
-    pub fn take(&mut self, alloc: Global, unit: Unit<'s>) -> Result<(), Stop>
+    /// Takes one more unit, or says what its fault is.
+    pub fn take(&mut self, alloc: Global, unit: Unit<'s>) -> Result<(), TreeFault>
         requires { OnlyInnermost (names_of self.old.frames.items) }
-        ensures ok { OnOk result (Takes self.old (unit_of unit.entry) self.new) }
-        ensures err { IfErr result (λ e. Refuses self.old (unit_of unit.entry) e) }
+        ensures ok { OnOk result (TakesUnit self.old (unit_of unit.entry) self.new) }
+        ensures err { IfErr result (λ e. RefusesUnit self.old (unit_of unit.entry) e) }
     {
         match unit {
             Unit::Bom { .. } => Ok(()),
@@ -130,8 +124,8 @@ impl<'s> Builder<'s> {
 
     /// The root, where it was seen whole.
     pub fn finish(self) -> Option<Tag<'s>>
-        ensures none { IsNone result → (us : ListOf units.PlainUnit) → Stands us self.entry → Unclosed us }
-        ensures some { IfSome result (λ t. (us : ListOf units.PlainUnit) → Stands us self.entry → Document (tag_node t) us) }
+        ensures none { IsNone result → (us : ListOf PlainUnit) → HasTaken us self.entry → Unclosed us }
+        ensures some { IfSome result (λ t. (us : ListOf PlainUnit) → HasTaken us self.entry → Document (tag_node t) us) }
     {
         if !self.frames.is_empty() {
             return None;
@@ -139,50 +133,50 @@ impl<'s> Builder<'s> {
         root_of(self.nodes)
     }
 
-    fn declaration(&mut self, span: Span, text: &[u8]) -> Result<(), Stop>
-        ensures ok { OnOk result (Takes self.old (unit span.start span.end (units.declaration text.now)) self.new) }
-        ensures err { IfErr result (λ e. Refuses self.old (unit span.start span.end (units.declaration text.now)) e) }
+    fn declaration(&mut self, span: Span, text: &[u8]) -> Result<(), TreeFault>
+        ensures ok { OnOk result (TakesUnit self.old (at_span span (units.declaration text.now)) self.new) }
+        ensures err { IfErr result (λ e. RefusesUnit self.old (at_span span (units.declaration text.now)) e) }
     {
         if self.begun {
-            return Err(Stop::Broken(Rule::Misplaced));
+            return Err(TreeFault::Misplaced { place: span.start });
         }
         self.begun = true;
         Ok(())
     }
 
-    fn doctype(&mut self, span: Span, text: &[u8]) -> Result<(), Stop>
-        ensures ok { OnOk result (Takes self.old (unit span.start span.end (units.doctype text.now)) self.new) }
-        ensures err { IfErr result (λ e. Refuses self.old (unit span.start span.end (units.doctype text.now)) e) }
+    fn doctype(&mut self, span: Span, text: &[u8]) -> Result<(), TreeFault>
+        ensures ok { OnOk result (TakesUnit self.old (at_span span (units.doctype text.now)) self.new) }
+        ensures err { IfErr result (λ e. RefusesUnit self.old (at_span span (units.doctype text.now)) e) }
     {
         if self.tagged || self.doctyped {
-            return Err(Stop::Broken(Rule::Misplaced));
+            return Err(TreeFault::Misplaced { place: span.start });
         }
         self.begun = true;
         self.doctyped = true;
         Ok(())
     }
 
-    fn comment(&mut self, span: Span, text: &'s [u8]) -> Result<(), Stop>
-        ensures ok { OnOk result (Takes self.old (unit span.start span.end (units.comment text.now)) self.new) }
-        ensures err { IfErr result (λ e. Refuses self.old (unit span.start span.end (units.comment text.now)) e) }
+    fn comment(&mut self, span: Span, text: &'s [u8]) -> Result<(), TreeFault>
+        ensures ok { OnOk result (TakesUnit self.old (at_span span (units.comment text.now)) self.new) }
+        ensures err { IfErr result (λ e. RefusesUnit self.old (at_span span (units.comment text.now)) e) }
     {
         if push_node(&mut self.nodes, Node::Comment { span, text }).is_err() {
-            return Err(Stop::Memory);
+            return Err(TreeFault::Memory);
         }
         self.begun = true;
         Ok(())
     }
 
-    fn text(&mut self, span: Span, text: &'s [u8]) -> Result<(), Stop>
+    fn text(&mut self, span: Span, text: &'s [u8]) -> Result<(), TreeFault>
         requires { OnlyInnermost (names_of self.old.frames.items) }
-        ensures ok { OnOk result (Takes self.old (unit span.start span.end (units.text text.now)) self.new) }
-        ensures err { IfErr result (λ e. Refuses self.old (unit span.start span.end (units.text text.now)) e) }
+        ensures ok { OnOk result (TakesUnit self.old (at_span span (units.text text.now)) self.new) }
+        ensures err { IfErr result (λ e. RefusesUnit self.old (at_span span (units.text text.now)) e) }
     {
-        if !is_blank(text) && (self.frames.is_empty() || in_link(self.frames.as_slice())) {
-            return Err(Stop::Broken(Rule::Misplaced));
+        if (self.frames.is_empty() || in_link(self.frames.as_slice())) && !is_blank(text) {
+            return Err(TreeFault::Misplaced { place: span.start });
         }
         if push_node(&mut self.nodes, Node::Text { span, text }).is_err() {
-            return Err(Stop::Memory);
+            return Err(TreeFault::Memory);
         }
         self.begun = true;
         Ok(())
@@ -199,19 +193,19 @@ impl<'s> Builder<'s> {
             || !self.frames.is_empty() && is_root
     }
 
-    /// The tag of this name, or the first rule that applies to a start or empty tag.
-    fn tag(&self, name: &[u8]) -> Result<TagName, Rule>
+    /// The tag of this name, or the first fault of a start or empty tag of this name at a place.
+    fn tag(&self, place: u32, name: &[u8]) -> Result<TagName, TreeFault>
         requires { OnlyInnermost (names_of self.now.frames.items) }
-        ensures { TagRule result (rules.tag_rule (history_of self.now) name.now) name.now }
+        ensures { MayBegin self.now place name.now result }
     {
         let Some(tag) = TagName::of(name) else {
-            return Err(Rule::UnknownTag);
+            return Err(TreeFault::UnknownTag { place });
         };
         if self.is_misplaced(tag) {
-            return Err(Rule::Misplaced);
+            return Err(TreeFault::Misplaced { place });
         }
         if self.frames.len() >= MOST_OPEN {
-            return Err(Rule::TooDeep);
+            return Err(TreeFault::TooDeep { place });
         }
         Ok(tag)
     }
@@ -222,18 +216,18 @@ impl<'s> Builder<'s> {
         span: Span,
         name: &'s [u8],
         attrs: List<Attr<'s>>,
-    ) -> Result<(), Stop>
+    ) -> Result<(), TreeFault>
         requires { OnlyInnermost (names_of self.old.frames.items) }
-        ensures ok { OnOk result (Takes self.old (unit span.start span.end (units.start_tag name.now (map attribute_of attrs.entry))) self.new) }
-        ensures err { IfErr result (λ e. Refuses self.old (unit span.start span.end (units.start_tag name.now (map attribute_of attrs.entry))) e) }
+        ensures ok { OnOk result (TakesUnit self.old (start_unit span name.now attrs.entry) self.new) }
+        ensures err { IfErr result (λ e. RefusesUnit self.old (start_unit span name.now attrs.entry) e) }
     {
-        let name = match self.tag(name) {
+        let name = match self.tag(span.start, name) {
             Ok(name) => name,
-            Err(rule) => return Err(Stop::Broken(rule)),
+            Err(fault) => return Err(fault),
         };
         // The room for an element comes before the room for its children, so that a walk meets them in their order.
         if reserve_node(&mut self.nodes).is_err() {
-            return Err(Stop::Memory);
+            return Err(TreeFault::Memory);
         }
         let before = mem::replace(&mut self.nodes, Vec::new(alloc));
         let frame = Frame {
@@ -243,7 +237,7 @@ impl<'s> Builder<'s> {
             before,
         };
         if self.frames.push(frame).is_err() {
-            return Err(Stop::Memory);
+            return Err(TreeFault::Memory);
         }
         self.begun = true;
         self.tagged = true;
@@ -257,18 +251,18 @@ impl<'s> Builder<'s> {
         span: Span,
         name: &'s [u8],
         attrs: List<Attr<'s>>,
-    ) -> Result<(), Stop>
+    ) -> Result<(), TreeFault>
         requires { OnlyInnermost (names_of self.old.frames.items) }
-        ensures ok { OnOk result (Takes self.old (unit span.start span.end (units.empty_tag name.now (map attribute_of attrs.entry))) self.new) }
-        ensures err { IfErr result (λ e. Refuses self.old (unit span.start span.end (units.empty_tag name.now (map attribute_of attrs.entry))) e) }
+        ensures ok { OnOk result (TakesUnit self.old (empty_unit span name.now attrs.entry) self.new) }
+        ensures err { IfErr result (λ e. RefusesUnit self.old (empty_unit span name.now attrs.entry) e) }
     {
-        let name = match self.tag(name) {
+        let name = match self.tag(span.start, name) {
             Ok(name) => name,
-            Err(rule) => return Err(Stop::Broken(rule)),
+            Err(fault) => return Err(fault),
         };
         let node = make_element(span, name, attrs, Vec::new(alloc));
         if push_node(&mut self.nodes, node).is_err() {
-            return Err(Stop::Memory);
+            return Err(TreeFault::Memory);
         }
         self.begun = true;
         self.tagged = true;
@@ -276,15 +270,15 @@ impl<'s> Builder<'s> {
         Ok(())
     }
 
-    fn end(&mut self, span: Span, name: &[u8]) -> Result<(), Stop>
-        ensures ok { OnOk result (Takes self.old (unit span.start span.end (units.end_tag name.now)) self.new) }
-        ensures err { IfErr result (λ e. Refuses self.old (unit span.start span.end (units.end_tag name.now)) e) }
+    fn end(&mut self, span: Span, name: &[u8]) -> Result<(), TreeFault>
+        ensures ok { OnOk result (TakesUnit self.old (at_span span (units.end_tag name.now)) self.new) }
+        ensures err { IfErr result (λ e. RefusesUnit self.old (at_span span (units.end_tag name.now)) e) }
     {
         let Some(frame) = self.frames.pop() else {
-            return Err(Stop::Broken(Rule::Unbalanced));
+            return Err(TreeFault::Unbalanced { place: span.start });
         };
         if !is_name_of(frame.name, name) {
-            return Err(Stop::Broken(Rule::Unbalanced));
+            return Err(TreeFault::Unbalanced { place: span.start });
         }
         let children = mem::replace(&mut self.nodes, frame.before);
         let whole = Span {
@@ -293,7 +287,7 @@ impl<'s> Builder<'s> {
         };
         let node = make_element(whole, frame.name, frame.attrs, children);
         if push_node(&mut self.nodes, node).is_err() {
-            return Err(Stop::Memory);
+            return Err(TreeFault::Memory);
         }
         self.begun = true;
         self.tagged = true;

@@ -1,6 +1,7 @@
 //! Laws of trees: public functions that do nothing, each with the law as its contract.
-ghost use Rattle.tml_tree.specs.Trees.{LastUnit, OneAnswers, OnePath, OneTree};
-ghost use Rattle.tml_tree.specs.Whole.{OneTreeOfSource};
+ghost use Rattle.tml_tree.specs.Places.{TreeIsLaidOut};
+ghost use Rattle.tml_tree.specs.Trees.{LastUnit, OneAnswers, OnePath, OneTree, PathEnds};
+ghost use Rattle.tml_tree.specs.Whole.{OneSourceAnswers, OneTreeOfSource};
 
 /// Units have one path.
 pub fn one_path()
@@ -11,6 +12,11 @@ pub fn one_path()
 /// open tags differ.
 pub fn last_unit()
     ensures { LastUnit }
+{}
+
+/// The units before one at fault have a path, and with it they have none.
+pub fn path_ends()
+    ensures { PathEnds }
 {}
 
 /// Units make one tree.
@@ -26,4 +32,15 @@ pub fn one_tree_of_source()
 /// A tree and each of the faults exclude each other, and units have one fault at most.
 pub fn one_answer()
     ensures { OneAnswers }
+{}
+
+/// A tree and a fault of a source exclude each other, and a source has one fault at most.
+pub fn one_source_answer()
+    ensures { OneSourceAnswers }
+{}
+
+/// Each slice of the tree of a source is the source at its place, siblings follow each other inside their parent, and
+/// at most 32 elements are inside each other.
+pub fn tree_is_laid_out()
+    ensures { TreeIsLaidOut }
 {}

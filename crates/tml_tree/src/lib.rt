@@ -3,18 +3,21 @@
 
 mod builder;
 mod laws;
-mod names;
 mod node;
 mod pulled;
 mod rules;
+mod tag_name;
 mod tag_tree;
 #[cfg(test)]
 mod tests;
 mod whole;
 
-pub use laws::{last_unit, one_answer, one_path, one_tree, one_tree_of_source};
-pub use names::TagName;
+pub use laws::{
+    last_unit, one_answer, one_path, one_source_answer, one_tree, one_tree_of_source, path_ends,
+    tree_is_laid_out,
+};
 pub use node::{Node, Tag};
 pub use pulled::SourceFault;
+pub use tag_name::TagName;
 pub use tag_tree::{TagTree, tree, tree_of};
 pub use whole::TreeFault;

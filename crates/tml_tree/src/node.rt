@@ -1,4 +1,4 @@
-//! Tags and what stands in them.
+//! Tags and what is in them.
 use crate::TagName;
 use tml_span::{Attr, List, Span};
 
@@ -13,7 +13,7 @@ pub struct Tag<'s> {
     pub children: Vec<Node<'s>>,
 }
 
-/// What stands in a tag. A `text` is all bytes at the span.
+/// What is in a tag. A `text` is all bytes at the span.
 #[cycle(tree)]
 #[derive(Drop)]
 pub enum Node<'s> {

@@ -29,11 +29,13 @@ impl<'s> Model for TagTree<'s> {
 }
 
 impl<'s> TagTree<'s> {
+    ghost use Rattle.tml_tree.specs.Places.{IsLaidOut};
     ghost use Rattle.tml_tree.specs.View.{tag_node};
 
     /// The one tag outside all others, a `TimeML`.
     pub fn root(&self) -> &Tag<'s>
-        ensures { IsTreeOf self.now (tag_node result.now) }
+        ensures tree { IsTreeOf self.now (tag_node result.now) }
+        ensures layout { IsLaidOut self.now (tag_node result.now) }
     {
         &self.root
     }

@@ -1,5 +1,6 @@
 //! Faults of small documents, and one tree.
-use crate::{Node, Tag, TagName, TreeFault, tree};
+use crate::{Node, Tag, TagName, TreeFault, tree, tree_of};
+use faults::FaultKind;
 use std::alloc::{AllocError, Global};
 use std::process::Abort;
 use std::test::Fail;
@@ -53,6 +54,34 @@ fn faults(rt: HostRuntime) -> Result<(), Fail> {
     Ok(())
 }
 
+#[test]
+fn faults_of_sources(rt: HostRuntime) -> Result<(), Fail> {
+    let rows: [(&'static [u8], FaultKind, u32); 6] = [
+        (b"<TimeML><FOO/>&x</TimeML>", FaultKind::BadReference, 14),
+        (
+            b"<TimeML><FOO/><P a='&#;' b='&'/></TimeML>",
+            FaultKind::BadReference,
+            20,
+        ),
+        (b"<TimeML><FOO/><P a='&'", FaultKind::BadMarkup, 14),
+        (
+            b"<TimeML><FOO/><P a='&lt;' b='&#x1F;'/></TimeML>",
+            FaultKind::UnknownTag,
+            8,
+        ),
+        (b"<TimeML>\xFF", FaultKind::NotUtf8, 8),
+        (b"<TimeML>", FaultKind::Unclosed, 8),
+    ];
+    for (doc, kind, place) in rows.iter() {
+        assert!(&rt; doc.len() < 1000);
+        match tree_of(rt.alloc(), doc) {
+            Ok(_) => panic!(&rt; "the source has a fault"),
+            Err(fault) => assert_eq!(&rt; fault.kind_and_place(), Some((*kind, *place))),
+        }
+    }
+    Ok(())
+}
+
 /// A root with that many tags in each other.
 fn nested(alloc: Global, depth: usize) -> Result<Vec<u8>, AllocError> {
     let mut doc = Vec::from_slice(alloc, b"<TimeML>")?;
@@ -82,7 +111,7 @@ fn depths(rt: HostRuntime) -> Result<(), Fail> {
 fn child<'t, 's>(rt: &(impl Abort + AllocGlobal), tag: &'t Tag<'s>, index: usize) -> &'t Tag<'s> {
     match tag.children.get(index) {
         Some(Node::Element(inner)) => inner,
-        _ => panic!(rt; "no element stands there"),
+        _ => panic!(rt; "no element is there"),
     }
 }
 

@@ -7,9 +7,9 @@ use Rattle.faults.proofs.First.{fault_of_one}
 use Rattle.named.specs.Texts.{AreApart}
 use Rattle.timex_value.proofs.Valuing as valuing
 use Rattle.tml_span.specs.Units.{Attribute}
-use Rattle.tml_tree.specs.declared.names.TagName.{TagName}
-use Rattle.tml_tree.specs.declared.names.TagName.TheVariants as tag
-use Rattle.tml_tree.specs.Names.{text_of, all_tags}
+use Rattle.tml_tree.specs.declared.tag_name.TagName.{TagName}
+use Rattle.tml_tree.specs.declared.tag_name.TagName.TheVariants as tag
+use Rattle.tml_tree.specs.TagNames.{text_of, all_tags}
 use Rattle.tml_tree.specs.Walking.{PlainTag}
 use Rattle.tml_types.specs.declared.walk.TypeFault.{TypeFault}
 use Rattle.tml_types.specs.declared.walk.TypeFault.TheVariants as faults

@@ -5,9 +5,9 @@ use Rattle.std.proofs.lemmas.List.{append-nil}
 use Rattle.std.proofs.lemmas.List.Elements.{All-nil, All-cons}
 use Rattle.named.proofs.Tables.{texts_tell}
 use Rattle.tml_span.specs.Units.{Attribute}
-use Rattle.tml_tree.specs.declared.names.TagName.{TagName}
-use Rattle.tml_tree.specs.declared.names.TagName.TheVariants as tag
-use Rattle.tml_tree.specs.Names.{text_of, all_tags}
+use Rattle.tml_tree.specs.declared.tag_name.TagName.{TagName}
+use Rattle.tml_tree.specs.declared.tag_name.TagName.TheVariants as tag
+use Rattle.tml_tree.specs.TagNames.{text_of, all_tags}
 use Rattle.tml_tree.specs.Walking.{PlainTag}
 use Rattle.tml_types.specs.declared.typed.TagKind.{TagKind}
 use Rattle.tml_types.specs.declared.typed.TagKind.TheVariants as kind

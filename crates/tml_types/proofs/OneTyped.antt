@@ -11,7 +11,7 @@ use Rattle.timex_value.proofs.Valuing as valuing
 use Rattle.timex_value.specs.declared.value.Value.{Value}
 use Rattle.timex_value.specs.Kinds.{kind_text, all_kinds, modifier_text, all_modifiers}
 use Rattle.tml_span.specs.Units.{Attribute}
-use Rattle.tml_tree.specs.declared.names.TagName.TheVariants as tag
+use Rattle.tml_tree.specs.declared.tag_name.TagName.TheVariants as tag
 use Rattle.tml_tree.specs.Walking.{PlainTag}
 use Rattle.tml_types.specs.Content.{Content, PlainTyped, Reference, event, instance, timex, signal, tlink, alink, slink}
 use Rattle.tml_types.specs.Listed as listed

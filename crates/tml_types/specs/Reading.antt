@@ -1,13 +1,15 @@
 -- What the attributes of a tag say, one by one: what the private contracts say of reading them.
-use Rattle.std.specs.Prelude.{◌≡◌, ◌⊎◌, ℕ, Bool, true, ◌||◌, List, Option, Some, None, is_some, map}
+use Rattle.std.specs.Prelude.{◌≡◌, ◌⊎◌, ℕ, Bool, true, false, not, ◌&&◌, ◌||◌, List, Option, Some, None, map}
 use Rattle.tml_span.specs.Units.{Attribute}
 use Rattle.tml_span.specs.View.{attribute_of}
 use Rattle.tml_types.specs.declared.attributes.Attributes.{Attributes}
 use Rattle.tml_types.specs.declared.attributes.Pair.{Pair}
 use Rattle.tml_types.specs.declared.attributes.Pair.TheVariants.{Instance, Time, Both}
 use Rattle.tml_types.specs.declared.typed.TagKind.TheVariants as kind
+use Rattle.tml_types.specs.declared.walk.TypeFault.{TypeFault}
+use Rattle.tml_types.specs.declared.walk.TypeFault.TheVariants as faults
 use Rattle.tml_types.specs.Content.{Reference}
-use Rattle.tml_types.specs.Rules.{is_unfit}
+use Rattle.tml_types.specs.Rules.{is_absent, is_unfit}
 use Rattle.tml_types.specs.Values.{is_identifier, value_of}
 
 abbrev pub attrs_of : Attributes → List Attribute
@@ -15,6 +17,22 @@ attrs_of a = map attribute_of a.attrs.now
 
 abbrev pub value_at : List ℕ → Attributes → Option (List ℕ)
 value_at name a = value_of name (attrs_of a)
+
+-- a value passes a test, where it is there, and this was read of it
+abbrev pub IsGood : (List ℕ → Bool) → Option (List ℕ) → Option (List ℕ) → Type 0
+IsGood test value read = (value ≡ read) × (is_unfit test value ≡ false)
+
+-- a value is there that fails a test, and the tag at this place is refused
+abbrev pub IsBad : (List ℕ → Bool) → Option (List ℕ) → ℕ → TypeFault → Type 0
+IsBad test value place fault = (fault ≡ faults.BadValue place) × (is_unfit test value ≡ true)
+
+-- an attribute that has to be there is absent, and the tag is refused
+abbrev pub IsMissing : Attributes → Option (List ℕ) → TypeFault → Type 0
+IsMissing a value fault = (fault ≡ faults.MissingAttribute a.place) × (value ≡ None)
+
+-- both of a pair are absent
+abbrev pub AreMissing : Attributes → Option (List ℕ) → Option (List ℕ) → TypeFault → Type 0
+AreMissing a value other fault = (fault ≡ faults.MissingAttribute a.place) × (value ≡ None) × (other ≡ None)
 
 -- the values of the two attributes of a pair
 abbrev pub first_value : Pair → Option (List ℕ)
@@ -41,5 +59,5 @@ IsOneOf p end =
     ⊎ ((first_value p ≡ None) × (second_value p ≡ Some end.name) × (end.asked ≡ kind.Timex))
 
 -- both of a pair are there
-abbrev pub IsBoth : Pair → Type 0
-IsBoth p = (is_some (first_value p) ≡ true) × (is_some (second_value p) ≡ true)
+abbrev pub is_conflict_pair : Pair → Bool
+is_conflict_pair p = not (is_absent (first_value p)) && not (is_absent (second_value p))

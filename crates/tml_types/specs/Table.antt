@@ -1,9 +1,9 @@
 -- The attributes of the tags that mean something: this project's profile of TimeML 1.2.1.
 use Rattle.std.specs.Prelude.{ℕ, List, [], ◌∷◌, codes, Some, None}
 use Rattle.named.specs.Texts.{named_of}
-use Rattle.tml_tree.specs.Names.{text_of, all_tags}
-use Rattle.tml_tree.specs.declared.names.TagName.{TagName}
-use Rattle.tml_tree.specs.declared.names.TagName.TheVariants as tag
+use Rattle.tml_tree.specs.TagNames.{text_of, all_tags}
+use Rattle.tml_tree.specs.declared.tag_name.TagName.{TagName}
+use Rattle.tml_tree.specs.declared.tag_name.TagName.TheVariants as tag
 
 -- What a value has to be: an identifier, which a reference looks like too; any text; or one of a list.
 pub data ValueForm : Type 0 where

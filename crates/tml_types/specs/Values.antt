@@ -1,22 +1,18 @@
 -- The values of attributes.
-use Rattle.std.specs.Prelude.{ℕ, Bool, true, false, ◌&&◌, ◌||◌, nat_le, nat_eq, List, [], ◌∷◌, length, codes, Option, Some, None, is_some, if◌then◌else◌}
-use Rattle.std.specs.List.{list_all, list_any}
+use Rattle.std.specs.Prelude.{ℕ, Bool, true, false, ◌&&◌, ◌||◌, nat_le, List, [], ◌∷◌, length, codes, Option, Some, None, is_some, if◌then◌else◌}
+use Rattle.std.specs.List.{list_all}
 use Rattle.std.specs.Str.{bytes_eq}
 use Rattle.named.specs.Texts.{named_of}
 use Rattle.net_core.specs.Rels.{rel_text, all_rels}
 use Rattle.timex_value.specs.Kinds.{kind_text, all_kinds, modifier_text, all_modifiers}
+use Rattle.tml_span.specs.Bytes.{is_digit, is_from_to, is_in}
 use Rattle.tml_span.specs.Units.{Attribute}
 use Rattle.tml_types.specs.Listed as listed
 use Rattle.tml_types.specs.Table as form
 
--- a byte is in one of these ranges, each given by its first and its last byte
-abbrev pub is_in_ranges : List ℕ → ℕ → Bool
-is_in_ranges (first ∷ last ∷ ranges) b = (nat_le first b && nat_le b last) || is_in_ranges ranges b
-is_in_ranges ranges b = false
-
 -- an ASCII letter, a digit, `_`, `-` or `.`
 abbrev pub is_id_byte : ℕ → Bool
-is_id_byte b = is_in_ranges (codes "AZaz09") b || list_any (nat_eq b) (codes "_-.")
+is_id_byte b = is_from_to (codes "AZ") b || is_from_to (codes "az") b || is_digit b || is_in (codes "_-.") b
 
 -- an identifier has 1 to 64 bytes
 abbrev pub is_id_len : ℕ → Bool
@@ -37,11 +33,14 @@ all_truths = true ∷ false ∷ []
 abbrev pub is_named : {T : Type 0} → (T → List ℕ) → List T → List ℕ → Bool
 is_named text_of all text = is_some (named_of text_of all text)
 
+abbrev pub is_truth : List ℕ → Bool
+is_truth text = is_named truth_text all_truths text
+
 -- a text is of a form
 abbrev pub is_of_form : form.ValueForm → List ℕ → Bool
 is_of_form form.identifier text = is_identifier text
 is_of_form form.any_text text = true
-is_of_form form.truth text = is_named truth_text all_truths text
+is_of_form form.truth text = is_truth text
 is_of_form form.event_class text = is_named listed.class_text listed.all_classes text
 is_of_form form.tense text = is_named listed.tense_text listed.all_tenses text
 is_of_form form.aspect text = is_named listed.aspect_text listed.all_aspects text

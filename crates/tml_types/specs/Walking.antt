@@ -3,10 +3,10 @@ use Rattle.std.specs.Prelude.{◌≡◌, ℕ, true, false, List, ◌++◌, map, 
 use Rattle.std.specs.List.{All, list_any}
 use Rattle.tml_span.specs.Units.{Attribute}
 use Rattle.tml_span.specs.View.{attribute_of}
-use Rattle.tml_tree.specs.declared.names.TagName.{TagName}
-use Rattle.tml_tree.specs.declared.names.TagName.TheVariants as tag
+use Rattle.tml_tree.specs.declared.tag_name.TagName.{TagName}
+use Rattle.tml_tree.specs.declared.tag_name.TagName.TheVariants as tag
 use Rattle.tml_tree.specs.declared.node.Tag.{Tag}
-use Rattle.tml_tree.specs.Names.{text_of}
+use Rattle.tml_tree.specs.TagNames.{text_of}
 use Rattle.tml_tree.specs.Walking.{PlainTag}
 use Rattle.tml_types.specs.declared.typed.TypedTag.{TypedTag}
 use Rattle.tml_types.specs.declared.walk.TypeFault.{TypeFault}

@@ -1,10 +1,10 @@
 //! The attributes of one tag, read one by one.
 ghost use Rattle.named.specs.Texts.{named_of};
 ghost use Rattle.std.specs.List.{list_all};
-ghost use Rattle.std.specs.Prelude.{◌≡◌, false, true, Some, None, codes, map, option_map, IfOk, IfErr};
+ghost use Rattle.std.specs.Prelude.{◌≡◌, false, true, Some, None, codes, map, option_map, IfOk, IfErr, IfSome, IsNone};
 ghost use Rattle.tml_span.specs.View.{attribute_of};
-ghost use Rattle.tml_types.specs.Reading.{IsBoth, IsOneOf, IsPairOf, is_bad_pair, value_at};
-ghost use Rattle.tml_types.specs.Rules.{IsNoDate, is_unfit};
+ghost use Rattle.tml_types.specs.Reading.{AreMissing, IsBad, IsGood, IsMissing, IsOneOf, IsPairOf, is_bad_pair, is_conflict_pair, value_at};
+ghost use Rattle.tml_types.specs.Rules.{IsNoDate};
 ghost use Rattle.tml_types.specs.Typing.{IsValueOf};
 ghost use Rattle.tml_types.specs.Values as values;
 ghost use Rattle.tml_types.specs.View.{end_of, text_of};
@@ -34,6 +34,20 @@ pub enum Pair<'s> {
     Both(&'s [u8], &'s [u8]),
 }
 
+impl<'s> Pair<'s> {
+    /// The end of a link, where one attribute of its pair is there.
+    pub fn one(self) -> Option<LinkEnd<'s>>
+        ensures one { IfSome result (λ end. IsOneOf self.entry (end_of end)) }
+        ensures both { IsNone result → is_conflict_pair self.entry ≡ true }
+    {
+        match self {
+            Pair::Instance(name) => Some(LinkEnd::Instance(name)),
+            Pair::Time(name) => Some(LinkEnd::Time(name)),
+            Pair::Both(_, _) => None,
+        }
+    }
+}
+
 impl<'s> Attributes<'_, 's> {
     /// The value of an attribute, or none where it is absent or empty.
     pub fn value(&self, name: &[u8]) -> Option<&'s [u8]>
@@ -45,7 +59,7 @@ impl<'s> Attributes<'_, 's> {
     /// The value of an attribute that has to be there.
     pub fn required(&self, name: &[u8]) -> Result<&'s [u8], TypeFault>
         ensures value { IfOk result (λ text. value_at name.now self.now ≡ Some text.now) }
-        ensures missing { IfErr result (λ e. (e ≡ faults.MissingAttribute self.now.place) × (value_at name.now self.now ≡ None)) }
+        ensures missing { IfErr result (IsMissing self.now (value_at name.now self.now)) }
     {
         match self.value(name) {
             Some(text) => Ok(text),
@@ -56,7 +70,7 @@ impl<'s> Attributes<'_, 's> {
     /// The values of two attributes, of which one has to be there.
     pub fn either(&self, instance: &[u8], time: &[u8]) -> Result<Pair<'s>, TypeFault>
         ensures pair { IfOk result (λ p. IsPairOf self.now instance.now time.now p) }
-        ensures missing { IfErr result (λ e. (e ≡ faults.MissingAttribute self.now.place) × (value_at instance.now self.now ≡ None) × (value_at time.now self.now ≡ None)) }
+        ensures missing { IfErr result (AreMissing self.now (value_at instance.now self.now) (value_at time.now self.now)) }
     {
         match (self.value(instance), self.value(time)) {
             (Some(name), Some(other)) => Ok(Pair::Both(name, other)),
@@ -68,8 +82,8 @@ impl<'s> Attributes<'_, 's> {
 
     /// An identifier, or what looks like one.
     pub fn identifier(&self, text: &'s [u8]) -> Result<&'s [u8], TypeFault>
-        ensures good { IfOk result (λ t. (t.now ≡ text.now) × (values.is_identifier text.now ≡ true)) }
-        ensures bad { IfErr result (λ e. (e ≡ faults.BadValue self.now.place) × (values.is_identifier text.now ≡ false)) }
+        ensures good { IfOk result (λ t. IsGood values.is_identifier (Some text.now) (Some t.now)) }
+        ensures bad { IfErr result (IsBad values.is_identifier (Some text.now) self.now.place) }
     {
         if is_identifier(text) {
             Ok(text)
@@ -80,8 +94,8 @@ impl<'s> Attributes<'_, 's> {
 
     /// The identifier that is the value of an attribute, where it is there.
     pub fn optional_identifier(&self, name: &[u8]) -> Result<Option<&'s [u8]>, TypeFault>
-        ensures good { IfOk result (λ t. (text_of t ≡ value_at name.now self.now) × (is_unfit values.is_identifier (value_at name.now self.now) ≡ false)) }
-        ensures bad { IfErr result (λ e. (e ≡ faults.BadValue self.now.place) × (is_unfit values.is_identifier (value_at name.now self.now) ≡ true)) }
+        ensures good { IfOk result (λ t. IsGood values.is_identifier (value_at name.now self.now) (text_of t)) }
+        ensures bad { IfErr result (IsBad values.is_identifier (value_at name.now self.now) self.now.place) }
     {
         match self.value(name) {
             Some(text) if !is_identifier(text) => Err(TypeFault::BadValue { place: self.place }),
@@ -105,22 +119,10 @@ impl<'s> Attributes<'_, 's> {
         }
     }
 
-    /// The end of a link, where one attribute of its pair is there.
-    pub fn one_of(&self, pair: Pair<'s>) -> Result<LinkEnd<'s>, TypeFault>
-        ensures one { IfOk result (λ end. IsOneOf pair.entry (end_of end)) }
-        ensures both { IfErr result (λ e. (e ≡ faults.Conflict self.now.place) × IsBoth pair.entry) }
-    {
-        match pair {
-            Pair::Instance(name) => Ok(LinkEnd::Instance(name)),
-            Pair::Time(name) => Ok(LinkEnd::Time(name)),
-            Pair::Both(_, _) => Err(TypeFault::Conflict { place: self.place }),
-        }
-    }
-
     /// What a text of a list names.
     pub fn listed<T: Named>(&self, text: &[u8]) -> Result<T, TypeFault>
-        ensures good { IfOk result (λ v. (T.text_of v ≡ text.now) × (values.is_named T.text_of T.all_of text.now ≡ true)) }
-        ensures bad { IfErr result (λ e. (e ≡ faults.BadValue self.now.place) × (values.is_named T.text_of T.all_of text.now ≡ false)) }
+        ensures good { IfOk result (λ v. IsGood (values.is_named T.text_of T.all_of) (Some text.now) (Some (T.text_of v))) }
+        ensures bad { IfErr result (IsBad (values.is_named T.text_of T.all_of) (Some text.now) self.now.place) }
     {
         match named_by(text) {
             Some(value) => Ok(value),
@@ -130,8 +132,8 @@ impl<'s> Attributes<'_, 's> {
 
     /// What the value of an attribute names, where it is there.
     pub fn optional_listed<T: Named>(&self, name: &[u8]) -> Result<Option<T>, TypeFault>
-        ensures good { IfOk result (λ v. (value_at name.now self.now ≡ option_map T.text_of v) × (is_unfit (values.is_named T.text_of T.all_of) (value_at name.now self.now) ≡ false)) }
-        ensures bad { IfErr result (λ e. (e ≡ faults.BadValue self.now.place) × (is_unfit (values.is_named T.text_of T.all_of) (value_at name.now self.now) ≡ true)) }
+        ensures good { IfOk result (λ v. IsGood (values.is_named T.text_of T.all_of) (value_at name.now self.now) (option_map T.text_of v)) }
+        ensures bad { IfErr result (IsBad (values.is_named T.text_of T.all_of) (value_at name.now self.now) self.now.place) }
     {
         let Some(text) = self.value(name) else {
             return Ok(None);
@@ -144,8 +146,8 @@ impl<'s> Attributes<'_, 's> {
 
     /// The truth that is the value of an attribute, where it is there.
     pub fn optional_truth(&self, name: &[u8]) -> Result<Option<bool>, TypeFault>
-        ensures good { IfOk result (λ v. (value_at name.now self.now ≡ option_map values.truth_text v) × (is_unfit (values.is_named values.truth_text values.all_truths) (value_at name.now self.now) ≡ false)) }
-        ensures bad { IfErr result (λ e. (e ≡ faults.BadValue self.now.place) × (is_unfit (values.is_named values.truth_text values.all_truths) (value_at name.now self.now) ≡ true)) }
+        ensures good { IfOk result (λ v. IsGood values.is_truth (value_at name.now self.now) (option_map values.truth_text v)) }
+        ensures bad { IfErr result (IsBad values.is_truth (value_at name.now self.now) self.now.place) }
     {
         match self.value(name) {
             None => Ok(None),

@@ -1,7 +1,7 @@
 //! Typed tags: each attribute that means something is read once, in the order of the table. What has to be there comes
 //! first, then what each value may be, then that not both of a pair are there, and last whether a date exists.
 ghost use Rattle.std.specs.Prelude.{◌≡◌, [], ◌∷◌, map, true, false, IfOk, IfErr};
-ghost use Rattle.tml_tree.specs.declared.names.TagName.TheVariants as tag;
+ghost use Rattle.tml_tree.specs.declared.tag_name.TagName.TheVariants as tag;
 ghost use Rattle.tml_types.specs.Reading.{attrs_of};
 ghost use Rattle.tml_types.specs.View.{typed_of};
 ghost use Rattle.tml_types.specs.Walking.{Reads, Refuses, TypesOne, plain_of};
@@ -108,8 +108,12 @@ fn tlink<'s>(of: &Attributes<'_, 's>) -> Result<TypedTag<'s>, TypeFault>
     let lid = of.optional_identifier(b"lid")?;
     let signal = of.optional_identifier(b"signalID")?;
 
-    let left = of.one_of(left)?;
-    let right = of.one_of(right)?;
+    let Some(left) = left.one() else {
+        return Err(TypeFault::Conflict { place: of.place });
+    };
+    let Some(right) = right.one() else {
+        return Err(TypeFault::Conflict { place: of.place });
+    };
     Ok(TypedTag::Tlink {
         place: of.place,
         lid,

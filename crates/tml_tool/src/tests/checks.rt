@@ -106,7 +106,7 @@ fn rows_of_types(rt: HostRuntime) -> Result<(), Fail> {
 }
 
 #[test]
-fn a_failing_write_of_check_leaves_a_front(rt: HostRuntime) -> Result<(), Fail> {
+fn a_failing_write_of_check_leaves_a_prefix(rt: HostRuntime) -> Result<(), Fail> {
     let alloc = rt.alloc();
     let words = words_of(alloc, CHECK)?;
     let mut inputs = inputs_of(alloc, "d", Vec::from_slice(alloc, b"<TimeML/>")?)?;

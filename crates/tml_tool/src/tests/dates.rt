@@ -403,16 +403,16 @@ fn time_of(alloc: Global, kind: &str, value: &str, modifier: &str) -> Result<Vec
     Ok(doc)
 }
 
-/// What `dates` prints of a document with the time `t1`: its line behind the name, or its fault.
+/// What `dates` prints of a document with the time `t1`: its line after the name, or its fault.
 fn answers(rt: &(impl Abort + AllocGlobal), doc: Vec<u8>, answer: &str) -> Result<(), Fail> {
     let fault = answer.starts_with("fault");
-    let front: &[u8] = if fault { b"" } else { b"t1 " };
+    let prefix: &[u8] = if fault { b"" } else { b"t1 " };
     let status = if fault {
         Status::DocFault
     } else {
         Status::Done
     };
-    let mut text = Vec::from_slice(rt.alloc(), front)?;
+    let mut text = Vec::from_slice(rt.alloc(), prefix)?;
     text.extend_from_slice(answer.as_bytes())?;
     text.push(b'\n')?;
     check_made(rt, DATES, doc, status, text.as_slice())

@@ -19,6 +19,6 @@ number-requires-clause-digits c = rw (c.split_at.ensures.front, c.digits_len.ens
 pub returns : goal.returns
 returns c =
     let len = c.digits_len.ensures.len in
-    let front = c.split_at.ensures.front ∙ ap (λ n. take n c.args.text.now) len in
-    let back = c.split_at.ensures.back ∙ ap (λ n. drop n c.args.text.now) len in
-    number_is c.args.unit c.number.result c.args.text.now c.split_at.result.0.now c.split_at.result.1.now c.in-Some.rest.now front back (grind (arith, nat_tests), omega arith) c.number.ensures c.in-Some.ensures
+    let digits = c.split_at.ensures.front ∙ ap (λ n. take n c.args.text.now) len in
+    let tail = c.split_at.ensures.back ∙ ap (λ n. drop n c.args.text.now) len in
+    number_is c.args.unit c.number.result c.args.text.now c.split_at.result.0.now c.split_at.result.1.now c.in-Some.rest.now digits tail (grind (arith, nat_tests), omega arith) c.number.ensures c.in-Some.ensures

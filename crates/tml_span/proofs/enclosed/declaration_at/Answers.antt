@@ -4,7 +4,7 @@ use Rattle.tml_span.proofs.enclosed.declaration_at.Goals as goal
 
 pub returns-then-not-begins_with_word-clause-unit : goal.returns-then-not-begins_with_word-clause-unit
 returns-then-not-begins_with_word-clause-unit c =
-    declaration_unnamed _ _ (lead_declaration c.args.bytes.now c.requires.front) (λ h. false≢true (c.if-not-begins_with_word.ensures.1 h))
+    declaration_unnamed _ _ (lead_declaration c.args.bytes.now c.requires.prefix) (λ h. false≢true (c.if-not-begins_with_word.ensures.1 h))
 
 pub returns-in_default-clause-unit : goal.returns-in_default-clause-unit
-returns-in_default-clause-unit c = declaration_unclosed _ _ (lead_declaration c.args.bytes.now c.requires.front) c.in_default.ensures.none
+returns-in_default-clause-unit c = declaration_unclosed _ _ (lead_declaration c.args.bytes.now c.requires.prefix) c.in_default.ensures.none

@@ -8,13 +8,13 @@ use Rattle.tml_span.proofs.enclosed.doctype_at.Goals as goal
 
 pub returns-then-not-begins_with_word-clause-unit : goal.returns-then-not-begins_with_word-clause-unit
 returns-then-not-begins_with_word-clause-unit c =
-    doctype_unnamed _ _ (lead_doctype c.args.bytes.now c.requires.front c.requires.other) (λ h. false≢true (c.if-not-begins_with_word.ensures.1 h))
+    doctype_unnamed _ _ (lead_doctype c.args.bytes.now c.requires.prefix c.requires.other) (λ h. false≢true (c.if-not-begins_with_word.ensures.1 h))
 
 pub returns-in_default-clause-unit : goal.returns-in_default-clause-unit
 returns-in_default-clause-unit c =
     let end = c.split_at-2.result.1.now in
     let is = past_body_by_length c.args.bytes.now c.split_at.result.1.now end _ c.split_at.ensures.back c.doctype_len.ensures.len c.split_at-2.ensures.back in
-    doctype_unclosed _ _ end (lead_doctype c.args.bytes.now c.requires.front c.requires.other) is (strip_prefix_is Decides-eqb end (codes ">") None c.in_default.ensures.cases)
+    doctype_unclosed _ _ end (lead_doctype c.args.bytes.now c.requires.prefix c.requires.other) is (strip_prefix_is Decides-eqb end (codes ">") None c.in_default.ensures.cases)
 
 pub returns-clause-unit : goal.returns-clause-unit
 returns-clause-unit c =

@@ -6,5 +6,5 @@ use Rattle.tml_span.proofs.references.begins_hex.Goals as goal
 
 pub returns-in-Some : goal.returns-in-Some
 returns-in-Some c =
-    let stands = strip_prefix_is {A = ℕ} {E = nat_eq} Decides-eqb c.args.bytes.now (codes "&#x") (Some c.in-Some.digits) c.in-Some.ensures.cases in
-    hex_begins _ _ _ _ stands c.hex_digits_len.ensures.len c.is_closed.ensures
+    let whole = strip_prefix_is {A = ℕ} {E = nat_eq} Decides-eqb c.args.bytes.now (codes "&#x") (Some c.in-Some.digits) c.in-Some.ensures.cases in
+    hex_begins _ _ _ _ whole c.hex_digits_len.ensures.len c.is_closed.ensures

@@ -3,9 +3,9 @@ use Rattle.std.specs.List.{AllByRecursion}
 use Rattle.std.proofs.lemmas.Grind.{common_steps}
 use Rattle.tml_span.specs.Units.{PlainUnit}
 use Rattle.tml_span.specs.Reader.{HasGiven}
-use Rattle.tml_span.specs.Slices.{UnitStands}
+use Rattle.tml_span.specs.Slices.{UnitIsIn}
 use Rattle.tml_span.specs.View.{unit_of}
-use Rattle.tml_span.proofs.Standing.{units_stand}
+use Rattle.tml_span.proofs.SlicesIn.{units_are_in}
 use Rattle.tml_span.proofs.unit_list.units.Goals as goal
 
 pub returns-in-Ok-None-clause-slices : goal.returns-in-Ok-None-clause-slices
@@ -14,8 +14,8 @@ returns-in-Ok-None-clause-slices c =
     let units = map unit_of c.loop-unit.units in
     let gives = rw c.in-Ok-None.field-0-is at c.in-Ok-None.ensures.gives in
     let whole = gives.1 units c.loop-unit.invariant.given in
-    subst (λ (s : List ℕ). AllByRecursion (UnitStands s) units) c.loop-unit.invariant.source
-    (units_stand reader.source [] reader.source [] 0 units refl refl whole.1)
+    subst (λ (s : List ℕ). AllByRecursion (UnitIsIn s) units) c.loop-unit.invariant.source
+    (units_are_in reader.source [] reader.source [] 0 units refl refl whole.1)
 
 pub loop-unit-preserved : goal.loop-unit-preserved
 loop-unit-preserved c =

@@ -1,26 +1,20 @@
-use Rattle.std.proofs.Common.{subst, Option, Some}
-use Rattle.tml_tool.specs.Words.{Form, of_document}
-use Rattle.tml_tool.specs.Outcome.{Outcome}
-use Rattle.tml_tool.proofs.Delivery.{delivered, delivered_usage}
+use Rattle.tml_tool.specs.View.{text_of}
+use Rattle.tml_tool.proofs.HowItEnds.{ends_as_usage}
 use Rattle.tml_tool.proofs.top.run.Goals as goal
 
-pub returns-in-OfDocument-clause-outcome : goal.returns-in-OfDocument-clause-outcome
-returns-in-OfDocument-clause-outcome g c =
-    let I = g.I.Inputs in
-    let S = g.S.Sink in
-    let told = I.files c.args.inputs.now in
-    let old = c.args.sink.now in
-    let new = c.deliver-in-OfDocument.new.sink in
-    subst (λ (form : Option Form). Outcome told form c.deliver-in-OfDocument.result (S.written old) (S.written new) (S.faults old) (S.faults new)) c.in-OfDocument.ensures
-    (delivered told (Some (of_document c.in-OfDocument.question c.in-OfDocument.doc.now)) _ _ _ _ _ _ _ (λ e. cc e) c.answer.ensures.says c.deliver-in-OfDocument.ensures.delivers)
+pub returns-clause-outcome : goal.returns-clause-outcome
+returns-clause-outcome g c =
+    let reply = rw c.command_of.ensures at c.reply_to.ensures.replies in
+    record { text = text_of c.reply_to.result; replies = (reply.0, rw c.deliver.ensures.status reply.1, reply.2); written = c.deliver.ensures.written }
 
-pub returns-in-Usage-clause-outcome : goal.returns-in-Usage-clause-outcome
-returns-in-Usage-clause-outcome g c =
-    let I = g.I.Inputs in
-    let S = g.S.Sink in
-    let told = I.files c.args.inputs.now in
-    let old = c.args.sink.now in
-    let new = c.deliver.new.sink in
-    let delivers = rw c.usage.ensures.status at c.deliver.ensures.delivers in
-    subst (λ (form : Option Form). Outcome told form c.deliver.result (S.written old) (S.written new) (S.faults old) (S.faults new)) c.in-Usage.ensures
-    (delivered_usage told _ _ _ _ _ _ c.usage.ensures.text delivers)
+pub returns-clause-usage : goal.returns-clause-usage
+returns-clause-usage g c =
+    let asked = rw c.command_of.ensures at c.reply_to.ensures.usage in
+    let same = ends_as_usage _ _ c.deliver.ensures.status in
+    (λ e. asked.0 (same.0 e), λ e. same.1 (asked.1 e))
+
+pub returns-clause-sound : goal.returns-clause-sound
+returns-clause-sound g c = rw c.command_of.ensures at c.reply_to.ensures.no_fault
+
+pub returns-clause-untouched : goal.returns-clause-untouched
+returns-clause-untouched g c = rw c.command_of.ensures at c.reply_to.ensures.untouched

@@ -1,14 +1,14 @@
 use Rattle.std.proofs.Common.{◌≡◌, List, length}
 use Rattle.tml_span.specs.Units.{PlainUnit}
 use Rattle.tml_span.specs.Reader.{HasGiven}
-use Rattle.tml_tree.specs.Taking.{Stands}
+use Rattle.tml_tree.specs.Taking.{HasTaken}
 use Rattle.tml_tree.proofs.pulled.root_of_source.Given as goal
 
 -- the builder has taken the units given so far
 abbrev pub invariant-loop-unit : goal.invariant-loop-unit
 invariant-loop-unit l = record {
   source : l.reader.source ≡ l.source;
-  stands : (units : List PlainUnit) × HasGiven l.reader units × Stands units l.builder;
+  taken : (units : List PlainUnit) × HasGiven l.reader units × HasTaken units l.builder;
 }
 
 abbrev pub decreases-loop-unit : goal.decreases-loop-unit

@@ -1,8 +1,8 @@
-use Rattle.std.proofs.Common.{◌≡◌, [], ◌∷◌, ◌++◌, refl, sym, ap, ◌∙◌, length, append_assoc, append-nil, arith}
+use Rattle.std.proofs.Common.{◌≡◌, [], ◌∷◌, ◌++◌, inr, refl, sym, ap, ◌∙◌, length, append_assoc, append-nil, arith}
 use Rattle.std.proofs.lemmas.List.{map-append}
 use Rattle.std.specs.Vec.Iter.{into_iter_items}
 use Rattle.tml_span.specs.View.{unit_of}
-use Rattle.tml_tree.proofs.Standing.{stands_more, fault_told, nothing_left}
+use Rattle.tml_tree.proofs.Taken.{taken_more, refused, nothing_left}
 use Rattle.tml_tree.proofs.whole.root.Goals as goal
 
 pub loop-unit-preserved : goal.loop-unit-preserved
@@ -16,7 +16,7 @@ loop-unit-preserved c =
           let gone = c.in-Some.ensures.steps.1 in
           let short = ap length steps in
           omega arith;
-      stands = rw (map-append unit_of at.yielded (c.in-Some.unit ∷ [])) (stands_more _ _ _ _ at.invariant.stands c.in_default.ensures.ok);
+      taken = rw (map-append unit_of at.yielded (c.in-Some.unit ∷ [])) (taken_more _ _ _ _ at.invariant.taken c.in_default.ensures.ok);
     }
 
 pub returns-in-Err-clause-fault : goal.returns-in-Err-clause-fault
@@ -24,11 +24,18 @@ returns-in-Err-clause-fault c =
     let at = c.loop-unit in
     let whole : at.yielded ++ (c.in-Some.unit ∷ into_iter_items c.next.new.self) ≡ c.args.units.items = rw (← c.in-Some.ensures.steps.0) (at.invariant.items ∙ c.into_iter-unit-iterator.ensures.into_iter_gives.0) in
     rw (← whole, map-append unit_of at.yielded (c.in-Some.unit ∷ into_iter_items c.next.new.self))
-    (fault_told c.args.length _ _ _ at.builder c.in-Err.stop c.span_of-place.result.start c.fault_at.result at.invariant.stands c.in-Err.ensures.err c.fault_at.ensures c.span_of-place.ensures.start)
+    (refused c.args.length _ _ _ at.builder _ at.invariant.taken c.in-Err.ensures.err)
 
 pub returns-in-None-finish-clause-fault : goal.returns-in-None-finish-clause-fault
 returns-in-None-finish-clause-fault c =
     let at = c.loop-unit in
     let empty : into_iter_items at.unit-iterator ≡ [] = nothing_left _ (sym at.invariant.left ∙ c.in-None.ensures.steps.0) in
     let all : at.yielded ≡ c.args.units.items = sym (append-nil at.yielded) ∙ rw empty at at.invariant.items ∙ c.into_iter-unit-iterator.ensures.into_iter_gives.0 in
-    rw (← all) (c.in-None-finish.ensures.none refl _ at.invariant.stands, refl)
+    rw (← all) (inr (refl, refl, c.in-None-finish.ensures.none refl _ at.invariant.taken))
+
+pub returns-in-Some-finish-clause-ok : goal.returns-in-Some-finish-clause-ok
+returns-in-Some-finish-clause-ok c =
+    let at = c.loop-unit in
+    let empty : into_iter_items at.unit-iterator ≡ [] = nothing_left _ (sym at.invariant.left ∙ c.in-None.ensures.steps.0) in
+    let all : at.yielded ≡ c.args.units.items = sym (append-nil at.yielded) ∙ rw empty at at.invariant.items ∙ c.into_iter-unit-iterator.ensures.into_iter_gives.0 in
+    rw (← all) (c.in-Some-finish.ensures.some _ at.invariant.taken)

@@ -1,7 +1,7 @@
 use Rattle.std.proofs.Common.{◌≡◌, ◌<◌, ◌+◌, ◌-◌, List, [], ◌∷◌, ◌++◌, length, refl, subst, arith}
 use Rattle.std.proofs.lemmas.Bool.Decides.{nat_tests}
 use Rattle.tml_span.specs.Units.{PlainUnit}
-use Rattle.tml_span.specs.Faults.{CutFault, bad_markup, bad_reference}
+use Rattle.tml_span.specs.Faults.{HasBadMarkup, HasBadReference}
 use Rattle.tml_span.specs.Whole.{IsWhole}
 use Rattle.tml_span.specs.Reader.{Progress, HasGiven}
 use Rattle.tml_span.specs.View.{unit_of}
@@ -21,7 +21,7 @@ pub returns-in_default-found : goal.returns-in_default-found
 returns-in_default-found c =
     let s = c.self.inside in
     let some : length s.rest.now ≡ 0 → ⊥ = λ z. grind (arith, nat_tests, z) in record {
-      gives = subst (λ (q : Progress). (q ≡ q) × CutFault q.source (bad_markup s.place)) c.self.view_is
+      gives = subst (λ (q : Progress). (q ≡ q) × HasBadMarkup q.source s.place) c.self.view_is
           (refl, gives_fault s.source.now s.rest.now s.place c.self.invariant some (rw c.in_default-found.is at c.in-Ok.ensures.unit));
     }
 
@@ -32,7 +32,7 @@ pub returns-in-Some-bad_reference_in : goal.returns-in-Some-bad_reference_in
 returns-in-Some-bad_reference_in c =
     let s = c.self.inside in
     let place = c.in-Some-bad_reference_in.place in record {
-      gives = subst (λ (q : Progress). (q ≡ q) × CutFault q.source (bad_reference place)) c.self.view_is
+      gives = subst (λ (q : Progress). (q ≡ q) × HasBadReference q.source place) c.self.view_is
           (refl, gives_bad_reference s.source.now s.rest.now c.in-Some.rest.now s.place _ place c.self.invariant (rw c.in-Some.is at c.in-Ok.ensures.unit) c.in-Some-bad_reference_in.ensures);
     }
 

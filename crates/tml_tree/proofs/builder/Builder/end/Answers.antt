@@ -1,7 +1,7 @@
 use Rattle.std.proofs.Common.{◌≡◌, true, false, [], ◌∷◌, ◌++◌, refl, arith, rules}
 use Rattle.std.specs.Str.{bytes_eq}
 use Rattle.std.proofs.lemmas.Grind.{common_steps}
-use Rattle.tml_tree.specs.Names.{text_of}
+use Rattle.tml_tree.specs.TagNames.{text_of}
 use Rattle.tml_tree.proofs.Endings.{innermost_is, closed_is}
 use Rattle.tml_tree.proofs.builder.Builder.end.Goals as goal
 
@@ -9,7 +9,7 @@ pub returns-then-not-is_name_of-clause-err : goal.returns-then-not-is_name_of-cl
 returns-then-not-is_name_of-clause-err c =
     let old : c.args.self.now.frames.items ≡ c.pop.new.self.items ++ c.in-Some.frame ∷ [] = grind (arith, common_steps) in
     let other : bytes_eq (text_of c.in-Some.frame.name) c.args.name.now ≡ false = cc in
-    rw (innermost_is _ _ _ c.args.name.now old, other) refl
+    rw (innermost_is _ _ _ c.args.name.now old, other) (refl, refl)
 
 pub returns-clause-ok : goal.returns-clause-ok
 returns-clause-ok c =

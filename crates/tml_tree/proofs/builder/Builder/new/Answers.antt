@@ -1,5 +1,6 @@
 use Rattle.std.proofs.Common.{refl, inl}
-use Rattle.tml_tree.proofs.Standing.{lawful_none}
+use Rattle.faults.proofs.First.{none_breaks_nil}
+use Rattle.tml_tree.specs.Trees.{Breaks}
 use Rattle.tml_tree.proofs.builder.Builder.new.Goals as goal
 
 pub returns : goal.returns
@@ -7,7 +8,7 @@ returns c =
     let f = c.new.ensures.items in
     let n = c.new-2.ensures.items in record {
       opens = rw (f, n) refl;
-      lawful = lawful_none;
+      lawful = none_breaks_nil Breaks;
       begun = refl;
       tagged = refl;
       doctyped = refl;

@@ -1,0 +1,26 @@
+-- The table of answers: the rows of each form of words.
+use Rattle.std.specs.Prelude.{◌≡◌, Bool, true, List, [], ◌∷◌, None, Some, String}
+use Rattle.std.specs.declared.alloc.Global.{Global}
+use Rattle.std.specs.declared.option.Option.{Option}
+use Rattle.tml_tool.specs.declared.role.Role.TheVariants.{Doc}
+use Rattle.tml_tool.specs.declared.status.Status.{Status}
+use Rattle.tml_tool.specs.declared.status.Status.TheVariants.{Usage}
+use Rattle.tml_tool.specs.Words.{CommandForm, of_document, form_of, texts_of, usage}
+use Rattle.tml_tool.specs.Questions.{OfDocument}
+use Rattle.tml_tool.specs.Roles.{file_of}
+use Rattle.tml_tool.specs.Rows.{Rows, reads, answers}
+
+-- One line for each form and each number of files that were read. A further command adds lines.
+abbrev pub rows_of : Option CommandForm → Rows
+rows_of None [] (answers Usage text) = text ≡ usage
+rows_of (Some (of_document question name)) [] (reads file) = file ≡ file_of Doc name
+rows_of (Some (of_document question name)) (doc ∷ []) (answers status text) = OfDocument question doc status text
+rows_of form contents next = ⊥
+
+-- whether the contents determine the text that is answered with a status: so far all do
+abbrev pub is_determined : Option CommandForm → Status → Bool
+is_determined form status = true
+
+-- the rows of the words of a run
+abbrev pub rows_of_words : List (String Global) → Rows
+rows_of_words words = rows_of (form_of (texts_of words))

@@ -1,0 +1,34 @@
+//! What a file is read for.
+ghost use Rattle.std.specs.Prelude.{◌≡◌, ◌≤◌};
+ghost use Rattle.tml_tool.specs.Replies.{too_long};
+ghost use Rattle.tml_tool.specs.Roles.{limit_of, word_of};
+
+use tml_io::MAX_LIMIT;
+
+/// What a file is read for. It says how long the file may be.
+#[derive(Clone, Copy, Debug, PartialEq, Eq)]
+pub enum Role {
+    /// A document.
+    Doc,
+}
+
+impl Role {
+    /// The greatest length of a file, in bytes.
+    pub fn limit(self) -> u32
+        ensures value { result ≡ limit_of self }
+        ensures within { result ≤ MAX_LIMIT }
+    {
+        match self {
+            Role::Doc => 4_194_304,
+        }
+    }
+
+    /// The line for a file that is longer.
+    pub fn too_long(self) -> &'static [u8]
+        ensures { result.now ≡ too_long (word_of self) }
+    {
+        match self {
+            Role::Doc => b"too long DOC\n",
+        }
+    }
+}
