@@ -11,12 +11,12 @@ use Rattle.std.proofs.lemmas.List.Sums.{sum_by-cons}
 use Rattle.faults.proofs.Cuts.{last_or_before}
 use Rattle.tml_types.specs.declared.typed.TypedTag.{TypedTag}
 use Rattle.tml_types.specs.Content as content
-use Rattle.tml_types.specs.Content.{PlainTyped}
+use Rattle.tml_types.specs.Content.{PlainTyped, Reference}
 use Rattle.tml_types.specs.References.{id_of, kind_of}
 use Rattle.tml_types.specs.View.{typed_of}
 use Rattle.tml_refs.specs.declared.name_index.Entry.{Entry}
 use Rattle.tml_refs.specs.Documents.{interval_of, intervals_of}
-use Rattle.tml_refs.specs.NameIndex.{AreEntriesOf, IsEntryIn, IsEntryOf, entry_name, head_of, is_at, rank_of}
+use Rattle.tml_refs.specs.NameIndex.{AreEntriesOf, IsEntryIn, IsEntryOf, IsKeyOf, head_of, is_at, rank_of}
 use Rattle.tml_refs.specs.Rules.{is_interval}
 use Rattle.tml_refs.proofs.Lists.{count_more, filter_map_more}
 
@@ -95,9 +95,15 @@ one_more_at_most false n i k h e = omega arith
 
 -- ---- the steps of the loop
 
-pub next_entry : (before : List PlainTyped) (tag : PlainTyped) (e : Entry) (name : List ℕ) → id_of tag.content ≡ Some name → e.key.head ≡ head_of name → entry_name e ≡ name → e.key.rank ≡ rank_of (kind_of tag.content)
+pub next_entry : (before : List PlainTyped) (tag : PlainTyped) (e : Entry) (r : Reference) → id_of tag.content ≡ Some r.name → kind_of tag.content ≡ r.asked → IsKeyOf r e.key
     → e.at ≡ length before → e.number ≡ length (intervals_of before) → IsEntryOf before tag e
-next_entry before tag e name its head own rank at number = record { head = head ∙ ap head_of (sym own); name = its ∙ ap (λ (n : List ℕ). Some n) (sym own); rank = rank; at = at; number = number }
+next_entry before tag e r id kind key at number = record {
+  head = key.head ∙ ap head_of (sym key.name);
+  name = id ∙ ap (λ (n : List ℕ). Some n) (sym key.name);
+  rank = key.rank ∙ ap rank_of (sym kind);
+  at = at;
+  number = number;
+}
 
 pub place_next : (tags : List TypedTag) (i : ℕ) → i < length tags → i ≡ length (map typed_of (take i tags))
 place_next tags i h = omega (arith, length-map (take i tags) typed_of, length-take i tags)

@@ -1,4 +1,4 @@
--- A place at which a name is repeated is that of a tag whose identifier is that of a tag before it.
+-- A position at which a name is repeated is that of a tag whose identifier is that of a tag before it.
 use Rattle.std.proofs.Common.{◌≡◌, ◌<◌, ℕ, true, List, ◌∷◌, ◌++◌, length, refl, sym, ap, ◌∙◌, inl, inr, append_assoc, length-append, arith, Option, Some, None, false}
 use Rattle.std.specs.List.{list_any}
 use Rattle.std.proofs.lemmas.List.Elements.{All-contains}
@@ -40,7 +40,7 @@ module _ (all : List PlainTyped) (names : List Entry) (known : AreEntriesOf all 
       repeats_id all before tag (entry_name f) id
       (ap (list_any (has_id (entry_name f))) cut ∙ any_inside (has_id (entry_name f)) mid rest other (has_own_id other (entry_name f) (its.name ∙ ap (λ (m : List ℕ). Some m) n)))
 
-  -- at a place at which a name is repeated stands a tag whose identifier is taken
+  -- at a position at which a name is repeated stands a tag whose identifier is taken
   taken_here : (place : ℕ) (before after : List PlainTyped) (tag : PlainTyped) → Repeats names place → all ≡ before ++ tag ∷ after → length before ≡ place → Breaks all DuplicateId before tag
   taken_here place before after tag r whole size =
       let e = r.0 in

@@ -1,4 +1,4 @@
--- The least place at which a name is repeated.
+-- The first position at which a name is repeated.
 use Rattle.std.proofs.Common.{◌≡◌, ◌⊎◌, ℕ, suc, zero, ◌+◌, ◌-◌, ◌<◌, ◌≤◌, min, max, Bool, true, false, cond, List, [], ◌∷◌, ◌++◌, length, take, drop, drop-cons, get_or, refl, sym, ap, subst, ◌∙◌, inl, inr, arith, eq-eqb}
 use mathlib.Core.Bool.{true≢false}
 use Rattle.std.specs.List.{Contains, count_by}
@@ -12,7 +12,7 @@ use Rattle.tml_refs.specs.declared.name_index.Entry.{Entry}
 use Rattle.tml_refs.specs.NameIndex.{AreInOrder, IsFirstRepeat, Repeats, entry_name, is_at}
 use Rattle.tml_refs.proofs.Runs.{place_in, side_by_side}
 
--- Of the first entries, this many: no name is repeated at a place before `first`, a name is repeated there, if it is no end, and `least` is the least place of the entries of this name.
+-- Of the first entries, this many: no name is repeated at a position before `first`, a name is repeated there, if it is no end, and `least` is the first position of the entries of this name.
 pub record IsScanned (entries : List Entry) (tags first least i : ℕ) (name : List ℕ) : Type 0 where
   pub at_most : first ≤ tags
   pub none_before : (e other : Entry) → Contains (take i entries) e → Contains (take i entries) other → entry_name e ≡ entry_name other → e.at < other.at → first ≤ other.at
@@ -20,7 +20,7 @@ pub record IsScanned (entries : List Entry) (tags first least i : ℕ) (name : L
   pub low : (e : Entry) → Contains (take i entries) e → entry_name e ≡ name → least ≤ e.at
   pub least_is : (e : Entry) × Contains (take i entries) e × (entry_name e ≡ name) × (e.at ≡ least)
 
--- ---- places
+-- ---- positions
 
 one_more : (b : Bool) (n k : ℕ) → b ≡ true → k ≡ cond b 1 0 + n → 1 ≤ k
 one_more true n k e h = omega arith
@@ -32,7 +32,7 @@ count_at p (y ∷ xs) zero d h t = one_more (p y) (count_by p xs) (count_by p (y
 count_at p (y ∷ xs) (suc i) d h t = omega (arith, count_at p xs i d (omega (arith, h)) t, sum_by-cons (λ (x : Entry). cond (p x) 1 0) y xs)
 
 module _ (entries : List Entry) (order : AreInOrder entries) where
-  -- an entry before another has another place
+  -- an entry before another has another position
   apart_from : (i : ℕ) (e d : Entry) → i < length entries → Contains (take i entries) e → e.at ≡ (get_or entries i d).at → ⊥
   apart_from i e d below h same =
       let test = is_at e.at in
@@ -46,7 +46,7 @@ module _ (entries : List Entry) (order : AreInOrder entries) where
       ∙ sum_by-append (λ (x : Entry). cond (test x) 1 0) (take i entries) (get_or entries i d ∷ drop (suc i) entries) in
       absurd (omega (arith, before, after, whole, order.apart e.at))
 
-  -- two entries of one name, of which the places are two
+  -- two entries of one name, of which the positions are two
   repeats_at : (e other : Entry) (place : ℕ) → Contains entries e → Contains entries other → entry_name e ≡ entry_name other → (e.at ≡ other.at → ⊥) → place ≡ max e.at other.at → Repeats entries place
   repeats_at e other place x y n apart m = elim (cases_lt e.at other.at) [
     | inl before ↦ (e, other, x, y, n, before, omega (arith, m, before))

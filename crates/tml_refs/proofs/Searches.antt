@@ -16,7 +16,7 @@ use Rattle.std.proofs.lemmas.Slice.Eq.{bytes_eq-Decides}
 use Rattle.tml_types.specs.Content.{Reference}
 use Rattle.tml_refs.specs.declared.name_index.Entry.{Entry}
 use Rattle.tml_refs.specs.declared.name_index.Key.{Key}
-use Rattle.tml_refs.specs.NameIndex.{AreInOrder, HasNumber, HasHead, entry_name, head_of, is_for, is_listed, key_of, key_order, rank_of}
+use Rattle.tml_refs.specs.NameIndex.{AreInOrder, HasHead, HasNumber, IsKeyOf, entry_name, head_of, is_for, is_listed, key_of, key_order, rank_of}
 use Rattle.tml_refs.proofs.Lists.{passes_at}
 use Rattle.tml_refs.proofs.Orders.{equal_keys, key_total, keys_equal}
 
@@ -39,12 +39,12 @@ for_both r e h =
 pub is_for_both : (r : Reference) (e : Entry) → e.key.rank ≡ rank_of r.asked → r.name ≡ entry_name e → is_for r e ≡ true
 is_for_both r e h k = and_from (e.key.rank == rank_of r.asked) (bytes_eq r.name (entry_name e)) (eq-eqb e.key.rank (rank_of r.asked) h) ((bytes_eq-Decides r.name (entry_name e)).1 k)
 
-module _ (entries slice : List Entry) (same : slice ≡ entries) (order : AreInOrder entries) (r : Reference) (key : Key) (head : key.head ≡ head_of r.name) (name : key.name.now ≡ r.name) (rank : key.rank ≡ rank_of r.asked) where
+module _ {entries slice : List Entry} {r : Reference} {key : Key} (same : slice ≡ entries) (order : AreInOrder entries) (is : IsKeyOf r key) where
   -- an entry that was found is that of a tag that the reference asks for
   found : (at : ℕ) (d : Entry) → at < length slice → IsBinarySearchResult (entry_order key) slice (Ok at) → is_for r (get_or slice at d) ≡ true
   found at d below h =
       let equal = equal_keys (get_or slice at d).key key (h d) in
-      is_for_both r (get_or slice at d) (equal.1 ∙ rank) (sym name ∙ sym equal.0)
+      is_for_both r (get_or slice at d) (equal.1 ∙ is.rank) (sym is.name ∙ sym equal.0)
 
   pub found_listed : (at : ℕ) → at < length slice → IsBinarySearchResult (entry_order key) slice (Ok at) → true ≡ is_listed entries r
   found_listed at below h =
@@ -59,7 +59,7 @@ module _ (entries slice : List Entry) (same : slice ≡ entries) (order : AreInO
   none_equal at parted e stands h =
       let both = for_both r e h in
       let own : HasHead e = All-contains HasHead entries e order.heads stands in
-      let equal : entry_order key e ≡ Equal = keys_equal e.key key (own ∙ sym (head ∙ ap head_of both.1)) (sym both.1 ∙ sym name) (both.0 ∙ sym rank) in
+      let equal : entry_order key e ≡ Equal = keys_equal e.key key (own ∙ sym (is.head ∙ ap head_of both.1)) (sym both.1 ∙ sym is.name) (both.0 ∙ sym is.rank) in
       let here : entry_order key (get_or entries stands.0 e) ≡ Equal = ap (entry_order key) stands.2 ∙ equal in
       let rises = searchable_from_sorted key_total key_of entries key order.sorted in
       elim (cases_lt stands.0 at) [

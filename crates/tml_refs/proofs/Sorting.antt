@@ -9,7 +9,7 @@ use Rattle.tml_refs.specs.declared.name_index.Entry.{Entry}
 use Rattle.tml_refs.specs.NameIndex.{AreInOrder, AreEntriesOf, IsEntryIn, is_at, key_order}
 use Rattle.tml_refs.proofs.Orders.{first_not_less}
 
--- the order of entries: by their keys, and then by their places and numbers
+-- the order of entries: by their keys, and then by their positions and numbers
 abbrev pub entry_order : Entry → Entry → Ordering
 entry_order x y = ordering_then (key_order x.key y.key) (ordering_then (nat_cmp x.at y.at) (nat_cmp x.number y.number))
 

@@ -25,6 +25,12 @@ number_from n (b ∷ bytes) = number_from ((n * 256 % 2 ^ 64 + b) % 2 ^ 64) byte
 abbrev pub head_of : List ℕ → ℕ
 head_of name = number_from 0 (take 8 name)
 
+-- a key is that of what a reference asks for
+pub record IsKeyOf (r : Reference) (key : Key) : Type 0 where
+  pub head : key.head ≡ head_of r.name
+  pub name : key.name.now ≡ r.name
+  pub rank : key.rank ≡ rank_of r.asked
+
 -- ---- an entry
 
 abbrev pub entry_name : Entry → List ℕ
@@ -43,17 +49,17 @@ IsEntryIn tags e =
     (before after : List PlainTyped) × (tag : PlainTyped) × (tags ≡ before ++ tag ∷ after) × IsEntryOf before tag e
 
 abbrev pub is_at : ℕ → Entry → Bool
-is_at place e = e.at == place
+is_at position e = e.at == position
 
 abbrev pub HasEntry : List Entry → List PlainTyped → PlainTyped → Type 0
 HasEntry entries before tag = (e : Entry) × Contains entries e × IsEntryOf before tag e
 
--- Each tag that has an identifier has an entry, each entry is that of a tag, and no two have one place.
+-- Each tag that has an identifier has an entry, each entry is that of a tag, and no two have one position.
 pub record AreEntriesOf (tags : List PlainTyped) (entries : List Entry) : Type 0 where
   pub each : (before after : List PlainTyped) (tag : PlainTyped)
       → tags ≡ before ++ tag ∷ after → IsSome (id_of tag.content) → HasEntry entries before tag
   pub only : All (IsEntryIn tags) entries
-  pub apart : (place : ℕ) → count_by (is_at place) entries ≤ 1
+  pub apart : (position : ℕ) → count_by (is_at position) entries ≤ 1
 
 -- ---- the order
 
@@ -67,24 +73,24 @@ key_of e = e.key
 abbrev pub HasHead : Entry → Type 0
 HasHead e = e.key.head ≡ head_of (entry_name e)
 
--- Entries are ordered by their keys, the head of each is that of its name, and no two have one place.
+-- Entries are ordered by their keys, the head of each is that of its name, and no two have one position.
 pub record AreInOrder (entries : List Entry) : Type 0 where
   pub sorted : IsSortedByKey key_of key_order entries
   pub heads : All HasHead entries
-  pub apart : (place : ℕ) → count_by (is_at place) entries ≤ 1
+  pub apart : (position : ℕ) → count_by (is_at position) entries ≤ 1
 
 -- ---- what entries say
 
--- at a place stands a tag that has the name of a tag before it
+-- the tag at a position has the name of a tag before it
 abbrev pub Repeats : List Entry → ℕ → Type 0
-Repeats entries place =
+Repeats entries position =
     (e other : Entry) × Contains entries e × Contains entries other
-    × (entry_name e ≡ entry_name other) × (e.at < other.at) × (other.at ≡ place)
+    × (entry_name e ≡ entry_name other) × (e.at < other.at) × (other.at ≡ position)
 
--- of the places below an end, the first one at which a name is repeated, or the end where there is none
+-- the first position before an end at which a name is repeated, or the end where there is none
 pub record IsFirstRepeat (entries : List Entry) (end first : ℕ) : Type 0 where
   pub at_most : first ≤ end
-  pub none_before : (place : ℕ) → Repeats entries place → first ≤ place
+  pub none_before : (position : ℕ) → Repeats entries position → first ≤ position
   pub here : first < end → Repeats entries first
 
 -- an entry is that of a tag that a reference asks for

@@ -3,7 +3,7 @@ ghost use Rattle.std.specs.Option.{is_some, is_none};
 ghost use Rattle.std.specs.List.{list_any};
 ghost use Rattle.std.specs.Prelude.{◌≡◌, ◌<◌, ◌≤◌, ◌^◌, ◌||◌, ℕ, length, map, not, IfOk, IfSome};
 ghost use Rattle.tml_refs.specs.NameIndex as index;
-ghost use Rattle.tml_refs.specs.NameIndex.{AreEntriesOf, HasNumber, HasIntervalNumber, IsFirstRepeat, is_either_unlisted, is_listed, is_unlisted};
+ghost use Rattle.tml_refs.specs.NameIndex.{AreEntriesOf, HasNumber, HasIntervalNumber, IsFirstRepeat, IsKeyOf, is_either_unlisted, is_listed, is_unlisted};
 ghost use Rattle.tml_refs.specs.Rules as rules;
 ghost use Rattle.tml_types.specs.References.{optional_reference, reference};
 ghost use Rattle.tml_types.specs.View.{end_of, text_of, typed_of};
@@ -25,9 +25,7 @@ pub struct Key<'s> {
 
 impl<'s> Key<'s> {
     fn new(kind: TagKind, name: &'s [u8]) -> Key<'s>
-        ensures head { result.head ≡ index.head_of name.now }
-        ensures name { result.name.now ≡ name.now }
-        ensures rank { result.rank ≡ index.rank_of kind }
+        ensures { IsKeyOf (reference kind name.now) result }
     {
         Key {
             head: head_of(name),
@@ -96,18 +94,18 @@ impl<'s> NameIndex<'s> {
         Ok(NameIndex { entries })
     }
 
-    /// The least place in the list of tags at which a tag has the identifier of a tag before it, or the number of tags
-    /// where there is none.
+    /// The first position in the list of tags at which a tag has the identifier of a tag before it, or the number of
+    /// tags where there is none.
     pub fn first_repeat(&self, tags: usize) -> usize
         ensures { IsFirstRepeat self.now tags result }
     {
         let entries = self.entries.as_slice();
-        let [head, ..] = entries else {
+        let [entry, ..] = entries else {
             return tags;
         };
         let mut first = tags;
-        // The least place of a tag that has the identifier of the last entry.
-        let mut least = head.at as usize;
+        // The first position of a tag that has the identifier of the last entry.
+        let mut least = entry.at as usize;
         for i in 1..entries.len() {
             let at = entries[i].at as usize;
             if entries[i - 1].key.name == entries[i].key.name {
