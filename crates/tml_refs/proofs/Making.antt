@@ -8,6 +8,7 @@ use Rattle.tml_types.specs.declared.typed.TagKind.TheVariants as kind
 use Rattle.tml_types.specs.Content as content
 use Rattle.tml_types.specs.Content.{Content, PlainTyped}
 use Rattle.tml_types.specs.References.{is_of_kind, kind_of}
+use Rattle.tml_types.proofs.Walks.{zip_append}
 use Rattle.tml_refs.specs.declared.document.Counts.{Counts}
 use Rattle.tml_refs.specs.declared.name_index.Entry.{Entry}
 use Rattle.tml_refs.specs.Counting.{one_at}
@@ -16,7 +17,7 @@ use Rattle.tml_refs.specs.Gathering.{AddsTag, Gathers, IsLinkBy}
 use Rattle.tml_refs.specs.NameIndex.{AreEntriesOf}
 use Rattle.tml_refs.specs.Rules.{is_tlink}
 use Rattle.tml_refs.proofs.Knowing.{link_named}
-use Rattle.tml_refs.proofs.Lists.{count_more, filter_map_more, zip_append, zip_weaker}
+use Rattle.tml_refs.proofs.Lists.{count_more, filter_map_more, zip_weaker}
 
 -- ---- counts
 
