@@ -1,5 +1,5 @@
 -- What the attributes of a tag say, one by one: what the private contracts say of reading them.
-use Rattle.std.specs.Prelude.{◌≡◌, ◌⊎◌, ℕ, Bool, true, false, not, ◌&&◌, ◌||◌, List, Option, Some, None, map}
+use Rattle.std.specs.Prelude.{◌≡◌, ◌⊎◌, ℕ, Bool, true, false, not, ◌&&◌, ◌||◌, List, Option, Some, None, map, option_map}
 use Rattle.tml_span.specs.Units.{Attribute}
 use Rattle.tml_span.specs.View.{attribute_of}
 use Rattle.tml_types.specs.declared.attributes.Attributes.{Attributes}
@@ -10,7 +10,7 @@ use Rattle.tml_types.specs.declared.walk.TypeFault.{TypeFault}
 use Rattle.tml_types.specs.declared.walk.TypeFault.TheVariants as faults
 use Rattle.tml_types.specs.Content.{Reference}
 use Rattle.tml_types.specs.Rules.{is_absent, is_unfit}
-use Rattle.tml_types.specs.Values.{is_identifier, value_of}
+use Rattle.tml_types.specs.Values.{is_identifier, is_named, value_of}
 
 abbrev pub attrs_of : Attributes → List Attribute
 attrs_of a = map attribute_of a.attrs.now
@@ -26,13 +26,20 @@ IsGood test value read = (value ≡ read) × (is_unfit test value ≡ false)
 abbrev pub IsBad : (List ℕ → Bool) → Option (List ℕ) → ℕ → TypeFault → Type 0
 IsBad test value place fault = (fault ≡ faults.BadValue place) × (is_unfit test value ≡ true)
 
+-- a value is in a list of texts, where it is there, and this was read of it; or it is not, and the tag at this place is refused
+abbrev pub IsListed : {T : Type 0} → (T → List ℕ) → List T → Option (List ℕ) → Option T → Type 0
+IsListed text_of all value read = IsGood (is_named text_of all) value (option_map text_of read)
+
+abbrev pub IsUnlisted : {T : Type 0} → (T → List ℕ) → List T → Option (List ℕ) → ℕ → TypeFault → Type 0
+IsUnlisted text_of all value place fault = IsBad (is_named text_of all) value place fault
+
 -- an attribute that has to be there is absent, and the tag is refused
 abbrev pub IsMissing : Attributes → Option (List ℕ) → TypeFault → Type 0
 IsMissing a value fault = (fault ≡ faults.MissingAttribute a.place) × (value ≡ None)
 
 -- both of a pair are absent
-abbrev pub AreMissing : Attributes → Option (List ℕ) → Option (List ℕ) → TypeFault → Type 0
-AreMissing a value other fault = (fault ≡ faults.MissingAttribute a.place) × (value ≡ None) × (other ≡ None)
+abbrev pub AreMissing : Attributes → List ℕ → List ℕ → TypeFault → Type 0
+AreMissing a name other fault = (fault ≡ faults.MissingAttribute a.place) × (value_at name a ≡ None) × (value_at other a ≡ None)
 
 -- the values of the two attributes of a pair
 abbrev pub first_value : Pair → Option (List ℕ)

@@ -5,7 +5,9 @@ use Rattle.faults.specs.declared.kind.FaultKind.{FaultKind}
 use Rattle.faults.specs.declared.kind.FaultKind.TheVariants as kinds
 use Rattle.faults.specs.First.{FirstFault}
 use Rattle.faults.specs.Kinds.{number_of}
-use Rattle.tml_tree.specs.Walking.{PlainTag}
+use Rattle.tml_tree.specs.Plain.{PlainNode}
+use Rattle.tml_tree.specs.Walking.{PlainTag, elements}
+use Rattle.tml_tree.specs.Whole.{IsTreeOf}
 use Rattle.tml_types.specs.declared.walk.TypeFault.{TypeFault}
 use Rattle.tml_types.specs.declared.walk.TypeFault.TheVariants as faults
 use Rattle.tml_types.specs.Content.{PlainTyped}
@@ -46,6 +48,10 @@ kind_and_place faults.Memory = None
 abbrev pub HasFault : List PlainTag → TypeFault → Type 0
 HasFault tags fault = IfSome (kind_and_place fault) (λ (f : FaultKind × ℕ). FaultAt tags f.1 f.0)
 
--- and no tag before its place breaks a rule
+-- this holds of the tags of the tree of a source, which there is
+abbrev pub OfTree : List ℕ → (List PlainTag → Type 0) → Type 0
+OfTree source Fact = (root : PlainNode) × IsTreeOf source root × Fact (elements root)
+
+-- no tag before its place breaks a rule
 abbrev pub IsAtLeastPlace : List PlainTag → TypeFault → Type 0
 IsAtLeastPlace tags fault = IfSome (kind_and_place fault) (λ (f : FaultKind × ℕ). AreSoundBefore f.1 tags)

@@ -1,9 +1,10 @@
 //! The attributes of one tag, read one by one.
 ghost use Rattle.named.specs.Texts.{named_of};
 ghost use Rattle.std.specs.List.{list_all};
-ghost use Rattle.std.specs.Prelude.{◌≡◌, false, true, Some, None, codes, map, option_map, IfOk, IfErr, IfSome, IsNone};
+ghost use Rattle.std.specs.Prelude.{◌≡◌, false, true, Some, None, codes, map, IfOk, IfErr, IfSome, IsNone};
 ghost use Rattle.tml_span.specs.View.{attribute_of};
-ghost use Rattle.tml_types.specs.Reading.{AreMissing, IsBad, IsGood, IsMissing, IsOneOf, IsPairOf, is_bad_pair, is_conflict_pair, value_at};
+ghost use Rattle.tml_types.specs.Reading.{AreMissing, IsBad, IsGood, IsListed, IsMissing, IsUnlisted};
+ghost use Rattle.tml_types.specs.Reading.{IsOneOf, IsPairOf, is_bad_pair, is_conflict_pair, value_at};
 ghost use Rattle.tml_types.specs.Rules.{IsNoDate};
 ghost use Rattle.tml_types.specs.Typing.{IsValueOf};
 ghost use Rattle.tml_types.specs.Values as values;
@@ -70,7 +71,7 @@ impl<'s> Attributes<'_, 's> {
     /// The values of two attributes, of which one has to be there.
     pub fn either(&self, instance: &[u8], time: &[u8]) -> Result<Pair<'s>, TypeFault>
         ensures pair { IfOk result (λ p. IsPairOf self.now instance.now time.now p) }
-        ensures missing { IfErr result (AreMissing self.now (value_at instance.now self.now) (value_at time.now self.now)) }
+        ensures missing { IfErr result (AreMissing self.now instance.now time.now) }
     {
         match (self.value(instance), self.value(time)) {
             (Some(name), Some(other)) => Ok(Pair::Both(name, other)),
@@ -121,8 +122,8 @@ impl<'s> Attributes<'_, 's> {
 
     /// What a text of a list names.
     pub fn listed<T: Named>(&self, text: &[u8]) -> Result<T, TypeFault>
-        ensures good { IfOk result (λ v. IsGood (values.is_named T.text_of T.all_of) (Some text.now) (Some (T.text_of v))) }
-        ensures bad { IfErr result (IsBad (values.is_named T.text_of T.all_of) (Some text.now) self.now.place) }
+        ensures good { IfOk result (λ v. IsListed T.text_of T.all_of (Some text.now) (Some v)) }
+        ensures bad { IfErr result (IsUnlisted T.text_of T.all_of (Some text.now) self.now.place) }
     {
         match named_by(text) {
             Some(value) => Ok(value),
@@ -132,8 +133,8 @@ impl<'s> Attributes<'_, 's> {
 
     /// What the value of an attribute names, where it is there.
     pub fn optional_listed<T: Named>(&self, name: &[u8]) -> Result<Option<T>, TypeFault>
-        ensures good { IfOk result (λ v. IsGood (values.is_named T.text_of T.all_of) (value_at name.now self.now) (option_map T.text_of v)) }
-        ensures bad { IfErr result (IsBad (values.is_named T.text_of T.all_of) (value_at name.now self.now) self.now.place) }
+        ensures good { IfOk result (λ v. IsListed T.text_of T.all_of (value_at name.now self.now) v) }
+        ensures bad { IfErr result (IsUnlisted T.text_of T.all_of (value_at name.now self.now) self.now.place) }
     {
         let Some(text) = self.value(name) else {
             return Ok(None);
@@ -146,7 +147,7 @@ impl<'s> Attributes<'_, 's> {
 
     /// The truth that is the value of an attribute, where it is there.
     pub fn optional_truth(&self, name: &[u8]) -> Result<Option<bool>, TypeFault>
-        ensures good { IfOk result (λ v. IsGood values.is_truth (value_at name.now self.now) (option_map values.truth_text v)) }
+        ensures good { IfOk result (λ v. IsListed values.truth_text values.all_truths (value_at name.now self.now) v) }
         ensures bad { IfErr result (IsBad values.is_truth (value_at name.now self.now) self.now.place) }
     {
         match self.value(name) {

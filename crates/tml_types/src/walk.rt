@@ -1,12 +1,10 @@
 //! The typed tags of a document.
 ghost use Rattle.std.specs.Prelude.{◌≡◌, [], ◌∷◌, Some, IfOk, IfErr, OnOk};
-ghost use Rattle.tml_tree.specs.Plain.{PlainNode};
 ghost use Rattle.tml_tree.specs.View.{node_of, tag_node};
 ghost use Rattle.tml_tree.specs.Walking.{elements};
-ghost use Rattle.tml_tree.specs.Whole.{IsTreeOf};
 ghost use Rattle.tml_types.specs.Walking.{Adds, plain_of};
 ghost use Rattle.tml_types.specs.Whole as whole;
-ghost use Rattle.tml_types.specs.Whole.{HasFault, IsAtLeastPlace, Types};
+ghost use Rattle.tml_types.specs.Whole.{HasFault, IsAtLeastPlace, OfTree, Types};
 
 use crate::repeats::is_repeated;
 use crate::typed::TypedTag;
@@ -92,9 +90,9 @@ impl TypeFault {
 /// The first tag in document order that has a fault, and of its faults the one with the least number, in the order
 /// of `TypeFault`. `Memory` may come at any place.
 pub fn type_tags<'s>(alloc: Global, tree: &TagTree<'s>) -> Result<Typed<'s>, TypeFault>
-    ensures ok { IfOk result (λ t. (root : PlainNode) × IsTreeOf tree.now root × Types (elements root) t) }
-    ensures err { IfErr result (λ e. (root : PlainNode) × IsTreeOf tree.now root × HasFault (elements root) e) }
-    ensures least { IfErr result (λ e. (root : PlainNode) × IsTreeOf tree.now root × IsAtLeastPlace (elements root) e) }
+    ensures ok { IfOk result (λ t. OfTree tree.now (λ tags. Types tags t)) }
+    ensures err { IfErr result (λ e. OfTree tree.now (λ tags. HasFault tags e)) }
+    ensures least { IfErr result (λ e. OfTree tree.now (λ tags. IsAtLeastPlace tags e)) }
 {
     let mut typed = List::new(alloc);
     if let Err(fault) = type_tag(alloc, tree.root(), &mut typed) {
