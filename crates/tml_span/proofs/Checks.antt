@@ -38,9 +38,6 @@ is_within place bytes a rest e =
 abbrev pub HasChecked : ℕ → List ℕ → ℕ → List ℕ → Option ℕ → Type 0
 HasChecked place bytes at rest bad = (done : List Attribute) × FirstInOrder (map value_piece done) bad × ((more : List Attribute) (end : List ℕ) → ReadsAttributes at rest more end → ReadsAttributes place bytes (done ++ more) end)
 
-pub none_checked : (place : ℕ) (bytes : List ℕ) → HasChecked place bytes place bytes None
-none_checked place bytes = ([], λ other b. b, λ more end r. r)
-
 pub one_checked : (place at : ℕ) (bytes rest after : List ℕ) (bad new : Option ℕ) (a : Attribute) → HasChecked place bytes at rest bad → attribute_at at rest ≡ Some (a, after)
     → ((pieces : List Piece) → FirstInOrder pieces bad → FirstInOrder (pieces ++ value_piece a ∷ []) new) → HasChecked place bytes (at + (length rest - length after)) after new
 one_checked place at bytes rest after bad new a h e step = (

@@ -5,12 +5,11 @@ use Rattle.tml_span.specs.Units.{PlainUnit}
 use Rattle.tml_tree.specs.Plain.{PlainNode}
 use Rattle.tml_tree.specs.Nesting.{OpenTag, Nests, name_of, is_seen, is_element}
 use Rattle.faults.specs.declared.kind.FaultKind.{FaultKind}
-use Rattle.faults.proofs.First.{none_breaks_prefix}
 use Rattle.tml_tree.specs.Rules.{history_of, is_at_fault}
-use Rattle.tml_tree.specs.Trees.{Breaks, Path, HasPath, Document, OneTree}
+use Rattle.tml_tree.specs.Trees.{Breaks, Path, Document, OneTree}
 use Rattle.tml_tree.specs.Whole.{OneTreeOfSource}
 use Rattle.tml_span.proofs.OneCut.{one_cut_from}
-use Rattle.tml_tree.proofs.Running.{one_nesting, nests_before}
+use Rattle.tml_tree.proofs.Running.{one_nesting}
 
 -- ---- a list has at most one path
 
@@ -23,13 +22,6 @@ pub one_path : (us : List PlainUnit) (names others : List (List ℕ)) (seen was 
 one_path us names others seen was h k = one_nests us names others seen was h.0 k.0
 
 -- ---- one more unit
-
--- a list that ends in a unit has a path only where the list without it has one
-pub path_before : (us : List PlainUnit) (u : PlainUnit) → HasPath (us ++ u ∷ []) → HasPath us
-path_before us u h =
-    let n = h.2.0 in
-    let b = nests_before us u n.0 n.1 n.2 in
-    (map name_of b.0.tags, is_seen b.0.tags b.0.nodes, ((b.0.tags, b.0.nodes, b.1, refl, refl), none_breaks_prefix Breaks us (u ∷ []) h.2.1))
 
 -- a unit that breaks a rule is at fault, in whichever way the units before it nest
 pub fault_by : (us : List PlainUnit) (u : PlainUnit) (names : List (List ℕ)) (seen : Bool) → Nests us names seen → (kind : FaultKind) → Breaks kind us u → is_at_fault kind (history_of us names seen) u.kind ≡ true

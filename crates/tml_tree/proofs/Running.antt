@@ -82,10 +82,6 @@ pub opens_more : (tags : List OpenTag) (nodes : List PlainNode) (n : PlainNode) 
 opens_more [] nodes n us vs h i = items_more nodes n us vs h i
 opens_more (t ∷ tags) nodes n us vs h i = (h.0, h.1 ++ vs, rw h.2 (append_assoc h.0 (tag_unit t ∷ h.1) vs), h.3, items_more nodes n h.1 vs h.4 i)
 
--- a start tag is open after what was there
-pub opens_tag : (tags : List OpenTag) (nodes : List PlainNode) (us : List PlainUnit) (t : OpenTag) → Opens us tags nodes → t.before ≡ nodes → Opens (us ++ tag_unit t ∷ []) (t ∷ tags) []
-opens_tag tags nodes us t h e = (us, [], refl, rw e h, refl)
-
 -- an end tag makes an element of what follows its start tag
 pub opens_end : (t : OpenTag) (tags : List OpenTag) (nodes : List PlainNode) (us : List PlainUnit) (turn end : ℕ) → Opens us (t ∷ tags) nodes
     → Opens (us ++ unit turn end (end_tag t.name) ∷ []) tags (t.before ++ element t.start end t.name t.attrs (nodes_of nodes) ∷ [])
