@@ -1,2 +1,9 @@
 pub mod Limits
 pub mod Rels
+pub mod Relations
+pub mod Atoms
+pub mod Bounds
+pub mod Nets
+pub mod Fits
+pub mod Firsts
+pub mod Ranks

@@ -1,14 +1,22 @@
-//! Relations between intervals of time.
+//! Relations between intervals of time, nets of intervals, and the timelines that fit them.
 #![tactic(auto)]
 
+mod atom;
 mod bounds;
 mod limits;
 mod list;
+mod net;
+mod ranks;
 mod rels;
 #[cfg(test)]
 mod tests;
+mod timeline;
 
+pub use atom::{Atom, Atoms, atoms_of, atoms_say_the_relation};
 pub use bounds::Bounds;
 pub use limits::{MAX_INTERVALS, MAX_LINKS, limits_are_exact};
 pub use list::{List, Memory};
+pub use net::{Ends, Net, NetLink, holds};
+pub use ranks::Ranks;
 pub use rels::{Rel, rel_of, rels_are_apart};
+pub use timeline::{first_broken_link, first_broken_pair, first_unordered, satisfies};

@@ -1,0 +1,29 @@
+-- A relation and its orders of points say the same.
+use Rattle.std.proofs.Common.{◌≡◌, ℕ, ◌≤◌, arith}
+use Rattle.net_core.specs.declared.rels.Rel.TheVariants as rel
+use Rattle.net_core.specs.Atoms.{AtomsSayTheRelation}
+
+abbrev BothWays : ℕ → ℕ → Type 0
+BothWays m n = (m ≤ n) × (n ≤ m)
+
+split : (m n : ℕ) → m ≡ n → BothWays m n
+split m n e = (omega (arith, e), omega (arith, e))
+
+join : (m n : ℕ) → m ≤ n → n ≤ m → m ≡ n
+join m n le ge = omega arith
+
+pub atoms_say_the_relation : AtomsSayTheRelation
+atoms_say_the_relation t rel.Before a b = (λ h. (h, tt), λ k. k.0)
+atoms_say_the_relation t rel.After a b = (λ h. (h, tt), λ k. k.0)
+atoms_say_the_relation t rel.Includes a b = (λ h. (h.0, (h.1, tt)), λ k. (k.0, k.1.0))
+atoms_say_the_relation t rel.IsIncluded a b = (λ h. (h.0, (h.1, tt)), λ k. (k.0, k.1.0))
+atoms_say_the_relation t rel.During a b = (λ h. (h.0, (h.1, tt)), λ k. (k.0, k.1.0))
+atoms_say_the_relation t rel.DuringInv a b = (λ h. (h.0, (h.1, tt)), λ k. (k.0, k.1.0))
+atoms_say_the_relation t rel.Simultaneous a b = (λ h. let s = split _ _ h.0 in let e = split _ _ h.1 in (s.0, (s.1, (e.0, (e.1, tt)))), λ k. (join _ _ k.0 k.1.0, join _ _ k.1.1.0 k.1.1.1.0))
+atoms_say_the_relation t rel.Identity a b = (λ h. let s = split _ _ h.0 in let e = split _ _ h.1 in (s.0, (s.1, (e.0, (e.1, tt)))), λ k. (join _ _ k.0 k.1.0, join _ _ k.1.1.0 k.1.1.1.0))
+atoms_say_the_relation t rel.Ibefore a b = (λ h. let s = split _ _ h in (s.0, (s.1, tt)), λ k. join _ _ k.0 k.1.0)
+atoms_say_the_relation t rel.Iafter a b = (λ h. let s = split _ _ h in (s.0, (s.1, tt)), λ k. join _ _ k.0 k.1.0)
+atoms_say_the_relation t rel.Begins a b = (λ h. let s = split _ _ h.0 in (s.0, (s.1, (h.1, tt))), λ k. (join _ _ k.0 k.1.0, k.1.1.0))
+atoms_say_the_relation t rel.BegunBy a b = (λ h. let s = split _ _ h.0 in (s.1, (s.0, (h.1, tt))), λ k. (join _ _ k.1.0 k.0, k.1.1.0))
+atoms_say_the_relation t rel.Ends a b = (λ h. let s = split _ _ h.0 in (s.0, (s.1, (h.1, tt))), λ k. (join _ _ k.0 k.1.0, k.1.1.0))
+atoms_say_the_relation t rel.EndedBy a b = (λ h. let s = split _ _ h.0 in (s.1, (s.0, (h.1, tt))), λ k. (join _ _ k.1.0 k.0, k.1.1.0))

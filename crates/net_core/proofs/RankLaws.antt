@@ -1,0 +1,24 @@
+-- Ranks, two by two.
+use Rattle.std.proofs.Common.{◌≡◌, ℕ, ◌*◌, length, arith, List, [], ◌∷◌, ◌++◌, refl, ap}
+use Rattle.net_core.specs.Ranks.{AreEven, pairs_of, ranks_of}
+
+pub even_push : (ranks : List ℕ) (s e : ℕ) → AreEven ranks → AreEven (ranks ++ s ∷ e ∷ [])
+even_push [] s e h = tt
+even_push (a ∷ []) s e h = absurd h
+even_push (a ∷ b ∷ ranks) s e h = even_push ranks s e h
+
+pub pairs_push : (ranks : List ℕ) (s e : ℕ) → AreEven ranks → pairs_of (ranks ++ s ∷ e ∷ []) ≡ pairs_of ranks ++ (s, e) ∷ []
+pairs_push [] s e h = refl
+pairs_push (a ∷ []) s e h = absurd h
+pairs_push (a ∷ b ∷ ranks) s e h = ap (λ (ps : List (ℕ × ℕ)). (a, b) ∷ ps) (pairs_push ranks s e h)
+
+pub pairs_length : (ranks : List ℕ) → AreEven ranks → length ranks ≡ 2 * length (pairs_of ranks)
+pairs_length [] h = refl
+pairs_length (a ∷ []) h = absurd h
+pairs_length (a ∷ b ∷ ranks) h = omega (arith, pairs_length ranks h)
+
+-- the ranks of all intervals are those that they were taken from
+pub ranks_again : (ranks : List ℕ) → AreEven ranks → ranks_of (pairs_of ranks) ≡ ranks
+ranks_again [] h = refl
+ranks_again (a ∷ []) h = absurd h
+ranks_again (a ∷ b ∷ ranks) h = ap (λ (more : List ℕ). a ∷ b ∷ more) (ranks_again ranks h)
