@@ -1,5 +1,5 @@
 -- Bounds of a time: of its kind, its modifier and its value.
-use Rattle.std.specs.Prelude.{ℕ, ◌≡◌, Bool, true, false, Option, Some, None, ℤ, ◌<ℤ◌}
+use Rattle.std.specs.Prelude.{ℕ, ◌≡◌, Bool, true, false, Option, Some, None, ℤ}
 use Rattle.net_core.specs.declared.bounds.Bounds.{Bounds}
 use Rattle.net_core.specs.declared.bounds.Bounds.TheVariants.{Exact, Within, Free}
 use Rattle.timex_value.specs.declared.shape.Year.{Year}
@@ -54,10 +54,10 @@ BoundsOf kind modifier (Some (ValueOf.Calendar c)) b =
     HasBounds (precision_of kind modifier (year_of c) (shape_of c)) (Belongs (year_of c) (shape_of c)) b
 BoundsOf kind modifier value b = b ≡ Free
 
--- numbers of bounds are in order, and civil texts have both
+-- the numbers of bounds have civil texts
 abbrev pub IsCivil : Bounds → Type 0
-IsCivil (Exact lo hi) = (lo <ℤ hi) × IsCivilSecond lo × IsCivilSecond hi
-IsCivil (Within lo hi) = (lo <ℤ hi) × IsCivilSecond lo × IsCivilSecond hi
+IsCivil (Exact lo hi) = IsCivilSecond lo × IsCivilSecond hi
+IsCivil (Within lo hi) = IsCivilSecond lo × IsCivilSecond hi
 IsCivil Free = Unit {0}
 
 -- the seconds that belong to a value have one extent

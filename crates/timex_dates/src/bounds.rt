@@ -1,4 +1,5 @@
 //! Bounds of times.
+ghost use Rattle.net_core.specs.Bounds.{AreOrdered};
 ghost use Rattle.std.specs.Prelude.{option_map, ◌≡◌};
 ghost use Rattle.timex_dates.specs.Answers.{BoundsOf, HasBounds, IsCivil, calendar_precision, modified_precision};
 ghost use Rattle.timex_dates.specs.KnownParts as parts;
@@ -17,6 +18,7 @@ fn modified(modifier: Option<Modifier>, year: Year, shape: Shape) -> Bounds
     requires year { HasYear year }
     requires parts { HasParts year shape }
     ensures bounds { HasBounds (modified_precision modifier (parts.is_whole year shape)) (Belongs year shape) result }
+    ensures ordered { AreOrdered result }
     ensures civil { IsCivil result }
 {
     let Interval { lo, hi } = interval_of(year, shape);
@@ -52,6 +54,7 @@ fn calendar_bounds(modifier: Option<Modifier>, calendar: &Calendar) -> Bounds
     ensures bounds { let year = values.year_of calendar.now in
         let shape = values.shape_of calendar.now in
         HasBounds (calendar_precision modifier year shape) (Belongs year shape) result }
+    ensures ordered { AreOrdered result }
     ensures civil { IsCivil result }
 {
     let (year, shape) = fields_of(calendar);
@@ -67,6 +70,7 @@ fn calendar_bounds(modifier: Option<Modifier>, calendar: &Calendar) -> Bounds
 /// value, and where the year is all `X`, the bounds are unspecified.
 pub fn bounds_of(kind: TimexKind, modifier: Option<Modifier>, value: Option<&Value>) -> Bounds
     ensures bounds { BoundsOf kind modifier (option_map (λ v. v.now) value.entry) result }
+    ensures ordered { AreOrdered result }
     ensures civil { IsCivil result }
 {
     match kind {

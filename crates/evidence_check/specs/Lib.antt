@@ -1,0 +1,3 @@
+pub mod Supported
+pub mod Claims
+pub mod Refusals

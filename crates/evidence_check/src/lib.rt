@@ -1,0 +1,13 @@
+//! The checker of evidence. It stands on the net of a document and on the text of evidence alone, and knows nothing of
+//! how evidence is found.
+#![tactic(auto)]
+
+mod laws;
+mod refusal;
+#[cfg(test)]
+mod tests;
+mod verify;
+
+pub use laws::one_verdict;
+pub use refusal::{Claim, Reason, Refused};
+pub use verify::verify;

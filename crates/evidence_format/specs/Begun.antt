@@ -1,0 +1,31 @@
+-- The bad line of a text.
+use Rattle.std.specs.Prelude.{◌≡◌, ℕ, ◌+◌, List, ◌∷◌, [], ◌++◌, length, ⊤, Result, Ok, Err}
+use Rattle.evidence_format.specs.Lines.{Lines, lines_of}
+use Rattle.evidence_format.specs.Grammar.{Begins}
+use Rattle.evidence_format.specs.Evidence.{PlainEvidence, IsWellFormed, text_lines}
+use Rattle.evidence_format.specs.View.{plain}
+use Rattle.evidence_format.specs.declared.evidence.Evidence.{Evidence}
+use Rattle.evidence_format.specs.declared.read.ReadEvidence.{ReadEvidence}
+use Rattle.evidence_format.specs.declared.read.ReadEvidence.TheVariants.{BadLine, Memory}
+
+abbrev pub HasLines : PlainEvidence → Lines → Type 0
+HasLines e ls = IsWellFormed e × (ls ≡ text_lines e)
+
+-- the lines are the first ones of the text of some evidence
+abbrev pub IsBegun : Lines → Type 0
+IsBegun ls = Begins HasLines ls
+
+-- the lines before it are begun; with it they are not, or there is no further line
+abbrev pub IsBadLine : List ℕ → ℕ → Type 0
+IsBadLine text line = (good : Lines) × (rest : Lines) × (lines_of text ≡ good ++ rest) × (line ≡ length good + 1) × IsBegun good × ((l : List ℕ) (more : Lines) → rest ≡ l ∷ more → IsBegun (good ++ l ∷ []) → ⊥)
+
+-- this evidence was read, unless out of memory
+abbrev pub Reads : PlainEvidence → Result Evidence ReadEvidence → Type 0
+Reads e (Ok evidence) = plain evidence ≡ e
+Reads e (Err Memory) = ⊤
+Reads e (Err (BadLine line)) = ⊥
+
+-- the bad line is told, unless out of memory
+abbrev pub TellsBadLine : List ℕ → ReadEvidence → Type 0
+TellsBadLine text Memory = ⊤
+TellsBadLine text (BadLine line) = IsBadLine text line

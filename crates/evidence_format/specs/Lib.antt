@@ -1,0 +1,11 @@
+pub mod Lines
+pub mod Words
+pub mod Evidence
+pub mod Begun
+pub mod Parts
+pub mod Grammar
+pub mod Reading
+pub mod Readers
+pub mod Given
+pub mod Written
+pub mod View

@@ -1,0 +1,40 @@
+-- Reading evidence, line by line.
+use Rattle.std.specs.Prelude.{ℕ, zero, suc, List, [], ◌∷◌, Result, Ok, codes}
+use Rattle.evidence_format.specs.Lines.{Lines}
+use Rattle.evidence_format.specs.Evidence.{PlainEvidence, timeline, first_line, last_line}
+use Rattle.evidence_format.specs.Words.{one_of, two_of, same_of}
+use Rattle.evidence_format.specs.Reading.{Read, ◌>>=◌, line_at, ended}
+
+-- n values, one after another
+unfoldable pub many_at : {A : Type 0} → (Lines → Read A) → ℕ → Lines → Read (List A)
+many_at p zero ls = Ok ([], ls)
+many_at p (suc n) ls = do
+  a ← p ls
+  more ← many_at p n a.1
+  Ok (a.0 ∷ more.0, more.1)
+
+-- the ranks of n intervals
+abbrev pub ranks_at : ℕ → Lines → Read (List (ℕ × ℕ))
+ranks_at n ls = many_at (λ rest. line_at (two_of (codes "at ")) rest) n ls
+
+unfoldable pub timeline_at : Lines → Read (List (ℕ × ℕ))
+timeline_at ls = do
+  n ← line_at (one_of (codes "timeline ")) ls
+  ranks_at n.0 n.1
+
+unfoldable pub body_at : Lines → Read PlainEvidence
+body_at ls = do
+  ranks ← timeline_at ls
+  Ok (timeline ranks.0, ranks.1)
+
+unfoldable pub text_at : Lines → Read PlainEvidence
+text_at ls = do
+  first ← line_at (same_of first_line) ls
+  e ← body_at first.1
+  last ← line_at (same_of last_line) e.1
+  Ok (e.0, last.1)
+
+unfoldable pub evidence_at : Lines → Result PlainEvidence Lines
+evidence_at ls = do
+  e ← text_at ls
+  ended e.0 e.1

@@ -1,0 +1,56 @@
+-- The words of one line, read from left to right.
+use Rattle.std.specs.Prelude.{ℕ, ◌^◌, ◌&&◌, not, nat_lt, nat_eq, Bool, List, [], ◌∷◌, length, take, drop, ◌==◌, Option, Some, None, option_and_then, if◌then◌else◌, decimal}
+use Rattle.std.specs.List.{prefix_len, starts_with}
+use Rattle.std.specs.Str.{bytes_eq}
+use Rattle.std.specs.Str.Parse.{digits_value}
+
+infixl 10 ◌>>=◌
+abbrev pub ◌>>=◌ : {A B : Type 0} → Option A → (A → Option B) → Option B
+o >>= f = option_and_then f o
+
+abbrev pub is_not : ℕ → ℕ → Bool
+is_not stop b = not (b == stop)
+
+-- the number below 2 ^ 32 that a word writes: it is the word that the number prints
+unfoldable pub number : List ℕ → Option ℕ
+number word = if nat_lt (digits_value 10 word) (2 ^ 32) && bytes_eq (decimal (digits_value 10 word)) word then Some (digits_value 10 word) else None
+
+-- what follows a keyword
+unfoldable pub after : List ℕ → List ℕ → Option (List ℕ)
+after keyword bytes = if starts_with nat_eq bytes keyword then Some (drop (length keyword) bytes) else None
+
+-- what follows the first byte
+abbrev pub after_one : List ℕ → Option (List ℕ)
+after_one [] = None
+after_one (b ∷ rest) = Some rest
+
+-- the number up to the byte that ends it, and what follows that byte
+unfoldable pub number_to : ℕ → List ℕ → Option (ℕ × List ℕ)
+number_to stop bytes = do
+  n ← number (take (prefix_len (is_not stop) bytes) bytes)
+  rest ← after_one (drop (prefix_len (is_not stop) bytes) bytes)
+  Some (n, rest)
+
+-- a value with nothing after it
+abbrev pub alone : {A : Type 0} → A → List ℕ → Option A
+alone a [] = Some a
+alone a (b ∷ rest) = None
+
+-- the number of a line of a keyword and one number
+unfoldable pub one_of : List ℕ → List ℕ → Option ℕ
+one_of keyword line = do
+  rest ← after keyword line
+  n ← number_to 10 rest
+  alone n.0 n.1
+
+-- the numbers of a line of a keyword and two numbers
+unfoldable pub two_of : List ℕ → List ℕ → Option (ℕ × ℕ)
+two_of keyword line = do
+  rest ← after keyword line
+  m ← number_to 32 rest
+  n ← number_to 10 m.1
+  alone (m.0, n.0) n.1
+
+-- a line that is this one
+abbrev pub same_of : List ℕ → List ℕ → Option (Unit {0})
+same_of text line = if bytes_eq line text then Some tt else None

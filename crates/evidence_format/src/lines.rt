@@ -1,0 +1,50 @@
+//! The lines of a text.
+ghost use Rattle.evidence_format.specs.Given.{Gives};
+ghost use Rattle.evidence_format.specs.Lines.{lines_of};
+ghost use Rattle.evidence_format.specs.Reading.{line_at};
+ghost use Rattle.evidence_format.specs.Words as words;
+ghost use Rattle.std.specs.Prelude.{MatchOption, [], ◌∷◌, ◌≡◌};
+
+use crate::stop::Stop;
+use crate::words::{len_to, one_of, two_of};
+
+/// The first line with its LF, where it has one, and what follows it. None comes exactly where the text is empty.
+pub fn next_line(text: &[u8]) -> Option<(&[u8], &[u8])>
+    ensures { MatchOption result (lines_of text.now ≡ []) (λ r. lines_of text.now ≡ r.0.now ∷ lines_of r.1.now) }
+{
+    if text.is_empty() {
+        return None;
+    }
+    let len = len_to(b'\n', text);
+    Some(text.split_at(text.len().min(len + 1)))
+}
+
+/// Passes a line that is this one.
+pub fn same_at<'t>(wanted: &[u8], text: &'t [u8]) -> Result<((), &'t [u8]), Stop<'t>>
+    ensures { Gives (λ x. (x.0, lines_of x.1.now)) result (line_at (words.same_of wanted.now) (lines_of text.now)) }
+{
+    let (line, rest) = next_line(text).ok_or(Stop::BadLine(text))?;
+    if line == wanted {
+        Ok(((), rest))
+    } else {
+        Err(Stop::BadLine(text))
+    }
+}
+
+/// The number of a line of a keyword and one number.
+pub fn one_at<'t>(keyword: &[u8], text: &'t [u8]) -> Result<(u32, &'t [u8]), Stop<'t>>
+    ensures { Gives (λ x. (x.0, lines_of x.1.now)) result (line_at (words.one_of keyword.now) (lines_of text.now)) }
+{
+    let (line, rest) = next_line(text).ok_or(Stop::BadLine(text))?;
+    let n = one_of(keyword, line).ok_or(Stop::BadLine(text))?;
+    Ok((n, rest))
+}
+
+/// The numbers of a line of a keyword and two numbers.
+pub fn two_at<'t>(keyword: &[u8], text: &'t [u8]) -> Result<((u32, u32), &'t [u8]), Stop<'t>>
+    ensures { Gives (λ x. (x.0, lines_of x.1.now)) result (line_at (words.two_of keyword.now) (lines_of text.now)) }
+{
+    let (line, rest) = next_line(text).ok_or(Stop::BadLine(text))?;
+    let pair = two_of(keyword, line).ok_or(Stop::BadLine(text))?;
+    Ok((pair, rest))
+}

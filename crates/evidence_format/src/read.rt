@@ -1,0 +1,87 @@
+//! Reading evidence.
+ghost use Rattle.evidence_format.specs.Begun.{Reads, TellsBadLine};
+ghost use Rattle.evidence_format.specs.Evidence.{IsText, PlainEvidence};
+ghost use Rattle.evidence_format.specs.Given.{Gives};
+ghost use Rattle.evidence_format.specs.Lines.{is_lf, lines_of};
+ghost use Rattle.evidence_format.specs.Readers as readers;
+ghost use Rattle.evidence_format.specs.View.{plain};
+ghost use Rattle.std.specs.List.{count_by};
+ghost use Rattle.std.specs.Prelude.{◌≡◌, ◌≤◌, ◌+◌, ◌-◌, length, take, IfOk, IfErr};
+
+use crate::Evidence;
+use crate::lines::{next_line, same_at};
+use crate::stop::Stop;
+use crate::timeline::timeline_at;
+use std::alloc::Global;
+
+/// Why no evidence was read.
+#[derive(Clone, Copy, Debug, PartialEq, Eq)]
+pub enum ReadEvidence {
+    /// The number, counted from 1, of the first line with which the lines so far begin no text of evidence, or of the
+    /// line that would come next where the text ends early. A line without LF is bad.
+    BadLine { line: u32 },
+    /// Out of memory.
+    Memory,
+}
+
+/// The evidence whose text this is. It takes time in the length of the text, and memory in the length of what was read.
+///
+/// # Errors
+///
+/// `BadLine` comes exactly where it is the text of no evidence.
+pub fn read_evidence(alloc: Global, text: &[u8]) -> Result<Evidence, ReadEvidence>
+    requires { length text.now ≤ 67108864 }
+    ensures ok { IfOk result (λ evidence. IsText (plain evidence) text.now) }
+    ensures only { (e : PlainEvidence) → IsText e text.now → Reads e result }
+    ensures err { IfErr result (TellsBadLine text.now) }
+{
+    match evidence_at(alloc, text) {
+        Ok(evidence) => Ok(evidence),
+        Err(Stop::BadLine(rest)) => Err(ReadEvidence::BadLine {
+            line: line_of(text, rest),
+        }),
+        Err(Stop::Memory) => Err(ReadEvidence::Memory),
+    }
+}
+
+/// Evidence with nothing after it.
+#[tactic(auto, unfolding(crate::specs::Readers::evidence_at))]
+fn evidence_at(alloc: Global, text: &[u8]) -> Result<Evidence, Stop<'_>>
+    ensures { Gives plain result (readers.evidence_at (lines_of text.now)) }
+{
+    let (evidence, rest) = text_at(alloc, text)?;
+    match next_line(rest) {
+        None => Ok(evidence),
+        Some(_) => Err(Stop::BadLine(rest)),
+    }
+}
+
+/// Evidence from its first line to its last one, and what follows it.
+#[tactic(auto, unfolding(crate::specs::Readers::text_at))]
+fn text_at<'t>(alloc: Global, text: &'t [u8]) -> Result<(Evidence, &'t [u8]), Stop<'t>>
+    ensures { Gives (λ x. (plain x.0, lines_of x.1.now)) result (readers.text_at (lines_of text.now)) }
+{
+    let (_, rest) = same_at(b"tml-evidence 1\n", text)?;
+    let (evidence, rest) = body_at(alloc, rest)?;
+    let (_, rest) = same_at(b"end\n", rest)?;
+    Ok((evidence, rest))
+}
+
+/// What stands between the first line and the last one.
+#[tactic(auto, unfolding(crate::specs::Readers::body_at))]
+fn body_at<'t>(alloc: Global, text: &'t [u8]) -> Result<(Evidence, &'t [u8]), Stop<'t>>
+    ensures { Gives (λ x. (plain x.0, lines_of x.1.now)) result (readers.body_at (lines_of text.now)) }
+{
+    let (ranks, rest) = timeline_at(alloc, text)?;
+    Ok((Evidence::Timeline { ranks }, rest))
+}
+
+/// The number, counted from 1, of the line at which the rest of a text begins.
+fn line_of(text: &[u8], rest: &[u8]) -> u32
+    requires within { length rest.now ≤ length text.now }
+    requires limit { length text.now ≤ 67108864 }
+    ensures { result ≡ count_by is_lf (take (length text.now - length rest.now) text.now) + 1 }
+{
+    let read = &text[..text.len() - rest.len()];
+    read.iter().filter(|b| **b == b'\n').count() as u32 + 1
+}

@@ -1,0 +1,75 @@
+//! The words of one line.
+ghost use Rattle.evidence_format.specs.Words as words;
+ghost use Rattle.std.specs.List.{prefix_len};
+ghost use Rattle.std.specs.Prelude.{◌≡◌, ◌≤◌, length, option_map};
+
+use itoa::Buffer;
+
+/// How many bytes come before the first one that is `stop`.
+pub fn len_to(stop: u8, bytes: &[u8]) -> usize
+    ensures within { result ≤ length bytes.now }
+    ensures len { result ≡ prefix_len (words.is_not stop) bytes.now }
+{
+    bytes.iter().take_while(|b| **b != stop).count()
+}
+
+/// The number that a word writes, in decimal, without sign and without leading zeros. None comes exactly where it writes
+/// none below 2^32.
+fn number(word: &[u8]) -> Option<u32>
+    ensures { result ≡ words.number word.now }
+{
+    let Ok(text) = std::str::from_utf8(word) else {
+        return None;
+    };
+    let Ok(n) = text.parse::<u32>() else {
+        return None;
+    };
+    let mut buffer = Buffer::new();
+    if buffer.format(n).as_bytes() == word {
+        Some(n)
+    } else {
+        None
+    }
+}
+
+/// The number up to the byte that ends it, and what follows that byte.
+#[tactic(auto, unfolding(crate::specs::Words::number_to))]
+fn number_to(stop: u8, bytes: &[u8]) -> Option<(u32, &[u8])>
+    ensures { option_map (λ r. (r.0, r.1.now)) result ≡ words.number_to stop bytes.now }
+{
+    let (word, rest) = bytes.split_at(len_to(stop, bytes));
+    let n = number(word)?;
+    match rest {
+        [] => None,
+        [_, rest @ ..] => Some((n, rest)),
+    }
+}
+
+/// What follows a keyword.
+#[tactic(auto, unfolding(crate::specs::Words::after))]
+fn after<'t>(keyword: &[u8], line: &'t [u8]) -> Option<&'t [u8]>
+    ensures { option_map (λ r. r.now) result ≡ words.after keyword.now line.now }
+{
+    line.strip_prefix(keyword)
+}
+
+/// The number of a line of a keyword and one number.
+#[tactic(auto, unfolding(crate::specs::Words::one_of))]
+pub fn one_of(keyword: &[u8], line: &[u8]) -> Option<u32>
+    ensures { result ≡ words.one_of keyword.now line.now }
+{
+    let rest = after(keyword, line)?;
+    let (n, rest) = number_to(b'\n', rest)?;
+    if rest.is_empty() { Some(n) } else { None }
+}
+
+/// The numbers of a line of a keyword and two numbers.
+#[tactic(auto, unfolding(crate::specs::Words::two_of))]
+pub fn two_of(keyword: &[u8], line: &[u8]) -> Option<(u32, u32)>
+    ensures { result ≡ words.two_of keyword.now line.now }
+{
+    let rest = after(keyword, line)?;
+    let (m, rest) = number_to(b' ', rest)?;
+    let (n, rest) = number_to(b'\n', rest)?;
+    if rest.is_empty() { Some((m, n)) } else { None }
+}

@@ -1,0 +1,93 @@
+//! Writing evidence.
+ghost use Rattle.evidence_format.specs.Evidence as lines;
+ghost use Rattle.evidence_format.specs.Evidence.{IsNumber, IsText, IsWellFormed, first_line, last_line};
+ghost use Rattle.evidence_format.specs.View.{plain};
+ghost use Rattle.evidence_format.specs.Written.{body_bytes, timeline_bytes};
+ghost use Rattle.net_core.specs.Ranks.{pairs_of};
+ghost use Rattle.std.specs.List.{flat_map};
+ghost use Rattle.std.specs.Prelude.{◌≡◌, ◌++◌, ◌∷◌, [], decimal, length, IfOk, OnOk};
+
+use crate::Evidence;
+use itoa::Buffer;
+use net_core::{List, Memory, Ranks};
+use std::alloc::{AllocError, Global};
+
+/// The text of well-formed evidence.
+///
+/// # Errors
+///
+/// Out of memory.
+pub fn write_evidence(alloc: Global, evidence: &Evidence) -> Result<List<u8>, Memory>
+    requires { IsWellFormed (plain evidence.now) }
+    ensures { IfOk result (λ out. IsText (plain evidence.now) out) }
+{
+    match text_bytes(alloc, evidence) {
+        Ok(out) => Ok(List::from_vec(out)),
+        Err(_) => Err(Memory),
+    }
+}
+
+fn text_bytes(alloc: Global, evidence: &Evidence) -> Result<Vec<u8>, AllocError>
+    requires { IsWellFormed (plain evidence.now) }
+    ensures { IfOk result (λ out. out.items ≡ first_line ++ (body_bytes (plain evidence.now) ++ last_line)) }
+{
+    let mut out = Vec::from_slice(alloc, b"tml-evidence 1\n")?;
+    push_body(&mut out, evidence)?;
+    out.extend_from_slice(b"end\n")?;
+    Ok(out)
+}
+
+/// Puts last what stands between the first line and the last one.
+fn push_body(out: &mut Vec<u8>, evidence: &Evidence) -> Result<(), AllocError>
+    requires { IsWellFormed (plain evidence.now) }
+    ensures { OnOk result (out.new.items ≡ out.old.items ++ body_bytes (plain evidence.now)) }
+{
+    match evidence {
+        Evidence::Timeline { ranks } => push_timeline(out, ranks),
+    }
+}
+
+fn push_timeline(out: &mut Vec<u8>, ranks: &Ranks) -> Result<(), AllocError>
+    requires { IsNumber (length (pairs_of ranks.now)) }
+    ensures { OnOk result (out.new.items ≡ out.old.items ++ timeline_bytes (pairs_of ranks.now)) }
+{
+    push_one(out, b"timeline ", ranks.intervals() as u32)?;
+    push_ranks(out, ranks.as_slice())
+}
+
+fn push_ranks(out: &mut Vec<u8>, ranks: &[u32]) -> Result<(), AllocError>
+    ensures { OnOk result (out.new.items ≡ out.old.items ++ flat_map lines.at_line (pairs_of ranks.now)) }
+{
+    let mut rest = ranks;
+    while let [start, finish, after @ ..] = rest {
+        push_two(out, b"at ", *start, *finish)?;
+        rest = after;
+    }
+    Ok(())
+}
+
+/// A keyword that ends in a space, and a number.
+fn push_one(out: &mut Vec<u8>, keyword: &[u8], n: u32) -> Result<(), AllocError>
+    ensures { OnOk result (out.new.items ≡ out.old.items ++ lines.one_number keyword.now n) }
+{
+    out.extend_from_slice(keyword)?;
+    push_number(out, n, b'\n')
+}
+
+/// A keyword that ends in a space, and two numbers.
+fn push_two(out: &mut Vec<u8>, keyword: &[u8], m: u32, n: u32) -> Result<(), AllocError>
+    ensures { OnOk result (out.new.items ≡ out.old.items ++ lines.two_numbers keyword.now m n) }
+{
+    out.extend_from_slice(keyword)?;
+    push_number(out, m, b' ')?;
+    push_number(out, n, b'\n')
+}
+
+/// A number, and the byte that ends it.
+fn push_number(out: &mut Vec<u8>, n: u32, stop: u8) -> Result<(), AllocError>
+    ensures { OnOk result (out.new.items ≡ out.old.items ++ (decimal n ++ stop ∷ [])) }
+{
+    let mut buffer = Buffer::new();
+    out.extend_from_slice(buffer.format(n).as_bytes())?;
+    out.extend_from_slice(&[stop])
+}

@@ -1,0 +1,10 @@
+//! The net of a document.
+#![tactic(auto)]
+
+mod build;
+mod laws;
+#[cfg(test)]
+mod tests;
+
+pub use build::net_of;
+pub use laws::one_net;
