@@ -7,6 +7,7 @@ pub mod UsageRoom
 pub mod Phases
 pub mod OneDateLines
 pub mod OneAnswers
+pub mod OneVerdicts
 pub mod OneNext
 pub mod OneReply
 pub mod TwoFiles

@@ -5,13 +5,13 @@ use Rattle.tml_io.specs.Files.{Files, IsThere, held}
 use Rattle.tml_tool.specs.declared.role.Role.TheVariants.{Doc}
 use Rattle.tml_tool.specs.declared.status.Status.{Status}
 use Rattle.tml_tool.specs.declared.status.Status.TheVariants.{DocFault, ReadFault, NoMemory, TooLong}
-use Rattle.tml_tool.specs.Acceptance.{FirstFault}
+use Rattle.tml_tool.specs.Acceptance.{Accepted, FirstFault}
 use Rattle.tml_tool.specs.Questions.{HasFaultLine, doc_limit}
 use Rattle.tml_tool.specs.Reading.{ReadsWhole, Reached, Reading}
 use Rattle.tml_tool.specs.Replies.{RepliesAfter, IsTooLong, CannotRead}
 use Rattle.tml_tool.specs.Roles.{file_of}
 use Rattle.tml_tool.specs.Rows.{File, answers, reads}
-use Rattle.tml_tool.specs.TwoFiles.{Accepted, ScoreReadsFirst, VerifyJudgesFirst, score, second_file, verify}
+use Rattle.tml_tool.specs.TwoFiles.{ScoreReadsFirst, VerifyJudgesFirst, score, second_file, verify_rows}
 use Rattle.tml_tool.proofs.OneReply.{EndsWhole, ends_whole, not_both, one_held}
 use Rattle.tml_tool.proofs.Phases.{accepted_or_fault}
 
@@ -23,18 +23,18 @@ the_first files name doc bytes file known e gives = one_held (held files name) b
 
 module _ (files : Files) (name other doc : List ℕ) (kind : FaultKind) (place : ℕ) (known : held files name ≡ Some doc) (fits : length doc ≤ doc_limit) (fault : FirstFault doc kind place) where
   not_in_order : (bytes : List ℕ) → bytes ≡ doc → Accepted bytes → ⊥
-  not_in_order bytes e a = accepted_or_fault bytes a.0 a.1 kind place a.2 (subst (λ (b : List ℕ). FirstFault b kind place) (sym e) fault)
+  not_in_order bytes e a = accepted_or_fault bytes kind place a (subst (λ (b : List ℕ). FirstFault b kind place) (sym e) fault)
 
-  verify_reached : (file : File) (contents : List (List ℕ)) → Reading (Some files) (verify name other) contents → verify name other contents (reads file) → file ≡ file_of Doc name
+  verify_reached : (file : File) (contents : List (List ℕ)) → Reading (Some files) (verify_rows name other) contents → verify_rows name other contents (reads file) → file ≡ file_of Doc name
   verify_reached file [] r next = next
   verify_reached file (c ∷ []) r next = absurd (not_in_order c (the_first files name doc c r.0 known r.1 r.2) next.0)
   verify_reached file (c ∷ d ∷ rest) r next = absurd (not_in_order c (the_first files name doc c r.0 known r.1 r.2) r.3.1.0)
 
-  verify_answers : (bytes : List ℕ) (status : Status) (text : List ℕ) → bytes ≡ doc → verify name other (bytes ∷ []) (answers status text) → (status ≡ DocFault) × HasFaultLine (FirstFault doc) text
+  verify_answers : (bytes : List ℕ) (status : Status) (text : List ℕ) → bytes ≡ doc → verify_rows name other (bytes ∷ []) (answers status text) → (status ≡ DocFault) × HasFaultLine (FirstFault doc) text
   verify_answers bytes DocFault text e h = (refl, subst (λ (b : List ℕ). HasFaultLine (FirstFault b) text) e h)
   verify_answers bytes status text e h = absurd h
 
-  verify_reply : (contents : List (List ℕ)) (status : Status) (text : List ℕ) (part : ℕ) → Reading (Some files) (verify name other) contents → EndsWhole (Some files) (verify name other) contents status text part
+  verify_reply : (contents : List (List ℕ)) (status : Status) (text : List ℕ) (part : ℕ) → Reading (Some files) (verify_rows name other) contents → EndsWhole (Some files) (verify_rows name other) contents status text part
       → (status ≡ DocFault) × HasFaultLine (FirstFault doc) text
   verify_reply [] status text part r (inl h) = absurd h.0
   verify_reply [] status text part r (inr h) = absurd (not_both files (file_of Doc name) h.0 doc (sym h.1) (known, fits) h.2.0)
@@ -48,9 +48,9 @@ is_there None doc h = absurd (cc h)
 
 pub verify_judges_first : VerifyJudgesFirst
 verify_judges_first = λ files name other doc kind place known fits fault.
-    let reached : (file : File) → Reached (Some files) (verify name other) file → file ≡ file_of Doc name = λ file r. verify_reached files name other doc kind place known fits fault file r.0 r.1 r.2 in
+    let reached : (file : File) → Reached (Some files) (verify_rows name other) file → file ≡ file_of Doc name = λ file r. verify_reached files name other doc kind place known fits fault file r.0 r.1 r.2 in
     record {
-      reply = λ status text taken e r. verify_reply files name other doc kind place known fits fault r.contents status text r.part r.reading (ends_whole (Some files) (verify name other) r.contents status text r.part e r.ends);
+      reply = λ status text taken e r. verify_reply files name other doc kind place known fits fault r.contents status text r.part r.reading (ends_whole (Some files) (verify_rows name other) r.contents status text r.part e r.ends);
       reached = reached;
       no_fault = λ file r. subst (λ (f : File). IsThere (Some files) f.name) (sym (reached file r)) (is_there (held files name) doc known);
     }
@@ -75,7 +75,7 @@ module _ (clashes : List ℕ → Bool) (files : Files) (name other doc : List �
   never_long file e long = cc (sym missing ∙ subst (λ (f : File). held files f.name ≡ Some long.0) e long.1)
 
   score_answers : (bytes : List ℕ) (status : Status) (text : List ℕ) → bytes ≡ doc → score clashes name other (bytes ∷ []) (answers status text) → ⊥
-  score_answers bytes DocFault text e h = accepted_or_fault doc accepted.0 accepted.1 h.0 h.1 accepted.2 (subst (λ (b : List ℕ). FirstFault b h.0 h.1) e h.2)
+  score_answers bytes DocFault text e h = accepted_or_fault doc h.0 h.1 accepted (subst (λ (b : List ℕ). FirstFault b h.0 h.1) e h.2)
   score_answers bytes status text e h = absurd h
 
   score_reply : (contents : List (List ℕ)) (status : Status) (text : List ℕ) (part : ℕ) → Reading (Some files) (score clashes name other) contents → RepliesAfter (Some files) (score clashes name other) contents status text part → IsReading status

@@ -2,11 +2,13 @@
 use Rattle.std.specs.Prelude.{◌≡◌, Bool, true, List, [], ◌∷◌, None, Some, String}
 use Rattle.std.specs.declared.alloc.Global.{Global}
 use Rattle.std.specs.declared.option.Option.{Option}
-use Rattle.tml_tool.specs.declared.role.Role.TheVariants.{Doc}
+use Rattle.tml_tool.specs.declared.role.Role.TheVariants.{Doc, Evidence}
 use Rattle.tml_tool.specs.declared.status.Status.{Status}
-use Rattle.tml_tool.specs.declared.status.Status.TheVariants.{Usage}
-use Rattle.tml_tool.specs.Words.{CommandForm, of_document, form_of, texts_of, usage}
-use Rattle.tml_tool.specs.Questions.{OfDocument}
+use Rattle.tml_tool.specs.declared.status.Status.TheVariants.{DocFault, Usage}
+use Rattle.tml_tool.specs.Words.{CommandForm, of_document, form_of, texts_of, usage, verify}
+use Rattle.tml_tool.specs.Acceptance.{Accepted, FirstFault}
+use Rattle.tml_tool.specs.Questions.{HasFaultLine, OfDocument}
+use Rattle.tml_tool.specs.Verdicts.{OfVerify}
 use Rattle.tml_tool.specs.Roles.{file_of}
 use Rattle.tml_tool.specs.Rows.{Rows, reads, answers}
 
@@ -15,6 +17,10 @@ abbrev pub rows_of : Option CommandForm → Rows
 rows_of None [] (answers Usage text) = text ≡ usage
 rows_of (Some (of_document question name)) [] (reads file) = file ≡ file_of Doc name
 rows_of (Some (of_document question name)) (doc ∷ []) (answers status text) = OfDocument question doc status text
+rows_of (Some (verify name evidence)) [] (reads file) = file ≡ file_of Doc name
+rows_of (Some (verify name evidence)) (doc ∷ []) (answers DocFault text) = HasFaultLine (FirstFault doc) text
+rows_of (Some (verify name evidence)) (doc ∷ []) (reads file) = Accepted doc × (file ≡ file_of Evidence evidence)
+rows_of (Some (verify name evidence)) (doc ∷ bytes ∷ []) (answers status text) = OfVerify doc bytes status text
 rows_of form contents next = ⊥
 
 -- whether the contents determine the text that is answered with a status: so far all do

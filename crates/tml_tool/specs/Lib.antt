@@ -4,6 +4,8 @@ pub mod Texts
 pub mod DateTexts
 pub mod Acceptance
 pub mod Questions
+pub mod EvidenceTexts
+pub mod Verdicts
 pub mod Rows
 pub mod Reading
 pub mod Replies

@@ -4,14 +4,13 @@ use Rattle.faults.specs.declared.kind.FaultKind.{FaultKind}
 use Rattle.tml_span.specs.Faults.{CutFault}
 use Rattle.tml_span.specs.Units.{PlainUnit}
 use Rattle.tml_span.specs.Whole.{IsWhole}
-use Rattle.tml_tree.specs.Plain.{PlainNode}
 use Rattle.tml_refs.specs.Documents.{PlainDocument}
 use Rattle.tml_tool.specs.declared.command.Question.{Question}
 use Rattle.tml_tool.specs.declared.command.Question.TheVariants.{Spans, Check, Dates}
 use Rattle.tml_tool.specs.declared.role.Role.TheVariants.{Doc}
 use Rattle.tml_tool.specs.declared.status.Status.{Status}
 use Rattle.tml_tool.specs.declared.status.Status.TheVariants.{Done, DocFault}
-use Rattle.tml_tool.specs.Acceptance.{FirstFault, IsAccepted}
+use Rattle.tml_tool.specs.Acceptance.{FirstFault, Says}
 use Rattle.tml_tool.specs.DateTexts.{DateLines}
 use Rattle.tml_tool.specs.Roles.{limit_of}
 use Rattle.tml_tool.specs.Texts as texts
@@ -26,7 +25,7 @@ HasTable doc table = (units : List PlainUnit) × IsWhole (record { source = doc;
 
 -- the document is accepted, and what it says has this text
 abbrev pub HasText : (PlainDocument → List ℕ → Type 0) → List ℕ → List ℕ → Type 0
-HasText Text doc text = (root : PlainNode) × (contents : PlainDocument) × IsAccepted doc root contents × Text contents text
+HasText Text doc text = (contents : PlainDocument) × Says doc contents × Text contents text
 
 -- the document has this fault, and the text is its line
 abbrev pub HasFaultLine : (FaultKind → ℕ → Type 0) → List ℕ → Type 0

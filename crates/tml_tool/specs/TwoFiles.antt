@@ -1,36 +1,29 @@
--- Two examples of rows that read two files, of which no command is made: the order of the rows alone says which files are started.
+-- Which of two files are started: the order of the rows alone says it.
 use Rattle.std.specs.Prelude.{◌≡◌, ◌⊎◌, ◌≤◌, Bool, true, false, ℕ, List, [], ◌∷◌, codes, length, Some, None}
 use Rattle.faults.specs.declared.kind.FaultKind.{FaultKind}
 use Rattle.tml_tool.specs.declared.role.Role.TheVariants.{Doc}
 use Rattle.tml_tool.specs.declared.status.Status.{Status}
 use Rattle.tml_tool.specs.declared.status.Status.TheVariants.{Done, DocFault, Clash, ReadFault, NoMemory}
-use Rattle.tml_tree.specs.Plain.{PlainNode}
-use Rattle.tml_refs.specs.Documents.{PlainDocument}
 use Rattle.tml_io.specs.Files.{Files, held}
-use Rattle.tml_tool.specs.Acceptance.{FirstFault, IsAccepted}
+use Rattle.tml_tool.specs.Acceptance.{Accepted, FirstFault}
+use Rattle.tml_tool.specs.Commands.{rows_of}
 use Rattle.tml_tool.specs.Questions.{HasFaultLine, doc_limit}
 use Rattle.tml_tool.specs.Roles.{file_of}
 use Rattle.tml_tool.specs.Rows.{File, Rows, reads, answers}
 use Rattle.tml_tool.specs.Reading.{AllThere, Reached}
 use Rattle.tml_tool.specs.Replies.{Replies}
 use Rattle.tml_tool.specs.OneReply.{is_broken_off}
+use Rattle.tml_tool.specs.Words.{verify}
 
--- a second file
+-- a second file of the example
 abbrev pub second_file : List ℕ → File
 second_file name = record { name = name; word = codes "SECOND"; limit = 16777216 }
 
-abbrev pub Accepted : List ℕ → Type 0
-Accepted doc = (root : PlainNode) × (contents : PlainDocument) × IsAccepted doc root contents
+-- the rows of `verify`
+abbrev pub verify_rows : List ℕ → List ℕ → Rows
+verify_rows name other = rows_of (Some (verify name other))
 
--- `verify` in small: the first file is judged before the second one is started, and then the second one.
-abbrev pub verify : List ℕ → List ℕ → Rows
-verify name other [] (reads file) = file ≡ file_of Doc name
-verify name other (doc ∷ []) (answers DocFault text) = HasFaultLine (FirstFault doc) text
-verify name other (doc ∷ []) (reads file) = Accepted doc × (file ≡ second_file other)
-verify name other (doc ∷ second ∷ []) (answers Done text) = text ≡ second
-verify name other contents next = ⊥
-
--- `score` in small: the second file is read before it is asked whether the links of the first one clash, by whatever test.
+-- An example of rows of which no command is made: the second file is read before it is asked whether the links of the first one clash, by whatever test.
 abbrev pub score : (List ℕ → Bool) → List ℕ → List ℕ → Rows
 score clashes name other [] (reads file) = file ≡ file_of Doc name
 score clashes name other (doc ∷ []) (answers DocFault text) = HasFaultLine (FirstFault doc) text
@@ -41,10 +34,10 @@ score clashes name other contents next = ⊥
 
 -- `verify BAD MISSING`: the reply is the fault of the first file. The second one is not reached, and sound inputs fail nothing, whether it is there or not.
 pub record IsJudgedFirst (files : Files) (name other doc : List ℕ) : Type 0 where
-  pub reply : (status : Status) (text : List ℕ) (taken : ℕ) → is_broken_off status ≡ false → Replies (Some files) (verify name other) status text taken
+  pub reply : (status : Status) (text : List ℕ) (taken : ℕ) → is_broken_off status ≡ false → Replies (Some files) (verify_rows name other) status text taken
       → (status ≡ DocFault) × HasFaultLine (FirstFault doc) text
-  pub reached : (file : File) → Reached (Some files) (verify name other) file → file ≡ file_of Doc name
-  pub no_fault : AllThere (Some files) (verify name other)
+  pub reached : (file : File) → Reached (Some files) (verify_rows name other) file → file ≡ file_of Doc name
+  pub no_fault : AllThere (Some files) (verify_rows name other)
 
 abbrev pub VerifyJudgesFirst : Type 0
 VerifyJudgesFirst = (files : Files) (name other doc : List ℕ) (kind : FaultKind) (place : ℕ)

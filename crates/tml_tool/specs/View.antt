@@ -11,13 +11,13 @@ use Rattle.tml_tool.specs.declared.command.Command.TheVariants as commands
 use Rattle.tml_tool.specs.declared.reply.Reply.{Reply}
 use Rattle.tml_tool.specs.declared.reply.Reply.TheVariants as replies
 use Rattle.tml_tool.specs.declared.status.Status.{Status}
-use Rattle.tml_tool.specs.declared.status.Status.TheVariants.{Done, DocFault, Usage, ReadFault, TooLong, NoMemory}
+use Rattle.tml_tool.specs.declared.status.Status.TheVariants.{Done, DocFault, Usage, ReadFault, NoMemory, EvidenceFault, TooLong}
 use Rattle.tml_tool.specs.Questions.{OfDocument}
 use Rattle.tml_tool.specs.Replies.{CannotRead, read_fault, too_long}
 use Rattle.tml_tool.specs.Reading.{ReadsWhole}
 use Rattle.tml_tool.specs.Roles.{word_of}
 use Rattle.tml_tool.specs.Rows.{File}
-use Rattle.tml_tool.specs.Words.{CommandForm, of_document, usage}
+use Rattle.tml_tool.specs.Words.{CommandForm, of_document, usage, verify}
 use Rattle.tml_io.specs.Files.{Files}
 use Rattle.std.specs.Prelude.{length}
 
@@ -25,11 +25,13 @@ use Rattle.std.specs.Prelude.{length}
 abbrev pub command_form : Command → Option CommandForm
 command_form commands.Usage = None
 command_form (commands.OfDocument question name) = Some (of_document question name.now)
+command_form (commands.Verify name evidence) = Some (verify name.now evidence.now)
 
 -- the status of a finding
 abbrev pub finding_status : Finding → Status
 finding_status findings.Done = Done
 finding_status findings.DocFault = DocFault
+finding_status findings.EvidenceFault = EvidenceFault
 
 -- the answer of the program to a question of a document is the one that belongs to it
 abbrev pub IsAnswer : Question → List ℕ → Answer → Type 0

@@ -1,6 +1,7 @@
 -- The words of a run, and the forms that they have.
-use Rattle.std.specs.Prelude.{ℕ, List, [], ◌∷◌, ◌++◌, codes, option_map, String, string_bytes, map, None, Some}
+use Rattle.std.specs.Prelude.{ℕ, List, [], ◌∷◌, ◌++◌, codes, option_map, String, string_bytes, map, None, Some, if◌then◌else◌}
 use Rattle.std.specs.List.{flat_map}
+use Rattle.std.specs.Str.{bytes_eq}
 use Rattle.std.specs.declared.alloc.Global.{Global}
 use Rattle.std.specs.declared.option.Option.{Option}
 use Rattle.named.specs.Texts.{named_of}
@@ -20,20 +21,30 @@ question_text Dates = codes "dates"
 abbrev pub all_questions : List Question
 all_questions = Spans ∷ Check ∷ Dates ∷ []
 
+-- the word that asks whether evidence of a document is right
+abbrev pub verify_text : List ℕ
+verify_text = codes "verify"
+
 -- a command, with the names of the files that it reads
 pub data CommandForm : Type 0 where
   of_document : Question → List ℕ → CommandForm
+  verify : List ℕ → List ℕ → CommandForm
 
 -- The command that some words are a form of: no words stand for `spans -`.
 abbrev pub form_of : List (List ℕ) → Option CommandForm
 form_of [] = Some (of_document Spans (codes "-"))
 form_of (command ∷ name ∷ []) = option_map (λ question. of_document question name) (named_of question_text all_questions command)
+form_of (command ∷ name ∷ evidence ∷ []) = if bytes_eq command verify_text then Some (verify name evidence) else None
 form_of words = None
 
 -- the line of a question in the usage text
 abbrev pub usage_line : Question → List ℕ
 usage_line question = codes "tml " ++ question_text question ++ codes " DOC\n"
 
--- the usage text has a line for each question
+-- the line of `verify` in the usage text
+abbrev pub verify_line : List ℕ
+verify_line = codes "tml verify DOC EVIDENCE\n"
+
+-- the usage text has a line for each question, and one for `verify`
 abbrev pub usage : List ℕ
-usage = codes "usage:\n" ++ flat_map usage_line all_questions
+usage = codes "usage:\n" ++ (flat_map usage_line all_questions ++ verify_line)

@@ -8,6 +8,8 @@ pub enum Finding {
     Done,
     /// A fault of the document.
     DocFault,
+    /// Evidence that is malformed, or is refused.
+    EvidenceFault,
 }
 
 /// What was found, with the text that says it.

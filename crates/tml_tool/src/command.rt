@@ -46,6 +46,8 @@ pub enum Command<'w> {
     Usage,
     /// To answer a question of a document.
     OfDocument { question: Question, name: &'w str },
+    /// To check evidence against a document.
+    Verify { name: &'w str, evidence: &'w str },
 }
 
 /// The command that the words are a form of. With no words it is `spans` of standard input.
@@ -63,6 +65,10 @@ pub fn command_of(words: &[String]) -> Command<'_>
                 name: name.as_str(),
             },
             None => Command::Usage,
+        },
+        [command, name, evidence] if command.as_bytes() == b"verify" => Command::Verify {
+            name: name.as_str(),
+            evidence: evidence.as_str(),
         },
         _ => Command::Usage,
     }

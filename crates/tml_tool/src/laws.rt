@@ -30,12 +30,13 @@ pub fn one_reply()
     ensures { (form : Option CommandForm) → HasOneReply (rows_of form) }
 {}
 
-/// An example of rows that read two files: where the first one is at fault the second one is not started.
+/// `verify` judges the document first: where it is at fault, the evidence is not started.
 pub fn verify_judges_first()
     ensures { VerifyJudgesFirst }
 {}
 
-/// An example of rows that read two files: a missing second one is found before both are judged.
+/// An example of rows that read two files, where the first one has no fault: a missing second one is the reply, also
+/// where the links of the first one clash.
 pub fn score_reads_first()
     ensures { ScoreReadsFirst }
 {}

@@ -6,6 +6,7 @@ mod answer;
 mod check;
 mod command;
 mod dates;
+mod evidence;
 mod laws;
 mod questions;
 mod reading;

@@ -47,6 +47,7 @@ impl Reply {
             Reply::Answered(answer) => match answer.finding {
                 Finding::Done => Status::Done,
                 Finding::DocFault => Status::DocFault,
+                Finding::EvidenceFault => Status::EvidenceFault,
             },
             Reply::Usage => Status::Usage,
             Reply::ReadFault => Status::ReadFault,

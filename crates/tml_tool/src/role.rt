@@ -10,6 +10,8 @@ use tml_io::MAX_LIMIT;
 pub enum Role {
     /// A document.
     Doc,
+    /// Evidence of what follows from a document.
+    Evidence,
 }
 
 impl Role {
@@ -20,6 +22,7 @@ impl Role {
     {
         match self {
             Role::Doc => 4_194_304,
+            Role::Evidence => 16_777_216,
         }
     }
 
@@ -29,6 +32,7 @@ impl Role {
     {
         match self {
             Role::Doc => b"too long DOC\n",
+            Role::Evidence => b"too long EVIDENCE\n",
         }
     }
 }

@@ -2,6 +2,7 @@
 mod checks;
 mod dates;
 mod each_fault;
+mod verify;
 
 use crate::{Status, run};
 use std::alloc::{AllocError, Global};
@@ -20,7 +21,7 @@ struct Row {
 
 const SPANS: &[&str] = &["spans", "d"];
 
-const USAGE: &[u8] = b"usage:\ntml spans DOC\ntml check DOC\ntml dates DOC\n";
+const USAGE: &[u8] = b"usage:\ntml spans DOC\ntml check DOC\ntml dates DOC\ntml verify DOC EVIDENCE\n";
 
 const TAGS: &[u8] = b"<TimeML><EVENT eid=\"e1\" class='STATE'>is</EVENT></TimeML>";
 
@@ -201,10 +202,12 @@ fn rows_of_references(rt: HostRuntime) -> Result<(), Fail> {
 
 #[test]
 fn words_without_a_form_give_usage(rt: HostRuntime) -> Result<(), Fail> {
-    let unknown: [&'static [&'static str]; 6] = [
+    let unknown: [&'static [&'static str]; 8] = [
         &["frob", "x"],
         &["spans"],
         &["spans", "d", "d"],
+        &["verify", "d"],
+        &["verify", "d", "d", "d"],
         &["--help"],
         &[""],
         &["Spans", "d"],

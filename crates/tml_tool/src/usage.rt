@@ -10,7 +10,7 @@ use named::Named;
 /// Room for the whole text, which takes no memory of the allocator's.
 const USAGE_ROOM: usize = 1024;
 
-/// The usage text: a line for each question.
+/// The usage text: a line for each form of words.
 pub fn usage_text() -> ArrayVec<u8, USAGE_ROOM>
     ensures { result.items ≡ usage }
 {
@@ -19,6 +19,7 @@ pub fn usage_text() -> ArrayVec<u8, USAGE_ROOM>
     for question in Question::all() {
         push_line(&mut text, *question);
     }
+    push(&mut text, b"tml verify DOC EVIDENCE\n");
     text
 }
 
