@@ -1,0 +1,10 @@
+pub mod Numbers
+pub mod Cutting
+pub mod Exact
+pub mod WordLaws
+pub mod ReaderLaws
+pub mod LineLaws
+pub mod Loops
+pub mod Reading
+pub mod Writing
+pub mod PartLaws

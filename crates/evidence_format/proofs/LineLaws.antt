@@ -1,0 +1,128 @@
+-- Texts and their lines.
+use Rattle.std.proofs.Common.{◌≡◌, ℕ, ◌+◌, ◌-◌, ◌≤◌, true, false, cond, not, eqb, ◌&&◌, List, [], ◌∷◌, ◌++◌, length, map, take, refl, sym, ap, ◌∙◌, append_assoc, length-append, arith}
+use Rattle.std.specs.Prelude.{decimal, codes}
+use Rattle.std.specs.List.{concat, list_all, count_by, AllByRecursion}
+use Rattle.std.proofs.lemmas.List.{take_at}
+use Rattle.std.proofs.lemmas.List.Elements.{recursion_from_All}
+use Rattle.std.proofs.lemmas.List.Sums.{sum_by-cons, sum_by-append}
+use Rattle.evidence_format.specs.Lines.{Lines, is_lf, with_byte, lines_of}
+use Rattle.evidence_format.specs.Words.{is_not}
+use Rattle.evidence_format.specs.Evidence.{PlainEvidence, timeline, IsNumber, IsPair, IsWellFormed, one_number, two_numbers, at_line, body_lines, text_lines, last_line}
+use Rattle.evidence_format.proofs.WordLaws.{all_append, digits_differ}
+
+-- ---- the lines of a text are the text
+
+-- a byte at the front of the first line is at the front of the text
+with_byte_concat : (b : ℕ) (ls : Lines) → concat (with_byte b ls) ≡ b ∷ concat ls
+with_byte_concat b [] = refl
+with_byte_concat b (l ∷ ls) = refl
+
+-- the lines of a text, joined, are the text
+pub lines_concat : (bytes : List ℕ) → concat (lines_of bytes) ≡ bytes
+unfolding lines_of
+lines_concat [] = refl
+lines_concat (b ∷ bytes) = elim (eqb b 10) as (λ t. concat (cond t ((b ∷ []) ∷ lines_of bytes) (with_byte b (lines_of bytes))) ≡ b ∷ bytes) [
+  | true ↦ ap (λ (x : List ℕ). b ∷ x) (lines_concat bytes)
+  | false ↦ with_byte_concat b (lines_of bytes) ∙ ap (λ (x : List ℕ). b ∷ x) (lines_concat bytes)
+]
+
+-- ---- whole lines are the lines of their text
+
+-- bytes without LF, and then LF
+abbrev pub IsLine : List ℕ → Type 0
+IsLine l = (front : List ℕ) × (list_all (is_not 10) front ≡ true) × (l ≡ front ++ 10 ∷ [])
+
+-- the first line is what stands up to the first LF
+first_is : (front rest : List ℕ) → list_all (is_not 10) front ≡ true → lines_of (front ++ 10 ∷ rest) ≡ (front ++ 10 ∷ []) ∷ lines_of rest
+unfolding lines_of
+first_is [] rest h = refl
+first_is (b ∷ front) rest h = elim (eqb b 10) as (λ t. (not t && list_all (is_not 10) front) ≡ true → cond t ((b ∷ []) ∷ lines_of (front ++ 10 ∷ rest)) (with_byte b (lines_of (front ++ 10 ∷ rest))) ≡ (b ∷ (front ++ 10 ∷ [])) ∷ lines_of rest) [
+  | true ↦ λ e. absurd cc
+  | false ↦ λ e. ap (with_byte b) (first_is front rest e)
+] h
+
+-- whole lines are the lines of what they are joined to
+pub lines_again : (ls : Lines) → AllByRecursion IsLine ls → lines_of (concat ls) ≡ ls
+unfolding lines_of
+lines_again [] h = refl
+lines_again (l ∷ ls) h =
+    let s = h.0 in
+    let grouped : concat (l ∷ ls) ≡ s.0 ++ 10 ∷ concat ls = ap (λ (x : List ℕ). x ++ concat ls) s.2 ∙ append_assoc s.0 (10 ∷ []) (concat ls) in
+    ap lines_of grouped ∙ first_is s.0 (concat ls) s.1 ∙ rw (lines_again ls h.1, ← s.2) refl
+
+-- the first of whole lines are whole
+pub front_lines : (a b : Lines) → AllByRecursion IsLine (a ++ b) → AllByRecursion IsLine a
+front_lines [] b h = tt
+front_lines (l ∷ a) b h = (h.0, front_lines a b h.1)
+
+-- whole lines, and whole lines after them
+both_lines : (a b : Lines) → AllByRecursion IsLine a → AllByRecursion IsLine b → AllByRecursion IsLine (a ++ b)
+both_lines [] b h k = k
+both_lines (l ∷ a) b h k = (h.0, both_lines a b h.1 k)
+
+-- ---- each line of evidence is one
+
+-- a keyword and one number are a whole line
+one_is : (keyword : List ℕ) (n : ℕ) → list_all (is_not 10) keyword ≡ true → IsNumber n → IsLine (one_number keyword n)
+one_is keyword n h small = (keyword ++ decimal n, all_append (is_not 10) keyword (decimal n) h (digits_differ 10 n (omega arith) small), refl)
+
+-- a keyword and two numbers are a whole line
+two_is : (keyword : List ℕ) (m n : ℕ) → list_all (is_not 10) keyword ≡ true → IsNumber m → IsNumber n → IsLine (two_numbers keyword m n)
+two_is keyword m n h small_m small_n =
+    let one = all_append (is_not 10) keyword (decimal m) h (digits_differ 10 m (omega arith) small_m) in
+    let space = all_append (is_not 10) (keyword ++ decimal m) (codes " ") one refl in
+    (keyword ++ decimal m ++ codes " " ++ decimal n, all_append (is_not 10) (keyword ++ decimal m ++ codes " ") (decimal n) space (digits_differ 10 n (omega arith) small_n), refl)
+
+-- the ranks of each interval are a whole line
+ats_are : (ranks : List (ℕ × ℕ)) → AllByRecursion IsPair ranks → AllByRecursion IsLine (map at_line ranks)
+ats_are [] h = tt
+ats_are (p ∷ ranks) h = (two_is (codes "at ") p.0 p.1 refl h.0.0 h.0.1, ats_are ranks h.1)
+
+-- what stands between the first line and the last one is whole lines
+body_is : (e : PlainEvidence) → IsWellFormed e → AllByRecursion IsLine (body_lines e)
+body_is (timeline ranks) h = (one_is (codes "timeline ") (length ranks) refl h.1, ats_are ranks (recursion_from_All IsPair ranks h.0))
+
+-- the lines of a text are whole
+pub text_is : (e : PlainEvidence) → IsWellFormed e → AllByRecursion IsLine (text_lines e)
+text_is e h = ((codes "tml-evidence 1", refl, refl), both_lines (body_lines e) (last_line ∷ []) (body_is e h) ((codes "end", refl, refl), tt))
+
+-- ---- the number of a line
+
+-- bytes without LF have none
+one_lf : (front : List ℕ) → list_all (is_not 10) front ≡ true → count_by is_lf front ≡ 0
+one_lf [] h = refl
+one_lf (b ∷ front) h = sum_by-cons (λ x. cond (is_lf x) 1 0) b front ∙ elim (eqb b 10) as (λ t. (not t && list_all (is_not 10) front) ≡ true → cond t 1 0 + count_by is_lf front ≡ 0) [
+  | true ↦ λ e. absurd cc
+  | false ↦ λ e. omega (arith, one_lf front e)
+] h
+
+-- the LFs of two parts
+counted : (xs ys : List ℕ) → count_by is_lf (xs ++ ys) ≡ count_by is_lf xs + count_by is_lf ys
+counted xs ys = sum_by-append (λ x. cond (is_lf x) 1 0) xs ys
+
+-- whole lines have one LF each
+count_lines : (ls : Lines) → AllByRecursion IsLine ls → count_by is_lf (concat ls) ≡ length ls
+count_lines [] h = refl
+count_lines (l ∷ ls) h =
+    let s = h.0 in
+    let line : count_by is_lf l ≡ 1 = ap (count_by is_lf) s.2 ∙ omega (arith, counted s.0 (10 ∷ []), one_lf s.0 s.1) in
+    omega (arith, counted l (concat ls), line, count_lines ls h.1)
+
+-- lines and lines after them, joined
+pub concat_append : (a b : Lines) → concat (a ++ b) ≡ concat a ++ concat b
+concat_append [] b = refl
+concat_append (l ∷ a) b = ap (λ (x : List ℕ). l ++ x) (concat_append a b) ∙ sym (append_assoc l (concat a) (concat b))
+
+-- what stands before the rest of a text, of whole lines
+before_rest : (text rest : List ℕ) (good : Lines) → lines_of text ≡ good ++ lines_of rest → text ≡ concat good ++ rest
+before_rest text rest good e = sym (lines_concat text) ∙ ap concat e ∙ concat_append good (lines_of rest) ∙ ap (λ (x : List ℕ). concat good ++ x) (lines_concat rest)
+
+-- before the rest of a text there are as many LFs as whole lines
+pub line_number : (text rest : List ℕ) (good : Lines) → AllByRecursion IsLine good → lines_of text ≡ good ++ lines_of rest
+    → (length rest ≤ length text) × (count_by is_lf (take (length text - length rest) text) ≡ length good)
+line_number text rest good h e =
+    let parts = before_rest text rest good e in
+    let len : length text ≡ length (concat good) + length rest = ap length parts ∙ length-append (concat good) rest in
+    let k : length text - length rest ≡ length (concat good) = omega arith in
+    let front : take (length text - length rest) text ≡ concat good = rw k (ap (take (length (concat good))) parts ∙ take_at (concat good) rest (length (concat good)) refl) in
+    (omega arith, ap (count_by is_lf) front ∙ count_lines good h)

@@ -1,0 +1,45 @@
+-- Values one after another, as a loop reads them.
+use Rattle.std.proofs.Common.{◌≡◌, ℕ, suc, ◌-◌, ◌+◌, ◌≤◌, ◌<◌, List, [], ◌∷◌, ◌++◌, Ok, Err, refl, sym, ap, ◌∙◌, append_assoc, arith}
+use Rattle.std.proofs.lemmas.List.{append-nil}
+use Rattle.evidence_format.specs.declared.stop.Stop.{Stop}
+use Rattle.evidence_format.specs.declared.stop.Stop.TheVariants as stop
+use Rattle.evidence_format.specs.Lines.{Lines, lines_of}
+use Rattle.evidence_format.specs.Reading.{Read, ◌>>=◌}
+use Rattle.evidence_format.specs.Readers.{many_at}
+use Rattle.evidence_format.specs.Given.{StopsAt}
+
+-- what was read before, and what is still read
+abbrev pub with_front : {A : Type 0} → List A → Read (List A) → Read (List A)
+with_front front read = read >>= λ x. Ok (front ++ x.0, x.1)
+
+-- a value more at the front
+regroup : {A : Type 0} (front : List A) (a : A) (read : Read (List A)) → with_front front (read >>= λ x. Ok (a ∷ x.0, x.1)) ≡ with_front (front ++ a ∷ []) read
+regroup {A} front a (Ok x) = ap (λ (vs : List A). Ok (vs, x.1)) (simp append_assoc)
+regroup front a (Err f) = refl
+
+-- a value was read: it comes to those before
+pub goes_on : {A : Type 0} (p : Lines → Read A) (front : List A) (count i : ℕ) (ls : Lines) (a : A) (after : Lines) (total : Read (List A)) → i < count → p ls ≡ Ok (a, after)
+    → with_front front (many_at p (count - i) ls) ≡ total → with_front (front ++ a ∷ []) (many_at p (count - (i + 1)) after) ≡ total
+unfolding many_at
+goes_on p front count i ls a after total lt h so_far =
+    let k : count - i ≡ suc (count - (i + 1)) = omega arith in
+    let one : with_front front (many_at p (count - i) ls) ≡ with_front (front ++ a ∷ []) (many_at p (count - (i + 1)) after) = rw (k, h) (regroup front a (many_at p (count - (i + 1)) after)) in
+    sym one ∙ so_far
+
+-- no value was read: so all of them are not
+pub ends : {A : Type 0} (p : Lines → Read A) (e : Stop) (front : List A) (count i : ℕ) (ls : Lines) (total : Read (List A)) → i < count → StopsAt e (p ls)
+    → with_front front (many_at p (count - i) ls) ≡ total → StopsAt e total
+unfolding many_at
+ends p stop.Memory front count i ls total lt h so_far = tt
+ends p (stop.BadLine rest) front count i ls total lt h so_far =
+    let k : count - i ≡ suc (count - (i + 1)) = omega arith in
+    let one : with_front front (many_at p (count - i) ls) ≡ Err (lines_of rest.now) = rw (k, h) refl in
+    sym so_far ∙ one
+
+-- no value is still to be read: all of them are
+pub is_done : {A : Type 0} (p : Lines → Read A) (front : List A) (count i : ℕ) (ls : Lines) (total : Read (List A)) → count ≤ i → with_front front (many_at p (count - i) ls) ≡ total → total ≡ Ok (front, ls)
+unfolding many_at
+is_done {A} p front count i ls total le so_far =
+    let k : count - i ≡ 0 = omega arith in
+    let one : with_front front (many_at p (count - i) ls) ≡ Ok (front, ls) = rw k (ap (λ (vs : List A). Ok (vs, ls)) (append-nil front)) in
+    sym so_far ∙ one

@@ -1,0 +1,57 @@
+-- A word is the decimal of one number below 2 ^ 32, or of none.
+use Rattle.std.proofs.Common.{◌≡◌, ℕ, ◌^◌, ◌<◌, Bool, true, false, cond, ltb, ◌&&◌, List, Some, None, Result, Ok, refl, sym, subst, arith}
+use Rattle.std.specs.Prelude.{decimal}
+use Rattle.std.specs.Str.{bytes_eq, IsUtf8}
+use Rattle.std.specs.Str.Parse.{digits_value, ParsesUnsigned}
+use Rattle.std.proofs.lemmas.Bool.{ltb-true, lt-ltb}
+use Rattle.std.proofs.lemmas.Fmt.{decimal_is_IsNumeral, parse-decimal, IsAscii-decimal}
+use Rattle.std.proofs.lemmas.Str.{IsUtf8-from_ascii}
+use Rattle.std.proofs.lemmas.Slice.Eq.{bytes_eq-Decides}
+use Rattle.evidence_format.specs.Words.{number}
+
+-- both of two tests held
+both : (a b : Bool) → (a && b) ≡ true → (a ≡ true) × (b ≡ true)
+both true true e = (refl, refl)
+both true false e = absurd cc
+both false b e = absurd cc
+
+-- a test that held
+pub guard : {A : Type 0} (t : Bool) (x y : A) → cond t (Some x) None ≡ Some y → (t ≡ true) × (x ≡ y)
+guard true x y e = (refl, cc)
+guard false x y e = absurd cc
+
+-- a number that is read is what the word writes
+pub number_found : (word : List ℕ) (n : ℕ) → number word ≡ Some n → (decimal n ≡ word) × (n < 2 ^ 32)
+unfolding number
+number_found word n e =
+    let v = digits_value 10 word in
+    let g = guard (ltb v (2 ^ 32) && bytes_eq (decimal v) word) v n e in
+    let t = both (ltb v (2 ^ 32)) (bytes_eq (decimal v) word) g.0 in
+    let same : decimal v ≡ word = (bytes_eq-Decides (decimal v) word).0 t.1 in
+    let small : v < 2 ^ 32 = ltb-true v (2 ^ 32) t.0 in
+    subst (λ (m : ℕ). (decimal m ≡ word) × (m < 2 ^ 32)) g.1 (same, small)
+
+-- a number that is written is read
+pub number_again : (n : ℕ) → n < 2 ^ 32 → number (decimal n) ≡ Some n
+unfolding number
+number_again n small =
+    let back = (decimal_is_IsNumeral n (omega arith)).1 in
+    let same : bytes_eq (decimal n) (decimal n) ≡ true = (bytes_eq-Decides (decimal n) (decimal n)).1 refl in
+    let lt : ltb n (2 ^ 32) ≡ true = lt-ltb n (2 ^ 32) small in
+    rw (back, same, lt) refl
+
+-- in a word that no number prints none is read
+pub number_none : (word : List ℕ) → ((n : ℕ) → n < 2 ^ 32 → decimal n ≡ word → ⊥) → number word ≡ None
+number_none word none =
+    elim (number word) as (λ o. number word ≡ o → number word ≡ None) [
+      | None ↦ λ e. e
+      | Some n ↦ λ e. let f = number_found word n e in absurd (none n f.1 f.0)
+    ] refl
+
+-- what a number prints is text
+pub decimal_utf8 : (word : List ℕ) (n : ℕ) → n < 2 ^ 32 → decimal n ≡ word → IsUtf8 word
+decimal_utf8 word n small e = subst IsUtf8 e (IsUtf8-from_ascii (decimal n) (IsAscii-decimal n (omega arith)))
+
+-- what a number prints is parsed as that number
+pub parsed : {E : Type 0} (word : List ℕ) (r : Result ℕ E) (n : ℕ) → ParsesUnsigned 32 10 word r → n < 2 ^ 32 → decimal n ≡ word → r ≡ Ok n
+parsed word r n parses small e = parse-decimal 32 n word r small (omega arith) (sym e) parses

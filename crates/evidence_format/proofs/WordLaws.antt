@@ -1,0 +1,167 @@
+-- What is read of a line is what stands there, and what stands there is read.
+use Rattle.std.proofs.Common.{◌≡◌, ℕ, ◌+◌, ◌%◌, ◌<◌, Bool, true, false, cond, not, eqb, ◌&&◌, List, [], ◌∷◌, ◌++◌, length, take, drop, Option, Some, None, refl, sym, ap, subst, ◌∙◌, append_assoc, one-add, arith}
+use Rattle.std.specs.Prelude.{decimal}
+use Rattle.std.specs.List.{prefix_len, list_all}
+use Rattle.std.specs.Str.{bytes_eq}
+use Rattle.std.proofs.lemmas.Bool.{eqb-true}
+use Rattle.std.proofs.lemmas.Bool.Decides.{Decides-eqb}
+use Rattle.std.proofs.lemmas.List.{take_at, drop_at, take-append-drop}
+use Rattle.std.proofs.lemmas.Fmt.{decimal_by_steps}
+use Rattle.std.proofs.lemmas.Slice.Eq.{starts_is, bytes_eq-Decides}
+use Rattle.evidence_format.specs.Words.{◌>>=◌, is_not, number, number_to, after, after_one, alone, one_of, two_of, same_of}
+use Rattle.evidence_format.specs.Evidence.{IsNumber, IsPair, one_number, two_numbers}
+use Rattle.evidence_format.proofs.Numbers.{guard, number_found, number_again}
+
+-- ---- up to a byte
+
+-- a test that all of two lists pass
+pub all_append : (p : ℕ → Bool) (xs ys : List ℕ) → list_all p xs ≡ true → list_all p ys ≡ true → list_all p (xs ++ ys) ≡ true
+all_append p [] ys h k = k
+all_append p (x ∷ xs) ys h k =
+    elim (p x) as (λ b. (b && list_all p xs) ≡ true → (b && list_all p (xs ++ ys)) ≡ true) [
+      | true ↦ λ e. all_append p xs ys e k
+      | false ↦ λ e. absurd cc
+    ] h
+
+-- a larger byte differs
+differs : (stop b : ℕ) → stop < b → is_not stop b ≡ true
+differs stop b lt = elim (eqb b stop) as (λ t. eqb b stop ≡ t → not t ≡ true) [ true ↦ λ e. let same = eqb-true b stop e in absurd (omega arith) | false ↦ λ e. refl ] refl
+
+-- a byte below the digits stands in no number
+pub digits_differ : (stop n : ℕ) → stop < 48 → IsNumber n → list_all (is_not stop) (decimal n) ≡ true
+digits_differ stop n lt small = decimal_by_steps (λ n ds. list_all (is_not stop) ds ≡ true)
+    (λ m h. rw (differs stop (48 + m) (omega arith)) refl)
+    (λ m ds h k. all_append (is_not stop) ds ((48 + m % 10) ∷ []) k (rw (differs stop (48 + m % 10) (omega arith)) refl))
+    n (omega arith)
+
+-- a prefix ends at the first byte that fails
+prefix_again : (p : ℕ → Bool) (xs rest : List ℕ) (y : ℕ) → list_all p xs ≡ true → p y ≡ false → prefix_len p (xs ++ y ∷ rest) ≡ length xs
+prefix_again p [] rest y h k = rw k refl
+prefix_again p (x ∷ xs) rest y h k =
+    elim (p x) as (λ b. (b && list_all p xs) ≡ true → cond b (1 + prefix_len p (xs ++ y ∷ rest)) 0 ≡ length (x ∷ xs)) [
+      | true ↦ λ e. rw (prefix_again p xs rest y e k) (omega arith)
+      | false ↦ λ e. absurd cc
+    ] h
+
+-- where something follows a byte, the byte is there
+after_one_is : (stop : ℕ) (bytes rest : List ℕ) → after_one (drop (prefix_len (is_not stop) bytes) bytes) ≡ Some rest → drop (prefix_len (is_not stop) bytes) bytes ≡ stop ∷ rest
+after_one_is stop [] rest e = absurd cc
+after_one_is stop (b ∷ bytes) rest e =
+    elim (eqb b stop) as (λ t. eqb b stop ≡ t → after_one (drop (cond (not t) (1 + prefix_len (is_not stop) bytes) 0) (b ∷ bytes)) ≡ Some rest → drop (cond (not t) (1 + prefix_len (is_not stop) bytes) 0) (b ∷ bytes) ≡ stop ∷ rest) [
+      | true ↦ λ t e. let same = eqb-true b stop t in cc
+      | false ↦ λ t e. rw (one-add (prefix_len (is_not stop) bytes)) (after_one_is stop bytes rest (rw (one-add (prefix_len (is_not stop) bytes)) at e))
+    ] refl e
+
+-- a byte does not differ from itself
+stops : (stop : ℕ) → is_not stop stop ≡ false
+stops stop = rw ((Decides-eqb stop stop).1 refl) refl
+
+-- ---- the steps
+
+-- where two steps give a value, each does
+some_bind : {A B : Type 0} (o : Option A) (f : A → Option B) (y : B) → (o >>= f) ≡ Some y → (x : A) × (o ≡ Some x) × (f x ≡ Some y)
+some_bind (Some x) f y e = (x, refl, e)
+some_bind None f y e = absurd cc
+
+-- a value that is there
+abbrev one : {A : Type 0} → A → Option A
+one x = Some x
+
+-- there is one value
+some_is : {A : Type 0} (x y : A) → one x ≡ one y → x ≡ y
+some_is x y e = cc
+
+-- a value with nothing after it
+alone_is : {A : Type 0} (a b : A) (rest : List ℕ) → alone a rest ≡ Some b → (a ≡ b) × (rest ≡ [])
+alone_is a b [] e = (some_is a b e, refl)
+alone_is a b (x ∷ rest) e = absurd cc
+
+-- what follows a keyword follows it
+after_found : (keyword bytes rest : List ℕ) → after keyword bytes ≡ Some rest → bytes ≡ keyword ++ rest
+unfolding after
+after_found keyword bytes rest e =
+    let g = guard _ (drop (length keyword) bytes) rest e in
+    rw (← g.1) ((starts_is Decides-eqb bytes keyword _ refl).0 g.0)
+
+-- what follows a keyword is found
+after_again : (keyword rest : List ℕ) → after keyword (keyword ++ rest) ≡ Some rest
+unfolding after
+after_again keyword rest =
+    rw ((starts_is Decides-eqb (keyword ++ rest) keyword _ refl).1 rest refl, drop_at keyword rest (length keyword) refl) refl
+
+-- a number that is read up to a byte stands there
+number_to_found : (stop : ℕ) (bytes : List ℕ) (n : ℕ) (rest : List ℕ) → number_to stop bytes ≡ Some (n, rest) → (bytes ≡ decimal n ++ stop ∷ rest) × IsNumber n
+unfolding number_to
+number_to_found stop bytes n rest e =
+    let k = prefix_len (is_not stop) bytes in
+    let a = some_bind (number (take k bytes)) (λ n. after_one (drop k bytes) >>= λ rest. Some (n, rest)) (n, rest) e in
+    let b = some_bind (after_one (drop k bytes)) (λ rest. Some (a.0, rest)) (n, rest) a.2 in
+    let f = number_found (take k bytes) a.0 a.1 in
+    let same = some_is (a.0, b.0) (n, rest) b.2 in
+    let whole : bytes ≡ decimal a.0 ++ stop ∷ b.0 = sym (take-append-drop k bytes) ∙ ap (λ (x : List ℕ). x ++ drop k bytes) (sym f.0) ∙ ap (λ (x : List ℕ). decimal a.0 ++ x) (after_one_is stop bytes b.0 b.1) in
+    subst (λ (x : ℕ × List ℕ). (bytes ≡ decimal x.0 ++ stop ∷ x.1) × IsNumber x.0) same (whole, f.1)
+
+-- a number that stands there is read
+number_to_again : (stop n : ℕ) (rest : List ℕ) → stop < 48 → IsNumber n → number_to stop (decimal n ++ stop ∷ rest) ≡ Some (n, rest)
+unfolding number_to
+number_to_again stop n rest lt small =
+    rw (prefix_again (is_not stop) (decimal n) rest stop (digits_differ stop n lt small) (stops stop), take_at (decimal n) (stop ∷ rest) (length (decimal n)) refl, drop_at (decimal n) (stop ∷ rest) (length (decimal n)) refl, number_again n small) refl
+
+-- ---- whole lines
+
+-- a form of lines: the line of each value that fits, and no other line
+pub record IsForm {A : Type 0} (text : A → List ℕ) (Fits : A → Type 0) (form : List ℕ → Option A) : Type 0 where
+  pub again : (a : A) → Fits a → form (text a) ≡ Some a
+  pub found : (l : List ℕ) (a : A) → form l ≡ Some a → (text a ≡ l) × Fits a
+
+-- a keyword, and what follows it: a number and LF
+one_grouped : (keyword : List ℕ) (n : ℕ) → one_number keyword n ≡ keyword ++ (decimal n ++ 10 ∷ [])
+one_grouped keyword n = append_assoc keyword (decimal n) (10 ∷ [])
+
+-- lines of a keyword and one number
+pub one_form : (keyword : List ℕ) → IsForm (one_number keyword) IsNumber (one_of keyword)
+unfolding one_of
+one_form keyword = record {
+  again = λ n small. ap (one_of keyword) (one_grouped keyword n) ∙ rw (after_again keyword (decimal n ++ 10 ∷ []), number_to_again 10 n [] (omega arith) small) refl;
+  found = λ l n e.
+      let a = some_bind (after keyword l) (λ rest. number_to 10 rest >>= λ n. alone n.0 n.1) n e in
+      let b = some_bind (number_to 10 a.0) (λ n. alone n.0 n.1) n a.2 in
+      let c = alone_is b.0.0 n b.0.1 b.2 in
+      let f = number_to_found 10 a.0 b.0.0 b.0.1 b.1 in
+      let k = after_found keyword l a.0 a.1 in
+      let whole : l ≡ keyword ++ (decimal b.0.0 ++ 10 ∷ []) = k ∙ ap (λ (x : List ℕ). keyword ++ x) (f.0 ∙ ap (λ (x : List ℕ). decimal b.0.0 ++ 10 ∷ x) c.1) in
+      subst (λ (m : ℕ). (one_number keyword m ≡ l) × IsNumber m) c.0 (one_grouped keyword b.0.0 ∙ sym whole, f.1);
+}
+
+-- the line of a keyword and a pair
+abbrev pub pair_line : List ℕ → ℕ × ℕ → List ℕ
+pair_line keyword p = two_numbers keyword p.0 p.1
+
+-- a keyword, and what follows it: two numbers and LF
+two_grouped : (keyword : List ℕ) (m n : ℕ) → two_numbers keyword m n ≡ keyword ++ (decimal m ++ 32 ∷ (decimal n ++ 10 ∷ []))
+two_grouped keyword m n = simp append_assoc
+
+-- lines of a keyword and two numbers
+pub two_form : (keyword : List ℕ) → IsForm (pair_line keyword) IsPair (two_of keyword)
+unfolding two_of
+two_form keyword = record {
+  again = λ p small. ap (two_of keyword) (two_grouped keyword p.0 p.1) ∙ rw (after_again keyword (decimal p.0 ++ 32 ∷ (decimal p.1 ++ 10 ∷ [])), number_to_again 32 p.0 (decimal p.1 ++ 10 ∷ []) (omega arith) small.0, number_to_again 10 p.1 [] (omega arith) small.1) refl;
+  found = λ l p e.
+      let a = some_bind (after keyword l) (λ rest. number_to 32 rest >>= λ m. number_to 10 m.1 >>= λ n. alone (m.0, n.0) n.1) p e in
+      let b = some_bind (number_to 32 a.0) (λ m. number_to 10 m.1 >>= λ n. alone (m.0, n.0) n.1) p a.2 in
+      let c = some_bind (number_to 10 b.0.1) (λ n. alone (b.0.0, n.0) n.1) p b.2 in
+      let d = alone_is (b.0.0, c.0.0) p c.0.1 c.2 in
+      let f = number_to_found 32 a.0 b.0.0 b.0.1 b.1 in
+      let g = number_to_found 10 b.0.1 c.0.0 c.0.1 c.1 in
+      let k = after_found keyword l a.0 a.1 in
+      let second : b.0.1 ≡ decimal c.0.0 ++ 10 ∷ [] = g.0 ∙ ap (λ (x : List ℕ). decimal c.0.0 ++ 10 ∷ x) d.1 in
+      let whole : l ≡ keyword ++ (decimal b.0.0 ++ 32 ∷ (decimal c.0.0 ++ 10 ∷ [])) = k ∙ ap (λ (x : List ℕ). keyword ++ x) (f.0 ∙ ap (λ (x : List ℕ). decimal b.0.0 ++ 32 ∷ x) second) in
+      subst (λ (q : ℕ × ℕ). (pair_line keyword q ≡ l) × IsPair q) d.0 (two_grouped keyword b.0.0 c.0.0 ∙ sym whole, (f.1, g.1));
+}
+
+-- one line alone
+pub same_form : (text : List ℕ) → IsForm (λ (u : Unit {0}). text) (λ u. Unit {0}) (same_of text)
+same_form text = record {
+  again = λ u fits. rw ((bytes_eq-Decides text text).1 refl) refl;
+  found = λ l u e. let g = guard (bytes_eq l text) tt u e in (sym ((bytes_eq-Decides l text).0 g.0), tt);
+}
