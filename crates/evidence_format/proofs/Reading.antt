@@ -44,3 +44,7 @@ pub one_bad : (text : List ℕ) (m n : ℕ) → IsBadLine text m → IsBadLine t
 one_bad text m n h k =
     let same = one_place HasLines (lines_of text) h.1 k.1 (h.0, h.2, h.4, h.5) (k.0, k.2, k.4, k.5) in
     h.3 ∙ ap (λ (ls : Lines). length ls + 1) same ∙ sym k.3
+
+-- a text is that of one value at most
+pub one_value : (d e : PlainEvidence) (text : List ℕ) → IsText d text → IsText e text → d ≡ e
+one_value d e text h k = let one = is_read d text h in let two = is_read e text k in cc
