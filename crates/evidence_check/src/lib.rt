@@ -2,12 +2,12 @@
 //! how evidence is found.
 #![tactic(auto)]
 
+mod checker;
 mod laws;
 mod refusal;
 #[cfg(test)]
 mod tests;
-mod verify;
 
+pub use checker::verify;
 pub use laws::one_verdict;
 pub use refusal::{Claim, Reason, Refused};
-pub use verify::verify;

@@ -17,6 +17,7 @@ use net_core::{Net, first_broken_link, first_broken_pair, first_unordered};
 /// # Errors
 ///
 /// The first part that is refused, and the first reason there. It comes exactly where the evidence is not supported.
+#[tactic(auto, using(net_core::proofs::RankLaws::ranks_again))]
 pub fn verify(net: &Net, evidence: &Evidence) -> Result<Claim, Refused>
     requires { IsWellFormed (plain evidence.now) }
     ensures ok { IfOk result (λ claim. claim ≡ claim_of (plain evidence.now)) }
@@ -34,6 +35,7 @@ pub fn verify(net: &Net, evidence: &Evidence) -> Result<Claim, Refused>
 }
 
 /// Ok where the ranks are a timeline that fits the net, else the first reason why they are none.
+#[tactic(auto, using(net_core::proofs::RankLaws::pairs_length))]
 fn fit(net: &Net, ranks: &[u32]) -> Result<(), Reason>
     requires even { AreEven ranks.now }
     requires few { IsNumber (length (pairs_of ranks.now)) }
