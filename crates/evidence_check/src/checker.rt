@@ -6,7 +6,7 @@ ghost use Rattle.evidence_format.specs.Evidence.{IsNumber, IsWellFormed};
 ghost use Rattle.evidence_format.specs.View.{plain};
 ghost use Rattle.net_core.specs.Fits.{RanksFit};
 ghost use Rattle.net_core.specs.Ranks.{AreEven, pairs_of};
-ghost use Rattle.std.specs.Prelude.{IfErr, IfOk, OnOk, length, ◌≡◌};
+ghost use Rattle.std.specs.Prelude.{IfErr, IfOk, IsOk, OnOk, length, ◌≡◌, ◌↔◌};
 
 use crate::refusal::{Claim, Reason, Refused};
 use evidence_format::Evidence;
@@ -16,12 +16,12 @@ use net_core::{Net, first_broken_link, first_broken_pair, first_unordered};
 ///
 /// # Errors
 ///
-/// The first part that is refused, and the first reason there. It comes exactly where the evidence is not supported.
+/// The first part that is refused, and the first reason there. A refusal comes exactly where the evidence is not supported.
 #[tactic(auto, using(net_core::proofs::RankLaws::ranks_again))]
 pub fn verify(net: &Net, evidence: &Evidence) -> Result<Claim, Refused>
     requires { IsWellFormed (plain evidence.now) }
+    ensures supported { IsOk result ↔ IsSupported net.now (plain evidence.now) }
     ensures ok { IfOk result (λ claim. claim ≡ claim_of (plain evidence.now)) }
-    ensures supported { IfOk result (λ claim. IsSupported net.now (plain evidence.now)) }
     ensures err { IfErr result (IsRefused net.now (plain evidence.now)) }
     // What supported evidence shows is true.
     ensures sound { IfOk result (λ claim. IsTrue net.now (plain evidence.now)) }
