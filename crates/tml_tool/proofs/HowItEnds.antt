@@ -1,10 +1,13 @@
 -- How a command ends, by what was read.
-use Rattle.std.proofs.Common.{◌≡◌, ◌↔◌, sym, ◌∙◌, ℕ, ◌+◌, List, Option, Result, Ok, Err, refl, inl, inr, arith}
+use Rattle.std.proofs.Common.{◌≡◌, ◌↔◌, sym, ◌∙◌, ℕ, ◌+◌, List, [], ◌∷◌, Option, Result, Ok, Err, refl, inl, inr, arith}
 use Rattle.std.specs.Prelude.{IfOk}
-use Rattle.tml_io.specs.Files.{Files}
+use Rattle.tml_io.specs.Files.{Files, saturating_sum}
 use Rattle.tml_tool.specs.declared.answer.Answer.{Answer}
 use Rattle.tml_tool.specs.declared.status.Status.{Status}
-use Rattle.tml_tool.specs.declared.status.Status.TheVariants.{Usage, WriteFault}
+use Rattle.tml_tool.specs.declared.status.Status.TheVariants.{DocFault, NoMemory, Usage, WriteFault}
+use Rattle.tml_tool.specs.Acceptance.{FirstFault}
+use Rattle.tml_tool.specs.Questions.{HasFaultLine}
+use Rattle.tml_tool.specs.Verdicts.{RefusesDocument}
 use Rattle.tml_tool.specs.Rows.{File, Rows, answers, reads}
 use Rattle.tml_tool.specs.Reading.{Reading, total}
 use Rattle.tml_tool.specs.Outcome.{before_writing}
@@ -23,6 +26,19 @@ pub answered_or_not : {E : Type 0} (known : Option Files) (rows : Rows) (content
 answered_or_not known rows contents (Ok answer) taken reading next e = answered known rows contents _ _ taken reading next e
 answered_or_not known rows contents (Err error) taken reading next e =
     record { contents = contents; reading = reading; part = 0; ends = inr (inr (refl, refl, refl)); bytes = omega arith }
+
+-- the document is refused after it was read, or out of memory
+pub refused_or_not : (known : Option Files) (rows : Rows) (doc : List ℕ) (status : Status) (text : List ℕ) (taken : ℕ)
+    → Reading known rows (doc ∷ []) → (HasFaultLine (FirstFault doc) text → rows (doc ∷ []) (answers DocFault text)) → RefusesDocument doc status text → taken ≡ total (doc ∷ [])
+    → Replies known rows status text taken
+refused_or_not known rows doc DocFault text taken reading next h e = answered known rows (doc ∷ []) DocFault text taken reading (next h) e
+refused_or_not known rows doc NoMemory text taken reading next h e =
+    record { contents = doc ∷ []; reading = reading; part = 0; ends = inr (inr (refl, h, refl)); bytes = omega arith }
+refused_or_not known rows doc status text taken reading next h e = absurd h
+
+-- counts that were taken one after another are taken together
+pub counted_on : (before middle now m n : ℕ) → middle ≡ saturating_sum before m → now ≡ saturating_sum middle n → now ≡ saturating_sum before (m + n)
+counted_on before middle now m n h k = omega (arith, h, k)
 
 -- the next file ends the command
 pub stopped : (known : Option Files) (rows : Rows) (contents : List (List ℕ)) (file : File) (status : Status) (text : List ℕ) (part taken : ℕ)

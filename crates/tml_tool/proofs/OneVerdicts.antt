@@ -2,7 +2,7 @@
 use Rattle.std.proofs.Common.{◌≡◌, ℕ, List, refl, sym, ap, subst, ◌∙◌, inl, inr}
 use Rattle.net_core.specs.Nets.{PlainNet}
 use Rattle.net_build.specs.Built.{IsNetOf}
-use Rattle.net_build.proofs.OneNets.{one_net}
+use Rattle.net_build.proofs.OneNet.{one_net}
 use Rattle.evidence_format.specs.Evidence.{PlainEvidence, IsText}
 use Rattle.evidence_format.proofs.Reading.{one_bad, one_value}
 use Rattle.evidence_check.specs.Claims.{claim_of}

@@ -66,9 +66,12 @@ pub fn command_of(words: &[String]) -> Command<'_>
             },
             None => Command::Usage,
         },
-        [command, name, evidence] if command.as_bytes() == b"verify" => Command::Verify {
-            name: name.as_str(),
-            evidence: evidence.as_str(),
+        [command, name, evidence] => match command.as_bytes() {
+            b"verify" => Command::Verify {
+                name: name.as_str(),
+                evidence: evidence.as_str(),
+            },
+            _ => Command::Usage,
         },
         _ => Command::Usage,
     }

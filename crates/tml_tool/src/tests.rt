@@ -21,7 +21,8 @@ struct Row {
 
 const SPANS: &[&str] = &["spans", "d"];
 
-const USAGE: &[u8] = b"usage:\ntml spans DOC\ntml check DOC\ntml dates DOC\ntml verify DOC EVIDENCE\n";
+const USAGE: &[u8] =
+    b"usage:\ntml spans DOC\ntml check DOC\ntml dates DOC\ntml verify DOC EVIDENCE\n";
 
 const TAGS: &[u8] = b"<TimeML><EVENT eid=\"e1\" class='STATE'>is</EVENT></TimeML>";
 

@@ -100,19 +100,10 @@ fn timelines_that_fit_are_verified(rt: HostRuntime) -> Result<(), Fail> {
             CHAIN,
             b"tml-evidence 1\ntimeline 3\nat 7 9\nat 10 4294967293\nat 4294967294 4294967295\nend\n",
         ),
-        verified(
-            DAYS,
-            b"tml-evidence 1\ntimeline 2\nat 0 1\nat 1 2\nend\n",
-        ),
+        verified(DAYS, b"tml-evidence 1\ntimeline 2\nat 0 1\nat 1 2\nend\n"),
         // What lies within a month may begin after the month does, but not after the next one.
-        verified(
-            MONTHS,
-            b"tml-evidence 1\ntimeline 2\nat 0 1\nat 5 6\nend\n",
-        ),
-        verified(
-            MONTHS,
-            b"tml-evidence 1\ntimeline 2\nat 3 5\nat 5 6\nend\n",
-        ),
+        verified(MONTHS, b"tml-evidence 1\ntimeline 2\nat 0 1\nat 5 6\nend\n"),
+        verified(MONTHS, b"tml-evidence 1\ntimeline 2\nat 3 5\nat 5 6\nend\n"),
     ];
     for pair in pairs.iter() {
         check_pair(&rt, pair)?;
@@ -234,14 +225,44 @@ fn malformed_evidence_has_its_bad_line(rt: HostRuntime) -> Result<(), Fail> {
 #[test]
 fn the_document_is_judged_before_the_evidence(rt: HostRuntime) -> Result<(), Fail> {
     let alloc = rt.alloc();
-    let cases: [(&'static [&'static str], &'static [u8], Status, &'static [u8]); 6] = [
-        (&["verify", "d", "e"], b"<TimeML><x/>", Status::DocFault, b"fault 4 UnknownTag 8\n"),
+    let cases: [(
+        &'static [&'static str],
+        &'static [u8],
+        Status,
+        &'static [u8],
+    ); 6] = [
+        (
+            &["verify", "d", "e"],
+            b"<TimeML><x/>",
+            Status::DocFault,
+            b"fault 4 UnknownTag 8\n",
+        ),
         // Evidence that is missing is not started where the document has a fault.
-        (&["verify", "d", "none"], b"<TimeML>", Status::DocFault, b"fault 6 Unclosed 8\n"),
-        (&["verify", "d", "none"], b"<TimeML/>", Status::ReadFault, b"read fault\n"),
-        (&["verify", "none", "e"], b"<TimeML/>", Status::ReadFault, b"read fault\n"),
+        (
+            &["verify", "d", "none"],
+            b"<TimeML>",
+            Status::DocFault,
+            b"fault 6 Unclosed 8\n",
+        ),
+        (
+            &["verify", "d", "none"],
+            b"<TimeML/>",
+            Status::ReadFault,
+            b"read fault\n",
+        ),
+        (
+            &["verify", "none", "e"],
+            b"<TimeML/>",
+            Status::ReadFault,
+            b"read fault\n",
+        ),
         // A file may be both.
-        (&["verify", "d", "d"], b"<TimeML/>", Status::EvidenceFault, b"evidence line 1\n"),
+        (
+            &["verify", "d", "d"],
+            b"<TimeML/>",
+            Status::EvidenceFault,
+            b"evidence line 1\n",
+        ),
         (&["verify", "d"], b"<TimeML/>", Status::Usage, super::USAGE),
     ];
     for (words, doc, status, text) in cases.iter() {

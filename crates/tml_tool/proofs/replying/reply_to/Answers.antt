@@ -10,3 +10,9 @@ returns-in-Usage-clause-replies g c = rw c.in-Usage.is (0, answered _ (rows_of N
 
 pub returns-in-OfDocument-clause-untouched : goal.returns-in-OfDocument-clause-untouched
 returns-in-OfDocument-clause-untouched g c = rw c.in-OfDocument.is (λ none. absurd (none (file_of Doc c.in-OfDocument.name.now) ([], tt, refl)))
+
+pub returns-in-Verify-clause-no_fault : goal.returns-in-Verify-clause-no_fault
+returns-in-Verify-clause-no_fault g c = rw c.in-Verify.is c.of_evidence.ensures.no_fault
+
+pub returns-in-Verify-clause-untouched : goal.returns-in-Verify-clause-untouched
+returns-in-Verify-clause-untouched g c = rw c.in-Verify.is (λ none. absurd (none (file_of Doc c.in-Verify.name.now) ([], tt, refl)))
