@@ -1,2 +1,3 @@
 pub mod AtomLaws
 pub mod RankLaws
+pub mod PointLaws
