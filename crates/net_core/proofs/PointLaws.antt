@@ -1,7 +1,8 @@
 -- Points, two for each interval.
 use Rattle.std.proofs.Common.{◌≡◌, ℕ, ℤ, ◌+◌, ◌*◌, ◌/◌, ◌%◌, ◌<◌, ◌↔◌, ◌&&◌, IsTrue, Option, Bool, true, false, arith, subst, sym, refl}
 use Rattle.net_core.specs.Bounds.{lower_of}
-use Rattle.net_core.specs.Fits.{FollowsNumbers, KeepsBoth, KeepsRow}
+use Rattle.net_core.specs.Fits.{FollowsNumbers}
+use Rattle.net_core.specs.Rows.{KeepsBoth, KeepsRow}
 use Rattle.net_core.specs.Nets.{PlainNet, bounds_at, lower}
 use Rattle.net_core.specs.Relations.{Timeline, ends_of}
 use Rattle.net_core.specs.declared.bounds.Bounds.{Bounds}
@@ -28,15 +29,20 @@ cases_of_points P i before start finish j h = grind arith
 -- a row is kept up to the next interval where it is kept up to this one and by its two points
 next_row : (net : PlainNet) (t : Timeline) (u : Option ℤ) (m i : ℕ)
     → (KeepsRow net t u m (2 * i) × KeepsBoth (bounds_at net i) (ends_of t i) u m) ↔ KeepsRow net t u m (2 * (i + 1))
-next_row net t u m i =
-    (λ h. cases_of_points (λ j. FollowsNumbers u (lower net j) m (t j)) i h.0
-            (subst (λ l. FollowsNumbers u l m (t (2 * i))) (sym (lower_start net i)) h.1.0)
-            (subst (λ l. FollowsNumbers u l m (t (2 * i + 1))) (sym (lower_end net i)) h.1.1),
-        λ k. (λ j less. k j (omega (arith, less)),
-            (subst (λ l. FollowsNumbers u l m (t (2 * i))) (lower_start net i) (k (2 * i) (omega arith)),
-                subst (λ l. FollowsNumbers u l m (t (2 * i + 1))) (lower_end net i) (k (2 * i + 1) (omega arith)))))
+next_row net t u m i = (
+  λ h. cases_of_points (λ j. FollowsNumbers u (lower net j) m (t j)) i h.0
+      (subst (λ l. FollowsNumbers u l m (t (2 * i))) (sym (lower_start net i)) h.1.0)
+      (subst (λ l. FollowsNumbers u l m (t (2 * i + 1))) (sym (lower_end net i)) h.1.1),
+  λ k. (
+    λ j less. k j (omega (arith, less)),
+    (
+      subst (λ l. FollowsNumbers u l m (t (2 * i))) (lower_start net i) (k (2 * i) (omega arith)),
+      subst (λ l. FollowsNumbers u l m (t (2 * i + 1))) (lower_end net i) (k (2 * i + 1) (omega arith)),
+    ),
+  ),
+)
 
--- the same of the tests of both
+-- the tests of the two parts together are the test of a row up to the next interval
 pub row_goes_on : (net : PlainNet) (t : Timeline) (u : Option ℤ) (m i : ℕ) (bounds : Bounds) (ends : Ends) (before both : Bool)
     → bounds ≡ bounds_at net i → ends ≡ ends_of t i
     → (IsTrue before ↔ KeepsRow net t u m (2 * i)) → (IsTrue both ↔ KeepsBoth bounds ends u m)

@@ -1,8 +1,5 @@
 -- Timelines that fit a net.
-use Rattle.std.specs.Prelude.{◌≡◌, ℕ, ◌*◌, ◌+◌, ◌<◌, ◌≤◌, ℤ, ◌<ℤ◌, ⊤, List, length, Option, Some, None, true, false}
-use Rattle.net_core.specs.declared.bounds.Bounds.{Bounds}
-use Rattle.net_core.specs.declared.net.Ends.{Ends}
-use Rattle.net_core.specs.Bounds.{lower_of}
+use Rattle.std.specs.Prelude.{◌≡◌, ℕ, ◌*◌, ◌+◌, ◌<◌, ◌≤◌, ℤ, ◌<ℤ◌, ⊤, List, length, Option, Some, None}
 use Rattle.net_core.specs.Nets.{PlainNet, intervals, points, link_at, lower, upper}
 use Rattle.net_core.specs.Relations.{Relates, Timeline}
 use Rattle.net_core.specs.Ranks.{timeline_of}
@@ -24,15 +21,6 @@ FollowsNumbers None l m n = ⊤
 -- the points are in the order of the calendar, where it gives one
 abbrev pub KeepsCalendar : PlainNet → Timeline → ℕ → ℕ → Type 0
 KeepsCalendar net t p q = FollowsNumbers (upper net p) (lower net q) (t p) (t q)
-
--- the first n points are in order with one of this upper number and this rank
-abbrev pub KeepsRow : PlainNet → Timeline → Option ℤ → ℕ → ℕ → Type 0
-KeepsRow net t upper rank n = (q : ℕ) → q < n → FollowsNumbers upper (lower net q) rank (t q)
-
--- both points of an interval are in order with one of this upper number and this rank
-abbrev pub KeepsBoth : Bounds → Ends → Option ℤ → ℕ → Type 0
-KeepsBoth bounds ends upper rank =
-    FollowsNumbers upper (lower_of bounds false) rank ends.start × FollowsNumbers upper (lower_of bounds true) rank ends.finish
 
 -- A timeline fits with a set of links: each interval starts before it ends, each link of the set holds, and all points are in the order of the calendar.
 pub record FitsWith (net : PlainNet) (Chosen : ℕ → Type 0) (t : Timeline) : Type 0 where

@@ -1,9 +1,10 @@
 //! Whether ranks are a timeline that fits a net, and what they break first.
 ghost use Rattle.net_core.specs.Firsts.{IsFirst, IsFirstPair};
-ghost use Rattle.net_core.specs.Fits.{FollowsNumbers, KeepsBoth, KeepsCalendar, KeepsLink, KeepsRow, RanksFit, StartsFirst};
+ghost use Rattle.net_core.specs.Fits.{FollowsNumbers, KeepsCalendar, KeepsLink, RanksFit, StartsFirst};
 ghost use Rattle.net_core.specs.Nets.{intervals, points, lower};
 ghost use Rattle.net_core.specs.Ranks.{timeline_of};
 ghost use Rattle.net_core.specs.Relations.{ends_of};
+ghost use Rattle.net_core.specs.Rows.{KeepsBoth, KeepsRow};
 ghost use Rattle.std.specs.Prelude.{IsTrue, length, Some, ◌*◌, ◌+◌, ◌<◌, ◌↔◌, ◌≡◌};
 
 use crate::{Bounds, Ends, Net, holds};
@@ -86,7 +87,7 @@ fn first_broken_by(net: &Net, ranks: &[u32], upper: i64, rank: u32) -> Option<u3
     }
 }
 
-/// The same, by a search for the first.
+/// The same, point by point.
 fn first_broken_in_row(net: &Net, ranks: &[u32], upper: i64, rank: u32) -> Option<u32>
     requires { length ranks.now ≡ points net.now }
     ensures { IsFirst (points net.now) (λ to. FollowsNumbers (Some upper) (lower net.now to) rank (timeline_of ranks.now to)) result }
@@ -118,7 +119,8 @@ fn keeps_both(bounds: Bounds, ends: Ends, upper: i64, rank: u32) -> bool
     ensures { IsTrue result ↔ KeepsBoth bounds ends (Some upper) rank }
 {
     match bounds {
-        Bounds::Exact { lo, hi } => follows(upper, lo, rank, ends.start) & follows(upper, hi, rank, ends.finish),
+        Bounds::Exact { lo, hi } => follows(upper, lo, rank, ends.start)
+            & follows(upper, hi, rank, ends.finish),
         Bounds::Within { lo, .. } => follows(upper, lo, rank, ends.start),
         Bounds::Free => true,
     }

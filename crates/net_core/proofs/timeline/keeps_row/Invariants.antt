@@ -1,5 +1,5 @@
 use Rattle.std.proofs.Common.{◌≡◌, ◌*◌, ◌↔◌, IsTrue, Some}
-use Rattle.net_core.specs.Fits.{KeepsRow}
+use Rattle.net_core.specs.Rows.{KeepsRow}
 use Rattle.net_core.specs.Nets.{intervals}
 use Rattle.net_core.specs.Ranks.{timeline_of}
 use Rattle.net_core.proofs.timeline.keeps_row.Given as goal
