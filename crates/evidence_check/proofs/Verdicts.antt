@@ -21,9 +21,11 @@ module _ (net : PlainNet) (ranks : List ℕ) where
   no_misfit (Link k) fit m = m.2.1 (fit.1.links k m.2.0 tt)
   no_misfit (Calendar p q) fit m = m.3.1.1 (fit.1.calendar p q m.3.0 m.3.1.0)
 
+  -- a reason of the size is none of ranks of the right size
   sized : (size : ℕ) → IsMisfit net ranks (Size size) → HasSize net ranks → ⊥
   sized size m h = omega (arith, m.0, m.1, h)
 
+  -- what is found first of intervals, links and pairs of points is found once
   one_unordered : (o p : Option ℕ) → FirstUnordered net ranks o → FirstUnordered net ranks p → o ≡ p
   one_unordered o p h k = one_first (intervals net) (StartsFirst (timeline_of ranks)) o p h k
 

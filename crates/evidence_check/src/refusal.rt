@@ -20,8 +20,7 @@ pub enum Reason {
     Calendar { from: u32, to: u32 },
 }
 
-/// The first part of evidence that is refused, and the first reason there. The timeline of Timeline evidence is its part
-/// 1.
+/// The first part of evidence that is refused, and the first reason there. A timeline is part 1 of its evidence.
 #[derive(Clone, Copy, Debug, PartialEq, Eq)]
 pub struct Refused {
     pub part: u32,

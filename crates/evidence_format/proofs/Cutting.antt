@@ -1,6 +1,5 @@
 -- The first line of a text.
 use Rattle.std.proofs.Common.{◌≡◌, ℕ, ◌+◌, ◌<◌, min, true, false, cond, eqb, not, List, [], ◌∷◌, length, take, drop, refl, sym, ◌∙◌, one-add, arith}
-use Rattle.std.proofs.lemmas.Bool.{eqb-true}
 use Rattle.std.specs.List.{prefix_len}
 use Rattle.evidence_format.specs.Lines.{with_byte, lines_of}
 use Rattle.evidence_format.specs.Words.{is_not}

@@ -1,5 +1,5 @@
 -- The bytes that are written are those of the lines.
-use Rattle.std.proofs.Common.{◌≡◌, ℕ, List, [], ◌∷◌, ◌++◌, map, refl, ap, ◌∙◌}
+use Rattle.std.proofs.Common.{◌≡◌, ℕ, List, [], ◌∷◌, ◌++◌, map, refl, ap}
 use Rattle.std.specs.List.{concat, flat_map}
 use Rattle.evidence_format.specs.Evidence.{PlainEvidence, timeline, at_line, body_lines, text_lines, first_line, last_line}
 use Rattle.evidence_format.specs.Written.{body_bytes}

@@ -1,5 +1,5 @@
 -- The lines of a text, each with its LF. Bytes after the last LF are a line too, which has none.
-use Rattle.std.specs.Prelude.{ℕ, Bool, not, List, [], ◌∷◌, ◌==◌, if◌then◌else◌}
+use Rattle.std.specs.Prelude.{ℕ, Bool, List, [], ◌∷◌, ◌==◌, if◌then◌else◌}
 
 abbrev pub Lines : Type 0
 Lines = List (List ℕ)

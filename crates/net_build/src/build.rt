@@ -4,6 +4,7 @@ ghost use Rattle.net_core.specs.Bounds.{AreOrdered};
 ghost use Rattle.std.specs.List.{All, AllZip};
 ghost use Rattle.std.specs.Prelude.{IfOk, map, ◌≡◌};
 ghost use Rattle.timex_dates.specs.Answers.{IsCivil};
+ghost use Rattle.tml_refs.specs.Documents.{IsDocument};
 ghost use Rattle.tml_refs.specs.View.{plain_interval};
 
 use net_core::{Bounds, List, Memory, Net, NetLink};
@@ -27,6 +28,7 @@ pub fn net_of(alloc: Global, document: &Document<'_>) -> Result<Net, Memory>
 
 /// What the calendar says of each interval.
 fn all_bounds(alloc: Global, document: &Document<'_>) -> Result<List<Bounds>, Memory>
+    ensures document { IsDocument document.now }
     ensures bounds { IfOk result (AllZip IntervalBounds document.now.intervals) }
     ensures ordered { IfOk result (All AreOrdered) }
     ensures civil { IfOk result (All IsCivil) }

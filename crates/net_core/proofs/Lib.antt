@@ -1,3 +1,4 @@
 pub mod AtomLaws
 pub mod FirstLaws
 pub mod RankLaws
+pub mod PointLaws

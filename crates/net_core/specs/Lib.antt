@@ -5,5 +5,6 @@ pub mod Atoms
 pub mod Bounds
 pub mod Nets
 pub mod Fits
+pub mod Rows
 pub mod Firsts
 pub mod Ranks

@@ -4,9 +4,10 @@ ghost use Rattle.net_core.specs.Fits.{FollowsNumbers, KeepsCalendar, KeepsLink, 
 ghost use Rattle.net_core.specs.Nets.{intervals, points, lower};
 ghost use Rattle.net_core.specs.Ranks.{timeline_of};
 ghost use Rattle.net_core.specs.Relations.{ends_of};
+ghost use Rattle.net_core.specs.Rows.{KeepsBoth, KeepsRow};
 ghost use Rattle.std.specs.Prelude.{IsTrue, length, Some, ◌*◌, ◌+◌, ◌<◌, ◌↔◌, ◌≡◌};
 
-use crate::{Ends, Net, holds};
+use crate::{Bounds, Ends, Net, holds};
 
 /// Whether the ranks are a timeline that fits the net: there are two for each interval, its start and its end, each start
 /// is below its end, each link holds, and the points are in the order of the calendar. It takes no memory, and time in n²
@@ -79,23 +80,68 @@ fn first_broken_by(net: &Net, ranks: &[u32], upper: i64, rank: u32) -> Option<u3
     requires { length ranks.now ≡ points net.now }
     ensures { IsFirst (points net.now) (λ to. FollowsNumbers (Some upper) (lower net.now to) rank (timeline_of ranks.now to)) result }
 {
+    if keeps_row(net, ranks, upper, rank) {
+        None
+    } else {
+        first_broken_in_row(net, ranks, upper, rank)
+    }
+}
+
+/// The same, point by point.
+fn first_broken_in_row(net: &Net, ranks: &[u32], upper: i64, rank: u32) -> Option<u32>
+    requires { length ranks.now ≡ points net.now }
+    ensures { IsFirst (points net.now) (λ to. FollowsNumbers (Some upper) (lower net.now to) rank (timeline_of ranks.now to)) result }
+{
     for to in 0..2 * net.intervals() {
-        if !follows(upper, net.lower(to), rank, ranks[to as usize]) {
+        if !follows_any(upper, net.lower(to), rank, ranks[to as usize]) {
             return Some(to);
         }
     }
     None
 }
 
-/// Whether two ranks are as the upper number of the first point and the lower number of the second one say.
-fn follows(upper: i64, lower: Option<i64>, from: u32, to: u32) -> bool
+/// Whether all points are in order with a point of this upper number and this rank. It goes over all of them without a
+/// branch on numbers or ranks: those of a good timeline come in no order that a processor foresees.
+fn keeps_row(net: &Net, ranks: &[u32], upper: i64, rank: u32) -> bool
+    requires { length ranks.now ≡ points net.now }
+    ensures { IsTrue result ↔ KeepsRow net.now (timeline_of ranks.now) (Some upper) rank (points net.now) }
+{
+    let mut keeps = true;
+    for i in 0..net.intervals() {
+        keeps &= keeps_both(net.bounds(i), ends_at(ranks, i), upper, rank);
+    }
+    keeps
+}
+
+/// Whether both points of an interval are in order with a point of this upper number and this rank.
+#[inline]
+fn keeps_both(bounds: Bounds, ends: Ends, upper: i64, rank: u32) -> bool
+    ensures { IsTrue result ↔ KeepsBoth bounds ends (Some upper) rank }
+{
+    match bounds {
+        Bounds::Exact { lo, hi } => follows(upper, lo, rank, ends.start)
+            & follows(upper, hi, rank, ends.finish),
+        Bounds::Within { lo, .. } => follows(upper, lo, rank, ends.start),
+        Bounds::Free => true,
+    }
+}
+
+/// Whether two ranks are as the upper number of the first point, and the lower number of the second one if any, say.
+fn follows_any(upper: i64, lower: Option<i64>, from: u32, to: u32) -> bool
     ensures { IsTrue result ↔ FollowsNumbers (Some upper) lower from to }
 {
     match lower {
-        Some(lower) if upper < lower => from < to,
-        Some(lower) if upper == lower => from <= to,
-        _ => true,
+        Some(lower) => follows(upper, lower, from, to),
+        None => true,
     }
+}
+
+/// Whether two ranks are as the upper number of the first point and the lower number of the second one say.
+#[inline]
+fn follows(upper: i64, lower: i64, from: u32, to: u32) -> bool
+    ensures { IsTrue result ↔ FollowsNumbers (Some upper) (Some lower) from to }
+{
+    (upper > lower) | (from < to) | (upper == lower) & (from == to)
 }
 
 /// Whether the link holds.
