@@ -7,7 +7,7 @@ use Rattle.tml_refs.specs.Documents.{PlainInterval, instance, time}
 use Rattle.net_build.specs.Built.{IntervalBounds, OneNet}
 
 -- an interval has one answer
-one_interval : (v : PlainInterval) (a b : Bounds) → IntervalBounds v a → IntervalBounds v b → a ≡ b
+pub one_interval : (v : PlainInterval) (a b : Bounds) → IntervalBounds v a → IntervalBounds v b → a ≡ b
 one_interval (instance name) a b h k = h ∙ sym k
 one_interval (time t) a b h k = one_bounds t.kind t.modifier t.value a b h k
 
