@@ -1,4 +1,5 @@
 pub mod Numbers
+pub mod Digits
 pub mod Cutting
 pub mod Exact
 pub mod WordLaws

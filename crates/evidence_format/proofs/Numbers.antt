@@ -1,16 +1,15 @@
 -- A word is the decimal of one number below 2 ^ 32, or of none.
-use Rattle.std.proofs.Common.{◌≡◌, ℕ, ◌^◌, ◌<◌, Bool, true, false, cond, ltb, ◌&&◌, List, Some, None, Result, Ok, refl, sym, subst, arith}
+use Rattle.std.proofs.Common.{◌≡◌, ℕ, ◌^◌, ◌<◌, Bool, true, false, cond, ltb, ◌&&◌, List, Some, None, refl, subst, arith}
 use Rattle.std.specs.Prelude.{decimal}
-use Rattle.std.specs.Str.{bytes_eq, IsUtf8}
-use Rattle.std.specs.Str.Parse.{digits_value, ParsesUnsigned}
+use Rattle.std.specs.Str.{bytes_eq}
+use Rattle.std.specs.Str.Parse.{digits_value}
 use Rattle.std.proofs.lemmas.Bool.{ltb-true, lt-ltb}
-use Rattle.std.proofs.lemmas.Fmt.{decimal_is_IsNumeral, parse-decimal, IsAscii-decimal}
-use Rattle.std.proofs.lemmas.Str.{IsUtf8-from_ascii}
+use Rattle.std.proofs.lemmas.Fmt.{decimal_is_IsNumeral}
 use Rattle.std.proofs.lemmas.Slice.Eq.{bytes_eq-Decides}
 use Rattle.evidence_format.specs.Words.{number}
 
 -- both of two tests held
-both : (a b : Bool) → (a && b) ≡ true → (a ≡ true) × (b ≡ true)
+pub both : (a b : Bool) → (a && b) ≡ true → (a ≡ true) × (b ≡ true)
 both true true e = (refl, refl)
 both true false e = absurd cc
 both false b e = absurd cc
@@ -47,11 +46,3 @@ number_none word none =
       | None ↦ λ e. e
       | Some n ↦ λ e. let f = number_found word n e in absurd (none n f.1 f.0)
     ] refl
-
--- what a number prints is text
-pub decimal_utf8 : (word : List ℕ) (n : ℕ) → n < 2 ^ 32 → decimal n ≡ word → IsUtf8 word
-decimal_utf8 word n small e = subst IsUtf8 e (IsUtf8-from_ascii (decimal n) (IsAscii-decimal n (omega arith)))
-
--- what a number prints is parsed as that number
-pub parsed : {E : Type 0} (word : List ℕ) (r : Result ℕ E) (n : ℕ) → ParsesUnsigned 32 10 word r → n < 2 ^ 32 → decimal n ≡ word → r ≡ Ok n
-parsed word r n parses small e = parse-decimal 32 n word r small (omega arith) (sym e) parses

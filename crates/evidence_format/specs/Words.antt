@@ -1,8 +1,9 @@
 -- The words of one line, read from left to right.
-use Rattle.std.specs.Prelude.{ℕ, ◌^◌, ◌&&◌, not, nat_lt, nat_eq, Bool, List, [], ◌∷◌, length, take, drop, ◌==◌, Option, Some, None, option_and_then, if◌then◌else◌, decimal}
+use Rattle.std.specs.Prelude.{ℕ, ◌+◌, ◌*◌, ◌^◌, ◌&&◌, ◌||◌, not, nat_lt, nat_eq, Bool, false, List, [], ◌∷◌, length, take, drop, ◌==◌, Option, Some, None, option_and_then, if◌then◌else◌, decimal}
 use Rattle.std.specs.List.{prefix_len, starts_with}
 use Rattle.std.specs.Str.{bytes_eq}
 use Rattle.std.specs.Str.Parse.{digits_value}
+use Rattle.std.specs.Char.{digit_value}
 
 infixl 10 ◌>>=◌
 abbrev pub ◌>>=◌ : {A B : Type 0} → Option A → (A → Option B) → Option B
@@ -14,6 +15,22 @@ is_not stop b = not (b == stop)
 -- the number below 2 ^ 32 that a word writes: it is the word that the number prints
 unfoldable pub number : List ℕ → Option ℕ
 number word = if nat_lt (digits_value 10 word) (2 ^ 32) && bytes_eq (decimal (digits_value 10 word)) word then Some (digits_value 10 word) else None
+
+-- there is a first byte, and it is no zero, or stands alone
+abbrev pub begins_well : List ℕ → Bool
+begins_well [] = false
+begins_well (b ∷ bytes) = not (b == 48) || nat_eq (length bytes) 0
+
+-- the number below 2 ^ 32 that one digit more writes after a number
+unfoldable pub digit_after : ℕ → ℕ → Option ℕ
+digit_after n b = if nat_lt (digit_value b) 10 && nat_lt (n * 10 + digit_value b) (2 ^ 32) then Some (n * 10 + digit_value b) else None
+
+-- the number below 2 ^ 32 that digits write after a number
+unfoldable pub digits_after : ℕ → List ℕ → Option ℕ
+digits_after n [] = Some n
+digits_after n (b ∷ bytes) = do
+  m ← digit_after n b
+  digits_after m bytes
 
 -- what follows a keyword
 unfoldable pub after : List ℕ → List ℕ → Option (List ℕ)

@@ -3,8 +3,6 @@ ghost use Rattle.evidence_format.specs.Words as words;
 ghost use Rattle.std.specs.List.{prefix_len};
 ghost use Rattle.std.specs.Prelude.{◌≡◌, ◌≤◌, length, option_map};
 
-use itoa::Buffer;
-
 /// How many bytes come before the first one that is `stop`.
 pub fn len_to(stop: u8, bytes: &[u8]) -> usize
     ensures within { result ≤ length bytes.now }
@@ -15,20 +13,47 @@ pub fn len_to(stop: u8, bytes: &[u8]) -> usize
 
 /// The number that a word writes, in decimal, without sign and without leading zeros. None comes exactly where it writes
 /// none below 2^32.
+#[tactic(auto, using(crate::proofs::Digits::number_is))]
 fn number(word: &[u8]) -> Option<u32>
     ensures { result ≡ words.number word.now }
 {
-    let Ok(text) = std::str::from_utf8(word) else {
-        return None;
-    };
-    let Ok(n) = text.parse::<u32>() else {
-        return None;
-    };
-    let mut buffer = Buffer::new();
-    if buffer.format(n).as_bytes() == word {
-        Some(n)
+    if begins_well(word) {
+        digits(word)
     } else {
         None
+    }
+}
+
+/// Whether there is a first byte, and it is no zero, or stands alone.
+fn begins_well(word: &[u8]) -> bool
+    ensures { result ≡ words.begins_well word.now }
+{
+    match word {
+        [] => false,
+        [first, more @ ..] => *first != b'0' || more.is_empty(),
+    }
+}
+
+/// The number that digits write. None comes exactly where another byte is among them, or the number is not below 2^32.
+#[tactic(auto, unfolding(crate::specs::Words::digits_after))]
+fn digits(word: &[u8]) -> Option<u32>
+    ensures { result ≡ words.digits_after 0 word.now }
+{
+    let mut n = 0;
+    for b in word {
+        n = digit_after(n, *b)?;
+    }
+    Some(n)
+}
+
+/// The number that one digit more writes after a number.
+#[tactic(auto, unfolding(crate::specs::Words::digit_after))]
+fn digit_after(n: u32, b: u8) -> Option<u32>
+    ensures { result ≡ words.digit_after n b }
+{
+    match b {
+        b'0'..=b'9' => n.checked_mul(10)?.checked_add((b - b'0') as u32),
+        _ => None,
     }
 }
 

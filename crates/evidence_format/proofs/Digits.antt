@@ -1,0 +1,91 @@
+-- Digits without a leading zero are what the number that they write prints.
+use Rattle.std.proofs.Common.{◌≡◌, ℕ, ◌+◌, ◌*◌, ◌^◌, ◌<◌, ◌≤◌, suc, true, false, cond, eqb, ltb, not, ◌&&◌, ◌||◌, if◌then◌else◌, eq-eqb, List, [], ◌∷◌, length, get_or, inl, inr, Option, Some, None, refl, sym, ap, subst, ◌∙◌, arith}
+use Rattle.std.specs.Prelude.{decimal}
+use Rattle.std.specs.Char.{digit_value}
+use Rattle.std.specs.Str.Parse.{AllDigits, digits_value, digits_value_after}
+use Rattle.std.proofs.lemmas.Bool.{cases_lt, eqb-true, ltb-true, lt-ltb}
+use Rattle.std.proofs.lemmas.Bool.Decides.{nat_tests}
+use Rattle.std.proofs.lemmas.Fmt.{decimal_is_IsNumeral, decimal-digits_value, decimal_digit, decimal_nonempty, first_decimal}
+use Rattle.std.proofs.lemmas.Str.Parse.{numerals_by_value, tells_digits}
+use Rattle.evidence_format.specs.Words.{◌>>=◌, number, begins_well, digit_after, digits_after}
+use Rattle.evidence_format.proofs.Numbers.{both, guard, number_again, number_none}
+
+-- digits after a number write no less
+value_rises : (n : ℕ) (bytes : List ℕ) → n ≤ digits_value_after 10 n bytes
+value_rises n [] = omega arith
+value_rises n (b ∷ bytes) = omega (arith, value_rises (n * 10 + digit_value b) bytes)
+
+-- a digit that is read is one, and its number is not too large
+digit_found : (n b m : ℕ) → digit_after n b ≡ Some m → (digit_value b < 10) × (n * 10 + digit_value b ≡ m) × (m < 2 ^ 32)
+unfolding digit_after
+digit_found n b m e =
+    let v = n * 10 + digit_value b in
+    let g = guard (ltb (digit_value b) 10 && ltb v (2 ^ 32)) v m e in
+    let t = both (ltb (digit_value b) 10) (ltb v (2 ^ 32)) g.0 in
+    (ltb-true (digit_value b) 10 t.0, g.1, subst (λ (k : ℕ). k < 2 ^ 32) g.1 (ltb-true v (2 ^ 32) t.1))
+
+-- a digit is read where its number is not too large
+digit_again : (n b : ℕ) → digit_value b < 10 → n * 10 + digit_value b < 2 ^ 32 → digit_after n b ≡ Some (n * 10 + digit_value b)
+unfolding digit_after
+digit_again n b digit small = rw (lt-ltb (digit_value b) 10 digit, lt-ltb (n * 10 + digit_value b) (2 ^ 32) small) refl
+
+-- where two steps give a number, so do both
+both_some : (o : Option ℕ) (f : ℕ → Option ℕ) (n : ℕ) → (o >>= f) ≡ Some n → (m : ℕ) × (o ≡ Some m) × (f m ≡ Some n)
+both_some (Some m) f n e = (m, refl, e)
+both_some None f n e = absurd cc
+
+-- digits that are read are digits, and write the number
+digits_found : (m : ℕ) (bytes : List ℕ) (n : ℕ) → m < 2 ^ 32 → digits_after m bytes ≡ Some n → AllDigits 10 bytes × (digits_value_after 10 m bytes ≡ n) × (n < 2 ^ 32)
+unfolding digits_after
+digits_found m [] n small e = let same : m ≡ n = cc in (tt, same, subst (λ (k : ℕ). k < 2 ^ 32) same small)
+digits_found m (b ∷ bytes) n small e =
+    let s = both_some (digit_after m b) (λ k. digits_after k bytes) n e in
+    let d = digit_found m b s.0 s.1 in
+    let r = digits_found s.0 bytes n d.2 s.2 in
+    ((d.0, r.0), ap (λ (k : ℕ). digits_value_after 10 k bytes) d.1 ∙ r.1, r.2)
+
+-- digits are read where their number is not too large
+digits_again : (m : ℕ) (bytes : List ℕ) → AllDigits 10 bytes → digits_value_after 10 m bytes < 2 ^ 32 → digits_after m bytes ≡ Some (digits_value_after 10 m bytes)
+unfolding digits_after
+digits_again m [] digits small = refl
+digits_again m (b ∷ bytes) digits small =
+    let next : m * 10 + digit_value b < 2 ^ 32 = omega (arith, value_rises (m * 10 + digit_value b) bytes) in
+    rw (digit_again m b digits.0 next) (digits_again (m * 10 + digit_value b) bytes digits.1 small)
+
+-- a word that begins well is of the number that its digits write
+digits_are : (word : List ℕ) → 0 < length word → (get_or word 0 0 ≡ 48 → length word ≡ 1) → number word ≡ digits_after 0 word
+digits_are word some zero =
+    elim (digits_after 0 word) as (λ o. digits_after 0 word ≡ o → number word ≡ o) [
+      | None ↦ λ e. number_none word (λ n small printed.
+          let back = decimal_is_IsNumeral n (omega arith) in
+          let digits : AllDigits 10 word = subst (AllDigits 10) printed back.0.1 in
+          let value : digits_value 10 word ≡ n = ap (digits_value 10) (sym printed) ∙ back.1 in
+          let read = digits_again 0 word digits (omega arith) in
+          cc)
+      | Some n ↦ λ e.
+          let f = digits_found 0 word n (omega arith) e in
+          let printed : decimal (digits_value 10 word) ≡ word = decimal-digits_value (numerals_by_value (AllDigits 10) tells_digits) word f.0 some zero (omega (arith, f.1, f.2)) in
+          let same : decimal n ≡ word = ap decimal (sym f.1) ∙ printed in
+          ap number (sym same) ∙ number_again n f.2
+    ] refl
+
+-- no number prints a zero before another byte
+no_zero : (b : ℕ) (bytes : List ℕ) → b ≡ 48 → 0 < length bytes → number (b ∷ bytes) ≡ None
+no_zero b bytes zero more = number_none (b ∷ bytes) (λ n small printed.
+    let first : get_or (decimal n) 0 0 ≡ 48 = ap (λ (ds : List ℕ). get_or ds 0 0) printed ∙ zero in
+    elim (cases_lt 0 n) [
+      | inl h ↦ omega (arith, first_decimal n h (omega arith))
+      | inr h ↦ omega (arith, ap length printed, ap length (decimal_digit n (omega arith)))
+    ])
+
+-- a word is of the number that its digits write, where it begins well
+pub number_is : (word : List ℕ) → number word ≡ if begins_well word then digits_after 0 word else None
+number_is [] = number_none [] (λ n small printed. omega (arith, ap length printed, decimal_nonempty n (omega arith)))
+number_is (b ∷ bytes) =
+    elim (eqb b 48) as (λ t. eqb b 48 ≡ t → number (b ∷ bytes) ≡ cond (not t || eqb (length bytes) 0) (digits_after 0 (b ∷ bytes)) None) [
+      | false ↦ λ e. digits_are (b ∷ bytes) (omega arith) (λ zero. absurd (let yes_zero = eq-eqb b 48 zero in cc))
+      | true ↦ λ e. elim (eqb (length bytes) 0) as (λ t. eqb (length bytes) 0 ≡ t → number (b ∷ bytes) ≡ cond t (digits_after 0 (b ∷ bytes)) None) [
+        | true ↦ λ k. digits_are (b ∷ bytes) (omega arith) (λ zero. ap suc (eqb-true (length bytes) 0 k))
+        | false ↦ λ k. no_zero b bytes (eqb-true b 48 e) (grind (arith, nat_tests, k))
+      ] refl
+    ] refl
