@@ -58,9 +58,7 @@ impl<'s> Contents<'s> {
         let Some(addition) = addition_of(names, tag) else {
             return Err(RefFault::UnknownReference { place });
         };
-        if let Err(fault) = self.extend(addition, place) {
-            return Err(fault);
-        }
+        self.extend(addition, place)?;
         self.counts.add(tag.kind());
         Ok(())
     }
@@ -122,10 +120,7 @@ fn addition_of<'s>(names: &NameIndex<'s>, tag: &TypedTag<'s>) -> Option<Addition
             rel,
             right,
             ..
-        } => match names.link(left, rel, right) {
-            Some(link) => Some(Addition::Link(link)),
-            None => None,
-        },
+        } => Some(Addition::Link(names.link(left, rel, right)?)),
         TypedTag::Event { .. }
         | TypedTag::Signal { .. }
         | TypedTag::Alink { .. }

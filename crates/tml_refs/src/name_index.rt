@@ -167,12 +167,8 @@ impl<'s> NameIndex<'s> {
         ensures rel { IfSome result (λ link. link.rel ≡ rel) }
         ensures right { IfSome result (λ link. HasIntervalNumber self.now (end_of right.entry) link.b) }
     {
-        let Some(a) = self.end(left) else {
-            return None;
-        };
-        let Some(b) = self.end(right) else {
-            return None;
-        };
+        let a = self.end(left)?;
+        let b = self.end(right)?;
         Some(DocLink { a, rel, b })
     }
 }

@@ -61,9 +61,7 @@ pub fn resolve<'s>(alloc: Global, typed: &Typed<'s>) -> Result<Document<'s>, Ref
         if at == repeat {
             return Err(RefFault::DuplicateId { place: tag.place() });
         }
-        if let Err(fault) = contents.add(&names, tag) {
-            return Err(fault);
-        }
+        contents.add(&names, tag)?;
     }
     Ok(Document { contents, names })
 }

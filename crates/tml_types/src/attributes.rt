@@ -139,10 +139,7 @@ impl<'s> Attributes<'_, 's> {
         let Some(text) = self.value(name) else {
             return Ok(None);
         };
-        match self.listed(text) {
-            Ok(value) => Ok(Some(value)),
-            Err(fault) => Err(fault),
-        }
+        Ok(Some(self.listed(text)?))
     }
 
     /// The truth that is the value of an attribute, where it is there.

@@ -95,9 +95,7 @@ pub fn type_tags<'s>(alloc: Global, tree: &TagTree<'s>) -> Result<Typed<'s>, Typ
     ensures least { IfErr result (λ e. OfTree tree.now (λ tags. IsAtLeastPlace tags e)) }
 {
     let mut typed = List::new(alloc);
-    if let Err(fault) = type_tag(alloc, tree.root(), &mut typed) {
-        return Err(fault);
-    }
+    type_tag(alloc, tree.root(), &mut typed)?;
     Ok(Typed { tags: typed })
 }
 
@@ -111,13 +109,9 @@ fn type_tag<'s>(
     ensures ok { OnOk result (Adds (elements (tag_node tag.now)) typed.old typed.new) }
     ensures err { IfErr result (λ e. HasFault (elements (tag_node tag.now)) e) }
 {
-    if let Err(fault) = type_one(alloc, tag, typed) {
-        return Err(fault);
-    }
+    type_one(alloc, tag, typed)?;
     for child in &tag.children {
-        if let Err(fault) = type_node(alloc, child, typed) {
-            return Err(fault);
-        }
+        type_node(alloc, child, typed)?;
     }
     Ok(())
 }

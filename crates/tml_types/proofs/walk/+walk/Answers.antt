@@ -1,5 +1,6 @@
 use Rattle.std.proofs.Common.{◌∷◌, [], ◌++◌, refl}
 use Rattle.std.proofs.lemmas.List.Elements.{All-nil}
+use Rattle.std.proofs.lemmas.Result.{err_from_is_err_and}
 use Rattle.tml_tree.specs.View.{node_of}
 use Rattle.tml_tree.specs.Walking.{elements}
 use Rattle.tml_types.specs.Walking.{plain_of}
@@ -7,16 +8,19 @@ use Rattle.tml_types.specs.Rules.{IsSound}
 use Rattle.tml_types.proofs.Walks.{adds_more, fault_of_more, next_child, tag_first}
 use Rattle.tml_types.proofs.walk.+walk.Goals as goal
 
-pub type_tag-returns-in-Err-clause-err : goal.type_tag-returns-in-Err-clause-err
-type_tag-returns-in-Err-clause-err t c = fault_of_more [] _ _ _ c.in-Err.fault (tag_first c.args.tag.now _ refl) (All-nil IsSound) c.in-Err.ensures.err
+pub type_tag-returns-in_err-type_one-clause-err : goal.type_tag-returns-in_err-type_one-clause-err
+type_tag-returns-in_err-type_one-clause-err t c =
+    let p = err_from_is_err_and c.from_residual.result c.from_residual.ensures.1 in
+    rw (p.1, p.2) (fault_of_more [] _ _ _ _ (tag_first c.args.tag.now _ refl) (All-nil IsSound) c.in_err-type_one.ensures.err)
 
 pub type_tag-loop-child-init : goal.type_tag-loop-child-init
-type_tag-loop-child-init t c = (plain_of c.args.tag.now ∷ [], tag_first c.args.tag.now _ c.deref-child-items.ensures.value, c.in_default.ensures.ok)
+type_tag-loop-child-init t c = (plain_of c.args.tag.now ∷ [], tag_first c.args.tag.now _ c.deref-child-items.ensures.value, c.in_ok-type_one.ensures.ok)
 
-pub type_tag-returns-in-Err-type_node-clause-err : goal.type_tag-returns-in-Err-type_node-clause-err
-type_tag-returns-in-Err-type_node-clause-err t c =
+pub type_tag-returns-in_err-type_node-clause-err : goal.type_tag-returns-in_err-type_node-clause-err
+type_tag-returns-in_err-type_node-clause-err t c =
     let at = c.loop-child.invariant in
-    fault_of_more at.0 _ _ _ c.in-Err-type_node.fault (next_child at.0 c.deref-child-items.result.now c.loop-child.child-index c.child-item.result _ c.loop-child-test.true c.child-item.is at.1) at.2.1.sound c.in-Err-type_node.ensures.err
+    let p = err_from_is_err_and c.from_residual-in_err-type_node.result c.from_residual-in_err-type_node.ensures.1 in
+    rw (p.1, p.2) (fault_of_more at.0 _ _ _ _ (next_child at.0 c.deref-child-items.result.now c.loop-child.child-index c.child-item.result _ c.loop-child-test.true c.child-item.is at.1) at.2.1.sound c.in_err-type_node.ensures.err)
 
 pub type_tag-loop-child-preserved : goal.type_tag-loop-child-preserved
 type_tag-loop-child-preserved t c =
@@ -24,5 +28,5 @@ type_tag-loop-child-preserved t c =
     let inside = elements (node_of c.child-item.result) in (
       at.0 ++ inside,
       next_child at.0 c.deref-child-items.result.now c.loop-child.child-index c.child-item.result _ c.loop-child-test.true c.child-item.is at.1,
-      adds_more at.0 inside _ _ _ at.2 c.in_default-type_node.ensures.ok,
+      adds_more at.0 inside _ _ _ at.2 c.in_ok-type_node.ensures.ok,
     )
