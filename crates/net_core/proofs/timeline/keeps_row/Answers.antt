@@ -1,4 +1,4 @@
-use Rattle.std.proofs.Common.{◌*◌, Some, to_z, of_z, w64}
+use Rattle.std.proofs.Common.{Some, to_z, of_z, w64}
 use Rattle.net_core.specs.Ranks.{timeline_of}
 use Rattle.net_core.proofs.PointLaws.{row_goes_on}
 use Rattle.net_core.proofs.timeline.keeps_row.Goals as goal
