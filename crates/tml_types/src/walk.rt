@@ -147,12 +147,11 @@ fn type_one<'s>(
         Ok(true) => return Err(TypeFault::RepeatedAttribute { place }),
         Err(Memory) => return Err(TypeFault::Memory),
     }
-    match typed_tag(tag) {
-        Ok(None) => Ok(()),
-        Ok(Some(value)) => match typed.push(value) {
+    match typed_tag(tag)? {
+        None => Ok(()),
+        Some(value) => match typed.push(value) {
             Ok(()) => Ok(()),
             Err(Memory) => Err(TypeFault::Memory),
         },
-        Err(fault) => Err(fault),
     }
 }
