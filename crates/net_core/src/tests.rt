@@ -197,12 +197,16 @@ fn dates_are_in_the_order_of_their_numbers(rt: HostRuntime) -> Result<(), Fail> 
 }
 
 #[test]
-fn ranks_are_pushed_two_by_two(rt: HostRuntime) -> Result<(), Fail> {
+fn what_is_pushed_stands_last(rt: HostRuntime) -> Result<(), Fail> {
     let mut ranks = Ranks::new(rt.alloc());
     assert_eq!(rt; ranks.intervals(), 0);
     assert_eq!(rt; ranks.push(3, 7), Ok(()));
     assert_eq!(rt; ranks.push(0, 1), Ok(()));
     assert_eq!(rt; ranks.intervals(), 2);
     assert_eq!(rt; ranks.as_slice(), [3, 7, 0, 1].as_slice());
+    let mut list: List<Rel> = List::new(rt.alloc());
+    assert_eq!(rt; list.push(Rel::During), Ok(()));
+    assert_eq!(rt; list.push(Rel::Before), Ok(()));
+    assert_eq!(rt; list.as_slice(), [Rel::During, Rel::Before].as_slice());
     Ok(())
 }
