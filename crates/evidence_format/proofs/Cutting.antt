@@ -5,7 +5,7 @@ use Rattle.evidence_format.specs.Lines.{with_byte, lines_of}
 use Rattle.evidence_format.specs.Words.{is_not}
 
 -- how many bytes the first line has
-abbrev pub first_len : List ℕ → ℕ
+abbrev first_len : List ℕ → ℕ
 first_len [] = 0
 first_len (b ∷ bytes) = cond (eqb b 10) 1 (1 + first_len bytes)
 

@@ -1,5 +1,5 @@
 -- Digits without a leading zero are what the number that they write prints.
-use Rattle.std.proofs.Common.{◌≡◌, ℕ, ◌+◌, ◌*◌, ◌^◌, ◌<◌, ◌≤◌, suc, true, false, cond, eqb, ltb, not, ◌&&◌, ◌||◌, if◌then◌else◌, eq-eqb, List, [], ◌∷◌, length, get_or, inl, inr, Option, Some, None, refl, sym, ap, subst, ◌∙◌, arith}
+use Rattle.std.proofs.Common.{◌≡◌, ℕ, ◌+◌, ◌*◌, ◌^◌, ◌<◌, ◌≤◌, suc, true, false, cond, eqb, ltb, not, ◌&&◌, ◌||◌, if◌then◌else◌, eq-eqb, List, [], ◌∷◌, length, get_or, inl, inr, Some, None, refl, sym, ap, subst, ◌∙◌, arith}
 use Rattle.std.specs.Prelude.{decimal}
 use Rattle.std.specs.Char.{digit_value}
 use Rattle.std.specs.Str.Parse.{AllDigits, digits_value, digits_value_after}
@@ -7,8 +7,8 @@ use Rattle.std.proofs.lemmas.Bool.{cases_lt, eqb-true, ltb-true, lt-ltb}
 use Rattle.std.proofs.lemmas.Bool.Decides.{nat_tests}
 use Rattle.std.proofs.lemmas.Fmt.{decimal_is_IsNumeral, decimal-digits_value, decimal_digit, decimal_nonempty, first_decimal}
 use Rattle.std.proofs.lemmas.Str.Parse.{numerals_by_value, tells_digits}
-use Rattle.evidence_format.specs.Words.{◌>>=◌, number, begins_well, digit_after, digits_after}
-use Rattle.evidence_format.proofs.Numbers.{both, guard, number_again, number_none}
+use Rattle.evidence_format.specs.Words.{number, begins_well, digit_after, digits_after}
+use Rattle.evidence_format.proofs.Numbers.{both, guard, some_bind, number_again, number_none}
 
 -- digits after a number write no less
 value_rises : (n : ℕ) (bytes : List ℕ) → n ≤ digits_value_after 10 n bytes
@@ -29,17 +29,12 @@ digit_again : (n b : ℕ) → digit_value b < 10 → n * 10 + digit_value b < 2 
 unfolding digit_after
 digit_again n b digit small = rw (lt-ltb (digit_value b) 10 digit, lt-ltb (n * 10 + digit_value b) (2 ^ 32) small) refl
 
--- where two steps give a number, so do both
-both_some : (o : Option ℕ) (f : ℕ → Option ℕ) (n : ℕ) → (o >>= f) ≡ Some n → (m : ℕ) × (o ≡ Some m) × (f m ≡ Some n)
-both_some (Some m) f n e = (m, refl, e)
-both_some None f n e = absurd cc
-
 -- digits that are read are digits, and write the number
 digits_found : (m : ℕ) (bytes : List ℕ) (n : ℕ) → m < 2 ^ 32 → digits_after m bytes ≡ Some n → AllDigits 10 bytes × (digits_value_after 10 m bytes ≡ n) × (n < 2 ^ 32)
 unfolding digits_after
 digits_found m [] n small e = let same : m ≡ n = cc in (tt, same, subst (λ (k : ℕ). k < 2 ^ 32) same small)
 digits_found m (b ∷ bytes) n small e =
-    let s = both_some (digit_after m b) (λ k. digits_after k bytes) n e in
+    let s = some_bind (digit_after m b) (λ k. digits_after k bytes) n e in
     let d = digit_found m b s.0 s.1 in
     let r = digits_found s.0 bytes n d.2 s.2 in
     ((d.0, r.0), ap (λ (k : ℕ). digits_value_after 10 k bytes) d.1 ∙ r.1, r.2)

@@ -1,12 +1,12 @@
 -- A word is the decimal of one number below 2 ^ 32, or of none.
-use Rattle.std.proofs.Common.{◌≡◌, ℕ, ◌^◌, ◌<◌, Bool, true, false, cond, ltb, ◌&&◌, List, Some, None, refl, subst, arith}
+use Rattle.std.proofs.Common.{◌≡◌, ℕ, ◌^◌, ◌<◌, Bool, true, false, cond, ltb, ◌&&◌, List, Option, Some, None, refl, subst, arith}
 use Rattle.std.specs.Prelude.{decimal}
 use Rattle.std.specs.Str.{bytes_eq}
 use Rattle.std.specs.Str.Parse.{digits_value}
 use Rattle.std.proofs.lemmas.Bool.{ltb-true, lt-ltb}
 use Rattle.std.proofs.lemmas.Fmt.{decimal_is_IsNumeral}
 use Rattle.std.proofs.lemmas.Slice.Eq.{bytes_eq-Decides}
-use Rattle.evidence_format.specs.Words.{number}
+use Rattle.evidence_format.specs.Words.{◌>>=◌, number}
 
 -- both of two tests held
 pub both : (a b : Bool) → (a && b) ≡ true → (a ≡ true) × (b ≡ true)
@@ -18,6 +18,11 @@ both false b e = absurd cc
 pub guard : {A : Type 0} (t : Bool) (x y : A) → cond t (Some x) None ≡ Some y → (t ≡ true) × (x ≡ y)
 guard true x y e = (refl, cc)
 guard false x y e = absurd cc
+
+-- where two steps give a value, each does
+pub some_bind : {A B : Type 0} (o : Option A) (f : A → Option B) (y : B) → (o >>= f) ≡ Some y → (x : A) × (o ≡ Some x) × (f x ≡ Some y)
+some_bind (Some x) f y e = (x, refl, e)
+some_bind None f y e = absurd cc
 
 -- a number that is read is what the word writes
 pub number_found : (word : List ℕ) (n : ℕ) → number word ≡ Some n → (decimal n ≡ word) × (n < 2 ^ 32)

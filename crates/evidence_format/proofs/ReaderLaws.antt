@@ -15,7 +15,7 @@ use Rattle.evidence_format.proofs.Exact.{Exact, exact_line, exact_then, exact_gi
 use Rattle.evidence_format.proofs.WordLaws.{IsForm, one_form, two_form, same_form, pair_line}
 
 -- the lines of a value that fits
-abbrev pub Has : {A : Type 0} → (A → Type 0) → (A → Lines) → A → Lines → Type 0
+abbrev Has : {A : Type 0} → (A → Type 0) → (A → Lines) → A → Lines → Type 0
 Has Fits lines a ls = Fits a × (ls ≡ lines a)
 
 -- a line of a form
@@ -68,7 +68,7 @@ exact_many {A} Fits lines p P (suc n) =
 -- ---- a count, and then so many lines
 
 -- the values of a list of which there are not too many
-abbrev pub AreCounted : {A : Type 0} → (A → Type 0) → List A → Type 0
+abbrev AreCounted : {A : Type 0} → (A → Type 0) → List A → Type 0
 AreCounted Fits vs = All Fits vs × IsNumber (length vs)
 
 -- a line that says how many there are, and then a line for each

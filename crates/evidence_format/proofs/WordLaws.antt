@@ -1,27 +1,23 @@
 -- What is read of a line is what stands there, and what stands there is read.
-use Rattle.std.proofs.Common.{◌≡◌, ℕ, ◌+◌, ◌%◌, ◌<◌, Bool, true, false, cond, not, eqb, ◌&&◌, List, [], ◌∷◌, ◌++◌, length, take, drop, Option, Some, None, refl, sym, ap, subst, ◌∙◌, append_assoc, one-add, arith}
+use Rattle.std.proofs.Common.{◌≡◌, ℕ, ◌+◌, ◌%◌, ◌<◌, Bool, true, false, cond, not, eqb, ◌&&◌, List, [], ◌∷◌, ◌++◌, length, take, drop, Option, Some, refl, sym, ap, subst, ◌∙◌, append_assoc, one-add, arith}
 use Rattle.std.specs.Prelude.{decimal}
 use Rattle.std.specs.List.{prefix_len, list_all}
 use Rattle.std.specs.Str.{bytes_eq}
 use Rattle.std.proofs.lemmas.Bool.{eqb-true}
 use Rattle.std.proofs.lemmas.Bool.Decides.{Decides-eqb}
 use Rattle.std.proofs.lemmas.List.{take_at, drop_at, take-append-drop}
+use Rattle.std.proofs.lemmas.List.Folds.{list_all-append}
 use Rattle.std.proofs.lemmas.Fmt.{decimal_by_steps}
 use Rattle.std.proofs.lemmas.Slice.Eq.{starts_is, bytes_eq-Decides}
 use Rattle.evidence_format.specs.Words.{◌>>=◌, is_not, number, number_to, after, after_one, alone, one_of, two_of, same_of}
 use Rattle.evidence_format.specs.Evidence.{IsNumber, IsPair, one_number, two_numbers}
-use Rattle.evidence_format.proofs.Numbers.{guard, number_found, number_again}
+use Rattle.evidence_format.proofs.Numbers.{guard, some_bind, number_found, number_again}
 
 -- ---- up to a byte
 
 -- a test that all of two lists pass
 pub all_append : (p : ℕ → Bool) (xs ys : List ℕ) → list_all p xs ≡ true → list_all p ys ≡ true → list_all p (xs ++ ys) ≡ true
-all_append p [] ys h k = k
-all_append p (x ∷ xs) ys h k =
-    elim (p x) as (λ b. (b && list_all p xs) ≡ true → (b && list_all p (xs ++ ys)) ≡ true) [
-      | true ↦ λ e. all_append p xs ys e k
-      | false ↦ λ e. absurd cc
-    ] h
+all_append p xs ys h k = rw (list_all-append p xs ys, h, k) refl
 
 -- a larger byte differs
 differs : (stop b : ℕ) → stop < b → is_not stop b ≡ true
@@ -57,11 +53,6 @@ stops : (stop : ℕ) → is_not stop stop ≡ false
 stops stop = rw ((Decides-eqb stop stop).1 refl) refl
 
 -- ---- the steps
-
--- where two steps give a value, each does
-some_bind : {A B : Type 0} (o : Option A) (f : A → Option B) (y : B) → (o >>= f) ≡ Some y → (x : A) × (o ≡ Some x) × (f x ≡ Some y)
-some_bind (Some x) f y e = (x, refl, e)
-some_bind None f y e = absurd cc
 
 -- a value that is there
 abbrev one : {A : Type 0} → A → Option A
