@@ -1,0 +1,4 @@
+pub mod Cells
+pub mod Tables
+pub mod Timelines
+pub mod Flat

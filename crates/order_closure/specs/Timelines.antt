@@ -1,0 +1,25 @@
+-- The timelines that keep a table.
+use Rattle.std.specs.Prelude.{◌≡◌, ℕ, zero, suc, ◌+◌, ◌<◌, ◌≤◌, Bool, true, false, not, if◌then◌else◌}
+use Rattle.net_core.specs.Atoms.{Satisfies}
+use Rattle.net_core.specs.Relations.{Timeline}
+use Rattle.net_core.specs.declared.atom.Atom.{Atom}
+use Rattle.order_closure.specs.Cells.{order, strength}
+use Rattle.order_closure.specs.Tables.{Keeps, IsClosed, Table, cell_at}
+use Rattle.order_closure.specs.declared.cell.Cell.{Cell}
+use Rattle.order_closure.specs.declared.cell.Cell.TheVariants.{Strict}
+
+-- the atom that is true where this one is false
+abbrev pub opposite : Atom → Atom
+opposite atom = record { from = atom.to; to = atom.from; strict = not atom.strict }
+
+-- The central law: in a closed table, where a cell is weaker than an atom some timeline keeps every cell and makes the atom false.
+abbrev pub WeakerCellsCanFail : Type 0
+WeakerCellsCanFail =
+    (table : Table) (atom : Atom) → IsClosed table → atom.from < table.points → atom.to < table.points
+    → strength (cell_at table atom.from atom.to) < strength (order atom.strict)
+    → (t : Timeline) × Keeps table t × (Satisfies t atom → ⊥)
+
+-- a timeline has a property, and at each point below n it is at most every timeline that has it
+pub record IsLeast (n : ℕ) (P : Timeline → Type 0) (t : Timeline) : Type 0 where
+  pub holds : P t
+  pub least : (u : Timeline) → P u → (p : ℕ) → p < n → t p ≤ u p

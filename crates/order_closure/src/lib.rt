@@ -1,0 +1,13 @@
+//! Tables of the orders that atoms entail.
+#![tactic(auto)]
+
+mod cell;
+mod laws;
+mod rows;
+mod table;
+#[cfg(test)]
+mod tests;
+
+pub use cell::Cell;
+pub use laws::weaker_cells_can_fail;
+pub use table::{Closed, WouldClash};
