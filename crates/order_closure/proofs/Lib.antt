@@ -1,0 +1,5 @@
+pub mod Joining
+pub mod Raising
+pub mod Counting
+pub mod Ranking
+pub mod Central
