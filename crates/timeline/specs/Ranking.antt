@@ -1,20 +1,11 @@
 -- Ranks of the points of a table.
-use Rattle.std.specs.Prelude.{◌≡◌, ℕ, zero, suc, ◌+◌, ◌<◌, ◌≤◌, Bool, true, false, if◌then◌else◌, List, slice_index}
+use Rattle.std.specs.Prelude.{◌≡◌, ℕ, ◌<◌, ◌≤◌, List, length, slice_index}
+use Rattle.std.specs.List.{All, Contains}
+use Rattle.std.specs.List.Sorted.{IsNonDecreasingBy}
+use Rattle.order_closure.specs.Counting.{before_count}
 use Rattle.order_closure.specs.declared.cell.Cell.{Cell}
 use Rattle.order_closure.specs.declared.cell.Cell.TheVariants.{Strict}
-
-abbrev pub is_strict : Cell → Bool
-is_strict Strict = true
-is_strict cell = false
-
--- at how many numbers below n a test holds
-unfoldable pub count : (ℕ → Bool) → ℕ → ℕ
-count test zero = 0
-count test (suc n) = if test n then 1 + count test n else count test n
-
--- how many points are before point p
-abbrev pub before_count : ℕ → (ℕ → ℕ → Cell) → ℕ → ℕ
-before_count n cell p = count (λ r. is_strict (cell r p)) n
+use Rattle.timeline.specs.declared.ranking.Counted.{Counted}
 
 -- a rank is the least number above the ranks of the points before p
 pub record IsRankOf (n : ℕ) (cell : ℕ → ℕ → Cell) (ranks : List ℕ) (p rank : ℕ) : Type 0 where
@@ -28,3 +19,20 @@ AreRanks n cell ranks = (p : ℕ) → p < n → IsRankOf n cell ranks p (slice_i
 -- no rank is above the number of points before
 abbrev pub AreSmall : ℕ → (ℕ → ℕ → Cell) → List ℕ → Type 0
 AreSmall n cell ranks = (p : ℕ) → p < n → slice_index ranks p ≤ before_count n cell p
+
+-- a point, and how many points are before it
+abbrev pub counted_at : ℕ → (ℕ → ℕ → Cell) → ℕ → Counted
+counted_at n cell p = record { before = before_count n cell p; point = p }
+
+-- a point of the table, with how many points are before it
+abbrev pub IsCounted : ℕ → (ℕ → ℕ → Cell) → Counted → Type 0
+IsCounted n cell turn = (turn.point < n) × (turn.before ≡ before_count n cell turn.point)
+
+-- each point stands in the list, and nothing else
+pub record AreCounted (n : ℕ) (cell : ℕ → ℕ → Cell) (turns : List Counted) : Type 0 where
+  pub right : All (IsCounted n cell) turns
+  pub whole : (p : ℕ) → p < n → Contains turns (counted_at n cell p)
+
+-- those with the fewest points before them come first
+abbrev pub AreInTurn : List Counted → Type 0
+AreInTurn turns = IsNonDecreasingBy (λ (turn : Counted). turn.before) turns

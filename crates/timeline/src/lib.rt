@@ -1,9 +1,9 @@
 //! The least timelines of a table of orders.
 #![tactic(auto)]
 
-mod least;
 mod ranking;
 #[cfg(test)]
 mod tests;
+mod timelines;
 
-pub use least::{counter, least};
+pub use timelines::{counter, least};

@@ -3,7 +3,7 @@ ghost use Rattle.net_core.specs.Atoms.{Satisfies};
 ghost use Rattle.net_core.specs.Ranks.{timeline_of};
 ghost use Rattle.order_closure.specs.Cells.{order, strength};
 ghost use Rattle.order_closure.specs.Tables.{Keeps, cell_at};
-ghost use Rattle.order_closure.specs.Timelines as timelines;
+ghost use Rattle.order_closure.specs.Timelines as spec;
 ghost use Rattle.order_closure.specs.Timelines.{IsLeast};
 ghost use Rattle.std.specs.Prelude.{IfOk, length, slice_index, ℕ, ◌%◌, ◌<◌, ◌≡◌};
 
@@ -51,7 +51,7 @@ pub fn counter(alloc: Global, closed: &Closed, atom: Atom) -> Result<Ranks, Memo
 
 /// The atom that is true where this one is false.
 fn opposite(atom: Atom) -> Atom
-    ensures { result ≡ timelines.opposite atom }
+    ensures { result ≡ spec.opposite atom }
 {
     Atom {
         from: atom.to,

@@ -1,0 +1,60 @@
+-- The ranks of a table are its least timeline.
+use Rattle.std.proofs.Common.{◌≡◌, ◌↔◌, ℕ, ◌<◌, Bool, true, false, not, List, get_or, sym, subst, inl, inr}
+use Rattle.std.proofs.lemmas.Bool.{cases_lt}
+use Rattle.net_core.specs.Atoms.{IsInOrder, Satisfies}
+use Rattle.net_core.specs.Ranks.{timeline_of}
+use Rattle.net_core.specs.Relations.{Timeline}
+use Rattle.net_core.specs.declared.atom.Atom.{Atom}
+use Rattle.order_closure.specs.Cells.{strength, order}
+use Rattle.order_closure.specs.Tables.{Table, Keeps, AreClosed, AreKept, Denies}
+use Rattle.order_closure.specs.Timelines.{IsLeast, opposite}
+use Rattle.order_closure.specs.declared.cell.Cell.{Cell}
+use Rattle.order_closure.proofs.Ranking.{ranks_kept, ranks_least, ranks_small, opposite_fits, not_both}
+use Rattle.timeline.specs.Ranking.{AreRanks}
+
+module _ (n : ℕ) (cell : ℕ → ℕ → Cell) (t : List ℕ) (closed : AreClosed n cell) (ranks : AreRanks n cell t) where
+  pub least_ranks : IsLeast n (AreKept n cell) (timeline_of t)
+  least_ranks = record {
+    holds = ranks_kept n cell closed (timeline_of t) (λ r p lr lp. (ranks p lp).above r lr) (λ p m lp. (ranks p lp).least m);
+    least = ranks_least n cell closed (timeline_of t) (λ r p lr lp. (ranks p lp).above r lr) (λ p m lp. (ranks p lp).least m);
+  }
+
+  pub small_ranks : (p : ℕ) → p < n → get_or t p 0 < n
+  small_ranks = ranks_small n cell closed (timeline_of t) (λ r p lr lp. (ranks p lp).above r lr) (λ p m lp. (ranks p lp).least m)
+
+-- the least timeline of two properties that say the same
+same_least : (n : ℕ) (P Q : Timeline → Type 0) (t : Timeline) → ((u : Timeline) → P u ↔ Q u) → IsLeast n P t → IsLeast n Q t
+same_least n P Q t same h = record {
+  holds = (same t).0 h.holds;
+  least = λ u q. h.least u ((same u).1 q);
+}
+
+-- where an order does not hold, the opposite one holds the other way round
+not_is : (strict : Bool) (a b : ℕ) → ¬ IsInOrder strict a b → IsInOrder (not strict) b a
+not_is true a b h = elim (cases_lt a b) [
+  | inl lt ↦ absurd (h lt)
+  | inr le ↦ le
+]
+not_is false a b h = elim (cases_lt b a) [
+  | inl lt ↦ lt
+  | inr le ↦ absurd (h le)
+]
+
+-- the opposite atom is true where the atom is false
+opposite_is : (atom : Atom) (t : Timeline) → Satisfies t (opposite atom) ↔ (Satisfies t atom → ⊥)
+opposite_is atom t = (not_both atom.strict _ _, not_is atom.strict _ _)
+
+-- the table with the opposite atom is kept by the timelines that keep the table and make the atom false
+pub counter_least : (old new : Table) (atom other : Atom) (t : Timeline) → other ≡ opposite atom → new.points ≡ old.points → ((u : Timeline) → Keeps new u ↔ (Keeps old u × Satisfies u other))
+    → IsLeast new.points (Keeps new) t → IsLeast old.points (λ u. Keeps old u × (Satisfies u atom → ⊥)) t
+counter_least old new atom other t is points kept least =
+    let same : (u : Timeline) → Satisfies u other ↔ (Satisfies u atom → ⊥) = subst (λ (a : Atom). (u : Timeline) → Satisfies u a ↔ (Satisfies u atom → ⊥)) (sym is) (opposite_is atom) in
+    subst (λ (n : ℕ). IsLeast n (λ u. Keeps old u × (Satisfies u atom → ⊥)) t) points
+    (same_least new.points (Keeps new) (λ u. Keeps old u × (Satisfies u atom → ⊥)) t (λ u. (
+      λ k. let both = (kept u).0 k in (both.0, (same u).0 both.1),
+      λ both. (kept u).1 (both.0, (same u).1 both.1),
+    )) least)
+
+-- where a cell is weaker than an atom, it does not deny the opposite one
+pub not_denies_opposite : (cell : Cell) (atom other : Atom) → other ≡ opposite atom → strength cell < strength (order atom.strict) → ¬ Denies cell other.strict
+not_denies_opposite cell atom other is weaker = subst (λ (a : Atom). ¬ Denies cell a.strict) (sym is) (opposite_fits cell atom.strict weaker)
