@@ -1,0 +1,4 @@
+pub mod Joining
+pub mod Raising
+pub mod Kept
+pub mod Tables
