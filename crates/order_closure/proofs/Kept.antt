@@ -1,5 +1,6 @@
 -- A table raised row by row: the row that is read stays, and a row in which the way says no more than its cell does stays too.
-use Rattle.std.proofs.Common.{◌≡◌, ◌≢◌, ℕ, ◌+◌, ◌<◌, ◌≤◌, refl, subst, sym, ◌∙◌, arith, inl, inr}
+use Rattle.std.proofs.Common.{◌≡◌, ◌≢◌, ◌↔◌, ℕ, ◌+◌, ◌<◌, ◌≤◌, Bool, true, false, refl, subst, sym, ◌∙◌, arith, inl, inr}
+use Rattle.std.specs.Prelude.{IsTrue}
 use Rattle.std.proofs.lemmas.Bool.{cases_lt}
 use Rattle.order_closure.specs.declared.cell.Cell.{Cell}
 use Rattle.order_closure.specs.Cells.{strength, stronger, joined}
@@ -66,3 +67,10 @@ module _ (n : ℕ) (cell : ℕ → ℕ → Cell) (closed : AreClosed n cell) (fr
 -- no row is raised yet
 pub none_raised : (n : ℕ) (cell : ℕ → ℕ → Cell) (from to : ℕ) (order : Cell) → AreRaisedBelow n cell from to order 0 cell
 none_raised n cell from to order = record { done = λ r j lr _ _. absurd (omega arith); others = λ r j _ _ _. refl; over = λ j _. refl }
+
+-- a test of a smaller number that says no
+pub no_smaller : (r : Bool) (a b : ℕ) → (IsTrue r ↔ (a < b)) → r ≡ false → b ≤ a
+no_smaller r a b decides is = elim (cases_lt a b) [
+  | inl lt ↦ let both = decides.1 lt in let clash : true ≡ false = sym both ∙ is in cc
+  | inr le ↦ le
+]
