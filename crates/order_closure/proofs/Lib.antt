@@ -1,5 +1,9 @@
 pub mod Joining
 pub mod Raising
-pub mod Kept
+pub mod Counting
+pub mod Ranking
+pub mod Central
 pub mod Tables
+pub mod Kept
 pub mod Parts
+pub mod Adding

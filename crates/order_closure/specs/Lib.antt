@@ -1,4 +1,5 @@
 pub mod Cells
 pub mod Tables
+pub mod Counting
 pub mod Timelines
 pub mod Flat
