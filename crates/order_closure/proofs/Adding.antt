@@ -12,7 +12,7 @@ use Rattle.order_closure.specs.Cells.{Says, order, stronger, joined, strength}
 use Rattle.order_closure.specs.Flat.{flat_at}
 use Rattle.order_closure.specs.Tables.{Table, table_of, cell_at, new_cell, AreClosed, IsClosed, AreInRange, Stands, Denies, way, AreKept, Keeps}
 use Rattle.order_closure.proofs.Raising.{raised_closed, raised_kept}
-use Rattle.order_closure.proofs.Tables.{cell_at-table_of, table_of-same, table_of-closed, same_closed, new_same, new_other}
+use Rattle.order_closure.proofs.Tables.{cell_at-table_of, table_of-same, table_of-closed, new_same, new_other}
 use Rattle.order_closure.proofs.Central.{stands_from_matches, matches_from_stands, more_atoms}
 
 -- a cell of the table with an atom more
@@ -74,7 +74,3 @@ new_all_kept n t i j li lj = rw (cell_at-table_of n new_cell i j li lj) (new_kep
 -- a new table stands for no atoms
 pub new_stands : (n : ℕ) → Stands (table_of n new_cell) []
 new_stands n = stands_from_matches (table_of n new_cell) [] (table_of-closed n new_cell (new_closed n)) (λ t. (λ _. λ k d lt. absurd (omega arith), λ _. new_all_kept n t))
-
--- the flat form of a new table is closed
-pub reflected_closed : (n : ℕ) (cell : ℕ → ℕ → Cell) → ((i j : ℕ) → i < n → j < n → cell i j ≡ new_cell i j) → AreClosed n cell
-reflected_closed n cell is = same_closed n new_cell cell (λ i j li lj. sym (is i j li lj)) (new_closed n)

@@ -28,7 +28,7 @@ table_of-same n f g h = ap (λ (rows : List (List Cell)). record { points = n; r
     (fill_by_all (row g n) (map (row f n) (range_with_len 0 n)) n [] (length-map-range_with_len (row f n) 0 n) (λ i li. get_or-map-range_with_len (row f n) 0 n i i [] li (omega arith) ∙ row_same n f g i (λ j. h i j li)))
 
 -- functions that agree at the points are closed alike
-pub same_closed : (n : ℕ) (f g : ℕ → ℕ → Cell) → ((i j : ℕ) → i < n → j < n → f i j ≡ g i j) → AreClosed n f → AreClosed n g
+same_closed : (n : ℕ) (f g : ℕ → ℕ → Cell) → ((i j : ℕ) → i < n → j < n → f i j ≡ g i j) → AreClosed n f → AreClosed n g
 same_closed n f g same closed = record {
   itself = λ i li. sym (same i i li li) ∙ closed.itself i li;
   through = λ i j k li lj lk. rw (← same i j li lj, ← same j k lj lk, ← same i k li lk) (closed.through i j k li lj lk);
