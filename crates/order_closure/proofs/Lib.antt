@@ -3,3 +3,7 @@ pub mod Raising
 pub mod Counting
 pub mod Ranking
 pub mod Central
+pub mod Tables
+pub mod Kept
+pub mod Parts
+pub mod Adding

@@ -1,0 +1,76 @@
+-- A table raised row by row: the row that is read stays, and a row in which the way says no more than its cell does stays too.
+use Rattle.std.proofs.Common.{◌≡◌, ◌≢◌, ◌↔◌, ℕ, ◌+◌, ◌<◌, ◌≤◌, Bool, true, false, refl, subst, sym, ◌∙◌, arith, inl, inr}
+use Rattle.std.specs.Prelude.{IsTrue}
+use Rattle.std.proofs.lemmas.Bool.{cases_lt}
+use Rattle.order_closure.specs.declared.cell.Cell.{Cell}
+use Rattle.order_closure.specs.Cells.{strength, stronger, joined}
+use Rattle.order_closure.specs.Tables.{AreClosed}
+use Rattle.order_closure.proofs.Joining.{joined-mono, stronger_stays}
+use Rattle.order_closure.proofs.Raising.{back_adds_nothing, trans}
+
+-- the cell raised by the way over this order
+abbrev pub raised : (ℕ → ℕ → Cell) → ℕ → ℕ → Cell → ℕ → ℕ → Cell
+raised cell from to order i j = stronger (cell i j) (joined (joined (cell i from) order) (cell to j))
+
+-- of a table, the rows below i are raised and the others are as they were, with the row that is read
+pub record AreRaisedBelow (n : ℕ) (cell : ℕ → ℕ → Cell) (from to : ℕ) (order : Cell) (i : ℕ) (now : ℕ → ℕ → Cell) : Type 0 where
+  pub done : (r j : ℕ) → r < i → r < n → j < n → now r j ≡ raised cell from to order r j
+  pub others : (r j : ℕ) → i ≤ r → r < n → j < n → now r j ≡ cell r j
+  pub over : (j : ℕ) → j < n → now to j ≡ cell to j
+
+module _ (n : ℕ) (cell : ℕ → ℕ → Cell) (closed : AreClosed n cell) (from to : ℕ) (order : Cell) (f : from < n) (t : to < n) (fits : strength (joined (cell to from) order) ≤ 1) where
+  -- where the way says no more than the cell, nothing new follows
+  nothing_new : (i j : ℕ) → i < n → j < n → strength (joined (cell i from) order) ≤ strength (cell i to) → raised cell from to order i j ≡ cell i j
+  nothing_new i j li lj le =
+      let way = joined (cell i from) order in
+      stronger_stays (cell i j) (joined way (cell to j))
+      (trans (joined way (cell to j)) (joined (cell i to) (cell to j)) (cell i j) (joined-mono way (cell i to) (cell to j) (cell to j) le (omega arith)) (closed.through i to j li t lj))
+
+  -- a row in which the way says more is not the row that is read
+  pub apart : (i : ℕ) → strength (cell i to) < strength (joined (cell i from) order) → i ≢ to
+  apart i more e =
+      let less : strength (cell to to) < strength (joined (cell to from) order) = subst (λ (r : ℕ). strength (cell r to) < strength (joined (cell r from) order)) e more in
+      let one : 1 < strength (joined (cell to from) order) = subst (λ (x : Cell). strength x < strength (joined (cell to from) order)) (closed.itself to t) less in
+      omega arith
+
+  module _ (i : ℕ) (now : ℕ → ℕ → Cell) (li : i < n) (so_far : AreRaisedBelow n cell from to order i now) where
+    -- the way of a row that is not yet raised
+    pub way_same : joined (now i from) order ≡ joined (cell i from) order
+    way_same = λ k. joined (so_far.others i from (omega arith) li f k) order
+
+    -- a row that stays
+    pub one_skipped : strength (joined (now i from) order) ≤ strength (now i to) → AreRaisedBelow n cell from to order (i + 1) now
+    one_skipped le =
+        let less : strength (joined (cell i from) order) ≤ strength (cell i to) = rw (← so_far.others i from (omega arith) li f, ← so_far.others i to (omega arith) li t) le in
+        record {
+          done = λ r j lr in_n lj. elim (cases_lt r i) [
+            | inl before ↦ so_far.done r j before in_n lj
+            | inr at ↦ let e : r ≡ i = omega arith in so_far.others r j at in_n lj ∙ sym (nothing_new r j in_n lj (subst (λ (m : ℕ). strength (joined (cell m from) order) ≤ strength (cell m to)) (sym e) less))
+          ];
+          others = λ r j lr in_n lj. so_far.others r j (omega arith) in_n lj;
+          over = so_far.over;
+        }
+
+    -- a row that is raised
+    pub one_raised : (new : ℕ → ℕ → Cell) → i ≢ to → ((j : ℕ) → j < n → new i j ≡ stronger (now i j) (joined (joined (now i from) order) (now to j)))
+        → ((r j : ℕ) → r < n → j < n → r ≢ i → new r j ≡ now r j) → AreRaisedBelow n cell from to order (i + 1) new
+    one_raised new differ here there = record {
+      done = λ r j lr in_n lj. elim (cases_lt r i) [
+        | inl before ↦ there r j in_n lj (omega arith) ∙ so_far.done r j before in_n lj
+        | inr at ↦ let e : r ≡ i = omega arith in subst (λ (m : ℕ). new m j ≡ raised cell from to order m j) (sym e)
+            (here j lj ∙ (λ k. stronger (so_far.others i j (omega arith) li lj k) (joined (way_same k) (so_far.over j lj k))))
+      ];
+      others = λ r j lr in_n lj. there r j in_n lj (omega arith) ∙ so_far.others r j (omega arith) in_n lj;
+      over = λ j lj. there to j t lj (λ e. differ (sym e)) ∙ so_far.over j lj;
+    }
+
+-- no row is raised yet
+pub none_raised : (n : ℕ) (cell : ℕ → ℕ → Cell) (from to : ℕ) (order : Cell) → AreRaisedBelow n cell from to order 0 cell
+none_raised n cell from to order = record { done = λ r j lr _ _. absurd (omega arith); others = λ r j _ _ _. refl; over = λ j _. refl }
+
+-- a test of a smaller number that says no
+pub no_smaller : (r : Bool) (a b : ℕ) → (IsTrue r ↔ (a < b)) → r ≡ false → b ≤ a
+no_smaller r a b decides is = elim (cases_lt a b) [
+  | inl lt ↦ let both = decides.1 lt in let clash : true ≡ false = sym both ∙ is in cc
+  | inr le ↦ le
+]
