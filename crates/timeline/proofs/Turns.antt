@@ -38,7 +38,7 @@ rank_not n cell t p rank not_before h = record {
 pub counted_more : (n k : ℕ) (cell : ℕ → ℕ → Cell) (turns : List Counted) → k < n
     → All (IsCounted n cell) turns → ((p : ℕ) → p < k → Contains turns (counted_at n cell p))
     → All (IsCounted n cell) (turns ++ counted_at n cell k ∷ []) × ((p : ℕ) → p < k + 1 → Contains (turns ++ counted_at n cell k ∷ []) (counted_at n cell p))
-counted_more n k cell turns lt right whole = 
+counted_more n k cell turns lt right whole =
     let this : IsCounted n cell (counted_at n cell k) = (lt, refl) in (
       All-push (IsCounted n cell) turns (counted_at n cell k) right this,
       below_more (λ (p : ℕ). Contains (turns ++ counted_at n cell k ∷ []) (counted_at n cell p)) k (λ p below. Contains-append_left turns (counted_at n cell k ∷ []) (counted_at n cell p) (whole p below)) (Contains-push turns (counted_at n cell k)),

@@ -5,11 +5,10 @@ use Rattle.net_core.specs.Atoms.{IsInOrder, Satisfies}
 use Rattle.net_core.specs.Ranks.{timeline_of}
 use Rattle.net_core.specs.Relations.{Timeline}
 use Rattle.net_core.specs.declared.atom.Atom.{Atom}
-use Rattle.order_closure.specs.Cells.{strength, order}
-use Rattle.order_closure.specs.Tables.{Table, Keeps, AreClosed, AreKept, Denies}
+use Rattle.order_closure.specs.Tables.{Table, Keeps, AreClosed, AreKept}
 use Rattle.order_closure.specs.Timelines.{IsLeast, opposite}
 use Rattle.order_closure.specs.declared.cell.Cell.{Cell}
-use Rattle.order_closure.proofs.Ranking.{ranks_kept, ranks_least, ranks_small, opposite_fits, not_both}
+use Rattle.order_closure.proofs.Ranking.{ranks_kept, ranks_least, ranks_small, not_both}
 use Rattle.timeline.specs.Ranking.{AreRanks}
 
 module _ (n : ℕ) (cell : ℕ → ℕ → Cell) (t : List ℕ) (closed : AreClosed n cell) (ranks : AreRanks n cell t) where
@@ -54,7 +53,3 @@ counter_least old new atom other t is points kept least =
       λ k. let both = (kept u).0 k in (both.0, (same u).0 both.1),
       λ both. (kept u).1 (both.0, (same u).1 both.1),
     )) least)
-
--- where a cell is weaker than an atom, it does not deny the opposite one
-pub not_denies_opposite : (cell : Cell) (atom other : Atom) → other ≡ opposite atom → strength cell < strength (order atom.strict) → ¬ Denies cell other.strict
-not_denies_opposite cell atom other is weaker = subst (λ (a : Atom). ¬ Denies cell a.strict) (sym is) (opposite_fits cell atom.strict weaker)
