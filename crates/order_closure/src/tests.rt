@@ -5,7 +5,9 @@ use std::alloc::AllocError;
 use std::test::Fail;
 
 const F: Cell = Cell::Free;
+
 const W: Cell = Cell::Weak;
+
 const S: Cell = Cell::Strict;
 
 /// The cells of a table, row after row.
@@ -30,18 +32,37 @@ fn atoms_are_added_with_what_follows(rt: HostRuntime) -> Result<(), Fail> {
     let cases: [(Atom, Result<(), WouldClash>, [Cell; 9]); 9] = [
         (atom(0, 2, true), Ok(()), [W, F, S, F, W, F, F, F, W]),
         (atom(0, 0, false), Ok(()), [W, F, S, F, W, F, F, F, W]),
-        (atom(2, 2, true), Err(WouldClash), [W, F, S, F, W, F, F, F, W]),
-        (atom(2, 0, false), Err(WouldClash), [W, F, S, F, W, F, F, F, W]),
+        (
+            atom(2, 2, true),
+            Err(WouldClash),
+            [W, F, S, F, W, F, F, F, W],
+        ),
+        (
+            atom(2, 0, false),
+            Err(WouldClash),
+            [W, F, S, F, W, F, F, F, W],
+        ),
         (atom(2, 1, false), Ok(()), [W, S, S, F, W, F, F, W, W]),
-        (atom(1, 2, true), Err(WouldClash), [W, S, S, F, W, F, F, W, W]),
+        (
+            atom(1, 2, true),
+            Err(WouldClash),
+            [W, S, S, F, W, F, F, W, W],
+        ),
         (atom(1, 2, false), Ok(()), [W, S, S, F, W, W, F, W, W]),
-        (atom(1, 0, true), Err(WouldClash), [W, S, S, F, W, W, F, W, W]),
+        (
+            atom(1, 0, true),
+            Err(WouldClash),
+            [W, S, S, F, W, W, F, W, W],
+        ),
         (atom(0, 1, false), Ok(()), [W, S, S, F, W, W, F, W, W]),
     ];
     let Ok(mut table) = Closed::new(rt.alloc(), 3) else {
         panic!(&rt; "out of memory");
     };
-    assert_eq!(&rt; cells_of(&rt, &table)?.as_slice(), [W, F, F, F, W, F, F, F, W].as_slice());
+    assert_eq!(&rt;
+        cells_of(&rt, &table)?.as_slice(),
+        [W, F, F, F, W, F, F, F, W].as_slice()
+    );
     for (atom, answer, cells) in cases {
         assert!(&rt; atom.from < table.points() && atom.to < table.points());
         assert_eq!(&rt; table.add(atom), answer);
