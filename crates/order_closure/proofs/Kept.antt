@@ -6,7 +6,7 @@ use Rattle.order_closure.specs.declared.cell.Cell.{Cell}
 use Rattle.order_closure.specs.Cells.{strength, stronger, joined}
 use Rattle.order_closure.specs.Tables.{AreClosed}
 use Rattle.order_closure.proofs.Joining.{joined-mono, stronger_stays}
-use Rattle.order_closure.proofs.Raising.{back_adds_nothing, trans}
+use Rattle.order_closure.proofs.Raising.{trans}
 
 -- the cell raised by the way over this order
 abbrev pub raised : (ℕ → ℕ → Cell) → ℕ → ℕ → Cell → ℕ → ℕ → Cell

@@ -1,9 +1,8 @@
 -- A row of a list that was parted in two, written in the one part by what stands in the other.
-use Rattle.std.proofs.Common.{rules, ◌≡◌, ◌≢◌, ℕ, ◌+◌, ◌*◌, ◌-◌, ◌<◌, ◌≤◌, List, ◌++◌, length, take, drop, get_or, refl, sym, ap, subst, ◌∙◌, arith, ◌⊎◌, inl, inr, length-append, mul-le-mul_right}
+use Rattle.std.proofs.Common.{rules, ◌≡◌, ◌≢◌, ℕ, ◌+◌, ◌*◌, ◌<◌, ◌≤◌, List, ◌++◌, length, take, drop, get_or, refl, sym, ap, subst, ◌∙◌, arith, inl, inr, length-append, mul-le-mul_right}
 use borrow.Rule.Slice.PartMut.{put_mid}
 use Rattle.std.proofs.lemmas.Bool.{cases_lt}
-use Rattle.std.proofs.lemmas.List.{places, append_assoc, take-append-le, drop-append-le, drop-drop, length-drop, drop-take, take_at, drop_at, get_or-take, get_or-drop, get_or_append_left, get_or-append_right, get_or-append-add, length-take-le}
-use Rattle.std.proofs.lemmas.Nat.{same_from_place}
+use Rattle.std.proofs.lemmas.List.{places, append_assoc, take-append-le, drop-append-le, length-drop, take_at, drop_at, get_or-take, get_or-drop, get_or_append_left, get_or-append-add, length-take-le}
 use Rattle.order_closure.specs.declared.cell.Cell.{Cell}
 use Rattle.order_closure.specs.declared.cell.Cell.TheVariants.{Free}
 use Rattle.order_closure.specs.Cells.{joined, stronger}
@@ -67,7 +66,7 @@ first_raised n i to way xs ys row k front square lt lt_n e len is =
     (subst (IsRowRaised n i to way (xs ++ ys)) (sym (put_first (i * n) n xs ys row inside))
     (put_row n i to way (xs ++ ys) row (omega arith) square row_len (λ j lj. is j (omega arith)
     ∙ (λ m. stronger ((part_at (i * n) k j xs (omega arith) ∙ sym (get_or_append_left xs ys Free (i * n + j) (omega arith))) m)
-        (joined way ((get_or-take n ys j Free lj ∙ sym (get_or-append-add xs ys j Free) ∙ ap (λ a. get_or (xs ++ ys) (a + j) Free) front) m))))))
+    (joined way ((get_or-take n ys j Free lj ∙ sym (get_or-append-add xs ys j Free) ∙ ap (λ a. get_or (xs ++ ys) (a + j) Free) front) m))))))
 
 -- a row at the front of the second part, raised by one in the first
 pub second_raised : (n i to : ℕ) (way : Cell) (xs ys row : List Cell) (k : ℕ) → length xs ≡ i * n → length (xs ++ ys) ≡ n * n → to < i → i < n → k ≡ n
@@ -82,4 +81,4 @@ second_raised n i to way xs ys row k front square lt lt_n e len is =
     subst (IsRowRaised n i to way (xs ++ ys)) (sym (put_second n xs ys row ∙ ap (λ a. put_mid a n (xs ++ ys) row) front))
     (put_row n i to way (xs ++ ys) row lt_n square row_len (λ j lj. is j (omega arith)
     ∙ (λ m. stronger ((get_or-take n ys j Free lj ∙ sym (get_or-append-add xs ys j Free) ∙ ap (λ a. get_or (xs ++ ys) (a + j) Free) front) m)
-        (joined way ((part_at (to * n) k j xs (omega arith) ∙ sym (get_or_append_left xs ys Free (to * n + j) (omega arith))) m)))))
+    (joined way ((part_at (to * n) k j xs (omega arith) ∙ sym (get_or_append_left xs ys Free (to * n + j) (omega arith))) m)))))

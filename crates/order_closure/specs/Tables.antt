@@ -1,5 +1,5 @@
 -- Tables of the orders of points, and what they stand for.
-use Rattle.std.specs.Prelude.{◌≡◌, ℕ, ◌+◌, ◌<◌, ◌≤◌, ◌↔◌, ◌==◌, ⊤, Bool, true, false, if◌then◌else◌, List, [], length, map, slice_index_or}
+use Rattle.std.specs.Prelude.{◌≡◌, ℕ, ◌<◌, ◌≤◌, ◌↔◌, ◌==◌, ⊤, Bool, true, false, if◌then◌else◌, List, [], map, slice_index_or}
 use Rattle.std.specs.List.{All, range_with_len}
 use Rattle.net_core.specs.Atoms.{IsInOrder, Satisfies}
 use Rattle.net_core.specs.Relations.{Timeline}

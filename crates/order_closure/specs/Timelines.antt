@@ -1,12 +1,10 @@
 -- The timelines that keep a table.
-use Rattle.std.specs.Prelude.{◌≡◌, ℕ, zero, suc, ◌+◌, ◌<◌, ◌≤◌, Bool, true, false, not, if◌then◌else◌}
+use Rattle.std.specs.Prelude.{ℕ, ◌<◌, ◌≤◌, not}
 use Rattle.net_core.specs.Atoms.{Satisfies}
 use Rattle.net_core.specs.Relations.{Timeline}
 use Rattle.net_core.specs.declared.atom.Atom.{Atom}
 use Rattle.order_closure.specs.Cells.{order, strength}
 use Rattle.order_closure.specs.Tables.{Keeps, IsClosed, Table, cell_at}
-use Rattle.order_closure.specs.declared.cell.Cell.{Cell}
-use Rattle.order_closure.specs.declared.cell.Cell.TheVariants.{Strict}
 
 -- the atom that is true where this one is false
 abbrev pub opposite : Atom → Atom

@@ -1,6 +1,5 @@
-use Rattle.std.proofs.Common.{◌≡◌, ◌≢◌, ◌≤◌, ◌<◌, ◌+◌, length, length-set, get_or, sym, ◌∙◌, arith, below_more, get_or-set_other, get_or-set_same}
-use Rattle.order_closure.specs.declared.cell.Cell.TheVariants.{Free}
-use Rattle.order_closure.specs.Cells.{joined, stronger}
+use Rattle.std.proofs.Common.{◌≢◌, ◌≤◌, ◌<◌, length, length-set, ◌∙◌, arith, below_more, get_or-set_other, get_or-set_same}
+use Rattle.order_closure.specs.Cells.{stronger}
 use Rattle.order_closure.proofs.rows.join.Goals as goal
 
 pub loop-j-preserved : goal.loop-j-preserved

@@ -1,4 +1,4 @@
-use Rattle.std.proofs.Common.{◌≡◌, ◌≤◌, ◌<◌, ◌+◌, ℕ, List, sym, subst, ◌∙◌, arith}
+use Rattle.std.proofs.Common.{◌≤◌, ◌<◌, ◌+◌, List, sym, subst, ◌∙◌, arith}
 use Rattle.order_closure.specs.declared.cell.Cell.{Cell}
 use Rattle.order_closure.specs.Cells.{joined, stronger, strength}
 use Rattle.order_closure.specs.Flat.{flat_at}
@@ -36,16 +36,16 @@ loop-i-preserved c =
       square = omega arith;
       rows = elim c.if-says_less.branch [
         | then-says_less w ↦
-          let less = subst (λ (x : Cell). strength (now i to) < strength x) c.joined-way.ensures (c.says_less.ensures.0 w.if-says_less.true) in
-          let differ = apart n cell c.requires.closed from to order c.requires.from c.requires.to c.requires.fits i
-          (subst (λ (x : Cell). strength (cell i to) < strength x) (way_same n cell c.requires.closed from to order c.requires.from c.requires.to c.requires.fits i now li so_far) (subst (λ (x : Cell). strength x < strength (joined (now i from) order)) (so_far.others i to (omega arith) li c.requires.to) less)) in
-          subst (λ (items : List Cell). AreRaisedBelow n cell from to order (i + 1) (flat_at n items)) (sym w.cells-is)
-          (one_raised n cell c.requires.closed from to order c.requires.from c.requires.to c.requires.fits i now li so_far (flat_at n w.raise_row.new.cells) differ
-          (λ j lj. w.raise_row.ensures.raised j lj ∙ (λ k. stronger (now i j) (joined (c.joined-way.ensures k) (now to j))))
-          w.raise_row.ensures.others)
+            let less = subst (λ (x : Cell). strength (now i to) < strength x) c.joined-way.ensures (c.says_less.ensures.0 w.if-says_less.true) in
+            let differ = apart n cell c.requires.closed from to order c.requires.from c.requires.to c.requires.fits i
+            (subst (λ (x : Cell). strength (cell i to) < strength x) (way_same n cell c.requires.closed from to order c.requires.from c.requires.to c.requires.fits i now li so_far) (subst (λ (x : Cell). strength x < strength (joined (now i from) order)) (so_far.others i to (omega arith) li c.requires.to) less)) in
+            subst (λ (items : List Cell). AreRaisedBelow n cell from to order (i + 1) (flat_at n items)) (sym w.cells-is)
+            (one_raised n cell c.requires.closed from to order c.requires.from c.requires.to c.requires.fits i now li so_far (flat_at n w.raise_row.new.cells) differ
+            (λ j lj. w.raise_row.ensures.raised j lj ∙ (λ k. stronger (now i j) (joined (c.joined-way.ensures k) (now to j))))
+            w.raise_row.ensures.others)
         | else-says_less w ↦
-          let no_more = subst (λ (x : Cell). strength x ≤ strength (now i to)) c.joined-way.ensures (no_smaller _ _ _ c.says_less.ensures w.if-says_less.false) in
-          subst (λ (items : List Cell). AreRaisedBelow n cell from to order (i + 1) (flat_at n items)) (sym w.cells-is)
-          (one_skipped n cell c.requires.closed from to order c.requires.from c.requires.to c.requires.fits i now li so_far no_more)
+            let no_more = subst (λ (x : Cell). strength x ≤ strength (now i to)) c.joined-way.ensures (no_smaller _ _ _ c.says_less.ensures w.if-says_less.false) in
+            subst (λ (items : List Cell). AreRaisedBelow n cell from to order (i + 1) (flat_at n items)) (sym w.cells-is)
+            (one_skipped n cell c.requires.closed from to order c.requires.from c.requires.to c.requires.fits i now li so_far no_more)
       ];
     }

@@ -1,4 +1,4 @@
-use Rattle.std.proofs.Common.{◌≡◌, ℕ, ◌*◌, length}
+use Rattle.std.proofs.Common.{◌≡◌, ◌*◌, length}
 use Rattle.order_closure.specs.Flat.{flat_at}
 use Rattle.order_closure.proofs.Kept.{AreRaisedBelow}
 use Rattle.order_closure.proofs.rows.raise.Given as goal

@@ -1,10 +1,10 @@
-use Rattle.std.proofs.Common.{◌≡◌, ap, sym, subst, ◌∙◌, ◌<◌, ◌≤◌, ◌*◌, ◌↔◌, arith, List, [], ◌∷◌, ◌++◌, length, ℕ}
+use Rattle.std.proofs.Common.{◌≡◌, ap, sym, subst, ◌∙◌, ◌<◌, ◌≤◌, ◌↔◌, arith, List, [], ◌∷◌, ◌++◌, length, ℕ}
 use Rattle.std.specs.Vec.{with_items}
 use Rattle.std.proofs.lemmas.List.{with_items_is}
 use Rattle.net_core.specs.Atoms.{Satisfies}
 use Rattle.net_core.specs.Relations.{Timeline}
 use Rattle.order_closure.specs.declared.cell.Cell.{Cell}
-use Rattle.order_closure.specs.Cells.{joined, order, strength, stronger}
+use Rattle.order_closure.specs.Cells.{joined, strength, stronger}
 use Rattle.order_closure.specs.Tables.{Table, table_of, cell_at, AreClosed, Denies, IsClosed, Stands, Keeps, way}
 use Rattle.order_closure.specs.Flat.{flat_at, IsSquare}
 use Rattle.order_closure.proofs.Joining.{back_is_weak}
