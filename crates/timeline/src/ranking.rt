@@ -26,7 +26,8 @@ pub fn ranked(alloc: Global, closed: &Closed) -> Result<Vec<u32>, Memory>
     ensures size { IfOk result (λ ranks. length ranks.items ≡ closed.now.points) }
     ensures ranks { IfOk result (λ ranks. AreRanks closed.now.points (cell_at closed.now) ranks.items) }
     ensures least { IfOk result (λ ranks. IsLeast closed.now.points (Keeps closed.now) (timeline_of ranks.items)) }
-    ensures small { IfOk result (λ ranks. (p : ℕ) → p < closed.now.points → slice_index ranks.items p < closed.now.points) }
+    ensures small { IfOk result (λ ranks. (p : ℕ) → p < closed.now.points
+        → slice_index ranks.items p < closed.now.points) }
 {
     let turns = in_turn(alloc, closed)?;
     let Ok(mut ranks) = vec![in alloc; 0u32; closed.points() as usize] else {

@@ -12,8 +12,8 @@ use net_core::{Atom, Memory, Ranks};
 use order_closure::Closed;
 use std::alloc::Global;
 
-/// The least ranks that keep every cell: at each point they are at most those of every timeline that does. None is above
-/// the number of points less one.
+/// The least ranks that keep every cell: at each point they are at most those of every timeline that does. None is
+/// above the number of points less one.
 ///
 /// # Errors
 ///
@@ -39,7 +39,8 @@ pub fn counter(alloc: Global, closed: &Closed, atom: Atom) -> Result<Ranks, Memo
     requires to { atom.to < closed.now.points }
     requires weaker { strength (cell_at closed.now atom.from atom.to) < strength (order atom.strict) }
     ensures size { IfOk result (λ ranks. length ranks ≡ closed.now.points) }
-    ensures least { IfOk result (λ ranks. IsLeast closed.now.points (λ t. Keeps closed.now t × (Satisfies t atom → ⊥)) (timeline_of ranks)) }
+    ensures least { IfOk result (λ ranks. IsLeast closed.now.points (λ t. Keeps closed.now t × (Satisfies t atom → ⊥))
+        (timeline_of ranks)) }
     ensures small { IfOk result (λ ranks. (p : ℕ) → p < closed.now.points → slice_index ranks p < closed.now.points) }
 {
     let mut table = closed.copy(alloc)?;
