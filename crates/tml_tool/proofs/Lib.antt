@@ -6,6 +6,8 @@ pub mod Times
 pub mod UsageRoom
 pub mod Phases
 pub mod OneDateLines
+pub mod OneNet
+pub mod Timelines
 pub mod OneAnswers
 pub mod OneVerdicts
 pub mod OneNext

@@ -1,26 +1,17 @@
 -- Evidence of a document has one answer: one status, and one text.
 use Rattle.std.proofs.Common.{◌≡◌, ℕ, List, refl, sym, ap, subst, ◌∙◌, inl, inr}
 use Rattle.net_core.specs.Nets.{PlainNet}
-use Rattle.net_build.specs.Built.{IsNetOf}
-use Rattle.net_build.proofs.OneNet.{one_net}
 use Rattle.evidence_format.specs.Evidence.{PlainEvidence, IsText}
 use Rattle.evidence_format.proofs.Reading.{one_bad, one_value}
 use Rattle.evidence_check.specs.Claims.{claim_of}
 use Rattle.evidence_check.specs.Refusals.{IsRefused, Verdicts}
 use Rattle.evidence_check.specs.declared.refusal.Refused.{Refused}
 use Rattle.evidence_check.proofs.Verdicts.{one_verdict}
-use Rattle.tml_refs.specs.Documents.{PlainDocument}
 use Rattle.tml_tool.specs.declared.status.Status.{Status}
 use Rattle.tml_tool.specs.declared.status.Status.TheVariants.{Done, EvidenceFault}
 use Rattle.tml_tool.specs.EvidenceTexts.{bad_line_text, claim_line, refusal_line}
-use Rattle.tml_tool.specs.Verdicts.{HasNet, OfEvidence, OfVerify, TellsClaim, TellsLine, TellsRefusal}
-use Rattle.tml_tool.proofs.Phases.{one_document}
-
--- a document has one net
-one_net_of : (doc : List ℕ) (net other : PlainNet) → HasNet doc net → HasNet doc other → net ≡ other
-one_net_of doc net other h k =
-    let same = one_document doc h.0 k.0 h.1 k.1 in
-    one_net k.0 net other (subst (λ (c : PlainDocument). IsNetOf c net) same h.2) k.2
+use Rattle.tml_tool.specs.Verdicts.{OfEvidence, OfVerify, TellsClaim, TellsLine, TellsRefusal}
+use Rattle.tml_tool.proofs.OneNet.{one_net_of}
 
 -- evidence that is refused by the net does not have its support
 claim_or_refusal : (net : PlainNet) (evidence text line : List ℕ) → TellsClaim net evidence text → TellsRefusal net evidence line → ⊥

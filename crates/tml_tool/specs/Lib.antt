@@ -4,6 +4,7 @@ pub mod Texts
 pub mod DateTexts
 pub mod Acceptance
 pub mod Questions
+pub mod Solving
 pub mod EvidenceTexts
 pub mod Verdicts
 pub mod Rows

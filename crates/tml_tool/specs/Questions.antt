@@ -1,15 +1,22 @@
 -- The answers to questions of a document, by its bytes.
-use Rattle.std.specs.Prelude.{◌≡◌, ℕ, List}
+use Rattle.std.specs.Prelude.{◌≡◌, ℕ, List, codes, length}
 use Rattle.faults.specs.declared.kind.FaultKind.{FaultKind}
 use Rattle.tml_span.specs.Faults.{CutFault}
 use Rattle.tml_span.specs.Units.{PlainUnit}
 use Rattle.tml_span.specs.Whole.{IsWhole}
 use Rattle.tml_refs.specs.Documents.{PlainDocument}
+use Rattle.net_core.specs.Fits.{Fits}
+use Rattle.net_core.specs.Nets.{PlainNet, points}
+use Rattle.net_core.specs.Ranks.{pairs_of, timeline_of}
+use Rattle.net_build.specs.Built.{IsNetOf}
+use Rattle.order_closure.specs.Timelines.{IsLeast}
+use Rattle.clash.specs.Closures.{HasNoTimeline}
+use Rattle.evidence_format.specs.Evidence.{IsText, timeline}
 use Rattle.tml_tool.specs.declared.command.Question.{Question}
-use Rattle.tml_tool.specs.declared.command.Question.TheVariants.{Spans, Check, Dates}
+use Rattle.tml_tool.specs.declared.command.Question.TheVariants.{Spans, Check, Dates, Solve}
 use Rattle.tml_tool.specs.declared.role.Role.TheVariants.{Doc}
 use Rattle.tml_tool.specs.declared.status.Status.{Status}
-use Rattle.tml_tool.specs.declared.status.Status.TheVariants.{Done, DocFault}
+use Rattle.tml_tool.specs.declared.status.Status.TheVariants.{Done, DocFault, Clash}
 use Rattle.tml_tool.specs.Acceptance.{FirstFault, Says}
 use Rattle.tml_tool.specs.DateTexts.{DateLines}
 use Rattle.tml_tool.specs.Roles.{limit_of}
@@ -31,19 +38,38 @@ HasText Text doc text = (contents : PlainDocument) × Says doc contents × Text 
 abbrev pub HasFaultLine : (FaultKind → ℕ → Type 0) → List ℕ → Type 0
 HasFaultLine Fault text = (kind : FaultKind) × (place : ℕ) × Fault kind place × (text ≡ texts.fault_line kind place)
 
--- What a question prints: `spans` the table of the units, `check` what an accepted document has, and `dates` when its times are.
+-- the document is accepted, and this is its net
+abbrev pub HasNet : List ℕ → PlainNet → Type 0
+HasNet doc net = (contents : PlainDocument) × Says doc contents × IsNetOf contents net
+
+-- the text is that of the least timeline that fits the document
+abbrev pub TellsTimeline : List ℕ → List ℕ → Type 0
+TellsTimeline doc text = (net : PlainNet) × (ranks : List ℕ) × HasNet doc net × (length ranks ≡ points net) × IsLeast (points net) (Fits net) (timeline_of ranks) × IsText (timeline (pairs_of ranks)) text
+
+-- no timeline fits the document, and the text says so
+abbrev pub TellsClash : List ℕ → List ℕ → Type 0
+TellsClash doc text = (net : PlainNet) × HasNet doc net × HasNoTimeline net × (text ≡ codes "clash\n")
+
+-- What a question prints: `spans` the table of the units, `check` what an accepted document has, `dates` when its times are, and `solve` the least timeline.
 abbrev pub Prints : Question → List ℕ → List ℕ → Type 0
 Prints Spans doc text = HasTable doc text
 Prints Check doc text = HasText (λ contents out. out ≡ texts.accepted contents) doc text
 Prints Dates doc text = HasText (λ contents out. DateLines contents.intervals out) doc text
+Prints Solve doc text = TellsTimeline doc text
 
 -- The fault that a question names where it prints nothing else: `spans` looks at the units alone.
 abbrev pub NamesFault : Question → List ℕ → FaultKind → ℕ → Type 0
 NamesFault Spans doc kind place = CutFault doc place kind
 NamesFault question doc kind place = FirstFault doc kind place
 
+-- the answer to a question that needs a timeline, where none fits
+abbrev pub Clashes : Question → List ℕ → List ℕ → Type 0
+Clashes Solve doc text = TellsClash doc text
+Clashes question doc text = ⊥
+
 -- the answer to a question of a document
 abbrev pub OfDocument : Question → List ℕ → Status → List ℕ → Type 0
 OfDocument question doc Done text = Prints question doc text
 OfDocument question doc DocFault text = HasFaultLine (NamesFault question doc) text
+OfDocument question doc Clash text = Clashes question doc text
 OfDocument question doc other text = ⊥

@@ -1,23 +1,17 @@
 -- The answer to evidence of a document, by the bytes of both.
 use Rattle.std.specs.Prelude.{◌≡◌, ◌⊎◌, ℕ, List, []}
 use Rattle.net_core.specs.Nets.{PlainNet}
-use Rattle.net_build.specs.Built.{IsNetOf}
 use Rattle.evidence_format.specs.Begun.{IsBadLine}
 use Rattle.evidence_format.specs.Evidence.{PlainEvidence, IsText}
 use Rattle.evidence_check.specs.Claims.{IsTrue, claim_of}
 use Rattle.evidence_check.specs.Refusals.{IsRefused}
 use Rattle.evidence_check.specs.Supported.{IsSupported}
 use Rattle.evidence_check.specs.declared.refusal.Refused.{Refused}
-use Rattle.tml_refs.specs.Documents.{PlainDocument}
 use Rattle.tml_tool.specs.declared.status.Status.{Status}
 use Rattle.tml_tool.specs.declared.status.Status.TheVariants.{Done, DocFault, NoMemory, EvidenceFault}
-use Rattle.tml_tool.specs.Acceptance.{FirstFault, Says}
-use Rattle.tml_tool.specs.Questions.{HasFaultLine}
+use Rattle.tml_tool.specs.Acceptance.{FirstFault}
+use Rattle.tml_tool.specs.Questions.{HasFaultLine, HasNet}
 use Rattle.tml_tool.specs.EvidenceTexts.{bad_line_text, claim_line, refusal_line}
-
--- the document is accepted, and this is its net
-abbrev pub HasNet : List ℕ → PlainNet → Type 0
-HasNet doc net = (contents : PlainDocument) × Says doc contents × IsNetOf contents net
 
 -- the document has a fault, whose line is told, or out of memory
 abbrev pub RefusesDocument : List ℕ → Status → List ℕ → Type 0

@@ -11,7 +11,7 @@ use Rattle.tml_tool.specs.declared.command.Command.TheVariants as commands
 use Rattle.tml_tool.specs.declared.reply.Reply.{Reply}
 use Rattle.tml_tool.specs.declared.reply.Reply.TheVariants as replies
 use Rattle.tml_tool.specs.declared.status.Status.{Status}
-use Rattle.tml_tool.specs.declared.status.Status.TheVariants.{Done, DocFault, Usage, ReadFault, NoMemory, EvidenceFault, TooLong}
+use Rattle.tml_tool.specs.declared.status.Status.TheVariants.{Done, DocFault, Clash, Usage, ReadFault, NoMemory, EvidenceFault, TooLong}
 use Rattle.tml_tool.specs.Questions.{OfDocument}
 use Rattle.tml_tool.specs.Replies.{CannotRead, read_fault, too_long}
 use Rattle.tml_tool.specs.Reading.{ReadsWhole}
@@ -31,6 +31,7 @@ command_form (commands.Verify name evidence) = Some (verify name.now evidence.no
 abbrev pub finding_status : Finding → Status
 finding_status findings.Done = Done
 finding_status findings.DocFault = DocFault
+finding_status findings.Clash = Clash
 finding_status findings.EvidenceFault = EvidenceFault
 
 -- the answer of the program to a question of a document is the one that belongs to it

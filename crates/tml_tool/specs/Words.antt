@@ -6,7 +6,7 @@ use Rattle.std.specs.declared.alloc.Global.{Global}
 use Rattle.std.specs.declared.option.Option.{Option}
 use Rattle.named.specs.Texts.{named_of}
 use Rattle.tml_tool.specs.declared.command.Question.{Question}
-use Rattle.tml_tool.specs.declared.command.Question.TheVariants.{Spans, Check, Dates}
+use Rattle.tml_tool.specs.declared.command.Question.TheVariants.{Spans, Check, Dates, Solve}
 
 -- the words as bytes
 abbrev pub texts_of : List (String Global) → List (List ℕ)
@@ -17,9 +17,10 @@ abbrev pub question_text : Question → List ℕ
 question_text Spans = codes "spans"
 question_text Check = codes "check"
 question_text Dates = codes "dates"
+question_text Solve = codes "solve"
 
 abbrev pub all_questions : List Question
-all_questions = Spans ∷ Check ∷ Dates ∷ []
+all_questions = Spans ∷ Check ∷ Dates ∷ Solve ∷ []
 
 -- the word that asks whether evidence of a document is right
 abbrev pub verify_text : List ℕ

@@ -8,6 +8,8 @@ pub enum Finding {
     Done,
     /// A fault of the document.
     DocFault,
+    /// Links that cannot all be true.
+    Clash,
     /// Evidence that is malformed, or is refused.
     EvidenceFault,
 }

@@ -15,6 +15,8 @@ pub enum Question {
     Check,
     /// When its times are by the calendar.
     Dates,
+    /// In what order its intervals can lie.
+    Solve,
 }
 
 impl Named for Question {
@@ -27,7 +29,12 @@ impl Named for Question {
     ghost apart = { Prim.search rules };
 
     fn all() -> &'static [Question] {
-        &[Question::Spans, Question::Check, Question::Dates]
+        &[
+            Question::Spans,
+            Question::Check,
+            Question::Dates,
+            Question::Solve,
+        ]
     }
 
     fn text(self) -> &'static [u8] {
@@ -35,6 +42,7 @@ impl Named for Question {
             Question::Spans => b"spans",
             Question::Check => b"check",
             Question::Dates => b"dates",
+            Question::Solve => b"solve",
         }
     }
 }

@@ -1,9 +1,9 @@
 //! What is said of evidence of a document.
 ghost use Rattle.std.specs.Prelude.{◌≡◌, ◌≤◌, ◌++◌, length, IfErr, IfOk, OnOk};
 ghost use Rattle.tml_tool.specs.EvidenceTexts as texts;
-ghost use Rattle.tml_tool.specs.Questions.{doc_limit};
+ghost use Rattle.tml_tool.specs.Questions.{HasNet, doc_limit};
 ghost use Rattle.tml_tool.specs.Roles.{limit_of};
-ghost use Rattle.tml_tool.specs.Verdicts.{HasNet, OfEvidence, RefusesDocument};
+ghost use Rattle.tml_tool.specs.Verdicts.{OfEvidence, RefusesDocument};
 ghost use Rattle.tml_tool.specs.View.{finding_status, status_of, text_of};
 ghost use Rattle.tml_tool.specs.declared.role.Role.TheVariants as roles;
 

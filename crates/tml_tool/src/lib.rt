@@ -14,6 +14,7 @@ mod refusal;
 mod reply;
 mod replying;
 mod role;
+mod solve;
 mod spans;
 mod status;
 mod table;

@@ -7,6 +7,7 @@ use crate::answer::Answer;
 use crate::check::check;
 use crate::command::Question;
 use crate::dates::dates;
+use crate::solve::solve;
 use crate::spans::spans;
 use std::alloc::{AllocError, Global};
 
@@ -19,5 +20,6 @@ pub fn answer(alloc: Global, question: Question, doc: &[u8]) -> Result<Answer, A
         Question::Spans => spans(alloc, doc),
         Question::Check => check(alloc, doc),
         Question::Dates => dates(alloc, doc),
+        Question::Solve => solve(alloc, doc),
     }
 }

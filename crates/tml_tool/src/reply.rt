@@ -47,6 +47,7 @@ impl Reply {
             Reply::Answered(answer) => match answer.finding {
                 Finding::Done => Status::Done,
                 Finding::DocFault => Status::DocFault,
+                Finding::Clash => Status::Clash,
                 Finding::EvidenceFault => Status::EvidenceFault,
             },
             Reply::Usage => Status::Usage,

@@ -1,0 +1,78 @@
+-- The least timeline of a document, and its text.
+use Rattle.std.proofs.Common.{◌≡◌, ◌↔◌, ℕ, zero, suc, ◌+◌, ◌*◌, ◌^◌, ◌<◌, ◌≤◌, List, [], ◌∷◌, length, get_or, All, refl, sym, ap, subst, ◌∙◌, arith}
+use Rattle.std.specs.List.{AllByRecursion}
+use Rattle.std.proofs.lemmas.List.Elements.{All-from_recursion}
+use Rattle.net_core.specs.Fits.{Fits}
+use Rattle.net_core.specs.Nets.{PlainNet, points}
+use Rattle.net_core.specs.Ranks.{pairs_of, timeline_of}
+use Rattle.net_core.specs.Relations.{Timeline}
+use Rattle.clash.specs.Closures.{IsClosureOf}
+use Rattle.evidence_format.specs.Evidence.{IsPair, IsText, IsWellFormed, timeline}
+use Rattle.order_closure.specs.Tables.{Keeps, Table}
+use Rattle.order_closure.specs.Timelines.{IsLeast}
+use Rattle.tml_tool.specs.Questions.{HasNet, TellsClash, TellsTimeline}
+use Rattle.tml_tool.specs.Solving.{IsLeastText}
+use Rattle.tml_tool.proofs.OneNet.{one_net_of}
+
+-- small ranks are pairs of numbers that a text can have
+pairs_fit : (m : ℕ) (ranks : List ℕ) → m ≤ 2048 → ((p : ℕ) → p < length ranks → get_or ranks p 0 < m) → AllByRecursion IsPair (pairs_of ranks)
+pairs_fit m [] few small = tt
+pairs_fit m (start ∷ []) few small = tt
+pairs_fit m (start ∷ finish ∷ ranks) few small =
+    ((omega (arith, small 0 (omega arith)), omega (arith, small 1 (omega arith))), pairs_fit m ranks few (λ p less. small (suc (suc p)) (omega arith)))
+
+-- there are no more pairs than ranks
+few_pairs : (ranks : List ℕ) → length (pairs_of ranks) ≤ length ranks
+few_pairs [] = omega arith
+few_pairs (start ∷ []) = omega arith
+few_pairs (start ∷ finish ∷ ranks) = omega (arith, few_pairs ranks)
+
+-- small ranks are well-formed evidence
+pub well_formed : (m : ℕ) (ranks : List ℕ) → m ≤ 2048 → length ranks ≡ m → ((p : ℕ) → p < m → get_or ranks p 0 < m) → IsWellFormed (timeline (pairs_of ranks))
+well_formed m ranks few size small =
+    let each = pairs_fit m ranks few (λ p less. small p (omega (arith, less, size))) in
+    (All-from_recursion IsPair (pairs_of ranks) each, omega (arith, few_pairs ranks, size))
+
+-- the least timeline that keeps the closure of a net is the least one that fits the net
+least_fits : (net : PlainNet) (table : Table) (t : Timeline) → IsClosureOf net table → IsLeast table.points (Keeps table) t → IsLeast (points net) (Fits net) t
+least_fits net table t c l = record {
+  holds = (c.keeps t).0 l.holds;
+  least = λ u fits p less. l.least u ((c.keeps u).1 fits) p (omega (arith, less, c.points));
+}
+
+-- the text of the least timeline of the closure tells the least timeline of the document
+pub tells_timeline : (doc text : List ℕ) (net : PlainNet) (table : Table) → HasNet doc net → IsClosureOf net table → IsLeastText table text → TellsTimeline doc text
+tells_timeline doc text net table h c l = (net, l.0, h, l.1 ∙ c.points, least_fits net table (timeline_of l.0) c l.2, l.3)
+
+-- two lists of the same items are one
+same_items : (a b : List ℕ) → length a ≡ length b → ((p : ℕ) → p < length a → get_or a p 0 ≡ get_or b p 0) → a ≡ b
+same_items [] [] e same = refl
+same_items [] (y ∷ b) e same = absurd (omega (arith, e))
+same_items (x ∷ a) [] e same = absurd (omega (arith, e))
+same_items (x ∷ a) (y ∷ b) e same =
+    let first = same 0 (omega arith) in
+    let others = same_items a b (omega (arith, e)) (λ p less. same (suc p) (omega arith)) in
+    λ i. first i ∷ others i
+
+-- two numbers of which neither is more are one
+one_number : (m n : ℕ) → m ≤ n → n ≤ m → m ≡ n
+one_number m n le ge = omega arith
+
+-- a net has one least timeline
+one_least : (net : PlainNet) (a b : List ℕ) → length a ≡ points net → length b ≡ points net → IsLeast (points net) (Fits net) (timeline_of a) → IsLeast (points net) (Fits net) (timeline_of b) → a ≡ b
+one_least net a b la lb h k = same_items a b (la ∙ sym lb) (λ p less.
+    one_number (get_or a p 0) (get_or b p 0) (h.least (timeline_of b) k.holds p (omega (arith, less, la))) (k.least (timeline_of a) h.holds p (omega (arith, less, la))))
+
+-- a document has one text of its least timeline
+pub one_timeline : (doc text other : List ℕ) → TellsTimeline doc text → TellsTimeline doc other → text ≡ other
+one_timeline doc text other h k =
+    let net = one_net_of doc h.0 k.0 h.2 k.2 in
+    let least = subst (λ (n : PlainNet). IsLeast (points n) (Fits n) (timeline_of h.1)) net h.4 in
+    let size = h.3 ∙ ap points net in
+    let ranks = one_least k.0 h.1 k.1 size k.3 least k.4 in
+    let same = subst (λ (rs : List ℕ). IsText (timeline (pairs_of rs)) text) ranks h.5 in
+    same.1 ∙ sym k.5.1
+
+-- where a timeline is told none clashes
+pub timeline_or_clash : (doc text other : List ℕ) → TellsTimeline doc text → TellsClash doc other → ⊥
+timeline_or_clash doc text other h k = k.2 (timeline_of h.1) (subst (λ (n : PlainNet). Fits n (timeline_of h.1)) (one_net_of doc h.0 k.0 h.2 k.1) h.4.holds)
