@@ -18,50 +18,64 @@ pub record AreRaisedBelow (n : ℕ) (cell : ℕ → ℕ → Cell) (from to : ℕ
   pub others : (r j : ℕ) → i ≤ r → r < n → j < n → now r j ≡ cell r j
   pub over : (j : ℕ) → j < n → now to j ≡ cell to j
 
-module _ (n : ℕ) (cell : ℕ → ℕ → Cell) (closed : AreClosed n cell) (from to : ℕ) (order : Cell) (f : from < n) (t : to < n) (fits : strength (joined (cell to from) order) ≤ 1) where
+-- a closed table that does not deny an order from one of its points to another
+pub record CanBeRaised (n : ℕ) (cell : ℕ → ℕ → Cell) (from to : ℕ) (order : Cell) : Type 0 where
+  pub closed : AreClosed n cell
+  pub has_from : from < n
+  pub has_to : to < n
+  pub fits : strength (joined (cell to from) order) ≤ 1
+
+module _ (n : ℕ) (cell : ℕ → ℕ → Cell) (from to : ℕ) (order : Cell) (can : CanBeRaised n cell from to order) where
   -- where the way says no more than the cell, nothing new follows
   nothing_new : (i j : ℕ) → i < n → j < n → strength (joined (cell i from) order) ≤ strength (cell i to) → raised cell from to order i j ≡ cell i j
   nothing_new i j li lj le =
       let way = joined (cell i from) order in
       stronger_stays (cell i j) (joined way (cell to j))
-      (trans (joined way (cell to j)) (joined (cell i to) (cell to j)) (cell i j) (joined-mono way (cell i to) (cell to j) (cell to j) le (omega arith)) (closed.through i to j li t lj))
+      (trans (joined way (cell to j)) (joined (cell i to) (cell to j)) (cell i j) (joined-mono way (cell i to) (cell to j) (cell to j) le (omega arith)) (can.closed.through i to j li can.has_to lj))
 
-  -- a row in which the way says more is not the row that is read
-  pub apart : (i : ℕ) → strength (cell i to) < strength (joined (cell i from) order) → i ≢ to
-  apart i more e =
-      let less : strength (cell to to) < strength (joined (cell to from) order) = subst (λ (r : ℕ). strength (cell r to) < strength (joined (cell r from) order)) e more in
-      let one : 1 < strength (joined (cell to from) order) = subst (λ (x : Cell). strength x < strength (joined (cell to from) order)) (closed.itself to t) less in
-      omega arith
+  -- from the point that the order leads to, the way says no more
+  no_way_round : strength (joined (cell to from) order) ≤ strength (cell to to)
+  no_way_round = subst (λ (x : Cell). strength (joined (cell to from) order) ≤ strength x) (sym (can.closed.itself to can.has_to)) can.fits
 
-  module _ (i : ℕ) (now : ℕ → ℕ → Cell) (li : i < n) (so_far : AreRaisedBelow n cell from to order i now) where
+  module _ (i : ℕ) (now : ℕ → ℕ → Cell) (way : Cell) (li : i < n) (so_far : AreRaisedBelow n cell from to order i now) (is : way ≡ joined (now i from) order) where
     -- the way of a row that is not yet raised
-    pub way_same : joined (now i from) order ≡ joined (cell i from) order
-    way_same = λ k. joined (so_far.others i from (omega arith) li f k) order
+    way_same : way ≡ joined (cell i from) order
+    way_same = is ∙ (λ k. joined (so_far.others i from (omega arith) li can.has_from k) order)
+
+    -- a row in which the way says more is not the row that is read
+    pub apart : strength (now i to) < strength way → i ≢ to
+    apart more e =
+        let more_here : strength (cell i to) < strength (joined (cell i from) order) = rw (← so_far.others i to (omega arith) li can.has_to, ← way_same) more in
+        let more_there : strength (cell to to) < strength (joined (cell to from) order) = subst (λ (r : ℕ). strength (cell r to) < strength (joined (cell r from) order)) e more_here in
+        let no_more = no_way_round in omega arith
 
     -- a row that stays
-    pub one_skipped : strength (joined (now i from) order) ≤ strength (now i to) → AreRaisedBelow n cell from to order (i + 1) now
+    pub one_skipped : strength way ≤ strength (now i to) → AreRaisedBelow n cell from to order (i + 1) now
     one_skipped le =
-        let less : strength (joined (cell i from) order) ≤ strength (cell i to) = rw (← so_far.others i from (omega arith) li f, ← so_far.others i to (omega arith) li t) le in
+        let no_more : strength (joined (cell i from) order) ≤ strength (cell i to) = rw (← so_far.others i to (omega arith) li can.has_to, ← way_same) le in
         record {
           done = λ r j lr in_n lj. elim (cases_lt r i) [
             | inl before ↦ so_far.done r j before in_n lj
-            | inr at ↦ let e : r ≡ i = omega arith in so_far.others r j at in_n lj ∙ sym (nothing_new r j in_n lj (subst (λ (m : ℕ). strength (joined (cell m from) order) ≤ strength (cell m to)) (sym e) less))
+            | inr at ↦
+                let e : r ≡ i = omega arith in
+                so_far.others r j at in_n lj ∙ sym (nothing_new r j in_n lj (subst (λ (m : ℕ). strength (joined (cell m from) order) ≤ strength (cell m to)) (sym e) no_more))
           ];
           others = λ r j lr in_n lj. so_far.others r j (omega arith) in_n lj;
           over = so_far.over;
         }
 
     -- a row that is raised
-    pub one_raised : (new : ℕ → ℕ → Cell) → i ≢ to → ((j : ℕ) → j < n → new i j ≡ stronger (now i j) (joined (joined (now i from) order) (now to j)))
+    pub one_raised : (new : ℕ → ℕ → Cell) → strength (now i to) < strength way → ((j : ℕ) → j < n → new i j ≡ stronger (now i j) (joined way (now to j)))
         → ((r j : ℕ) → r < n → j < n → r ≢ i → new r j ≡ now r j) → AreRaisedBelow n cell from to order (i + 1) new
-    one_raised new differ here there = record {
+    one_raised new more here there = record {
       done = λ r j lr in_n lj. elim (cases_lt r i) [
         | inl before ↦ there r j in_n lj (omega arith) ∙ so_far.done r j before in_n lj
-        | inr at ↦ let e : r ≡ i = omega arith in subst (λ (m : ℕ). new m j ≡ raised cell from to order m j) (sym e)
-            (here j lj ∙ (λ k. stronger (so_far.others i j (omega arith) li lj k) (joined (way_same k) (so_far.over j lj k))))
+        | inr at ↦
+            let e : r ≡ i = omega arith in
+            subst (λ (m : ℕ). new m j ≡ raised cell from to order m j) (sym e) (here j lj ∙ (λ k. stronger (so_far.others i j (omega arith) li lj k) (joined (way_same k) (so_far.over j lj k))))
       ];
       others = λ r j lr in_n lj. there r j in_n lj (omega arith) ∙ so_far.others r j (omega arith) in_n lj;
-      over = λ j lj. there to j t lj (λ e. differ (sym e)) ∙ so_far.over j lj;
+      over = λ j lj. there to j can.has_to lj (λ e. apart more (sym e)) ∙ so_far.over j lj;
     }
 
 -- no row is raised yet
