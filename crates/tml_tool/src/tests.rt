@@ -2,6 +2,7 @@
 mod checks;
 mod dates;
 mod each_fault;
+mod solve;
 mod verify;
 
 use crate::{Status, run};
@@ -22,7 +23,7 @@ struct Row {
 const SPANS: &[&str] = &["spans", "d"];
 
 const USAGE: &[u8] =
-    b"usage:\ntml spans DOC\ntml check DOC\ntml dates DOC\ntml verify DOC EVIDENCE\n";
+    b"usage:\ntml spans DOC\ntml check DOC\ntml dates DOC\ntml solve DOC\ntml verify DOC EVIDENCE\n";
 
 const TAGS: &[u8] = b"<TimeML><EVENT eid=\"e1\" class='STATE'>is</EVENT></TimeML>";
 

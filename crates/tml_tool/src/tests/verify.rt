@@ -59,7 +59,7 @@ fn both(alloc: Global, doc: Vec<u8>, evidence: Vec<u8>) -> Result<MemoryInputs, 
 }
 
 /// `verify` of a document and evidence that are made.
-fn check_both(
+pub fn check_both(
     rt: &(impl Abort + AllocGlobal),
     doc: Vec<u8>,
     evidence: Vec<u8>,
