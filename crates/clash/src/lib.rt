@@ -1,0 +1,11 @@
+//! The closure of a net: what is true of every timeline that fits it, or that none does.
+#![tactic(auto)]
+
+mod calendar;
+mod close;
+mod insert;
+mod links;
+#[cfg(test)]
+mod tests;
+
+pub use close::{Clash, CloseFault, close};
