@@ -6,8 +6,8 @@ use Rattle.net_core.specs.Nets.{PlainNet, points}
 use Rattle.net_core.specs.Relations.{Timeline}
 use Rattle.order_closure.specs.Tables.{Keeps, Table, cell_at}
 use Rattle.order_closure.specs.declared.cell.Cell.TheVariants.{Strict, Weak}
-use Rattle.clash.specs.declared.close.CloseFault.{CloseFault}
-use Rattle.clash.specs.declared.close.CloseFault.TheVariants as faults
+use Rattle.clash.specs.declared.closure.CloseFault.{CloseFault}
+use Rattle.clash.specs.declared.closure.CloseFault.TheVariants as faults
 
 -- point p is before point q in every timeline that fits the net
 abbrev pub Always : PlainNet → Bool → ℕ → ℕ → Type 0

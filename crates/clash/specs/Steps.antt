@@ -5,8 +5,8 @@ use Rattle.net_core.specs.Nets.{PlainNet, intervals, points}
 use Rattle.net_core.specs.Relations.{Timeline}
 use Rattle.order_closure.specs.Tables.{Keeps, Table}
 use Rattle.std.specs.Prelude.{length}
-use Rattle.clash.specs.declared.close.CloseFault.{CloseFault}
-use Rattle.clash.specs.declared.close.CloseFault.TheVariants as faults
+use Rattle.clash.specs.declared.closure.CloseFault.{CloseFault}
+use Rattle.clash.specs.declared.closure.CloseFault.TheVariants as faults
 
 -- each interval starts before it ends
 abbrev pub KeepsSpans : PlainNet → Timeline → Type 0

@@ -1,10 +1,13 @@
 //! Adding the orders of the calendar.
+ghost use Rattle.clash.specs.Dates.{AllFollow, AreBelow, Follows, FollowsAll};
 ghost use Rattle.clash.specs.Steps.{AddsOrClashes, KeepsDates};
 ghost use Rattle.net_core.specs.Nets.{points};
-ghost use Rattle.std.specs.Prelude.{◌≡◌};
+ghost use Rattle.std.specs.Prelude.{◌<◌, ◌≡◌};
 
-use crate::close::CloseFault;
-use net_core::Net;
+use crate::closure::CloseFault;
+use crate::dates::{Date, lowers_of, uppers_of};
+use crate::insert::insert;
+use net_core::{Atom, Net};
 use order_closure::Closed;
 use std::alloc::Global;
 
@@ -15,8 +18,50 @@ pub fn add_calendar(alloc: Global, table: &mut Closed, net: &Net) -> Result<(), 
     requires { table.old.points ≡ points net.now }
     ensures { AddsOrClashes (KeepsDates net.now) table.old table.new result }
 {
-    // To be written: two lists of (number, point), `uppers` and `lowers`, both sorted by number by std's sort; then
-    // for each upper from the last to the first, and each lower from the first to the last: where upper <= lower,
-    // `insert` the atom (strict where upper < lower).
-    todo!()
+    let uppers = uppers_of(alloc, net)?;
+    let lowers = lowers_of(alloc, net)?;
+    add_dates(table, &uppers, &lowers)
+}
+
+/// Adds the orders of all points with an upper number and all with a lower number.
+fn add_dates(table: &mut Closed, uppers: &[Date], lowers: &[Date]) -> Result<(), CloseFault>
+    requires uppers { AreBelow table.old.points uppers.now }
+    requires lowers { AreBelow table.old.points lowers.now }
+    ensures { AddsOrClashes (AllFollow uppers.now lowers.now) table.old table.new result }
+{
+    for upper in uppers {
+        add_after(table, *upper, lowers)?;
+    }
+    Ok(())
+}
+
+/// Adds the orders of a point with an upper number and all points with a lower number.
+fn add_after(table: &mut Closed, upper: Date, lowers: &[Date]) -> Result<(), CloseFault>
+    requires upper { upper.point < table.old.points }
+    requires lowers { AreBelow table.old.points lowers.now }
+    ensures { AddsOrClashes (FollowsAll lowers.now upper) table.old table.new result }
+{
+    for lower in lowers {
+        add_order(table, upper, *lower)?;
+    }
+    Ok(())
+}
+
+/// Adds the order of a point with an upper number and one with a lower number, where the calendar orders them.
+fn add_order(table: &mut Closed, upper: Date, lower: Date) -> Result<(), CloseFault>
+    requires upper { upper.point < table.old.points }
+    requires lower { lower.point < table.old.points }
+    ensures { AddsOrClashes (Follows upper lower) table.old table.new result }
+{
+    if upper.number > lower.number {
+        return Ok(());
+    }
+    insert(
+        table,
+        Atom {
+            from: upper.point,
+            to: lower.point,
+            strict: upper.number < lower.number,
+        },
+    )
 }

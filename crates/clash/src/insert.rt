@@ -1,9 +1,10 @@
 //! Adding one atom that a table does not give yet.
 ghost use Rattle.clash.specs.Steps.{AddsOrClashes};
 ghost use Rattle.net_core.specs.Atoms.{Satisfies};
-ghost use Rattle.std.specs.Prelude.{◌<◌};
+ghost use Rattle.order_closure.specs.Cells.{order, strength};
+ghost use Rattle.std.specs.Prelude.{IsTrue, ◌<◌, ◌↔◌, ◌≤◌};
 
-use crate::close::{Clash, CloseFault};
+use crate::closure::{Clash, CloseFault};
 use net_core::Atom;
 use order_closure::{Cell, Closed};
 
@@ -13,16 +14,22 @@ pub fn insert(table: &mut Closed, atom: Atom) -> Result<(), CloseFault>
     requires to { atom.to < table.old.points }
     ensures { AddsOrClashes (λ t. Satisfies t atom) table.old table.new result }
 {
-    let known = match table.cell(atom.from, atom.to) {
-        Cell::Free => false,
-        Cell::Weak => !atom.strict,
-        Cell::Strict => true,
-    };
-    if known {
+    if gives(table.cell(atom.from, atom.to), atom.strict) {
         return Ok(());
     }
     match table.add(atom) {
         Ok(()) => Ok(()),
         Err(_) => Err(CloseFault::Clash(Clash)),
+    }
+}
+
+/// Whether the cell from one point to another gives an order of them.
+fn gives(cell: Cell, strict: bool) -> bool
+    ensures { IsTrue result ↔ (strength (order strict) ≤ strength cell) }
+{
+    match cell {
+        Cell::Free => false,
+        Cell::Weak => !strict,
+        Cell::Strict => true,
     }
 }

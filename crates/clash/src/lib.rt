@@ -2,10 +2,11 @@
 #![tactic(auto)]
 
 mod calendar;
-mod close;
+mod closure;
+mod dates;
 mod insert;
 mod links;
 #[cfg(test)]
 mod tests;
 
-pub use close::{Clash, CloseFault, close};
+pub use closure::{Clash, CloseFault, close};

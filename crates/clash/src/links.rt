@@ -1,12 +1,13 @@
 //! Adding the spans of intervals, and the links between them.
 ghost use Rattle.clash.specs.Steps.{AddsOrClashes, KeepsLinks, KeepsSpans};
-ghost use Rattle.net_core.specs.Fits.{KeepsLink};
+ghost use Rattle.net_core.specs.Atoms.{atoms_in};
 ghost use Rattle.net_core.specs.Nets.{points};
-ghost use Rattle.std.specs.Prelude.{length, ◌<◌, ◌≡◌};
+ghost use Rattle.order_closure.specs.Tables.{AreInRange, SatisfiesAll};
+ghost use Rattle.std.specs.Prelude.{◌≡◌};
 
-use crate::close::CloseFault;
+use crate::closure::CloseFault;
 use crate::insert::insert;
-use net_core::{Atom, Net, atoms_of};
+use net_core::{Atom, Atoms, Net, atoms_of};
 use order_closure::Closed;
 
 /// Adds that each interval starts before it ends.
@@ -33,19 +34,17 @@ pub fn add_links(table: &mut Closed, net: &Net) -> Result<(), CloseFault>
     ensures { AddsOrClashes (KeepsLinks net.now) table.old table.new result }
 {
     for k in 0..net.links() {
-        add_link(table, net, k)?;
+        let link = net.link(k);
+        add_atoms(table, atoms_of(link.rel, link.a, link.b))?;
     }
     Ok(())
 }
 
-/// Adds that a link holds: each atom of its relation.
-fn add_link(table: &mut Closed, net: &Net, k: u32) -> Result<(), CloseFault>
-    requires size { table.old.points ≡ points net.now }
-    requires k { k < length net.now.links }
-    ensures { AddsOrClashes (λ t. KeepsLink net.now t k) table.old table.new result }
+/// Adds the orders of points that a relation is.
+fn add_atoms(table: &mut Closed, atoms: Atoms) -> Result<(), CloseFault>
+    requires { AreInRange table.old.points (atoms_in atoms) }
+    ensures { AddsOrClashes (SatisfiesAll (atoms_in atoms)) table.old table.new result }
 {
-    let link = net.link(k);
-    let atoms = atoms_of(link.rel, link.a, link.b);
     for number in 0..atoms.count() {
         if let Some(atom) = atoms.atom(number) {
             insert(table, atom)?;

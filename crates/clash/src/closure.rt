@@ -1,6 +1,6 @@
 //! The closure of a net.
 ghost use Rattle.clash.specs.Closures.{IsClosureOf, TellsClash};
-ghost use Rattle.clash.specs.declared.close.CloseFault.TheVariants as faults;
+ghost use Rattle.clash.specs.declared.closure.CloseFault.TheVariants as faults;
 ghost use Rattle.net_core.specs.Fits.{Fits};
 ghost use Rattle.net_core.specs.Relations.{Timeline};
 ghost use Rattle.std.specs.Prelude.{IfErr, IfOk, ◌≡◌, ◌↔◌};
@@ -46,5 +46,6 @@ pub fn close(alloc: Global, net: &Net) -> Result<Closed, CloseFault>
     add_spans(&mut table, net)?;
     add_links(&mut table, net)?;
     add_calendar(alloc, &mut table, net)?;
+    prove!(table.points() == 2 * net.intervals());
     Ok(table)
 }
