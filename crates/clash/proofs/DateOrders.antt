@@ -1,9 +1,12 @@
 -- Dates, and the orders of their points.
-use Rattle.std.proofs.Common.{◌≡◌, ◌↔◌, ℕ, ◌<◌, ◌≤◌, ◌+◌, ℤ, List, Option, Some, None, Bool, true, false, [], ◌∷◌, ◌++◌, refl, sym, subst, arith, below_more}
+use Rattle.std.proofs.Common.{◌≡◌, ◌↔◌, ℕ, ◌<◌, ◌≤◌, ◌+◌, ℤ, pos, ◌<ℤ◌, List, Option, Some, None, Bool, true, false, [], ◌∷◌, ◌++◌, refl, sym, subst, arith, below_more}
+use Rattle.std.proofs.lemmas.Int.{ints}
+use Rattle.std.specs.Int.Signed.{lt_z}
 use Rattle.std.specs.List.{All, Contains}
 use Rattle.std.specs.List.Sorted.{IsPermutation}
 use Rattle.std.proofs.lemmas.List.Elements.{All-contains, All-nil, All-push, All-weaker, Contains-append_left, Contains-push}
 use Rattle.std.proofs.lemmas.List.Sorted.{All-permutation, Contains-permutation}
+use Rattle.net_core.specs.Atoms.{IsInOrder}
 use Rattle.net_core.specs.Fits.{FollowsNumbers, KeepsCalendar}
 use Rattle.net_core.specs.Nets.{PlainNet, lower, points, upper}
 use Rattle.net_core.specs.Relations.{Timeline}
@@ -28,7 +31,7 @@ date_below number n dates all = All-weaker (IsDate number n) (IsDate number (n +
 
 -- one point more that has no number
 pub dates_without : (number : ℕ → Option ℤ) (n : ℕ) (dates : List Date) → number n ≡ None → AreDates number n dates → AreDates number (n + 1) dates
-dates_without number n dates no h = record {
+dates_without number n dates nothing h = record {
   right = date_below number n dates h.right;
   whole = λ p x lp is. below_more (λ (q : ℕ). number q ≡ Some x → Contains dates (record { number = x; point = q })) n (λ q lq. h.whole q x lq) (λ e. let both : None ≡ Some x = cc in cc) p lp is;
 }
@@ -73,4 +76,20 @@ dates_said net uppers lowers up low t = (
 
 -- what is read past the end of a list of dates
 abbrev pub no_date : Date
-no_date = record { number = 0; point = 0 }
+no_date = record { number = pos 0; point = 0 }
+
+-- what the test of two numbers says
+is_less : (x y : ℤ) → lt_z x y ≡ true → x <ℤ y
+is_less x y e = grind (arith, ints)
+
+not_less : (x y : ℤ) → lt_z x y ≡ false → ¬ (x <ℤ y)
+not_less x y e = grind (arith, ints)
+
+-- two numbers of which neither is less are one
+not_apart : (x y : ℤ) → lt_z x y ≡ false → lt_z y x ≡ false → x ≡ y
+not_apart x y e f = grind (arith, ints)
+
+-- the order of two points where the upper number of the first is not above the lower number of the second: strict where it is less
+pub order_said : (x y : ℤ) (m n : ℕ) (strict : Bool) → lt_z x y ≡ strict → lt_z y x ≡ false → IsInOrder strict m n ↔ FollowsNumbers (Some x) (Some y) m n
+order_said x y m n true less back = (λ h. (λ lt. h, λ e. omega arith), λ both. both.0 (is_less x y less))
+order_said x y m n false less back = (λ h. (λ lt. absurd (not_less x y less lt), λ e. h), λ both. both.1 (not_apart x y less back))

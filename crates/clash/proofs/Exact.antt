@@ -40,7 +40,7 @@ module _ (net : PlainNet) (table : Table) (closed : IsClosed table) (size : tabl
   -- the cells are exactly what all timelines that fit have in common
   pub closure_from : IsClosureOf net table
   closure_from = record {
-    points = size;
+    size = size;
     keeps = keeps;
     strict = λ p q fp fq.
         let lp : p < table.points = omega arith in
@@ -66,21 +66,21 @@ module _ (net : PlainNet) (table : Table) (closed : IsClosed table) (size : tabl
 module _ (net : PlainNet) (none : Table) (all : (t : Timeline) → Keeps none t) where
   -- a clash of the spans
   pub spans_clash : (last : Table) (fault : CloseFault) → AddsOrClashes (KeepsSpans net) none last (Err fault) → TellsClash net fault
-  spans_clash last (faults.Clash clash) no = λ t fits. no t (all t) fits.order
-  spans_clash last faults.Memory no = tt
+  spans_clash last (faults.Clash clash) never = λ t fits. never t (all t) fits.order
+  spans_clash last faults.Memory never = tt
 
   module _ (spanned : Table) (spans : Adds (KeepsSpans net) none spanned) where
     -- a clash of the links
     pub links_clash : (last : Table) (fault : CloseFault) → AddsOrClashes (KeepsLinks net) spanned last (Err fault) → TellsClash net fault
-    links_clash last (faults.Clash clash) no = λ t fits. no t ((spans.1 t).1 (all t, fits.order)) (λ k lt. fits.links k lt tt)
-    links_clash last faults.Memory no = tt
+    links_clash last (faults.Clash clash) never = λ t fits. never t ((spans.1 t).1 (all t, fits.order)) (λ k lt. fits.links k lt tt)
+    links_clash last faults.Memory never = tt
 
     module _ (linked : Table) (links : Adds (KeepsLinks net) spanned linked) where
       -- a clash of the calendar
       pub dates_clash : (last : Table) (fault : CloseFault) → AddsOrClashes (KeepsDates net) linked last (Err fault) → TellsClash net fault
-      dates_clash last (faults.Clash clash) no =
-          λ t fits. no t ((links.1 t).1 ((spans.1 t).1 (all t, fits.order), λ k lt. fits.links k lt tt)) fits.calendar
-      dates_clash last faults.Memory no = tt
+      dates_clash last (faults.Clash clash) never =
+          λ t fits. never t ((links.1 t).1 ((spans.1 t).1 (all t, fits.order), λ k lt. fits.links k lt tt)) fits.calendar
+      dates_clash last faults.Memory never = tt
 
       -- the timelines that keep the last table are those that fit
       pub keeps_fits : (last : Table) → Adds (KeepsDates net) linked last → (t : Timeline) → Keeps last t ↔ Fits net t

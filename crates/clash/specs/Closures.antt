@@ -19,7 +19,7 @@ HasNoTimeline net = (t : Timeline) → Fits net t → ⊥
 
 -- The timelines that keep the table are those that fit the net, and its cells say exactly what they all have.
 pub record IsClosureOf (net : PlainNet) (table : Table) : Type 0 where
-  pub points : table.points ≡ points net
+  pub size : table.points ≡ points net
   pub keeps : (t : Timeline) → Keeps table t ↔ Fits net t
   pub strict : (p q : ℕ) → p < points net → q < points net → (cell_at table p q ≡ Strict) ↔ Always net true p q
   pub weak : (p q : ℕ) → p < points net → q < points net → (cell_at table p q ≡ Weak) ↔ (Always net false p q × ¬ Always net true p q)
