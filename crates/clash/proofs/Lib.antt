@@ -1,0 +1,4 @@
+pub mod Steps
+pub mod LinkAtoms
+pub mod Exact
+pub mod DateOrders

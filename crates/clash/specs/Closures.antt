@@ -1,0 +1,30 @@
+-- The closure of a net.
+use Rattle.std.specs.Prelude.{◌≡◌, ℕ, ◌<◌, ◌↔◌, ⊤, Bool, true, false}
+use Rattle.net_core.specs.Atoms.{IsInOrder}
+use Rattle.net_core.specs.Fits.{Fits}
+use Rattle.net_core.specs.Nets.{PlainNet, points}
+use Rattle.net_core.specs.Relations.{Timeline}
+use Rattle.order_closure.specs.Tables.{Keeps, Table, cell_at}
+use Rattle.order_closure.specs.declared.cell.Cell.TheVariants.{Strict, Weak}
+use Rattle.clash.specs.declared.closure.CloseFault.{CloseFault}
+use Rattle.clash.specs.declared.closure.CloseFault.TheVariants as faults
+
+-- point p is before point q in every timeline that fits the net
+abbrev pub Always : PlainNet → Bool → ℕ → ℕ → Type 0
+Always net strict p q = (t : Timeline) → Fits net t → IsInOrder strict (t p) (t q)
+
+-- no timeline fits the net
+abbrev pub HasNoTimeline : PlainNet → Type 0
+HasNoTimeline net = (t : Timeline) → Fits net t → ⊥
+
+-- The timelines that keep the table are those that fit the net, and its cells say exactly what they all have.
+pub record IsClosureOf (net : PlainNet) (table : Table) : Type 0 where
+  pub size : table.points ≡ points net
+  pub keeps : (t : Timeline) → Keeps table t ↔ Fits net t
+  pub strict : (p q : ℕ) → p < points net → q < points net → (cell_at table p q ≡ Strict) ↔ Always net true p q
+  pub weak : (p q : ℕ) → p < points net → q < points net → (cell_at table p q ≡ Weak) ↔ (Always net false p q × ¬ Always net true p q)
+
+-- a clash is told only where no timeline fits
+abbrev pub TellsClash : PlainNet → CloseFault → Type 0
+TellsClash net (faults.Clash clash) = HasNoTimeline net
+TellsClash net faults.Memory = ⊤

@@ -1,0 +1,3 @@
+pub mod Closures
+pub mod Dates
+pub mod Steps

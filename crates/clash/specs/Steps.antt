@@ -1,0 +1,35 @@
+-- What is added to a table, step by step.
+use Rattle.std.specs.Prelude.{◌≡◌, ℕ, ◌<◌, ◌↔◌, ⊤, Result, Ok, Err}
+use Rattle.net_core.specs.Fits.{KeepsCalendar, KeepsLink, StartsFirst}
+use Rattle.net_core.specs.Nets.{PlainNet, intervals, points}
+use Rattle.net_core.specs.Relations.{Timeline}
+use Rattle.order_closure.specs.Tables.{Keeps, Table}
+use Rattle.std.specs.Prelude.{length}
+use Rattle.clash.specs.declared.closure.CloseFault.{CloseFault}
+use Rattle.clash.specs.declared.closure.CloseFault.TheVariants as faults
+
+-- each interval starts before it ends
+abbrev pub KeepsSpans : PlainNet → Timeline → Type 0
+KeepsSpans net t = (i : ℕ) → i < intervals net → StartsFirst t i
+
+-- each link holds
+abbrev pub KeepsLinks : PlainNet → Timeline → Type 0
+KeepsLinks net t = (k : ℕ) → k < length net.links → KeepsLink net t k
+
+-- all points are in the order of the calendar
+abbrev pub KeepsDates : PlainNet → Timeline → Type 0
+KeepsDates net t = (p q : ℕ) → p < points net → q < points net → KeepsCalendar net t p q
+
+-- the table has as many points as before, and the timelines that keep it are those that kept it and of which something is true
+abbrev pub Adds : (Timeline → Type 0) → Table → Table → Type 0
+Adds IsTrue old new = (new.points ≡ old.points) × ((t : Timeline) → Keeps new t ↔ (Keeps old t × IsTrue t))
+
+-- something is true of no timeline that keeps the table
+abbrev pub Excludes : (Timeline → Type 0) → Table → Type 0
+Excludes IsTrue old = (t : Timeline) → Keeps old t → IsTrue t → ⊥
+
+-- it was added, or it would clash, unless out of memory
+abbrev pub AddsOrClashes : (Timeline → Type 0) → Table → Table → Result Unit CloseFault → Type 0
+AddsOrClashes IsTrue old new (Ok done) = Adds IsTrue old new
+AddsOrClashes IsTrue old new (Err (faults.Clash clash)) = Excludes IsTrue old
+AddsOrClashes IsTrue old new (Err faults.Memory) = ⊤

@@ -1,0 +1,12 @@
+//! The closure of a net: what is true of every timeline that fits it, or that none does.
+#![tactic(auto)]
+
+mod calendar;
+mod closure;
+mod dates;
+mod insert;
+mod links;
+#[cfg(test)]
+mod tests;
+
+pub use closure::{Clash, CloseFault, close};
