@@ -3,7 +3,7 @@ ghost use Rattle.clash.specs.Closures.{IsClosureOf, TellsClash};
 ghost use Rattle.clash.specs.declared.closure.CloseFault.TheVariants as faults;
 ghost use Rattle.net_core.specs.Fits.{Fits};
 ghost use Rattle.net_core.specs.Relations.{Timeline};
-ghost use Rattle.std.specs.Prelude.{IfErr, IfOk, ◌≡◌, ◌↔◌};
+ghost use Rattle.std.specs.Prelude.{IfErr, IfOk, ◌≤◌, ◌≡◌, ◌↔◌};
 
 use crate::calendar::add_calendar;
 use crate::links::{add_links, add_spans};
@@ -39,6 +39,7 @@ impl From<Memory> for CloseFault {
 /// `Clash` comes exactly where no timeline fits.
 pub fn close(alloc: Global, net: &Net) -> Result<Closed, CloseFault>
     ensures ok { IfOk result (IsClosureOf net.now) }
+    ensures few { IfOk result (λ table. table.points ≤ 2048) }
     ensures fits { IfOk result (λ table. (t : Timeline) × Fits net.now t) }
     ensures err { IfErr result (TellsClash net.now) }
 {
