@@ -1,16 +1,16 @@
 -- Dates, and the orders of their points.
-use Rattle.std.proofs.Common.{◌≡◌, ◌↔◌, ℕ, ◌<◌, ◌≤◌, ◌+◌, ℤ, pos, ◌<ℤ◌, List, Option, Some, None, Bool, true, false, [], ◌∷◌, ◌++◌, refl, sym, subst, arith, below_more}
+use Rattle.std.proofs.Common.{◌≡◌, ◌↔◌, ℕ, ◌+◌, ℤ, pos, ◌<ℤ◌, List, Option, Some, None, Bool, true, false, [], ◌∷◌, ◌++◌, refl, subst, arith, below_more}
 use Rattle.std.proofs.lemmas.Int.{ints}
 use Rattle.std.specs.Int.Signed.{lt_z}
 use Rattle.std.specs.List.{All, Contains}
 use Rattle.std.specs.List.Sorted.{IsPermutation}
-use Rattle.std.proofs.lemmas.List.Elements.{All-contains, All-nil, All-push, All-weaker, Contains-append_left, Contains-push}
+use Rattle.std.proofs.lemmas.List.Elements.{All-contains, All-push, All-weaker, Contains-append_left, Contains-push}
 use Rattle.std.proofs.lemmas.List.Sorted.{All-permutation, Contains-permutation}
 use Rattle.net_core.specs.Atoms.{IsInOrder}
-use Rattle.net_core.specs.Fits.{FollowsNumbers, KeepsCalendar}
+use Rattle.net_core.specs.Fits.{FollowsNumbers}
 use Rattle.net_core.specs.Nets.{PlainNet, lower, points, upper}
 use Rattle.net_core.specs.Relations.{Timeline}
-use Rattle.clash.specs.Dates.{AllFollow, AreBelow, AreDates, Follows, FollowsAll, IsDate}
+use Rattle.clash.specs.Dates.{AllFollow, AreDates, Follows, FollowsAll, IsDate}
 use Rattle.clash.specs.Steps.{KeepsDates}
 use Rattle.clash.specs.declared.dates.Date.{Date}
 
@@ -20,10 +20,6 @@ dates_sorted number n dates sorted moved h = record {
   right = All-permutation (IsDate number n) dates sorted moved h.right;
   whole = λ p x lp is. Contains-permutation dates sorted (record { number = x; point = p }) moved (h.whole p x lp is);
 }
-
--- no points have no dates
-pub dates_none : (number : ℕ → Option ℤ) → AreDates number 0 []
-dates_none number = record { right = All-nil (IsDate number 0); whole = λ p x lp is. absurd (omega arith) }
 
 -- what is true of points below n is true of those below n + 1
 date_below : (number : ℕ → Option ℤ) (n : ℕ) (dates : List Date) → All (IsDate number n) dates → All (IsDate number (n + 1)) dates
@@ -44,13 +40,9 @@ dates_with number n dates x is h =
     record {
       right = All-push (IsDate number (n + 1)) dates last (date_below number n dates h.right) (omega arith, is);
       whole = λ p y lp e. below_more (λ (q : ℕ). number q ≡ Some y → Contains (dates ++ last ∷ []) (record { number = y; point = q })) n
-      (λ q lq k. Contains-append_left dates (last ∷ []) (record { number = y; point = q }) (h.whole q y lq k))
-      (λ k. let same : x ≡ y = cc in subst (λ (z : ℤ). Contains (dates ++ last ∷ []) (record { number = z; point = n })) same (Contains-push dates last)) p lp e;
+          (λ q lq k. Contains-append_left dates (last ∷ []) (record { number = y; point = q }) (h.whole q y lq k))
+          (λ k. let same : x ≡ y = cc in subst (λ (z : ℤ). Contains (dates ++ last ∷ []) (record { number = z; point = n })) same (Contains-push dates last)) p lp e;
     }
-
--- the points of dates are below n
-pub dates_below : (number : ℕ → Option ℤ) (n : ℕ) (dates : List Date) → AreDates number n dates → AreBelow n dates
-dates_below number n dates h = All-weaker (IsDate number n) (λ (date : Date). date.point < n) (λ date is. is.0) dates h.right
 
 -- two points are in the order of their numbers where each two such numbers say so
 by_numbers : (u l : Option ℤ) (m n : ℕ) → ((x y : ℤ) → u ≡ Some x → l ≡ Some y → FollowsNumbers (Some x) (Some y) m n) → FollowsNumbers u l m n
@@ -69,8 +61,8 @@ dates_said net uppers lowers up low t = (
       (All-contains (λ (d : Date). FollowsAll lowers d t) uppers first all (up.whole p x lp is_x)) (low.whole q y lq is_y)),
   λ keeps. All-weaker (IsDate (upper net) (points net)) (λ (d : Date). FollowsAll lowers d t) (λ first one.
       All-weaker (IsDate (lower net) (points net)) (λ (d : Date). Follows first d t) (λ second two.
-          subst (λ (l : Option ℤ). FollowsNumbers (Some first.number) l (t first.point) (t second.point)) two.1
-          (subst (λ (u : Option ℤ). FollowsNumbers u (lower net second.point) (t first.point) (t second.point)) one.1 (keeps first.point second.point one.0 two.0)))
+      subst (λ (l : Option ℤ). FollowsNumbers (Some first.number) l (t first.point) (t second.point)) two.1
+      (subst (λ (u : Option ℤ). FollowsNumbers u (lower net second.point) (t first.point) (t second.point)) one.1 (keeps first.point second.point one.0 two.0)))
       lowers low.right) uppers up.right,
 )
 

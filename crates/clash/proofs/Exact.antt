@@ -1,6 +1,5 @@
 -- A closed table that is kept by the timelines that fit a net.
-use Rattle.std.proofs.Common.{◌≡◌, ◌↔◌, ℕ, ◌<◌, ◌≤◌, Bool, true, false, Err, refl, sym, subst, arith}
-use Rattle.net_core.specs.Atoms.{IsInOrder}
+use Rattle.std.proofs.Common.{◌≡◌, ◌↔◌, ℕ, ◌<◌, ◌≤◌, Bool, true, false, Err, refl, arith}
 use Rattle.net_core.specs.Fits.{Fits}
 use Rattle.net_core.specs.Nets.{PlainNet, points}
 use Rattle.net_core.specs.Relations.{Timeline}
@@ -48,8 +47,7 @@ module _ (net : PlainNet) (table : Table) (closed : IsClosed table) (size : tabl
         (λ e t fits. strict_says (cell_at table p q) _ _ e (says p q lp lq t fits), λ always. strict_from _ (stands true p q lp lq always));
     weak = λ p q fp fq.
         let lp : p < table.points = omega arith in
-        let lq : q < table.points = omega arith in
-        (
+        let lq : q < table.points = omega arith in (
           λ e. (
             λ t fits. weak_says (cell_at table p q) _ _ e (says p q lp lq t fits),
             λ always. let is = strict_from (cell_at table p q) (stands true p q lp lq always) in cc,
@@ -64,11 +62,6 @@ module _ (net : PlainNet) (table : Table) (closed : IsClosed table) (size : tabl
   one_fits = let t = before_count table.points (cell_at table) in (t, (keeps t).0 (counts_kept table.points (cell_at table) closed))
 
 module _ (net : PlainNet) (none : Table) (all : (t : Timeline) → Keeps none t) where
-  -- a clash of the spans
-  pub spans_clash : (last : Table) (fault : CloseFault) → AddsOrClashes (KeepsSpans net) none last (Err fault) → TellsClash net fault
-  spans_clash last (faults.Clash clash) never = λ t fits. never t (all t) fits.order
-  spans_clash last faults.Memory never = tt
-
   module _ (spanned : Table) (spans : Adds (KeepsSpans net) none spanned) where
     -- a clash of the links
     pub links_clash : (last : Table) (fault : CloseFault) → AddsOrClashes (KeepsLinks net) spanned last (Err fault) → TellsClash net fault

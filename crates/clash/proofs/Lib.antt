@@ -1,4 +1,4 @@
-pub mod Steps
-pub mod LinkAtoms
-pub mod Exact
 pub mod DateOrders
+pub mod Exact
+pub mod LinkAtoms
+pub mod Steps

@@ -1,9 +1,9 @@
 -- What is added to a table, step by step.
-use Rattle.std.proofs.Common.{◌≡◌, ◌↔◌, ℕ, ◌<◌, ◌+◌, List, length, get_or, Result, Ok, Err, refl, ◌∙◌, arith, below_more}
+use Rattle.std.proofs.Common.{◌↔◌, ℕ, ◌<◌, ◌+◌, List, length, get_or, Result, Ok, Err, ◌∙◌, arith, below_more}
 use Rattle.std.specs.List.{All}
 use Rattle.std.proofs.lemmas.List.Elements.{All-from_get_or, All-get_or}
 use Rattle.net_core.specs.Relations.{Timeline}
-use Rattle.order_closure.specs.Tables.{Keeps, Table}
+use Rattle.order_closure.specs.Tables.{Table}
 use Rattle.clash.specs.Steps.{Adds, AddsOrClashes}
 use Rattle.clash.specs.declared.closure.CloseFault.{CloseFault}
 use Rattle.clash.specs.declared.closure.CloseFault.TheVariants as faults
@@ -11,10 +11,6 @@ use Rattle.clash.specs.declared.closure.CloseFault.TheVariants as faults
 -- something is true of all numbers below k
 abbrev pub Below : (ℕ → Timeline → Type 0) → ℕ → Timeline → Type 0
 Below IsTrue k t = (j : ℕ) → j < k → IsTrue j t
-
--- nothing is added at first
-pub adds_none : (IsTrue : ℕ → Timeline → Type 0) (table : Table) → Adds (Below IsTrue 0) table table
-adds_none IsTrue table = (refl, λ t. (λ kept. (kept, λ j lt. absurd (omega arith)), λ both. both.0))
 
 -- one thing more
 pub adds_more : (IsTrue : ℕ → Timeline → Type 0) (k : ℕ) (start now next : Table)

@@ -1,8 +1,7 @@
-use Rattle.std.proofs.Common.{List, sym, subst}
+use Rattle.std.proofs.Common.{sym, subst}
 use Rattle.net_core.specs.Nets.{lower, points, upper}
 use Rattle.clash.specs.Dates.{AllFollow, AreDates}
 use Rattle.clash.specs.Steps.{KeepsDates}
-use Rattle.clash.specs.declared.dates.Date.{Date}
 use Rattle.clash.proofs.DateOrders.{dates_said}
 use Rattle.clash.proofs.Steps.{answer_same}
 use Rattle.clash.proofs.calendar.add_calendar.Goals as goal

@@ -1,7 +1,7 @@
-use Rattle.std.proofs.Common.{◌≡◌, ◌+◌, List, [], ◌∷◌, ◌++◌, Vec, Global, sym, subst, ◌∙◌, rules}
+use Rattle.std.proofs.Common.{◌≡◌, ◌+◌, [], ◌∷◌, ◌++◌, sym, subst, ◌∙◌, rules}
 use Rattle.clash.specs.Dates.{AreDates, number_at}
 use Rattle.clash.specs.declared.dates.Date.{Date}
-use Rattle.clash.proofs.DateOrders.{dates_none, dates_with, dates_without}
+use Rattle.clash.proofs.DateOrders.{dates_with, dates_without}
 use Rattle.clash.proofs.dates.dates_of.Goals as goal
 use Rattle.clash.proofs.dates.dates_of.Goals.{in-Some+else-is_err, in_default}
 
@@ -15,11 +15,11 @@ loop-point-preserved c =
       end = c.loop-point.invariant.end;
       so_far = elim c.match-number.branch [
         | in-Some+else-is_err w ↦
-          let one : Date = record { number = w.in-Some.number; point = point } in
-          let items : c.match-number.dates.items ≡ dates ++ one ∷ [] = search rules in
-          subst (AreDates number (point + 1)) (sym items) (dates_with number point dates w.in-Some.number (sym c.number.ensures ∙ w.in-Some.is) so_far)
+            let one : Date = record { number = w.in-Some.number; point = point } in
+            let items : c.match-number.dates.items ≡ dates ++ one ∷ [] = search rules in
+            subst (AreDates number (point + 1)) (sym items) (dates_with number point dates w.in-Some.number (sym c.number.ensures ∙ w.in-Some.is) so_far)
         | in_default w ↦
-          let items : c.match-number.dates.items ≡ dates = search rules in
-          subst (AreDates number (point + 1)) (sym items) (dates_without number point dates (sym c.number.ensures ∙ w.in_default.is) so_far)
+            let items : c.match-number.dates.items ≡ dates = search rules in
+            subst (AreDates number (point + 1)) (sym items) (dates_without number point dates (sym c.number.ensures ∙ w.in_default.is) so_far)
       ];
     }

@@ -4,7 +4,7 @@ use Rattle.std.proofs.lemmas.Option.{slice_get-get_or}
 use Rattle.net_core.specs.Atoms.{Satisfies, atoms_in}
 use Rattle.net_core.specs.Relations.{Timeline}
 use Rattle.net_core.specs.declared.atom.Atom.{Atom}
-use Rattle.order_closure.specs.Tables.{AreInRange, SatisfiesAll, Table}
+use Rattle.order_closure.specs.Tables.{SatisfiesAll, Table}
 use Rattle.clash.specs.Steps.{Adds}
 use Rattle.clash.proofs.LinkAtoms.{at_number, atom_in_range, no_atom}
 use Rattle.clash.proofs.Steps.{Below, adds_more, all_below, answer_same, clashes_more}
@@ -34,12 +34,12 @@ loop-number-preserved c = record {
   end = c.loop-number.invariant.end;
   so_far = elim c.match-atom.branch [
     | in-Some+in_ok-insert w ↦
-      subst (λ (table : Table). Adds (Below (Atoms (atoms_in c.args.atoms)) (c.loop-number.number + 1)) c.args.table.now table) (sym w.table-is)
-      (adds_more (Atoms (atoms_in c.args.atoms)) c.loop-number.number c.args.table.now c.loop-number.table w.insert.new.table c.loop-number.invariant.so_far
-      (at_number c.loop-number.number (atoms_in c.args.atoms) w.in-Some.atom c.loop-number.table w.insert.new.table (Ok tt) w.in-Some.ensures w.in_ok-insert.ensures))
+        subst (λ (table : Table). Adds (Below (Atoms (atoms_in c.args.atoms)) (c.loop-number.number + 1)) c.args.table.now table) (sym w.table-is)
+        (adds_more (Atoms (atoms_in c.args.atoms)) c.loop-number.number c.args.table.now c.loop-number.table w.insert.new.table c.loop-number.invariant.so_far
+        (at_number c.loop-number.number (atoms_in c.args.atoms) w.in-Some.atom c.loop-number.table w.insert.new.table (Ok tt) w.in-Some.ensures w.in_ok-insert.ensures))
     | in_default w ↦
-      let below : c.loop-number.number < length (atoms_in c.args.atoms) = omega (arith, c.loop-number-test.true) in
-      absurd (w.in_default.not-Some (get_or (atoms_in c.args.atoms) c.loop-number.number no_atom) (c.atom.ensures ∙ slice_get-get_or (atoms_in c.args.atoms) c.loop-number.number no_atom below))
+        let below : c.loop-number.number < length (atoms_in c.args.atoms) = omega (arith, c.loop-number-test.true) in
+        absurd (w.in_default.not-Some (get_or (atoms_in c.args.atoms) c.loop-number.number no_atom) (c.atom.ensures ∙ slice_get-get_or (atoms_in c.args.atoms) c.loop-number.number no_atom below))
   ];
 }
 

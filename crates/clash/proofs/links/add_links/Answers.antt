@@ -1,4 +1,4 @@
-use Rattle.std.proofs.Common.{◌≡◌, ◌*◌, ℕ, Err, Ok, length, subst, sym, arith}
+use Rattle.std.proofs.Common.{◌≡◌, ◌*◌, ℕ, Err, Ok, length, subst, arith}
 use Rattle.std.proofs.lemmas.Result.{err_from_is_err_and}
 use Rattle.net_core.specs.Atoms.{atoms_in}
 use Rattle.net_core.specs.Fits.{KeepsLink}
@@ -29,7 +29,7 @@ loop-k-preserved c =
     record {
       end = c.loop-k.invariant.end;
       so_far = adds_more Keeps c.loop-k.k c.args.table.now c.loop-k.table c.add_atoms.new.table c.loop-k.invariant.so_far
-      (answer_same (SatisfiesAll (atoms_in c.atoms_of.result)) (Keeps c.loop-k.k) (link_said c.args.net.now c.loop-k.k _ _ c.link-link.ensures.link c.atoms_of.ensures) c.loop-k.table c.add_atoms.new.table (Ok tt) c.in_ok-add_atoms.ensures);
+          (answer_same (SatisfiesAll (atoms_in c.atoms_of.result)) (Keeps c.loop-k.k) (link_said c.args.net.now c.loop-k.k _ _ c.link-link.ensures.link c.atoms_of.ensures) c.loop-k.table c.add_atoms.new.table (Ok tt) c.in_ok-add_atoms.ensures);
     }
 
 pub returns : goal.returns
