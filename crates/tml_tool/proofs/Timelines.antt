@@ -37,12 +37,12 @@ well_formed m ranks few size small =
 least_fits : (net : PlainNet) (table : Table) (t : Timeline) → IsClosureOf net table → IsLeast table.points (Keeps table) t → IsLeast (points net) (Fits net) t
 least_fits net table t c l = record {
   holds = (c.keeps t).0 l.holds;
-  least = λ u fits p less. l.least u ((c.keeps u).1 fits) p (omega (arith, less, c.points));
+  least = λ u fits p less. l.least u ((c.keeps u).1 fits) p (omega (arith, less, c.size));
 }
 
 -- the text of the least timeline of the closure tells the least timeline of the document
 pub tells_timeline : (doc text : List ℕ) (net : PlainNet) (table : Table) → HasNet doc net → IsClosureOf net table → IsLeastText table text → TellsTimeline doc text
-tells_timeline doc text net table h c l = (net, l.0, h, l.1 ∙ c.points, least_fits net table (timeline_of l.0) c l.2, l.3)
+tells_timeline doc text net table h c l = (net, l.0, h, l.1 ∙ c.size, least_fits net table (timeline_of l.0) c l.2, l.3)
 
 -- two lists of the same items are one
 same_items : (a b : List ℕ) → length a ≡ length b → ((p : ℕ) → p < length a → get_or a p 0 ≡ get_or b p 0) → a ≡ b
