@@ -22,7 +22,8 @@ pub record IsClosureOf (net : PlainNet) (table : Table) : Type 0 where
   pub size : table.points ≡ points net
   pub keeps : (t : Timeline) → Keeps table t ↔ Fits net t
   pub strict : (p q : ℕ) → p < points net → q < points net → (cell_at table p q ≡ Strict) ↔ Always net true p q
-  pub weak : (p q : ℕ) → p < points net → q < points net → (cell_at table p q ≡ Weak) ↔ (Always net false p q × ¬ Always net true p q)
+  pub weak : (p q : ℕ) → p < points net → q < points net
+      → (cell_at table p q ≡ Weak) ↔ (Always net false p q × ¬ Always net true p q)
 
 -- a clash is told only where no timeline fits
 abbrev pub TellsClash : PlainNet → CloseFault → Type 0

@@ -20,7 +20,7 @@ KeepsLinks net t = (k : ℕ) → k < length net.links → KeepsLink net t k
 abbrev pub KeepsDates : PlainNet → Timeline → Type 0
 KeepsDates net t = (p q : ℕ) → p < points net → q < points net → KeepsCalendar net t p q
 
--- the table has as many points as before, and the timelines that keep it are those that kept it and of which something is true
+-- the table has as many points as before, and its timelines are those that kept it and of which something is true
 abbrev pub Adds : (Timeline → Type 0) → Table → Table → Type 0
 Adds IsTrue old new = (new.points ≡ old.points) × ((t : Timeline) → Keeps new t ↔ (Keeps old t × IsTrue t))
 

@@ -11,9 +11,9 @@ use net_core::{Atom, Net};
 use order_closure::Closed;
 use std::alloc::Global;
 
-/// Adds the orders of all points that the calendar orders. The points with an upper number are taken from the greatest one
-/// down, and for each of them those with a lower number from the least one up: so nearly each order but one for each date
-/// stands in the table before it is asked.
+/// Adds the orders of all points that the calendar orders. The points with an upper number are taken from the greatest
+/// one down, and for each of them those with a lower number from the least one up: so nearly each order but one for
+/// each date stands in the table before it is asked.
 pub fn add_calendar(alloc: Global, table: &mut Closed, net: &Net) -> Result<(), CloseFault>
     requires { table.old.points ≡ points net.now }
     ensures { AddsOrClashes (KeepsDates net.now) table.old table.new result }

@@ -1,4 +1,4 @@
-//! Small nets, with the cells that follow from them by hand. Interval `a` has the points 0 and 1, and `b` the points 2 and 3.
+//! Small nets, with the cells that follow from them by hand. Interval `a` has the points 0 and 1, and `b` has 2 and 3.
 use crate::{CloseFault, close};
 use net_core::{Bounds, List, Net, NetLink, Rel};
 use order_closure::{Cell, Closed};
@@ -17,6 +17,9 @@ const IN_TURN: [Cell; 16] = [W, S, S, S, F, W, S, S, F, F, W, S, F, F, F, W];
 
 /// The cells where `a` ends where `b` begins.
 const MEETING: [Cell; 16] = [W, S, S, S, F, W, W, S, F, W, W, S, F, F, F, W];
+
+/// The cells where both begin together and end together.
+const AT_ONCE: [Cell; 16] = [W, S, W, S, F, W, F, W, W, S, W, S, F, W, F, W];
 
 /// The cells of a table, row after row.
 fn cells_of(alloc: Global, table: &Closed) -> Result<Vec<Cell>, AllocError> {
@@ -78,16 +81,13 @@ fn an_interval_is_not_before_itself(rt: HostRuntime) -> Result<(), Fail> {
 #[test]
 fn links_are_added_both_ways(rt: HostRuntime) -> Result<(), Fail> {
     // each relation of `a` to `b` and of `b` to `a`, and the cells
-    let cases: [(Rel, Rel, Option<&[Cell]>); 6] = [
+    let cases: [(Rel, Rel, Option<&[Cell]>); 7] = [
         (Rel::Before, Rel::After, Some(&IN_TURN)),
         (Rel::Before, Rel::Before, None),
         (Rel::Ibefore, Rel::Iafter, Some(&MEETING)),
         (Rel::Ibefore, Rel::After, None),
-        (
-            Rel::Simultaneous,
-            Rel::Simultaneous,
-            Some(&[W, S, W, S, F, W, F, W, W, S, W, S, F, W, F, W]),
-        ),
+        (Rel::Simultaneous, Rel::Simultaneous, Some(&AT_ONCE)),
+        (Rel::Simultaneous, Rel::DuringInv, Some(&AT_ONCE)),
         (Rel::Simultaneous, Rel::Begins, None),
     ];
     for (there, back, wanted) in cases {
