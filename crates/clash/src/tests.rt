@@ -1,4 +1,6 @@
 //! Small nets, with the cells that follow from them by hand. Interval `a` has the points 0 and 1, and `b` has 2 and 3.
+mod by_definition;
+
 use crate::{CloseFault, close};
 use net_core::{Bounds, List, Net, NetLink, Rel};
 use order_closure::{Cell, Closed};
