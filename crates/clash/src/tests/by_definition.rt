@@ -69,6 +69,8 @@ fn agrees(rt: &(impl Abort + AllocGlobal), net: &Net) {
 /// The link of a number below 56: its relation, and which of two intervals it is between.
 fn link(k: usize) -> NetLink
     requires { k < 56 }
+    ensures a { result.a < 2 }
+    ensures b { result.b < 2 }
 {
     NetLink {
         a: (k % 2) as u32,
