@@ -1,11 +1,18 @@
 -- Evidence as a plain value, and its one text.
-use Rattle.std.specs.Prelude.{◌≡◌, ℕ, ◌^◌, ◌<◌, List, [], ◌∷◌, ◌++◌, length, map, codes, decimal}
+use Rattle.std.specs.Prelude.{◌≡◌, ℕ, ◌^◌, ◌<◌, List, [], ◌∷◌, ◌++◌, length, map, flat_map, codes, decimal}
 use Rattle.std.specs.List.{All, concat}
+use Rattle.net_core.specs.Atoms.{atom_count}
+use Rattle.net_core.specs.Rels.{rel_text}
+use Rattle.net_core.specs.declared.rels.Rel.{Rel}
+use Rattle.net_core.specs.declared.step.Step.{Step}
+use Rattle.net_core.specs.declared.step.Step.TheVariants.{Link, Span, Calendar}
 use Rattle.evidence_format.specs.Lines.{Lines}
 
--- what a file is evidence of: a timeline, by the ranks of the start and the end of each interval
+-- What a file is evidence of: a timeline, by the ranks of the start and the end of each interval; a relation between two intervals that holds in every timeline that fits, by a walk for each order that it is; or a relation that fails in one of them, by the ranks of that one.
 pub data PlainEvidence : Type 0 where
   timeline : List (ℕ × ℕ) → PlainEvidence
+  entails : ℕ → Rel → ℕ → List (List Step) → PlainEvidence
+  counter : ℕ → Rel → ℕ → List (ℕ × ℕ) → PlainEvidence
 
 -- a number that can stand in a text
 abbrev pub IsNumber : ℕ → Type 0
@@ -14,9 +21,24 @@ IsNumber n = n < 2 ^ 32
 abbrev pub IsPair : ℕ × ℕ → Type 0
 IsPair pair = IsNumber pair.0 × IsNumber pair.1
 
--- all its numbers can stand in a text, and so can the number of its intervals
+-- the ranks, and the number of intervals, can stand in a text
+abbrev pub AreRanks : List (ℕ × ℕ) → Type 0
+AreRanks ranks = All IsPair ranks × IsNumber (length ranks)
+
+abbrev pub HasNumbers : Step → Type 0
+HasNumbers (Link link atom) = IsNumber link × IsNumber atom
+HasNumbers (Span i) = IsNumber i
+HasNumbers (Calendar p q) = IsNumber p × IsNumber q
+
+-- the numbers of the steps, and how many there are, can stand in a text
+abbrev pub AreSteps : List Step → Type 0
+AreSteps steps = All HasNumbers steps × IsNumber (length steps)
+
+-- All numbers can stand in a text, and a relation has one walk for each order that it is.
 abbrev pub IsWellFormed : PlainEvidence → Type 0
-IsWellFormed (timeline ranks) = All IsPair ranks × IsNumber (length ranks)
+IsWellFormed (timeline ranks) = AreRanks ranks
+IsWellFormed (entails a r b walks) = IsNumber a × IsNumber b × All AreSteps walks × (length walks ≡ atom_count r)
+IsWellFormed (counter a r b ranks) = IsNumber a × IsNumber b × AreRanks ranks
 
 -- a keyword that ends in a space, and a number
 abbrev pub one_number : List ℕ → ℕ → List ℕ
@@ -26,6 +48,10 @@ one_number keyword n = keyword ++ decimal n ++ codes "\n"
 abbrev pub two_numbers : List ℕ → ℕ → ℕ → List ℕ
 two_numbers keyword m n = keyword ++ decimal m ++ codes " " ++ decimal n ++ codes "\n"
 
+-- a keyword that ends in a space, and a relation between two intervals
+abbrev pub relation_line : List ℕ → ℕ → Rel → ℕ → List ℕ
+relation_line keyword a r b = keyword ++ decimal a ++ codes " " ++ rel_text r ++ codes " " ++ decimal b ++ codes "\n"
+
 abbrev pub at_line : ℕ × ℕ → List ℕ
 at_line pair = two_numbers (codes "at ") pair.0 pair.1
 
@@ -33,8 +59,19 @@ at_line pair = two_numbers (codes "at ") pair.0 pair.1
 abbrev pub timeline_lines : List (ℕ × ℕ) → Lines
 timeline_lines ranks = one_number (codes "timeline ") (length ranks) ∷ map at_line ranks
 
+abbrev pub step_line : Step → List ℕ
+step_line (Link link atom) = two_numbers (codes "via ") link atom
+step_line (Span i) = one_number (codes "span ") i
+step_line (Calendar p q) = two_numbers (codes "calendar ") p q
+
+-- how many steps there are, and each of them
+abbrev pub walk_lines : List Step → Lines
+walk_lines steps = one_number (codes "walk ") (length steps) ∷ map step_line steps
+
 abbrev pub body_lines : PlainEvidence → Lines
 body_lines (timeline ranks) = timeline_lines ranks
+body_lines (entails a r b walks) = relation_line (codes "entails ") a r b ∷ flat_map walk_lines walks
+body_lines (counter a r b ranks) = relation_line (codes "counter ") a r b ∷ timeline_lines ranks
 
 abbrev pub first_line : List ℕ
 first_line = codes "tml-evidence 1\n"

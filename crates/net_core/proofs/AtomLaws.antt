@@ -1,7 +1,9 @@
 -- A relation and its orders of points say the same.
-use Rattle.std.proofs.Common.{◌≡◌, ℕ, ◌≤◌, arith}
+use Rattle.std.proofs.Common.{◌≡◌, ℕ, ◌≤◌, arith, length, refl}
 use Rattle.net_core.specs.declared.rels.Rel.TheVariants as rel
-use Rattle.net_core.specs.Atoms.{AtomsSayTheRelation}
+use Rattle.net_core.specs.declared.net.Ends.{Ends}
+use Rattle.net_core.specs.declared.rels.Rel.{Rel}
+use Rattle.net_core.specs.Atoms.{AtomsSayTheRelation, atom_count, atoms_between}
 
 abbrev BothWays : ℕ → ℕ → Type 0
 BothWays m n = (m ≤ n) × (n ≤ m)
@@ -27,3 +29,20 @@ atoms_say_the_relation t rel.Begins a b = (λ h. let s = split _ _ h.0 in (s.0, 
 atoms_say_the_relation t rel.BegunBy a b = (λ h. let s = split _ _ h.0 in (s.1, (s.0, (h.1, tt))), λ k. (join _ _ k.1.0 k.0, k.1.1.0))
 atoms_say_the_relation t rel.Ends a b = (λ h. let s = split _ _ h.0 in (s.0, (s.1, (h.1, tt))), λ k. (join _ _ k.0 k.1.0, k.1.1.0))
 atoms_say_the_relation t rel.EndedBy a b = (λ h. let s = split _ _ h.0 in (s.1, (s.0, (h.1, tt))), λ k. (join _ _ k.1.0 k.0, k.1.1.0))
+
+-- a relation is as many orders between any two intervals
+pub atoms_counted : (r : Rel) (a b : Ends) → length (atoms_between r a b) ≡ atom_count r
+atoms_counted rel.Before a b = refl
+atoms_counted rel.After a b = refl
+atoms_counted rel.Includes a b = refl
+atoms_counted rel.IsIncluded a b = refl
+atoms_counted rel.During a b = refl
+atoms_counted rel.DuringInv a b = refl
+atoms_counted rel.Simultaneous a b = refl
+atoms_counted rel.Identity a b = refl
+atoms_counted rel.Ibefore a b = refl
+atoms_counted rel.Iafter a b = refl
+atoms_counted rel.Begins a b = refl
+atoms_counted rel.BegunBy a b = refl
+atoms_counted rel.Ends a b = refl
+atoms_counted rel.EndedBy a b = refl

@@ -1,5 +1,5 @@
 -- Orders of two points, and those that a relation is.
-use Rattle.std.specs.Prelude.{ℕ, ◌+◌, ◌*◌, ◌<◌, ◌≤◌, ◌↔◌, Bool, true, false, List, [], ◌∷◌, ◌++◌}
+use Rattle.std.specs.Prelude.{ℕ, ◌+◌, ◌*◌, ◌<◌, ◌≤◌, ◌↔◌, Bool, true, false, List, [], ◌∷◌, ◌++◌, length}
 use Rattle.std.specs.List.{AllByRecursion}
 use Rattle.net_core.specs.declared.atom.Atom.{Atom}
 use Rattle.net_core.specs.declared.atom.Atoms.{Atoms}
@@ -44,6 +44,10 @@ points_of i = record { start = 2 * i; finish = 2 * i + 1 }
 -- the orders that a relation is, between intervals a and b
 abbrev pub atoms_of : Rel → ℕ → ℕ → List Atom
 atoms_of r a b = atoms_between r (points_of a) (points_of b)
+
+-- how many orders a relation is
+abbrev pub atom_count : Rel → ℕ
+atom_count r = length (atoms_of r 0 0)
 
 -- the orders that a value of the program stands for
 abbrev pub atoms_in : Atoms → List Atom

@@ -8,3 +8,5 @@ pub mod Fits
 pub mod Rows
 pub mod Firsts
 pub mod Ranks
+pub mod Steps
+pub mod Walks

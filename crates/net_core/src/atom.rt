@@ -24,21 +24,12 @@ pub struct Atoms {
 
 impl Atoms {
     /// How many there are.
+    #[tactic(auto, using(crate::proofs::AtomLaws::atoms_counted))]
     pub fn count(&self) -> u32
         ensures count { result ≡ length (spec.atoms_in self.now) }
         ensures few { result ≤ 4 }
     {
-        match self.rel {
-            Rel::Before | Rel::After => 1,
-            Rel::Includes
-            | Rel::IsIncluded
-            | Rel::During
-            | Rel::DuringInv
-            | Rel::Ibefore
-            | Rel::Iafter => 2,
-            Rel::Begins | Rel::BegunBy | Rel::Ends | Rel::EndedBy => 3,
-            Rel::Simultaneous | Rel::Identity => 4,
-        }
+        self.rel.atom_count()
     }
 
     /// The order of this number, counted from 0 in the order of the table of relations. None comes exactly where `k` is
@@ -89,7 +80,7 @@ pub fn atoms_of(rel: Rel, a: u32, b: u32) -> Atoms
 }
 
 /// The points of an interval: its start and its end.
-fn points_of(interval: u32) -> Ends
+pub(crate) fn points_of(interval: u32) -> Ends
     requires { interval < 2147483647 }
     ensures { result ≡ spec.points_of interval }
 {
@@ -99,7 +90,7 @@ fn points_of(interval: u32) -> Ends
     }
 }
 
-fn before(from: u32, to: u32) -> Atom
+pub(crate) fn before(from: u32, to: u32) -> Atom
     ensures { result ≡ spec.before from to }
 {
     Atom {

@@ -8,9 +8,11 @@ mod list;
 mod net;
 mod ranks;
 mod rels;
+mod step;
 #[cfg(test)]
 mod tests;
 mod timeline;
+mod walk;
 
 pub use atom::{Atom, Atoms, atoms_of, atoms_say_the_relation};
 pub use bounds::Bounds;
@@ -19,4 +21,6 @@ pub use list::{List, Memory};
 pub use net::{Ends, Net, NetLink, holds};
 pub use ranks::Ranks;
 pub use rels::{Rel, rel_of, rels_are_apart};
+pub use step::{Step, step_atom};
 pub use timeline::{first_broken_link, first_broken_pair, first_unordered, satisfies};
+pub use walk::Walk;

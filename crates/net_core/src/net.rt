@@ -86,7 +86,7 @@ impl Net {
     }
 
     /// The number that a point is not below, where the calendar gives one.
-    pub(crate) fn lower(&self, point: u32) -> Option<i64>
+    pub fn lower(&self, point: u32) -> Option<i64>
         requires { point < nets.points self.now }
         ensures { result ≡ nets.lower self.now point }
     {
@@ -94,7 +94,7 @@ impl Net {
     }
 
     /// The number that a point is not above, where the calendar gives one.
-    pub(crate) fn upper(&self, point: u32) -> Option<i64>
+    pub fn upper(&self, point: u32) -> Option<i64>
         requires { point < nets.points self.now }
         ensures { result ≡ nets.upper self.now point }
     {

@@ -1,8 +1,9 @@
 //! The relations of TLINK.
 ghost use Rattle.named.specs.Texts.{AreApart, NoneHas, named_of};
+ghost use Rattle.net_core.specs.Atoms.{atom_count};
 ghost use Rattle.net_core.specs.Rels as names;
 ghost use Rattle.std.proofs.Common.{rules};
-ghost use Rattle.std.specs.Prelude.{IfSome, IsNone, ◌≡◌, ◌↔◌};
+ghost use Rattle.std.specs.Prelude.{IfSome, IsNone, ◌≡◌, ◌≤◌, ◌↔◌};
 
 use named::{Named, named_by};
 
@@ -60,6 +61,24 @@ impl Rel {
             Rel::BegunBy => b"BEGUN_BY",
             Rel::Ends => b"ENDS",
             Rel::EndedBy => b"ENDED_BY",
+        }
+    }
+
+    /// How many orders of starts and ends the relation is.
+    pub fn atom_count(self) -> u32
+        ensures count { result ≡ atom_count self }
+        ensures few { result ≤ 4 }
+    {
+        match self {
+            Rel::Before | Rel::After => 1,
+            Rel::Includes
+            | Rel::IsIncluded
+            | Rel::During
+            | Rel::DuringInv
+            | Rel::Ibefore
+            | Rel::Iafter => 2,
+            Rel::Begins | Rel::BegunBy | Rel::Ends | Rel::EndedBy => 3,
+            Rel::Simultaneous | Rel::Identity => 4,
         }
     }
 }
