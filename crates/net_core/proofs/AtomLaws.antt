@@ -1,9 +1,10 @@
 -- A relation and its orders of points say the same.
-use Rattle.std.proofs.Common.{◌≡◌, ℕ, ◌≤◌, arith, length, refl}
+use Rattle.std.proofs.Common.{◌≡◌, ℕ, ◌≤◌, ◌<◌, ◌*◌, arith, length, refl}
+use Rattle.std.specs.List.{AllByRecursion}
 use Rattle.net_core.specs.declared.rels.Rel.TheVariants as rel
 use Rattle.net_core.specs.declared.net.Ends.{Ends}
 use Rattle.net_core.specs.declared.rels.Rel.{Rel}
-use Rattle.net_core.specs.Atoms.{AtomsSayTheRelation, atom_count, atoms_between}
+use Rattle.net_core.specs.Atoms.{AtomsSayTheRelation, IsInRange, atom_count, atoms_between, atoms_of, points_of}
 
 abbrev BothWays : ℕ → ℕ → Type 0
 BothWays m n = (m ≤ n) × (n ≤ m)
@@ -46,3 +47,24 @@ atoms_counted rel.Begins a b = refl
 atoms_counted rel.BegunBy a b = refl
 atoms_counted rel.Ends a b = refl
 atoms_counted rel.EndedBy a b = refl
+
+-- the orders between two intervals whose points are below n
+between : (n : ℕ) (r : Rel) (a b : Ends) → a.start < n → a.finish < n → b.start < n → b.finish < n → AllByRecursion (IsInRange n) (atoms_between r a b)
+between n rel.Before a b s f u v = ((f, u), tt)
+between n rel.After a b s f u v = ((v, s), tt)
+between n rel.Includes a b s f u v = ((s, u), ((v, f), tt))
+between n rel.IsIncluded a b s f u v = ((u, s), ((f, v), tt))
+between n rel.During a b s f u v = ((u, s), ((f, v), tt))
+between n rel.DuringInv a b s f u v = ((s, u), ((v, f), tt))
+between n rel.Simultaneous a b s f u v = ((s, u), ((u, s), ((f, v), ((v, f), tt))))
+between n rel.Identity a b s f u v = ((s, u), ((u, s), ((f, v), ((v, f), tt))))
+between n rel.Ibefore a b s f u v = ((f, u), ((u, f), tt))
+between n rel.Iafter a b s f u v = ((v, s), ((s, v), tt))
+between n rel.Begins a b s f u v = ((s, u), ((u, s), ((f, v), tt)))
+between n rel.BegunBy a b s f u v = ((s, u), ((u, s), ((v, f), tt)))
+between n rel.Ends a b s f u v = ((f, v), ((v, f), ((u, s), tt)))
+between n rel.EndedBy a b s f u v = ((f, v), ((v, f), ((s, u), tt)))
+
+-- the orders of a relation between two of the first n intervals are of their points
+pub atoms_in_range : (n : ℕ) (r : Rel) (a b : ℕ) → a < n → b < n → AllByRecursion (IsInRange (2 * n)) (atoms_of r a b)
+atoms_in_range n r a b la lb = between (2 * n) r (points_of a) (points_of b) (omega arith) (omega arith) (omega arith) (omega arith)

@@ -2,3 +2,5 @@ pub mod AtomLaws
 pub mod FirstLaws
 pub mod RankLaws
 pub mod PointLaws
+pub mod StepLaws
+pub mod WalkLaws

@@ -58,6 +58,10 @@ abbrev pub IsInOrder : Bool → ℕ → ℕ → Type 0
 IsInOrder true m n = m < n
 IsInOrder false m n = m ≤ n
 
+-- both points of an atom are below n
+abbrev pub IsInRange : ℕ → Atom → Type 0
+IsInRange n atom = (atom.from < n) × (atom.to < n)
+
 -- the points of an atom are in its order
 abbrev pub Satisfies : Timeline → Atom → Type 0
 Satisfies t atom = IsInOrder atom.strict (t atom.from) (t atom.to)

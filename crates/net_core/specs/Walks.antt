@@ -1,8 +1,11 @@
 -- Walks through a net, from point to point.
-use Rattle.std.specs.Prelude.{◌≡◌, ℕ, Bool, true, false, List, [], ◌∷◌, slice_index_or}
+use Rattle.std.specs.Prelude.{◌≡◌, ◌↔◌, ℕ, Bool, true, false, List, [], ◌∷◌, slice_index_or}
 use Rattle.net_core.specs.declared.atom.Atom.{Atom}
 use Rattle.net_core.specs.declared.step.Step.{Step}
+use Rattle.net_core.specs.Atoms.{Satisfies}
+use Rattle.net_core.specs.Fits.{FitsWith}
 use Rattle.net_core.specs.Nets.{PlainNet}
+use Rattle.net_core.specs.Relations.{Timeline}
 use Rattle.net_core.specs.Steps.{GoesBy, has_strict}
 
 -- The steps are joined from x to y, over spans, the calendar and the links of a set: the first begins at x, each begins where the one before it ended, and the last ends at y.
@@ -20,3 +23,8 @@ HasWalk net Chosen x y strict = (steps : List Step) × IsWalk net Chosen x y str
 -- the links that are kept, of those of a net
 abbrev pub Kept : List Bool → ℕ → Type 0
 Kept keep k = slice_index_or keep k false ≡ true
+
+-- the law: a timeline fits with links exactly where it is in the order of each step over spans, the calendar and these links
+abbrev pub StepsSayWhatFits : Type 0
+StepsSayWhatFits = (net : PlainNet) (keep : List Bool) (t : Timeline)
+    → FitsWith net (Kept keep) t ↔ ((step : Step) (atom : Atom) → GoesBy net (Kept keep) step atom → Satisfies t atom)

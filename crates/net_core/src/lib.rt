@@ -21,6 +21,6 @@ pub use list::{List, Memory};
 pub use net::{Ends, Net, NetLink, holds};
 pub use ranks::Ranks;
 pub use rels::{Rel, rel_of, rels_are_apart};
-pub use step::{Step, step_atom};
+pub use step::{Step, step_atom, steps_say_what_fits};
 pub use timeline::{first_broken_link, first_broken_pair, first_unordered, satisfies};
 pub use walk::Walk;

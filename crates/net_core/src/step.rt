@@ -1,8 +1,10 @@
 //! Steps from point to point.
-ghost use Rattle.net_core.specs.Atoms as atoms;
+ghost use Rattle.net_core.specs.Atoms.{IsInRange};
+ghost use Rattle.net_core.specs.Nets.{points};
 ghost use Rattle.net_core.specs.Steps as spec;
+ghost use Rattle.net_core.specs.Walks.{StepsSayWhatFits};
 ghost use Rattle.net_core.specs.declared.step.Step.TheVariants.{Calendar, Link, Span};
-ghost use Rattle.std.specs.Prelude.{◌≡◌};
+ghost use Rattle.std.specs.Prelude.{IfSome, ◌≡◌};
 
 use crate::atom::{before, points_of};
 use crate::{Atom, Net, atoms_of};
@@ -23,7 +25,8 @@ pub enum Step {
 /// strict, and that of the calendar is strict where the two numbers differ. None comes exactly where a number is out of
 /// range, or the calendar gives no such order.
 pub fn step_atom(net: &Net, step: &Step) -> Option<Atom>
-    ensures { result ≡ spec.atom_of net.now step.now }
+    ensures exact { result ≡ spec.atom_of net.now step.now }
+    ensures in_range { IfSome result (IsInRange (points net.now)) }
 {
     match *step {
         Step::Link { link, atom } => link_atom(net, link, atom),
@@ -32,8 +35,10 @@ pub fn step_atom(net: &Net, step: &Step) -> Option<Atom>
     }
 }
 
+#[tactic(auto, using(crate::proofs::StepLaws::step_in_range))]
 fn link_atom(net: &Net, link: u32, atom: u32) -> Option<Atom>
-    ensures { result ≡ spec.atom_of net.now (Link link atom) }
+    ensures exact { result ≡ spec.atom_of net.now (Link link atom) }
+    ensures in_range { IfSome result (IsInRange (points net.now)) }
 {
     if link >= net.links() {
         return None;
@@ -42,8 +47,10 @@ fn link_atom(net: &Net, link: u32, atom: u32) -> Option<Atom>
     atoms_of(link.rel, link.a, link.b).atom(atom)
 }
 
+#[tactic(auto, using(crate::proofs::StepLaws::step_in_range))]
 fn span_atom(net: &Net, interval: u32) -> Option<Atom>
-    ensures { result ≡ spec.atom_of net.now (Span interval) }
+    ensures exact { result ≡ spec.atom_of net.now (Span interval) }
+    ensures in_range { IfSome result (IsInRange (points net.now)) }
 {
     if interval >= net.intervals() {
         return None;
@@ -52,8 +59,10 @@ fn span_atom(net: &Net, interval: u32) -> Option<Atom>
     Some(before(points.start, points.finish))
 }
 
+#[tactic(auto, using(crate::proofs::StepLaws::step_in_range))]
 fn calendar_atom(net: &Net, from: u32, to: u32) -> Option<Atom>
-    ensures { result ≡ spec.atom_of net.now (Calendar from to) }
+    ensures exact { result ≡ spec.atom_of net.now (Calendar from to) }
+    ensures in_range { IfSome result (IsInRange (points net.now)) }
 {
     let points = 2 * net.intervals();
     if from >= points || to >= points {
@@ -70,3 +79,9 @@ fn calendar_atom(net: &Net, from: u32, to: u32) -> Option<Atom>
         strict: upper < lower,
     })
 }
+
+/// A law: a timeline fits with links exactly where it is in the order of each step over spans, the calendar and these
+/// links.
+pub fn steps_say_what_fits()
+    ensures { StepsSayWhatFits }
+{}

@@ -1,7 +1,7 @@
 -- Tables of the orders of points, and what they stand for.
 use Rattle.std.specs.Prelude.{◌≡◌, ℕ, ◌<◌, ◌≤◌, ◌↔◌, ◌==◌, ⊤, Bool, true, false, if◌then◌else◌, List, [], map, slice_index_or}
 use Rattle.std.specs.List.{All, range_with_len}
-use Rattle.net_core.specs.Atoms.{IsInOrder, Satisfies}
+use Rattle.net_core.specs.Atoms.{IsInOrder, IsInRange, Satisfies}
 use Rattle.net_core.specs.Relations.{Timeline}
 use Rattle.net_core.specs.declared.atom.Atom.{Atom}
 use Rattle.order_closure.specs.Cells.{Says, joined, order, strength}
@@ -37,7 +37,7 @@ SatisfiesAll atoms t = All (Satisfies t) atoms
 
 -- the points of the atoms are those of a table
 abbrev pub AreInRange : ℕ → List Atom → Type 0
-AreInRange n atoms = All (λ (a : Atom). (a.from < n) × (a.to < n)) atoms
+AreInRange n atoms = All (IsInRange n) atoms
 
 -- point i is before point j in every timeline of which the atoms are true
 abbrev pub Entails : List Atom → Bool → ℕ → ℕ → Type 0

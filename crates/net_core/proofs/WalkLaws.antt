@@ -1,0 +1,59 @@
+-- Walks, and what they say of timelines.
+use Rattle.std.proofs.Common.{◌≡◌, ℕ, ◌≤◌, Bool, true, false, ◌||◌, List, [], ◌∷◌, ◌++◌, refl, sym, ap, subst, ◌∙◌, arith}
+use Rattle.net_core.specs.Atoms.{IsInOrder}
+use Rattle.net_core.specs.Fits.{FitsWith}
+use Rattle.net_core.specs.Nets.{PlainNet}
+use Rattle.net_core.specs.Relations.{Timeline}
+use Rattle.net_core.specs.Steps.{GoesBy, atom_of, has_strict, is_strict_order}
+use Rattle.net_core.specs.Walks.{IsJoined, IsWalk}
+use Rattle.net_core.specs.declared.atom.Atom.{Atom}
+use Rattle.net_core.specs.declared.step.Step.{Step}
+use Rattle.net_core.proofs.StepLaws.{step_kept}
+
+-- an order and then another one are one together, strict where one of them is
+pub in_order_then : (o r : Bool) (a b c : ℕ) → IsInOrder o a b → IsInOrder r b c → IsInOrder (o || r) a c
+in_order_then true true a b c h k = omega arith
+in_order_then true false a b c h k = omega arith
+in_order_then false true a b c h k = omega arith
+in_order_then false false a b c h k = omega arith
+
+-- a strict order is one that is not strict too
+pub in_order_weaker : (o r : Bool) (a b : ℕ) → (o ≡ true → r ≡ true) → IsInOrder r a b → IsInOrder o a b
+in_order_weaker true true a b h k = k
+in_order_weaker true false a b h k = let e = h refl in cc
+in_order_weaker false true a b h k = omega arith
+in_order_weaker false false a b h k = k
+
+-- whether a step is strict, by its order
+step_strict : (net : PlainNet) (Chosen : ℕ → Type 0) (step : Step) (a : Atom) → GoesBy net Chosen step a → is_strict_order (atom_of net step) ≡ a.strict
+step_strict net Chosen step a goes = ap is_strict_order goes.0
+
+module _ (net : PlainNet) (Chosen : ℕ → Type 0) where
+  -- where joined steps lead is later in a timeline that fits, strictly where one of them is strict
+  pub joined_kept : (t : Timeline) (steps : List Step) (x y : ℕ) → FitsWith net Chosen t → IsJoined net Chosen steps x y → IsInOrder (has_strict net steps) (t x) (t y)
+  joined_kept t [] x y fits joined = subst (λ (z : ℕ). t x ≤ t z) joined (omega arith)
+  joined_kept t (step ∷ steps) x y fits joined =
+      let a = joined.0 in
+      let first : IsInOrder a.strict (t x) (t a.to) = subst (λ (z : ℕ). IsInOrder a.strict (t z) (t a.to)) joined.2 (step_kept net Chosen t step a fits joined.1) in
+      let both = in_order_then a.strict (has_strict net steps) (t x) (t a.to) (t y) first (joined_kept t steps a.to y fits joined.3) in
+      subst (λ (b : Bool). IsInOrder (b || has_strict net steps) (t x) (t y)) (sym (step_strict net Chosen step a joined.1)) both
+
+  -- what a walk gives holds in each timeline that fits
+  pub walk_kept : (t : Timeline) (steps : List Step) (x y : ℕ) (strict : Bool) → FitsWith net Chosen t → IsWalk net Chosen x y strict steps → IsInOrder strict (t x) (t y)
+  walk_kept t steps x y strict fits walk = in_order_weaker strict (has_strict net steps) (t x) (t y) walk.1 (joined_kept t steps x y fits walk.0)
+
+  -- steps, and then others
+  pub joined_then : (steps more : List Step) (x y z : ℕ) → IsJoined net Chosen steps x y → IsJoined net Chosen more y z → IsJoined net Chosen (steps ++ more) x z
+  joined_then [] more x y z first second = subst (λ (w : ℕ). IsJoined net Chosen more w z) (sym first) second
+  joined_then (step ∷ steps) more x y z first second = (first.0, first.1, first.2, joined_then steps more first.0.to y z first.3 second)
+
+  -- one step more
+  pub joined_push : (steps : List Step) (step : Step) (a : Atom) (x y : ℕ) → IsJoined net Chosen steps x y → GoesBy net Chosen step a → a.from ≡ y → IsJoined net Chosen (steps ++ step ∷ []) x a.to
+  joined_push steps step a x y joined goes from = joined_then steps (step ∷ []) x y a.to joined (a, goes, from, refl)
+
+  -- joined steps end at one point
+  pub one_end : (steps : List Step) (x y z : ℕ) → IsJoined net Chosen steps x y → IsJoined net Chosen steps x z → y ≡ z
+  one_end [] x y z h k = sym h ∙ k
+  one_end (step ∷ steps) x y z h k =
+      let same : h.0 ≡ k.0 = let e = h.1.0 in let f = k.1.0 in cc in
+      one_end steps h.0.to y z h.3 (subst (λ (a : Atom). IsJoined net Chosen steps a.to z) (sym same) k.3)
