@@ -2,3 +2,5 @@ pub mod DateOrders
 pub mod Exact
 pub mod LinkAtoms
 pub mod Steps
+pub mod EveryStep
+pub mod Complete

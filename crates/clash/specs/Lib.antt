@@ -1,3 +1,4 @@
 pub mod Closures
 pub mod Dates
 pub mod Steps
+pub mod Walks

@@ -5,8 +5,10 @@ mod calendar;
 mod closure;
 mod dates;
 mod insert;
+mod laws;
 mod links;
 #[cfg(test)]
 mod tests;
 
 pub use closure::{Clash, CloseFault, close};
+pub use laws::walks_say_all;

@@ -58,7 +58,7 @@ denied Free strict a b d h k = d
 pub atom_denied : (table : Table) (atom : Atom) → atom.from < table.points → atom.to < table.points → Denies (cell_at table atom.to atom.from) atom.strict → (t : Timeline) → Keeps table t → ¬ Satisfies t atom
 atom_denied table atom f to d t kept s = denied (cell_at table atom.to atom.from) atom.strict _ _ d (kept atom.to atom.from to f) s
 
-new_closed : (n : ℕ) → AreClosed n new_cell
+pub new_closed : (n : ℕ) → AreClosed n new_cell
 new_closed n = record { itself = λ i li. new_same i; through = λ i j k li lj lk. grind (arith, nat_tests) }
 
 new_kept : (n : ℕ) (t : Timeline) → AreKept n new_cell t

@@ -79,7 +79,7 @@ stands_from_matches table atoms closed same = record {
 }
 
 -- a cell at least as strong as an order says that order
-order_says : (x : Cell) (o : Bool) (a b : ℕ) → strength (order o) ≤ strength x → Says x a b → IsInOrder o a b
+pub order_says : (x : Cell) (o : Bool) (a b : ℕ) → strength (order o) ≤ strength x → Says x a b → IsInOrder o a b
 order_says Free true a b h k = absurd (omega arith)
 order_says Free false a b h k = absurd (omega arith)
 order_says Weak true a b h k = absurd (omega arith)
