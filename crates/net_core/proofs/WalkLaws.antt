@@ -1,13 +1,14 @@
 -- Walks, and what they say of timelines.
-use Rattle.std.proofs.Common.{◌≡◌, ℕ, ◌≤◌, Bool, true, false, ◌||◌, List, [], ◌∷◌, ◌++◌, refl, sym, ap, subst, ◌∙◌, arith}
+use Rattle.std.proofs.Common.{◌≡◌, ℕ, zero, suc, take, ◌≤◌, Bool, true, false, ◌||◌, List, [], ◌∷◌, ◌++◌, refl, sym, ap, subst, ◌∙◌, arith}
 use Rattle.net_core.specs.Atoms.{IsInOrder}
 use Rattle.net_core.specs.Fits.{FitsWith}
 use Rattle.net_core.specs.Nets.{PlainNet}
 use Rattle.net_core.specs.Relations.{Timeline}
-use Rattle.net_core.specs.Steps.{GoesBy, atom_of, has_strict, is_strict_order}
+use Rattle.net_core.specs.Steps.{GoesBy, Uses, atom_of, has_strict, is_strict_order}
 use Rattle.net_core.specs.Walks.{IsJoined, IsWalk}
 use Rattle.net_core.specs.declared.atom.Atom.{Atom}
 use Rattle.net_core.specs.declared.step.Step.{Step}
+use Rattle.net_core.specs.declared.step.Step.TheVariants.{Link, Span, Calendar}
 use Rattle.net_core.proofs.StepLaws.{step_kept}
 
 -- an order and then another one are one together, strict where one of them is
@@ -57,3 +58,29 @@ module _ (net : PlainNet) (Chosen : ℕ → Type 0) where
   one_end (step ∷ steps) x y z h k =
       let same : h.0 ≡ k.0 = let e = h.1.0 in let f = k.1.0 in cc in
       one_end steps h.0.to y z h.3 (subst (λ (a : Atom). IsJoined net Chosen steps a.to z) (sym same) k.3)
+
+  -- the first steps of joined ones are joined
+  pub joined_take : (steps : List Step) (x y k : ℕ) → IsJoined net Chosen steps x y → (z : ℕ) × IsJoined net Chosen (take k steps) x z
+  joined_take steps x y zero joined = (x, refl)
+  joined_take [] x y (suc k) joined = (x, refl)
+  joined_take (step ∷ steps) x y (suc k) joined =
+      let rest = joined_take steps joined.0.to y k joined.3 in
+      (rest.0, (joined.0, joined.1, joined.2, rest.1))
+
+  -- where more steps follow, those before them lead to where the first of them begins
+  pub joined_split : (steps more : List Step) (x z : ℕ) → IsJoined net Chosen (steps ++ more) x z → (y : ℕ) × IsJoined net Chosen steps x y × IsJoined net Chosen more y z
+  joined_split [] more x z joined = (x, refl, joined)
+  joined_split (step ∷ steps) more x z joined =
+      let rest = joined_split steps more joined.0.to z joined.3 in
+      (rest.0, (joined.0, joined.1, joined.2, rest.1), rest.2)
+
+-- steps over links of a set are steps over those of a larger one
+uses_more : (Chosen Other : ℕ → Type 0) (step : Step) → ((k : ℕ) → Chosen k → Other k) → Uses Chosen step → Uses Other step
+uses_more Chosen Other (Link k i) more uses = more k uses
+uses_more Chosen Other (Span i) more uses = tt
+uses_more Chosen Other (Calendar p q) more uses = tt
+
+pub joined_more : (net : PlainNet) (Chosen Other : ℕ → Type 0) (steps : List Step) (x y : ℕ) → ((k : ℕ) → Chosen k → Other k) → IsJoined net Chosen steps x y → IsJoined net Other steps x y
+joined_more net Chosen Other [] x y more joined = joined
+joined_more net Chosen Other (step ∷ steps) x y more joined =
+    (joined.0, (joined.1.0, uses_more Chosen Other step more joined.1.1), joined.2, joined_more net Chosen Other steps joined.0.to y more joined.3)

@@ -155,7 +155,7 @@ fn keeps_link(net: &Net, ranks: &[u32], k: u32) -> bool
 }
 
 /// The ranks of the start and the end of an interval.
-fn ends_at(ranks: &[u32], interval: u32) -> Ends
+pub fn ends_at(ranks: &[u32], interval: u32) -> Ends
     requires { 2 * interval + 1 < length ranks.now }
     ensures { result ≡ ends_of (timeline_of ranks.now) interval }
 {
