@@ -12,7 +12,7 @@ use Rattle.evidence_format.proofs.WordLaws.{all_append, digits_differ}
 
 -- ---- the lines of a text are the text
 
--- a byte at the front of the first line is at the front of the text
+-- a byte at the start of the first line is at the start of the text
 with_byte_concat : (b : ℕ) (ls : Lines) → concat (with_byte b ls) ≡ b ∷ concat ls
 with_byte_concat b [] = refl
 with_byte_concat b (l ∷ ls) = refl
@@ -30,15 +30,15 @@ lines_concat (b ∷ bytes) = elim (eqb b 10) as (λ t. concat (cond t ((b ∷ []
 
 -- bytes without LF, and then LF
 abbrev pub IsLine : List ℕ → Type 0
-IsLine l = (front : List ℕ) × (list_all (is_not 10) front ≡ true) × (l ≡ front ++ 10 ∷ [])
+IsLine l = (prefix : List ℕ) × (list_all (is_not 10) prefix ≡ true) × (l ≡ prefix ++ 10 ∷ [])
 
 -- the first line is what stands up to the first LF
-first_is : (front rest : List ℕ) → list_all (is_not 10) front ≡ true → lines_of (front ++ 10 ∷ rest) ≡ (front ++ 10 ∷ []) ∷ lines_of rest
+first_is : (prefix rest : List ℕ) → list_all (is_not 10) prefix ≡ true → lines_of (prefix ++ 10 ∷ rest) ≡ (prefix ++ 10 ∷ []) ∷ lines_of rest
 unfolding lines_of
 first_is [] rest h = refl
-first_is (b ∷ front) rest h = elim (eqb b 10) as (λ t. (not t && list_all (is_not 10) front) ≡ true → cond t ((b ∷ []) ∷ lines_of (front ++ 10 ∷ rest)) (with_byte b (lines_of (front ++ 10 ∷ rest))) ≡ (b ∷ (front ++ 10 ∷ [])) ∷ lines_of rest) [
+first_is (b ∷ prefix) rest h = elim (eqb b 10) as (λ t. (not t && list_all (is_not 10) prefix) ≡ true → cond t ((b ∷ []) ∷ lines_of (prefix ++ 10 ∷ rest)) (with_byte b (lines_of (prefix ++ 10 ∷ rest))) ≡ (b ∷ (prefix ++ 10 ∷ [])) ∷ lines_of rest) [
   | true ↦ λ e. absurd cc
-  | false ↦ λ e. ap (with_byte b) (first_is front rest e)
+  | false ↦ λ e. ap (with_byte b) (first_is prefix rest e)
 ] h
 
 -- whole lines are the lines of what they are joined to
@@ -51,9 +51,9 @@ lines_again (l ∷ ls) h =
     ap lines_of grouped ∙ first_is s.0 (concat ls) s.1 ∙ rw (lines_again ls h.1, ← s.2) refl
 
 -- the first of whole lines are whole
-pub front_lines : (a b : Lines) → AllByRecursion IsLine (a ++ b) → AllByRecursion IsLine a
-front_lines [] b h = tt
-front_lines (l ∷ a) b h = (h.0, front_lines a b h.1)
+pub prefix_lines : (a b : Lines) → AllByRecursion IsLine (a ++ b) → AllByRecursion IsLine a
+prefix_lines [] b h = tt
+prefix_lines (l ∷ a) b h = (h.0, prefix_lines a b h.1)
 
 -- whole lines, and whole lines after them
 both_lines : (a b : Lines) → AllByRecursion IsLine a → AllByRecursion IsLine b → AllByRecursion IsLine (a ++ b)
@@ -89,11 +89,11 @@ text_is e h = ((codes "tml-evidence 1", refl, refl), both_lines (body_lines e) (
 -- ---- the number of a line
 
 -- bytes without LF have none
-one_lf : (front : List ℕ) → list_all (is_not 10) front ≡ true → count_by is_lf front ≡ 0
+one_lf : (prefix : List ℕ) → list_all (is_not 10) prefix ≡ true → count_by is_lf prefix ≡ 0
 one_lf [] h = refl
-one_lf (b ∷ front) h = sum_by-cons (λ x. cond (is_lf x) 1 0) b front ∙ elim (eqb b 10) as (λ t. (not t && list_all (is_not 10) front) ≡ true → cond t 1 0 + count_by is_lf front ≡ 0) [
+one_lf (b ∷ prefix) h = sum_by-cons (λ x. cond (is_lf x) 1 0) b prefix ∙ elim (eqb b 10) as (λ t. (not t && list_all (is_not 10) prefix) ≡ true → cond t 1 0 + count_by is_lf prefix ≡ 0) [
   | true ↦ λ e. absurd cc
-  | false ↦ λ e. omega (arith, one_lf front e)
+  | false ↦ λ e. omega (arith, one_lf prefix e)
 ] h
 
 -- the LFs of two parts
@@ -124,5 +124,5 @@ line_number text rest good h e =
     let parts = before_rest text rest good e in
     let len : length text ≡ length (concat good) + length rest = ap length parts ∙ length-append (concat good) rest in
     let k : length text - length rest ≡ length (concat good) = omega arith in
-    let front : take (length text - length rest) text ≡ concat good = rw k (ap (take (length (concat good))) parts ∙ take_at (concat good) rest (length (concat good)) refl) in
-    (omega arith, ap (count_by is_lf) front ∙ count_lines good h)
+    let prefix : take (length text - length rest) text ≡ concat good = rw k (ap (take (length (concat good))) parts ∙ take_at (concat good) rest (length (concat good)) refl) in
+    (omega arith, ap (count_by is_lf) prefix ∙ count_lines good h)

@@ -13,61 +13,61 @@ use Rattle.evidence_format.proofs.Exact.{parted}
 -- ---- the first lines of a whole text are begun by their parts
 
 -- the first of the lines of values are those of the first values
-front_map : {A : Type 0} (f : A → List ℕ) (vs : List A) (xs ys : Lines) → xs ++ ys ≡ map f vs → (us : List A) × (ws : List A) × (vs ≡ us ++ ws) × (xs ≡ map f us)
-front_map f vs [] ys e = ([], vs, refl, refl)
-front_map f [] (x ∷ xs) ys e = absurd cc
-front_map f (v ∷ vs) (x ∷ xs) ys e =
+prefix_map : {A : Type 0} (f : A → List ℕ) (vs : List A) (xs ys : Lines) → xs ++ ys ≡ map f vs → (us : List A) × (ws : List A) × (vs ≡ us ++ ws) × (xs ≡ map f us)
+prefix_map f vs [] ys e = ([], vs, refl, refl)
+prefix_map f [] (x ∷ xs) ys e = absurd cc
+prefix_map f (v ∷ vs) (x ∷ xs) ys e =
     let heads : x ≡ f v = cc in
     let tails : xs ++ ys ≡ map f vs = cc in
-    let more = front_map f vs xs ys tails in
+    let more = prefix_map f vs xs ys tails in
     (v ∷ more.0, more.1, ap (λ us. v ∷ us) more.2, (let rest = more.3 in cc))
 
 -- what holds of all values holds of the first ones
-all_front : {A : Type 0} (P : A → Type 0) (us ws : List A) → AllByRecursion P (us ++ ws) → AllByRecursion P us
-all_front P [] ws h = tt
-all_front P (u ∷ us) ws h = (h.0, all_front P us ws h.1)
+all_prefix : {A : Type 0} (P : A → Type 0) (us ws : List A) → AllByRecursion P (us ++ ws) → AllByRecursion P us
+all_prefix P [] ws h = tt
+all_prefix P (u ∷ us) ws h = (h.0, all_prefix P us ws h.1)
 
 -- the first lines have the first line, or are none
-front_cons : (xs ys : Lines) (l : List ℕ) (rest : Lines) → xs ++ ys ≡ l ∷ rest → (xs ≡ []) ⊎ ((more : Lines) × (xs ≡ l ∷ more) × (more ++ ys ≡ rest))
-front_cons [] ys l rest e = inl refl
-front_cons (x ∷ xs) ys l rest e = inr (xs, (let k = e in cc), (let k = e in cc))
+prefix_cons : (xs ys : Lines) (l : List ℕ) (rest : Lines) → xs ++ ys ≡ l ∷ rest → (xs ≡ []) ⊎ ((more : Lines) × (xs ≡ l ∷ more) × (more ++ ys ≡ rest))
+prefix_cons [] ys l rest e = inl refl
+prefix_cons (x ∷ xs) ys l rest e = inr (xs, (let k = e in cc), (let k = e in cc))
 
 -- the first lines of a timeline are begun, or are none
-timeline_front : (ranks : List (ℕ × ℕ)) (xs ys : Lines) → All IsPair ranks → IsNumber (length ranks) → xs ++ ys ≡ timeline_lines ranks → (xs ≡ []) ⊎ IsBegunTimeline xs
-timeline_front ranks xs ys pairs small e =
-    elim (front_cons xs ys (one_number (codes "timeline ") (length ranks)) (map at_line ranks) e) [
+timeline_prefix : (ranks : List (ℕ × ℕ)) (xs ys : Lines) → All IsPair ranks → IsNumber (length ranks) → xs ++ ys ≡ timeline_lines ranks → (xs ≡ []) ⊎ IsBegunTimeline xs
+timeline_prefix ranks xs ys pairs small e =
+    elim (prefix_cons xs ys (one_number (codes "timeline ") (length ranks)) (map at_line ranks) e) [
       | inl none ↦ inl none
       | inr m ↦
-          let f = front_map at_line ranks m.0 ys m.2 in
-          let first = all_front IsPair f.0 f.1 (subst (AllByRecursion IsPair) f.2 (recursion_from_All IsPair ranks pairs)) in
+          let f = prefix_map at_line ranks m.0 ys m.2 in
+          let first = all_prefix IsPair f.0 f.1 (subst (AllByRecursion IsPair) f.2 (recursion_from_All IsPair ranks pairs)) in
           let few : length f.0 ≤ length ranks = omega (arith, ap length f.2, length-append f.0 f.1) in
           inr (length ranks, f.0, small, All-from_recursion IsPair f.0 first, few, m.1 ∙ ap (λ (x : Lines). one_number (codes "timeline ") (length ranks) ∷ x) f.3)
     ]
 
 -- the first lines of a body, after the first line
-body_front : (e : PlainEvidence) (ls more ys : Lines) → IsWellFormed e → ls ≡ first_line ∷ more → more ++ ys ≡ body_lines e → IsBegunByParts ls
-body_front (timeline ranks) ls more ys h first e =
-    elim (timeline_front ranks more ys h.0 h.1 e) [
+body_prefix : (e : PlainEvidence) (ls more ys : Lines) → IsWellFormed e → ls ≡ first_line ∷ more → more ++ ys ≡ body_lines e → IsBegunByParts ls
+body_prefix (timeline ranks) ls more ys h first e =
+    elim (timeline_prefix ranks more ys h.0 h.1 e) [
       | inl none ↦ inr (inl (first ∙ ap (λ (x : Lines). first_line ∷ x) none))
       | inr begun ↦ inr (inr (inl (more, begun, first)))
     ]
 
 -- the first of one line
-front_one : (xs ys : Lines) (l : List ℕ) → xs ++ ys ≡ l ∷ [] → (xs ≡ []) ⊎ (xs ≡ l ∷ [])
-front_one [] ys l e = inl refl
-front_one (x ∷ []) ys l e = inr cc
-front_one (x ∷ y ∷ xs) ys l e = absurd cc
+prefix_one : (xs ys : Lines) (l : List ℕ) → xs ++ ys ≡ l ∷ [] → (xs ≡ []) ⊎ (xs ≡ l ∷ [])
+prefix_one [] ys l e = inl refl
+prefix_one (x ∷ []) ys l e = inr cc
+prefix_one (x ∷ y ∷ xs) ys l e = absurd cc
 
 -- lines that begin a text are begun by their parts
 begun_by_parts : (ls : Lines) → IsBegun ls → IsBegunByParts ls
 begun_by_parts ls h =
     let e = h.0 in
-    elim (front_cons ls h.1 first_line (body_lines e ++ last_line ∷ []) h.2.1) [
+    elim (prefix_cons ls h.1 first_line (body_lines e ++ last_line ∷ []) h.2.1) [
       | inl none ↦ inl none
       | inr m ↦ elim (parted m.0 h.1 (body_lines e) (last_line ∷ []) m.2) [
-        | inl k ↦ body_front e ls m.0 k.0 h.2.0 m.1 (sym k.1)
-        | inr k ↦ elim (front_one k.0 h.1 last_line (sym k.2)) [
-          | inl none ↦ body_front e ls m.0 [] h.2.0 m.1 (append-nil m.0 ∙ k.1 ∙ ap (λ (x : Lines). body_lines e ++ x) none ∙ append-nil (body_lines e))
+        | inl k ↦ body_prefix e ls m.0 k.0 h.2.0 m.1 (sym k.1)
+        | inr k ↦ elim (prefix_one k.0 h.1 last_line (sym k.2)) [
+          | inl none ↦ body_prefix e ls m.0 [] h.2.0 m.1 (append-nil m.0 ∙ k.1 ∙ ap (λ (x : Lines). body_lines e ++ x) none ∙ append-nil (body_lines e))
           | inr all ↦ inr (inr (inr (e, h.2.0, m.1 ∙ ap (λ (x : Lines). first_line ∷ x) (k.1 ∙ ap (λ (x : Lines). body_lines e ++ x) all))))
         ]
       ]

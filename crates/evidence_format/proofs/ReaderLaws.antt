@@ -29,7 +29,7 @@ exact_map {A} {B} f G p P =
     exact_same (Then G Given) (λ b ls. (a : A) × G a ls × (b ≡ f a)) (λ ls. p ls >>= λ x. Ok (f x.0, x.1))
     (λ b ls t. (t.0, subst (G t.0) (sym (t.5 ∙ ap (λ (x : Lines). t.1 ++ x) t.4.1 ∙ append-nil t.1)) t.3, t.4.0))
     (λ b ls h. (h.0, ls, [], h.1, (h.2, refl), sym (append-nil ls)))
-    (exact_then G Given p (λ a ls. Ok (f a, ls)) P (λ a front g. exact_give (f a)))
+    (exact_then G Given p (λ a ls. Ok (f a, ls)) P (λ a prefix g. exact_give (f a)))
 
 -- ---- many
 
@@ -44,7 +44,7 @@ nil_many Fits lines (a ∷ vs) ls h = absurd (let len = h.1 in omega arith)
 
 -- of one value more, the first has the first lines
 cons_many : {A : Type 0} (Fits : A → Type 0) (lines : A → Lines) (n : ℕ) (vs : List A) (ls : Lines) → AreMany Fits lines (suc n) vs ls
-    → Then (Has Fits lines) (λ a b back. (more : List A) × AreMany Fits lines n more back × (b ≡ a ∷ more)) vs ls
+    → Then (Has Fits lines) (λ a b suffix. (more : List A) × AreMany Fits lines n more suffix × (b ≡ a ∷ more)) vs ls
 cons_many Fits lines n [] ls h = absurd (let len = h.1 in omega arith)
 cons_many Fits lines n (a ∷ vs) ls h = (a, lines a, flat_map lines vs, (h.0.0, refl), (vs, (h.0.1, (let len = h.1 in omega arith), refl), refl), h.2)
 
@@ -56,14 +56,14 @@ exact_many {A} Fits lines p P zero =
     (λ vs ls h. rw (h.0, h.1) (tt, refl, refl)) (nil_many Fits lines) (exact_give [])
 exact_many {A} Fits lines p P (suc n) =
     let G = Has Fits lines in
-    let H = λ (a : A) (b : List A) (back : Lines). (more : List A) × AreMany Fits lines n more back × (b ≡ a ∷ more) in
+    let H = λ (a : A) (b : List A) (suffix : Lines). (more : List A) × AreMany Fits lines n more suffix × (b ≡ a ∷ more) in
     exact_same (Then G H) (AreMany Fits lines (suc n)) (λ ls. p ls >>= λ a. many_at p n a.1 >>= λ more. Ok (a.0 ∷ more.0, more.1))
     (λ vs ls t.
     let m = t.4 in
     let whole : ls ≡ flat_map lines (t.0 ∷ m.0) = t.5 ∙ ap (λ (x : Lines). x ++ t.2) t.3.1 ∙ ap (λ (x : Lines). lines t.0 ++ x) m.1.2 in
     subst (λ (vs : List A). AreMany Fits lines (suc n) vs ls) (sym m.2) ((t.3.0, m.1.0), ap suc m.1.1, whole))
     (cons_many Fits lines n)
-    (exact_then G H p (λ a ls. many_at p n ls >>= λ more. Ok (a ∷ more.0, more.1)) P (λ a front g. exact_map (λ more. a ∷ more) (AreMany Fits lines n) (many_at p n) (exact_many Fits lines p P n)))
+    (exact_then G H p (λ a ls. many_at p n ls >>= λ more. Ok (a ∷ more.0, more.1)) P (λ a prefix g. exact_map (λ more. a ∷ more) (AreMany Fits lines n) (many_at p n) (exact_many Fits lines p P n)))
 
 -- ---- a count, and then so many lines
 
@@ -82,7 +82,7 @@ exact_counted {A} keyword line Fits p P =
     let m = t.4 in
     ((All-from_recursion Fits vs m.0, subst IsNumber (sym m.1) t.3.0), t.5 ∙ ap (λ (x : Lines). x ++ t.2) (t.3.1 ∙ ap (λ (n : ℕ). one_number keyword n ∷ []) (sym m.1)) ∙ ap (λ (x : Lines). one_number keyword (length vs) ∷ x) (m.2 ∙ flat_map_single line vs)))
     (λ vs ls h. (length vs, one_number keyword (length vs) ∷ [], flat_map (λ a. line a ∷ []) vs, (h.0.1, refl), (recursion_from_All Fits vs h.0.0, refl, refl), h.1 ∙ ap (λ (x : Lines). one_number keyword (length vs) ∷ x) (sym (flat_map_single line vs))))
-    (exact_then G H (line_at (one_of keyword)) (many_at p) (exact_form (one_number keyword) IsNumber (one_of keyword) 0 (omega arith) (one_form keyword)) (λ n front g. exact_many Fits (λ a. line a ∷ []) p P n))
+    (exact_then G H (line_at (one_of keyword)) (many_at p) (exact_form (one_number keyword) IsNumber (one_of keyword) 0 (omega arith) (one_form keyword)) (λ n prefix g. exact_many Fits (λ a. line a ∷ []) p P n))
 
 -- the ranks of an interval
 exact_at : Exact (Has IsPair (λ p. at_line p ∷ [])) (λ ls. line_at (two_of (codes "at ")) ls)
@@ -99,11 +99,11 @@ unfolding body_at
 exact_body =
     exact_same (λ e ls. (ranks : List (ℕ × ℕ)) × Has (AreCounted IsPair) timeline_lines ranks ls × (e ≡ timeline ranks)) (Has IsWellFormed body_lines) (λ ls. timeline_at ls >>= λ ranks. Ok (timeline ranks.0, ranks.1))
     (λ e ls h. rw h.2 h.1)
-    (λ e ls h. back e ls h)
+    (λ e ls h. from e ls h)
     (exact_map (λ ranks. timeline ranks) (Has (AreCounted IsPair) timeline_lines) timeline_at exact_timeline)
   where
-    back : (e : PlainEvidence) (ls : Lines) → Has IsWellFormed body_lines e ls → (ranks : List (ℕ × ℕ)) × Has (AreCounted IsPair) timeline_lines ranks ls × (e ≡ timeline ranks)
-    back (timeline ranks) ls h = (ranks, h, refl)
+    from : (e : PlainEvidence) (ls : Lines) → Has IsWellFormed body_lines e ls → (ranks : List (ℕ × ℕ)) × Has (AreCounted IsPair) timeline_lines ranks ls × (e ≡ timeline ranks)
+    from (timeline ranks) ls h = (ranks, h, refl)
 
 -- ---- a text
 
@@ -136,5 +136,5 @@ exact_text =
     (λ e ls h. (tt, first_line ∷ [], body_lines e ++ last_line ∷ [], (tt, refl), (e, body_lines e, last_line ∷ [], (h.0, refl), (tt, (tt, refl), refl), refl), h.1))
     (exact_then (Fixed first_line) Opened (line_at (same_of first_line)) (λ u ls. body_at ls >>= λ e. line_at (same_of last_line) e.1 >>= λ last. Ok (e.0, last.1))
     (exact_fixed first_line)
-    (λ u front g. exact_then (Has IsWellFormed body_lines) Closed body_at (λ e ls. line_at (same_of last_line) ls >>= λ last. Ok (e, last.1)) exact_body
-    (λ e front g. exact_map (λ u. e) (Fixed last_line) (line_at (same_of last_line)) (exact_fixed last_line))))
+    (λ u prefix g. exact_then (Has IsWellFormed body_lines) Closed body_at (λ e ls. line_at (same_of last_line) ls >>= λ last. Ok (e, last.1)) exact_body
+    (λ e prefix g. exact_map (λ u. e) (Fixed last_line) (line_at (same_of last_line)) (exact_fixed last_line))))
