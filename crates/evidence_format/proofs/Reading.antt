@@ -6,7 +6,7 @@ use Rattle.evidence_format.specs.Evidence.{PlainEvidence, IsText, text_lines}
 use Rattle.evidence_format.specs.Begun.{HasLines, IsBegun, IsBadLine}
 use Rattle.evidence_format.specs.Readers.{text_at, evidence_at}
 use Rattle.evidence_format.proofs.Exact.{all_again, all_found, all_bad, one_place}
-use Rattle.evidence_format.proofs.ReaderLaws.{exact_text}
+use Rattle.evidence_format.proofs.BodyLaws.{exact_text}
 use Rattle.evidence_format.proofs.LineLaws.{IsLine, lines_again, lines_concat, prefix_lines, text_is, line_number}
 
 -- what is read has this text
