@@ -1,5 +1,6 @@
 -- The reader of whole evidence is exact.
 use Rattle.std.proofs.Common.{◌≡◌, ℕ, List, [], ◌∷◌, ◌++◌, length, map, Ok, refl, sym, ap, subst, ◌∙◌, arith}
+use Rattle.std.specs.Prelude.{codes}
 use Rattle.std.specs.List.{flat_map}
 use Rattle.std.proofs.lemmas.List.Concat.{flat_map_single}
 use Rattle.std.proofs.lemmas.List.Elements.{All-from_recursion, recursion_from_All}
@@ -8,7 +9,6 @@ use Rattle.net_core.specs.declared.rels.Rel.{Rel}
 use Rattle.net_core.specs.declared.step.Step.{Step}
 use Rattle.evidence_format.specs.declared.head.Head.{Head}
 use Rattle.evidence_format.specs.declared.head.Head.TheVariants.{Timeline, Entails, Counter}
-use Rattle.std.specs.Prelude.{codes}
 use Rattle.evidence_format.specs.Lines.{Lines}
 use Rattle.evidence_format.specs.Reading.{◌>>=◌, line_at}
 use Rattle.evidence_format.specs.Grammar.{Then}

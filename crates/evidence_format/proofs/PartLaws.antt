@@ -1,18 +1,17 @@
 -- Lines are begun by their parts exactly where they begin a text.
-use Rattle.std.proofs.Common.{◌≡◌, ℕ, zero, suc, ◌+◌, ◌-◌, ◌<◌, ◌≤◌, ◌⊎◌, ◌↔◌, inl, inr, List, [], ◌∷◌, ◌++◌, length, map, replicate, sym, refl, ap, subst, ◌∙◌, append_assoc, length-append, arith}
+use Rattle.std.proofs.Common.{◌≡◌, ℕ, suc, ◌+◌, ◌-◌, ◌<◌, ◌≤◌, ◌⊎◌, ◌↔◌, inl, inr, List, [], ◌∷◌, ◌++◌, length, map, replicate, sym, refl, ap, subst, ◌∙◌, append_assoc, length-append, arith}
 use Rattle.std.specs.Prelude.{codes}
 use Rattle.std.specs.List.{All, AllByRecursion, flat_map}
 use Rattle.std.proofs.lemmas.Grind.{flat_map-append}
 use Rattle.std.proofs.lemmas.List.{append-nil, map-append, length-replicate}
 use Rattle.std.proofs.lemmas.List.Elements.{All-nil, All-cons, All-append, All-replicate, All-from_recursion, recursion_from_All}
 use Rattle.net_core.specs.Atoms.{atom_count}
-use Rattle.net_core.specs.declared.rels.Rel.{Rel}
 use Rattle.net_core.specs.declared.step.Step.{Step}
 use Rattle.net_core.specs.declared.step.Step.TheVariants.{Span}
 use Rattle.evidence_format.specs.Lines.{Lines}
 use Rattle.evidence_format.specs.Grammar.{Begins}
 use Rattle.evidence_format.specs.Evidence.{PlainEvidence, timeline, entails, counter, IsNumber, IsPair, AreRanks, HasNumbers, AreSteps, IsWellFormed, one_number, relation_line, at_line, timeline_lines, step_line, walk_lines, body_lines, text_lines, first_line, last_line}
-use Rattle.evidence_format.specs.Parts.{IsBegunTimeline, IsBegunWalk, MayBegin, AreBegunWalks, IsBegunRelation, IsBegunBody, IsBegunByParts}
+use Rattle.evidence_format.specs.Parts.{IsBegunTimeline, IsBegunWalk, MayBegin, AreBegunWalks, IsBegunBody, IsBegunByParts}
 use Rattle.evidence_format.specs.Begun.{IsBegun}
 use Rattle.evidence_format.proofs.Exact.{parted}
 use Rattle.evidence_format.proofs.ReaderLaws.{Has, AreCounted, AreMany}
@@ -169,7 +168,7 @@ walks_fill n walks rest fit few w =
     let len : length (walks ++ w.0 ∷ more) ≡ n = omega (arith, length-append walks (w.0 ∷ more), length-replicate {A = List Step} (n - (length walks + 1)) []) in
     let last : rest ++ (w.1 ++ flat_map walk_lines more) ≡ walk_lines w.0 ++ flat_map walk_lines more = sym (append_assoc rest w.1 (flat_map walk_lines more)) ∙ ap (λ (x : Lines). x ++ flat_map walk_lines more) w.2.1 in
     let whole : (flat_map walk_lines walks ++ rest) ++ (w.1 ++ flat_map walk_lines more) ≡ flat_map walk_lines (walks ++ w.0 ∷ more) =
-        append_assoc (flat_map walk_lines walks) rest (w.1 ++ flat_map walk_lines more) ∙ ap (λ (x : Lines). flat_map walk_lines walks ++ x) last ∙ sym (flat_map-append walk_lines walks (w.0 ∷ more)) in
+    append_assoc (flat_map walk_lines walks) rest (w.1 ++ flat_map walk_lines more) ∙ ap (λ (x : Lines). flat_map walk_lines walks ++ x) last ∙ sym (flat_map-append walk_lines walks (w.0 ∷ more)) in
     (walks ++ w.0 ∷ more, w.1 ++ flat_map walk_lines more, (recursion_from_All AreSteps (walks ++ w.0 ∷ more) all, len, whole))
 
 -- begun walks go on to so many

@@ -5,10 +5,10 @@ use Rattle.std.specs.List.{All, AllByRecursion, flat_map}
 use Rattle.std.proofs.lemmas.List.{append-nil}
 use Rattle.std.proofs.lemmas.List.Concat.{flat_map_single}
 use Rattle.std.proofs.lemmas.List.Elements.{All-from_recursion, recursion_from_All}
+use Rattle.net_core.specs.declared.step.Step.TheVariants.{Span}
 use Rattle.evidence_format.specs.Lines.{Lines}
 use Rattle.evidence_format.specs.Reading.{Read, ◌>>=◌, line_at}
 use Rattle.evidence_format.specs.Grammar.{Then}
-use Rattle.net_core.specs.declared.step.Step.TheVariants.{Span}
 use Rattle.evidence_format.specs.Evidence.{IsNumber, IsPair, AreRanks, HasNumbers, AreSteps, one_number, at_line, timeline_lines, step_line, walk_lines}
 use Rattle.evidence_format.specs.Words.{one_of, two_of}
 use Rattle.evidence_format.specs.Forms.{step_of}

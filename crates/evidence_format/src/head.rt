@@ -10,14 +10,14 @@ use crate::stop::Stop;
 use crate::words::{one_of, relation_of};
 use net_core::Rel;
 
-/// What the line says that follows the first one.
+/// The kind of evidence, with what its line says.
 #[derive(Clone, Copy, Debug, PartialEq, Eq)]
 pub enum Head {
-    /// A timeline of so many intervals follows.
+    /// A timeline of so many intervals.
     Timeline { intervals: u32 },
-    /// Walks for a relation between two intervals follow.
+    /// A relation between two intervals that holds in every timeline that fits.
     Entails { a: u32, rel: Rel, b: u32 },
-    /// A timeline in which a relation between two intervals is false follows.
+    /// A relation between two intervals that is false in a timeline that fits.
     Counter { a: u32, rel: Rel, b: u32 },
 }
 
@@ -30,6 +30,7 @@ pub fn head_at(text: &[u8]) -> Result<(Head, &[u8]), Stop<'_>>
     Ok((head, rest))
 }
 
+/// The kind that a line tells. None comes exactly where it tells none.
 #[tactic(auto, unfolding(crate::specs::Forms::head_of))]
 fn head_of(line: &[u8]) -> Option<Head>
     ensures { result ≡ forms.head_of line.now }

@@ -13,7 +13,11 @@ use net_core::{List, Step, Walk};
 use std::alloc::Global;
 
 /// So many walks, and what follows them.
-pub fn walks_at<'t>(alloc: Global, count: u32, text: &'t [u8]) -> Result<(List<Walk>, &'t [u8]), Stop<'t>>
+pub fn walks_at<'t>(
+    alloc: Global,
+    count: u32,
+    text: &'t [u8],
+) -> Result<(List<Walk>, &'t [u8]), Stop<'t>>
     ensures { Gives (λ x. (x.0, lines_of x.1.now)) result (readers.many_at readers.walk_at count (lines_of text.now)) }
 {
     let mut walks = List::new(alloc);
@@ -58,6 +62,7 @@ fn step_at(text: &[u8]) -> Result<(Step, &[u8]), Stop<'_>>
     Ok((step, rest))
 }
 
+/// The step of a line. None comes exactly where it is that of none.
 #[tactic(auto, unfolding(crate::specs::Forms::step_of))]
 fn step_of(line: &[u8]) -> Option<Step>
     ensures { result ≡ forms.step_of line.now }

@@ -13,8 +13,8 @@ pub fn len_to(stop: u8, bytes: &[u8]) -> usize
     bytes.iter().take_while(|b| **b != stop).count()
 }
 
-/// The number that a word writes, in decimal, without sign and without leading zeros. None comes exactly where it writes
-/// none below 2^32.
+/// The number that a word writes, in decimal, without sign and without leading zeros. None comes exactly where it
+/// writes none below 2^32.
 #[tactic(auto, using(crate::proofs::Digits::number_is))]
 fn number(word: &[u8]) -> Option<u32>
     ensures { result ≡ words.number word.now }
@@ -123,5 +123,9 @@ pub fn relation_of(keyword: &[u8], line: &[u8]) -> Option<(u32, Rel, u32)>
     let (word, rest) = word_to(b' ', rest)?;
     let rel = rel_of(word)?;
     let (b, rest) = number_to(b'\n', rest)?;
-    if rest.is_empty() { Some((a, rel, b)) } else { None }
+    if rest.is_empty() {
+        Some((a, rel, b))
+    } else {
+        None
+    }
 }

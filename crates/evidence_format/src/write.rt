@@ -113,7 +113,13 @@ fn push_step(out: &mut Vec<u8>, step: Step) -> Result<(), AllocError>
 }
 
 /// A keyword that ends in a space, and a relation between two intervals.
-fn push_relation(out: &mut Vec<u8>, keyword: &[u8], a: u32, rel: Rel, b: u32) -> Result<(), AllocError>
+fn push_relation(
+    out: &mut Vec<u8>,
+    keyword: &[u8],
+    a: u32,
+    rel: Rel,
+    b: u32,
+) -> Result<(), AllocError>
     ensures { OnOk result (out.new.items ≡ out.old.items ++ lines.relation_line keyword.now a rel b) }
 {
     out.extend_from_slice(keyword)?;
