@@ -52,9 +52,9 @@ digits_are : (word : List ℕ) → 0 < length word → (get_or word 0 0 ≡ 48 �
 digits_are word some zero =
     elim (digits_after 0 word) as (λ o. digits_after 0 word ≡ o → number word ≡ o) [
       | None ↦ λ e. number_none word (λ n small printed.
-          let back = decimal_is_IsNumeral n (omega arith) in
-          let digits : AllDigits 10 word = subst (AllDigits 10) printed back.0.1 in
-          let value : digits_value 10 word ≡ n = ap (digits_value 10) (sym printed) ∙ back.1 in
+          let numeral = decimal_is_IsNumeral n (omega arith) in
+          let digits : AllDigits 10 word = subst (AllDigits 10) printed numeral.0.1 in
+          let value : digits_value 10 word ≡ n = ap (digits_value 10) (sym printed) ∙ numeral.1 in
           let read = digits_again 0 word digits (omega arith) in
           cc)
       | Some n ↦ λ e.

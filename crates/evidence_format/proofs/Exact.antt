@@ -8,8 +8,8 @@ use Rattle.evidence_format.specs.Grammar.{Begins, Then, Stuck}
 -- lines begin a value; the lines of a value are read, and nothing else is; and reading stops where the lines are stuck
 pub record Exact {A : Type 0} (G : A → Lines → Type 0) (p : Lines → Read A) : Type 0 where
   pub alive : Begins G []
-  pub again : (a : A) (front rest : Lines) → G a front → p (front ++ rest) ≡ Ok (a, rest)
-  pub found : (ls rest : Lines) (a : A) → p ls ≡ Ok (a, rest) → (front : Lines) × G a front × (ls ≡ front ++ rest)
+  pub again : (a : A) (prefix rest : Lines) → G a prefix → p (prefix ++ rest) ≡ Ok (a, rest)
+  pub found : (ls rest : Lines) (a : A) → p ls ≡ Ok (a, rest) → (prefix : Lines) × G a prefix × (ls ≡ prefix ++ rest)
   pub bad : (ls rest : Lines) → p ls ≡ Err rest → Stuck G ls rest
 
 -- of two ways to part a list, one goes further
@@ -71,7 +71,7 @@ pub exact_line : {A : Type 0} (text : A → List ℕ) (Fits : A → Type 0) (for
 exact_line {A} text Fits form some fits again found =
     record {
       alive = (some, text some ∷ [], (fits, refl));
-      again = λ a front rest g. rw (g.1, again a g.0) refl;
+      again = λ a prefix rest g. rw (g.1, again a g.0) refl;
       found = λ ls rest a e.
           let h = line_found form ls rest a e in
           let f = found h.0 a h.1 in
@@ -109,7 +109,7 @@ then_splits G H ls h =
 
 -- what is read after each value is exact for what goes with it
 abbrev Sequel : {A B : Type 0} (G : A → Lines → Type 0) (H : A → B → Lines → Type 0) (q : A → Lines → Read B) → Type 0
-Sequel {A} G H q = (a : A) (front : Lines) → G a front → Exact (H a) (q a)
+Sequel {A} G H q = (a : A) (prefix : Lines) → G a prefix → Exact (H a) (q a)
 
 -- both are stuck where the first one is
 first_bad : {A B : Type 0} (G : A → Lines → Type 0) (H : A → B → Lines → Type 0) (p : Lines → Read A) (q : A → Lines → Read B)
@@ -151,11 +151,11 @@ second_bad {A} G H p q P Q ls rest a mid o e =
 pub exact_then : {A B : Type 0} (G : A → Lines → Type 0) (H : A → B → Lines → Type 0) (p : Lines → Read A) (q : A → Lines → Read B)
     → Exact G p → Sequel G H q → Exact (Then G H) (λ ls. p ls >>= λ x. q x.0 x.1)
 exact_then {A} {B} G H p q P Q =
-    let alive_after = λ (a : A) (front : Lines) (g : G a front). (Q a front g).alive in
+    let alive_after = λ (a : A) (prefix : Lines) (g : G a prefix). (Q a prefix g).alive in
     record {
       alive = first_begins G H [] P.alive (alive_after P.alive.0 P.alive.1 P.alive.2);
-      again = λ b front rest t.
-          let regrouped : front ++ rest ≡ t.1 ++ (t.2 ++ rest) = rw t.5 (append_assoc t.1 t.2 rest) in
+      again = λ b prefix rest t.
+          let regrouped : prefix ++ rest ≡ t.1 ++ (t.2 ++ rest) = rw t.5 (append_assoc t.1 t.2 rest) in
           ap (λ ls. p ls >>= λ x. q x.0 x.1) regrouped ∙ rw (P.again t.0 t.1 (t.2 ++ rest) t.3) ((Q t.0 t.1 t.3).again b t.2 rest t.4);
       found = λ ls rest b e.
           let o = bind_ok (p ls) (λ x. q x.0 x.1) (b, rest) e in
@@ -174,7 +174,7 @@ exact_then {A} {B} G H p q P Q =
 pub exact_give : {B : Type 0} (b : B) → Exact (λ c ls. (c ≡ b) × (ls ≡ [])) (λ ls. Ok (b, ls))
 exact_give {B} b = record {
   alive = (b, [], (refl, refl));
-  again = λ c front rest g. rw (g.0, g.1) refl;
+  again = λ c prefix rest g. rw (g.0, g.1) refl;
   found = λ ls rest c e. let same = ok_is (b, ls) (c, rest) e in ([], (sym (ap (λ (x : B × Lines). x.0) same), refl), ap (λ (x : B × Lines). x.1) same);
   bad = λ ls rest e. absurd cc;
 }
@@ -185,11 +185,11 @@ regraded G H to ls b = (b.0, b.1, to b.0 (ls ++ b.1) b.2)
 
 -- the same values, said otherwise
 pub exact_same : {A : Type 0} (G H : A → Lines → Type 0) (p : Lines → Read A) → ((a : A) (ls : Lines) → G a ls → H a ls) → ((a : A) (ls : Lines) → H a ls → G a ls) → Exact G p → Exact H p
-exact_same G H p to back P = record {
+exact_same G H p to from P = record {
   alive = regraded G H to [] P.alive;
-  again = λ a front rest h. P.again a front rest (back a front h);
+  again = λ a prefix rest h. P.again a prefix rest (from a prefix h);
   found = λ ls rest a e. let f = P.found ls rest a e in (f.0, to a f.0 f.1, f.2);
-  bad = λ ls rest e. let s = P.bad ls rest e in (s.0, s.1, regraded G H to s.0 s.2, λ l more k h. s.3 l more k (regraded H G back (s.0 ++ l ∷ []) h));
+  bad = λ ls rest e. let s = P.bad ls rest e in (s.0, s.1, regraded G H to s.0 s.2, λ l more k h. s.3 l more k (regraded H G from (s.0 ++ l ∷ []) h));
 }
 
 -- all lines are read
@@ -245,13 +245,13 @@ all_bad {A} G p P ls rest e =
 -- ---- there is one place where lines get stuck
 
 -- the first of lines that begin a value begin it too
-begins_front : {A : Type 0} (G : A → Lines → Type 0) (a b : Lines) → Begins G (a ++ b) → Begins G a
-begins_front G a b h = (h.0, b ++ h.1, subst (G h.0) (append_assoc a b h.1) h.2)
+begins_prefix : {A : Type 0} (G : A → Lines → Type 0) (a b : Lines) → Begins G (a ++ b) → Begins G a
+begins_prefix G a b h = (h.0, b ++ h.1, subst (G h.0) (append_assoc a b h.1) h.2)
 
 -- after lines that are stuck no further line begins a value
-no_further : {A : Type 0} (G : A → Lines → Type 0) (front rest m : Lines) → ((l : List ℕ) (more : Lines) → rest ≡ l ∷ more → Begins G (front ++ l ∷ []) → ⊥) → (tail : Lines) → rest ≡ m ++ tail → Begins G (front ++ m) → m ≡ []
-no_further G front rest [] stop tail e h = refl
-no_further G front rest (l ∷ m) stop tail e h = absurd (stop l (m ++ tail) e (begins_front G (front ++ l ∷ []) m (subst (Begins G) (sym (append_assoc front (l ∷ []) m)) h)))
+no_further : {A : Type 0} (G : A → Lines → Type 0) (prefix rest m : Lines) → ((l : List ℕ) (more : Lines) → rest ≡ l ∷ more → Begins G (prefix ++ l ∷ []) → ⊥) → (tail : Lines) → rest ≡ m ++ tail → Begins G (prefix ++ m) → m ≡ []
+no_further G prefix rest [] stop tail e h = refl
+no_further G prefix rest (l ∷ m) stop tail e h = absurd (stop l (m ++ tail) e (begins_prefix G (prefix ++ l ∷ []) m (subst (Begins G) (sym (append_assoc prefix (l ∷ []) m)) h)))
 
 -- lines are stuck at one place
 pub one_place : {A : Type 0} (G : A → Lines → Type 0) (ls rest other : Lines) → (s : Stuck G ls rest) → (t : Stuck G ls other) → s.0 ≡ t.0

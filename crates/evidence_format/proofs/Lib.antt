@@ -3,7 +3,9 @@ pub mod Digits
 pub mod Cutting
 pub mod Exact
 pub mod WordLaws
+pub mod FormLaws
 pub mod ReaderLaws
+pub mod BodyLaws
 pub mod LineLaws
 pub mod Loops
 pub mod Reading

@@ -1,18 +1,22 @@
 -- Texts and their lines.
-use Rattle.std.proofs.Common.{◌≡◌, ℕ, ◌+◌, ◌-◌, ◌≤◌, true, false, cond, not, eqb, ◌&&◌, List, [], ◌∷◌, ◌++◌, length, map, take, refl, sym, ap, ◌∙◌, append_assoc, length-append, arith}
+use Rattle.std.proofs.Common.{◌≡◌, ℕ, ◌+◌, ◌-◌, ◌≤◌, true, false, cond, not, eqb, ◌&&◌, List, [], ◌∷◌, ◌++◌, length, map, take, refl, sym, ap, ◌∙◌, append_assoc, length-append, arith, rules}
 use Rattle.std.specs.Prelude.{decimal, codes}
-use Rattle.std.specs.List.{concat, list_all, count_by, AllByRecursion}
+use Rattle.std.specs.List.{concat, flat_map, list_all, count_by, AllByRecursion}
 use Rattle.std.proofs.lemmas.List.{take_at}
 use Rattle.std.proofs.lemmas.List.Elements.{recursion_from_All}
 use Rattle.std.proofs.lemmas.List.Sums.{sum_by-cons, sum_by-append}
+use Rattle.net_core.specs.Rels.{rel_text}
+use Rattle.net_core.specs.declared.rels.Rel.{Rel}
+use Rattle.net_core.specs.declared.step.Step.{Step}
+use Rattle.net_core.specs.declared.step.Step.TheVariants.{Link, Span, Calendar}
 use Rattle.evidence_format.specs.Lines.{Lines, is_lf, with_byte, lines_of}
 use Rattle.evidence_format.specs.Words.{is_not}
-use Rattle.evidence_format.specs.Evidence.{PlainEvidence, timeline, IsNumber, IsPair, IsWellFormed, one_number, two_numbers, at_line, body_lines, text_lines, last_line}
+use Rattle.evidence_format.specs.Evidence.{PlainEvidence, timeline, entails, counter, IsNumber, IsPair, AreRanks, HasNumbers, AreSteps, IsWellFormed, one_number, two_numbers, relation_line, at_line, timeline_lines, step_line, walk_lines, body_lines, text_lines, last_line}
 use Rattle.evidence_format.proofs.WordLaws.{all_append, digits_differ}
 
 -- ---- the lines of a text are the text
 
--- a byte at the front of the first line is at the front of the text
+-- a byte at the start of the first line is at the start of the text
 with_byte_concat : (b : ℕ) (ls : Lines) → concat (with_byte b ls) ≡ b ∷ concat ls
 with_byte_concat b [] = refl
 with_byte_concat b (l ∷ ls) = refl
@@ -30,15 +34,15 @@ lines_concat (b ∷ bytes) = elim (eqb b 10) as (λ t. concat (cond t ((b ∷ []
 
 -- bytes without LF, and then LF
 abbrev pub IsLine : List ℕ → Type 0
-IsLine l = (front : List ℕ) × (list_all (is_not 10) front ≡ true) × (l ≡ front ++ 10 ∷ [])
+IsLine l = (prefix : List ℕ) × (list_all (is_not 10) prefix ≡ true) × (l ≡ prefix ++ 10 ∷ [])
 
 -- the first line is what stands up to the first LF
-first_is : (front rest : List ℕ) → list_all (is_not 10) front ≡ true → lines_of (front ++ 10 ∷ rest) ≡ (front ++ 10 ∷ []) ∷ lines_of rest
+first_is : (prefix rest : List ℕ) → list_all (is_not 10) prefix ≡ true → lines_of (prefix ++ 10 ∷ rest) ≡ (prefix ++ 10 ∷ []) ∷ lines_of rest
 unfolding lines_of
 first_is [] rest h = refl
-first_is (b ∷ front) rest h = elim (eqb b 10) as (λ t. (not t && list_all (is_not 10) front) ≡ true → cond t ((b ∷ []) ∷ lines_of (front ++ 10 ∷ rest)) (with_byte b (lines_of (front ++ 10 ∷ rest))) ≡ (b ∷ (front ++ 10 ∷ [])) ∷ lines_of rest) [
+first_is (b ∷ prefix) rest h = elim (eqb b 10) as (λ t. (not t && list_all (is_not 10) prefix) ≡ true → cond t ((b ∷ []) ∷ lines_of (prefix ++ 10 ∷ rest)) (with_byte b (lines_of (prefix ++ 10 ∷ rest))) ≡ (b ∷ (prefix ++ 10 ∷ [])) ∷ lines_of rest) [
   | true ↦ λ e. absurd cc
-  | false ↦ λ e. ap (with_byte b) (first_is front rest e)
+  | false ↦ λ e. ap (with_byte b) (first_is prefix rest e)
 ] h
 
 -- whole lines are the lines of what they are joined to
@@ -51,9 +55,9 @@ lines_again (l ∷ ls) h =
     ap lines_of grouped ∙ first_is s.0 (concat ls) s.1 ∙ rw (lines_again ls h.1, ← s.2) refl
 
 -- the first of whole lines are whole
-pub front_lines : (a b : Lines) → AllByRecursion IsLine (a ++ b) → AllByRecursion IsLine a
-front_lines [] b h = tt
-front_lines (l ∷ a) b h = (h.0, front_lines a b h.1)
+pub prefix_lines : (a b : Lines) → AllByRecursion IsLine (a ++ b) → AllByRecursion IsLine a
+prefix_lines [] b h = tt
+prefix_lines (l ∷ a) b h = (h.0, prefix_lines a b h.1)
 
 -- whole lines, and whole lines after them
 both_lines : (a b : Lines) → AllByRecursion IsLine a → AllByRecursion IsLine b → AllByRecursion IsLine (a ++ b)
@@ -73,14 +77,48 @@ two_is keyword m n h small_m small_n =
     let space = all_append (is_not 10) (keyword ++ decimal m) (codes " ") one refl in
     (keyword ++ decimal m ++ codes " " ++ decimal n, all_append (is_not 10) (keyword ++ decimal m ++ codes " ") (decimal n) space (digits_differ 10 n (omega arith) small_n), refl)
 
--- the ranks of each interval are a whole line
-ats_are : (ranks : List (ℕ × ℕ)) → AllByRecursion IsPair ranks → AllByRecursion IsLine (map at_line ranks)
-ats_are [] h = tt
-ats_are (p ∷ ranks) h = (two_is (codes "at ") p.0 p.1 refl h.0.0 h.0.1, ats_are ranks h.1)
+-- the text of a relation has no LF
+rel_is : (r : Rel) → list_all (is_not 10) (rel_text r) ≡ true
+rel_is r = search rules
+
+-- a keyword and a relation between two intervals are a whole line
+relation_is : (keyword : List ℕ) (a : ℕ) (r : Rel) (b : ℕ) → list_all (is_not 10) keyword ≡ true → IsNumber a → IsNumber b → IsLine (relation_line keyword a r b)
+relation_is keyword a r b h small_a small_b =
+    let one = all_append (is_not 10) keyword (decimal a) h (digits_differ 10 a (omega arith) small_a) in
+    let space = all_append (is_not 10) (keyword ++ decimal a) (codes " ") one refl in
+    let rel = all_append (is_not 10) (keyword ++ decimal a ++ codes " ") (rel_text r) space (rel_is r) in
+    let other = all_append (is_not 10) (keyword ++ decimal a ++ codes " " ++ rel_text r) (codes " ") rel refl in
+    (keyword ++ decimal a ++ codes " " ++ rel_text r ++ codes " " ++ decimal b, all_append (is_not 10) (keyword ++ decimal a ++ codes " " ++ rel_text r ++ codes " ") (decimal b) other (digits_differ 10 b (omega arith) small_b), refl)
+
+-- a line for each value, each a whole one
+mapped_are : {A : Type 0} (Fits : A → Type 0) (line : A → List ℕ) → ((a : A) → Fits a → IsLine (line a)) → (vs : List A) → AllByRecursion Fits vs → AllByRecursion IsLine (map line vs)
+mapped_are Fits line each [] h = tt
+mapped_are Fits line each (v ∷ vs) h = (each v h.0, mapped_are Fits line each vs h.1)
+
+-- lines for each value, all whole
+flat_are : {A : Type 0} (Fits : A → Type 0) (lines : A → Lines) → ((a : A) → Fits a → AllByRecursion IsLine (lines a)) → (vs : List A) → AllByRecursion Fits vs → AllByRecursion IsLine (flat_map lines vs)
+flat_are Fits lines each [] h = tt
+flat_are Fits lines each (v ∷ vs) h = both_lines (lines v) (flat_map lines vs) (each v h.0) (flat_are Fits lines each vs h.1)
+
+-- a step is a whole line
+step_is : (s : Step) → HasNumbers s → IsLine (step_line s)
+step_is (Link k t) h = two_is (codes "via ") k t refl h.0 h.1
+step_is (Span i) h = one_is (codes "span ") i refl h
+step_is (Calendar p q) h = two_is (codes "calendar ") p q refl h.0 h.1
+
+-- a timeline is whole lines
+timeline_is : (ranks : List (ℕ × ℕ)) → AreRanks ranks → AllByRecursion IsLine (timeline_lines ranks)
+timeline_is ranks h = (one_is (codes "timeline ") (length ranks) refl h.1, mapped_are IsPair at_line (λ pair small. two_is (codes "at ") pair.0 pair.1 refl small.0 small.1) ranks (recursion_from_All IsPair ranks h.0))
+
+-- a walk is whole lines
+walk_is : (steps : List Step) → AreSteps steps → AllByRecursion IsLine (walk_lines steps)
+walk_is steps h = (one_is (codes "walk ") (length steps) refl h.1, mapped_are HasNumbers step_line step_is steps (recursion_from_All HasNumbers steps h.0))
 
 -- what stands between the first line and the last one is whole lines
 body_is : (e : PlainEvidence) → IsWellFormed e → AllByRecursion IsLine (body_lines e)
-body_is (timeline ranks) h = (one_is (codes "timeline ") (length ranks) refl h.1, ats_are ranks (recursion_from_All IsPair ranks h.0))
+body_is (timeline ranks) h = timeline_is ranks h
+body_is (entails a r b walks) h = (relation_is (codes "entails ") a r b refl h.0 h.1, flat_are AreSteps walk_lines walk_is walks (recursion_from_All AreSteps walks h.2))
+body_is (counter a r b ranks) h = (relation_is (codes "counter ") a r b refl h.0 h.1, timeline_is ranks h.2)
 
 -- the lines of a text are whole
 pub text_is : (e : PlainEvidence) → IsWellFormed e → AllByRecursion IsLine (text_lines e)
@@ -89,11 +127,11 @@ text_is e h = ((codes "tml-evidence 1", refl, refl), both_lines (body_lines e) (
 -- ---- the number of a line
 
 -- bytes without LF have none
-one_lf : (front : List ℕ) → list_all (is_not 10) front ≡ true → count_by is_lf front ≡ 0
+one_lf : (prefix : List ℕ) → list_all (is_not 10) prefix ≡ true → count_by is_lf prefix ≡ 0
 one_lf [] h = refl
-one_lf (b ∷ front) h = sum_by-cons (λ x. cond (is_lf x) 1 0) b front ∙ elim (eqb b 10) as (λ t. (not t && list_all (is_not 10) front) ≡ true → cond t 1 0 + count_by is_lf front ≡ 0) [
+one_lf (b ∷ prefix) h = sum_by-cons (λ x. cond (is_lf x) 1 0) b prefix ∙ elim (eqb b 10) as (λ t. (not t && list_all (is_not 10) prefix) ≡ true → cond t 1 0 + count_by is_lf prefix ≡ 0) [
   | true ↦ λ e. absurd cc
-  | false ↦ λ e. omega (arith, one_lf front e)
+  | false ↦ λ e. omega (arith, one_lf prefix e)
 ] h
 
 -- the LFs of two parts
@@ -124,5 +162,5 @@ line_number text rest good h e =
     let parts = before_rest text rest good e in
     let len : length text ≡ length (concat good) + length rest = ap length parts ∙ length-append (concat good) rest in
     let k : length text - length rest ≡ length (concat good) = omega arith in
-    let front : take (length text - length rest) text ≡ concat good = rw k (ap (take (length (concat good))) parts ∙ take_at (concat good) rest (length (concat good)) refl) in
-    (omega arith, ap (count_by is_lf) front ∙ count_lines good h)
+    let prefix : take (length text - length rest) text ≡ concat good = rw k (ap (take (length (concat good))) parts ∙ take_at (concat good) rest (length (concat good)) refl) in
+    (omega arith, ap (count_by is_lf) prefix ∙ count_lines good h)

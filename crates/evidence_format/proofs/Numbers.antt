@@ -39,10 +39,10 @@ number_found word n e =
 pub number_again : (n : ℕ) → n < 2 ^ 32 → number (decimal n) ≡ Some n
 unfolding number
 number_again n small =
-    let back = (decimal_is_IsNumeral n (omega arith)).1 in
+    let value = (decimal_is_IsNumeral n (omega arith)).1 in
     let same : bytes_eq (decimal n) (decimal n) ≡ true = (bytes_eq-Decides (decimal n) (decimal n)).1 refl in
     let lt : ltb n (2 ^ 32) ≡ true = lt-ltb n (2 ^ 32) small in
-    rw (back, same, lt) refl
+    rw (value, same, lt) refl
 
 -- in a word that no number prints none is read
 pub number_none : (word : List ℕ) → ((n : ℕ) → n < 2 ^ 32 → decimal n ≡ word → ⊥) → number word ≡ None

@@ -6,8 +6,8 @@ use Rattle.evidence_format.specs.Evidence.{PlainEvidence, IsText, text_lines}
 use Rattle.evidence_format.specs.Begun.{HasLines, IsBegun, IsBadLine}
 use Rattle.evidence_format.specs.Readers.{text_at, evidence_at}
 use Rattle.evidence_format.proofs.Exact.{all_again, all_found, all_bad, one_place}
-use Rattle.evidence_format.proofs.ReaderLaws.{exact_text}
-use Rattle.evidence_format.proofs.LineLaws.{IsLine, lines_again, lines_concat, front_lines, text_is, line_number}
+use Rattle.evidence_format.proofs.BodyLaws.{exact_text}
+use Rattle.evidence_format.proofs.LineLaws.{IsLine, lines_again, lines_concat, prefix_lines, text_is, line_number}
 
 -- what is read has this text
 pub is_found : (e : PlainEvidence) (text : List ℕ) → evidence_at (lines_of text) ≡ Ok e → IsText e text
@@ -25,7 +25,7 @@ is_read e text h =
 
 -- lines that are begun are whole
 begun_lines : (ls : Lines) → IsBegun ls → AllByRecursion IsLine ls
-begun_lines ls b = front_lines ls b.1 (subst (AllByRecursion IsLine) (sym b.2.1) (text_is b.0 b.2.0))
+begun_lines ls b = prefix_lines ls b.1 (subst (AllByRecursion IsLine) (sym b.2.1) (text_is b.0 b.2.0))
 
 -- where reading stops, the line is bad
 pub is_bad : (text rest : List ℕ) → evidence_at (lines_of text) ≡ Err (lines_of rest) → (length rest ≤ length text) × IsBadLine text (count_by is_lf (take (length text - length rest) text) + 1)

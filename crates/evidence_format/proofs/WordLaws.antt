@@ -1,5 +1,5 @@
 -- What is read of a line is what stands there, and what stands there is read.
-use Rattle.std.proofs.Common.{◌≡◌, ℕ, ◌+◌, ◌%◌, ◌<◌, Bool, true, false, cond, not, eqb, ◌&&◌, List, [], ◌∷◌, ◌++◌, length, take, drop, Option, Some, refl, sym, ap, subst, ◌∙◌, append_assoc, one-add, arith}
+use Rattle.std.proofs.Common.{◌≡◌, ℕ, ◌+◌, ◌%◌, ◌<◌, Bool, true, false, cond, not, eqb, ◌&&◌, List, [], ◌∷◌, ◌++◌, length, take, drop, Option, Some, refl, sym, ap, subst, ◌∙◌, append_assoc, one-add, arith, rules}
 use Rattle.std.specs.Prelude.{decimal}
 use Rattle.std.specs.List.{prefix_len, list_all}
 use Rattle.std.specs.Str.{bytes_eq}
@@ -9,8 +9,12 @@ use Rattle.std.proofs.lemmas.List.{take_at, drop_at, take-append-drop}
 use Rattle.std.proofs.lemmas.List.Folds.{list_all-append}
 use Rattle.std.proofs.lemmas.Fmt.{decimal_by_steps}
 use Rattle.std.proofs.lemmas.Slice.Eq.{starts_is, bytes_eq-Decides}
-use Rattle.evidence_format.specs.Words.{◌>>=◌, is_not, number, number_to, after, after_one, alone, one_of, two_of, same_of}
-use Rattle.evidence_format.specs.Evidence.{IsNumber, IsPair, one_number, two_numbers}
+use Rattle.named.specs.Texts.{AreApart, named_of}
+use Rattle.named.proofs.Tables.{found_has}
+use Rattle.net_core.specs.Rels.{rel_text, all_rels}
+use Rattle.net_core.specs.declared.rels.Rel.{Rel}
+use Rattle.evidence_format.specs.Words.{◌>>=◌, is_not, number, number_to, word_to, after, after_one, alone, one_of, two_of, relation_of, same_of}
+use Rattle.evidence_format.specs.Evidence.{IsNumber, IsPair, one_number, two_numbers, relation_line}
 use Rattle.evidence_format.proofs.Numbers.{guard, some_bind, number_found, number_again}
 
 -- ---- up to a byte
@@ -59,7 +63,7 @@ abbrev one : {A : Type 0} → A → Option A
 one x = Some x
 
 -- there is one value
-some_is : {A : Type 0} (x y : A) → one x ≡ one y → x ≡ y
+pub some_is : {A : Type 0} (x y : A) → one x ≡ one y → x ≡ y
 some_is x y e = cc
 
 -- a value with nothing after it
@@ -97,6 +101,22 @@ number_to_again : (stop n : ℕ) (rest : List ℕ) → stop < 48 → IsNumber n 
 unfolding number_to
 number_to_again stop n rest lt small =
     rw (prefix_again (is_not stop) (decimal n) rest stop (digits_differ stop n lt small) (stops stop), take_at (decimal n) (stop ∷ rest) (length (decimal n)) refl, drop_at (decimal n) (stop ∷ rest) (length (decimal n)) refl, number_again n small) refl
+
+-- a word that is read up to a byte stands there
+word_found : (stop : ℕ) (bytes word rest : List ℕ) → word_to stop bytes ≡ Some (word, rest) → bytes ≡ word ++ stop ∷ rest
+unfolding word_to
+word_found stop bytes word rest e =
+    let k = prefix_len (is_not stop) bytes in
+    let a = some_bind (after_one (drop k bytes)) (λ rest. Some (take k bytes, rest)) (word, rest) e in
+    let same = some_is (take k bytes, a.0) (word, rest) a.2 in
+    let whole : bytes ≡ take k bytes ++ stop ∷ a.0 = sym (take-append-drop k bytes) ∙ ap (λ (x : List ℕ). take k bytes ++ x) (after_one_is stop bytes a.0 a.1) in
+    subst (λ (x : List ℕ × List ℕ). bytes ≡ x.0 ++ stop ∷ x.1) same whole
+
+-- a word that stands there is read
+word_again : (stop : ℕ) (word rest : List ℕ) → list_all (is_not stop) word ≡ true → word_to stop (word ++ stop ∷ rest) ≡ Some (word, rest)
+unfolding word_to
+word_again stop word rest h =
+    rw (prefix_again (is_not stop) word rest stop h (stops stop), take_at word (stop ∷ rest) (length word) refl, drop_at word (stop ∷ rest) (length word) refl) refl
 
 -- ---- whole lines
 
@@ -148,6 +168,50 @@ two_form keyword = record {
       let second : b.0.1 ≡ decimal c.0.0 ++ 10 ∷ [] = g.0 ∙ ap (λ (x : List ℕ). decimal c.0.0 ++ 10 ∷ x) d.1 in
       let whole : l ≡ keyword ++ (decimal b.0.0 ++ 32 ∷ (decimal c.0.0 ++ 10 ∷ [])) = k ∙ ap (λ (x : List ℕ). keyword ++ x) (f.0 ∙ ap (λ (x : List ℕ). decimal b.0.0 ++ 32 ∷ x) second) in
       subst (λ (q : ℕ × ℕ). (pair_line keyword q ≡ l) × IsPair q) d.0 (two_grouped keyword b.0.0 c.0.0 ∙ sym whole, (f.1, g.1));
+}
+
+-- each relation is found by its text
+rels : AreApart rel_text all_rels
+rels = search rules
+
+-- no relation has a space in its text
+no_space : (r : Rel) → list_all (is_not 32) (rel_text r) ≡ true
+no_space r = search rules
+
+-- the line of a keyword and a relation between two intervals
+abbrev pub between_line : List ℕ → ℕ × Rel × ℕ → List ℕ
+between_line keyword x = relation_line keyword x.0 x.1 x.2
+
+-- the intervals can stand in a text
+abbrev pub AreIntervals : ℕ × Rel × ℕ → Type 0
+AreIntervals x = IsNumber x.0 × IsNumber x.2
+
+-- a keyword, and what follows it: a number, a relation, a number and LF
+relation_grouped : (keyword : List ℕ) (a : ℕ) (r : Rel) (b : ℕ) → relation_line keyword a r b ≡ keyword ++ (decimal a ++ 32 ∷ (rel_text r ++ 32 ∷ (decimal b ++ 10 ∷ [])))
+relation_grouped keyword a r b = simp append_assoc
+
+-- lines of a keyword and a relation between two intervals
+pub relation_form : (keyword : List ℕ) → IsForm (between_line keyword) AreIntervals (relation_of keyword)
+unfolding relation_of
+relation_form keyword = record {
+  again = λ x small.
+      let last = decimal x.2 ++ 10 ∷ [] in
+      ap (relation_of keyword) (relation_grouped keyword x.0 x.1 x.2) ∙ rw (after_again keyword (decimal x.0 ++ 32 ∷ (rel_text x.1 ++ 32 ∷ last)), number_to_again 32 x.0 (rel_text x.1 ++ 32 ∷ last) (omega arith) small.0, word_again 32 (rel_text x.1) last (no_space x.1), rels x.1, number_to_again 10 x.2 [] (omega arith) small.1) refl;
+  found = λ l x e.
+      let p = some_bind (after keyword l) (λ rest. number_to 32 rest >>= λ a. word_to 32 a.1 >>= λ word. named_of rel_text all_rels word.0 >>= λ r. number_to 10 word.1 >>= λ b. alone (a.0, r, b.0) b.1) x e in
+      let a = some_bind (number_to 32 p.0) (λ a. word_to 32 a.1 >>= λ word. named_of rel_text all_rels word.0 >>= λ r. number_to 10 word.1 >>= λ b. alone (a.0, r, b.0) b.1) x p.2 in
+      let w = some_bind (word_to 32 a.0.1) (λ word. named_of rel_text all_rels word.0 >>= λ r. number_to 10 word.1 >>= λ b. alone (a.0.0, r, b.0) b.1) x a.2 in
+      let r = some_bind (named_of rel_text all_rels w.0.0) (λ r. number_to 10 w.0.1 >>= λ b. alone (a.0.0, r, b.0) b.1) x w.2 in
+      let b = some_bind (number_to 10 w.0.1) (λ b. alone (a.0.0, r.0, b.0) b.1) x r.2 in
+      let d = alone_is (a.0.0, r.0, b.0.0) x b.0.1 b.2 in
+      let fa = number_to_found 32 p.0 a.0.0 a.0.1 a.1 in
+      let fw = word_found 32 a.0.1 w.0.0 w.0.1 w.1 in
+      let fr = found_has rel_text all_rels w.0.0 r.0 r.1 in
+      let fb = number_to_found 10 w.0.1 b.0.0 b.0.1 b.1 in
+      let third : w.0.1 ≡ decimal b.0.0 ++ 10 ∷ [] = fb.0 ∙ ap (λ (x : List ℕ). decimal b.0.0 ++ 10 ∷ x) d.1 in
+      let second : a.0.1 ≡ rel_text r.0 ++ 32 ∷ (decimal b.0.0 ++ 10 ∷ []) = fw ∙ ap (λ (x : List ℕ). x ++ 32 ∷ w.0.1) (sym fr) ∙ ap (λ (x : List ℕ). rel_text r.0 ++ 32 ∷ x) third in
+      let whole : l ≡ keyword ++ (decimal a.0.0 ++ 32 ∷ (rel_text r.0 ++ 32 ∷ (decimal b.0.0 ++ 10 ∷ []))) = after_found keyword l p.0 p.1 ∙ ap (λ (x : List ℕ). keyword ++ x) (fa.0 ∙ ap (λ (x : List ℕ). decimal a.0.0 ++ 32 ∷ x) second) in
+      subst (λ (y : ℕ × Rel × ℕ). (between_line keyword y ≡ l) × AreIntervals y) d.0 (relation_grouped keyword a.0.0 r.0 b.0.0 ∙ sym whole, (fa.1, fb.1));
 }
 
 -- one line alone

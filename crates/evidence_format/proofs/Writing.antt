@@ -1,8 +1,10 @@
 -- The bytes that are written are those of the lines.
-use Rattle.std.proofs.Common.{◌≡◌, ℕ, List, [], ◌∷◌, ◌++◌, map, refl, ap}
+use Rattle.std.proofs.Common.{◌≡◌, ℕ, List, [], ◌∷◌, ◌++◌, map, refl, ap, ◌∙◌}
 use Rattle.std.specs.List.{concat, flat_map}
-use Rattle.evidence_format.specs.Evidence.{PlainEvidence, timeline, at_line, body_lines, text_lines, first_line, last_line}
-use Rattle.evidence_format.specs.Written.{body_bytes}
+use Rattle.net_core.specs.declared.step.Step.{Step}
+use Rattle.evidence_format.specs.Lines.{Lines}
+use Rattle.evidence_format.specs.Evidence.{PlainEvidence, timeline, entails, counter, at_line, timeline_lines, step_line, walk_lines, body_lines, text_lines, first_line, last_line}
+use Rattle.evidence_format.specs.Written.{timeline_bytes, walk_bytes, body_bytes}
 use Rattle.evidence_format.proofs.LineLaws.{concat_append}
 
 -- lines, one for each value, joined
@@ -10,9 +12,24 @@ mapped : {A : Type 0} (f : A → List ℕ) (vs : List A) → concat (map f vs) �
 mapped f [] = refl
 mapped f (v ∷ vs) = ap (λ (x : List ℕ). f v ++ x) (mapped f vs)
 
+-- lines, some for each value, joined
+flat : {A : Type 0} (lines : A → Lines) (bytes : A → List ℕ) → ((v : A) → concat (lines v) ≡ bytes v) → (vs : List A) → concat (flat_map lines vs) ≡ flat_map bytes vs
+flat lines bytes each [] = refl
+flat lines bytes each (v ∷ vs) = concat_append (lines v) (flat_map lines vs) ∙ rw (each v, flat lines bytes each vs) refl
+
+-- a timeline, joined
+timeline_is : (ranks : List (ℕ × ℕ)) → concat (timeline_lines ranks) ≡ timeline_bytes ranks
+timeline_is ranks = rw (mapped at_line ranks) refl
+
+-- a walk, joined
+walk_is : (steps : List Step) → concat (walk_lines steps) ≡ walk_bytes steps
+walk_is steps = rw (mapped step_line steps) refl
+
 -- what stands between the first line and the last one, joined
 body_is : (e : PlainEvidence) → concat (body_lines e) ≡ body_bytes e
-body_is (timeline ranks) = rw (mapped at_line ranks) refl
+body_is (timeline ranks) = timeline_is ranks
+body_is (entails a r b walks) = rw (flat walk_lines walk_bytes walk_is walks) refl
+body_is (counter a r b ranks) = rw (timeline_is ranks) refl
 
 -- the lines of a text, joined
 pub text_is : (e : PlainEvidence) → concat (text_lines e) ≡ first_line ++ (body_bytes e ++ last_line)

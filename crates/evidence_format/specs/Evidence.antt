@@ -1,6 +1,6 @@
 -- Evidence as a plain value, and its one text.
-use Rattle.std.specs.Prelude.{◌≡◌, ℕ, ◌^◌, ◌<◌, List, [], ◌∷◌, ◌++◌, length, map, flat_map, codes, decimal}
-use Rattle.std.specs.List.{All, concat}
+use Rattle.std.specs.Prelude.{◌≡◌, ℕ, ◌^◌, ◌<◌, List, [], ◌∷◌, ◌++◌, length, map, codes, decimal}
+use Rattle.std.specs.List.{All, concat, flat_map}
 use Rattle.net_core.specs.Atoms.{atom_count}
 use Rattle.net_core.specs.Rels.{rel_text}
 use Rattle.net_core.specs.declared.rels.Rel.{Rel}

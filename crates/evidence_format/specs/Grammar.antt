@@ -8,8 +8,8 @@ Begins {A} G ls = (a : A) × (more : Lines) × G a (ls ++ more)
 
 -- the lines of a value, and then those of another one that depends on it
 abbrev pub Then : {A B : Type 0} → (A → Lines → Type 0) → (A → B → Lines → Type 0) → B → Lines → Type 0
-Then {A} G H b ls = (a : A) × (front : Lines) × (back : Lines) × G a front × H a b back × (ls ≡ front ++ back)
+Then {A} G H b ls = (a : A) × (prefix : Lines) × (suffix : Lines) × G a prefix × H a b suffix × (ls ≡ prefix ++ suffix)
 
 -- the lines up to the rest begin a value, and with one line more they begin none
 abbrev pub Stuck : {A : Type 0} → (A → Lines → Type 0) → Lines → Lines → Type 0
-Stuck G ls rest = (front : Lines) × (ls ≡ front ++ rest) × Begins G front × ((l : List ℕ) (more : Lines) → rest ≡ l ∷ more → Begins G (front ++ l ∷ []) → ⊥)
+Stuck G ls rest = (prefix : Lines) × (ls ≡ prefix ++ rest) × Begins G prefix × ((l : List ℕ) (more : Lines) → rest ≡ l ∷ more → Begins G (prefix ++ l ∷ []) → ⊥)

@@ -1,5 +1,6 @@
 pub mod Lines
 pub mod Words
+pub mod Forms
 pub mod Evidence
 pub mod Begun
 pub mod Parts

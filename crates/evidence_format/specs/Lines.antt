@@ -7,7 +7,7 @@ Lines = List (List ℕ)
 abbrev pub is_lf : ℕ → Bool
 is_lf b = b == 10
 
--- one byte more at the front of the first line
+-- one byte more at the start of the first line
 abbrev pub with_byte : ℕ → Lines → Lines
 with_byte b [] = (b ∷ []) ∷ []
 with_byte b (l ∷ ls) = (b ∷ l) ∷ ls

@@ -1,8 +1,13 @@
 -- Reading evidence, line by line.
 use Rattle.std.specs.Prelude.{ℕ, zero, suc, List, [], ◌∷◌, Result, Ok, codes}
+use Rattle.net_core.specs.Atoms.{atom_count}
+use Rattle.net_core.specs.declared.step.Step.{Step}
+use Rattle.evidence_format.specs.declared.head.Head.{Head}
+use Rattle.evidence_format.specs.declared.head.Head.TheVariants.{Timeline, Entails, Counter}
 use Rattle.evidence_format.specs.Lines.{Lines}
-use Rattle.evidence_format.specs.Evidence.{PlainEvidence, timeline, first_line, last_line}
+use Rattle.evidence_format.specs.Evidence.{PlainEvidence, timeline, entails, counter, first_line, last_line}
 use Rattle.evidence_format.specs.Words.{one_of, two_of, same_of}
+use Rattle.evidence_format.specs.Forms.{step_of, head_of}
 use Rattle.evidence_format.specs.Reading.{Read, ◌>>=◌, line_at, ended}
 
 -- n values, one after another
@@ -22,10 +27,31 @@ timeline_at ls = do
   n ← line_at (one_of (codes "timeline ")) ls
   ranks_at n.0 n.1
 
+-- n steps
+abbrev pub steps_at : ℕ → Lines → Read (List Step)
+steps_at n ls = many_at (λ rest. line_at step_of rest) n ls
+
+unfoldable pub walk_at : Lines → Read (List Step)
+walk_at ls = do
+  n ← line_at (one_of (codes "walk ")) ls
+  steps_at n.0 n.1
+
+-- what follows the line that tells the kind
+unfoldable pub rest_at : Head → Lines → Read PlainEvidence
+rest_at (Timeline n) ls = do
+  ranks ← ranks_at n ls
+  Ok (timeline ranks.0, ranks.1)
+rest_at (Entails a r b) ls = do
+  walks ← many_at walk_at (atom_count r) ls
+  Ok (entails a r b walks.0, walks.1)
+rest_at (Counter a r b) ls = do
+  ranks ← timeline_at ls
+  Ok (counter a r b ranks.0, ranks.1)
+
 unfoldable pub body_at : Lines → Read PlainEvidence
 body_at ls = do
-  ranks ← timeline_at ls
-  Ok (timeline ranks.0, ranks.1)
+  head ← line_at head_of ls
+  rest_at head.0 head.1
 
 unfoldable pub text_at : Lines → Read PlainEvidence
 text_at ls = do

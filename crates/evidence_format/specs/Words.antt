@@ -4,6 +4,9 @@ use Rattle.std.specs.List.{prefix_len, starts_with}
 use Rattle.std.specs.Str.{bytes_eq}
 use Rattle.std.specs.Str.Parse.{digits_value}
 use Rattle.std.specs.Char.{digit_value}
+use Rattle.named.specs.Texts.{named_of}
+use Rattle.net_core.specs.Rels.{all_rels, rel_text}
+use Rattle.net_core.specs.declared.rels.Rel.{Rel}
 
 infixl 10 ◌>>=◌
 abbrev pub ◌>>=◌ : {A B : Type 0} → Option A → (A → Option B) → Option B
@@ -48,6 +51,12 @@ number_to stop bytes = do
   rest ← after_one (drop (prefix_len (is_not stop) bytes) bytes)
   Some (n, rest)
 
+-- the word up to the byte that ends it, and what follows that byte
+unfoldable pub word_to : ℕ → List ℕ → Option (List ℕ × List ℕ)
+word_to stop bytes = do
+  rest ← after_one (drop (prefix_len (is_not stop) bytes) bytes)
+  Some (take (prefix_len (is_not stop) bytes) bytes, rest)
+
 -- a value with nothing after it
 abbrev pub alone : {A : Type 0} → A → List ℕ → Option A
 alone a [] = Some a
@@ -67,6 +76,16 @@ two_of keyword line = do
   m ← number_to 32 rest
   n ← number_to 10 m.1
   alone (m.0, n.0) n.1
+
+-- the intervals and the relation of a line of a keyword and a relation between two intervals
+unfoldable pub relation_of : List ℕ → List ℕ → Option (ℕ × Rel × ℕ)
+relation_of keyword line = do
+  rest ← after keyword line
+  a ← number_to 32 rest
+  word ← word_to 32 a.1
+  r ← named_of rel_text all_rels word.0
+  b ← number_to 10 word.1
+  alone (a.0, r, b.0) b.1
 
 -- a line that is this one
 abbrev pub same_of : List ℕ → List ℕ → Option (Unit {0})

@@ -1,8 +1,8 @@
 //! What a file is evidence of.
 use net_core::{List, Ranks, Rel, Walk};
 
-/// Evidence of what follows from a document. It is well formed where a relation has one walk for each order of starts and
-/// ends that it is, and where there are at most 4,294,967,295 intervals in a timeline and steps in a walk.
+/// Evidence of what follows from a document. It is well formed where a relation has one walk for each order of starts
+/// and ends that it is, and where there are at most 4,294,967,295 intervals in a timeline and steps in a walk.
 #[derive(Drop)]
 pub enum Evidence {
     /// A timeline that fits the document.

@@ -2,6 +2,7 @@
 #![tactic(auto)]
 
 mod evidence;
+mod head;
 mod laws;
 mod lines;
 mod read;
@@ -9,6 +10,7 @@ mod stop;
 #[cfg(test)]
 mod tests;
 mod timeline;
+mod walks;
 mod words;
 mod write;
 

@@ -9,9 +9,11 @@ ghost use Rattle.std.specs.List.{count_by};
 ghost use Rattle.std.specs.Prelude.{◌≡◌, ◌≤◌, ◌+◌, ◌-◌, length, take, IfOk, IfErr};
 
 use crate::Evidence;
+use crate::head::{Head, head_at};
 use crate::lines::{next_line, same_at};
 use crate::stop::Stop;
-use crate::timeline::timeline_at;
+use crate::timeline::{ranks_at, timeline_at};
+use crate::walks::walks_at;
 use std::alloc::Global;
 
 /// Why no evidence was read.
@@ -72,8 +74,29 @@ fn text_at<'t>(alloc: Global, text: &'t [u8]) -> Result<(Evidence, &'t [u8]), St
 fn body_at<'t>(alloc: Global, text: &'t [u8]) -> Result<(Evidence, &'t [u8]), Stop<'t>>
     ensures { Gives (λ x. (plain x.0, lines_of x.1.now)) result (readers.body_at (lines_of text.now)) }
 {
-    let (ranks, rest) = timeline_at(alloc, text)?;
-    Ok((Evidence::Timeline { ranks }, rest))
+    let (head, rest) = head_at(text)?;
+    rest_at(alloc, head, rest)
+}
+
+/// What follows the line that tells the kind.
+#[tactic(auto, unfolding(crate::specs::Readers::rest_at))]
+fn rest_at<'t>(alloc: Global, head: Head, text: &'t [u8]) -> Result<(Evidence, &'t [u8]), Stop<'t>>
+    ensures { Gives (λ x. (plain x.0, lines_of x.1.now)) result (readers.rest_at head (lines_of text.now)) }
+{
+    match head {
+        Head::Timeline { intervals } => {
+            let (ranks, rest) = ranks_at(alloc, intervals, text)?;
+            Ok((Evidence::Timeline { ranks }, rest))
+        }
+        Head::Entails { a, rel, b } => {
+            let (walks, rest) = walks_at(alloc, rel.atom_count(), text)?;
+            Ok((Evidence::Entails { a, rel, b, walks }, rest))
+        }
+        Head::Counter { a, rel, b } => {
+            let (ranks, rest) = timeline_at(alloc, text)?;
+            Ok((Evidence::Counter { a, rel, b, ranks }, rest))
+        }
+    }
 }
 
 /// The number, counted from 1, of the line at which the rest of a text begins.

@@ -18,8 +18,13 @@ pub fn timeline_at<'t>(alloc: Global, text: &'t [u8]) -> Result<(Ranks, &'t [u8]
     ranks_at(alloc, count, rest)
 }
 
-/// The ranks of so many intervals, and what follows them. Nothing is reserved by the count, which comes from a stranger.
-fn ranks_at<'t>(alloc: Global, count: u32, text: &'t [u8]) -> Result<(Ranks, &'t [u8]), Stop<'t>>
+/// The ranks of so many intervals, and what follows them. Nothing is reserved by the count, which comes from a
+/// stranger.
+pub fn ranks_at<'t>(
+    alloc: Global,
+    count: u32,
+    text: &'t [u8],
+) -> Result<(Ranks, &'t [u8]), Stop<'t>>
     ensures { Gives (λ x. (pairs_of x.0, lines_of x.1.now)) result (readers.ranks_at count (lines_of text.now)) }
 {
     let mut ranks = Ranks::new(alloc);

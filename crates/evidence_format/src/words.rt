@@ -3,6 +3,8 @@ ghost use Rattle.evidence_format.specs.Words as words;
 ghost use Rattle.std.specs.List.{prefix_len};
 ghost use Rattle.std.specs.Prelude.{◌≡◌, ◌≤◌, length, option_map};
 
+use net_core::{Rel, rel_of};
+
 /// How many bytes come before the first one that is `stop`.
 pub fn len_to(stop: u8, bytes: &[u8]) -> usize
     ensures within { result ≤ length bytes.now }
@@ -11,8 +13,8 @@ pub fn len_to(stop: u8, bytes: &[u8]) -> usize
     bytes.iter().take_while(|b| **b != stop).count()
 }
 
-/// The number that a word writes, in decimal, without sign and without leading zeros. None comes exactly where it writes
-/// none below 2^32.
+/// The number that a word writes, in decimal, without sign and without leading zeros. None comes exactly where it
+/// writes none below 2^32.
 #[tactic(auto, using(crate::proofs::Digits::number_is))]
 fn number(word: &[u8]) -> Option<u32>
     ensures { result ≡ words.number word.now }
@@ -70,6 +72,18 @@ fn number_to(stop: u8, bytes: &[u8]) -> Option<(u32, &[u8])>
     }
 }
 
+/// The word up to the byte that ends it, and what follows that byte.
+#[tactic(auto, unfolding(crate::specs::Words::word_to))]
+fn word_to(stop: u8, bytes: &[u8]) -> Option<(&[u8], &[u8])>
+    ensures { option_map (λ r. (r.0.now, r.1.now)) result ≡ words.word_to stop bytes.now }
+{
+    let (word, rest) = bytes.split_at(len_to(stop, bytes));
+    match rest {
+        [] => None,
+        [_, rest @ ..] => Some((word, rest)),
+    }
+}
+
 /// What follows a keyword.
 #[tactic(auto, unfolding(crate::specs::Words::after))]
 fn after<'t>(keyword: &[u8], line: &'t [u8]) -> Option<&'t [u8]>
@@ -97,4 +111,21 @@ pub fn two_of(keyword: &[u8], line: &[u8]) -> Option<(u32, u32)>
     let (m, rest) = number_to(b' ', rest)?;
     let (n, rest) = number_to(b'\n', rest)?;
     if rest.is_empty() { Some((m, n)) } else { None }
+}
+
+/// The intervals and the relation of a line of a keyword and a relation between two intervals.
+#[tactic(auto, unfolding(crate::specs::Words::relation_of))]
+pub fn relation_of(keyword: &[u8], line: &[u8]) -> Option<(u32, Rel, u32)>
+    ensures { result ≡ words.relation_of keyword.now line.now }
+{
+    let rest = after(keyword, line)?;
+    let (a, rest) = number_to(b' ', rest)?;
+    let (word, rest) = word_to(b' ', rest)?;
+    let rel = rel_of(word)?;
+    let (b, rest) = number_to(b'\n', rest)?;
+    if rest.is_empty() {
+        Some((a, rel, b))
+    } else {
+        None
+    }
 }

@@ -2,14 +2,14 @@
 ghost use Rattle.evidence_format.specs.Evidence as lines;
 ghost use Rattle.evidence_format.specs.Evidence.{IsNumber, IsText, IsWellFormed, first_line, last_line};
 ghost use Rattle.evidence_format.specs.View.{plain};
-ghost use Rattle.evidence_format.specs.Written.{body_bytes, timeline_bytes};
+ghost use Rattle.evidence_format.specs.Written.{body_bytes, timeline_bytes, walk_bytes};
 ghost use Rattle.net_core.specs.Ranks.{pairs_of};
-ghost use Rattle.std.specs.List.{flat_map};
+ghost use Rattle.std.specs.List.{All, flat_map};
 ghost use Rattle.std.specs.Prelude.{◌≡◌, ◌++◌, ◌∷◌, [], decimal, length, IfOk, OnOk};
 
 use crate::Evidence;
 use itoa::Buffer;
-use net_core::{List, Memory, Ranks};
+use net_core::{List, Memory, Ranks, Rel, Step, Walk};
 use std::alloc::{AllocError, Global};
 
 /// The text of well-formed evidence.
@@ -44,6 +44,14 @@ fn push_body(out: &mut Vec<u8>, evidence: &Evidence) -> Result<(), AllocError>
 {
     match evidence {
         Evidence::Timeline { ranks } => push_timeline(out, ranks),
+        Evidence::Entails { a, rel, b, walks } => {
+            push_relation(out, b"entails ", *a, *rel, *b)?;
+            push_walks(out, walks.as_slice())
+        }
+        Evidence::Counter { a, rel, b, ranks } => {
+            push_relation(out, b"counter ", *a, *rel, *b)?;
+            push_timeline(out, ranks)
+        }
     }
 }
 
@@ -64,6 +72,61 @@ fn push_ranks(out: &mut Vec<u8>, ranks: &[u32]) -> Result<(), AllocError>
         rest = after;
     }
     Ok(())
+}
+
+fn push_walks(out: &mut Vec<u8>, walks: &[Walk]) -> Result<(), AllocError>
+    requires { All (λ steps. IsNumber (length steps)) walks.now }
+    ensures { OnOk result (out.new.items ≡ out.old.items ++ flat_map walk_bytes walks.now) }
+{
+    for walk in walks {
+        push_walk(out, walk)?;
+    }
+    Ok(())
+}
+
+fn push_walk(out: &mut Vec<u8>, walk: &Walk) -> Result<(), AllocError>
+    requires { IsNumber (length walk.now) }
+    ensures { OnOk result (out.new.items ≡ out.old.items ++ walk_bytes walk.now) }
+{
+    let steps = walk.as_slice();
+    push_one(out, b"walk ", steps.len() as u32)?;
+    push_steps(out, steps)
+}
+
+fn push_steps(out: &mut Vec<u8>, steps: &[Step]) -> Result<(), AllocError>
+    ensures { OnOk result (out.new.items ≡ out.old.items ++ flat_map lines.step_line steps.now) }
+{
+    for step in steps {
+        push_step(out, *step)?;
+    }
+    Ok(())
+}
+
+fn push_step(out: &mut Vec<u8>, step: Step) -> Result<(), AllocError>
+    ensures { OnOk result (out.new.items ≡ out.old.items ++ lines.step_line step) }
+{
+    match step {
+        Step::Link { link, atom } => push_two(out, b"via ", link, atom),
+        Step::Span { interval } => push_one(out, b"span ", interval),
+        Step::Calendar { from, to } => push_two(out, b"calendar ", from, to),
+    }
+}
+
+/// A keyword that ends in a space, and a relation between two intervals.
+fn push_relation(
+    out: &mut Vec<u8>,
+    keyword: &[u8],
+    a: u32,
+    rel: Rel,
+    b: u32,
+) -> Result<(), AllocError>
+    ensures { OnOk result (out.new.items ≡ out.old.items ++ lines.relation_line keyword.now a rel b) }
+{
+    out.extend_from_slice(keyword)?;
+    push_number(out, a, b' ')?;
+    out.extend_from_slice(rel.text())?;
+    out.extend_from_slice(b" ")?;
+    push_number(out, b, b'\n')
 }
 
 /// A keyword that ends in a space, and a number.

@@ -1,0 +1,167 @@
+-- The reader of whole evidence is exact.
+use Rattle.std.proofs.Common.{◌≡◌, ℕ, List, [], ◌∷◌, ◌++◌, length, map, Ok, refl, sym, ap, subst, ◌∙◌, arith}
+use Rattle.std.specs.Prelude.{codes}
+use Rattle.std.specs.List.{flat_map}
+use Rattle.std.proofs.lemmas.List.Concat.{flat_map_single}
+use Rattle.std.proofs.lemmas.List.Elements.{All-from_recursion, recursion_from_All}
+use Rattle.net_core.specs.Atoms.{atom_count}
+use Rattle.net_core.specs.declared.rels.Rel.{Rel}
+use Rattle.net_core.specs.declared.step.Step.{Step}
+use Rattle.evidence_format.specs.declared.head.Head.{Head}
+use Rattle.evidence_format.specs.declared.head.Head.TheVariants.{Timeline, Entails, Counter}
+use Rattle.evidence_format.specs.Lines.{Lines}
+use Rattle.evidence_format.specs.Reading.{◌>>=◌, line_at}
+use Rattle.evidence_format.specs.Grammar.{Then}
+use Rattle.evidence_format.specs.Evidence.{PlainEvidence, timeline, entails, counter, IsNumber, IsPair, AreRanks, AreSteps, IsWellFormed, at_line, timeline_lines, walk_lines, body_lines, text_lines, first_line, last_line}
+use Rattle.evidence_format.specs.Words.{two_of, same_of}
+use Rattle.evidence_format.specs.Forms.{head_of}
+use Rattle.evidence_format.specs.Readers.{many_at, ranks_at, timeline_at, walk_at, rest_at, body_at, text_at}
+use Rattle.evidence_format.proofs.Exact.{Exact, exact_then, exact_same}
+use Rattle.evidence_format.proofs.WordLaws.{same_form}
+use Rattle.evidence_format.proofs.FormLaws.{head_line, IsHead, head_form}
+use Rattle.evidence_format.proofs.ReaderLaws.{Has, AreMany, exact_form, exact_map, exact_many, exact_at, exact_timeline, exact_walk}
+
+-- the kind of evidence
+abbrev head_for : PlainEvidence → Head
+head_for (timeline ranks) = Timeline (length ranks)
+head_for (entails a r b walks) = Entails a r b
+head_for (counter a r b ranks) = Counter a r b
+
+-- the lines that follow the one that tells the kind
+abbrev rest_lines : PlainEvidence → Lines
+rest_lines (timeline ranks) = map at_line ranks
+rest_lines (entails a r b walks) = flat_map walk_lines walks
+rest_lines (counter a r b ranks) = timeline_lines ranks
+
+-- evidence of a kind, by those lines
+abbrev HasRest : Head → PlainEvidence → Lines → Type 0
+HasRest h e ls = IsWellFormed e × (head_for e ≡ h) × (ls ≡ rest_lines e)
+
+-- the body is the line that tells the kind, and those that follow it
+body_is : (e : PlainEvidence) → body_lines e ≡ head_line (head_for e) ∷ rest_lines e
+body_is (timeline ranks) = refl
+body_is (entails a r b walks) = refl
+body_is (counter a r b ranks) = refl
+
+-- the kind of well-formed evidence can be told
+head_is : (e : PlainEvidence) → IsWellFormed e → IsHead (head_for e)
+head_is (timeline ranks) h = h.1
+head_is (entails a r b walks) h = (h.0, h.1)
+head_is (counter a r b ranks) h = (h.0, h.1)
+
+-- ---- what follows the line that tells the kind
+
+-- the ranks of so many intervals, by their lines
+abbrev HasRanks : ℕ → List (ℕ × ℕ) → Lines → Type 0
+HasRanks n = AreMany IsPair (λ pair. at_line pair ∷ []) n
+
+-- the ranks of a timeline
+exact_ranks : (n : ℕ) → IsNumber n → Exact (HasRest (Timeline n)) (rest_at (Timeline n))
+unfolding rest_at
+exact_ranks n small =
+    exact_same (λ e ls. (ranks : List (ℕ × ℕ)) × HasRanks n ranks ls × (e ≡ timeline ranks)) (HasRest (Timeline n)) (λ ls. ranks_at n ls >>= λ ranks. Ok (timeline ranks.0, ranks.1))
+    (λ e ls h. let m = h.1 in rw h.2 ((All-from_recursion IsPair h.0 m.0, subst IsNumber (sym m.1) small), ap (λ (k : ℕ). Timeline k) m.1, m.2 ∙ flat_map_single at_line h.0))
+    (λ e ls h. from e ls h)
+    (exact_map (λ ranks. timeline ranks) (HasRanks n) (ranks_at n) (exact_many IsPair (λ pair. at_line pair ∷ []) (λ rest. line_at (two_of (codes "at ")) rest) exact_at n))
+  where
+    from : (e : PlainEvidence) (ls : Lines) → HasRest (Timeline n) e ls → (ranks : List (ℕ × ℕ)) × HasRanks n ranks ls × (e ≡ timeline ranks)
+    from (timeline ranks) ls h = (ranks, (recursion_from_All IsPair ranks h.0.0, (let k = h.1 in cc), h.2 ∙ sym (flat_map_single at_line ranks)), refl)
+    from (entails a r b walks) ls h = absurd (let k = h.1 in cc)
+    from (counter a r b ranks) ls h = absurd (let k = h.1 in cc)
+
+-- a walk for each order that a relation is, by their lines
+abbrev HasWalks : Rel → List (List Step) → Lines → Type 0
+HasWalks r = AreMany AreSteps walk_lines (atom_count r)
+
+-- the walks of an entailment
+exact_walks : (a : ℕ) (r : Rel) (b : ℕ) → IsNumber a → IsNumber b → Exact (HasRest (Entails a r b)) (rest_at (Entails a r b))
+unfolding rest_at
+exact_walks a r b small_a small_b =
+    exact_same (λ e ls. (walks : List (List Step)) × HasWalks r walks ls × (e ≡ entails a r b walks)) (HasRest (Entails a r b)) (λ ls. many_at walk_at (atom_count r) ls >>= λ walks. Ok (entails a r b walks.0, walks.1))
+    (λ e ls h. let m = h.1 in rw h.2 ((small_a, small_b, All-from_recursion AreSteps h.0 m.0, m.1), refl, m.2))
+    (λ e ls h. from e ls h)
+    (exact_map (λ walks. entails a r b walks) (HasWalks r) (many_at walk_at (atom_count r)) (exact_many AreSteps walk_lines walk_at exact_walk (atom_count r)))
+  where
+    from : (e : PlainEvidence) (ls : Lines) → HasRest (Entails a r b) e ls → (walks : List (List Step)) × HasWalks r walks ls × (e ≡ entails a r b walks)
+    from (timeline ranks) ls h = absurd (let k = h.1 in cc)
+    from (entails x q y walks) ls h =
+        let k = h.1 in
+        let xs : x ≡ a = cc in
+        let qs : q ≡ r = cc in
+        let ys : y ≡ b = cc in
+        (walks, (recursion_from_All AreSteps walks h.0.2, h.0.3 ∙ ap atom_count qs, h.2), λ i. entails (xs i) (qs i) (ys i) walks)
+    from (counter x q y ranks) ls h = absurd (let k = h.1 in cc)
+
+-- the timeline of a counterexample
+exact_counterexample : (a : ℕ) (r : Rel) (b : ℕ) → IsNumber a → IsNumber b → Exact (HasRest (Counter a r b)) (rest_at (Counter a r b))
+unfolding rest_at
+exact_counterexample a r b small_a small_b =
+    exact_same (λ e ls. (ranks : List (ℕ × ℕ)) × Has AreRanks timeline_lines ranks ls × (e ≡ counter a r b ranks)) (HasRest (Counter a r b)) (λ ls. timeline_at ls >>= λ ranks. Ok (counter a r b ranks.0, ranks.1))
+    (λ e ls h. let m = h.1 in rw h.2 ((small_a, small_b, m.0), refl, m.1))
+    (λ e ls h. from e ls h)
+    (exact_map (λ ranks. counter a r b ranks) (Has AreRanks timeline_lines) timeline_at exact_timeline)
+  where
+    from : (e : PlainEvidence) (ls : Lines) → HasRest (Counter a r b) e ls → (ranks : List (ℕ × ℕ)) × Has AreRanks timeline_lines ranks ls × (e ≡ counter a r b ranks)
+    from (timeline ranks) ls h = absurd (let k = h.1 in cc)
+    from (entails x q y walks) ls h = absurd (let k = h.1 in cc)
+    from (counter x q y ranks) ls h =
+        let k = h.1 in
+        let xs : x ≡ a = cc in
+        let qs : q ≡ r = cc in
+        let ys : y ≡ b = cc in
+        (ranks, (h.0.2, h.2), λ i. counter (xs i) (qs i) (ys i) ranks)
+
+-- what follows the line that tells the kind
+exact_rest : (h : Head) → IsHead h → Exact (HasRest h) (rest_at h)
+exact_rest (Timeline n) h = exact_ranks n h
+exact_rest (Entails a r b) h = exact_walks a r b h.0 h.1
+exact_rest (Counter a r b) h = exact_counterexample a r b h.0 h.1
+
+-- ---- a body
+
+-- what stands between the first line and the last one
+exact_body : Exact (Has IsWellFormed body_lines) body_at
+unfolding body_at
+exact_body =
+    exact_same (Then (Has IsHead (λ h. head_line h ∷ [])) HasRest) (Has IsWellFormed body_lines) (λ ls. line_at head_of ls >>= λ head. rest_at head.0 head.1)
+    (λ e ls t.
+    let r = t.4 in
+    (r.0, t.5 ∙ ap (λ (x : Lines). x ++ t.2) t.3.1 ∙ ap (λ (x : Lines). head_line t.0 ∷ x) r.2 ∙ ap (λ (h : Head). head_line h ∷ rest_lines e) (sym r.1) ∙ sym (body_is e)))
+    (λ e ls h. (head_for e, head_line (head_for e) ∷ [], rest_lines e, (head_is e h.0, refl), (h.0, refl, refl), h.1 ∙ body_is e))
+    (exact_then (Has IsHead (λ h. head_line h ∷ [])) HasRest (line_at head_of) rest_at
+    (exact_form head_line IsHead head_of (Timeline 0) (omega arith) head_form)
+    (λ h prefix g. exact_rest h g.0))
+
+-- ---- a text
+
+-- one line that is known
+abbrev Fixed : List ℕ → Unit {0} → Lines → Type 0
+Fixed text = Has (λ u. Unit {0}) (λ u. text ∷ [])
+
+-- a line that is known
+exact_fixed : (text : List ℕ) → Exact (Fixed text) (line_at (same_of text))
+exact_fixed text = exact_form (λ (u : Unit {0}). text) (λ u. Unit {0}) (same_of text) tt tt (same_form text)
+
+-- evidence, and after its body the last line
+abbrev Closed : PlainEvidence → PlainEvidence → Lines → Type 0
+Closed e b ls = (u : Unit {0}) × Fixed last_line u ls × (b ≡ e)
+
+-- evidence, and after the first line its body and the last line
+abbrev Opened : Unit {0} → PlainEvidence → Lines → Type 0
+Opened u = Then (Has IsWellFormed body_lines) Closed
+
+-- evidence from its first line to its last one
+pub exact_text : Exact (Has IsWellFormed text_lines) text_at
+unfolding text_at
+exact_text =
+    exact_same (Then (Fixed first_line) Opened) (Has IsWellFormed text_lines) (λ ls. line_at (same_of first_line) ls >>= λ first. body_at first.1 >>= λ e. line_at (same_of last_line) e.1 >>= λ last. Ok (e.0, last.1))
+    (λ e ls t.
+    let c = t.4 in
+    let l = c.4 in
+    let whole : ls ≡ text_lines c.0 = t.5 ∙ ap (λ (x : Lines). x ++ t.2) t.3.1 ∙ ap (λ (x : Lines). first_line ∷ x) (c.5 ∙ ap (λ (x : Lines). x ++ c.2) c.3.1 ∙ ap (λ (x : Lines). body_lines c.0 ++ x) l.1.1) in
+    subst (λ (b : PlainEvidence). Has IsWellFormed text_lines b ls) (sym l.2) (c.3.0, whole))
+    (λ e ls h. (tt, first_line ∷ [], body_lines e ++ last_line ∷ [], (tt, refl), (e, body_lines e, last_line ∷ [], (h.0, refl), (tt, (tt, refl), refl), refl), h.1))
+    (exact_then (Fixed first_line) Opened (line_at (same_of first_line)) (λ u ls. body_at ls >>= λ e. line_at (same_of last_line) e.1 >>= λ last. Ok (e.0, last.1))
+    (exact_fixed first_line)
+    (λ u prefix g. exact_then (Has IsWellFormed body_lines) Closed body_at (λ e ls. line_at (same_of last_line) ls >>= λ last. Ok (e, last.1)) exact_body
+    (λ e prefix g. exact_map (λ u. e) (Fixed last_line) (line_at (same_of last_line)) (exact_fixed last_line))))

@@ -1,0 +1,22 @@
+-- Lines that have one of several forms.
+use Rattle.std.specs.Prelude.{ℕ, List, Option, option_map, codes}
+use Rattle.std.specs.Option.{option_or}
+use Rattle.net_core.specs.declared.step.Step.{Step}
+use Rattle.net_core.specs.declared.step.Step.TheVariants as step
+use Rattle.evidence_format.specs.declared.head.Head.{Head}
+use Rattle.evidence_format.specs.declared.head.Head.TheVariants as head
+use Rattle.evidence_format.specs.Words.{one_of, two_of, relation_of}
+
+-- the step of a line
+unfoldable pub step_of : List ℕ → Option Step
+step_of line =
+    option_or (option_map (λ pair. step.Link pair.0 pair.1) (two_of (codes "via ") line))
+    (option_or (option_map (λ i. step.Span i) (one_of (codes "span ") line))
+    (option_map (λ pair. step.Calendar pair.0 pair.1) (two_of (codes "calendar ") line)))
+
+-- the kind of evidence, by the line that tells it
+unfoldable pub head_of : List ℕ → Option Head
+head_of line =
+    option_or (option_map (λ n. head.Timeline n) (one_of (codes "timeline ") line))
+    (option_or (option_map (λ x. head.Entails x.0 x.1 x.2) (relation_of (codes "entails ") line))
+    (option_map (λ x. head.Counter x.0 x.1 x.2) (relation_of (codes "counter ") line)))

@@ -1,0 +1,46 @@
+//! The line that tells the kind of evidence.
+ghost use Rattle.evidence_format.specs.Forms as forms;
+ghost use Rattle.evidence_format.specs.Given.{Gives};
+ghost use Rattle.evidence_format.specs.Lines.{lines_of};
+ghost use Rattle.evidence_format.specs.Reading.{line_at};
+ghost use Rattle.std.specs.Prelude.{◌≡◌};
+
+use crate::lines::next_line;
+use crate::stop::Stop;
+use crate::words::{one_of, relation_of};
+use net_core::Rel;
+
+/// The kind of evidence, with what its line says.
+#[derive(Clone, Copy, Debug, PartialEq, Eq)]
+pub enum Head {
+    /// A timeline of so many intervals.
+    Timeline { intervals: u32 },
+    /// A relation between two intervals that holds in every timeline that fits.
+    Entails { a: u32, rel: Rel, b: u32 },
+    /// A relation between two intervals that is false in a timeline that fits.
+    Counter { a: u32, rel: Rel, b: u32 },
+}
+
+/// The kind of evidence, and what follows its line.
+pub fn head_at(text: &[u8]) -> Result<(Head, &[u8]), Stop<'_>>
+    ensures { Gives (λ x. (x.0, lines_of x.1.now)) result (line_at forms.head_of (lines_of text.now)) }
+{
+    let (line, rest) = next_line(text).ok_or(Stop::BadLine(text))?;
+    let head = head_of(line).ok_or(Stop::BadLine(text))?;
+    Ok((head, rest))
+}
+
+/// The kind that a line tells. None comes exactly where it tells none.
+#[tactic(auto, unfolding(crate::specs::Forms::head_of))]
+fn head_of(line: &[u8]) -> Option<Head>
+    ensures { result ≡ forms.head_of line.now }
+{
+    if let Some(intervals) = one_of(b"timeline ", line) {
+        return Some(Head::Timeline { intervals });
+    }
+    if let Some((a, rel, b)) = relation_of(b"entails ", line) {
+        return Some(Head::Entails { a, rel, b });
+    }
+    let (a, rel, b) = relation_of(b"counter ", line)?;
+    Some(Head::Counter { a, rel, b })
+}
