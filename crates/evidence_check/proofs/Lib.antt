@@ -1,1 +1,3 @@
+pub mod Proving
+pub mod Soundness
 pub mod Verdicts

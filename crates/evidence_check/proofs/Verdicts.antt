@@ -1,13 +1,25 @@
 -- Evidence has one verdict.
-use Rattle.std.proofs.Common.{◌≡◌, ℕ, arith, List, length, Option, Some, None, ap, sym, ◌∙◌}
+use Rattle.std.proofs.Common.{◌≡◌, ◌⊎◌, inl, inr, ℕ, ◌+◌, arith, List, length, Option, Some, None, ap, subst, sym, ◌∙◌}
+use Rattle.net_core.specs.Atoms.{atoms_of}
+use Rattle.net_core.specs.Firsts.{IsFirst}
 use Rattle.net_core.specs.Fits.{KeepsCalendar, KeepsLink, RanksFit, StartsFirst}
 use Rattle.net_core.specs.Nets.{PlainNet, intervals, points}
 use Rattle.net_core.specs.Ranks.{ranks_of, timeline_of}
+use Rattle.net_core.specs.declared.atom.Atom.{Atom}
+use Rattle.net_core.specs.declared.rels.Rel.{Rel}
+use Rattle.net_core.specs.declared.step.Step.{Step as StepOf}
 use Rattle.net_core.proofs.FirstLaws.{one_first, one_first_pair}
-use Rattle.evidence_format.specs.Evidence.{timeline}
+use Rattle.evidence_format.specs.Evidence.{PlainEvidence, timeline, entails, counter}
 use Rattle.evidence_check.specs.declared.refusal.Reason.{Reason}
-use Rattle.evidence_check.specs.declared.refusal.Reason.TheVariants.{Size, Order, Link, Calendar}
-use Rattle.evidence_check.specs.Refusals.{FirstBrokenLink, FirstBrokenPair, FirstUnordered, HasSize, IsMisfit, OneVerdict}
+use Rattle.evidence_check.specs.declared.refusal.Reason.TheVariants.{Number, Size, Order, Link, Calendar, Step, End, Weak, Holds}
+use Rattle.evidence_check.specs.declared.refusal.Refused.{Refused}
+use Rattle.evidence_check.specs.Refusals.{FirstBrokenLink, FirstBrokenPair, FirstUnordered, HasSize, IsBadNumber, IsMisfit, IsNoProof, IsNumberRefused, IsRefused, IsRelationRefused, IsTimelineRefused, IsWalkRefused, OneVerdict}
+use Rattle.evidence_check.specs.Supported.{AreIntervals, IsSupported, Proves, atom_at, walk_at}
+use Rattle.evidence_check.proofs.Proving.{one_reason}
+
+-- numbers that are found alike are one
+some_is : (m n : ℕ) → Some m ≡ Some n → m ≡ n
+some_is m n e = cc
 
 -- reasons with the same pair of points are one
 same_calendar : (x y : ℕ × ℕ) → Some x ≡ Some y → Calendar x.0 x.1 ≡ Calendar y.0 y.1
@@ -20,6 +32,11 @@ module _ (net : PlainNet) (ranks : List ℕ) where
   no_misfit (Order i) fit m = m.1.1 (fit.1.order i m.1.0)
   no_misfit (Link k) fit m = m.2.1 (fit.1.links k m.2.0 tt)
   no_misfit (Calendar p q) fit m = m.3.1.1 (fit.1.calendar p q m.3.0 m.3.1.0)
+  no_misfit (Number n) fit m = m
+  no_misfit (Step n) fit m = m
+  no_misfit End fit m = m
+  no_misfit Weak fit m = m
+  no_misfit Holds fit m = m
 
   -- a reason of the size is none of ranks of the right size
   sized : (size : ℕ) → IsMisfit net ranks (Size size) → HasSize net ranks → ⊥
@@ -53,13 +70,90 @@ module _ (net : PlainNet) (ranks : List ℕ) where
   one_misfit (Link i) (Calendar p q) h k = cc (one_broken_link (Some i) None h.2 k.2)
   one_misfit (Calendar p q) (Link j) h k = cc (one_broken_link None (Some j) h.2 k.2)
   one_misfit (Calendar p q) (Calendar x y) h k = same_calendar (p, q) (x, y) (one_broken_pair (Some (p, q)) (Some (x, y)) h.3 k.3)
+  one_misfit (Number n) s h k = absurd h
+  one_misfit (Step n) s h k = absurd h
+  one_misfit End s h k = absurd h
+  one_misfit Weak s h k = absurd h
+  one_misfit Holds s h k = absurd h
+  one_misfit r (Number n) h k = absurd k
+  one_misfit r (Step n) h k = absurd k
+  one_misfit r End h k = absurd k
+  one_misfit r Weak h k = absurd k
+  one_misfit r Holds h k = absurd k
+
+-- two refusals with one part and one reason are one
+one_refused : (r s : Refused) → r.part ≡ s.part → r.reason ≡ s.reason → r ≡ s
+one_refused r s part reason = λ i. record { part = part i; reason = reason i }
+
+module _ (net : PlainNet) where
+  -- a timeline is refused for one reason
+  timeline_once : (ranks : List ℕ) (r s : Refused) → IsTimelineRefused net ranks r → IsTimelineRefused net ranks s → r ≡ s
+  timeline_once ranks r s h k = one_refused r s (h.0 ∙ sym k.0) (one_misfit net ranks r.reason s.reason h.1 k.1)
+
+  -- numbers of intervals are not refused
+  numbers_not_both : (a b : ℕ) (r : Refused) → AreIntervals net a b → IsNumberRefused net a b r → ⊥
+  numbers_not_both a b r both h = elim h.3 [
+    | inl first ↦ omega (arith, both.0, first.0)
+    | inr second ↦ omega (arith, both.1, second.1)
+  ]
+
+  -- of two numbers one is the first that is none of an interval
+  one_number : (a b m n : ℕ) → IsBadNumber net a b m → IsBadNumber net a b n → m ≡ n
+  one_number a b m n (inl h) (inl k) = h.1 ∙ sym k.1
+  one_number a b m n (inl h) (inr k) = absurd (omega (arith, h.0, k.0))
+  one_number a b m n (inr h) (inl k) = absurd (omega (arith, h.0, k.0))
+  one_number a b m n (inr h) (inr k) = h.2 ∙ sym k.2
+
+  numbers_once : (a b : ℕ) (r s : Refused) → IsNumberRefused net a b r → IsNumberRefused net a b s → r ≡ s
+  numbers_once a b r s h k =
+      one_refused r s (h.0 ∙ sym k.0) (h.2 ∙ ap (λ (n : ℕ). Number n) (one_number a b h.1 k.1 h.3 k.3) ∙ sym k.2)
+
+  -- the first walk that proves nothing is one, and so is its reason
+  walks_once : (atoms : List Atom) (walks : List (List StepOf)) (r s : Refused) → IsWalkRefused net atoms walks r → IsWalkRefused net atoms walks s → r ≡ s
+  walks_once atoms walks r s h k =
+      let same = some_is h.0 k.0 (one_first (length atoms) (Proves net atoms walks) (Some h.0) (Some k.0) h.1 k.1) in
+      one_refused r s (h.2 ∙ ap (λ (n : ℕ). n + 1) same ∙ sym k.2)
+      (one_reason net (atom_at atoms k.0) (walk_at walks k.0) r.reason s.reason (subst (λ (n : ℕ). IsNoProof net (atom_at atoms n) (walk_at walks n) r.reason) same h.3) k.3)
+
+  walks_not_both : (atoms : List Atom) (walks : List (List StepOf)) (r : Refused) → IsFirst (length atoms) (Proves net atoms walks) None → IsWalkRefused net atoms walks r → ⊥
+  walks_not_both atoms walks r all h = h.1.1 (all h.0 h.1.0)
+
+  -- a counterexample is refused by its numbers, its timeline or its relation
+  counters_once : (a b : ℕ) (rel : Rel) (ranks : List ℕ) (r s : Refused)
+      → (IsNumberRefused net a b r ⊎ (AreIntervals net a b × IsTimelineRefused net ranks r) ⊎ (AreIntervals net a b × IsRelationRefused net ranks a rel b r))
+      → (IsNumberRefused net a b s ⊎ (AreIntervals net a b × IsTimelineRefused net ranks s) ⊎ (AreIntervals net a b × IsRelationRefused net ranks a rel b s)) → r ≡ s
+  counters_once a b rel ranks r s (inl h) (inl k) = numbers_once a b r s h k
+  counters_once a b rel ranks r s (inl h) (inr (inl k)) = absurd (numbers_not_both a b r k.0 h)
+  counters_once a b rel ranks r s (inl h) (inr (inr k)) = absurd (numbers_not_both a b r k.0 h)
+  counters_once a b rel ranks r s (inr (inl h)) (inl k) = absurd (numbers_not_both a b s h.0 k)
+  counters_once a b rel ranks r s (inr (inr h)) (inl k) = absurd (numbers_not_both a b s h.0 k)
+  counters_once a b rel ranks r s (inr (inl h)) (inr (inl k)) = timeline_once ranks r s h.1 k.1
+  counters_once a b rel ranks r s (inr (inl h)) (inr (inr k)) = absurd (no_misfit net ranks r.reason k.1.2 h.1.1)
+  counters_once a b rel ranks r s (inr (inr h)) (inr (inl k)) = absurd (no_misfit net ranks s.reason h.1.2 k.1.1)
+  counters_once a b rel ranks r s (inr (inr h)) (inr (inr k)) = one_refused r s (h.1.0 ∙ sym k.1.0) (h.1.1 ∙ sym k.1.1)
+
+  entailments_once : (a b : ℕ) (atoms : List Atom) (walks : List (List StepOf)) (r s : Refused)
+      → (IsNumberRefused net a b r ⊎ (AreIntervals net a b × IsWalkRefused net atoms walks r))
+      → (IsNumberRefused net a b s ⊎ (AreIntervals net a b × IsWalkRefused net atoms walks s)) → r ≡ s
+  entailments_once a b atoms walks r s (inl h) (inl k) = numbers_once a b r s h k
+  entailments_once a b atoms walks r s (inl h) (inr k) = absurd (numbers_not_both a b r k.0 h)
+  entailments_once a b atoms walks r s (inr h) (inl k) = absurd (numbers_not_both a b s h.0 k)
+  entailments_once a b atoms walks r s (inr h) (inr k) = walks_once atoms walks r s h.1 k.1
+
+  -- supported evidence is not refused
+  pub not_refused : (e : PlainEvidence) (r : Refused) → IsSupported net e → IsRefused net e r → ⊥
+  not_refused (timeline ranks) r fit h = no_misfit net (ranks_of ranks) r.reason fit h.1
+  not_refused (entails a rel b walks) r proofs (inl h) = numbers_not_both a b r proofs.0 h
+  not_refused (entails a rel b walks) r proofs (inr h) = walks_not_both (atoms_of rel a b) walks r proofs.1 h.1
+  not_refused (counter a rel b ranks) r fails (inl h) = numbers_not_both a b r fails.0 h
+  not_refused (counter a rel b ranks) r fails (inr (inl h)) = no_misfit net (ranks_of ranks) r.reason fails.1 h.1.1
+  not_refused (counter a rel b ranks) r fails (inr (inr h)) = fails.2 h.1.3
+
+  refused_once : (e : PlainEvidence) (r s : Refused) → IsRefused net e r → IsRefused net e s → r ≡ s
+  refused_once (timeline ranks) r s h k = timeline_once (ranks_of ranks) r s h k
+  refused_once (entails a rel b walks) r s h k = entailments_once a b (atoms_of rel a b) walks r s h k
+  refused_once (counter a rel b ranks) r s h k = counters_once a b rel (ranks_of ranks) r s h k
 
 -- evidence is not both supported and refused, and is refused for one reason at most
 pub one_verdict : OneVerdict
-one_verdict net (timeline ranks) = record {
-  not_both = λ refused fit r. no_misfit net (ranks_of ranks) refused.reason fit r.1;
-  one_refusal = λ refused other h k.
-      let part = h.0 ∙ sym k.0 in
-      let reason = one_misfit net (ranks_of ranks) refused.reason other.reason h.1 k.1 in
-      λ i. record { part = part i; reason = reason i };
-}
+one_verdict net e = record { not_both = not_refused net e; one_refusal = refused_once net e }

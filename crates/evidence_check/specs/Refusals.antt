@@ -1,14 +1,21 @@
 -- Why evidence is refused: the first part that is not as it should be, and the first reason there.
-use Rattle.std.specs.Prelude.{◌≡◌, ◌≢◌, ℕ, ◌*◌, List, length, Option, None, Some}
+use Rattle.std.specs.Prelude.{◌≡◌, ◌≢◌, ◌⊎◌, ℕ, ◌+◌, ◌*◌, ◌<◌, ◌≤◌, true, false, List, length, take, Option, None, Some}
+use Rattle.net_core.specs.Atoms.{atoms_of}
 use Rattle.net_core.specs.Firsts.{IsFirst, IsFirstPair}
-use Rattle.net_core.specs.Fits.{KeepsCalendar, KeepsLink, StartsFirst}
+use Rattle.net_core.specs.Fits.{EveryLink, KeepsCalendar, KeepsLink, RanksFit, StartsFirst}
 use Rattle.net_core.specs.Nets.{PlainNet, intervals, points}
 use Rattle.net_core.specs.Ranks.{ranks_of, timeline_of}
-use Rattle.evidence_format.specs.Evidence.{PlainEvidence, timeline}
+use Rattle.net_core.specs.Relations.{Relates}
+use Rattle.net_core.specs.Steps.{has_strict}
+use Rattle.net_core.specs.Walks.{IsJoined}
+use Rattle.net_core.specs.declared.atom.Atom.{Atom}
+use Rattle.net_core.specs.declared.rels.Rel.{Rel}
+use Rattle.net_core.specs.declared.step.Step.{Step as StepOf}
+use Rattle.evidence_format.specs.Evidence.{PlainEvidence, timeline, entails, counter}
 use Rattle.evidence_check.specs.declared.refusal.Reason.{Reason}
-use Rattle.evidence_check.specs.declared.refusal.Reason.TheVariants.{Size, Order, Link, Calendar}
+use Rattle.evidence_check.specs.declared.refusal.Reason.TheVariants.{Number, Size, Order, Link, Calendar, Step, End, Weak, Holds}
 use Rattle.evidence_check.specs.declared.refusal.Refused.{Refused}
-use Rattle.evidence_check.specs.Supported.{IsSupported}
+use Rattle.evidence_check.specs.Supported.{AreIntervals, IsSupported, Proves, atom_at, walk_at}
 
 -- there are two ranks for each interval
 abbrev pub HasSize : PlainNet → List ℕ → Type 0
@@ -32,10 +39,49 @@ IsMisfit net ranks (Size size) = (length ranks ≡ 2 * size) × (size ≢ interv
 IsMisfit net ranks (Order interval) = HasSize net ranks × FirstUnordered net ranks (Some interval)
 IsMisfit net ranks (Link link) = HasSize net ranks × FirstUnordered net ranks None × FirstBrokenLink net ranks (Some link)
 IsMisfit net ranks (Calendar from to) = HasSize net ranks × FirstUnordered net ranks None × FirstBrokenLink net ranks None × FirstBrokenPair net ranks (Some (from, to))
+IsMisfit net ranks other = ⊥
 
--- the first part that is refused, and why: a timeline is part 1
+-- the first of two numbers, if any, that is none of an interval
+abbrev pub IsBadNumber : PlainNet → ℕ → ℕ → ℕ → Type 0
+IsBadNumber net a b n = ((intervals net ≤ a) × (n ≡ a)) ⊎ ((a < intervals net) × (intervals net ≤ b) × (n ≡ b))
+
+-- the steps are joined from a point on
+abbrev pub GoFrom : PlainNet → ℕ → List StepOf → Type 0
+GoFrom net x steps = (y : ℕ) × IsJoined net EveryLink steps x y
+
+-- The steps are no proof of an atom, for this reason and for none before it: step k is the first that does not go on; they do not end at the atom's other point; or the atom is strict, and none of them is.
+abbrev pub IsNoProof : PlainNet → Atom → List StepOf → Reason → Type 0
+IsNoProof net atom steps (Step k) = (k < length steps) × GoFrom net atom.from (take k steps) × (GoFrom net atom.from (take (k + 1) steps) → ⊥)
+IsNoProof net atom steps End = (y : ℕ) × IsJoined net EveryLink steps atom.from y × (y ≢ atom.to)
+IsNoProof net atom steps Weak = IsJoined net EveryLink steps atom.from atom.to × (atom.strict ≡ true) × (has_strict net steps ≡ false)
+IsNoProof net atom steps other = ⊥
+
+-- a number of the first line, which is part 0
+abbrev pub IsNumberRefused : PlainNet → ℕ → ℕ → Refused → Type 0
+IsNumberRefused net a b refused = (refused.part ≡ 0) × (n : ℕ) × (refused.reason ≡ Number n) × IsBadNumber net a b n
+
+-- the first walk that does not prove its atom: walk k is part k + 1
+abbrev pub IsWalkRefused : PlainNet → List Atom → List (List StepOf) → Refused → Type 0
+IsWalkRefused net atoms walks refused = (k : ℕ) × IsFirst (length atoms) (Proves net atoms walks) (Some k) × (refused.part ≡ k + 1) × IsNoProof net (atom_at atoms k) (walk_at walks k) refused.reason
+
+-- the timeline, which is part 1
+abbrev pub IsTimelineRefused : PlainNet → List ℕ → Refused → Type 0
+IsTimelineRefused net ranks refused = (refused.part ≡ 1) × IsMisfit net ranks refused.reason
+
+-- a relation that is true by ranks that fit, which is part 2
+abbrev pub IsRelationRefused : PlainNet → List ℕ → ℕ → Rel → ℕ → Refused → Type 0
+IsRelationRefused net ranks a r b refused = (refused.part ≡ 2) × (refused.reason ≡ Holds) × RanksFit net ranks × Relates (timeline_of ranks) r a b
+
+-- the first part that is refused, and the first reason there
 abbrev pub IsRefused : PlainNet → PlainEvidence → Refused → Type 0
-IsRefused net (timeline ranks) refused = (refused.part ≡ 1) × IsMisfit net (ranks_of ranks) refused.reason
+IsRefused net (timeline ranks) refused = IsTimelineRefused net (ranks_of ranks) refused
+IsRefused net (entails a r b walks) refused =
+    IsNumberRefused net a b refused
+    ⊎ (AreIntervals net a b × IsWalkRefused net (atoms_of r a b) walks refused)
+IsRefused net (counter a r b ranks) refused =
+    IsNumberRefused net a b refused
+    ⊎ (AreIntervals net a b × IsTimelineRefused net (ranks_of ranks) refused)
+    ⊎ (AreIntervals net a b × IsRelationRefused net (ranks_of ranks) a r b refused)
 
 -- the law: evidence is not both supported and refused, and is refused for one reason at most
 pub record Verdicts (net : PlainNet) (e : PlainEvidence) : Type 0 where

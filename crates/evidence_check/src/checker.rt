@@ -1,23 +1,27 @@
 //! Checking evidence.
-ghost use Rattle.evidence_check.specs.Claims.{IsTrue, claim_of};
-ghost use Rattle.evidence_check.specs.Refusals.{IsMisfit, IsRefused};
-ghost use Rattle.evidence_check.specs.Supported.{IsSupported};
-ghost use Rattle.evidence_format.specs.Evidence.{IsNumber, IsWellFormed};
+ghost use Rattle.evidence_check.specs.Claims.{CanFail, Follows, IsTrue, claim_of};
+ghost use Rattle.evidence_check.specs.Refusals.{IsNumberRefused, IsRefused};
+ghost use Rattle.evidence_check.specs.Supported.{AreIntervals, IsSupported};
+ghost use Rattle.evidence_format.specs.Evidence.{IsWellFormed, counter, entails, timeline};
 ghost use Rattle.evidence_format.specs.View.{plain};
-ghost use Rattle.net_core.specs.Fits.{RanksFit};
-ghost use Rattle.net_core.specs.Ranks.{AreEven, pairs_of};
-ghost use Rattle.std.specs.Prelude.{IfErr, IfOk, IsOk, OnOk, length, ◌≡◌, ◌↔◌};
+ghost use Rattle.net_core.specs.Limits.{max_intervals};
+ghost use Rattle.net_core.specs.Nets.{intervals};
+ghost use Rattle.net_core.specs.Ranks.{pairs_of};
+ghost use Rattle.net_core.specs.declared.rels.Rel.{Rel as RelOf};
+ghost use Rattle.net_core.specs.declared.step.Step.{Step as StepOf};
+ghost use Rattle.std.specs.Prelude.{IfErr, IfOk, IsOk, List, OnOk, ℕ, ◌≡◌, ◌≤◌, ◌↔◌};
 
 use crate::refusal::{Claim, Reason, Refused};
+use crate::timeline::fit;
+use crate::walks::prove_all;
 use evidence_format::Evidence;
-use net_core::{Net, first_broken_link, first_broken_pair, first_unordered};
+use net_core::{Net, Ranks, Rel, Walk, atoms_of, ends_at, holds};
 
 /// Checks evidence against the net of a document. It takes no memory.
 ///
 /// # Errors
 ///
 /// The first part that is refused, and the first reason there. A refusal comes exactly where the evidence is not supported.
-#[tactic(auto, using(net_core::proofs::RankLaws::ranks_again))]
 pub fn verify(net: &Net, evidence: &Evidence) -> Result<Claim, Refused>
     requires { IsWellFormed (plain evidence.now) }
     ensures supported { IsOk result ↔ IsSupported net.now (plain evidence.now) }
@@ -25,36 +29,90 @@ pub fn verify(net: &Net, evidence: &Evidence) -> Result<Claim, Refused>
     ensures err { IfErr result (IsRefused net.now (plain evidence.now)) }
     // What supported evidence shows is true.
     ensures sound { IfOk result (λ claim. IsTrue net.now (plain evidence.now)) }
+    // An entailment: the relation holds in every timeline that fits, whether or not there is one.
+    ensures follows { (a b : ℕ) (r : RelOf) (walks : List (List StepOf)) → plain evidence.now ≡ entails a r b walks → IfOk result (λ claim. Follows net.now a r b) }
+    // A counterexample: the relation is false in some timeline that fits.
+    ensures can_fail { (a b : ℕ) (r : RelOf) (ranks : List (ℕ × ℕ)) → plain evidence.now ≡ counter a r b ranks → IfOk result (λ claim. CanFail net.now a r b) }
 {
     match evidence {
-        Evidence::Timeline { ranks } => match fit(net, ranks.as_slice()) {
-            Ok(()) => Ok(Claim::Fits),
-            Err(reason) => Err(Refused { part: 1, reason }),
-        },
+        Evidence::Timeline { ranks } => check_timeline(net, ranks),
+        Evidence::Entails { a, rel, b, walks } => {
+            check_entailment(net, *a, *rel, *b, walks.as_slice())
+        }
+        Evidence::Counter { a, rel, b, ranks } => check_counterexample(net, *a, *rel, *b, ranks),
     }
 }
 
-/// Ok where the ranks are a timeline that fits the net, else the first reason why they are none.
-#[tactic(auto, using(net_core::proofs::RankLaws::pairs_length))]
-fn fit(net: &Net, ranks: &[u32]) -> Result<(), Reason>
-    requires even { AreEven ranks.now }
-    requires few { IsNumber (length (pairs_of ranks.now)) }
-    ensures ok { OnOk result (RanksFit net.now ranks.now) }
-    ensures err { IfErr result (IsMisfit net.now ranks.now) }
+/// A timeline that is to fit the net.
+#[tactic(auto, using(net_core::proofs::RankLaws::ranks_again))]
+fn check_timeline(net: &Net, ranks: &Ranks) -> Result<Claim, Refused>
+    requires { IsWellFormed (timeline (pairs_of ranks.now)) }
+    ensures claim { IfOk result (λ claim. claim ≡ Claim.Fits) }
+    ensures ok { OnOk result (IsSupported net.now (timeline (pairs_of ranks.now))) }
+    ensures err { IfErr result (IsRefused net.now (timeline (pairs_of ranks.now))) }
 {
-    if ranks.len() != 2 * net.intervals() as usize {
-        return Err(Reason::Size {
-            size: (ranks.len() / 2) as u32,
+    match fit(net, ranks.as_slice()) {
+        Ok(()) => Ok(Claim::Fits),
+        Err(reason) => Err(Refused { part: 1, reason }),
+    }
+}
+
+/// Walks that are to prove a relation between two intervals.
+fn check_entailment(net: &Net, a: u32, rel: Rel, b: u32, walks: &[Walk]) -> Result<Claim, Refused>
+    requires { IsWellFormed (entails a rel b walks.now) }
+    ensures claim { IfOk result (λ claim. claim ≡ Claim.Entails) }
+    ensures ok { OnOk result (IsSupported net.now (entails a rel b walks.now)) }
+    ensures err { IfErr result (IsRefused net.now (entails a rel b walks.now)) }
+{
+    check_numbers(net, a, b)?;
+    prove_all(net, atoms_of(rel, a, b), walks)?;
+    Ok(Claim::Entails)
+}
+
+/// Ranks that are to fit the net, and to make a relation between two intervals false.
+#[tactic(auto, using(net_core::proofs::RankLaws::ranks_again))]
+fn check_counterexample(
+    net: &Net,
+    a: u32,
+    rel: Rel,
+    b: u32,
+    ranks: &Ranks,
+) -> Result<Claim, Refused>
+    requires { IsWellFormed (counter a rel b (pairs_of ranks.now)) }
+    ensures claim { IfOk result (λ claim. claim ≡ Claim.CanFail) }
+    ensures ok { OnOk result (IsSupported net.now (counter a rel b (pairs_of ranks.now))) }
+    ensures err { IfErr result (IsRefused net.now (counter a rel b (pairs_of ranks.now))) }
+{
+    check_numbers(net, a, b)?;
+    if let Err(reason) = fit(net, ranks.as_slice()) {
+        return Err(Refused { part: 1, reason });
+    }
+    if holds(
+        rel,
+        ends_at(ranks.as_slice(), a),
+        ends_at(ranks.as_slice(), b),
+    ) {
+        return Err(Refused {
+            part: 2,
+            reason: Reason::Holds,
         });
     }
-    if let Some(interval) = first_unordered(net, ranks) {
-        return Err(Reason::Order { interval });
+    Ok(Claim::CanFail)
+}
+
+/// Ok where both numbers are those of intervals of the net.
+fn check_numbers(net: &Net, a: u32, b: u32) -> Result<(), Refused>
+    ensures ok { OnOk result (AreIntervals net.now a b) }
+    ensures few { OnOk result (intervals net.now ≤ max_intervals) }
+    ensures err { IfErr result (IsNumberRefused net.now a b) }
+{
+    let count = net.intervals();
+    let number = if a < count { b } else { a };
+    if number < count {
+        return Ok(());
     }
-    if let Some(link) = first_broken_link(net, ranks) {
-        return Err(Reason::Link { link });
-    }
-    if let Some((from, to)) = first_broken_pair(net, ranks) {
-        return Err(Reason::Calendar { from, to });
-    }
-    Ok(())
+    Err(Refused {
+        part: 0,
+        reason: Reason::Number { number },
+    })
 }

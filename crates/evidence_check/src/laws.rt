@@ -1,7 +1,16 @@
 //! Laws of the checker: public functions that do nothing, each with the law as its contract.
+ghost use Rattle.evidence_check.specs.Claims.{IsTrue};
 ghost use Rattle.evidence_check.specs.Refusals.{OneVerdict};
+ghost use Rattle.evidence_check.specs.Supported.{IsSupported};
+ghost use Rattle.evidence_format.specs.Evidence.{PlainEvidence};
+ghost use Rattle.net_core.specs.Nets.{PlainNet};
 
 /// Evidence is not both supported and refused, and is refused for one reason at most.
 pub fn one_verdict()
     ensures { OneVerdict }
+{}
+
+/// What supported evidence shows is true, whoever made it.
+pub fn supported_is_true()
+    ensures { (net : PlainNet) (e : PlainEvidence) → IsSupported net e → IsTrue net e }
 {}

@@ -7,7 +7,9 @@ mod laws;
 mod refusal;
 #[cfg(test)]
 mod tests;
+mod timeline;
+mod walks;
 
 pub use checker::verify;
-pub use laws::one_verdict;
+pub use laws::{one_verdict, supported_is_true};
 pub use refusal::{Claim, Reason, Refused};

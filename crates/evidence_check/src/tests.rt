@@ -1,13 +1,14 @@
-//! Verdicts written by hand: of each relation, of sizes and orders, and of days in January 1998.
-ghost use Rattle.evidence_format.specs.Evidence.{IsWellFormed};
-ghost use Rattle.evidence_format.specs.View.{plain};
+//! Verdicts written by hand: of each relation, of sizes and orders, of days in January 1998, and of forged walks.
+ghost use Rattle.evidence_format.specs.Evidence.{AreRanks};
 ghost use Rattle.net_core.specs.Bounds.{AreOrdered};
+ghost use Rattle.net_core.specs.Ranks.{pairs_of};
 ghost use Rattle.std.specs.Prelude.{IsTrue, ◌↔◌};
 
 use crate::{Claim, Reason, Refused, verify};
-use evidence_format::Evidence;
+use evidence_format::{Evidence, read_evidence};
 use net_core::{Bounds, List, Net, NetLink, Ranks, Rel};
 use std::process::Abort;
+use std::test::Fail;
 
 const FREE: Bounds = Bounds::Free;
 
@@ -62,8 +63,8 @@ fn net_of(rt: &(impl Abort + AllocGlobal), bounds: &[Bounds], links: &[NetLink])
     Net::new(List::from_vec(bounds), List::from_vec(links))
 }
 
-fn evidence_of(rt: &(impl Abort + AllocGlobal), pairs: &[(u32, u32)]) -> Evidence
-    ensures { IsWellFormed (plain result) }
+fn ranks_of(rt: &(impl Abort + AllocGlobal), pairs: &[(u32, u32)]) -> Ranks
+    ensures { AreRanks (pairs_of result) }
 {
     assert!(rt; pairs.len() < 16);
     let mut ranks = Ranks::new(rt.alloc());
@@ -72,7 +73,7 @@ fn evidence_of(rt: &(impl Abort + AllocGlobal), pairs: &[(u32, u32)]) -> Evidenc
             panic!(rt; "out of memory");
         }
     }
-    Evidence::Timeline { ranks }
+    ranks
 }
 
 /// The reason why a timeline is refused, where it is.
@@ -82,8 +83,14 @@ fn refusal(
     links: &[NetLink],
     pairs: &[(u32, u32)],
 ) -> Option<Reason> {
-    match verify(&net_of(rt, bounds, links), &evidence_of(rt, pairs)) {
-        Ok(Claim::Fits) => None,
+    let evidence = Evidence::Timeline {
+        ranks: ranks_of(rt, pairs),
+    };
+    match verify(&net_of(rt, bounds, links), &evidence) {
+        Ok(claim) => {
+            assert_eq!(rt; claim, Claim::Fits);
+            None
+        }
         Err(Refused { part, reason }) => {
             assert!(rt; part == 1);
             Some(reason)
@@ -158,4 +165,158 @@ fn the_first_reason_counts(rt: HostRuntime) {
     for (bounds, links, pairs, reason) in cases {
         assert_eq!(rt; refusal(&rt, bounds, links, pairs), reason);
     }
+}
+
+/// The verdict on evidence with this text.
+fn verdict_of(rt: &(impl Abort + AllocGlobal), net: &Net, text: &[u8]) -> Result<Claim, Refused> {
+    assert!(rt; text.len() < 1000);
+    let Ok(evidence) = read_evidence(rt.alloc(), text) else {
+        panic!(rt; "no evidence");
+    };
+    verify(net, &evidence)
+}
+
+fn in_part(part: u32, reason: Reason) -> Result<Claim, Refused> {
+    Err(Refused { part, reason })
+}
+
+fn step(step: u32) -> Result<Claim, Refused> {
+    in_part(1, Reason::Step { step })
+}
+
+fn number(number: u32) -> Result<Claim, Refused> {
+    in_part(0, Reason::Number { number })
+}
+
+#[test]
+fn forged_walks_are_refused(rt: HostRuntime) -> Result<(), Fail> {
+    let links = [
+        NetLink {
+            a: 0,
+            rel: Rel::Before,
+            b: 1,
+        },
+        NetLink {
+            a: 1,
+            rel: Rel::Ibefore,
+            b: 2,
+        },
+        NetLink {
+            a: 0,
+            rel: Rel::Ibefore,
+            b: 2,
+        },
+    ];
+    let net = net_of(&rt, &[FREE, FREE, FREE], &links);
+    let end = in_part(1, Reason::End);
+    let weak = in_part(1, Reason::Weak);
+    // walks that are to prove that interval 0 is before interval 2
+    let cases: [(&[u8], Result<Claim, Refused>); 14] = [
+        (b"3\nvia 0 0\nspan 1\nvia 1 0\n", Ok(Claim::Entails)),
+        (b"1\nvia 2 0\n", weak),
+        (b"0\n", end),
+        // there and back, and there again
+        (
+            b"5\nvia 0 0\nspan 1\nvia 1 0\nvia 1 1\nvia 1 0\n",
+            Ok(Claim::Entails),
+        ),
+        // steps that do not join, or do not begin at the first point
+        (b"2\nvia 0 0\nvia 1 0\n", step(1)),
+        (b"2\nspan 1\nvia 1 0\n", step(0)),
+        (b"3\nvia 0 0\nspan 1\nvia 1 1\n", step(2)),
+        // numbers out of range
+        (b"1\nvia 3 0\n", step(0)),
+        (b"1\nvia 0 1\n", step(0)),
+        (b"2\nvia 0 0\nspan 3\n", step(1)),
+        (b"1\ncalendar 1 4\n", step(0)),
+        (b"1\ncalendar 6 4294967295\n", step(0)),
+        // it ends too early, or goes on
+        (b"2\nvia 0 0\nspan 1\n", end),
+        (b"4\nvia 0 0\nspan 1\nvia 1 0\nspan 2\n", end),
+    ];
+    for (walk, wanted) in cases {
+        let mut text = Vec::new(rt.alloc());
+        for part in [
+            b"tml-evidence 1\nentails 0 BEFORE 2\nwalk ".as_slice(),
+            walk,
+            b"end\n",
+        ] {
+            text.extend_from_slice(part)?;
+        }
+        assert_eq!(rt; verdict_of(&rt, &net, &text), wanted);
+    }
+    Ok(())
+}
+
+#[test]
+fn the_first_part_of_an_entailment_or_a_counterexample_counts(rt: HostRuntime) -> Result<(), Fail> {
+    let net = net_of(&rt, &[FREE, FREE], &[between(Rel::During)]);
+    let cases: [(&[u8], Result<Claim, Refused>); 13] = [
+        (
+            b"counter 0 IS_INCLUDED 1\ntimeline 2\nat 0 1\nat 0 1\n",
+            Ok(Claim::CanFail),
+        ),
+        (
+            b"counter 0 SIMULTANEOUS 1\ntimeline 2\nat 1 2\nat 0 3\n",
+            Ok(Claim::CanFail),
+        ),
+        (
+            b"counter 1 INCLUDES 0\ntimeline 2\nat 0 1\nat 0 1\n",
+            Ok(Claim::CanFail),
+        ),
+        (
+            b"counter 0 BEFORE 0\ntimeline 2\nat 0 1\nat 0 1\n",
+            Ok(Claim::CanFail),
+        ),
+        (
+            b"counter 0 SIMULTANEOUS 1\ntimeline 2\nat 0 1\nat 0 1\n",
+            in_part(2, Reason::Holds),
+        ),
+        (
+            b"counter 0 IS_INCLUDED 1\ntimeline 2\nat 1 2\nat 0 3\n",
+            in_part(2, Reason::Holds),
+        ),
+        (
+            b"counter 0 BEFORE 1\ntimeline 2\nat 0 1\nat 2 3\n",
+            in_part(1, Reason::Link { link: 0 }),
+        ),
+        (
+            b"counter 0 BEFORE 1\ntimeline 1\nat 0 1\n",
+            in_part(1, Reason::Size { size: 1 }),
+        ),
+        (b"counter 2 BEFORE 3\ntimeline 0\n", number(2)),
+        (
+            b"counter 0 BEFORE 4294967295\ntimeline 0\n",
+            number(4294967295),
+        ),
+        (
+            b"entails 1 DURING_INV 0\nwalk 1\nvia 0 0\nwalk 1\nvia 0 1\n",
+            Ok(Claim::Entails),
+        ),
+        // the walks of two orders exchanged, and a second one that proves nothing
+        (
+            b"entails 0 DURING 1\nwalk 1\nvia 0 1\nwalk 1\nvia 0 0\n",
+            step(0),
+        ),
+        (
+            b"entails 0 DURING 1\nwalk 1\nvia 0 0\nwalk 1\nvia 0 0\n",
+            in_part(2, Reason::Step { step: 0 }),
+        ),
+    ];
+    for (body, wanted) in cases {
+        let mut text = Vec::new(rt.alloc());
+        for part in [b"tml-evidence 1\n".as_slice(), body, b"end\n"] {
+            text.extend_from_slice(part)?;
+        }
+        assert_eq!(rt; verdict_of(&rt, &net, &text), wanted);
+    }
+    assert_eq!(rt;
+        verdict_of(
+            &rt,
+            &net,
+            b"tml-evidence 1\nentails 2 BEFORE 0\nwalk 0\nend\n"
+        ),
+        number(2)
+    );
+    Ok(())
 }

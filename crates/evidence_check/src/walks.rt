@@ -1,0 +1,78 @@
+//! Whether walks prove the orders that a relation is.
+ghost use Rattle.evidence_check.specs.Refusals.{IsNoProof, IsWalkRefused};
+ghost use Rattle.evidence_check.specs.Supported.{IsProof, Proves};
+ghost use Rattle.evidence_format.specs.Evidence.{AreSteps, IsNumber};
+ghost use Rattle.net_core.specs.Atoms.{atoms_in};
+ghost use Rattle.net_core.specs.Firsts.{IsFirst};
+ghost use Rattle.net_core.specs.Fits.{EveryLink};
+ghost use Rattle.net_core.specs.Steps.{GoesBy, atom_of};
+ghost use Rattle.net_core.specs.declared.atom.Atom.{Atom as AtomOf};
+ghost use Rattle.std.specs.List.{All};
+ghost use Rattle.std.specs.Prelude.{IfErr, IfNone, IfSome, None, OnOk, Some, length, ◌≡◌, ◌||◌};
+
+use crate::refusal::{Reason, Refused};
+use net_core::{Atom, Atoms, Net, Step, Walk, step_atom};
+
+/// Ok where each walk proves the order of its number, else the first one that does not, and the first reason there.
+pub fn prove_all(net: &Net, atoms: Atoms, walks: &[Walk]) -> Result<(), Refused>
+    requires one_each { length walks.now ≡ length (atoms_in atoms) }
+    requires few { All AreSteps walks.now }
+    ensures ok { OnOk result (IsFirst (length (atoms_in atoms)) (Proves net.now (atoms_in atoms) walks.now) None) }
+    ensures err { IfErr result (IsWalkRefused net.now (atoms_in atoms) walks.now) }
+{
+    for k in 0..atoms.count() {
+        let Some(atom) = atoms.atom(k) else {
+            unreachable!()
+        };
+        if let Err(reason) = prove(net, atom, walks[k as usize].as_slice()) {
+            return Err(Refused {
+                part: k + 1,
+                reason,
+            });
+        }
+    }
+    Ok(())
+}
+
+/// Ok where the steps are a walk from the one point of an atom to the other, with a strict step where the atom is strict,
+/// else the first reason why they are none.
+fn prove(net: &Net, atom: Atom, steps: &[Step]) -> Result<(), Reason>
+    requires { IsNumber (length steps.now) }
+    ensures ok { OnOk result (IsProof net.now atom steps.now) }
+    ensures err { IfErr result (IsNoProof net.now atom steps.now) }
+{
+    let mut at = atom.from;
+    let mut strict = false;
+    let mut k = 0;
+    for step in steps {
+        let Some(next) = next_of(net, at, step) else {
+            return Err(Reason::Step { step: k });
+        };
+        at = next.to;
+        strict = either(strict, next.strict);
+        k += 1;
+    }
+    if at != atom.to {
+        return Err(Reason::End);
+    }
+    if atom.strict && !strict {
+        return Err(Reason::Weak);
+    }
+    Ok(())
+}
+
+/// The order that a step goes by, where it begins at a point.
+fn next_of(net: &Net, at: u32, step: &Step) -> Option<Atom>
+    ensures some { IfSome result (λ next. GoesBy net.now EveryLink step.now next) }
+    ensures begins { IfSome result (λ next. next.from ≡ at) }
+    ensures none { IfNone result ((next : AtomOf) → atom_of net.now step.now ≡ Some next → next.from ≡ at → ⊥) }
+{
+    let next = step_atom(net, step)?;
+    if next.from == at { Some(next) } else { None }
+}
+
+fn either(a: bool, b: bool) -> bool
+    ensures { result ≡ (a || b) }
+{
+    a || b
+}
