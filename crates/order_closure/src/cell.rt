@@ -1,7 +1,7 @@
 //! What is known of the order of two points.
 ghost use Rattle.order_closure.specs.Cells as spec;
 ghost use Rattle.order_closure.specs.Tables.{Denies};
-ghost use Rattle.std.specs.Prelude.{IsTrue, ◌<◌, ◌≡◌, ◌↔◌};
+ghost use Rattle.std.specs.Prelude.{IsTrue, ◌<◌, ◌≤◌, ◌≡◌, ◌↔◌};
 
 /// What is known of the order of a point and another one.
 #[derive(Clone, Copy, Debug, PartialEq, Eq)]
@@ -52,6 +52,17 @@ impl Cell {
             Cell::Free => other != Cell::Free,
             Cell::Weak => other == Cell::Strict,
             Cell::Strict => false,
+        }
+    }
+
+    /// Whether the cell from one point to another gives an order of them.
+    pub fn gives(self, strict: bool) -> bool
+        ensures { IsTrue result ↔ (spec.strength (spec.order strict) ≤ spec.strength self) }
+    {
+        match self {
+            Cell::Free => false,
+            Cell::Weak => !strict,
+            Cell::Strict => true,
         }
     }
 
