@@ -59,10 +59,9 @@ impl Cell {
     pub fn gives(self, strict: bool) -> bool
         ensures { IsTrue result ↔ (spec.strength (spec.order strict) ≤ spec.strength self) }
     {
-        match self {
-            Cell::Free => false,
-            Cell::Weak => !strict,
-            Cell::Strict => true,
+        match (self, strict) {
+            (Cell::Strict, _) | (Cell::Weak, false) => true,
+            (Cell::Weak, true) | (Cell::Free, _) => false,
         }
     }
 
