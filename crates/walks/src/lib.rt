@@ -1,0 +1,6 @@
+//! Walks through a net, from point to point.
+#![tactic(auto)]
+
+mod dates;
+
+pub use dates::{Date, lowers_of, uppers_of};
