@@ -1,1 +1,3 @@
 pub mod DateLaws
+pub mod Parts
+pub mod EdgeLaws

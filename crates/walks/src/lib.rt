@@ -2,5 +2,6 @@
 #![tactic(auto)]
 
 mod dates;
+mod edges;
 
 pub use dates::{Date, lowers_of, uppers_of};
