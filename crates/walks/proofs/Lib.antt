@@ -1,3 +1,3 @@
-pub mod DateLaws
 pub mod Parts
+pub mod DateLaws
 pub mod EdgeLaws

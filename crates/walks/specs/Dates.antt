@@ -1,5 +1,5 @@
 -- Points with the numbers that the calendar gives them.
-use Rattle.std.specs.Prelude.{◌≡◌, ℕ, ◌<◌, ℤ, List, Option, Some}
+use Rattle.std.specs.Prelude.{◌≡◌, ◌↔◌, ℕ, ◌<◌, ℤ, ◌≤ℤ◌, List, Option, Some}
 use Rattle.std.specs.List.{All, Contains}
 use Rattle.std.specs.List.Sorted.{IsSortedByKey}
 use Rattle.std.specs.Ordering.{int_cmp}
@@ -33,3 +33,7 @@ AreAscending dates = IsSortedByKey (λ (date : Date). date.number) int_cmp dates
 -- the greatest number comes first: none is greater than the one before it
 abbrev pub AreDescending : List Date → Type 0
 AreDescending dates = IsSortedByKey (λ (date : Date). date.number) (λ x y. int_cmp y x) dates
+
+-- the dates whose numbers are not below a number, of all of a list
+abbrev pub AreFrom : ℤ → List Date → List Date → Type 0
+AreFrom number all dates = (date : Date) → Contains dates date ↔ (Contains all date × (number ≤ℤ date.number))

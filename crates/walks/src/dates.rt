@@ -1,7 +1,7 @@
 //! The points that the calendar gives numbers.
 ghost use Rattle.net_core.specs.Nets.{lower, points, upper};
 ghost use Rattle.std.specs.Prelude.{IfOk, ◌<◌, ◌≡◌};
-ghost use Rattle.walks.specs.Dates.{AreAscending, AreDates, AreDescending, number_at};
+ghost use Rattle.walks.specs.Dates.{AreAscending, AreDates, AreDescending, AreFrom, number_at};
 
 use net_core::{Memory, Net};
 use std::alloc::Global;
@@ -47,6 +47,15 @@ pub fn uppers_of(alloc: Global, net: &Net) -> Result<Vec<Date>, Memory>
     let mut dates = dates_of(alloc, net, Side::Upper)?;
     dates.sort_unstable_by_key(|date| Reverse(date.number));
     Ok(dates)
+}
+
+/// The dates whose numbers are not below a number, of dates with the least number first.
+pub fn dates_from(dates: &[Date], number: i64) -> &[Date]
+    requires { AreAscending dates.now }
+    ensures { AreFrom number dates.now result.now }
+{
+    let first = dates.partition_point(|date| date.number < number);
+    &dates[first..]
 }
 
 /// The points that have a number on this side, in order of the points.
