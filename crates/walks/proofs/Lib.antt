@@ -1,3 +1,4 @@
 pub mod Parts
 pub mod DateLaws
 pub mod EdgeLaws
+pub mod StateLaws

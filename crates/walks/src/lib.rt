@@ -3,5 +3,6 @@
 
 mod dates;
 mod edges;
+mod states;
 
 pub use dates::{Date, lowers_of, uppers_of};
