@@ -43,9 +43,9 @@ pub record Visits (entry : Entry) (old new : PlainStates) : Type 0 where
   pub grown : (new.entries ≡ old.entries) ⊎ (new.entries ≡ old.entries ++ entry ∷ [])
   pub there : HasState new.entries entry.point entry.strict
 
--- the entry that an edge leads to from entry k
-abbrev pub next_entry : List Entry → ℕ → Edge → Entry
-next_entry entries k edge = record { point = edge.atom.to; strict = (entry_at entries k).strict || edge.atom.strict; arrival = Some (record { parent = k; step = edge.step }) }
+-- the entry that an edge leads to from entry k, which is here
+abbrev pub next_entry : Entry → ℕ → Edge → Entry
+next_entry here k edge = record { point = edge.atom.to; strict = here.strict || edge.atom.strict; arrival = Some (record { parent = k; step = edge.step }) }
 
 -- the state that an edge leads to from entry k was visited
 abbrev pub IsReached : List Entry → ℕ → Edge → Type 0
@@ -53,7 +53,7 @@ IsReached entries k edge = HasState entries edge.atom.to ((entry_at entries k).s
 
 -- an edge of a set leads from entry k to an entry
 abbrev pub LeadsTo : (Edge → Type 0) → List Entry → ℕ → Entry → Type 0
-LeadsTo IsWay entries k entry = (edge : Edge) × IsWay edge × (edge.atom.from ≡ (entry_at entries k).point) × (entry ≡ next_entry entries k edge)
+LeadsTo IsWay entries k entry = (edge : Edge) × IsWay edge × (edge.atom.from ≡ (entry_at entries k).point) × (entry ≡ next_entry (entry_at entries k) k edge)
 
 -- the entries are the old ones, and some that edges of a set lead to from entry k
 pub record Grows (IsWay : Edge → Type 0) (k : ℕ) (old new : PlainStates) : Type 0 where
@@ -73,6 +73,10 @@ IsExpanded IsWay entries k = (edge : Edge) → IsWay edge → edge.atom.from ≡
 -- whether an entry is at a point, after a strict step where that is asked for
 abbrev pub is_end : ℕ → Bool → Entry → Bool
 is_end to strict entry = (entry.point == to) && (entry.strict || not strict)
+
+-- some entry is so
+abbrev pub HasEnd : ℕ → Bool → List Entry → Type 0
+HasEnd to strict entries = Any (λ (entry : Entry). is_end to strict entry ≡ true) entries
 
 -- the entry was come to from an earlier one than k, if from any
 abbrev pub IsAfter : ℕ → Option Arrival → Type 0

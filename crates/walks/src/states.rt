@@ -1,8 +1,8 @@
 //! The states that a search visits: points, with whether a step on the way was strict.
 ghost use Rattle.std.specs.List.{position};
-ghost use Rattle.std.specs.Prelude.{IfOk, IfSome, IsTrue, OnOk, [], length, ◌*◌, ◌<◌, ◌≡◌, ◌≤◌};
+ghost use Rattle.std.specs.Prelude.{IfOk, IsTrue, OnOk, [], length, ℕ, ◌*◌, ◌<◌, ◌≡◌, ◌≤◌};
 ghost use Rattle.walks.specs.States as spec;
-ghost use Rattle.walks.specs.States.{AreEarlier, Grows, HasState, IsPath, IsReached, Visits, entry_at, is_end};
+ghost use Rattle.walks.specs.States.{AreEarlier, Grows, HasEnd, HasState, IsPath, IsReached, Visits, entry_at, is_end};
 
 use crate::edges::Edge;
 use net_core::{Memory, Step, Walk};
@@ -96,6 +96,70 @@ impl States {
         }
         self.seen[place] = true;
         Ok(())
+    }
+
+    /// Visits the state that an edge leads to from the entry of this number.
+    pub fn follow(&mut self, head: usize, edge: Edge) -> Result<(), Memory>
+        requires head { head < length self.old.entries }
+        requires from { edge.atom.from ≡ (entry_at self.old.entries head).point }
+        requires to { edge.atom.to < self.old.points }
+        ensures grown { OnOk result (Grows (λ e. e ≡ edge) head self.old self.new) }
+        ensures reached { OnOk result (IsReached self.new.entries head edge) }
+    {
+        let here = self.entry(head);
+        self.visit(next_entry(here, head, edge))
+    }
+
+    /// Whether a point was visited, after a strict step where that is asked for.
+    pub fn has_end(&self, to: u32, strict: bool) -> bool
+        requires { to < self.now.points }
+        ensures { IsTrue result → HasEnd to strict self.now.entries }
+    {
+        self.has(to, true) || (!strict && self.has(to, false))
+    }
+
+    /// The number of the first entry at a point, after a strict step where that is asked for.
+    pub fn find(&self, to: u32, strict: bool) -> Option<usize>
+        ensures { result ≡ position (is_end to strict) self.now.entries }
+    {
+        self.entries
+            .iter()
+            .position(|entry| entry.point == to && (entry.strict || !strict))
+    }
+
+    /// The steps by which the search came to the entry of this number.
+    pub fn trace(&self, alloc: Global, last: usize) -> Result<Walk, Memory>
+        requires last { last < length self.now.entries }
+        requires earlier { AreEarlier self.now.entries }
+        ensures path { IfOk result (λ steps. (first : ℕ) × (first < length self.now.entries)
+            × ((entry_at self.now.entries first).arrival ≡ None) × IsPath self.now.entries last first steps) }
+        ensures short { IfOk result (λ steps. length steps ≤ last) }
+        ensures few { IfOk result (λ steps. length steps < 2 * self.now.points) }
+    {
+        let mut steps = Vec::new(alloc);
+        let mut k = last;
+        while let Some(arrival) = self.entries[k].arrival {
+            if steps.push(arrival.step).is_err() {
+                return Err(Memory);
+            }
+            k = arrival.parent;
+        }
+        steps.reverse();
+        Ok(Walk::from_vec(steps))
+    }
+}
+
+/// The entry that an edge leads to from the entry of this number, which is `here`.
+fn next_entry(here: Entry, head: usize, edge: Edge) -> Entry
+    ensures { result ≡ spec.next_entry here head edge }
+{
+    Entry {
+        point: edge.atom.to,
+        strict: here.strict || edge.atom.strict,
+        arrival: Some(Arrival {
+            parent: head,
+            step: edge.step,
+        }),
     }
 }
 
