@@ -1,5 +1,5 @@
 -- The points that have a number, one after another.
-use Rattle.std.proofs.Common.{◌≡◌, ◌↔◌, ℕ, ◌+◌, ℤ, ◌≤ℤ◌, int_cmp, int_lt, is_lt, drop, get_or, false, true, List, Option, Some, None, [], ◌∷◌, ◌++◌, subst, arith, below_more}
+use Rattle.std.proofs.Common.{◌≡◌, ◌↔◌, ℕ, ◌+◌, ℤ, ◌≤ℤ◌, int_cmp, int_lt, is_lt, pos, drop, get_or, false, true, List, Option, Some, None, [], ◌∷◌, ◌++◌, subst, arith, below_more}
 use Rattle.std.specs.List.{All, Contains}
 use Rattle.std.specs.List.Sorted.{IsPartitionPoint, IsPartitionedBy, IsPermutation}
 use Rattle.std.proofs.lemmas.List.Elements.{All-push, All-weaker, Contains-append_left, Contains-push}
@@ -9,6 +9,10 @@ use Rattle.std.proofs.lemmas.Int.{ints}
 use Rattle.walks.proofs.Parts.{dropped}
 use Rattle.walks.specs.Dates.{AreAscending, AreDates, AreFrom, IsDate}
 use Rattle.walks.specs.declared.dates.Date.{Date}
+
+-- what is read past the end of a list of dates
+abbrev pub no_date : Date
+no_date = record { number = pos 0; point = 0 }
 
 -- a sort leaves the dates
 pub dates_sorted : (number : ℕ → Option ℤ) (n : ℕ) (dates sorted : List Date) → IsPermutation dates sorted → AreDates number n dates → AreDates number n sorted

@@ -19,6 +19,10 @@ use Rattle.walks.proofs.Parts.{dropped, taken}
 use Rattle.walks.specs.Edges.{Adds, AreEdges, AreFrom, IsDated, IsOver, IsSpan}
 use Rattle.walks.specs.declared.edges.Edge.{Edge}
 
+-- what is read past the end of a list of edges
+abbrev pub no_edge : Edge
+no_edge = record { step = Link 0 0; atom = record { from = 0; to = 0; strict = false } }
+
 -- the steps of the first n of some sets
 abbrev pub Below : (ℕ → Step → Type 0) → ℕ → Step → Type 0
 Below Listed n step = (k : ℕ) × (k < n) × Listed k step

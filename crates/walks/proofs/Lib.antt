@@ -2,3 +2,4 @@ pub mod Parts
 pub mod DateLaws
 pub mod EdgeLaws
 pub mod StateLaws
+pub mod GraphLaws

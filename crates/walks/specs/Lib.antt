@@ -1,3 +1,4 @@
 pub mod Dates
 pub mod Edges
 pub mod States
+pub mod Graphs

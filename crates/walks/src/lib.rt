@@ -3,6 +3,7 @@
 
 mod dates;
 mod edges;
+mod graph;
 mod states;
 
 pub use dates::{Date, lowers_of, uppers_of};
