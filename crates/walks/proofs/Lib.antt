@@ -3,3 +3,4 @@ pub mod DateLaws
 pub mod EdgeLaws
 pub mod StateLaws
 pub mod GraphLaws
+pub mod SearchLaws

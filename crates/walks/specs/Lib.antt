@@ -2,3 +2,4 @@ pub mod Dates
 pub mod Edges
 pub mod States
 pub mod Graphs
+pub mod Search

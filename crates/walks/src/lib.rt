@@ -4,6 +4,8 @@
 mod dates;
 mod edges;
 mod graph;
+mod search;
 mod states;
 
 pub use dates::{Date, lowers_of, uppers_of};
+pub use search::walk;
