@@ -94,6 +94,13 @@ module _ (net : PlainNet) (graph : Graph) (is : IsGraph net graph) where
       let same : date_edge first second ≡ edge = (λ i. date_edge (record { number = sym same_number i; point = sym same_point i }) second) ∙ sym numbers.same in
       subst (IsReached new.entries k) same (All-contains (λ (d : Date). IsReached new.entries k (date_edge first d)) lowers second reached ((from second).1 (has, later)))
 
+-- a point with no upper number has no step of the calendar
+pub none_expanded : (net : PlainNet) (k : ℕ) (entries : List Entry) → upper net (entry_at entries k).point ≡ None → IsExpanded (IsCalendarWay net) entries k
+none_expanded net k entries no_upper edge way leaves =
+    let numbers = has_numbers net edge.step edge.atom way.0 way.1 in
+    let both : None ≡ Some numbers.first = sym no_upper ∙ ap (upper net) (sym leaves) ∙ numbers.upper_is in
+    cc
+
 -- the states that edges of one set lead to, and then those that edges of another one do
 pub expanded_then : (P Q : Edge → Type 0) (k : ℕ) (old mid new : PlainStates) → k < length old.entries → Grows P k old mid → IsExpanded P mid.entries k → Grows Q k mid new → IsExpanded Q new.entries k
     → Grows (λ edge. P edge ⊎ Q edge) k old new × IsExpanded (λ edge. P edge ⊎ Q edge) new.entries k

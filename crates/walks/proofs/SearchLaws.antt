@@ -50,13 +50,6 @@ module _ (Chosen : Edge → Type 0) where
   expanded_kept k j old new lt grown all edge way leaves =
       reached_kept Chosen k j edge old new lt grown (all edge way (leaves ∙ ap (λ (e : Entry). e.point) (grown_entry Chosen k j old new lt grown)))
 
-  -- entries that are traced came from earlier ones
-  pub earlier : (from : ℕ) (entries : List Entry) → AreTraced Chosen from entries → AreEarlier entries
-  earlier from entries traced k lt = elim (traced k lt) [
-    | inl start ↦ subst (λ (e : Entry). IsAfter k e.arrival) (sym start) tt
-    | inr led ↦ subst (λ (e : Entry). IsAfter k e.arrival) (sym led.2.3) led.1
-  ]
-
 -- an entry that is at the point that is asked for, after a strict step where one is
 ends : (to : ℕ) (strict : Bool) (entry : Entry) → is_end to strict entry ≡ true ↔ ((entry.point ≡ to) × (strict ≡ true → entry.strict ≡ true))
 ends to true entry = (λ e. (grind (arith, nat_tests), λ s. grind (arith, nat_tests)), λ h. let at = h.0 in let is = h.1 refl in grind (arith, nat_tests))
@@ -150,7 +143,7 @@ module _ (net : PlainNet) (keep : List Bool) (graph : Graph) (edges : AreEdges n
             subst (λ (x : ℕ). IsJoined net (Kept keep) steps x to) (ap (λ (e : Entry). e.point) start) (subst (IsJoined net (Kept keep) steps (entry_at states.entries first).point) end.0 joined.0),
             λ e. ap (λ (x : Entry). x.strict || has_strict net steps) (sym start) ∙ joined.1 ∙ end.1 e,
           )
-          | inr led ↦ let both : None ≡ Some (record { parent = led.0; step = led.2.0.step }) = sym came ∙ ap (λ (e : Entry). e.arrival) led.2.3 in cc
+          | inr led ↦ let arrival : Arrival = record { parent = led.0; step = led.2.0.step } in let both : None ≡ Some arrival = sym came ∙ ap (λ (e : Entry). e.arrival) led.2.3 in cc
         ]
 
     -- where no entry is found there is no walk

@@ -5,7 +5,7 @@ use Rattle.walks.specs.Dates.{AreBelow, AreFrom}
 use Rattle.walks.specs.Graphs.{IsCalendarWay, IsDateEdge}
 use Rattle.walks.specs.declared.dates.Date.{Date}
 use Rattle.walks.specs.declared.states.Entry.{Entry}
-use Rattle.walks.proofs.GraphLaws.{date_ways, dates_below, dates_expanded}
+use Rattle.walks.proofs.GraphLaws.{date_ways, dates_below, dates_expanded, none_expanded}
 use Rattle.walks.proofs.StateLaws.{grows_wider}
 use Rattle.walks.proofs.graph.Graph.follow_calendar.Goals as goal
 use Rattle.walks.proofs.graph.Graph.follow_calendar.Goals.{After-dates_from}
@@ -26,6 +26,9 @@ from_graph c = subst (λ (all : List Date). AreFrom (first c).number all c.dates
 pub follow_dates-requires-clause-lowers : goal.follow_dates-requires-clause-lowers
 follow_dates-requires-clause-lowers c =
     subst (λ (n : ℕ). AreBelow n c.dates_from.result.now) (sym c.requires.points) (dates_below c.args.net.now c.args.self.now c.requires.graph (first c).number c.dates_from.result.now (from_graph c))
+
+pub returns-in_default-clause-expanded : goal.returns-in_default-clause-expanded
+returns-in_default-clause-expanded c = none_expanded c.args.net.now c.args.head c.args.states.now.entries (ap (λ (e : Entry). upper c.args.net.now e.point) (sym c.entry-point.ensures.entry) ∙ sym c.upper.ensures ∙ c.in_default.is)
 
 pub returns-clause-grown : goal.returns-clause-grown
 returns-clause-grown c =
