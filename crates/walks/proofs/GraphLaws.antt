@@ -1,6 +1,6 @@
 -- The steps that may be taken from a point.
-use Rattle.std.proofs.Common.{length-append, ◌≡◌, ◌⊎◌, ℕ, ◌<◌, ℤ, ◌≤ℤ◌, Bool, true, int_le, int_lt, List, length, get_or, Option, Some, None, refl, sym, ap, subst, ◌∙◌, arith, inl, inr}
-use Rattle.std.specs.List.{All, Any, Contains}
+use Rattle.std.proofs.Common.{length-append, ◌≡◌, ◌⊎◌, ℕ, ◌<◌, ℤ, ◌≤ℤ◌, true, int_le, List, length, get_or, Some, None, refl, sym, ap, subst, ◌∙◌, arith, inl, inr}
+use Rattle.std.specs.List.{All, Contains}
 use Rattle.std.proofs.lemmas.Int.{ints}
 use Rattle.std.proofs.lemmas.List.Elements.{All-contains, Contains-get_or}
 use Rattle.std.proofs.lemmas.Option.{same_Some}
@@ -13,8 +13,8 @@ use Rattle.net_core.proofs.StepLaws.{ordered, step_in_range}
 use Rattle.walks.specs.Dates as dates
 use Rattle.walks.specs.Dates.{AreBelow, IsDate}
 use Rattle.walks.specs.Edges.{AreFrom, IsDated}
-use Rattle.walks.specs.Graphs.{AreLeaving, IsCalendarWay, IsDateEdge, IsGraph, IsWay, date_edge}
-use Rattle.walks.specs.States.{Grows, HasState, IsExpanded, IsReached, PlainStates, entry_at}
+use Rattle.walks.specs.Graphs.{AreLeaving, IsCalendarWay, IsDateEdge, IsGraph, date_edge}
+use Rattle.walks.specs.States.{Grows, IsExpanded, IsReached, PlainStates, entry_at}
 use Rattle.walks.specs.declared.dates.Date.{Date}
 use Rattle.walks.specs.declared.edges.Edge.{Edge}
 use Rattle.walks.specs.declared.graph.Graph.{Graph}

@@ -1,5 +1,5 @@
 -- The two parts of a list that is cut where a test begins to fail.
-use Rattle.std.proofs.Common.{◌≡◌, ◌↔◌, ◌⊎◌, ℕ, ◌+◌, ◌<◌, ◌≤◌, Bool, true, false, List, length, take, drop, sym, subst, ◌∙◌, arith, inl, inr, length-take, length-drop}
+use Rattle.std.proofs.Common.{◌≡◌, ◌↔◌, ◌⊎◌, ℕ, ◌+◌, ◌<◌, Bool, true, false, List, length, take, drop, sym, subst, ◌∙◌, arith, inl, inr, length-take, length-drop}
 use Rattle.std.specs.List.{All, AllWithin, Contains}
 use Rattle.std.specs.List.Sorted.{IsPartitionPoint}
 use Rattle.std.proofs.lemmas.List.{get_or-drop, get_or-take, take-append-drop}

@@ -1,6 +1,6 @@
 -- What a search reaches, and how it came there.
-use Rattle.std.proofs.Common.{◌≡◌, ◌↔◌, ◌⊎◌, ◌&&◌, ◌||◌, ℕ, ◌+◌, ◌-◌, ◌<◌, ◌≤◌, Bool, true, false, cond, not, nat_eq, List, [], ◌∷◌, ◌++◌, length, get_or, Option, Some, None, refl, sym, ap, subst, ◌∙◌, arith, inl, inr, length-append}
-use Rattle.std.specs.List.{All, Any, Contains, list_any, position, position_or_len}
+use Rattle.std.proofs.Common.{◌≡◌, ◌↔◌, ◌||◌, ℕ, ◌+◌, ◌-◌, ◌<◌, Bool, true, false, cond, List, [], ◌∷◌, length, get_or, Some, None, refl, sym, ap, subst, ◌∙◌, arith, inl, inr, length-append}
+use Rattle.std.specs.List.{Any, position, position_or_len}
 use Rattle.std.proofs.lemmas.Bool.{cases_lt, lt-ltb}
 use Rattle.std.proofs.lemmas.Bool.Decides.{nat_tests}
 use Rattle.std.proofs.lemmas.List.{get_or-append_right, get_or_default}
@@ -17,12 +17,12 @@ use Rattle.net_core.specs.declared.step.Step.TheVariants.{Calendar, Link, Span}
 use Rattle.walks.specs.Edges.{AreEdges, IsDated}
 use Rattle.walks.specs.Graphs.{IsWay}
 use Rattle.walks.specs.Search.{IsSearched}
-use Rattle.walks.specs.States.{AreEarlier, AreTraced, Grows, HasEnd, HasState, IsAfter, IsExpanded, IsOf, IsPath, IsReached, LeadsTo, PlainStates, entry_at, is_end, next_entry, start_at}
+use Rattle.walks.specs.States.{AreTraced, Grows, HasState, IsExpanded, IsPath, LeadsTo, PlainStates, entry_at, is_end, next_entry, start_at}
 use Rattle.walks.specs.declared.edges.Edge.{Edge}
 use Rattle.walks.specs.declared.graph.Graph.{Graph}
 use Rattle.walks.specs.declared.states.Arrival.{Arrival}
 use Rattle.walks.specs.declared.states.Entry.{Entry}
-use Rattle.walks.proofs.StateLaws.{grown_entry, reached_kept, same_entry}
+use Rattle.walks.proofs.StateLaws.{grown_entry, reached_kept}
 
 module _ (Chosen : Edge → Type 0) where
   -- the entries are traced where they were so and an entry was expanded
@@ -32,10 +32,14 @@ module _ (Chosen : Edge → Type 0) where
         let same = grown_entry Chosen k j old new before grown in
         elim (traced j before) [
           | inl start ↦ inl (same ∙ start)
-          | inr led ↦ inr (led.0, led.1, (
-            let here = grown_entry Chosen k led.0 old new (let less = led.1 in omega arith) grown in
-            let way = led.2 in
-            (way.0, way.1, way.2 ∙ ap (λ (e : Entry). e.point) (sym here), same ∙ way.3 ∙ ap (λ (e : Entry). next_entry e led.0 way.0) (sym here))))
+          | inr led ↦ inr (
+            led.0,
+            led.1,
+            (
+                let here = grown_entry Chosen k led.0 old new (let less = led.1 in omega arith) grown in
+                let way = led.2 in
+                (way.0, way.1, way.2 ∙ ap (λ (e : Entry). e.point) (sym here), same ∙ way.3 ∙ ap (λ (e : Entry). next_entry e led.0 way.0) (sym here))),
+          )
         ]
     | inr later ↦
         let here = grown_entry Chosen k k old new lt grown in
@@ -111,7 +115,7 @@ module _ (net : PlainNet) (keep : List Bool) (graph : Graph) (edges : AreEdges n
               let same : parent ≡ k = ap (λ (a : Arrival). a.parent) arrival in
               let goes = subst (λ (s : Step). GoesBy net (Kept keep) s edge.atom) (ap (λ (a : Arrival). a.step) arrival) (way_goes edge led.2.1) in
               let flag : ((entry_at entries k).strict || is_strict_order (atom_of net step)) ≡ (entry_at entries next).strict =
-                  ap (λ (b : Bool). (entry_at entries k).strict || b) (ap is_strict_order goes.0) ∙ ap (λ (j : ℕ). (entry_at entries j).strict || edge.atom.strict) (sym same) ∙ sym (ap (λ (e : Entry). e.strict) is) in (
+              ap (λ (b : Bool). (entry_at entries k).strict || b) (ap is_strict_order goes.0) ∙ ap (λ (j : ℕ). (entry_at entries j).strict || edge.atom.strict) (sym same) ∙ sym (ap (λ (e : Entry). e.strict) is) in (
                 (edge.atom, goes, led.2.2 ∙ ap (λ (j : ℕ). (entry_at entries j).point) same, subst (λ (p : ℕ). IsJoined net (Kept keep) steps p (entry_at entries last).point) (ap (λ (e : Entry). e.point) is) rest.0),
                 sym (or_assoc (entry_at entries k).strict (is_strict_order (atom_of net step)) (has_strict net steps)) ∙ ap (λ (b : Bool). b || has_strict net steps) flag ∙ rest.1,
               )
@@ -127,7 +131,7 @@ module _ (net : PlainNet) (keep : List Bool) (graph : Graph) (edges : AreEdges n
         let at : entry_at entries has.0 ≡ has.1 = get_or_default entries has.0 (start_at 0) has.1 has.2 ∙ has.3 in
         let reached = all has.0 has.2 (record { step = step; atom = atom }) (goes_way step atom goes) (joined.2 ∙ sym (ap (λ (e : Entry). e.point) at ∙ has.4.0)) in
         let flag : ((entry_at entries has.0).strict || atom.strict) ≡ (strict || is_strict_order (atom_of net step)) =
-            ap (λ (b : Bool). b || atom.strict) (ap (λ (e : Entry). e.strict) at ∙ has.4.1) ∙ ap (λ (b : Bool). strict || b) (sym (ap is_strict_order goes.0)) in
+        ap (λ (b : Bool). b || atom.strict) (ap (λ (e : Entry). e.strict) at ∙ has.4.1) ∙ ap (λ (b : Bool). strict || b) (sym (ap is_strict_order goes.0)) in
         subst (HasState entries y) (or_assoc strict (is_strict_order (atom_of net step)) (has_strict net steps))
         (reach all steps atom.to y (strict || is_strict_order (atom_of net step)) joined.3 (subst (HasState entries atom.to) flag reached))
 

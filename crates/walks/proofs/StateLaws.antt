@@ -1,5 +1,5 @@
 -- States that are visited.
-use Rattle.std.proofs.Common.{◌≡◌, ◌≢◌, ℕ, ◌+◌, ◌*◌, ◌/◌, ◌<◌, ◌≤◌, ◌||◌, Bool, true, false, cond, List, [], ◌∷◌, ◌++◌, length, get_or, set, reverse, take, Some, refl, sym, ap, subst, ◌∙◌, arith, inl, inr, get_or-set_other, length-append, length-set}
+use Rattle.std.proofs.Common.{◌≡◌, ℕ, ◌+◌, ◌*◌, ◌/◌, ◌<◌, ◌≤◌, ◌||◌, Bool, true, false, cond, List, [], ◌∷◌, ◌++◌, length, get_or, set, reverse, take, Some, refl, sym, ap, subst, ◌∙◌, arith, inl, inr, get_or-set_other, length-append, length-set}
 use Rattle.std.specs.List.{All, Any, count_by}
 use Rattle.std.proofs.lemmas.Bool.{cases_eq}
 use Rattle.std.proofs.lemmas.List.{append-nil, append_assoc, get_or_append_left, take_all, reverse-append}
@@ -122,8 +122,8 @@ module _ {X : Type 0} (edge_of : X → Edge) (xs : List X) (IsWay : Edge → Typ
       let still : k < length mid.entries = omega (arith, ap length grown.entries ∙ length-append old.entries grown.more) in (
         grows_then IsWay k old mid new lt grown (grows_wider (λ e. e ≡ edge) IsWay k mid new (λ e same. subst IsWay (sym (same ∙ is)) way) one),
         All-more (λ (y : X). IsReached new.entries k (edge_of y)) xs i x li
-        (All-weaker (λ (y : X). IsReached mid.entries k (edge_of y)) (λ (y : X). IsReached new.entries k (edge_of y)) (λ y. reached_kept (λ e. e ≡ edge) k k (edge_of y) mid new still one) (take i xs) reached)
-        (subst (IsReached new.entries k) is here),
+            (All-weaker (λ (y : X). IsReached mid.entries k (edge_of y)) (λ (y : X). IsReached new.entries k (edge_of y)) (λ y. reached_kept (λ e. e ≡ edge) k k (edge_of y) mid new still one) (take i xs) reached)
+            (subst (IsReached new.entries k) is here),
       )
 
   -- all of them

@@ -57,7 +57,8 @@ fn push_link(edges: &mut Vec<Edge>, net: &Net, link: u32) -> Result<(), Memory>
     requires { link < length net.now.links }
     ensures { OnOk result (Adds net.now (IsOver (λ k. k ≡ link)) edges.old.items edges.new.items) }
 {
-    for atom in 0..net.link(link).rel.atom_count() {
+    let count = net.link(link).rel.atom_count();
+    for atom in 0..count {
         push_step(edges, net, Step::Link { link, atom })?;
     }
     Ok(())

@@ -6,6 +6,8 @@ mod edges;
 mod graph;
 mod search;
 mod states;
+#[cfg(test)]
+mod tests;
 
 pub use dates::{Date, lowers_of, uppers_of};
 pub use search::walk;

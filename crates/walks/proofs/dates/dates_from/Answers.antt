@@ -1,4 +1,4 @@
-use Rattle.std.proofs.Common.{◌-◌, List, length, int_lt, take, drop, sym, subst, rules}
+use Rattle.std.proofs.Common.{int_lt, sym, subst, rules}
 use Rattle.std.proofs.lemmas.List.{take_rest}
 use Rattle.std.proofs.lemmas.List.Sorted.{IsPartitionPoint-from_clause}
 use Rattle.walks.specs.Dates.{AreFrom}

@@ -13,7 +13,7 @@ abbrev Orders : ℕ → ℕ → Step → Type 0
 Orders link i step = step ≡ Link link i
 
 pub loop-atom-init : goal.loop-atom-init
-loop-atom-init c = record { end = c.atom_count-atom-end.ensures.count ∙ ap (λ (l : NetLink). atom_count l.rel) c.link.ensures.link; so_far = adds_none c.args.net.now (Orders c.args.link) c.args.edges.now.items }
+loop-atom-init c = record { end = c.atom_count-count.ensures.count ∙ ap (λ (l : NetLink). atom_count l.rel) c.link.ensures.link; so_far = adds_none c.args.net.now (Orders c.args.link) c.args.edges.now.items }
 
 pub loop-atom-preserved : goal.loop-atom-preserved
 loop-atom-preserved c = record {

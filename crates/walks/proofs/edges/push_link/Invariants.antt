@@ -9,6 +9,6 @@ use Rattle.walks.proofs.edges.push_link.Given as goal
 -- the orders so far are put
 abbrev pub invariant-loop-atom : goal.invariant-loop-atom
 invariant-loop-atom l = record {
-  end : l.atom-end ≡ atom_count (link_at l.net l.link).rel;
+  end : l.count ≡ atom_count (link_at l.net l.link).rel;
   so_far : Adds l.net (Below (λ i step. step ≡ Link l.link i) l.atom) l.fn.edges.items l.edges.items;
 }

@@ -1,4 +1,4 @@
-use Rattle.std.proofs.Common.{◌≡◌, ℕ, length, ap, sym, subst, ◌∙◌, false, true, arith, refl}
+use Rattle.std.proofs.Common.{◌≡◌, ℕ, length, ap, sym, subst, ◌∙◌, false, true, arith}
 use Rattle.net_core.specs.Walks.{Kept}
 use Rattle.walks.specs.Edges.{Adds, IsOver}
 use Rattle.walks.proofs.EdgeLaws.{Below, OverKept, adds_more, adds_none, adds_nothing, adds_same, links_all}

@@ -1,7 +1,6 @@
 use Rattle.std.proofs.Common.{◌<◌, get_or, length, refl, arith}
 use Rattle.std.proofs.lemmas.List.{get_or_default}
 use Rattle.walks.specs.Graphs.{IsDateEdge, date_edge}
-use Rattle.walks.specs.declared.dates.Date.{Date}
 use Rattle.walks.proofs.DateLaws.{no_date}
 use Rattle.walks.proofs.StateLaws.{follows_all, follows_more}
 use Rattle.walks.proofs.graph.follow_dates.Goals as goal
@@ -14,7 +13,7 @@ loop-lower-preserved c =
     let li : i < length lowers = omega arith in
     let lower = get_or lowers i no_date in
     let both = follows_more (date_edge upper) lowers (IsDateEdge upper lowers) c.args.head i no_date c.date_edge.result c.args.states.now c.loop-lower.states c.follow.new.self c.requires.head li c.date_edge.ensures
-        (i, lower, li, get_or_default lowers i lower no_date li, refl) c.loop-lower.invariant.grown c.loop-lower.invariant.reached c.in_ok-follow.ensures.grown c.in_ok-follow.ensures.reached in
+    (i, lower, li, get_or_default lowers i lower no_date li, refl) c.loop-lower.invariant.grown c.loop-lower.invariant.reached c.in_ok-follow.ensures.grown c.in_ok-follow.ensures.reached in
     record { grown = both.0; reached = both.1 }
 
 pub returns-clause-reached : goal.returns-clause-reached

@@ -12,7 +12,7 @@ loop-edge-preserved c =
     let i = c.loop-edge.edge-index in
     let li : i < length edges = omega arith in
     let both = follows_more (λ (edge : Edge). edge) edges (Contains edges) c.args.head i no_edge (get_or edges i no_edge) c.args.states.now c.loop-edge.states c.follow.new.self c.requires.head li refl
-        (Contains-get_or edges i no_edge li) c.loop-edge.invariant.grown c.loop-edge.invariant.reached c.in_ok-follow.ensures.grown c.in_ok-follow.ensures.reached in
+    (Contains-get_or edges i no_edge li) c.loop-edge.invariant.grown c.loop-edge.invariant.reached c.in_ok-follow.ensures.grown c.in_ok-follow.ensures.reached in
     record { grown = both.0; reached = both.1 }
 
 pub returns-clause-reached : goal.returns-clause-reached

@@ -1,6 +1,6 @@
-use Rattle.std.proofs.Common.{◌≡◌, ◌⊎◌, ◌<◌, ◌+◌, ℕ, length, subst, sym, ap, ◌∙◌, arith, below_more, inl, inr, length-append, rules}
+use Rattle.std.proofs.Common.{◌<◌, length, ap, ◌∙◌, arith, below_more, inl, inr, length-append, rules}
 use Rattle.walks.specs.Graphs.{IsWay}
-use Rattle.walks.specs.States.{IsExpanded, entry_at}
+use Rattle.walks.specs.States.{IsExpanded}
 use Rattle.walks.proofs.SearchLaws.{expanded_kept, traced_grown}
 use Rattle.walks.proofs.StateLaws.{grown_entry}
 use Rattle.walks.proofs.search.search.Goals as goal

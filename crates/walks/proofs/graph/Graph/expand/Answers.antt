@@ -1,4 +1,3 @@
-use Rattle.std.proofs.Common.{◌⊎◌}
 use Rattle.std.specs.List.{Contains}
 use Rattle.walks.specs.Graphs.{IsCalendarWay, IsWay}
 use Rattle.walks.specs.States.{Grows, IsExpanded}

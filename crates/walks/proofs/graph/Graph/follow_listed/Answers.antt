@@ -1,4 +1,4 @@
-use Rattle.std.proofs.Common.{◌<◌, ap, sym, subst, ◌∙◌, List, ℕ, get_or}
+use Rattle.std.proofs.Common.{ap, sym, subst, List, ℕ}
 use Rattle.std.specs.List.{Contains}
 use Rattle.net_core.specs.Nets.{points}
 use Rattle.walks.specs.Edges.{AreFrom}

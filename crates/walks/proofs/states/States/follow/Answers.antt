@@ -1,6 +1,6 @@
 use Rattle.std.proofs.Common.{subst, ◌∙◌, ap}
 use Rattle.std.proofs.lemmas.Result.{on_ok_weaker}
-use Rattle.walks.specs.States.{Visits, next_entry, entry_at}
+use Rattle.walks.specs.States.{Visits, next_entry}
 use Rattle.walks.specs.declared.states.Entry.{Entry}
 use Rattle.walks.proofs.StateLaws.{followed}
 use Rattle.walks.proofs.states.States.follow.Goals as goal
