@@ -1,6 +1,7 @@
 -- What a search reaches, and how it came there.
 use Rattle.std.proofs.Common.{◌≡◌, ◌↔◌, ◌||◌, ℕ, ◌+◌, ◌-◌, ◌<◌, Bool, true, false, cond, List, [], ◌∷◌, length, get_or, Some, None, refl, sym, ap, subst, ◌∙◌, arith, inl, inr, length-append}
 use Rattle.std.specs.List.{Any, position, position_or_len}
+use Rattle.std.proofs.Math.Bool.{or-false, or_assoc}
 use Rattle.std.proofs.lemmas.Bool.{cases_lt, lt-ltb}
 use Rattle.std.proofs.lemmas.Bool.Decides.{nat_tests}
 use Rattle.std.proofs.lemmas.List.{get_or-append_right, get_or_default}
@@ -32,14 +33,11 @@ module _ (Chosen : Edge → Type 0) where
         let same = grown_entry Chosen k j old new before grown in
         elim (traced j before) [
           | inl start ↦ inl (same ∙ start)
-          | inr led ↦ inr (
-            led.0,
-            led.1,
-            (
-                let here = grown_entry Chosen k led.0 old new (let less = led.1 in omega arith) grown in
-                let way = led.2 in
-                (way.0, way.1, way.2 ∙ ap (λ (e : Entry). e.point) (sym here), same ∙ way.3 ∙ ap (λ (e : Entry). next_entry e led.0 way.0) (sym here))),
-          )
+          | inr led ↦
+              let less = led.1 in
+              let way = led.2 in
+              let here = grown_entry Chosen k led.0 old new (omega arith) grown in
+              inr (led.0, led.1, (way.0, way.1, way.2 ∙ ap (λ (e : Entry). e.point) (sym here), same ∙ way.3 ∙ ap (λ (e : Entry). next_entry e led.0 way.0) (sym here)))
         ]
     | inr later ↦
         let here = grown_entry Chosen k k old new lt grown in
@@ -69,14 +67,6 @@ none_found p xs no_place h = elim (cases_lt (position_or_len p xs) (length xs)) 
       let both : true ≡ false = sym h.4 ∙ ap p (sym h.3) ∙ fails in cc
 ]
 
-or_false : (a : Bool) → (a || false) ≡ a
-or_false true = refl
-or_false false = refl
-
-or_assoc : (a b c : Bool) → ((a || b) || c) ≡ (a || (b || c))
-or_assoc true b c = refl
-or_assoc false b c = refl
-
 -- a step of the calendar uses no link
 dated_uses : (Chosen : ℕ → Type 0) (step : Step) → IsDated step → Uses Chosen step
 dated_uses Chosen (Calendar p q) is = tt
@@ -100,7 +90,7 @@ module _ (net : PlainNet) (keep : List Bool) (graph : Graph) (edges : AreEdges n
     -- the steps by which a search came from one entry to another are joined
     path_joined : AreTraced (IsWay net graph) from entries → (steps : List Step) (last k : ℕ) → IsPath entries last k steps
         → IsJoined net (Kept keep) steps (entry_at entries k).point (entry_at entries last).point × (((entry_at entries k).strict || has_strict net steps) ≡ (entry_at entries last).strict)
-    path_joined traced [] last k path = (ap (λ (j : ℕ). (entry_at entries j).point) path, or_false (entry_at entries k).strict ∙ ap (λ (j : ℕ). (entry_at entries j).strict) path)
+    path_joined traced [] last k path = (ap (λ (j : ℕ). (entry_at entries j).point) path, or-false (entry_at entries k).strict ∙ ap (λ (j : ℕ). (entry_at entries j).strict) path)
     path_joined traced (step ∷ steps) last k path =
         let next = path.0 in
         let came : Arrival = record { parent = k; step = step } in
@@ -124,7 +114,7 @@ module _ (net : PlainNet) (keep : List Bool) (graph : Graph) (edges : AreEdges n
     -- where all entries are expanded, joined steps lead to one
     reach : ((k : ℕ) → k < length entries → IsExpanded (IsWay net graph) entries k) → (steps : List Step) (x y : ℕ) (strict : Bool)
         → IsJoined net (Kept keep) steps x y → HasState entries x strict → HasState entries y (strict || has_strict net steps)
-    reach all [] x y strict joined has = (has.0, has.1, has.2, has.3, (has.4.0 ∙ joined, has.4.1 ∙ sym (or_false strict)))
+    reach all [] x y strict joined has = (has.0, has.1, has.2, has.3, (has.4.0 ∙ joined, has.4.1 ∙ sym (or-false strict)))
     reach all (step ∷ steps) x y strict joined has =
         let atom = joined.0 in
         let goes = joined.1 in

@@ -6,8 +6,8 @@ use Rattle.std.proofs.lemmas.List.{append-nil, append_assoc, get_or_append_left,
 use Rattle.std.proofs.lemmas.List.Elements.{All-append, All-cons, All-more, All-nil, All-push, All-weaker}
 use Rattle.std.proofs.lemmas.List.Quantifiers.{Any-push}
 use Rattle.std.proofs.lemmas.List.Sums.{count_by-le-length, sum_by-set}
-use Rattle.walks.specs.States.{AreMarked, Grows, HasState, IsOf, IsPath, IsReached, LeadsTo, PlainStates, Visits, entry_at, next_entry, place, start_at}
 use Rattle.net_core.specs.declared.step.Step.{Step}
+use Rattle.walks.specs.States.{AreMarked, Grows, HasState, IsOf, IsPath, IsReached, LeadsTo, PlainStates, Visits, entry_at, next_entry, place, start_at}
 use Rattle.walks.specs.declared.edges.Edge.{Edge}
 use Rattle.walks.specs.declared.states.Arrival.{Arrival}
 use Rattle.walks.specs.declared.states.Entry.{Entry}
@@ -74,10 +74,6 @@ pub path_more : (entries : List Entry) (last k : ℕ) (arrival : Arrival) (steps
     → IsPath entries last k (reverse steps) → IsPath entries last arrival.parent (reverse (steps ++ arrival.step ∷ []))
 path_more entries last k arrival steps lt came path = rw reverse-append (k, lt, came, path)
 
--- nothing is visited
-pub grows_none : (IsWay : Edge → Type 0) (k : ℕ) (states : PlainStates) → Grows IsWay k states states
-grows_none IsWay k states = record { points = refl; more = []; entries = sym (append-nil states.entries); led = All-nil (LeadsTo IsWay states.entries k) }
-
 -- edges of a wider set
 pub grows_wider : (P Q : Edge → Type 0) (k : ℕ) (old new : PlainStates) → ((edge : Edge) → P edge → Q edge) → Grows P k old new → Grows Q k old new
 grows_wider P Q k old new wider grown = record {
@@ -107,6 +103,7 @@ grows_then IsWay k old mid new lt first second =
 pub state_kept : (IsWay : Edge → Type 0) (k p : ℕ) (strict : Bool) (old new : PlainStates) → Grows IsWay k old new → HasState old.entries p strict → HasState new.entries p strict
 state_kept IsWay k p strict old new grown has = subst (λ (es : List Entry). HasState es p strict) (sym grown.entries) (any_more (IsOf p strict) old.entries grown.more has)
 
+-- and so does one that an edge leads to
 pub reached_kept : (IsWay : Edge → Type 0) (k j : ℕ) (edge : Edge) (old new : PlainStates) → j < length old.entries → Grows IsWay k old new → IsReached old.entries j edge → IsReached new.entries j edge
 reached_kept IsWay k j edge old new lt grown has =
     subst (λ (e : Entry). HasState new.entries edge.atom.to (e.strict || edge.atom.strict)) (sym (grown_entry IsWay k j old new lt grown)) (state_kept IsWay k edge.atom.to ((entry_at old.entries j).strict || edge.atom.strict) old new grown has)

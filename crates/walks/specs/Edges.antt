@@ -1,6 +1,7 @@
 -- Steps with the orders that they go by.
 use Rattle.std.specs.Prelude.{◌≡◌, ◌↔◌, ◌⊎◌, ℕ, ⊤, Bool, List, Some}
 use Rattle.std.specs.List.{Contains}
+use Rattle.std.specs.List.Sorted.{IsNonDecreasingBy}
 use Rattle.net_core.specs.Nets.{PlainNet}
 use Rattle.net_core.specs.Steps.{GoesBy, atom_of}
 use Rattle.net_core.specs.Walks.{Kept}
@@ -30,6 +31,10 @@ Adds net Listed old new = (edge : Edge) → Contains new edge ↔ (Contains old 
 -- the list has all steps but those of the calendar, over the links that are kept
 abbrev pub AreEdges : PlainNet → List Bool → List Edge → Type 0
 AreEdges net keep edges = (edge : Edge) → Contains edges edge ↔ ((IsDated edge.step → ⊥) × GoesBy net (Kept keep) edge.step edge.atom)
+
+-- the edges that leave the lowest point come first
+abbrev pub AreSorted : List Edge → Type 0
+AreSorted edges = IsNonDecreasingBy (λ (edge : Edge). edge.atom.from) edges
 
 -- the edges that leave a point, of all of a list
 abbrev pub AreFrom : ℕ → List Edge → List Edge → Type 0

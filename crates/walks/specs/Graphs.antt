@@ -1,20 +1,19 @@
 -- The steps that a walk may take.
 use Rattle.std.specs.Prelude.{◌≡◌, ◌⊎◌, ℕ, ◌<◌, int_lt, List, Some}
 use Rattle.std.specs.List.{All, Any, Contains}
-use Rattle.std.specs.List.Sorted.{IsNonDecreasingBy}
 use Rattle.net_core.specs.Nets.{PlainNet, lower, points}
 use Rattle.net_core.specs.Steps.{atom_of}
 use Rattle.net_core.specs.declared.step.Step.TheVariants.{Calendar}
 use Rattle.walks.specs.Dates.{AreAscending, AreDates}
-use Rattle.walks.specs.Edges.{IsDated}
+use Rattle.walks.specs.Edges.{AreSorted, IsDated}
 use Rattle.walks.specs.declared.dates.Date.{Date}
 use Rattle.walks.specs.declared.edges.Edge.{Edge}
 use Rattle.walks.specs.declared.graph.Graph.{Graph}
 
--- each listed step goes by its order, those that leave the lowest point come first, and so do the dates with the least number, of which there is one for each point with a lower number
+-- Each listed step goes by its order, and those that leave the lowest point come first. There is a date for each point with a lower number, and the least number comes first.
 pub record IsGraph (net : PlainNet) (graph : Graph) : Type 0 where
   pub right : All (λ (edge : Edge). atom_of net edge.step ≡ Some edge.atom) graph.edges.items
-  pub sorted : IsNonDecreasingBy (λ (edge : Edge). edge.atom.from) graph.edges.items
+  pub sorted : AreSorted graph.edges.items
   pub dates : AreDates (lower net) (points net) graph.lowers.items
   pub ascending : AreAscending graph.lowers.items
 

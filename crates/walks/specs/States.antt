@@ -1,9 +1,8 @@
 -- The states that a search visits: points, with whether a step on the way was strict.
-use Rattle.std.specs.Prelude.{◌≡◌, ◌⊎◌, ℕ, ◌+◌, ◌*◌, ◌/◌, ◌%◌, ◌<◌, ◌==◌, ⊤, Bool, true, false, not, ◌&&◌, ◌||◌, List, [], ◌∷◌, ◌++◌, length, count_by, Option, Some, None, slice_index_or, if◌then◌else◌}
+use Rattle.std.specs.Prelude.{◌≡◌, ◌⊎◌, ℕ, ◌+◌, ◌*◌, ◌/◌, ◌%◌, ◌<◌, ◌==◌, Bool, true, false, not, ◌&&◌, ◌||◌, List, [], ◌∷◌, ◌++◌, length, count_by, Some, None, IfSome, slice_index_or, if◌then◌else◌}
 use Rattle.std.specs.List.{All, Any}
 use Rattle.net_core.specs.declared.step.Step.{Step}
 use Rattle.walks.specs.declared.edges.Edge.{Edge}
-use Rattle.walks.specs.declared.states.Arrival.{Arrival}
 use Rattle.walks.specs.declared.states.Entry.{Entry}
 
 -- the entries of a search, and of how many points it is
@@ -74,19 +73,19 @@ IsExpanded IsWay entries k = (edge : Edge) → IsWay edge → edge.atom.from ≡
 abbrev pub is_end : ℕ → Bool → Entry → Bool
 is_end to strict entry = (entry.point == to) && (entry.strict || not strict)
 
--- some entry is so
+-- some entry is at the point, after a strict step where that is asked for
 abbrev pub HasEnd : ℕ → Bool → List Entry → Type 0
 HasEnd to strict entries = Any (λ (entry : Entry). is_end to strict entry ≡ true) entries
 
--- the entry was come to from an earlier one than k, if from any
-abbrev pub IsAfter : ℕ → Option Arrival → Type 0
-IsAfter k None = ⊤
-IsAfter k (Some arrival) = arrival.parent < k
-
+-- the search came to each entry from an earlier one, if from any
 abbrev pub AreEarlier : List Entry → Type 0
-AreEarlier entries = (k : ℕ) → k < length entries → IsAfter k (entry_at entries k).arrival
+AreEarlier entries = (k : ℕ) → k < length entries → IfSome (entry_at entries k).arrival (λ arrival. arrival.parent < k)
 
 -- these are the steps by which the search came from entry k to entry last
 abbrev pub IsPath : List Entry → ℕ → ℕ → List Step → Type 0
 IsPath entries last k [] = k ≡ last
 IsPath entries last k (step ∷ steps) = (next : ℕ) × (next < length entries) × ((entry_at entries next).arrival ≡ Some (record { parent = k; step = step })) × IsPath entries last next steps
+
+-- these are the steps by which the search came to entry last from where it started
+abbrev pub IsTrace : List Entry → ℕ → List Step → Type 0
+IsTrace entries last steps = (first : ℕ) × (first < length entries) × ((entry_at entries first).arrival ≡ None) × IsPath entries last first steps

@@ -1,9 +1,7 @@
 //! The steps that leave each point.
 ghost use Rattle.net_core.specs.Walks.{Kept};
-ghost use Rattle.std.specs.List.Sorted.{IsNonDecreasingBy};
 ghost use Rattle.std.specs.Prelude.{IfOk, OnOk, length, ◌<◌, ◌≡◌};
-ghost use Rattle.walks.specs.Edges.{Adds, AreEdges, AreFrom, IsOver, IsSpan};
-ghost use Rattle.walks.specs.declared.edges.Edge.{Edge as EdgeOf};
+ghost use Rattle.walks.specs.Edges.{Adds, AreEdges, AreFrom, AreSorted, IsOver, IsSpan};
 
 use net_core::{Atom, Memory, Net, Step, step_atom};
 use std::alloc::Global;
@@ -15,12 +13,12 @@ pub struct Edge {
     pub atom: Atom,
 }
 
-/// The steps over spans and the links that are kept, those that leave the lowest point first. Those of the calendar are
-/// not among them.
+/// The steps over spans and the links that are kept, those that leave the lowest point first. The steps of the calendar
+/// are not among them.
 pub fn edges_of(alloc: Global, net: &Net, keep: &[bool]) -> Result<Vec<Edge>, Memory>
     requires { length keep.now ≡ length net.now.links }
     ensures edges { IfOk result (λ edges. AreEdges net.now keep.now edges.items) }
-    ensures sorted { IfOk result (λ edges. IsNonDecreasingBy (λ (edge : EdgeOf). edge.atom.from) edges.items) }
+    ensures sorted { IfOk result (λ edges. AreSorted edges.items) }
 {
     let mut edges = Vec::new(alloc);
     push_spans(&mut edges, net)?;
@@ -78,7 +76,7 @@ fn push_step(edges: &mut Vec<Edge>, net: &Net, step: Step) -> Result<(), Memory>
 
 /// The edges that leave a point.
 pub fn edges_from(edges: &[Edge], point: u32) -> &[Edge]
-    requires { IsNonDecreasingBy (λ (edge : EdgeOf). edge.atom.from) edges.now }
+    requires { AreSorted edges.now }
     ensures { AreFrom point edges.now result.now }
 {
     let first = edges.partition_point(|edge| edge.atom.from < point);

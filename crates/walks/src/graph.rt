@@ -14,8 +14,8 @@ use crate::states::States;
 use net_core::{Atom, Memory, Net, Step};
 use std::alloc::Global;
 
-/// The steps of a net that a walk may take: those over spans and the links that are kept, by the points that they leave,
-/// and those of the calendar, by the numbers of the points that they lead to.
+/// The steps of a net that a walk may take. Those over spans and links are listed, by the points that they leave. Those of
+/// the calendar are not, since there may be one for any two points: there is a date for each point that they lead to.
 #[derive(Drop)]
 pub struct Graph {
     pub edges: Vec<Edge>,
@@ -106,7 +106,8 @@ fn follow_dates(
     requires upper { upper.point ≡ (entry_at states.old.entries head).point }
     requires lowers { AreBelow states.old.points lowers.now }
     ensures grown { OnOk result (Grows (IsDateEdge upper lowers.now) head states.old states.new) }
-    ensures reached { OnOk result (All (λ lower. IsReached states.new.entries head (spec.date_edge upper lower)) lowers.now) }
+    ensures reached { OnOk result (All (λ lower. IsReached states.new.entries head (spec.date_edge upper lower))
+        lowers.now) }
 {
     for lower in lowers {
         states.follow(head, date_edge(upper, *lower))?;

@@ -1,8 +1,8 @@
 //! The states that a search visits: points, with whether a step on the way was strict.
 ghost use Rattle.std.specs.List.{position};
-ghost use Rattle.std.specs.Prelude.{IfOk, IsTrue, OnOk, [], length, ℕ, ◌*◌, ◌<◌, ◌≡◌, ◌≤◌};
+ghost use Rattle.std.specs.Prelude.{IfOk, IsTrue, OnOk, [], length, ◌*◌, ◌<◌, ◌≡◌, ◌≤◌};
 ghost use Rattle.walks.specs.States as spec;
-ghost use Rattle.walks.specs.States.{AreEarlier, Grows, HasEnd, HasState, IsPath, IsReached, Visits, entry_at, is_end};
+ghost use Rattle.walks.specs.States.{AreEarlier, Grows, HasEnd, HasState, IsReached, IsTrace, Visits, entry_at, is_end};
 
 use crate::edges::Edge;
 use net_core::{Memory, Step, Walk};
@@ -127,12 +127,11 @@ impl States {
             .position(|entry| entry.point == to && (entry.strict || !strict))
     }
 
-    /// The steps by which the search came to the entry of this number.
+    /// The steps by which the search came to the entry of this number, from where it started.
     pub fn trace(&self, alloc: Global, last: usize) -> Result<Walk, Memory>
         requires last { last < length self.now.entries }
         requires earlier { AreEarlier self.now.entries }
-        ensures path { IfOk result (λ steps. (first : ℕ) × (first < length self.now.entries)
-            × ((entry_at self.now.entries first).arrival ≡ None) × IsPath self.now.entries last first steps) }
+        ensures trace { IfOk result (IsTrace self.now.entries last) }
         ensures short { IfOk result (λ steps. length steps ≤ last) }
         ensures few { IfOk result (λ steps. length steps < 2 * self.now.points) }
     {

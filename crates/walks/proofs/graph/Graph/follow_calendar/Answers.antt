@@ -14,6 +14,7 @@ use Rattle.walks.proofs.graph.Graph.follow_calendar.Goals.{After-dates_from}
 abbrev first : After-dates_from → Date
 first c = record { number = to_z w64 (of_z w64 c.in-Some.number); point = c.entry-point.result.point }
 
+-- the net has that number
 is_upper : (c : After-dates_from) → upper c.args.net.now (first c).point ≡ Some (first c).number
 is_upper c =
     let fits : FitsSigned w64 c.in-Some.number = search rules in
