@@ -14,8 +14,8 @@ use crate::states::States;
 use net_core::{Atom, Memory, Net, Step};
 use std::alloc::Global;
 
-/// The steps of a net that a walk may take. Those over spans and links are listed, by the points that they leave. Those of
-/// the calendar are not, since there may be one for any two points: there is a date for each point that they lead to.
+/// The steps of a net that a walk may take. Those over spans and links are listed, by the points that they leave. Those
+/// of the calendar are not, since any two points may have one: there is a date for each point that they lead to.
 #[derive(Drop)]
 pub struct Graph {
     pub edges: Vec<Edge>,

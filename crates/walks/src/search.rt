@@ -14,8 +14,8 @@ use std::alloc::Global;
 /// that are kept. It has at most twice as many steps as there are points. From a point to itself, where no strict step
 /// is asked for, it is empty. None comes exactly where there is no such walk.
 ///
-/// It takes time near linear in the number of steps that there are: the spans, the orders of the links that are kept, and
-/// the pairs of points that the calendar orders.
+/// It takes time near linear in the number of steps that there are: the spans, the orders of the links that are kept,
+/// and the pairs of points that the calendar orders.
 ///
 /// # Errors
 ///
