@@ -14,6 +14,7 @@ pub record PlainStates : Type 0 where
 abbrev pub start_at : ℕ → Entry
 start_at p = record { point = p; strict = false; arrival = None }
 
+-- entry k, counted from 0
 abbrev pub entry_at : List Entry → ℕ → Entry
 entry_at entries k = slice_index_or entries k (start_at 0)
 

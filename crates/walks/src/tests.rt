@@ -1,6 +1,7 @@
 //! Small nets, with the shortest walks by hand. Interval `a` has the points 0 and 1, `b` has 2 and 3, `c` has 4 and 5.
 use crate::{Date, lowers_of, uppers_of, walk};
 use net_core::{Bounds, List, Net, NetLink, Rel, Step, step_atom};
+use std::alloc::{AllocError, AllocGlobal, Global};
 use std::process::Abort;
 use std::test::Fail;
 
@@ -135,11 +136,10 @@ fn a_round_with_a_strict_step_leads_to_its_start(rt: HostRuntime) -> Result<(), 
     Ok(())
 }
 
-#[test]
-fn a_strict_step_counts_wherever_it_is(rt: HostRuntime) -> Result<(), Fail> {
-    // `a` during `b`, `c` included in `b`, and `a` during `c`
-    let bounds = vec![in rt.alloc(); Bounds::Free, Bounds::Free, Bounds::Free]?;
-    let links = vec![in rt.alloc();
+/// `a` during `b`, `c` included in `b`, and `a` during `c`.
+fn nested(alloc: Global) -> Result<Net, AllocError> {
+    let bounds = vec![in alloc; Bounds::Free, Bounds::Free, Bounds::Free]?;
+    let links = vec![in alloc;
         NetLink {
             a: 0,
             rel: Rel::During,
@@ -156,7 +156,12 @@ fn a_strict_step_counts_wherever_it_is(rt: HostRuntime) -> Result<(), Fail> {
             b: 2
         },
     ]?;
-    let net = Net::new(List::from_vec(bounds), List::from_vec(links));
+    Ok(Net::new(List::from_vec(bounds), List::from_vec(links)))
+}
+
+#[test]
+fn a_strict_step_counts_wherever_it_is(rt: HostRuntime) -> Result<(), Fail> {
+    let net = nested(rt.alloc())?;
     walks_are(
         &rt,
         &net,
@@ -168,7 +173,12 @@ fn a_strict_step_counts_wherever_it_is(rt: HostRuntime) -> Result<(), Fail> {
             (2, 1, true, Some(&[link(0, 0), span(0)])),
         ],
     );
-    // the shortest walk is weak, and a longer one is strict, by its first step or its last
+    Ok(())
+}
+
+#[test]
+fn a_longer_walk_is_strict_where_the_shortest_is_not(rt: HostRuntime) -> Result<(), Fail> {
+    let net = nested(rt.alloc())?;
     walks_are(
         &rt,
         &net,
