@@ -39,7 +39,7 @@ number_within net p number u none e = elim (cases_lt (p / 2) (length net.bounds)
 ]
 
 -- the numbers of two points that the calendar orders
-ordered : (u l : Option ℤ) (p q : ℕ) (a : Atom) → calendar_order u l p q ≡ Some a → (x : ℤ) × (y : ℤ) × (u ≡ Some x) × (l ≡ Some y) × (int_le x y ≡ true) × (record { from = p; to = q; strict = int_lt x y } ≡ a)
+pub ordered : (u l : Option ℤ) (p q : ℕ) (a : Atom) → calendar_order u l p q ≡ Some a → (x : ℤ) × (y : ℤ) × (u ≡ Some x) × (l ≡ Some y) × (int_le x y ≡ true) × (record { from = p; to = q; strict = int_lt x y } ≡ a)
 ordered (Some x) (Some y) p q a e = let both = tested (int_le x y) (record { from = p; to = q; strict = int_lt x y }) a e in (x, y, refl, refl, both.0, both.1)
 ordered (Some x) None p q a e = absurd cc
 ordered None l p q a e = absurd cc

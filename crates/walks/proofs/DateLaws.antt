@@ -1,0 +1,70 @@
+-- The points that have a number, one after another.
+use Rattle.std.proofs.Common.{◌≡◌, ◌↔◌, ℕ, ◌+◌, ℤ, ◌≤ℤ◌, int_cmp, int_lt, is_lt, pos, drop, get_or, false, true, List, Option, Some, None, [], ◌∷◌, ◌++◌, subst, arith, below_more}
+use Rattle.std.specs.List.{All, Contains}
+use Rattle.std.specs.List.Sorted.{IsPartitionPoint, IsPartitionedBy, IsPermutation}
+use Rattle.std.proofs.lemmas.List.Elements.{All-push, All-weaker, Contains-append_left, Contains-push}
+use Rattle.std.proofs.lemmas.List.Sorted.{All-permutation, Contains-permutation, ranks_by, sorted_far}
+use Rattle.std.proofs.lemmas.Cmp.{int_cmp_total}
+use Rattle.std.proofs.lemmas.Int.{ints}
+use Rattle.walks.proofs.Parts.{dropped}
+use Rattle.walks.specs.Dates.{AreAscending, AreDates, AreFrom, IsDate}
+use Rattle.walks.specs.declared.dates.Date.{Date}
+
+-- what is read past the end of a list of dates
+abbrev pub no_date : Date
+no_date = record { number = pos 0; point = 0 }
+
+-- a sort leaves the dates
+pub dates_sorted : (number : ℕ → Option ℤ) (n : ℕ) (dates sorted : List Date) → IsPermutation dates sorted → AreDates number n dates → AreDates number n sorted
+dates_sorted number n dates sorted moved h = record {
+  right = All-permutation (IsDate number n) dates sorted moved h.right;
+  whole = λ p x lp is. Contains-permutation dates sorted (record { number = x; point = p }) moved (h.whole p x lp is);
+}
+
+-- what is true of points below n is true of those below n + 1
+date_below : (number : ℕ → Option ℤ) (n : ℕ) (dates : List Date) → All (IsDate number n) dates → All (IsDate number (n + 1)) dates
+date_below number n dates all = All-weaker (IsDate number n) (IsDate number (n + 1)) (λ date is. (let lt = is.0 in omega arith, is.1)) dates all
+
+-- one point more that has no number
+pub dates_without : (number : ℕ → Option ℤ) (n : ℕ) (dates : List Date) → number n ≡ None → AreDates number n dates → AreDates number (n + 1) dates
+dates_without number n dates nothing h = record {
+  right = date_below number n dates h.right;
+  whole = λ p x lp is. below_more (λ (q : ℕ). number q ≡ Some x → Contains dates (record { number = x; point = q })) n (λ q lq. h.whole q x lq) (λ e. let both : None ≡ Some x = cc in cc) p lp is;
+}
+
+-- one point more that has a number
+pub dates_with : (number : ℕ → Option ℤ) (n : ℕ) (dates : List Date) (x : ℤ) → number n ≡ Some x → AreDates number n dates
+    → AreDates number (n + 1) (dates ++ record { number = x; point = n } ∷ [])
+dates_with number n dates x is h =
+    let last : Date = record { number = x; point = n } in
+    record {
+      right = All-push (IsDate number (n + 1)) dates last (date_below number n dates h.right) (omega arith, is);
+      whole = λ p y lp e. below_more (λ (q : ℕ). number q ≡ Some y → Contains (dates ++ last ∷ []) (record { number = y; point = q })) n
+          (λ q lq k. Contains-append_left dates (last ∷ []) (record { number = y; point = q }) (h.whole q y lq k))
+          (λ k. let same : x ≡ y = cc in subst (λ (z : ℤ). Contains (dates ++ last ∷ []) (record { number = z; point = n })) same (Contains-push dates last)) p lp e;
+    }
+
+-- what a test of two numbers says
+not_less : (x y : ℤ) → is_lt (int_cmp x y) ≡ false → y ≤ℤ x
+not_less x y e = grind (arith, ints)
+
+less_first : (x y z : ℤ) → x ≤ℤ y → int_lt y z ≡ true → int_lt x z ≡ true
+less_first x y z le lt = grind (arith, ints)
+
+from_test : (x y : ℤ) → int_lt x y ≡ false ↔ (y ≤ℤ x)
+from_test x y = (λ e. grind (arith, ints), λ le. grind (arith, ints))
+
+-- in a list with the least number first, those below a number stand first
+pub below_first : (dates : List Date) (number : ℤ) → AreAscending dates → IsPartitionedBy (λ (date : Date). int_lt date.number number) dates
+below_first dates number sorted i j d le lt passes =
+    let order = sorted_far (λ (x y : Date). is_lt (int_cmp x.number y.number)) (ranks_by int_cmp_total (λ (date : Date). date.number)) dates sorted i j d le lt in
+    less_first (get_or dates i d).number (get_or dates j d).number number (not_less (get_or dates j d).number (get_or dates i d).number order) passes
+
+-- the dates from a number on come after those below it
+pub from_number : (dates : List Date) (number : ℤ) (first : ℕ)
+    → IsPartitionPoint (λ (date : Date). int_lt date.number number ≡ true) (λ date. int_lt date.number number ≡ false) dates first
+    → AreFrom number dates (drop first dates)
+from_number dates number first cut date =
+    let both = dropped (λ (d : Date). int_lt d.number number) dates first cut date in
+    let said = from_test date.number number in
+    (λ h. let is = both.0 h in (is.0, said.0 is.1), λ h. both.1 (h.0, said.1 h.1))

@@ -1,0 +1,5 @@
+pub mod Dates
+pub mod Edges
+pub mod States
+pub mod Graphs
+pub mod Search

@@ -1,0 +1,13 @@
+//! Walks through a net, from point to point.
+#![tactic(auto)]
+
+mod dates;
+mod edges;
+mod graph;
+mod search;
+mod states;
+#[cfg(test)]
+mod tests;
+
+pub use dates::{Date, lowers_of, uppers_of};
+pub use search::walk;
