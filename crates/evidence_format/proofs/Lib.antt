@@ -11,3 +11,4 @@ pub mod Loops
 pub mod Reading
 pub mod Writing
 pub mod PartLaws
+pub mod SmallRanks

@@ -1,5 +1,5 @@
 -- Ranks, two by two.
-use Rattle.std.proofs.Common.{◌≡◌, ℕ, ◌*◌, length, arith, List, [], ◌∷◌, ◌++◌, refl, ap}
+use Rattle.std.proofs.Common.{◌≡◌, ℕ, zero, suc, ◌*◌, ◌≤◌, length, arith, List, [], ◌∷◌, ◌++◌, refl, ap}
 use Rattle.net_core.specs.Ranks.{AreEven, pairs_of, ranks_of}
 
 pub even_push : (ranks : List ℕ) (s e : ℕ) → AreEven ranks → AreEven (ranks ++ s ∷ e ∷ [])
@@ -22,3 +22,16 @@ pub ranks_again : (ranks : List ℕ) → AreEven ranks → ranks_of (pairs_of ra
 ranks_again [] h = refl
 ranks_again (a ∷ []) h = absurd h
 ranks_again (a ∷ b ∷ ranks) h = ap (λ (more : List ℕ). a ∷ b ∷ more) (ranks_again ranks h)
+
+-- there are no more pairs than ranks
+pub few_pairs : (ranks : List ℕ) → length (pairs_of ranks) ≤ length ranks
+few_pairs [] = omega arith
+few_pairs (start ∷ []) = omega arith
+few_pairs (start ∷ finish ∷ ranks) = omega (arith, few_pairs ranks)
+
+-- ranks of points that are two for each interval are even
+pub even_length : (n : ℕ) (ranks : List ℕ) → length ranks ≡ 2 * n → AreEven ranks
+even_length n [] size = tt
+even_length n (start ∷ []) size = omega (arith, size)
+even_length zero (start ∷ finish ∷ ranks) size = absurd (omega (arith, size))
+even_length (suc n) (start ∷ finish ∷ ranks) size = even_length n ranks (omega (arith, size))

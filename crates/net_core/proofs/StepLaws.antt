@@ -22,17 +22,17 @@ use Rattle.net_core.specs.declared.step.Step.TheVariants.{Link, Span, Calendar}
 use Rattle.net_core.proofs.AtomLaws.{atoms_in_range, atoms_say_the_relation}
 
 -- what is true of all of a list is true of the one at k
-one_of_all : {X : Type 0} (P : X → Type 0) (xs : List X) (k : ℕ) (x : X) → AllByRecursion P xs → slice_get xs k ≡ Some x → P x
+pub one_of_all : {X : Type 0} (P : X → Type 0) (xs : List X) (k : ℕ) (x : X) → AllByRecursion P xs → slice_get xs k ≡ Some x → P x
 one_of_all P xs k x all e =
     subst P (get_or_from_slice_get xs k x x e) (All-get_or P xs k x (slice_get_within xs k x e) (All-from_recursion P xs all))
 
 -- the order of a step, where a test is passed
-tested : (b : Bool) (a c : Atom) → cond b (Some a) None ≡ Some c → (b ≡ true) × (a ≡ c)
+pub tested : (b : Bool) (a c : Atom) → cond b (Some a) None ≡ Some c → (b ≡ true) × (a ≡ c)
 tested true a c e = (refl, cc)
 tested false a c e = absurd cc
 
 -- a point of the calendar is a point of the net
-number_within : (net : PlainNet) (p : ℕ) (number : Bounds → Option ℤ) (u : ℤ) → number Free ≡ None → number (bounds_at net (p / 2)) ≡ Some u → p < points net
+pub number_within : (net : PlainNet) (p : ℕ) (number : Bounds → Option ℤ) (u : ℤ) → number Free ≡ None → number (bounds_at net (p / 2)) ≡ Some u → p < points net
 number_within net p number u none e = elim (cases_lt (p / 2) (length net.bounds)) [
   | inl lt ↦ omega arith
   | inr ge ↦ let free = get_or_past net.bounds (p / 2) Free (omega arith) in let is : None ≡ Some u = sym none ∙ ap number (sym free) ∙ e in absurd cc
