@@ -14,25 +14,6 @@ use Rattle.tml_tool.specs.Questions.{HasNet, TellsClash, TellsTimeline}
 use Rattle.tml_tool.specs.Solving.{IsLeastText}
 use Rattle.tml_tool.proofs.OneNet.{one_net_of}
 
--- small ranks are pairs of numbers that a text can have
-pairs_fit : (m : ℕ) (ranks : List ℕ) → m ≤ 2048 → ((p : ℕ) → p < length ranks → get_or ranks p 0 < m) → AllByRecursion IsPair (pairs_of ranks)
-pairs_fit m [] few small = tt
-pairs_fit m (start ∷ []) few small = tt
-pairs_fit m (start ∷ finish ∷ ranks) few small =
-    ((omega (arith, small 0 (omega arith)), omega (arith, small 1 (omega arith))), pairs_fit m ranks few (λ p less. small (suc (suc p)) (omega arith)))
-
--- there are no more pairs than ranks
-few_pairs : (ranks : List ℕ) → length (pairs_of ranks) ≤ length ranks
-few_pairs [] = omega arith
-few_pairs (start ∷ []) = omega arith
-few_pairs (start ∷ finish ∷ ranks) = omega (arith, few_pairs ranks)
-
--- small ranks are well-formed evidence
-pub well_formed : (m : ℕ) (ranks : List ℕ) → m ≤ 2048 → length ranks ≡ m → ((p : ℕ) → p < m → get_or ranks p 0 < m) → IsWellFormed (timeline (pairs_of ranks))
-well_formed m ranks few size small =
-    let each = pairs_fit m ranks few (λ p less. small p (omega (arith, less, size))) in
-    (All-from_recursion IsPair (pairs_of ranks) each, omega (arith, few_pairs ranks, size))
-
 -- the least timeline that keeps the closure of a net is the least one that fits the net
 least_fits : (net : PlainNet) (table : Table) (t : Timeline) → IsClosureOf net table → IsLeast table.points (Keeps table) t → IsLeast (points net) (Fits net) t
 least_fits net table t c l = record {
