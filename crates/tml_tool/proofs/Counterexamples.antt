@@ -1,12 +1,12 @@
 -- What the closure of a net says of orders, and counterexamples.
-use Rattle.std.proofs.Common.{◌≡◌, ◌↔◌, ℕ, zero, suc, ◌*◌, ◌<◌, ◌≤◌, Bool, true, false, List, [], ◌∷◌, length, Some, None, refl, sym, ap, subst, ◌∙◌, arith}
+use Rattle.std.proofs.Common.{◌≡◌, ◌↔◌, ℕ, ◌<◌, ◌≤◌, Bool, true, false, List, length, Some, None, sym, subst, ◌∙◌, arith}
 use Rattle.std.proofs.lemmas.List.Elements.{All-from_recursion, All-get_or}
 use Rattle.net_core.specs.Atoms.{IsInRange, Satisfies, atoms_of}
 use Rattle.net_core.specs.Firsts.{IsFirst}
 use Rattle.net_core.specs.Fits.{Fits}
 use Rattle.net_core.specs.Nets.{PlainNet, points}
-use Rattle.net_core.specs.Ranks.{AreEven, pairs_of, ranks_of, timeline_of}
-use Rattle.net_core.specs.Relations.{Relates, Timeline}
+use Rattle.net_core.specs.Ranks.{pairs_of, ranks_of, timeline_of}
+use Rattle.net_core.specs.Relations.{Timeline}
 use Rattle.net_core.specs.declared.atom.Atom.{Atom}
 use Rattle.net_core.specs.declared.rels.Rel.{Rel}
 use Rattle.net_core.proofs.AtomLaws.{atoms_say_the_relation}

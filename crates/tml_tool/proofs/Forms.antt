@@ -1,5 +1,5 @@
 -- Numbers of words of which there is no form.
-use Rattle.std.proofs.Common.{◌≡◌, ℕ, ◌<◌, ◌≤◌, ◌⊎◌, inl, inr, List, [], ◌∷◌, length, None, refl, arith}
+use Rattle.std.proofs.Common.{◌≡◌, ℕ, ◌≤◌, ◌⊎◌, inl, inr, List, [], ◌∷◌, length, None, refl, arith}
 use Rattle.tml_tool.specs.Words.{form_of}
 
 -- one word, four, or more than five

@@ -1,11 +1,11 @@
 -- Words that name intervals, and what is told of them.
-use Rattle.std.proofs.Common.{◌≡◌, ℕ, ◌<◌, List, [], ◌∷◌, length, Option, Some, None, IsNone, Result, Ok, Err, IfOk, refl, sym, ap, subst, ◌∙◌, arith, rules}
+use Rattle.std.proofs.Common.{◌≡◌, ℕ, ◌<◌, List, [], ◌∷◌, length, Option, Some, None, IsNone, Result, Ok, Err, IfOk, refl, sym, subst, arith, rules}
 use Rattle.std.specs.List.{AllZip}
 use Rattle.std.proofs.lemmas.Option.{slice_get_within}
 use Rattle.net_core.specs.Nets.{PlainNet, intervals}
 use Rattle.net_core.specs.declared.rels.Rel.{Rel}
 use Rattle.net_build.specs.Built.{IntervalBounds, IsNetOf}
-use Rattle.evidence_check.specs.Supported.{AreIntervals, IsSupported}
+use Rattle.evidence_check.specs.Supported.{IsSupported}
 use Rattle.evidence_format.specs.Evidence.{PlainEvidence, timeline, entails, counter}
 use Rattle.tml_refs.specs.Documents.{IsNamed, PlainDocument}
 use Rattle.tml_tool.specs.Asking.{Asks, OfNet, OfRelation}

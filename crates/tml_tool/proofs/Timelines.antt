@@ -1,13 +1,11 @@
 -- The least timeline of a document, and its text.
-use Rattle.std.proofs.Common.{◌≡◌, ◌↔◌, ℕ, zero, suc, ◌+◌, ◌*◌, ◌^◌, ◌<◌, ◌≤◌, List, [], ◌∷◌, length, get_or, All, refl, sym, ap, subst, ◌∙◌, arith}
-use Rattle.std.specs.List.{AllByRecursion}
-use Rattle.std.proofs.lemmas.List.Elements.{All-from_recursion}
+use Rattle.std.proofs.Common.{◌≡◌, ℕ, suc, ◌<◌, ◌≤◌, List, [], ◌∷◌, length, get_or, refl, sym, ap, subst, ◌∙◌, arith}
 use Rattle.net_core.specs.Fits.{Fits}
 use Rattle.net_core.specs.Nets.{PlainNet, points}
 use Rattle.net_core.specs.Ranks.{pairs_of, timeline_of}
 use Rattle.net_core.specs.Relations.{Timeline}
 use Rattle.clash.specs.Closures.{IsClosureOf}
-use Rattle.evidence_format.specs.Evidence.{IsPair, IsText, IsWellFormed, timeline}
+use Rattle.evidence_format.specs.Evidence.{IsText, timeline}
 use Rattle.order_closure.specs.Tables.{Keeps, Table}
 use Rattle.order_closure.specs.Timelines.{IsLeast}
 use Rattle.tml_tool.specs.Questions.{HasNet, TellsClash, TellsTimeline}

@@ -1,20 +1,18 @@
 -- Walks prove the orders that hold in every timeline that fits.
-use Rattle.std.proofs.Common.{◌≡◌, ◌==◌, ℕ, ◌+◌, ◌*◌, ◌/◌, ◌%◌, ◌^◌, ◌<◌, ◌≤◌, ℤ, Bool, true, false, cond, nat_lt, List, [], ◌∷◌, ◌++◌, length, get_or, replicate, below_more, Option, Some, None, All, refl, sym, ap, subst, ◌∙◌, arith, inl, inr}
-use Rattle.std.specs.List.{AllByRecursion, slice_get}
+use Rattle.std.proofs.Common.{◌≡◌, ◌==◌, ℕ, ◌+◌, ◌*◌, ◌%◌, ◌<◌, ◌≤◌, Bool, true, false, nat_lt, List, [], ◌∷◌, ◌++◌, length, get_or, replicate, below_more, Some, All, refl, sym, ap, subst, ◌∙◌, arith}
+use Rattle.std.specs.List.{slice_get}
 use Rattle.std.proofs.lemmas.Bool.{ltb-true}
-use Rattle.std.proofs.lemmas.List.{get_or-replicate, get_or_append_left, get_or_past}
+use Rattle.std.proofs.lemmas.List.{get_or-replicate, get_or_append_left}
 use Rattle.std.proofs.lemmas.List.Elements.{All-cons, All-from_get_or, All-get_or, All-nil}
 use Rattle.std.proofs.lemmas.Option.{option_and_then_some, slice_get_within}
 use Rattle.net_core.specs.Atoms.{IsInRange, atom_count, atoms_of, before, points_of}
 use Rattle.net_core.specs.Bounds.{lower_of, upper_of}
 use Rattle.net_core.specs.Fits.{EveryLink, Fits, FitsWith}
-use Rattle.net_core.specs.Nets.{IsNet, PlainNet, bounds_at, intervals, lower, points, upper}
+use Rattle.net_core.specs.Nets.{IsNet, PlainNet, intervals, lower, points, upper}
 use Rattle.net_core.specs.Relations.{Timeline}
-use Rattle.net_core.specs.Steps.{atom_of, calendar_order}
+use Rattle.net_core.specs.Steps.{atom_of}
 use Rattle.net_core.specs.Walks.{HasWalk, IsJoined, IsWalk, Kept}
 use Rattle.net_core.specs.declared.atom.Atom.{Atom}
-use Rattle.net_core.specs.declared.bounds.Bounds.{Bounds}
-use Rattle.net_core.specs.declared.bounds.Bounds.TheVariants.{Free}
 use Rattle.net_core.specs.declared.net.NetLink.{NetLink}
 use Rattle.net_core.specs.declared.rels.Rel.{Rel}
 use Rattle.net_core.specs.declared.rels.Rel.TheVariants as rel

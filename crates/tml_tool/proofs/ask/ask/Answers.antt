@@ -1,4 +1,4 @@
-use Rattle.std.proofs.Common.{IfOk, codes, inl, inr, refl}
+use Rattle.std.proofs.Common.{codes, inl, inr, refl}
 use Rattle.std.proofs.lemmas.Result.{IfOk-weaker}
 use Rattle.tml_tool.specs.Asking.{Asks, OfRelation}
 use Rattle.tml_tool.specs.View.{finding_status}

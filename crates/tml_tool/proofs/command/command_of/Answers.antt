@@ -1,4 +1,4 @@
-use Rattle.std.proofs.Common.{◌≡◌, ◌≤◌, length, inl, inr, subst, sym, arith, string_bytes}
+use Rattle.std.proofs.Common.{length, inl, inr, subst, sym, arith, string_bytes}
 use Rattle.std.proofs.lemmas.List.{length-map}
 use Rattle.std.proofs.lemmas.Bool.Decides.{nat_tests}
 use Rattle.tml_tool.specs.Words.{texts_of}

@@ -1,13 +1,12 @@
-use Rattle.std.proofs.Common.{◌*◌, List, ℕ, Some, inl, inr, sym, ap, subst, ◌∙◌}
+use Rattle.std.proofs.Common.{List, Some, inl, inr, sym, ap, subst}
 use Rattle.std.proofs.lemmas.List.Elements.{All-from_recursion}
-use Rattle.net_core.specs.Atoms.{IsInRange, atoms_in, atoms_of}
+use Rattle.net_core.specs.Atoms.{IsInRange, atoms_of}
 use Rattle.net_core.specs.Nets.{intervals, points}
 use Rattle.net_core.specs.declared.atom.Atom.{Atom}
 use Rattle.net_core.proofs.AtomLaws.{atoms_in_range}
 use Rattle.order_closure.specs.Tables.{AreInRange}
-use Rattle.tml_tool.specs.Asking.{IsFirstOpen, OfNet}
+use Rattle.tml_tool.specs.Asking.{OfNet}
 use Rattle.tml_tool.specs.Solving.{IsFirstNotGiven}
-use Rattle.tml_tool.specs.View.{finding_status}
 use Rattle.tml_tool.specs.declared.status.Status.TheVariants.{Done}
 use Rattle.tml_tool.proofs.Counterexamples.{first_open, tells_counterexample}
 use Rattle.tml_tool.proofs.deciding.decide.Goals as goal

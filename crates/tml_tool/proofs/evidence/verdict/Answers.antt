@@ -1,4 +1,4 @@
-use Rattle.std.proofs.Common.{Ok, IsOk, subst, sym, rules}
+use Rattle.std.proofs.Common.{IsOk, rules}
 use Rattle.evidence_format.specs.View.{plain}
 use Rattle.tml_tool.proofs.Naming.{names_intervals}
 use Rattle.tml_tool.proofs.evidence.verdict.Goals as goal
