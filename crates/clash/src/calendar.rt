@@ -1,15 +1,16 @@
 //! Adding the orders of the calendar.
-ghost use Rattle.clash.specs.Dates.{AllFollow, AreBelow, Follows, FollowsAll};
+ghost use Rattle.clash.specs.Dates.{AllFollow, Follows, FollowsAll};
 ghost use Rattle.clash.specs.Steps.{AddsOrClashes, KeepsDates};
 ghost use Rattle.net_core.specs.Nets.{points};
 ghost use Rattle.std.specs.Prelude.{◌<◌, ◌≡◌};
+ghost use Rattle.walks.specs.Dates.{AreBelow};
 
 use crate::closure::CloseFault;
-use crate::dates::{Date, lowers_of, uppers_of};
 use crate::insert::insert;
 use net_core::{Atom, Net};
 use order_closure::Closed;
 use std::alloc::Global;
+use walks::{Date, lowers_of, uppers_of};
 
 /// Adds the orders of all points that the calendar orders. The points with an upper number are taken from the greatest
 /// one down, and for each of them those with a lower number from the least one up: so nearly each order but one for
