@@ -1,10 +1,9 @@
 -- Each order that always holds has a walk: the steps of a net have a closed table whose cells all have walks, or some walk goes round with a strict step.
-use Rattle.std.proofs.Common.{◌≡◌, ◌↔◌, ℕ, ◌<◌, ◌≤◌, max, Bool, true, false, ◌||◌, List, [], ◌∷◌, ◌++◌, slice_index_or, Option, Some, None, refl, sym, ap, subst, ◌∙◌, arith, ◌⊎◌, inl, inr}
-use Rattle.std.specs.List.{AllByRecursion, list_any}
+use Rattle.std.proofs.Common.{◌≡◌, ℕ, ◌<◌, ◌≤◌, max, Bool, true, false, ◌||◌, List, [], ◌∷◌, ◌++◌, slice_index_or, Option, Some, None, refl, sym, ap, subst, ◌∙◌, arith, ◌⊎◌, inl, inr}
+use Rattle.std.specs.List.{AllByRecursion}
 use Rattle.std.proofs.lemmas.Bool.{cases_lt, cases_eq}
 use Rattle.std.proofs.lemmas.Bool.Decides.{nat_tests}
 use Rattle.std.proofs.lemmas.List.Folds.{list_any-append}
-use Rattle.net_core.specs.Atoms.{IsInOrder, Satisfies}
 use Rattle.net_core.specs.Fits.{FitsWith}
 use Rattle.net_core.specs.Nets.{IsNet, PlainNet, points}
 use Rattle.net_core.specs.Relations.{Timeline}
@@ -15,7 +14,7 @@ use Rattle.net_core.specs.declared.step.Step.{Step}
 use Rattle.net_core.specs.declared.step.Step.TheVariants.{Link, Span, Calendar}
 use Rattle.net_core.proofs.StepLaws.{fits_from_steps, step_in_range}
 use Rattle.net_core.proofs.WalkLaws.{joined_then, walk_kept}
-use Rattle.order_closure.specs.Cells.{Says, joined, order, strength, stronger}
+use Rattle.order_closure.specs.Cells.{joined, order, strength, stronger}
 use Rattle.order_closure.specs.Counting.{is_strict}
 use Rattle.order_closure.specs.Tables.{AreClosed, AreKept, Denies, new_cell, way}
 use Rattle.order_closure.specs.declared.cell.Cell.{Cell}

@@ -1,12 +1,14 @@
 use Rattle.std.proofs.Common.{◌≡◌, ◌<◌, ◌+◌, ℕ, Err, Ok, List, length, get_or, subst, sym, ◌∙◌, arith}
 use Rattle.std.proofs.lemmas.Result.{err_from_is_err_and}
+use Rattle.std.proofs.lemmas.List.Elements.{recursion_from_All}
 use Rattle.std.proofs.lemmas.Option.{slice_get-get_or}
-use Rattle.net_core.specs.Atoms.{Satisfies, atoms_in}
+use Rattle.net_core.specs.Atoms.{IsInRange, Satisfies, atoms_in}
 use Rattle.net_core.specs.Relations.{Timeline}
 use Rattle.net_core.specs.declared.atom.Atom.{Atom}
+use Rattle.net_core.proofs.StepLaws.{one_of_all}
 use Rattle.order_closure.specs.Tables.{SatisfiesAll, Table}
 use Rattle.clash.specs.Steps.{Adds}
-use Rattle.clash.proofs.LinkAtoms.{at_number, atom_in_range, no_atom}
+use Rattle.clash.proofs.LinkAtoms.{at_number, no_atom}
 use Rattle.clash.proofs.Steps.{Below, adds_more, all_below, answer_same, clashes_more}
 use Rattle.clash.proofs.links.add_atoms.Goals as goal
 use Rattle.clash.proofs.links.add_atoms.Goals.{in-Some+in_ok-insert, in_default}
@@ -16,7 +18,9 @@ Atoms atoms k t = Satisfies t (get_or atoms k no_atom)
 
 pub insert-requires : goal.insert-requires
 insert-requires c =
-    let both = atom_in_range c.args.table.now.points c.loop-number.number (atoms_in c.args.atoms) c.in-Some.atom c.requires c.in-Some.ensures in
+    let Fits = IsInRange c.args.table.now.points in
+    let atoms = atoms_in c.args.atoms in
+    let both = one_of_all Fits atoms c.loop-number.number c.in-Some.atom (recursion_from_All Fits atoms c.requires) (sym c.in-Some.ensures) in
     let size = c.loop-number.invariant.so_far.0 in
     record { from = omega (arith, both.0, size); to = omega (arith, both.1, size) }
 

@@ -1,19 +1,24 @@
-use Rattle.std.proofs.Common.{◌≡◌, ◌*◌, ℕ, Err, Ok, length, subst, arith}
+use Rattle.std.proofs.Common.{◌≡◌, ◌*◌, ℕ, Err, Ok, length, sym, subst, arith}
+use Rattle.std.proofs.lemmas.List.Elements.{All-from_recursion}
 use Rattle.std.proofs.lemmas.Result.{err_from_is_err_and}
-use Rattle.net_core.specs.Atoms.{atoms_in}
+use Rattle.net_core.specs.Atoms.{IsInRange, atoms_in, atoms_of}
 use Rattle.net_core.specs.Fits.{KeepsLink}
 use Rattle.net_core.specs.Nets.{intervals}
 use Rattle.net_core.specs.Relations.{Timeline}
+use Rattle.net_core.proofs.AtomLaws.{atoms_in_range}
 use Rattle.order_closure.specs.Tables.{AreInRange, SatisfiesAll}
 use Rattle.clash.specs.Steps.{Adds}
-use Rattle.clash.proofs.LinkAtoms.{atoms_in_range, link_said}
+use Rattle.clash.proofs.LinkAtoms.{link_said}
 use Rattle.clash.proofs.Steps.{Below, adds_more, answer_same, clashes_more}
 use Rattle.clash.proofs.links.add_links.Goals as goal
 
 pub add_atoms-requires : goal.add_atoms-requires
 add_atoms-requires c =
-    let same : 2 * intervals c.args.net.now ≡ c.loop-k.table.points = omega (arith, c.loop-k.invariant.so_far.0) in
-    subst (λ (n : ℕ). AreInRange n (atoms_in c.atoms_of.result)) same (atoms_in_range (intervals c.args.net.now) _ c.link-link.result c.link-link.ensures.a c.link-link.ensures.b c.atoms_of.ensures)
+    let link = c.link-link.result in
+    let count = intervals c.args.net.now in
+    let atoms = atoms_in_range count link.rel link.a link.b c.link-link.ensures.a c.link-link.ensures.b in
+    let same : 2 * count ≡ c.loop-k.table.points = omega (arith, c.loop-k.invariant.so_far.0) in
+    subst (λ (n : ℕ). AreInRange n (atoms_in c.atoms_of.result)) same (subst (AreInRange (2 * count)) (sym c.atoms_of.ensures) (All-from_recursion (IsInRange (2 * count)) (atoms_of link.rel link.a link.b) atoms))
 
 pub returns-in_err-add_atoms : goal.returns-in_err-add_atoms
 returns-in_err-add_atoms c =
