@@ -172,8 +172,12 @@ module _ (net : PlainNet) (test : ℕ → Bool) (is : IsNet net) where
       elim (denies_cases back a.strict) [
         | inl deny ↦
             let enough = denies_enough back a.strict deny in
-            inr (a.from, range.0, walk_through step a a.from a.from false (is_strict back) true goes ([], (refl, λ e. cc))
-            (has.walks a.to a.from (is_strict back) range.1 range.0 (own back enough.0)) (λ e. enough.1))
+            inr (
+              a.from,
+              range.0,
+              walk_through step a a.from a.from false (is_strict back) true goes ([], (refl, λ e. cc))
+                  (has.walks a.to a.from (is_strict back) range.1 range.0 (own back enough.0)) (λ e. enough.1),
+            )
         | inr fits ↦
             let new = λ (i j : ℕ). stronger (cell i j) (way cell a i j) in
             let still = raised_closed n cell a has.closed range.0 range.1 fits new (λ i j li lj. refl) in
@@ -184,7 +188,7 @@ module _ (net : PlainNet) (test : ℕ → Bool) (is : IsNet net) where
                 said = (
                   λ b other.
                       let here = always_stands n new still a.strict a.from a.to range.0 range.1
-                          (λ t kept. ((raised_kept n cell a has.closed range.0 range.1 fits new (λ i j li lj. refl) t).0 kept).1) in
+                      (λ t kept. ((raised_kept n cell a has.closed range.0 range.1 fits new (λ i j li lj. refl) t).0 kept).1) in
                       let same : a ≡ b = let e = goes.0 in let f = other.0 in cc in
                       subst (λ (x : Atom). strength (order x.strict) ≤ strength (new x.from x.to)) same here,
                   said_more cell new steps (λ i j. rw strength-stronger (omega arith)) has.said,

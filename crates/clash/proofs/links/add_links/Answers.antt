@@ -1,11 +1,9 @@
-use Rattle.std.proofs.Common.{◌≡◌, ◌*◌, ℕ, Err, Ok, length, sym, subst, arith}
-use Rattle.std.proofs.lemmas.List.Elements.{All-from_recursion}
+use Rattle.std.proofs.Common.{◌≡◌, ◌*◌, ℕ, Err, Ok, length, subst, arith}
 use Rattle.std.proofs.lemmas.Result.{err_from_is_err_and}
-use Rattle.net_core.specs.Atoms.{IsInRange, atoms_in, atoms_of}
+use Rattle.net_core.specs.Atoms.{atoms_in}
 use Rattle.net_core.specs.Fits.{KeepsLink}
 use Rattle.net_core.specs.Nets.{intervals}
 use Rattle.net_core.specs.Relations.{Timeline}
-use Rattle.net_core.proofs.AtomLaws.{atoms_in_range}
 use Rattle.order_closure.specs.Tables.{AreInRange, SatisfiesAll}
 use Rattle.clash.specs.Steps.{Adds}
 use Rattle.clash.proofs.LinkAtoms.{link_said}
@@ -14,11 +12,8 @@ use Rattle.clash.proofs.links.add_links.Goals as goal
 
 pub add_atoms-requires : goal.add_atoms-requires
 add_atoms-requires c =
-    let link = c.link-link.result in
-    let count = intervals c.args.net.now in
-    let atoms = atoms_in_range count link.rel link.a link.b c.link-link.ensures.a c.link-link.ensures.b in
-    let same : 2 * count ≡ c.loop-k.table.points = omega (arith, c.loop-k.invariant.so_far.0) in
-    subst (λ (n : ℕ). AreInRange n (atoms_in c.atoms_of.result)) same (subst (AreInRange (2 * count)) (sym c.atoms_of.ensures) (All-from_recursion (IsInRange (2 * count)) (atoms_of link.rel link.a link.b) atoms))
+    let same : 2 * intervals c.args.net.now ≡ c.loop-k.table.points = omega (arith, c.loop-k.invariant.so_far.0) in
+    subst (λ (n : ℕ). AreInRange n (atoms_in c.atoms_of_link.result)) same c.atoms_of_link.ensures.in_range
 
 pub returns-in_err-add_atoms : goal.returns-in_err-add_atoms
 returns-in_err-add_atoms c =
@@ -26,7 +21,8 @@ returns-in_err-add_atoms c =
     let p = err_from_is_err_and c.from_residual.result c.from_residual.ensures.1 in
     rw (p.1, p.2) (clashes_more Keeps c.loop-k.k (length c.args.net.now.links) c.args.table.now c.loop-k.table c.add_atoms.new.table c.add_atoms.new.table _
     (omega arith) c.loop-k.invariant.so_far
-    (answer_same (SatisfiesAll (atoms_in c.atoms_of.result)) (Keeps c.loop-k.k) (link_said c.args.net.now c.loop-k.k _ _ c.link-link.ensures.link c.atoms_of.ensures) c.loop-k.table c.add_atoms.new.table (Err _) c.in_err-add_atoms.ensures))
+    (answer_same (SatisfiesAll (atoms_in c.atoms_of_link.result)) (Keeps c.loop-k.k) (link_said c.args.net.now c.loop-k.k _ c.atoms_of_link.ensures.atoms)
+    c.loop-k.table c.add_atoms.new.table (Err _) c.in_err-add_atoms.ensures))
 
 pub loop-k-preserved : goal.loop-k-preserved
 loop-k-preserved c =
@@ -34,7 +30,8 @@ loop-k-preserved c =
     record {
       end = c.loop-k.invariant.end;
       so_far = adds_more Keeps c.loop-k.k c.args.table.now c.loop-k.table c.add_atoms.new.table c.loop-k.invariant.so_far
-          (answer_same (SatisfiesAll (atoms_in c.atoms_of.result)) (Keeps c.loop-k.k) (link_said c.args.net.now c.loop-k.k _ _ c.link-link.ensures.link c.atoms_of.ensures) c.loop-k.table c.add_atoms.new.table (Ok tt) c.in_ok-add_atoms.ensures);
+          (answer_same (SatisfiesAll (atoms_in c.atoms_of_link.result)) (Keeps c.loop-k.k) (link_said c.args.net.now c.loop-k.k _ c.atoms_of_link.ensures.atoms)
+          c.loop-k.table c.add_atoms.new.table (Ok tt) c.in_ok-add_atoms.ensures);
     }
 
 pub returns : goal.returns
