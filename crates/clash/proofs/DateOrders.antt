@@ -48,7 +48,7 @@ not_apart : (x y : ℤ) → int_le x y ≡ true → int_lt x y ≡ false → x �
 not_apart x y le e = grind (arith, ints)
 
 -- the order of two points where the upper number of the first is not above the lower number of the second: strict where it is less
-pub order_said : (x y : ℤ) (m n : ℕ) (strict : Bool) → int_le x y ≡ true → int_lt x y ≡ strict → IsInOrder strict m n ↔ FollowsNumbers (Some x) (Some y) m n
+order_said : (x y : ℤ) (m n : ℕ) (strict : Bool) → int_le x y ≡ true → int_lt x y ≡ strict → IsInOrder strict m n ↔ FollowsNumbers (Some x) (Some y) m n
 order_said x y m n true le less = (λ h. (λ lt. h, λ e. omega arith), λ both. both.0 (is_less x y less))
 order_said x y m n false le less = (λ h. (λ lt. absurd (not_less x y less lt), λ e. h), λ both. both.1 (not_apart x y le less))
 

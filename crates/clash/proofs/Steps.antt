@@ -40,7 +40,7 @@ answer_same P Q same start last (Ok done) adds =
 answer_same P Q same start last (Err (faults.Clash clash)) none = λ t kept holds. none t kept ((same t).1 holds)
 answer_same P Q same start last (Err faults.Memory) none = tt
 
--- the same of an atom that is another one
+-- the same where an atom is equal to another
 pub atom_same : (atom other : Atom) (start last : Table) (result : Result Unit CloseFault) → atom ≡ other
     → AddsOrClashes (λ t. Satisfies t atom) start last result → AddsOrClashes (λ t. Satisfies t other) start last result
 atom_same atom other start last result same answer = subst (λ (a : Atom). AddsOrClashes (λ t. Satisfies t a) start last result) same answer

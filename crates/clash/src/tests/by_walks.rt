@@ -12,7 +12,8 @@ use walks::walk;
 
 const FREE: [Bounds; 3] = [Bounds::Free, Bounds::Free, Bounds::Free];
 
-/// What the calendar says of the intervals, and the relations of the first to the second and of the second to the third.
+/// What the calendar says of the intervals, and the relations of the first to the second and of the second to the
+/// third.
 const NETS: [([Bounds; 3], [Rel; 2]); 10] = [
     (FREE, [Rel::Before, Rel::Before]),
     (FREE, [Rel::Includes, Rel::DuringInv]),
