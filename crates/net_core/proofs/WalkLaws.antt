@@ -1,11 +1,12 @@
 -- Walks, and what they say of timelines.
-use Rattle.std.proofs.Common.{◌≡◌, ℕ, zero, suc, take, ◌≤◌, Bool, true, false, ◌||◌, List, [], ◌∷◌, ◌++◌, refl, sym, ap, subst, ◌∙◌, arith}
+use Rattle.std.proofs.Common.{◌≡◌, ℕ, zero, suc, take, Some, ◌<◌, ◌≤◌, Bool, true, false, ◌||◌, List, [], ◌∷◌, ◌++◌, refl, sym, ap, subst, ◌∙◌, arith}
 use Rattle.net_core.specs.Atoms.{IsInOrder}
 use Rattle.net_core.specs.Fits.{FitsWith}
 use Rattle.net_core.specs.Nets.{PlainNet}
 use Rattle.net_core.specs.Relations.{Timeline}
-use Rattle.net_core.specs.Steps.{GoesBy, Uses, atom_of, has_strict, is_strict_order}
-use Rattle.net_core.specs.Walks.{IsJoined, IsWalk}
+use Rattle.net_core.specs.Steps.{GoesBy, Uses, atom_of, has_strict, is_strict_order, link_of}
+use Rattle.net_core.specs.Clashes.{Clashes}
+use Rattle.net_core.specs.Walks.{GoesOver, GoesRound, IsJoined, IsWalk}
 use Rattle.net_core.specs.declared.atom.Atom.{Atom}
 use Rattle.net_core.specs.declared.step.Step.{Step}
 use Rattle.net_core.specs.declared.step.Step.TheVariants.{Link, Span, Calendar}
@@ -84,3 +85,23 @@ pub joined_more : (net : PlainNet) (Chosen Other : ℕ → Type 0) (steps : List
 joined_more net Chosen Other [] x y more joined = joined
 joined_more net Chosen Other (step ∷ steps) x y more joined =
     (joined.0, (joined.1.0, uses_more Chosen Other step more joined.1.1), joined.2, joined_more net Chosen Other steps joined.0.to y more joined.3)
+
+-- steps are joined over the links that they go over
+pub joined_over : (net : PlainNet) (Chosen Other : ℕ → Type 0) (steps : List Step) (x y : ℕ) → IsJoined net Chosen steps x y → ((k : ℕ) → GoesOver steps k → Other k) → IsJoined net Other steps x y
+joined_over net Chosen Other [] x y joined over = joined
+joined_over net Chosen Other (step ∷ steps) x y joined over = (
+  joined.0,
+  (joined.1.0, uses_own step (λ k e. over k (step, (zero, omega arith, refl), e))),
+  joined.2,
+  joined_over net Chosen Other steps joined.0.to y joined.3 (λ k goes. over k (goes.0, (suc goes.1.0, omega (arith, goes.1.1), goes.1.2), goes.2)),
+)
+  where
+    uses_own : (step : Step) → ((k : ℕ) → link_of step ≡ Some k → Other k) → Uses Other step
+    uses_own (Link k i) own = own k refl
+    uses_own (Span i) own = tt
+    uses_own (Calendar p q) own = tt
+
+-- where a walk goes round no timeline fits
+pub round_clashes : (net : PlainNet) (Chosen : ℕ → Type 0) (steps : List Step) → GoesRound net Chosen steps → Clashes net Chosen
+round_clashes net Chosen steps round t fits =
+    let less : t round.0 < t round.0 = walk_kept net Chosen t steps round.0 round.0 true fits round.1 in omega arith

@@ -10,3 +10,4 @@ pub mod Firsts
 pub mod Ranks
 pub mod Steps
 pub mod Walks
+pub mod Clashes

@@ -29,6 +29,11 @@ is_strict_order None = false
 abbrev pub has_strict : PlainNet → List Step → Bool
 has_strict net steps = list_any (λ step. is_strict_order (atom_of net step)) steps
 
+-- the link that a step goes over, if any
+abbrev pub link_of : Step → Option ℕ
+link_of (Link link atom) = Some link
+link_of step = None
+
 -- the step uses no link but those of a set
 abbrev pub Uses : (ℕ → Type 0) → Step → Type 0
 Uses Chosen (Link link atom) = Chosen link

@@ -1,12 +1,13 @@
 -- Walks through a net, from point to point.
-use Rattle.std.specs.Prelude.{◌≡◌, ◌↔◌, ℕ, Bool, true, false, List, [], ◌∷◌, slice_index_or}
+use Rattle.std.specs.Prelude.{◌≡◌, ◌↔◌, ℕ, Bool, true, false, List, [], ◌∷◌, Some, slice_index_or}
+use Rattle.std.specs.List.{Contains}
 use Rattle.net_core.specs.declared.atom.Atom.{Atom}
 use Rattle.net_core.specs.declared.step.Step.{Step}
 use Rattle.net_core.specs.Atoms.{Satisfies}
 use Rattle.net_core.specs.Fits.{FitsWith}
 use Rattle.net_core.specs.Nets.{PlainNet}
 use Rattle.net_core.specs.Relations.{Timeline}
-use Rattle.net_core.specs.Steps.{GoesBy, has_strict}
+use Rattle.net_core.specs.Steps.{GoesBy, has_strict, link_of}
 
 -- The steps are joined from x to y, over spans, the calendar and the links of a set: the first begins at x, each begins where the one before it ended, and the last ends at y.
 abbrev pub IsJoined : PlainNet → (ℕ → Type 0) → List Step → ℕ → ℕ → Type 0
@@ -19,6 +20,14 @@ IsWalk net Chosen x y strict steps = IsJoined net Chosen steps x y × (strict �
 
 abbrev pub HasWalk : PlainNet → (ℕ → Type 0) → ℕ → ℕ → Bool → Type 0
 HasWalk net Chosen x y strict = (steps : List Step) × IsWalk net Chosen x y strict steps
+
+-- a walk that goes round: from a point to itself, with a strict step
+abbrev pub GoesRound : PlainNet → (ℕ → Type 0) → List Step → Type 0
+GoesRound net Chosen steps = (x : ℕ) × IsWalk net Chosen x x true steps
+
+-- one of the steps goes over this link
+abbrev pub GoesOver : List Step → ℕ → Type 0
+GoesOver steps k = (step : Step) × Contains steps step × (link_of step ≡ Some k)
 
 -- the links that are kept, of those of a net
 abbrev pub Kept : List Bool → ℕ → Type 0

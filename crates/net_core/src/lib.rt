@@ -22,5 +22,7 @@ pub use net::{Ends, Net, NetLink, holds};
 pub use ranks::Ranks;
 pub use rels::{Rel, rel_of, rels_are_apart};
 pub use step::{Step, step_atom, steps_say_what_fits};
-pub use timeline::{ends_at, first_broken_link, first_broken_pair, first_unordered, satisfies};
+pub use timeline::{
+    ends_at, first_broken_link, first_broken_pair, first_unordered, keeps_link, satisfies,
+};
 pub use walk::Walk;

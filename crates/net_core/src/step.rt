@@ -21,6 +21,18 @@ pub enum Step {
     Calendar { from: u32, to: u32 },
 }
 
+impl Step {
+    /// The link that the step goes over, if any.
+    pub fn link(self) -> Option<u32>
+        ensures { result ≡ spec.link_of self }
+    {
+        match self {
+            Step::Link { link, .. } => Some(link),
+            Step::Span { .. } | Step::Calendar { .. } => None,
+        }
+    }
+}
+
 /// The order that a step goes by. That of a link is strict as the table of relations says, that of an interval is
 /// strict, and that of the calendar is strict where the two numbers differ. None comes exactly where a number is out of
 /// range, or the calendar gives no such order.

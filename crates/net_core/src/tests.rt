@@ -274,6 +274,7 @@ fn what_is_pushed_stands_last(rt: HostRuntime) -> Result<(), Fail> {
         assert_eq!(rt; walk.push(step), Ok(()));
     }
     assert_eq!(rt; walk.as_slice(), steps.as_slice());
+    assert_eq!(rt; steps.map(Step::link), [None, Some(2)]);
     let mut list: List<Rel> = List::new(rt.alloc());
     assert_eq!(rt; list.push(Rel::During), Ok(()));
     assert_eq!(rt; list.push(Rel::Before), Ok(()));

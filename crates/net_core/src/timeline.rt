@@ -144,8 +144,8 @@ fn follows(upper: i64, lower: i64, from: u32, to: u32) -> bool
     (upper > lower) | (from < to) | (upper == lower) & (from == to)
 }
 
-/// Whether the link holds.
-fn keeps_link(net: &Net, ranks: &[u32], k: u32) -> bool
+/// Whether the link of this number holds.
+pub fn keeps_link(net: &Net, ranks: &[u32], k: u32) -> bool
     requires size { length ranks.now ≡ points net.now }
     requires k { k < length net.now.links }
     ensures { IsTrue result ↔ KeepsLink net.now (timeline_of ranks.now) k }

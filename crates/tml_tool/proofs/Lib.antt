@@ -9,7 +9,12 @@ pub mod OneDateLines
 pub mod OneNet
 pub mod Timelines
 pub mod OneAnswers
+pub mod OneRelation
 pub mod OneVerdicts
 pub mod OneNext
 pub mod OneReply
 pub mod TwoFiles
+pub mod WalkProofs
+pub mod Counterexamples
+pub mod Naming
+pub mod Forms

@@ -1,37 +1,16 @@
 -- The least timeline of a document, and its text.
-use Rattle.std.proofs.Common.{◌≡◌, ◌↔◌, ℕ, zero, suc, ◌+◌, ◌*◌, ◌^◌, ◌<◌, ◌≤◌, List, [], ◌∷◌, length, get_or, All, refl, sym, ap, subst, ◌∙◌, arith}
-use Rattle.std.specs.List.{AllByRecursion}
-use Rattle.std.proofs.lemmas.List.Elements.{All-from_recursion}
+use Rattle.std.proofs.Common.{◌≡◌, ℕ, suc, ◌<◌, ◌≤◌, List, [], ◌∷◌, length, get_or, refl, sym, ap, subst, ◌∙◌, arith}
 use Rattle.net_core.specs.Fits.{Fits}
 use Rattle.net_core.specs.Nets.{PlainNet, points}
 use Rattle.net_core.specs.Ranks.{pairs_of, timeline_of}
 use Rattle.net_core.specs.Relations.{Timeline}
 use Rattle.clash.specs.Closures.{IsClosureOf}
-use Rattle.evidence_format.specs.Evidence.{IsPair, IsText, IsWellFormed, timeline}
+use Rattle.evidence_format.specs.Evidence.{IsText, timeline}
 use Rattle.order_closure.specs.Tables.{Keeps, Table}
 use Rattle.order_closure.specs.Timelines.{IsLeast}
 use Rattle.tml_tool.specs.Questions.{HasNet, TellsClash, TellsTimeline}
 use Rattle.tml_tool.specs.Solving.{IsLeastText}
 use Rattle.tml_tool.proofs.OneNet.{one_net_of}
-
--- small ranks are pairs of numbers that a text can have
-pairs_fit : (m : ℕ) (ranks : List ℕ) → m ≤ 2048 → ((p : ℕ) → p < length ranks → get_or ranks p 0 < m) → AllByRecursion IsPair (pairs_of ranks)
-pairs_fit m [] few small = tt
-pairs_fit m (start ∷ []) few small = tt
-pairs_fit m (start ∷ finish ∷ ranks) few small =
-    ((omega (arith, small 0 (omega arith)), omega (arith, small 1 (omega arith))), pairs_fit m ranks few (λ p less. small (suc (suc p)) (omega arith)))
-
--- there are no more pairs than ranks
-few_pairs : (ranks : List ℕ) → length (pairs_of ranks) ≤ length ranks
-few_pairs [] = omega arith
-few_pairs (start ∷ []) = omega arith
-few_pairs (start ∷ finish ∷ ranks) = omega (arith, few_pairs ranks)
-
--- small ranks are well-formed evidence
-pub well_formed : (m : ℕ) (ranks : List ℕ) → m ≤ 2048 → length ranks ≡ m → ((p : ℕ) → p < m → get_or ranks p 0 < m) → IsWellFormed (timeline (pairs_of ranks))
-well_formed m ranks few size small =
-    let each = pairs_fit m ranks few (λ p less. small p (omega (arith, less, size))) in
-    (All-from_recursion IsPair (pairs_of ranks) each, omega (arith, few_pairs ranks, size))
 
 -- the least timeline that keeps the closure of a net is the least one that fits the net
 least_fits : (net : PlainNet) (table : Table) (t : Timeline) → IsClosureOf net table → IsLeast table.points (Keeps table) t → IsLeast (points net) (Fits net) t

@@ -1,15 +1,28 @@
 -- The printed texts of evidence.
-use Rattle.std.specs.Prelude.{ℕ, List, [], ◌++◌, codes}
-use Rattle.evidence_check.specs.declared.refusal.Claim.{Claim}
-use Rattle.evidence_check.specs.declared.refusal.Claim.TheVariants.{Fits}
+use Rattle.std.specs.Prelude.{ℕ, ◌<◌, ⊤, List, [], ◌++◌, codes, length}
+use Rattle.net_core.specs.declared.rels.Rel.{Rel}
+use Rattle.evidence_format.specs.Evidence.{PlainEvidence, timeline, entails, counter}
 use Rattle.evidence_check.specs.declared.refusal.Reason.{Reason}
-use Rattle.evidence_check.specs.declared.refusal.Reason.TheVariants.{Size, Order, Link, Calendar}
+use Rattle.evidence_check.specs.declared.refusal.Reason.TheVariants.{Number, Size, Order, Link, Calendar, Step, End, Weak, Holds}
 use Rattle.evidence_check.specs.declared.refusal.Refused.{Refused}
-use Rattle.tml_tool.specs.Texts.{line_prefix, numbered}
+use Rattle.tml_refs.specs.Documents.{PlainDocument}
+use Rattle.tml_tool.specs.Texts.{line_prefix, name_at, numbered, related}
 
--- what supported evidence shows
-abbrev pub claim_line : Claim → List ℕ
-claim_line Fits = codes "verified timeline\n"
+-- a relation that was verified, by the names of its intervals
+abbrev pub relation_claim : List ℕ → PlainDocument → ℕ → Rel → ℕ → List ℕ
+relation_claim words doc a r b = words ++ related (name_at doc.intervals a) r (name_at doc.intervals b) ++ codes "\n"
+
+-- what supported evidence of a document shows
+abbrev pub claim_line : PlainDocument → PlainEvidence → List ℕ
+claim_line doc (timeline ranks) = codes "verified timeline\n"
+claim_line doc (entails a r b walks) = relation_claim (codes "verified entails ") doc a r b
+claim_line doc (counter a r b ranks) = relation_claim (codes "verified counter ") doc a r b
+
+-- the numbers of the intervals in evidence are those of intervals of a document
+abbrev pub NamesIntervals : PlainDocument → PlainEvidence → Type 0
+NamesIntervals doc (timeline ranks) = ⊤
+NamesIntervals doc (entails a r b walks) = (a < length doc.intervals) × (b < length doc.intervals)
+NamesIntervals doc (counter a r b ranks) = (a < length doc.intervals) × (b < length doc.intervals)
 
 -- the line of malformed evidence
 abbrev pub bad_line_text : ℕ → List ℕ
@@ -17,10 +30,15 @@ bad_line_text line = numbered (codes "evidence line ") line
 
 -- why evidence is refused, with the numbers of the reason
 abbrev pub reason_text : Reason → List ℕ
+reason_text (Number number) = numbered (codes "Number ") number
 reason_text (Size size) = numbered (codes "Size ") size
 reason_text (Order interval) = numbered (codes "Order ") interval
 reason_text (Link link) = numbered (codes "Link ") link
 reason_text (Calendar from to) = line_prefix (codes "Calendar ") from ++ numbered [] to
+reason_text (Step step) = numbered (codes "Step ") step
+reason_text End = codes "End\n"
+reason_text Weak = codes "Weak\n"
+reason_text Holds = codes "Holds\n"
 
 -- the line of refused evidence: the part, and why
 abbrev pub refusal_line : Refused → List ℕ

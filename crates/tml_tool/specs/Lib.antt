@@ -4,6 +4,8 @@ pub mod Texts
 pub mod DateTexts
 pub mod Acceptance
 pub mod Questions
+pub mod Asking
+pub mod Queries
 pub mod Solving
 pub mod EvidenceTexts
 pub mod Verdicts

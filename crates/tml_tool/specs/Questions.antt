@@ -46,9 +46,13 @@ HasNet doc net = (contents : PlainDocument) × Says doc contents × IsNetOf cont
 abbrev pub TellsTimeline : List ℕ → List ℕ → Type 0
 TellsTimeline doc text = (net : PlainNet) × (ranks : List ℕ) × HasNet doc net × (length ranks ≡ points net) × IsLeast (points net) (Fits net) (timeline_of ranks) × IsText (timeline (pairs_of ranks)) text
 
+-- that no timeline fits
+abbrev pub clash_line : List ℕ
+clash_line = codes "clash\n"
+
 -- no timeline fits the document, and the text says so
 abbrev pub TellsClash : List ℕ → List ℕ → Type 0
-TellsClash doc text = (net : PlainNet) × HasNet doc net × HasNoTimeline net × (text ≡ codes "clash\n")
+TellsClash doc text = (net : PlainNet) × HasNet doc net × HasNoTimeline net × (text ≡ clash_line)
 
 -- What a question prints: `spans` the table of the units, `check` what an accepted document has, `dates` when its times are, and `solve` the least timeline.
 abbrev pub Prints : Question → List ℕ → List ℕ → Type 0
@@ -67,9 +71,9 @@ abbrev pub Clashes : Question → List ℕ → List ℕ → Type 0
 Clashes Solve doc text = TellsClash doc text
 Clashes question doc text = ⊥
 
--- the answer to a question of a document
-abbrev pub OfDocument : Question → List ℕ → Status → List ℕ → Type 0
-OfDocument question doc Done text = Prints question doc text
-OfDocument question doc DocFault text = HasFaultLine (NamesFault question doc) text
-OfDocument question doc Clash text = Clashes question doc text
-OfDocument question doc other text = ⊥
+-- the answer to a question that is one word
+abbrev pub OfQuestion : Question → List ℕ → Status → List ℕ → Type 0
+OfQuestion question doc Done text = Prints question doc text
+OfQuestion question doc DocFault text = HasFaultLine (NamesFault question doc) text
+OfQuestion question doc Clash text = Clashes question doc text
+OfQuestion question doc other text = ⊥

@@ -8,23 +8,31 @@ use Rattle.tml_tool.specs.declared.answer.Finding.TheVariants as findings
 use Rattle.tml_tool.specs.declared.command.Command.{Command}
 use Rattle.tml_tool.specs.declared.command.Question.{Question}
 use Rattle.tml_tool.specs.declared.command.Command.TheVariants as commands
+use Rattle.tml_tool.specs.declared.command.Query.{Query}
+use Rattle.tml_tool.specs.declared.command.Query.TheVariants as queries
 use Rattle.tml_tool.specs.declared.reply.Reply.{Reply}
 use Rattle.tml_tool.specs.declared.reply.Reply.TheVariants as replies
 use Rattle.tml_tool.specs.declared.status.Status.{Status}
-use Rattle.tml_tool.specs.declared.status.Status.TheVariants.{Done, DocFault, Clash, Usage, ReadFault, NoMemory, EvidenceFault, TooLong}
-use Rattle.tml_tool.specs.Questions.{OfDocument}
+use Rattle.tml_tool.specs.declared.status.Status.TheVariants.{Done, DocFault, Clash, Usage, ReadFault, NoMemory, EvidenceFault, UnknownName, TooLong}
+use Rattle.tml_tool.specs.Queries.{OfDocument}
+use Rattle.tml_tool.specs.Questions.{OfQuestion}
 use Rattle.tml_tool.specs.Replies.{CannotRead, read_fault, too_long}
 use Rattle.tml_tool.specs.Reading.{ReadsWhole}
 use Rattle.tml_tool.specs.Roles.{word_of}
 use Rattle.tml_tool.specs.Rows.{File}
-use Rattle.tml_tool.specs.Words.{CommandForm, of_document, usage, verify}
+use Rattle.tml_tool.specs.Words.{CommandForm, QueryForm, by_relation, by_word, of_document, usage, verify}
 use Rattle.tml_io.specs.Files.{Files}
 use Rattle.std.specs.Prelude.{length}
+
+-- what is asked of one document, by its words
+abbrev pub query_form : Query → QueryForm
+query_form (queries.Question asked) = by_word asked
+query_form (queries.Relation x rel y) = by_relation x.now rel.now y.now
 
 -- the form of the words that stand for a command
 abbrev pub command_form : Command → Option CommandForm
 command_form commands.Usage = None
-command_form (commands.OfDocument question name) = Some (of_document question name.now)
+command_form (commands.OfDocument query name) = Some (of_document (query_form query) name.now)
 command_form (commands.Verify name evidence) = Some (verify name.now evidence.now)
 
 -- the status of a finding
@@ -33,10 +41,15 @@ finding_status findings.Done = Done
 finding_status findings.DocFault = DocFault
 finding_status findings.Clash = Clash
 finding_status findings.EvidenceFault = EvidenceFault
+finding_status findings.UnknownName = UnknownName
 
 -- the answer of the program to a question of a document is the one that belongs to it
 abbrev pub IsAnswer : Question → List ℕ → Answer → Type 0
-IsAnswer question doc answer = OfDocument question doc (finding_status answer.finding) answer.text.items
+IsAnswer question doc answer = OfQuestion question doc (finding_status answer.finding) answer.text.items
+
+-- the same of all that can be asked of a document
+abbrev pub IsAnswerTo : QueryForm → List ℕ → Answer → Type 0
+IsAnswerTo query doc answer = OfDocument query doc (finding_status answer.finding) answer.text.items
 
 -- the status and the text of a reply
 abbrev pub status_of : Reply → Status

@@ -22,30 +22,44 @@ question_text Solve = codes "solve"
 abbrev pub all_questions : List Question
 all_questions = Spans ∷ Check ∷ Dates ∷ Solve ∷ []
 
+-- the word that asks whether a relation holds between two intervals
+abbrev pub ask_text : List ℕ
+ask_text = codes "ask"
+
 -- the word that asks whether evidence of a document is right
 abbrev pub verify_text : List ℕ
 verify_text = codes "verify"
 
+-- what is asked of one document: a question that is one word; or whether a relation holds, by the words for it and for two intervals
+pub data QueryForm : Type 0 where
+  by_word : Question → QueryForm
+  by_relation : List ℕ → List ℕ → List ℕ → QueryForm
+
 -- a command, with the names of the files that it reads
 pub data CommandForm : Type 0 where
-  of_document : Question → List ℕ → CommandForm
+  of_document : QueryForm → List ℕ → CommandForm
   verify : List ℕ → List ℕ → CommandForm
 
 -- The command that some words are a form of: no words stand for `spans -`.
 abbrev pub form_of : List (List ℕ) → Option CommandForm
-form_of [] = Some (of_document Spans (codes "-"))
-form_of (command ∷ name ∷ []) = option_map (λ question. of_document question name) (named_of question_text all_questions command)
+form_of [] = Some (of_document (by_word Spans) (codes "-"))
+form_of (command ∷ name ∷ []) = option_map (λ asked. of_document (by_word asked) name) (named_of question_text all_questions command)
 form_of (command ∷ name ∷ evidence ∷ []) = if bytes_eq command verify_text then Some (verify name evidence) else None
+form_of (command ∷ name ∷ x ∷ rel ∷ y ∷ []) = if bytes_eq command ask_text then Some (of_document (by_relation x rel y) name) else None
 form_of words = None
 
 -- the line of a question in the usage text
 abbrev pub usage_line : Question → List ℕ
-usage_line question = codes "tml " ++ question_text question ++ codes " DOC\n"
+usage_line asked = codes "tml " ++ question_text asked ++ codes " DOC\n"
+
+-- the line of `ask` in the usage text
+abbrev pub ask_line : List ℕ
+ask_line = codes "tml ask DOC X REL Y\n"
 
 -- the line of `verify` in the usage text
 abbrev pub verify_line : List ℕ
 verify_line = codes "tml verify DOC EVIDENCE\n"
 
--- the usage text has a line for each question, and one for `verify`
+-- the usage text has a line for each question, one for `ask` and one for `verify`
 abbrev pub usage : List ℕ
-usage = codes "usage:\n" ++ (flat_map usage_line all_questions ++ verify_line)
+usage = codes "usage:\n" ++ (flat_map usage_line all_questions ++ (ask_line ++ verify_line))

@@ -96,7 +96,7 @@ fn push_link(
 }
 
 /// A relation between two names.
-fn push_related(out: &mut Vec<u8>, a: &[u8], rel: Rel, b: &[u8]) -> Result<(), AllocError>
+pub fn push_related(out: &mut Vec<u8>, a: &[u8], rel: Rel, b: &[u8]) -> Result<(), AllocError>
     ensures { OnOk result (out.new.items ≡ out.old.items ++ texts.related a.now rel b.now) }
 {
     out.extend_from_slice(a)?;

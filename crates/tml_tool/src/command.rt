@@ -1,8 +1,9 @@
 //! What the words of a run ask for.
 ghost use Rattle.std.proofs.Common.{rules};
-ghost use Rattle.std.specs.Prelude.{◌≡◌};
-ghost use Rattle.tml_tool.specs.Words.{texts_of, form_of};
-ghost use Rattle.tml_tool.specs.View.{command_form};
+ghost use Rattle.std.specs.Prelude.{◌≡◌, ◌∷◌, [], None, Some, if◌then◌else◌};
+ghost use Rattle.std.specs.Str.{bytes_eq};
+ghost use Rattle.tml_tool.specs.View.{command_form, query_form};
+ghost use Rattle.tml_tool.specs.Words.{ask_text, form_of, of_document, texts_of};
 
 use named::{Named, named_by};
 
@@ -47,13 +48,26 @@ impl Named for Question {
     }
 }
 
+/// What is asked of one document.
+#[derive(Clone, Copy)]
+pub enum Query<'w> {
+    /// A question that is one word.
+    Question(Question),
+    /// Whether a relation holds between two intervals, by the words for them.
+    Relation {
+        x: &'w str,
+        rel: &'w str,
+        y: &'w str,
+    },
+}
+
 /// What to do, with the names of the files to read.
 #[derive(Clone, Copy)]
 pub enum Command<'w> {
     /// To print the usage text: the words are of no known form.
     Usage,
-    /// To answer a question of a document.
-    OfDocument { question: Question, name: &'w str },
+    /// To answer what is asked of a document.
+    OfDocument { query: Query<'w>, name: &'w str },
     /// To check evidence against a document.
     Verify { name: &'w str, evidence: &'w str },
 }
@@ -64,23 +78,60 @@ pub fn command_of(words: &[String]) -> Command<'_>
 {
     match words {
         [] => Command::OfDocument {
-            question: Question::Spans,
+            query: Query::Question(Question::Spans),
             name: "-",
         },
-        [command, name] => match named_by(command.as_bytes()) {
-            Some(question) => Command::OfDocument {
-                question,
-                name: name.as_str(),
-            },
-            None => Command::Usage,
-        },
-        [command, name, evidence] => match command.as_bytes() {
-            b"verify" => Command::Verify {
-                name: name.as_str(),
-                evidence: evidence.as_str(),
-            },
-            _ => Command::Usage,
-        },
+        [command, name] => of_two(command.as_str(), name.as_str()),
+        [command, name, evidence] => of_three(command.as_str(), name.as_str(), evidence.as_str()),
+        [command, name, x, rel, y] => {
+            let query = Query::Relation {
+                x: x.as_str(),
+                rel: rel.as_str(),
+                y: y.as_str(),
+            };
+            of_five(command.as_str(), name.as_str(), query)
+        }
         _ => Command::Usage,
     }
+}
+
+/// A question that is one word, and the name of a document.
+fn of_two<'w>(command: &str, name: &'w str) -> Command<'w>
+    ensures { command_form result ≡ form_of (command.now ∷ name.now ∷ []) }
+{
+    match named_by(command.as_bytes()) {
+        Some(question) => Command::OfDocument {
+            query: Query::Question(question),
+            name,
+        },
+        None => Command::Usage,
+    }
+}
+
+/// A command of two files.
+fn of_three<'w>(command: &str, name: &'w str, evidence: &'w str) -> Command<'w>
+    ensures { command_form result ≡ form_of (command.now ∷ name.now ∷ evidence.now ∷ []) }
+{
+    if is_word(command, b"verify") {
+        Command::Verify { name, evidence }
+    } else {
+        Command::Usage
+    }
+}
+
+/// A command of a document and three words that are asked about.
+fn of_five<'w>(command: &str, name: &'w str, query: Query<'w>) -> Command<'w>
+    ensures { command_form result ≡ (if bytes_eq command.now ask_text then Some (of_document (query_form query.entry) name.now) else None) }
+{
+    if is_word(command, b"ask") {
+        Command::OfDocument { query, name }
+    } else {
+        Command::Usage
+    }
+}
+
+fn is_word(given: &str, word: &[u8]) -> bool
+    ensures { result ≡ bytes_eq given.now word.now }
+{
+    given.as_bytes() == word
 }

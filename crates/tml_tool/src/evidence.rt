@@ -1,68 +1,107 @@
 //! What is said of evidence of a document.
-ghost use Rattle.std.specs.Prelude.{◌≡◌, ◌≤◌, ◌++◌, length, IfErr, IfOk, OnOk};
+ghost use Rattle.evidence_format.specs.View.{plain};
+ghost use Rattle.std.specs.Prelude.{◌≡◌, ◌<◌, ◌≤◌, ◌++◌, length, IfErr, IfOk, OnOk};
+ghost use Rattle.tml_tool.specs.Acceptance.{Says};
 ghost use Rattle.tml_tool.specs.EvidenceTexts as texts;
-ghost use Rattle.tml_tool.specs.Questions.{HasNet, doc_limit};
+ghost use Rattle.tml_tool.specs.EvidenceTexts.{NamesIntervals};
+ghost use Rattle.tml_tool.specs.Questions.{doc_limit};
 ghost use Rattle.tml_tool.specs.Roles.{limit_of};
-ghost use Rattle.tml_tool.specs.Verdicts.{OfEvidence, RefusesDocument};
+ghost use Rattle.tml_tool.specs.Verdicts.{OfContents, RefusesDocument};
 ghost use Rattle.tml_tool.specs.View.{finding_status, status_of, text_of};
 ghost use Rattle.tml_tool.specs.declared.role.Role.TheVariants as roles;
 
 use crate::accept::accept;
 use crate::answer::{Answer, Finding};
+use crate::check::push_related;
 use crate::refusal::refusal;
 use crate::reply::Reply;
 use crate::table::{push_numbered, push_prefix};
-use evidence_check::{Claim, Reason, Refused, verify};
-use evidence_format::{ReadEvidence, read_evidence};
+use evidence_check::{Reason, Refused, verify};
+use evidence_format::{Evidence, ReadEvidence, read_evidence};
 use net_build::net_of;
-use net_core::{Memory, Net};
+use net_core::{Memory, Rel};
 use std::alloc::{AllocError, Global};
+use tml_refs::Document;
 
-/// The net of a document with these bytes.
+/// What a document with these bytes says.
 ///
 /// # Errors
 ///
 /// The reply that the document has a fault, or that there is no memory.
-pub fn net_of_document(alloc: Global, doc: &[u8]) -> Result<Net, Reply>
+pub fn document_of(alloc: Global, doc: &[u8]) -> Result<Document<'_>, Reply>
     requires { length doc.now ≤ doc_limit }
-    ensures ok { IfOk result (HasNet doc.now) }
+    ensures ok { IfOk result (Says doc.now) }
     ensures err { IfErr result (λ reply. RefusesDocument doc.now (status_of reply) (text_of reply)) }
 {
-    let document = match accept(alloc, doc) {
-        Ok(document) => document,
-        Err(fault) => return Err(Reply::from_answer(refusal(alloc, fault))),
-    };
-    match net_of(alloc, &document) {
-        Ok(net) => Ok(net),
-        Err(Memory) => Err(Reply::NoMemory),
+    match accept(alloc, doc) {
+        Ok(document) => Ok(document),
+        Err(fault) => Err(Reply::from_answer(refusal(alloc, fault))),
     }
 }
 
-/// The answer to evidence with these bytes, by the net of its document.
-pub fn verdict(alloc: Global, net: &Net, text: &[u8]) -> Result<Answer, AllocError>
+/// The answer to evidence with these bytes, by its document.
+pub fn verdict(alloc: Global, document: &Document<'_>, text: &[u8]) -> Result<Answer, AllocError>
     requires { length text.now ≤ limit_of roles.Evidence }
-    ensures { IfOk result (λ answer. OfEvidence net.now text.now (finding_status answer.finding) answer.text.items) }
+    ensures { IfOk result (λ answer. OfContents document.now text.now (finding_status answer.finding) answer.text.items) }
 {
+    let net = match net_of(alloc, document) {
+        Ok(net) => net,
+        Err(Memory) => return Err(AllocError),
+    };
     let evidence = match read_evidence(alloc, text) {
         Ok(evidence) => evidence,
         Err(ReadEvidence::BadLine { line }) => return malformed_answer(alloc, line),
         Err(ReadEvidence::Memory) => return Err(AllocError),
     };
-    match verify(net, &evidence) {
-        Ok(claim) => verified_answer(alloc, claim),
+    match verify(&net, &evidence) {
+        Ok(_) => Ok(Answer::done(claim_text(alloc, document, &evidence)?)),
         Err(refused) => refused_answer(alloc, refused),
     }
 }
 
-/// The answer to supported evidence: what it shows.
-fn verified_answer(alloc: Global, claim: Claim) -> Result<Answer, AllocError>
-    ensures finding { IfOk result (λ answer. answer.finding ≡ Finding.Done) }
-    ensures text { IfOk result (λ answer. answer.text.items ≡ texts.claim_line claim) }
+/// What supported evidence of a document shows.
+fn claim_text(
+    alloc: Global,
+    document: &Document<'_>,
+    evidence: &Evidence,
+) -> Result<Vec<u8>, AllocError>
+    requires { NamesIntervals document.now (plain evidence.now) }
+    ensures { IfOk result (λ text. text.items ≡ texts.claim_line document.now (plain evidence.now)) }
 {
-    let line = match claim {
-        Claim::Fits => b"verified timeline\n",
-    };
-    Ok(Answer::done(Vec::from_slice(alloc, line)?))
+    let mut text = Vec::new(alloc);
+    match evidence {
+        Evidence::Timeline { .. } => text.extend_from_slice(b"verified timeline\n")?,
+        Evidence::Entails { a, rel, b, .. } => {
+            push_relation(&mut text, b"verified entails ", document, *a, *rel, *b)?
+        }
+        Evidence::Counter { a, rel, b, .. } => {
+            push_relation(&mut text, b"verified counter ", document, *a, *rel, *b)?
+        }
+    }
+    Ok(text)
+}
+
+/// A relation between two intervals of a document, by their names.
+fn push_relation(
+    out: &mut Vec<u8>,
+    words: &[u8],
+    document: &Document<'_>,
+    a: u32,
+    rel: Rel,
+    b: u32,
+) -> Result<(), AllocError>
+    requires a { a < length document.now.intervals }
+    requires b { b < length document.now.intervals }
+    ensures { OnOk result (out.new.items ≡ out.old.items ++ texts.relation_claim words.now document.now a rel b) }
+{
+    out.extend_from_slice(words)?;
+    push_related(
+        out,
+        document.interval(a).name(),
+        rel,
+        document.interval(b).name(),
+    )?;
+    out.extend_from_slice(b"\n")
 }
 
 /// The answer to malformed evidence: its bad line.
@@ -97,6 +136,7 @@ fn push_reason(out: &mut Vec<u8>, reason: Reason) -> Result<(), AllocError>
     ensures { OnOk result (out.new.items ≡ out.old.items ++ texts.reason_text reason) }
 {
     match reason {
+        Reason::Number { number } => push_numbered(out, b"Number ", u64::from(number)),
         Reason::Size { size } => push_numbered(out, b"Size ", u64::from(size)),
         Reason::Order { interval } => push_numbered(out, b"Order ", u64::from(interval)),
         Reason::Link { link } => push_numbered(out, b"Link ", u64::from(link)),
@@ -104,5 +144,9 @@ fn push_reason(out: &mut Vec<u8>, reason: Reason) -> Result<(), AllocError>
             push_prefix(out, b"Calendar ", from)?;
             push_numbered(out, b"", u64::from(to))
         }
+        Reason::Step { step } => push_numbered(out, b"Step ", u64::from(step)),
+        Reason::End => out.extend_from_slice(b"End\n"),
+        Reason::Weak => out.extend_from_slice(b"Weak\n"),
+        Reason::Holds => out.extend_from_slice(b"Holds\n"),
     }
 }

@@ -3,11 +3,14 @@
 
 mod accept;
 mod answer;
+mod ask;
 mod check;
 mod command;
 mod dates;
+mod deciding;
 mod evidence;
 mod laws;
+mod proving;
 mod questions;
 mod reading;
 mod refusal;

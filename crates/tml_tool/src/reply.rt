@@ -49,6 +49,7 @@ impl Reply {
                 Finding::DocFault => Status::DocFault,
                 Finding::Clash => Status::Clash,
                 Finding::EvidenceFault => Status::EvidenceFault,
+                Finding::UnknownName => Status::UnknownName,
             },
             Reply::Usage => Status::Usage,
             Reply::ReadFault => Status::ReadFault,

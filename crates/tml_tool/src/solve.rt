@@ -5,8 +5,8 @@ ghost use Rattle.net_core.specs.Nets.{points};
 ghost use Rattle.net_core.specs.Ranks.{pairs_of, timeline_of};
 ghost use Rattle.order_closure.specs.Tables.{Keeps};
 ghost use Rattle.order_closure.specs.Timelines.{IsLeast};
-ghost use Rattle.std.specs.Prelude.{◌≡◌, ◌≤◌, ◌%◌, codes, length, IfOk, List, ℕ};
-ghost use Rattle.tml_tool.specs.Questions.{doc_limit};
+ghost use Rattle.std.specs.Prelude.{◌≡◌, ◌≤◌, ◌%◌, length, IfOk, List, ℕ};
+ghost use Rattle.tml_tool.specs.Questions.{clash_line, doc_limit};
 ghost use Rattle.tml_tool.specs.Solving.{IsLeastText};
 ghost use Rattle.tml_tool.specs.View.{IsAnswer};
 ghost use Rattle.tml_tool.specs.declared.command.Question.TheVariants as questions;
@@ -58,9 +58,9 @@ fn least_text(alloc: Global, table: &Closed) -> Result<Vec<u8>, AllocError>
 }
 
 /// The answer that no timeline fits.
-fn clash_answer(alloc: Global) -> Result<Answer, AllocError>
+pub fn clash_answer(alloc: Global) -> Result<Answer, AllocError>
     ensures finding { IfOk result (λ answer. answer.finding ≡ Finding.Clash) }
-    ensures text { IfOk result (λ answer. answer.text.items ≡ codes "clash\n") }
+    ensures text { IfOk result (λ answer. answer.text.items ≡ clash_line) }
 {
     let text = Vec::from_slice(alloc, b"clash\n")?;
     Ok(Answer {

@@ -1,7 +1,9 @@
 //! Worked rows of the commands, by `run` over the objects in memory.
+mod ask;
 mod checks;
 mod dates;
 mod each_fault;
+mod files;
 mod solve;
 mod verify;
 
@@ -23,7 +25,7 @@ struct Row {
 const SPANS: &[&str] = &["spans", "d"];
 
 const USAGE: &[u8] =
-    b"usage:\ntml spans DOC\ntml check DOC\ntml dates DOC\ntml solve DOC\ntml verify DOC EVIDENCE\n";
+    b"usage:\ntml spans DOC\ntml check DOC\ntml dates DOC\ntml solve DOC\ntml ask DOC X REL Y\ntml verify DOC EVIDENCE\n";
 
 const TAGS: &[u8] = b"<TimeML><EVENT eid=\"e1\" class='STATE'>is</EVENT></TimeML>";
 

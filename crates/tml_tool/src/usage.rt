@@ -19,7 +19,7 @@ pub fn usage_text() -> ArrayVec<u8, USAGE_ROOM>
     for question in Question::all() {
         push_line(&mut text, *question);
     }
-    push(&mut text, b"tml verify DOC EVIDENCE\n");
+    push(&mut text, b"tml ask DOC X REL Y\ntml verify DOC EVIDENCE\n");
     text
 }
 

@@ -17,15 +17,15 @@ struct Pair {
 }
 
 /// Three instances without links.
-const THREE: &[u8] =
+pub const THREE: &[u8] =
     b"<TimeML><EVENT eid='e' class='OCCURRENCE'/><MAKEINSTANCE eiid='a' eventID='e'/><MAKEINSTANCE eiid='b' eventID='e'/><MAKEINSTANCE eiid='c' eventID='e'/></TimeML>";
 
 /// The same with `a` before `b`, and `b` before `c`.
-const CHAIN: &[u8] =
+pub const CHAIN: &[u8] =
     b"<TimeML><EVENT eid='e' class='OCCURRENCE'/><MAKEINSTANCE eiid='a' eventID='e'/><MAKEINSTANCE eiid='b' eventID='e'/><MAKEINSTANCE eiid='c' eventID='e'/><TLINK eventInstanceID='a' relatedToEventInstance='b' relType='BEFORE'/><TLINK eventInstanceID='b' relatedToEventInstance='c' relType='BEFORE'/></TimeML>";
 
 /// Two days, one after the other.
-const DAYS: &[u8] =
+pub const DAYS: &[u8] =
     b"<TimeML><TIMEX3 tid=\"t1\" type=\"DATE\" value=\"1998-01-08\"/><TIMEX3 tid=\"t2\" type=\"DATE\" value=\"1998-01-09\"/></TimeML>";
 
 /// A month, and a day in its midst: the day begins after the month does, and what lies within the month is not known.
@@ -174,6 +174,64 @@ fn refused_timelines_have_the_first_reason(rt: HostRuntime) -> Result<(), Fail> 
 }
 
 #[test]
+fn claims_of_relations_are_verified_or_refused(rt: HostRuntime) -> Result<(), Fail> {
+    let pairs = [
+        Pair {
+            doc: CHAIN,
+            evidence: b"tml-evidence 1\nentails 0 BEFORE 2\nwalk 3\nvia 0 0\nspan 1\nvia 1 0\nend\n",
+            status: Status::Done,
+            text: b"verified entails a BEFORE c\n",
+        },
+        Pair {
+            doc: CHAIN,
+            evidence: b"tml-evidence 1\ncounter 2 BEFORE 0\ntimeline 3\nat 0 1\nat 2 3\nat 4 5\nend\n",
+            status: Status::Done,
+            text: b"verified counter c BEFORE a\n",
+        },
+        refused(
+            CHAIN,
+            b"tml-evidence 1\nentails 0 BEFORE 2\nwalk 2\nvia 0 0\nvia 1 0\nend\n",
+            b"evidence part 1 Step 1\n",
+        ),
+        refused(
+            CHAIN,
+            b"tml-evidence 1\nentails 0 BEFORE 2\nwalk 1\nvia 0 0\nend\n",
+            b"evidence part 1 End\n",
+        ),
+        refused(
+            CHAIN,
+            b"tml-evidence 1\nentails 3 BEFORE 4\nwalk 0\nend\n",
+            b"evidence part 0 Number 3\n",
+        ),
+        refused(
+            CHAIN,
+            b"tml-evidence 1\ncounter 0 BEFORE 7\ntimeline 0\nend\n",
+            b"evidence part 0 Number 7\n",
+        ),
+        refused(
+            CHAIN,
+            b"tml-evidence 1\ncounter 0 BEFORE 1\ntimeline 3\nat 0 1\nat 2 3\nat 4 5\nend\n",
+            b"evidence part 2 Holds\n",
+        ),
+        refused(
+            CHAIN,
+            b"tml-evidence 1\ncounter 0 BEFORE 1\ntimeline 3\nat 4 5\nat 2 3\nat 0 1\nend\n",
+            b"evidence part 1 Link 0\n",
+        ),
+        // a weak walk for a strict order
+        refused(
+            DAYS,
+            b"tml-evidence 1\nentails 0 BEFORE 1\nwalk 1\ncalendar 1 2\nend\n",
+            b"evidence part 1 Weak\n",
+        ),
+    ];
+    for pair in pairs.iter() {
+        check_pair(&rt, pair)?;
+    }
+    Ok(())
+}
+
+#[test]
 fn malformed_evidence_has_its_bad_line(rt: HostRuntime) -> Result<(), Fail> {
     let pairs = [
         refused(THREE, b"", b"evidence line 1\n"),
@@ -193,7 +251,7 @@ fn malformed_evidence_has_its_bad_line(rt: HostRuntime) -> Result<(), Fail> {
         refused(
             THREE,
             b"tml-evidence 1\nentails 0 BEFORE 1\n",
-            b"evidence line 2\n",
+            b"evidence line 3\n",
         ),
         refused(
             THREE,

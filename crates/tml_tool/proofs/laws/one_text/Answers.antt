@@ -2,4 +2,4 @@ use Rattle.tml_tool.proofs.OneNext as law
 use Rattle.tml_tool.proofs.laws.one_text.Goals as goal
 
 pub returns : goal.returns
-returns c = λ form status e. law.one_text form status
+returns c = law.one_text

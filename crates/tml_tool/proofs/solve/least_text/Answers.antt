@@ -1,5 +1,5 @@
-use Rattle.tml_tool.proofs.Timelines.{well_formed}
+use Rattle.evidence_format.proofs.SmallRanks.{small_ranks}
 use Rattle.tml_tool.proofs.solve.least_text.Goals as goal
 
 pub write_evidence-requires : goal.write_evidence-requires
-write_evidence-requires c = well_formed c.args.table.now.points c.in-Ok.ranks c.requires.few c.in-Ok.ensures.size c.in-Ok.ensures.small
+write_evidence-requires c = small_ranks c.args.table.now.points c.in-Ok.ranks c.requires.few c.in-Ok.ensures.size c.in-Ok.ensures.small
