@@ -1,10 +1,9 @@
 -- Each order that always holds has a walk: the steps of a net have a closed table whose cells all have walks, or some walk goes round with a strict step.
-use Rattle.std.proofs.Common.{◌≡◌, ◌↔◌, ℕ, ◌<◌, ◌≤◌, max, Bool, true, false, ◌||◌, List, [], ◌∷◌, ◌++◌, slice_index_or, Option, Some, None, refl, sym, ap, subst, ◌∙◌, arith, ◌⊎◌, inl, inr}
-use Rattle.std.specs.List.{AllByRecursion, list_any}
+use Rattle.std.proofs.Common.{◌≡◌, ℕ, ◌<◌, ◌≤◌, max, Bool, true, false, ◌||◌, List, [], ◌∷◌, ◌++◌, slice_index_or, Option, Some, None, refl, sym, ap, subst, ◌∙◌, arith, ◌⊎◌, inl, inr}
+use Rattle.std.specs.List.{AllByRecursion}
 use Rattle.std.proofs.lemmas.Bool.{cases_lt, cases_eq}
 use Rattle.std.proofs.lemmas.Bool.Decides.{nat_tests}
 use Rattle.std.proofs.lemmas.List.Folds.{list_any-append}
-use Rattle.net_core.specs.Atoms.{IsInOrder, Satisfies}
 use Rattle.net_core.specs.Fits.{FitsWith}
 use Rattle.net_core.specs.Nets.{IsNet, PlainNet, points}
 use Rattle.net_core.specs.Relations.{Timeline}
@@ -15,7 +14,7 @@ use Rattle.net_core.specs.declared.step.Step.{Step}
 use Rattle.net_core.specs.declared.step.Step.TheVariants.{Link, Span, Calendar}
 use Rattle.net_core.proofs.StepLaws.{fits_from_steps, step_in_range}
 use Rattle.net_core.proofs.WalkLaws.{joined_then, walk_kept}
-use Rattle.order_closure.specs.Cells.{Says, joined, order, strength, stronger}
+use Rattle.order_closure.specs.Cells.{joined, order, strength, stronger}
 use Rattle.order_closure.specs.Counting.{is_strict}
 use Rattle.order_closure.specs.Tables.{AreClosed, AreKept, Denies, new_cell, way}
 use Rattle.order_closure.specs.declared.cell.Cell.{Cell}
@@ -173,8 +172,12 @@ module _ (net : PlainNet) (test : ℕ → Bool) (is : IsNet net) where
       elim (denies_cases back a.strict) [
         | inl deny ↦
             let enough = denies_enough back a.strict deny in
-            inr (a.from, range.0, walk_through step a a.from a.from false (is_strict back) true goes ([], (refl, λ e. cc))
-            (has.walks a.to a.from (is_strict back) range.1 range.0 (own back enough.0)) (λ e. enough.1))
+            inr (
+              a.from,
+              range.0,
+              walk_through step a a.from a.from false (is_strict back) true goes ([], (refl, λ e. cc))
+                  (has.walks a.to a.from (is_strict back) range.1 range.0 (own back enough.0)) (λ e. enough.1),
+            )
         | inr fits ↦
             let new = λ (i j : ℕ). stronger (cell i j) (way cell a i j) in
             let still = raised_closed n cell a has.closed range.0 range.1 fits new (λ i j li lj. refl) in
@@ -185,7 +188,7 @@ module _ (net : PlainNet) (test : ℕ → Bool) (is : IsNet net) where
                 said = (
                   λ b other.
                       let here = always_stands n new still a.strict a.from a.to range.0 range.1
-                          (λ t kept. ((raised_kept n cell a has.closed range.0 range.1 fits new (λ i j li lj. refl) t).0 kept).1) in
+                      (λ t kept. ((raised_kept n cell a has.closed range.0 range.1 fits new (λ i j li lj. refl) t).0 kept).1) in
                       let same : a ≡ b = let e = goes.0 in let f = other.0 in cc in
                       subst (λ (x : Atom). strength (order x.strict) ≤ strength (new x.from x.to)) same here,
                   said_more cell new steps (λ i j. rw strength-stronger (omega arith)) has.said,

@@ -1,48 +1,18 @@
 -- Dates, and the orders of their points.
-use Rattle.std.proofs.Common.{◌≡◌, ◌↔◌, ℕ, ◌+◌, ℤ, pos, ◌<ℤ◌, List, Option, Some, None, Bool, true, false, [], ◌∷◌, ◌++◌, refl, subst, arith, below_more}
+use Rattle.std.proofs.Common.{◌≡◌, ◌↔◌, ℕ, ℤ, ◌<ℤ◌, int_le, int_lt, List, Option, Some, None, Bool, true, false, refl, sym, subst, arith}
 use Rattle.std.proofs.lemmas.Int.{ints}
-use Rattle.std.specs.Int.Signed.{lt_z}
-use Rattle.std.specs.List.{All, Contains}
-use Rattle.std.specs.List.Sorted.{IsPermutation}
-use Rattle.std.proofs.lemmas.List.Elements.{All-contains, All-push, All-weaker, Contains-append_left, Contains-push}
-use Rattle.std.proofs.lemmas.List.Sorted.{All-permutation, Contains-permutation}
-use Rattle.net_core.specs.Atoms.{IsInOrder}
+use Rattle.std.proofs.lemmas.List.Elements.{All-contains, All-weaker}
+use Rattle.net_core.specs.Atoms.{IsInOrder, Satisfies}
 use Rattle.net_core.specs.Fits.{FollowsNumbers}
 use Rattle.net_core.specs.Nets.{PlainNet, lower, points, upper}
 use Rattle.net_core.specs.Relations.{Timeline}
-use Rattle.clash.specs.Dates.{AllFollow, AreDates, Follows, FollowsAll, IsDate}
+use Rattle.net_core.specs.Steps.{calendar_order}
+use Rattle.net_core.specs.declared.atom.Atom.{Atom}
+use Rattle.net_core.proofs.StepLaws.{tested}
+use Rattle.walks.specs.Dates.{AreDates, IsDate}
+use Rattle.walks.specs.declared.dates.Date.{Date}
+use Rattle.clash.specs.Dates.{AllFollow, Follows, FollowsAll}
 use Rattle.clash.specs.Steps.{KeepsDates}
-use Rattle.clash.specs.declared.dates.Date.{Date}
-
--- a sort leaves the dates
-pub dates_sorted : (number : ℕ → Option ℤ) (n : ℕ) (dates sorted : List Date) → IsPermutation dates sorted → AreDates number n dates → AreDates number n sorted
-dates_sorted number n dates sorted moved h = record {
-  right = All-permutation (IsDate number n) dates sorted moved h.right;
-  whole = λ p x lp is. Contains-permutation dates sorted (record { number = x; point = p }) moved (h.whole p x lp is);
-}
-
--- what is true of points below n is true of those below n + 1
-date_below : (number : ℕ → Option ℤ) (n : ℕ) (dates : List Date) → All (IsDate number n) dates → All (IsDate number (n + 1)) dates
-date_below number n dates all = All-weaker (IsDate number n) (IsDate number (n + 1)) (λ date is. (let lt = is.0 in omega arith, is.1)) dates all
-
--- one point more that has no number
-pub dates_without : (number : ℕ → Option ℤ) (n : ℕ) (dates : List Date) → number n ≡ None → AreDates number n dates → AreDates number (n + 1) dates
-dates_without number n dates nothing h = record {
-  right = date_below number n dates h.right;
-  whole = λ p x lp is. below_more (λ (q : ℕ). number q ≡ Some x → Contains dates (record { number = x; point = q })) n (λ q lq. h.whole q x lq) (λ e. let both : None ≡ Some x = cc in cc) p lp is;
-}
-
--- one point more that has a number
-pub dates_with : (number : ℕ → Option ℤ) (n : ℕ) (dates : List Date) (x : ℤ) → number n ≡ Some x → AreDates number n dates
-    → AreDates number (n + 1) (dates ++ record { number = x; point = n } ∷ [])
-dates_with number n dates x is h =
-    let last : Date = record { number = x; point = n } in
-    record {
-      right = All-push (IsDate number (n + 1)) dates last (date_below number n dates h.right) (omega arith, is);
-      whole = λ p y lp e. below_more (λ (q : ℕ). number q ≡ Some y → Contains (dates ++ last ∷ []) (record { number = y; point = q })) n
-          (λ q lq k. Contains-append_left dates (last ∷ []) (record { number = y; point = q }) (h.whole q y lq k))
-          (λ k. let same : x ≡ y = cc in subst (λ (z : ℤ). Contains (dates ++ last ∷ []) (record { number = z; point = n })) same (Contains-push dates last)) p lp e;
-    }
 
 -- two points are in the order of their numbers where each two such numbers say so
 by_numbers : (u l : Option ℤ) (m n : ℕ) → ((x y : ℤ) → u ≡ Some x → l ≡ Some y → FollowsNumbers (Some x) (Some y) m n) → FollowsNumbers u l m n
@@ -66,22 +36,27 @@ dates_said net uppers lowers up low t = (
       lowers low.right) uppers up.right,
 )
 
--- what is read past the end of a list of dates
-abbrev pub no_date : Date
-no_date = record { number = pos 0; point = 0 }
-
--- what the test of two numbers says
-is_less : (x y : ℤ) → lt_z x y ≡ true → x <ℤ y
+-- what the tests of two numbers say
+is_less : (x y : ℤ) → int_lt x y ≡ true → x <ℤ y
 is_less x y e = grind (arith, ints)
 
-not_less : (x y : ℤ) → lt_z x y ≡ false → ¬ (x <ℤ y)
+not_less : (x y : ℤ) → int_lt x y ≡ false → ¬ (x <ℤ y)
 not_less x y e = grind (arith, ints)
 
 -- two numbers of which neither is less are one
-not_apart : (x y : ℤ) → lt_z x y ≡ false → lt_z y x ≡ false → x ≡ y
-not_apart x y e f = grind (arith, ints)
+not_apart : (x y : ℤ) → int_le x y ≡ true → int_lt x y ≡ false → x ≡ y
+not_apart x y le e = grind (arith, ints)
 
 -- the order of two points where the upper number of the first is not above the lower number of the second: strict where it is less
-pub order_said : (x y : ℤ) (m n : ℕ) (strict : Bool) → lt_z x y ≡ strict → lt_z y x ≡ false → IsInOrder strict m n ↔ FollowsNumbers (Some x) (Some y) m n
-order_said x y m n true less back = (λ h. (λ lt. h, λ e. omega arith), λ both. both.0 (is_less x y less))
-order_said x y m n false less back = (λ h. (λ lt. absurd (not_less x y less lt), λ e. h), λ both. both.1 (not_apart x y less back))
+order_said : (x y : ℤ) (m n : ℕ) (strict : Bool) → int_le x y ≡ true → int_lt x y ≡ strict → IsInOrder strict m n ↔ FollowsNumbers (Some x) (Some y) m n
+order_said x y m n true le less = (λ h. (λ lt. h, λ e. omega arith), λ both. both.0 (is_less x y less))
+order_said x y m n false le less = (λ h. (λ lt. absurd (not_less x y less lt), λ e. h), λ both. both.1 (not_apart x y le less))
+
+-- two points are in the order of their numbers where what the calendar gives is true of them
+pub date_order_said : (upper lower : Date) (atom : Atom) → Some atom ≡ calendar_order (Some upper.number) (Some lower.number) upper.point lower.point
+    → (t : Timeline) → Satisfies t atom ↔ Follows upper lower t
+date_order_said upper lower atom given t =
+    let strict = int_lt upper.number lower.number in
+    let order : Atom = record { from = upper.point; to = lower.point; strict = strict } in
+    let both = tested (int_le upper.number lower.number) order atom (sym given) in
+    subst (λ (a : Atom). Satisfies t a ↔ Follows upper lower t) both.1 (order_said upper.number lower.number (t upper.point) (t lower.point) strict both.0 refl)

@@ -1,17 +1,17 @@
 -- A net has finitely many steps: they stand in one list.
-use Rattle.std.proofs.Common.{◌≡◌, ℕ, zero, suc, ◌+◌, ◌*◌, ◌<◌, ℤ, int_le, int_lt, Bool, true, false, cond, nat_lt, List, [], ◌∷◌, ◌++◌, length, Option, Some, None, option_and_then, refl, sym, ap, subst, arith, inl, inr}
+use Rattle.std.proofs.Common.{◌≡◌, ℕ, zero, suc, ◌+◌, ◌*◌, ◌<◌, nat_lt, List, [], ◌∷◌, ◌++◌, length, Some, sym, subst, arith, inl, inr}
 use Rattle.std.specs.List.{AllByRecursion, slice_get}
-use Rattle.std.proofs.lemmas.Bool.{cases_lt, le-ltb}
+use Rattle.std.proofs.lemmas.Bool.{cases_lt, ltb-true}
 use Rattle.std.proofs.lemmas.Option.{get_or_from_slice_get, option_and_then_some, slice_get_within}
 use Rattle.net_core.specs.Atoms.{IsInRange, atoms_of, before}
 use Rattle.net_core.specs.Nets.{IsNet, PlainNet, intervals, link_at, lower, points, upper}
-use Rattle.net_core.specs.Steps.{atom_of, calendar_order}
+use Rattle.net_core.specs.Steps.{atom_of}
 use Rattle.net_core.specs.declared.atom.Atom.{Atom}
 use Rattle.net_core.specs.declared.net.NetLink.{NetLink}
 use Rattle.net_core.specs.declared.rels.Rel.TheVariants as rel
 use Rattle.net_core.specs.declared.step.Step.{Step}
 use Rattle.net_core.specs.declared.step.Step.TheVariants.{Link, Span, Calendar}
-use Rattle.net_core.proofs.StepLaws.{step_in_range}
+use Rattle.net_core.proofs.StepLaws.{ordered, step_in_range, tested}
 
 -- what is listed for each number below n
 each_below : (ℕ → List Step) → ℕ → List Step
@@ -59,24 +59,13 @@ module _ (P : Step → Type 0) where
       let within : i < count k = subst (λ (x : NetLink). i < length (atoms_of x.rel x.a x.b)) (sym same) (slice_get_within (atoms_of l.rel l.a l.b) i a here) in
       (at_number (λ j. Link k j ∷ []) (count k) i within
       (at_number (λ m. each_below (λ j. Link m j ∷ []) (count m)) (length net.links) k (slice_get_within net.links k l at) (all_left (over_links net) (over_spans net ++ in_calendar net) all))).0)
-  of_every_step net (Span i) a is e all = elim (cases_lt i (intervals net)) [
-    | inl lt ↦ (at_number (λ j. Span j ∷ []) (intervals net) i lt (all_left (over_spans net) (in_calendar net) (all_right (over_links net) (over_spans net ++ in_calendar net) all))).0
-    | inr ge ↦
-        let not : nat_lt i (intervals net) ≡ false = le-ltb i (intervals net) (omega arith) in
-        absurd (let none : None ≡ Some a = subst (λ (b : Bool). cond b (Some (before (2 * i) (2 * i + 1))) None ≡ Some a) not e in cc)
-  ]
+  of_every_step net (Span i) a is e all =
+      let within = ltb-true i (intervals net) (tested (nat_lt i (intervals net)) (before (2 * i) (2 * i + 1)) a e).0 in
+      (at_number (λ j. Span j ∷ []) (intervals net) i within
+      (all_left (over_spans net) (in_calendar net) (all_right (over_links net) (over_spans net ++ in_calendar net) all))).0
   of_every_step net (Calendar p q) a is e all =
-      let range = step_in_range net (Calendar p q) a is e in
-      let ends = calendar_ends (upper net p) (lower net q) p q a e in
-      (at_number (λ j. Calendar p j ∷ []) (points net) q (subst (λ (x : ℕ). x < points net) ends.1 range.1)
-      (at_number (λ m. each_below (λ j. Calendar m j ∷ []) (points net)) (points net) p (subst (λ (x : ℕ). x < points net) ends.0 range.0)
+      let ends = ordered (upper net p) (lower net q) p q a e in
+      let range = subst (IsInRange (points net)) (sym ends.5) (step_in_range net (Calendar p q) a is e) in
+      (at_number (λ j. Calendar p j ∷ []) (points net) q range.1
+      (at_number (λ m. each_below (λ j. Calendar m j ∷ []) (points net)) (points net) p range.0
       (all_right (over_spans net) (in_calendar net) (all_right (over_links net) (over_spans net ++ in_calendar net) all)))).0
-    where
-      tested : (b strict : Bool) (p q : ℕ) (a : Atom) → cond b (Some (record { from = p; to = q; strict = strict })) None ≡ Some a → (a.from ≡ p) × (a.to ≡ q)
-      tested true strict p q a e = let same : record { from = p; to = q; strict = strict } ≡ a = cc in (ap (λ (x : Atom). x.from) (sym same), ap (λ (x : Atom). x.to) (sym same))
-      tested false strict p q a e = absurd cc
-
-      calendar_ends : (u l : Option ℤ) (p q : ℕ) (a : Atom) → calendar_order u l p q ≡ Some a → (a.from ≡ p) × (a.to ≡ q)
-      calendar_ends (Some x) (Some y) p q a e = tested (int_le x y) (int_lt x y) p q a e
-      calendar_ends (Some x) None p q a e = absurd cc
-      calendar_ends None l p q a e = absurd cc

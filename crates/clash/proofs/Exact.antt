@@ -8,18 +8,12 @@ use Rattle.order_closure.specs.Counting.{before_count}
 use Rattle.order_closure.specs.Tables.{IsClosed, Keeps, Table, cell_at}
 use Rattle.order_closure.specs.declared.cell.Cell.{Cell}
 use Rattle.order_closure.specs.declared.cell.Cell.TheVariants.{Free, Strict, Weak}
-use Rattle.order_closure.proofs.Central.{always_stands}
+use Rattle.order_closure.proofs.Central.{always_stands, order_says}
 use Rattle.order_closure.proofs.Ranking.{counts_kept, strict_from, strict_says}
 use Rattle.clash.specs.Closures.{Always, IsClosureOf, TellsClash}
 use Rattle.clash.specs.Steps.{Adds, AddsOrClashes, KeepsDates, KeepsLinks, KeepsSpans}
 use Rattle.clash.specs.declared.closure.CloseFault.{CloseFault}
 use Rattle.clash.specs.declared.closure.CloseFault.TheVariants as faults
-
--- what a Weak cell says
-weak_says : (x : Cell) (a b : ℕ) → x ≡ Weak → Says x a b → a ≤ b
-weak_says Free a b e h = cc
-weak_says Weak a b e h = h
-weak_says Strict a b e h = cc
 
 -- a cell that says something is Weak or Strict
 weak_or_strict : (x : Cell) → 1 ≤ strength x → ¬ (x ≡ Strict) → x ≡ Weak
@@ -49,7 +43,7 @@ module _ (net : PlainNet) (table : Table) (closed : IsClosed table) (size : tabl
         let lp : p < table.points = omega arith in
         let lq : q < table.points = omega arith in (
           λ e. (
-            λ t fits. weak_says (cell_at table p q) _ _ e (says p q lp lq t fits),
+            λ t fits. order_says (cell_at table p q) false _ _ (rw e (omega arith)) (says p q lp lq t fits),
             λ always. let is = strict_from (cell_at table p q) (stands true p q lp lq always) in cc,
           ),
           λ both. weak_or_strict _ (stands false p q lp lq both.0)

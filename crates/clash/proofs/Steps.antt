@@ -1,8 +1,10 @@
 -- What is added to a table, step by step.
-use Rattle.std.proofs.Common.{◌↔◌, ℕ, ◌<◌, ◌+◌, List, length, get_or, Result, Ok, Err, ◌∙◌, arith, below_more}
+use Rattle.std.proofs.Common.{◌↔◌, ℕ, ◌<◌, ◌+◌, List, length, get_or, Result, Ok, Err, subst, ◌∙◌, ◌≡◌, arith, below_more}
 use Rattle.std.specs.List.{All}
 use Rattle.std.proofs.lemmas.List.Elements.{All-from_get_or, All-get_or}
+use Rattle.net_core.specs.Atoms.{Satisfies}
 use Rattle.net_core.specs.Relations.{Timeline}
+use Rattle.net_core.specs.declared.atom.Atom.{Atom}
 use Rattle.order_closure.specs.Tables.{Table}
 use Rattle.clash.specs.Steps.{Adds, AddsOrClashes}
 use Rattle.clash.specs.declared.closure.CloseFault.{CloseFault}
@@ -37,6 +39,11 @@ answer_same P Q same start last (Ok done) adds =
     (adds.0, λ t. (λ kept. let both = (adds.1 t).0 kept in (both.0, (same t).0 both.1), λ both. (adds.1 t).1 (both.0, (same t).1 both.1)))
 answer_same P Q same start last (Err (faults.Clash clash)) none = λ t kept holds. none t kept ((same t).1 holds)
 answer_same P Q same start last (Err faults.Memory) none = tt
+
+-- the same where an atom is equal to another
+pub atom_same : (atom other : Atom) (start last : Table) (result : Result Unit CloseFault) → atom ≡ other
+    → AddsOrClashes (λ t. Satisfies t atom) start last result → AddsOrClashes (λ t. Satisfies t other) start last result
+atom_same atom other start last result same answer = subst (λ (a : Atom). AddsOrClashes (λ t. Satisfies t a) start last result) same answer
 
 -- something is true of all items of a list
 pub all_below : {X : Type 0} (IsTrue : X → Timeline → Type 0) (xs : List X) (default : X) (t : Timeline)

@@ -1,30 +1,9 @@
--- Points with the numbers that the calendar gives them.
-use Rattle.std.specs.Prelude.{◌≡◌, ℕ, ◌<◌, ℤ, List, Option, Some}
-use Rattle.std.specs.List.{All, Contains}
+-- The orders that the calendar gives the points of dates.
+use Rattle.std.specs.Prelude.{List, Some}
+use Rattle.std.specs.List.{All}
 use Rattle.net_core.specs.Fits.{FollowsNumbers}
-use Rattle.net_core.specs.Nets.{PlainNet, lower, upper}
 use Rattle.net_core.specs.Relations.{Timeline}
-use Rattle.clash.specs.declared.dates.Date.{Date}
-use Rattle.clash.specs.declared.dates.Side.{Side}
-use Rattle.clash.specs.declared.dates.Side.TheVariants.{Lower, Upper}
-
--- the number that a point is not below, or not above
-abbrev pub number_at : Side → PlainNet → ℕ → Option ℤ
-number_at Lower net p = lower net p
-number_at Upper net p = upper net p
-
--- the date of a point below n
-abbrev pub IsDate : (ℕ → Option ℤ) → ℕ → Date → Type 0
-IsDate number n date = (date.point < n) × (number date.point ≡ Some date.number)
-
--- the points below n that have a number, each with its number, in any order
-pub record AreDates (number : ℕ → Option ℤ) (n : ℕ) (dates : List Date) : Type 0 where
-  pub right : All (IsDate number n) dates
-  pub whole : (p : ℕ) (x : ℤ) → p < n → number p ≡ Some x → Contains dates (record { number = x; point = p })
-
--- all dates are of points below n
-abbrev pub AreBelow : ℕ → List Date → Type 0
-AreBelow n dates = All (λ (date : Date). date.point < n) dates
+use Rattle.walks.specs.declared.dates.Date.{Date}
 
 -- a point with an upper number, and one with a lower number, are in the order of the calendar
 abbrev pub Follows : Date → Date → Timeline → Type 0

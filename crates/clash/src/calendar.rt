@@ -1,15 +1,17 @@
 //! Adding the orders of the calendar.
-ghost use Rattle.clash.specs.Dates.{AllFollow, AreBelow, Follows, FollowsAll};
+ghost use Rattle.clash.specs.Dates.{AllFollow, Follows, FollowsAll};
 ghost use Rattle.clash.specs.Steps.{AddsOrClashes, KeepsDates};
 ghost use Rattle.net_core.specs.Nets.{points};
+ghost use Rattle.net_core.specs.Steps.{calendar_order};
 ghost use Rattle.std.specs.Prelude.{◌<◌, ◌≡◌};
+ghost use Rattle.walks.specs.Dates.{AreBelow};
 
 use crate::closure::CloseFault;
-use crate::dates::{Date, lowers_of, uppers_of};
 use crate::insert::insert;
 use net_core::{Atom, Net};
 use order_closure::Closed;
 use std::alloc::Global;
+use walks::{Date, lowers_of, uppers_of};
 
 /// Adds the orders of all points that the calendar orders. The points with an upper number are taken from the greatest
 /// one down, and for each of them those with a lower number from the least one up: so nearly each order but one for
@@ -53,15 +55,22 @@ fn add_order(table: &mut Closed, upper: Date, lower: Date) -> Result<(), CloseFa
     requires lower { lower.point < table.old.points }
     ensures { AddsOrClashes (Follows upper lower) table.old table.new result }
 {
-    if upper.number > lower.number {
+    let Some(atom) = order_of(upper, lower) else {
         return Ok(());
+    };
+    insert(table, atom)
+}
+
+/// The order of a point with an upper number and one with a lower number, where the calendar gives one.
+fn order_of(upper: Date, lower: Date) -> Option<Atom>
+    ensures { result ≡ calendar_order (Some upper.number) (Some lower.number) upper.point lower.point }
+{
+    if upper.number > lower.number {
+        return None;
     }
-    insert(
-        table,
-        Atom {
-            from: upper.point,
-            to: lower.point,
-            strict: upper.number < lower.number,
-        },
-    )
+    Some(Atom {
+        from: upper.point,
+        to: lower.point,
+        strict: upper.number < lower.number,
+    })
 }

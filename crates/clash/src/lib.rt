@@ -3,7 +3,6 @@
 
 mod calendar;
 mod closure;
-mod dates;
 mod insert;
 mod laws;
 mod links;

@@ -1,9 +1,11 @@
 //! Adding the spans of intervals, and the links between them.
 ghost use Rattle.clash.specs.Steps.{AddsOrClashes, KeepsLinks, KeepsSpans};
-ghost use Rattle.net_core.specs.Atoms.{atoms_in};
-ghost use Rattle.net_core.specs.Nets.{points};
+ghost use Rattle.net_core.specs.Atoms as spec;
+ghost use Rattle.net_core.specs.Atoms.{atoms_in, before};
+ghost use Rattle.net_core.specs.Nets.{IsNet, link_at, points};
 ghost use Rattle.order_closure.specs.Tables.{AreInRange, SatisfiesAll};
-ghost use Rattle.std.specs.Prelude.{◌≡◌};
+ghost use Rattle.std.specs.List.{slice_get};
+ghost use Rattle.std.specs.Prelude.{length, ◌*◌, ◌+◌, ◌<◌, ◌^◌, ◌≡◌};
 
 use crate::closure::CloseFault;
 use crate::insert::insert;
@@ -16,16 +18,21 @@ pub fn add_spans(table: &mut Closed, net: &Net) -> Result<(), CloseFault>
     ensures { AddsOrClashes (KeepsSpans net.now) table.old table.new result }
 {
     for i in 0..net.intervals() {
-        insert(
-            table,
-            Atom {
-                from: 2 * i,
-                to: 2 * i + 1,
-                strict: true,
-            },
-        )?;
+        insert(table, span_order(i))?;
     }
     Ok(())
+}
+
+/// The order of the start and the end of an interval.
+fn span_order(interval: u32) -> Atom
+    requires { interval < 2 ^ 31 }
+    ensures { result ≡ before (2 * interval) (2 * interval + 1) }
+{
+    Atom {
+        from: 2 * interval,
+        to: 2 * interval + 1,
+        strict: true,
+    }
 }
 
 /// Adds that each link holds.
@@ -34,10 +41,20 @@ pub fn add_links(table: &mut Closed, net: &Net) -> Result<(), CloseFault>
     ensures { AddsOrClashes (KeepsLinks net.now) table.old table.new result }
 {
     for k in 0..net.links() {
-        let link = net.link(k);
-        add_atoms(table, atoms_of(link.rel, link.a, link.b))?;
+        add_atoms(table, atoms_of_link(net, k))?;
     }
     Ok(())
+}
+
+/// The orders of points that the link of this number is.
+fn atoms_of_link(net: &Net, k: u32) -> Atoms
+    requires net { IsNet net.now }
+    requires k { k < length net.now.links }
+    ensures atoms { let link = link_at net.now k in atoms_in result ≡ spec.atoms_of link.rel link.a link.b }
+    ensures in_range { AreInRange (points net.now) (atoms_in result) }
+{
+    let link = net.link(k);
+    atoms_of(link.rel, link.a, link.b)
 }
 
 /// Adds the orders of points that a relation is.
@@ -46,9 +63,18 @@ fn add_atoms(table: &mut Closed, atoms: Atoms) -> Result<(), CloseFault>
     ensures { AddsOrClashes (SatisfiesAll (atoms_in atoms)) table.old table.new result }
 {
     for number in 0..atoms.count() {
-        if let Some(atom) = atoms.atom(number) {
-            insert(table, atom)?;
-        }
+        insert(table, nth(&atoms, number))?;
     }
     Ok(())
+}
+
+/// The order of this number, of those that a relation is.
+fn nth(atoms: &Atoms, number: u32) -> Atom
+    requires { number < length (atoms_in atoms.now) }
+    ensures { slice_get (atoms_in atoms.now) number ≡ Some result }
+{
+    match atoms.atom(number) {
+        Some(atom) => atom,
+        None => unreachable!(),
+    }
 }

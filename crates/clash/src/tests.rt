@@ -1,5 +1,6 @@
 //! Small nets, with the cells that follow from them by hand. Interval `a` has the points 0 and 1, and `b` has 2 and 3.
 mod by_definition;
+mod by_walks;
 
 use crate::{CloseFault, close};
 use net_core::{Bounds, List, Net, NetLink, Rel};

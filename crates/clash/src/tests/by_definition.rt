@@ -25,8 +25,8 @@ const RELATIONS: [Rel; 14] = [
     Rel::EndedBy,
 ];
 
-/// What is known of the order of two points in every timeline that fits, or none where no timeline fits. Four points have
-/// every order that they can have with ranks below 4.
+/// What is known of the order of two points in every timeline that fits, or none where no timeline fits. Four points
+/// have every order that they can have with ranks below 4.
 fn cell_by_definition(net: &Net, p: usize, q: usize) -> Option<Cell>
     requires p { p < 4 }
     requires q { q < 4 }

@@ -2,10 +2,10 @@ use Rattle.std.proofs.Common.{◌≡◌, ◌<◌, ℕ, Err, Ok, length, get_or, 
 use Rattle.std.proofs.lemmas.List.Elements.{All-get_or}
 use Rattle.std.proofs.lemmas.Result.{err_from_is_err_and}
 use Rattle.net_core.specs.Relations.{Timeline}
+use Rattle.walks.specs.declared.dates.Date.{Date}
+use Rattle.walks.proofs.DateLaws.{no_date}
 use Rattle.clash.specs.Dates.{Follows, FollowsAll}
-use Rattle.clash.specs.declared.dates.Date.{Date}
 use Rattle.clash.specs.Steps.{Adds}
-use Rattle.clash.proofs.DateOrders.{no_date}
 use Rattle.clash.proofs.Steps.{Below, adds_more, all_below, answer_same, clashes_more}
 use Rattle.clash.proofs.calendar.add_after.Goals as goal
 

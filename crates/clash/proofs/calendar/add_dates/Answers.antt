@@ -2,10 +2,11 @@ use Rattle.std.proofs.Common.{◌≡◌, ◌<◌, ℕ, Err, Ok, length, get_or, 
 use Rattle.std.proofs.lemmas.List.Elements.{All-get_or}
 use Rattle.std.proofs.lemmas.Result.{err_from_is_err_and}
 use Rattle.net_core.specs.Relations.{Timeline}
-use Rattle.clash.specs.Dates.{AllFollow, AreBelow, FollowsAll}
-use Rattle.clash.specs.declared.dates.Date.{Date}
+use Rattle.walks.specs.Dates.{AreBelow}
+use Rattle.walks.specs.declared.dates.Date.{Date}
+use Rattle.walks.proofs.DateLaws.{no_date}
+use Rattle.clash.specs.Dates.{AllFollow, FollowsAll}
 use Rattle.clash.specs.Steps.{Adds}
-use Rattle.clash.proofs.DateOrders.{no_date}
 use Rattle.clash.proofs.Steps.{Below, adds_more, all_below, answer_same, clashes_more}
 use Rattle.clash.proofs.calendar.add_dates.Goals as goal
 

@@ -1,7 +1,7 @@
 use Rattle.std.proofs.Common.{get_or}
+use Rattle.walks.proofs.DateLaws.{no_date}
 use Rattle.clash.specs.Dates.{FollowsAll}
 use Rattle.clash.specs.Steps.{Adds}
-use Rattle.clash.proofs.DateOrders.{no_date}
 use Rattle.clash.proofs.Steps.{Below}
 use Rattle.clash.proofs.calendar.add_dates.Given as goal
 
