@@ -1,6 +1,6 @@
 //! Writing evidence.
 ghost use Rattle.evidence_format.specs.Evidence as lines;
-ghost use Rattle.evidence_format.specs.Evidence.{IsNumber, IsText, IsWellFormed, first_line, last_line};
+ghost use Rattle.evidence_format.specs.Evidence.{AreRanks, IsNumber, IsText, IsWellFormed, first_line, last_line};
 ghost use Rattle.evidence_format.specs.View.{plain};
 ghost use Rattle.evidence_format.specs.Written.{body_bytes, timeline_bytes, walk_bytes};
 ghost use Rattle.net_core.specs.Ranks.{pairs_of};
@@ -66,7 +66,7 @@ fn push_body(out: &mut Vec<u8>, evidence: &Evidence) -> Result<(), AllocError>
 }
 
 fn push_timelines(out: &mut Vec<u8>, timelines: &[Ranks]) -> Result<(), AllocError>
-    requires { All (λ ranks. IsNumber (length (pairs_of ranks))) timelines.now }
+    requires { All AreRanks (map pairs_of timelines.now) }
     ensures { OnOk result (out.new.items ≡ out.old.items ++ flat_map timeline_bytes (map pairs_of timelines.now)) }
 {
     for ranks in timelines {
