@@ -23,14 +23,14 @@ use Rattle.evidence_format.proofs.ReaderLaws.{Has, AreMany, exact_form, exact_ma
 use Rattle.evidence_format.proofs.CiteLaws.{HasCites, exact_cites}
 
 -- the kind of evidence
-abbrev head_for : PlainEvidence → Head
+abbrev pub head_for : PlainEvidence → Head
 head_for (timeline ranks) = Timeline (length ranks)
 head_for (entails a r b walks) = Entails a r b
 head_for (counter a r b ranks) = Counter a r b
 head_for (clash cites walk spares) = Clash (length cites)
 
 -- the lines that follow the one that tells the kind
-abbrev rest_lines : PlainEvidence → Lines
+abbrev pub rest_lines : PlainEvidence → Lines
 rest_lines (timeline ranks) = map at_line ranks
 rest_lines (entails a r b walks) = flat_map walk_lines walks
 rest_lines (counter a r b ranks) = timeline_lines ranks
@@ -41,7 +41,7 @@ abbrev pub HasRest : Head → PlainEvidence → Lines → Type 0
 HasRest h e ls = IsWellFormed e × (head_for e ≡ h) × (ls ≡ rest_lines e)
 
 -- the body is the line that tells the kind, and those that follow it
-body_is : (e : PlainEvidence) → body_lines e ≡ head_line (head_for e) ∷ rest_lines e
+pub body_is : (e : PlainEvidence) → body_lines e ≡ head_line (head_for e) ∷ rest_lines e
 body_is (timeline ranks) = refl
 body_is (entails a r b walks) = refl
 body_is (counter a r b ranks) = refl
