@@ -16,10 +16,8 @@ pub fn timelines_at<'t>(
     count: u32,
     text: &'t [u8],
 ) -> Result<(List<Ranks>, &'t [u8]), Stop<'t>>
-    ensures {
-        Gives (λ x. (map pairs_of x.0, lines_of x.1.now)) result
-            (readers.many_at readers.timeline_at count (lines_of text.now))
-    }
+    ensures { Gives (λ x. (map pairs_of x.0, lines_of x.1.now)) result
+        (readers.many_at readers.timeline_at count (lines_of text.now)) }
 {
     let mut timelines = List::new(alloc);
     let mut rest = text;
