@@ -23,7 +23,7 @@ use Rattle.evidence_format.proofs.ReaderLaws.{Has, AreMany, exact_form, exact_ma
 use Rattle.evidence_format.proofs.CiteLaws.{HasCites, exact_cites}
 
 -- the kind of evidence
-abbrev pub head_for : PlainEvidence → Head
+abbrev head_for : PlainEvidence → Head
 head_for (timeline ranks) = Timeline (length ranks)
 head_for (entails a r b walks) = Entails a r b
 head_for (counter a r b ranks) = Counter a r b
@@ -124,12 +124,12 @@ abbrev pub HasSpares : ℕ → List ℕ → List Step → PlainEvidence → Line
 HasSpares n cites walk e ls = (spares : List (List (ℕ × ℕ))) × AreMany AreRanks timeline_lines n spares ls × (e ≡ clash cites walk spares)
 
 -- the walk and the spares of a clash with these cites
-abbrev pub HasProof : ℕ → List ℕ → PlainEvidence → Lines → Type 0
-HasProof n cites = Then (Has AreSteps walk_lines) (HasSpares n cites)
+abbrev pub HasWalkAndSpares : ℕ → List ℕ → PlainEvidence → Lines → Type 0
+HasWalkAndSpares n cites = Then (Has AreSteps walk_lines) (HasSpares n cites)
 
 -- a clash of so many links, by its cites, its walk and its spares
 abbrev pub HasClash : ℕ → PlainEvidence → Lines → Type 0
-HasClash n = Then (HasCites n) (HasProof n)
+HasClash n = Then (HasCites n) (HasWalkAndSpares n)
 
 -- a clash is well formed, and these are its lines
 pub clash_is : (n : ℕ) (e : PlainEvidence) (ls : Lines) → HasClash n e ls → HasRest (Clash n) e ls
@@ -158,15 +158,15 @@ pub exact_spares : (n : ℕ) (cites : List ℕ) (walk : List Step) → Exact (Ha
 exact_spares n cites walk = exact_map (λ spares. clash cites walk spares) (AreMany AreRanks timeline_lines n) (many_at timeline_at n) (exact_many AreRanks timeline_lines timeline_at exact_timeline n)
 
 -- the walk and the spares of a clash
-pub exact_proof : (n : ℕ) (cites : List ℕ) → Exact (HasProof n cites) (λ ls. walk_at ls >>= λ walk. many_at timeline_at n walk.1 >>= λ spares. Ok (clash cites walk.0 spares.0, spares.1))
-exact_proof n cites = exact_then (Has AreSteps walk_lines) (HasSpares n cites) walk_at (λ walk ls. many_at timeline_at n ls >>= λ spares. Ok (clash cites walk spares.0, spares.1)) exact_walk (λ walk prefix g. exact_spares n cites walk)
+pub exact_walk_and_spares : (n : ℕ) (cites : List ℕ) → Exact (HasWalkAndSpares n cites) (λ ls. walk_at ls >>= λ walk. many_at timeline_at n walk.1 >>= λ spares. Ok (clash cites walk.0 spares.0, spares.1))
+exact_walk_and_spares n cites = exact_then (Has AreSteps walk_lines) (HasSpares n cites) walk_at (λ walk ls. many_at timeline_at n ls >>= λ spares. Ok (clash cites walk spares.0, spares.1)) exact_walk (λ walk prefix g. exact_spares n cites walk)
 
 -- the cites, the walk and the spares of a clash
 exact_clash : (n : ℕ) → IsNumber n → Exact (HasRest (Clash n)) (rest_at (Clash n))
 unfolding rest_at
 exact_clash n small =
     exact_same (HasClash n) (HasRest (Clash n)) (λ ls. cites_at n 0 ls >>= λ cites. walk_at cites.1 >>= λ walk. many_at timeline_at n walk.1 >>= λ spares. Ok (clash cites.0 walk.0 spares.0, spares.1)) (clash_is n) (clash_has n)
-    (exact_then (HasCites n) (HasProof n) (cites_at n 0) (λ cites ls. walk_at ls >>= λ walk. many_at timeline_at n walk.1 >>= λ spares. Ok (clash cites walk.0 spares.0, spares.1)) (exact_cites n small) (λ cites prefix g. exact_proof n cites))
+    (exact_then (HasCites n) (HasWalkAndSpares n) (cites_at n 0) (λ cites ls. walk_at ls >>= λ walk. many_at timeline_at n walk.1 >>= λ spares. Ok (clash cites walk.0 spares.0, spares.1)) (exact_cites n small) (λ cites prefix g. exact_walk_and_spares n cites))
 
 -- what follows the line that tells the kind
 exact_rest : (h : Head) → IsHead h → Exact (HasRest h) (rest_at h)

@@ -1,12 +1,9 @@
 -- The reader of cites is exact.
-use Rattle.std.proofs.Common.{◌≡◌, ℕ, zero, suc, ◌+◌, ◌-◌, ◌^◌, ◌<◌, ◌≤◌, true, cond, leb, ltb, ◌&&◌, List, [], ◌∷◌, ◌++◌, length, map, get_or, Some, None, Ok, Err, refl, sym, ap, subst, ◌∙◌, add-zero, add-suc, append_assoc, arith}
+use Rattle.std.proofs.Common.{◌≡◌, ℕ, zero, suc, ◌+◌, ◌^◌, ◌<◌, ◌≤◌, true, cond, leb, ltb, ◌&&◌, List, [], ◌∷◌, ◌++◌, length, map, Some, None, Ok, Err, refl, sym, ap, subst, ◌∙◌, arith}
 use Rattle.std.specs.Prelude.{codes}
-use Rattle.std.specs.List.{All, AllByRecursion}
-use Rattle.std.specs.List.Sorted.{IsStrictlyIncreasing}
 use Rattle.std.proofs.lemmas.Bool.{lt-ltb}
 use Rattle.std.proofs.lemmas.Bool.Decides.{nat_tests}
 use Rattle.std.proofs.lemmas.List.{append-nil}
-use Rattle.std.proofs.lemmas.List.Elements.{All-from_recursion}
 use Rattle.evidence_format.specs.declared.stop.Stop.{Stop}
 use Rattle.evidence_format.specs.declared.stop.Stop.TheVariants as stop
 use Rattle.evidence_format.specs.Lines.{Lines, lines_of}
@@ -16,7 +13,6 @@ use Rattle.evidence_format.specs.Evidence.{IsNumber, AreCites, cite_line}
 use Rattle.evidence_format.specs.Words.{one_of}
 use Rattle.evidence_format.specs.Forms.{cite_of}
 use Rattle.evidence_format.specs.Readers.{cites_at}
-use Rattle.evidence_format.specs.Parts.{LeaveNumbers}
 use Rattle.evidence_format.specs.Given.{StopsAt}
 use Rattle.evidence_format.proofs.Exact.{Exact, exact_then, exact_give, exact_same}
 use Rattle.evidence_format.proofs.Numbers.{guard, some_bind}

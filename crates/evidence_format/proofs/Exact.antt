@@ -180,7 +180,7 @@ exact_give {B} b = record {
 }
 
 -- lines that begin a value begin it, said otherwise
-pub regraded : {A : Type 0} (G H : A → Lines → Type 0) → ((a : A) (ls : Lines) → G a ls → H a ls) → (ls : Lines) → Begins G ls → Begins H ls
+regraded : {A : Type 0} (G H : A → Lines → Type 0) → ((a : A) (ls : Lines) → G a ls → H a ls) → (ls : Lines) → Begins G ls → Begins H ls
 regraded G H to ls b = (b.0, b.1, to b.0 (ls ++ b.1) b.2)
 
 -- the same values, said otherwise

@@ -14,11 +14,11 @@ use Rattle.evidence_format.specs.Grammar.{Begins}
 use Rattle.evidence_format.specs.Evidence.{PlainEvidence, timeline, entails, counter, clash, IsNumber, IsPair, AreRanks, HasNumbers, AreSteps, AreCites, IsWellFormed, one_number, relation_line, at_line, timeline_lines, step_line, walk_lines, cite_line, body_lines, text_lines, first_line, last_line}
 use Rattle.evidence_format.specs.Parts.{IsBegunTimeline, IsBegunWalk, MayBegin, AreBegunParts, AreBegunWalks, AreBegunTimelines, AreBegunCites, IsBegunClash, IsBegunBody, IsBegunByParts}
 use Rattle.evidence_format.specs.Begun.{IsBegun}
-use Rattle.evidence_format.proofs.Exact.{parted, then_begins, first_begins, regraded}
+use Rattle.evidence_format.proofs.Exact.{parted, then_begins, first_begins}
 use Rattle.evidence_format.proofs.ReaderLaws.{Has, AreCounted, AreMany, exact_walk}
 use Rattle.evidence_format.proofs.Rising.{Rise, rise_from_cites, rise_from_places, increasing, leaving, cites_from_rise, rise_prefix, rise_on}
 use Rattle.evidence_format.proofs.CiteLaws.{HasCites}
-use Rattle.evidence_format.proofs.BodyLaws.{HasSpares, HasProof, HasClash, rest_lines, clash_is, body_is, exact_spares, exact_proof}
+use Rattle.evidence_format.proofs.BodyLaws.{HasSpares, HasWalkAndSpares, HasClash, rest_lines, clash_is, body_is, exact_spares, exact_walk_and_spares}
 use Rattle.evidence_format.proofs.FormLaws.{head_line}
 
 -- how many values there are, and a line for each
@@ -237,17 +237,17 @@ cites_begin n ls small h =
 
 -- a begun clash goes on to a whole one
 clash_begins : (n : ℕ) (ls : Lines) → IsNumber n → IsBegunClash n ls → Begins (HasClash n) ls
-clash_begins n ls small (inl begun) = let c = cites_begin n ls small begun in first_begins (HasCites n) (HasProof n) ls c (exact_proof n c.0).alive
+clash_begins n ls small (inl begun) = let c = cites_begin n ls small begun in first_begins (HasCites n) (HasWalkAndSpares n) ls c (exact_walk_and_spares n c.0).alive
 clash_begins n ls small (inr (inl h)) =
     let w = may_begin (Has AreSteps walk_lines) IsBegunWalk exact_walk.alive walk_begins h.1 h.4 in
     let proof = first_begins (Has AreSteps walk_lines) (HasSpares n h.0) h.1 w (exact_spares n h.0 w.0).alive in
-    subst (Begins (HasClash n)) (sym h.5) (then_begins (HasCites n) (HasProof n) h.0 (map cite_line h.0) h.1 (h.2, h.3, refl) proof)
+    subst (Begins (HasClash n)) (sym h.5) (then_begins (HasCites n) (HasWalkAndSpares n) h.0 (map cite_line h.0) h.1 (h.2, h.3, refl) proof)
 clash_begins n ls small (inr (inr h)) =
     let w = h.4 in
     let s = timelines_begin n w.1 w.3 in
     let spares : Begins (HasSpares n h.0 w.0) w.1 = (clash h.0 w.0 s.0, s.1, (s.0, s.2, refl)) in
-    let proof = subst (Begins (HasProof n h.0)) (sym w.4) (then_begins (Has AreSteps walk_lines) (HasSpares n h.0) w.0 (walk_lines w.0) w.1 (w.2, refl) spares) in
-    subst (Begins (HasClash n)) (sym h.5) (then_begins (HasCites n) (HasProof n) h.0 (map cite_line h.0) h.1 (h.2, h.3, refl) proof)
+    let proof = subst (Begins (HasWalkAndSpares n h.0)) (sym w.4) (then_begins (Has AreSteps walk_lines) (HasSpares n h.0) w.0 (walk_lines w.0) w.1 (w.2, refl) spares) in
+    subst (Begins (HasClash n)) (sym h.5) (then_begins (HasCites n) (HasWalkAndSpares n) h.0 (map cite_line h.0) h.1 (h.2, h.3, refl) proof)
 
 -- a begun body goes on to a whole one
 body_begins : (ls : Lines) → IsBegunBody ls → Begins (Has IsWellFormed body_lines) ls

@@ -9,11 +9,15 @@ use Rattle.net_core.specs.declared.step.Step.{Step}
 use Rattle.net_core.specs.declared.step.Step.TheVariants.{Link, Span, Calendar}
 use Rattle.evidence_format.specs.Lines.{Lines}
 
--- What a file is evidence of: a timeline, by the ranks of the start and the end of each interval; a relation between two intervals that holds in every timeline that fits, by a walk for each order that it is; a relation that fails in one of them, by the ranks of that one; or links that cannot all be true, by their numbers, the cites, by a closed walk over them, and by the ranks of a spare for each of them, a timeline in which the others hold.
+-- What a file is evidence of.
 pub data PlainEvidence : Type 0 where
+  -- a timeline, by the ranks of the start and the end of each interval
   timeline : List (ℕ × ℕ) → PlainEvidence
+  -- a relation between two intervals that holds in every timeline that fits, by a walk for each order that it is
   entails : ℕ → Rel → ℕ → List (List Step) → PlainEvidence
+  -- such a relation that fails in one of them, by the ranks of that one
   counter : ℕ → Rel → ℕ → List (ℕ × ℕ) → PlainEvidence
+  -- links that cannot all be true, by their numbers, the cites, by a closed walk over them, and by a spare for each of them: the ranks of a timeline in which the others hold
   clash : List ℕ → List Step → List (List (ℕ × ℕ)) → PlainEvidence
 
 -- a number that can stand in a text

@@ -32,7 +32,7 @@ pub fn cites_at<'t>(
     Ok((cites, rest))
 }
 
-/// A cite, and what follows its line.
+/// A cite that is at least `least`, and leaves numbers for `left` more, and what follows its line.
 fn cite_at(left: u32, least: u64, text: &[u8]) -> Result<(u32, &[u8]), Stop<'_>>
     ensures { Gives (λ x. (x.0, lines_of x.1.now)) result (line_at (forms.cite_of left least) (lines_of text.now)) }
 {
@@ -41,8 +41,8 @@ fn cite_at(left: u32, least: u64, text: &[u8]) -> Result<(u32, &[u8]), Stop<'_>>
     Ok((link, rest))
 }
 
-/// The cite of a line: a number that is at least the least one, and leaves numbers for those to come after it. None
-/// comes exactly where the line is that of none.
+/// The cite of a line, where it is at least `least`, and leaves numbers for `left` more. None comes exactly where the
+/// line is that of no such cite.
 #[tactic(auto, unfolding(crate::specs::Forms::cite_of))]
 fn cite_of(left: u32, least: u64, line: &[u8]) -> Option<u32>
     ensures { result ≡ forms.cite_of left least line.now }
