@@ -8,46 +8,51 @@ use Rattle.net_core.specs.Atoms.{atom_count}
 use Rattle.net_core.specs.declared.rels.Rel.{Rel}
 use Rattle.net_core.specs.declared.step.Step.{Step}
 use Rattle.evidence_format.specs.declared.head.Head.{Head}
-use Rattle.evidence_format.specs.declared.head.Head.TheVariants.{Timeline, Entails, Counter}
+use Rattle.evidence_format.specs.declared.head.Head.TheVariants.{Timeline, Entails, Counter, Clash}
 use Rattle.evidence_format.specs.Lines.{Lines}
 use Rattle.evidence_format.specs.Reading.{◌>>=◌, line_at}
 use Rattle.evidence_format.specs.Grammar.{Then}
-use Rattle.evidence_format.specs.Evidence.{PlainEvidence, timeline, entails, counter, IsNumber, IsPair, AreRanks, AreSteps, IsWellFormed, at_line, timeline_lines, walk_lines, body_lines, text_lines, first_line, last_line}
+use Rattle.evidence_format.specs.Evidence.{PlainEvidence, timeline, entails, counter, clash, IsNumber, IsPair, AreRanks, AreSteps, IsWellFormed, at_line, timeline_lines, walk_lines, cite_line, body_lines, text_lines, first_line, last_line}
 use Rattle.evidence_format.specs.Words.{two_of, same_of}
 use Rattle.evidence_format.specs.Forms.{head_of}
-use Rattle.evidence_format.specs.Readers.{many_at, ranks_at, timeline_at, walk_at, rest_at, body_at, text_at}
+use Rattle.evidence_format.specs.Readers.{many_at, ranks_at, timeline_at, walk_at, cites_at, rest_at, body_at, text_at}
 use Rattle.evidence_format.proofs.Exact.{Exact, exact_then, exact_same}
 use Rattle.evidence_format.proofs.WordLaws.{same_form}
 use Rattle.evidence_format.proofs.FormLaws.{head_line, IsHead, head_form}
 use Rattle.evidence_format.proofs.ReaderLaws.{Has, AreMany, exact_form, exact_map, exact_many, exact_at, exact_timeline, exact_walk}
+use Rattle.evidence_format.proofs.CiteLaws.{HasCites, exact_cites}
 
 -- the kind of evidence
 abbrev head_for : PlainEvidence → Head
 head_for (timeline ranks) = Timeline (length ranks)
 head_for (entails a r b walks) = Entails a r b
 head_for (counter a r b ranks) = Counter a r b
+head_for (clash cites walk spares) = Clash (length cites)
 
 -- the lines that follow the one that tells the kind
-abbrev rest_lines : PlainEvidence → Lines
+abbrev pub rest_lines : PlainEvidence → Lines
 rest_lines (timeline ranks) = map at_line ranks
 rest_lines (entails a r b walks) = flat_map walk_lines walks
 rest_lines (counter a r b ranks) = timeline_lines ranks
+rest_lines (clash cites walk spares) = map cite_line cites ++ (walk_lines walk ++ flat_map timeline_lines spares)
 
 -- evidence of a kind, by those lines
-abbrev HasRest : Head → PlainEvidence → Lines → Type 0
+abbrev pub HasRest : Head → PlainEvidence → Lines → Type 0
 HasRest h e ls = IsWellFormed e × (head_for e ≡ h) × (ls ≡ rest_lines e)
 
 -- the body is the line that tells the kind, and those that follow it
-body_is : (e : PlainEvidence) → body_lines e ≡ head_line (head_for e) ∷ rest_lines e
+pub body_is : (e : PlainEvidence) → body_lines e ≡ head_line (head_for e) ∷ rest_lines e
 body_is (timeline ranks) = refl
 body_is (entails a r b walks) = refl
 body_is (counter a r b ranks) = refl
+body_is (clash cites walk spares) = refl
 
 -- the kind of well-formed evidence can be told
 head_is : (e : PlainEvidence) → IsWellFormed e → IsHead (head_for e)
 head_is (timeline ranks) h = h.1
 head_is (entails a r b walks) h = (h.0, h.1)
 head_is (counter a r b ranks) h = (h.0, h.1)
+head_is (clash cites walk spares) h = h.0.2
 
 -- ---- what follows the line that tells the kind
 
@@ -68,6 +73,7 @@ exact_ranks n small =
     from (timeline ranks) ls h = (ranks, (recursion_from_All IsPair ranks h.0.0, (let k = h.1 in cc), h.2 ∙ sym (flat_map_single at_line ranks)), refl)
     from (entails a r b walks) ls h = absurd (let k = h.1 in cc)
     from (counter a r b ranks) ls h = absurd (let k = h.1 in cc)
+    from (clash cites walk spares) ls h = absurd (let k = h.1 in cc)
 
 -- a walk for each order that a relation is, by their lines
 abbrev HasWalks : Rel → List (List Step) → Lines → Type 0
@@ -91,6 +97,7 @@ exact_walks a r b small_a small_b =
         let ys : y ≡ b = cc in
         (walks, (recursion_from_All AreSteps walks h.0.2, h.0.3 ∙ ap atom_count qs, h.2), λ i. entails (xs i) (qs i) (ys i) walks)
     from (counter x q y ranks) ls h = absurd (let k = h.1 in cc)
+    from (clash cites walk spares) ls h = absurd (let k = h.1 in cc)
 
 -- the timeline of a counterexample
 exact_counterexample : (a : ℕ) (r : Rel) (b : ℕ) → IsNumber a → IsNumber b → Exact (HasRest (Counter a r b)) (rest_at (Counter a r b))
@@ -110,12 +117,63 @@ exact_counterexample a r b small_a small_b =
         let qs : q ≡ r = cc in
         let ys : y ≡ b = cc in
         (ranks, (h.0.2, h.2), λ i. counter (xs i) (qs i) (ys i) ranks)
+    from (clash cites walk spares) ls h = absurd (let k = h.1 in cc)
+
+-- the spares of a clash with these cites and this walk
+abbrev pub HasSpares : ℕ → List ℕ → List Step → PlainEvidence → Lines → Type 0
+HasSpares n cites walk e ls = (spares : List (List (ℕ × ℕ))) × AreMany AreRanks timeline_lines n spares ls × (e ≡ clash cites walk spares)
+
+-- the walk and the spares of a clash with these cites
+abbrev pub HasWalkAndSpares : ℕ → List ℕ → PlainEvidence → Lines → Type 0
+HasWalkAndSpares n cites = Then (Has AreSteps walk_lines) (HasSpares n cites)
+
+-- a clash of so many links, by its cites, its walk and its spares
+abbrev pub HasClash : ℕ → PlainEvidence → Lines → Type 0
+HasClash n = Then (HasCites n) (HasWalkAndSpares n)
+
+-- a clash is well formed, and these are its lines
+pub clash_is : (n : ℕ) (e : PlainEvidence) (ls : Lines) → HasClash n e ls → HasRest (Clash n) e ls
+clash_is n e ls t =
+    let c = t.3 in
+    let w = t.4 in
+    let s = w.4 in
+    let m = s.1 in
+    let whole : ls ≡ rest_lines (clash t.0 w.0 s.0) = t.5 ∙ ap (λ (x : Lines). x ++ t.2) c.2 ∙ ap (λ (x : Lines). map cite_line t.0 ++ x) (w.5 ∙ ap (λ (x : Lines). x ++ w.2) w.3.1 ∙ ap (λ (x : Lines). walk_lines w.0 ++ x) m.2) in
+    rw s.2 ((c.0, w.3.0, All-from_recursion AreRanks s.0 m.0, m.1 ∙ sym c.1), ap (λ (k : ℕ). Clash k) c.1, whole)
+
+-- a clash has cites, a walk and spares
+clash_has : (n : ℕ) (e : PlainEvidence) (ls : Lines) → HasRest (Clash n) e ls → HasClash n e ls
+clash_has n (timeline ranks) ls h = absurd (let k = h.1 in cc)
+clash_has n (entails a r b walks) ls h = absurd (let k = h.1 in cc)
+clash_has n (counter a r b ranks) ls h = absurd (let k = h.1 in cc)
+clash_has n (clash cites walk spares) ls h =
+    let k = h.1 in
+    let len : length cites ≡ n = cc in
+    let w = h.0 in
+    let timelines : HasSpares n cites walk (clash cites walk spares) (flat_map timeline_lines spares) = (spares, (recursion_from_All AreRanks spares w.2, w.3 ∙ len, refl), refl) in
+    (cites, map cite_line cites, walk_lines walk ++ flat_map timeline_lines spares, (w.0, len, refl), (walk, walk_lines walk, flat_map timeline_lines spares, (w.1, refl), timelines, refl), h.2)
+
+-- the spares of a clash
+pub exact_spares : (n : ℕ) (cites : List ℕ) (walk : List Step) → Exact (HasSpares n cites walk) (λ ls. many_at timeline_at n ls >>= λ spares. Ok (clash cites walk spares.0, spares.1))
+exact_spares n cites walk = exact_map (λ spares. clash cites walk spares) (AreMany AreRanks timeline_lines n) (many_at timeline_at n) (exact_many AreRanks timeline_lines timeline_at exact_timeline n)
+
+-- the walk and the spares of a clash
+pub exact_walk_and_spares : (n : ℕ) (cites : List ℕ) → Exact (HasWalkAndSpares n cites) (λ ls. walk_at ls >>= λ walk. many_at timeline_at n walk.1 >>= λ spares. Ok (clash cites walk.0 spares.0, spares.1))
+exact_walk_and_spares n cites = exact_then (Has AreSteps walk_lines) (HasSpares n cites) walk_at (λ walk ls. many_at timeline_at n ls >>= λ spares. Ok (clash cites walk spares.0, spares.1)) exact_walk (λ walk prefix g. exact_spares n cites walk)
+
+-- the cites, the walk and the spares of a clash
+exact_clash : (n : ℕ) → IsNumber n → Exact (HasRest (Clash n)) (rest_at (Clash n))
+unfolding rest_at
+exact_clash n small =
+    exact_same (HasClash n) (HasRest (Clash n)) (λ ls. cites_at n 0 ls >>= λ cites. walk_at cites.1 >>= λ walk. many_at timeline_at n walk.1 >>= λ spares. Ok (clash cites.0 walk.0 spares.0, spares.1)) (clash_is n) (clash_has n)
+    (exact_then (HasCites n) (HasWalkAndSpares n) (cites_at n 0) (λ cites ls. walk_at ls >>= λ walk. many_at timeline_at n walk.1 >>= λ spares. Ok (clash cites walk.0 spares.0, spares.1)) (exact_cites n small) (λ cites prefix g. exact_walk_and_spares n cites))
 
 -- what follows the line that tells the kind
 exact_rest : (h : Head) → IsHead h → Exact (HasRest h) (rest_at h)
 exact_rest (Timeline n) h = exact_ranks n h
 exact_rest (Entails a r b) h = exact_walks a r b h.0 h.1
 exact_rest (Counter a r b) h = exact_counterexample a r b h.0 h.1
+exact_rest (Clash n) h = exact_clash n h
 
 -- ---- a body
 

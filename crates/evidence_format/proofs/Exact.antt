@@ -91,11 +91,11 @@ exact_line {A} text Fits form some fits again found =
 -- ---- a value, and then another one
 
 -- the lines of a value, and first lines of another one that goes with it
-then_begins : {A B : Type 0} (G : A → Lines → Type 0) (H : A → B → Lines → Type 0) (a : A) (f ls : Lines) → G a f → Begins (H a) ls → Begins (Then G H) (f ++ ls)
+pub then_begins : {A B : Type 0} (G : A → Lines → Type 0) (H : A → B → Lines → Type 0) (a : A) (f ls : Lines) → G a f → Begins (H a) ls → Begins (Then G H) (f ++ ls)
 then_begins G H a f ls g h = (h.0, h.1, (a, f, ls ++ h.1, g, h.2, append_assoc f ls h.1))
 
 -- the first lines of a value begin both, where another one goes with it
-first_begins : {A B : Type 0} (G : A → Lines → Type 0) (H : A → B → Lines → Type 0) (ls : Lines) → (h : Begins G ls) → Begins (H h.0) [] → Begins (Then G H) ls
+pub first_begins : {A B : Type 0} (G : A → Lines → Type 0) (H : A → B → Lines → Type 0) (ls : Lines) → (h : Begins G ls) → Begins (H h.0) [] → Begins (Then G H) ls
 first_begins G H ls h k = (k.0, h.1 ++ k.1, (h.0, ls ++ h.1, k.1, h.2, k.2, sym (append_assoc ls h.1 k.1)))
 
 -- lines that begin both stop at the first or go on into the second

@@ -73,12 +73,14 @@ abbrev pub head_line : Head → List ℕ
 head_line (head.Timeline n) = one_number (codes "timeline ") n
 head_line (head.Entails a r b) = relation_line (codes "entails ") a r b
 head_line (head.Counter a r b) = relation_line (codes "counter ") a r b
+head_line (head.Clash n) = one_number (codes "clash ") n
 
 -- its numbers can stand in a text
 abbrev pub IsHead : Head → Type 0
 IsHead (head.Timeline n) = IsNumber n
 IsHead (head.Entails a r b) = IsNumber a × IsNumber b
 IsHead (head.Counter a r b) = IsNumber a × IsNumber b
+IsHead (head.Clash n) = IsNumber n
 
 -- a line tells a kind
 abbrev SaysHead : List ℕ → Head → Type 0
@@ -92,7 +94,10 @@ head_found l h e =
       | inl k ↦ let m = some_mapped (λ n. head.Timeline n) (one_of (codes "timeline ") l) h k in subst (SaysHead l) m.2 ((one_form (codes "timeline ")).found l m.0 m.1)
       | inr k ↦ elim (either (option_map (λ x. head.Entails x.0 x.1 x.2) (relation_of (codes "entails ") l)) _ h k) [
         | inl k ↦ let m = some_mapped (λ x. head.Entails x.0 x.1 x.2) (relation_of (codes "entails ") l) h k in subst (SaysHead l) m.2 ((relation_form (codes "entails ")).found l m.0 m.1)
-        | inr k ↦ let m = some_mapped (λ x. head.Counter x.0 x.1 x.2) (relation_of (codes "counter ") l) h k in subst (SaysHead l) m.2 ((relation_form (codes "counter ")).found l m.0 m.1)
+        | inr k ↦ elim (either (option_map (λ x. head.Counter x.0 x.1 x.2) (relation_of (codes "counter ") l)) _ h k) [
+          | inl k ↦ let m = some_mapped (λ x. head.Counter x.0 x.1 x.2) (relation_of (codes "counter ") l) h k in subst (SaysHead l) m.2 ((relation_form (codes "counter ")).found l m.0 m.1)
+          | inr k ↦ let m = some_mapped (λ n. head.Clash n) (one_of (codes "clash ") l) h k in subst (SaysHead l) m.2 ((one_form (codes "clash ")).found l m.0 m.1)
+        ]
       ]
     ]
 
@@ -111,12 +116,28 @@ no_entails_counter : (a : ℕ) (r : Rel) (b : ℕ) → relation_of (codes "entai
 unfolding relation_of after
 no_entails_counter a r b = refl
 
+-- a clash is not read as a timeline
+no_timeline_clash : (n : ℕ) → one_of (codes "timeline ") (one_number (codes "clash ") n) ≡ None
+unfolding one_of after
+no_timeline_clash n = refl
+
+-- a clash is not read as an entailment
+no_entails_clash : (n : ℕ) → relation_of (codes "entails ") (one_number (codes "clash ") n) ≡ None
+unfolding relation_of after
+no_entails_clash n = refl
+
+-- a clash is not read as a counterexample
+no_counter_clash : (n : ℕ) → relation_of (codes "counter ") (one_number (codes "clash ") n) ≡ None
+unfolding relation_of after
+no_counter_clash n = refl
+
 -- a kind is read of its line
 head_again : (h : Head) → IsHead h → head_of (head_line h) ≡ Some h
 unfolding head_of
 head_again (head.Timeline n) f = rw ((one_form (codes "timeline ")).again n f) refl
 head_again (head.Entails a r b) f = rw (no_timeline_entails a r b, (relation_form (codes "entails ")).again (a, r, b) f) refl
 head_again (head.Counter a r b) f = rw (no_timeline_counter a r b, no_entails_counter a r b, (relation_form (codes "counter ")).again (a, r, b) f) refl
+head_again (head.Clash n) f = rw (no_timeline_clash n, no_entails_clash n, no_counter_clash n, (one_form (codes "clash ")).again n f) refl
 
 -- lines that tell a kind
 pub head_form : IsForm head_line IsHead head_of

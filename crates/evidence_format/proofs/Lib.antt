@@ -5,9 +5,11 @@ pub mod Exact
 pub mod WordLaws
 pub mod FormLaws
 pub mod ReaderLaws
+pub mod Loops
+pub mod Rising
+pub mod CiteLaws
 pub mod BodyLaws
 pub mod LineLaws
-pub mod Loops
 pub mod Reading
 pub mod Writing
 pub mod PartLaws

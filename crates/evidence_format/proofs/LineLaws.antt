@@ -11,7 +11,7 @@ use Rattle.net_core.specs.declared.step.Step.{Step}
 use Rattle.net_core.specs.declared.step.Step.TheVariants.{Link, Span, Calendar}
 use Rattle.evidence_format.specs.Lines.{Lines, is_lf, with_byte, lines_of}
 use Rattle.evidence_format.specs.Words.{is_not}
-use Rattle.evidence_format.specs.Evidence.{PlainEvidence, timeline, entails, counter, IsNumber, IsPair, AreRanks, HasNumbers, AreSteps, IsWellFormed, one_number, two_numbers, relation_line, at_line, timeline_lines, step_line, walk_lines, body_lines, text_lines, last_line}
+use Rattle.evidence_format.specs.Evidence.{PlainEvidence, timeline, entails, counter, clash, IsNumber, IsPair, AreRanks, HasNumbers, AreSteps, IsWellFormed, one_number, two_numbers, relation_line, at_line, timeline_lines, step_line, walk_lines, cite_line, body_lines, text_lines, last_line}
 use Rattle.evidence_format.proofs.WordLaws.{all_append, digits_differ}
 
 -- ---- the lines of a text are the text
@@ -119,6 +119,10 @@ body_is : (e : PlainEvidence) → IsWellFormed e → AllByRecursion IsLine (body
 body_is (timeline ranks) h = timeline_is ranks h
 body_is (entails a r b walks) h = (relation_is (codes "entails ") a r b refl h.0 h.1, flat_are AreSteps walk_lines walk_is walks (recursion_from_All AreSteps walks h.2))
 body_is (counter a r b ranks) h = (relation_is (codes "counter ") a r b refl h.0 h.1, timeline_is ranks h.2)
+body_is (clash cites walk spares) h =
+    let each : AllByRecursion IsLine (map cite_line cites) = mapped_are IsNumber cite_line (λ link small. one_is (codes "cite ") link refl small) cites (recursion_from_All IsNumber cites h.0.1) in
+    let timelines : AllByRecursion IsLine (flat_map timeline_lines spares) = flat_are AreRanks timeline_lines timeline_is spares (recursion_from_All AreRanks spares h.2) in
+    (one_is (codes "clash ") (length cites) refl h.0.2, both_lines (map cite_line cites) (walk_lines walk ++ flat_map timeline_lines spares) each (both_lines (walk_lines walk) (flat_map timeline_lines spares) (walk_is walk h.1) timelines))
 
 -- the lines of a text are whole
 pub text_is : (e : PlainEvidence) → IsWellFormed e → AllByRecursion IsLine (text_lines e)

@@ -13,7 +13,7 @@ abbrev pub with_prefix : {A : Type 0} → List A → Read (List A) → Read (Lis
 with_prefix prefix read = read >>= λ x. Ok (prefix ++ x.0, x.1)
 
 -- a value more comes to those before
-regroup : {A : Type 0} (prefix : List A) (a : A) (read : Read (List A)) → with_prefix prefix (read >>= λ x. Ok (a ∷ x.0, x.1)) ≡ with_prefix (prefix ++ a ∷ []) read
+pub regroup : {A : Type 0} (prefix : List A) (a : A) (read : Read (List A)) → with_prefix prefix (read >>= λ x. Ok (a ∷ x.0, x.1)) ≡ with_prefix (prefix ++ a ∷ []) read
 regroup {A} prefix a (Ok x) = ap (λ (vs : List A). Ok (vs, x.1)) (simp append_assoc)
 regroup prefix a (Err f) = refl
 

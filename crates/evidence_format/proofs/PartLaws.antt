@@ -8,13 +8,18 @@ use Rattle.std.proofs.lemmas.List.Elements.{All-nil, All-cons, All-append, All-r
 use Rattle.net_core.specs.Atoms.{atom_count}
 use Rattle.net_core.specs.declared.step.Step.{Step}
 use Rattle.net_core.specs.declared.step.Step.TheVariants.{Span}
+use Rattle.evidence_format.specs.declared.head.Head.{Head}
 use Rattle.evidence_format.specs.Lines.{Lines}
 use Rattle.evidence_format.specs.Grammar.{Begins}
-use Rattle.evidence_format.specs.Evidence.{PlainEvidence, timeline, entails, counter, IsNumber, IsPair, AreRanks, HasNumbers, AreSteps, IsWellFormed, one_number, relation_line, at_line, timeline_lines, step_line, walk_lines, body_lines, text_lines, first_line, last_line}
-use Rattle.evidence_format.specs.Parts.{IsBegunTimeline, IsBegunWalk, MayBegin, AreBegunWalks, IsBegunBody, IsBegunByParts}
+use Rattle.evidence_format.specs.Evidence.{PlainEvidence, timeline, entails, counter, clash, IsNumber, IsPair, AreRanks, HasNumbers, AreSteps, AreCites, IsWellFormed, one_number, relation_line, at_line, timeline_lines, step_line, walk_lines, cite_line, body_lines, text_lines, first_line, last_line}
+use Rattle.evidence_format.specs.Parts.{IsBegunTimeline, IsBegunWalk, MayBegin, AreBegunParts, AreBegunWalks, AreBegunTimelines, AreBegunCites, IsBegunClash, IsBegunBody, IsBegunByParts}
 use Rattle.evidence_format.specs.Begun.{IsBegun}
-use Rattle.evidence_format.proofs.Exact.{parted}
-use Rattle.evidence_format.proofs.ReaderLaws.{Has, AreCounted, AreMany}
+use Rattle.evidence_format.proofs.Exact.{parted, then_begins, first_begins}
+use Rattle.evidence_format.proofs.ReaderLaws.{Has, AreCounted, AreMany, exact_walk}
+use Rattle.evidence_format.proofs.Rising.{Rise, rise_from_cites, rise_from_places, increasing, leaving, cites_from_rise, rise_prefix, rise_on}
+use Rattle.evidence_format.proofs.CiteLaws.{HasCites}
+use Rattle.evidence_format.proofs.BodyLaws.{HasSpares, HasWalkAndSpares, HasClash, rest_lines, clash_is, body_is, exact_spares, exact_walk_and_spares}
+use Rattle.evidence_format.proofs.FormLaws.{head_line}
 
 -- how many values there are, and a line for each
 abbrev counted_lines : {A : Type 0} → List ℕ → (A → List ℕ) → List A → Lines
@@ -66,24 +71,52 @@ timeline_prefix ranks xs ys fit e = counted_prefix (codes "timeline ") at_line I
 walk_prefix : (steps : List Step) (xs ys : Lines) → AreSteps steps → xs ++ ys ≡ walk_lines steps → MayBegin IsBegunWalk xs
 walk_prefix steps xs ys fit e = counted_prefix (codes "walk ") step_line HasNumbers steps xs ys fit e
 
--- one whole walk more
-one_more : (w : List Step) (n : ℕ) (ls : Lines) → AreSteps w → AreBegunWalks n ls → AreBegunWalks (suc n) (walk_lines w ++ ls)
-one_more w n ls fit h = (
-  w ∷ h.0,
+-- one whole part more
+one_more : {A : Type 0} (IsWhole : A → Type 0) (lines : A → Lines) (IsBegunPart : Lines → Type 0) (a : A) (n : ℕ) (ls : Lines) → IsWhole a → AreBegunParts IsWhole lines IsBegunPart n ls → AreBegunParts IsWhole lines IsBegunPart (suc n) (lines a ++ ls)
+one_more IsWhole lines IsBegunPart a n ls fit h = (
+  a ∷ h.0,
   h.1,
-  All-cons AreSteps w h.0 fit h.2,
-  ap (λ (x : Lines). walk_lines w ++ x) h.3 ∙ sym (append_assoc (walk_lines w) (flat_map walk_lines h.0) h.1),
+  All-cons IsWhole a h.0 fit h.2,
+  ap (λ (x : Lines). lines a ++ x) h.3 ∙ sym (append_assoc (lines a) (flat_map lines h.0) h.1),
   elim h.4 [ inl k ↦ inl ((let few = k.0 in omega arith), k.1) | inr k ↦ inr (ap suc k.0, k.1) ],
 )
 
--- the first lines of walks
-walks_prefix : (walks : List (List Step)) (xs ys : Lines) → AllByRecursion AreSteps walks → xs ++ ys ≡ flat_map walk_lines walks → AreBegunWalks (length walks) xs
-walks_prefix [] [] ys fit e = ([], [], All-nil AreSteps, refl, inr (refl, refl))
-walks_prefix [] (x ∷ xs) ys fit e = absurd cc
-walks_prefix (w ∷ walks) xs ys fit e =
-    elim (parted xs ys (walk_lines w) (flat_map walk_lines walks) e) [
-      | inl m ↦ ([], xs, All-nil AreSteps, refl, inl (omega arith, walk_prefix w xs m.0 fit.0 (sym m.1)))
-      | inr m ↦ subst (AreBegunWalks (suc (length walks))) (sym m.1) (one_more w (length walks) m.0 fit.0 (walks_prefix walks m.0 ys fit.1 (sym m.2)))
+-- the first lines of parts, where those of a part may begin
+many_prefix : {A : Type 0} (IsWhole : A → Type 0) (lines : A → Lines) (IsBegunPart : Lines → Type 0) → ((a : A) (xs ys : Lines) → IsWhole a → xs ++ ys ≡ lines a → MayBegin IsBegunPart xs)
+    → (parts : List A) (xs ys : Lines) → AllByRecursion IsWhole parts → xs ++ ys ≡ flat_map lines parts → AreBegunParts IsWhole lines IsBegunPart (length parts) xs
+many_prefix IsWhole lines IsBegunPart each [] [] ys fit e = ([], [], All-nil IsWhole, refl, inr (refl, refl))
+many_prefix IsWhole lines IsBegunPart each [] (x ∷ xs) ys fit e = absurd cc
+many_prefix IsWhole lines IsBegunPart each (a ∷ parts) xs ys fit e =
+    elim (parted xs ys (lines a) (flat_map lines parts) e) [
+      | inl m ↦ ([], xs, All-nil IsWhole, refl, inl (omega arith, each a xs m.0 fit.0 (sym m.1)))
+      | inr m ↦ subst (AreBegunParts IsWhole lines IsBegunPart (suc (length parts))) (sym m.1) (one_more IsWhole lines IsBegunPart a (length parts) m.0 fit.0 (many_prefix IsWhole lines IsBegunPart each parts m.0 ys fit.1 (sym m.2)))
+    ]
+
+-- the first lines of so many walks
+walks_prefix : (n : ℕ) (walks : List (List Step)) (xs ys : Lines) → All AreSteps walks → length walks ≡ n → xs ++ ys ≡ flat_map walk_lines walks → AreBegunWalks n xs
+walks_prefix n walks xs ys fit len e = subst (λ n. AreBegunWalks n xs) len (many_prefix AreSteps walk_lines IsBegunWalk walk_prefix walks xs ys (recursion_from_All AreSteps walks fit) e)
+
+-- the first lines of so many timelines
+timelines_prefix : (n : ℕ) (timelines : List (List (ℕ × ℕ))) (xs ys : Lines) → All AreRanks timelines → length timelines ≡ n → xs ++ ys ≡ flat_map timeline_lines timelines → AreBegunTimelines n xs
+timelines_prefix n timelines xs ys fit len e = subst (λ n. AreBegunTimelines n xs) len (many_prefix AreRanks timeline_lines IsBegunTimeline timeline_prefix timelines xs ys (recursion_from_All AreRanks timelines fit) e)
+
+-- the first lines of cites
+cites_prefix : (cites : List ℕ) (xs ys : Lines) → AreCites cites → xs ++ ys ≡ map cite_line cites → AreBegunCites (length cites) xs
+cites_prefix cites xs ys h e =
+    let f = prefix_map cite_line cites xs ys e in
+    let first = rise_prefix (length cites) 0 f.0 f.1 (subst (Rise (length cites) 0) f.2 (rise_from_cites cites h)) in
+    let few : length f.0 ≤ length cites = omega (arith, ap length f.2, length-append f.0 f.1) in
+    (f.0, few, increasing (length cites) 0 f.0 first, leaving (length cites) 0 f.0 first, f.3)
+
+-- the first lines of what stands after the line of a clash
+clash_prefix : (cites : List ℕ) (walk : List Step) (spares : List (List (ℕ × ℕ))) (xs ys : Lines) → IsWellFormed (clash cites walk spares) → xs ++ ys ≡ map cite_line cites ++ (walk_lines walk ++ flat_map timeline_lines spares) → IsBegunClash (length cites) xs
+clash_prefix cites walk spares xs ys h e =
+    elim (parted xs ys (map cite_line cites) (walk_lines walk ++ flat_map timeline_lines spares) e) [
+      | inl m ↦ inl (cites_prefix cites xs m.0 h.0 (sym m.1))
+      | inr m ↦ elim (parted m.0 ys (walk_lines walk) (flat_map timeline_lines spares) (sym m.2)) [
+        | inl k ↦ inr (inl (cites, m.0, h.0, refl, walk_prefix walk m.0 k.0 h.1 (sym k.1), m.1))
+        | inr k ↦ inr (inr (cites, m.0, h.0, refl, (walk, k.0, h.1, timelines_prefix (length cites) spares k.0 ys h.2 h.3 (sym k.2), k.1), m.1))
+      ]
     ]
 
 -- the first lines of a body
@@ -92,14 +125,17 @@ body_prefix (timeline ranks) xs ys h e = elim (timeline_prefix ranks xs ys h e) 
 body_prefix (entails a r b walks) xs ys h e =
     elim (prefix_cons xs ys (relation_line (codes "entails ") a r b) (flat_map walk_lines walks) e) [
       | inl none ↦ inl none
-      | inr m ↦
-          let begun = subst (λ n. AreBegunWalks n m.0) h.3 (walks_prefix walks m.0 ys (recursion_from_All AreSteps walks h.2) m.2) in
-          inr (inr (inl (a, r, b, m.0, h.0, h.1, begun, m.1)))
+      | inr m ↦ inr (inr (inl (a, r, b, m.0, h.0, h.1, walks_prefix (atom_count r) walks m.0 ys h.2 h.3 m.2, m.1)))
     ]
 body_prefix (counter a r b ranks) xs ys h e =
     elim (prefix_cons xs ys (relation_line (codes "counter ") a r b) (timeline_lines ranks) e) [
       | inl none ↦ inl none
-      | inr m ↦ inr (inr (inr (a, r, b, m.0, h.0, h.1, timeline_prefix ranks m.0 ys h.2 m.2, m.1)))
+      | inr m ↦ inr (inr (inr (inl (a, r, b, m.0, h.0, h.1, timeline_prefix ranks m.0 ys h.2 m.2, m.1))))
+    ]
+body_prefix (clash cites walk spares) xs ys h e =
+    elim (prefix_cons xs ys (one_number (codes "clash ") (length cites)) (map cite_line cites ++ (walk_lines walk ++ flat_map timeline_lines spares)) e) [
+      | inl none ↦ inl none
+      | inr m ↦ inr (inr (inr (inr (length cites, m.0, h.0.2, clash_prefix cites walk spares m.0 ys h m.2, m.1))))
     ]
 
 -- after the first line, a body that may begin
@@ -160,28 +196,58 @@ no_steps = (All-nil HasNumbers, omega arith)
 walk_begins : (ls : Lines) → IsBegunWalk ls → Begins (Has AreSteps walk_lines) ls
 walk_begins ls w = count_begins (codes "walk ") step_line HasNumbers (Span 0) (omega arith) ls w
 
--- whole walks, fewer than so many, and the lines of one more, go on to so many
-walks_fill : (n : ℕ) (walks : List (List Step)) (rest : Lines) → All AreSteps walks → length walks < n → Begins (Has AreSteps walk_lines) rest → Begins (AreMany AreSteps walk_lines n) (flat_map walk_lines walks ++ rest)
-walks_fill n walks rest fit few w =
-    let more : List (List Step) = replicate (n - (length walks + 1)) [] in
-    let all : All AreSteps (walks ++ w.0 ∷ more) = All-append AreSteps walks (w.0 ∷ more) fit (All-cons AreSteps w.0 more w.2.0 (All-replicate AreSteps (n - (length walks + 1)) [] no_steps)) in
-    let len : length (walks ++ w.0 ∷ more) ≡ n = omega (arith, length-append walks (w.0 ∷ more), length-replicate {A = List Step} (n - (length walks + 1)) []) in
-    let last : rest ++ (w.1 ++ flat_map walk_lines more) ≡ walk_lines w.0 ++ flat_map walk_lines more = sym (append_assoc rest w.1 (flat_map walk_lines more)) ∙ ap (λ (x : Lines). x ++ flat_map walk_lines more) w.2.1 in
-    let whole : (flat_map walk_lines walks ++ rest) ++ (w.1 ++ flat_map walk_lines more) ≡ flat_map walk_lines (walks ++ w.0 ∷ more) =
-    append_assoc (flat_map walk_lines walks) rest (w.1 ++ flat_map walk_lines more) ∙ ap (λ (x : Lines). flat_map walk_lines walks ++ x) last ∙ sym (flat_map-append walk_lines walks (w.0 ∷ more)) in
-    (walks ++ w.0 ∷ more, w.1 ++ flat_map walk_lines more, (recursion_from_All AreSteps (walks ++ w.0 ∷ more) all, len, whole))
+-- whole parts, fewer than so many, and the lines of one more, go on to so many
+many_fill : {A : Type 0} (IsWhole : A → Type 0) (lines : A → Lines) (some : A) → IsWhole some → (n : ℕ) (parts : List A) (rest : Lines) → All IsWhole parts → length parts < n → Begins (Has IsWhole lines) rest → Begins (AreMany IsWhole lines n) (flat_map lines parts ++ rest)
+many_fill {A} IsWhole lines some fits n parts rest whole few p =
+    let more : List A = replicate (n - (length parts + 1)) some in
+    let all : All IsWhole (parts ++ p.0 ∷ more) = All-append IsWhole parts (p.0 ∷ more) whole (All-cons IsWhole p.0 more p.2.0 (All-replicate IsWhole (n - (length parts + 1)) some fits)) in
+    let len : length (parts ++ p.0 ∷ more) ≡ n = omega (arith, length-append parts (p.0 ∷ more), length-replicate {A = A} (n - (length parts + 1)) some) in
+    let last : rest ++ (p.1 ++ flat_map lines more) ≡ lines p.0 ++ flat_map lines more = sym (append_assoc rest p.1 (flat_map lines more)) ∙ ap (λ (x : Lines). x ++ flat_map lines more) p.2.1 in
+    let joined : (flat_map lines parts ++ rest) ++ (p.1 ++ flat_map lines more) ≡ flat_map lines (parts ++ p.0 ∷ more) =
+    append_assoc (flat_map lines parts) rest (p.1 ++ flat_map lines more) ∙ ap (λ (x : Lines). flat_map lines parts ++ x) last ∙ sym (flat_map-append lines parts (p.0 ∷ more)) in
+    (parts ++ p.0 ∷ more, p.1 ++ flat_map lines more, (recursion_from_All IsWhole (parts ++ p.0 ∷ more) all, len, joined))
+
+-- begun parts go on to so many, where a begun one goes on to a whole one
+many_begin : {A : Type 0} (IsWhole : A → Type 0) (lines : A → Lines) (IsBegunPart : Lines → Type 0) (some : A) → IsWhole some → ((ls : Lines) → IsBegunPart ls → Begins (Has IsWhole lines) ls)
+    → (n : ℕ) (ls : Lines) → AreBegunParts IsWhole lines IsBegunPart n ls → Begins (AreMany IsWhole lines n) ls
+many_begin IsWhole lines IsBegunPart some fits part n ls h =
+    elim h.4 [
+      | inl k ↦
+          let p = may_begin (Has IsWhole lines) IsBegunPart (some, lines some, (fits, refl)) part h.1 k.1 in
+          subst (Begins (AreMany IsWhole lines n)) (sym h.3) (many_fill IsWhole lines some fits n h.0 h.1 h.2 k.0 p)
+      | inr k ↦
+          let whole : ls ++ [] ≡ flat_map lines h.0 = append-nil ls ∙ h.3 ∙ ap (λ (x : Lines). flat_map lines h.0 ++ x) k.1 ∙ append-nil (flat_map lines h.0) in
+          (h.0, [], (recursion_from_All IsWhole h.0 h.2, k.0, whole))
+    ]
 
 -- begun walks go on to so many
 walks_begin : (n : ℕ) (ls : Lines) → AreBegunWalks n ls → Begins (AreMany AreSteps walk_lines n) ls
-walks_begin n ls h =
-    elim h.4 [
-      | inl k ↦
-          let w = may_begin (Has AreSteps walk_lines) IsBegunWalk ([], walk_lines [], (no_steps, refl)) walk_begins h.1 k.1 in
-          subst (Begins (AreMany AreSteps walk_lines n)) (sym h.3) (walks_fill n h.0 h.1 h.2 k.0 w)
-      | inr k ↦
-          let whole : ls ++ [] ≡ flat_map walk_lines h.0 = append-nil ls ∙ h.3 ∙ ap (λ (x : Lines). flat_map walk_lines h.0 ++ x) k.1 ∙ append-nil (flat_map walk_lines h.0) in
-          (h.0, [], (recursion_from_All AreSteps h.0 h.2, k.0, whole))
-    ]
+walks_begin n ls h = many_begin AreSteps walk_lines IsBegunWalk [] no_steps walk_begins n ls h
+
+-- begun timelines go on to so many
+timelines_begin : (n : ℕ) (ls : Lines) → AreBegunTimelines n ls → Begins (AreMany AreRanks timeline_lines n) ls
+timelines_begin n ls h = many_begin AreRanks timeline_lines IsBegunTimeline [] no_intervals timeline_begins n ls h
+
+-- begun cites go on to so many
+cites_begin : (n : ℕ) (ls : Lines) → IsNumber n → AreBegunCites n ls → Begins (HasCites n) ls
+cites_begin n ls small h =
+    let f = rise_on n 0 h.0 (omega arith) (rise_from_places n 0 h.0 h.1 h.2 h.3 (λ some. omega arith)) in
+    let whole : ls ++ map cite_line f.0 ≡ map cite_line (h.0 ++ f.0) = ap (λ (x : Lines). x ++ map cite_line f.0) h.4 ∙ sym (map-append cite_line h.0 f.0) in
+    (h.0 ++ f.0, map cite_line f.0, (cites_from_rise n (h.0 ++ f.0) small f.2 f.1, f.2, whole))
+
+-- a begun clash goes on to a whole one
+clash_begins : (n : ℕ) (ls : Lines) → IsNumber n → IsBegunClash n ls → Begins (HasClash n) ls
+clash_begins n ls small (inl begun) = let c = cites_begin n ls small begun in first_begins (HasCites n) (HasWalkAndSpares n) ls c (exact_walk_and_spares n c.0).alive
+clash_begins n ls small (inr (inl h)) =
+    let w = may_begin (Has AreSteps walk_lines) IsBegunWalk exact_walk.alive walk_begins h.1 h.4 in
+    let proof = first_begins (Has AreSteps walk_lines) (HasSpares n h.0) h.1 w (exact_spares n h.0 w.0).alive in
+    subst (Begins (HasClash n)) (sym h.5) (then_begins (HasCites n) (HasWalkAndSpares n) h.0 (map cite_line h.0) h.1 (h.2, h.3, refl) proof)
+clash_begins n ls small (inr (inr h)) =
+    let w = h.4 in
+    let s = timelines_begin n w.1 w.3 in
+    let spares : Begins (HasSpares n h.0 w.0) w.1 = (clash h.0 w.0 s.0, s.1, (s.0, s.2, refl)) in
+    let proof = subst (Begins (HasWalkAndSpares n h.0)) (sym w.4) (then_begins (Has AreSteps walk_lines) (HasSpares n h.0) w.0 (walk_lines w.0) w.1 (w.2, refl) spares) in
+    subst (Begins (HasClash n)) (sym h.5) (then_begins (HasCites n) (HasWalkAndSpares n) h.0 (map cite_line h.0) h.1 (h.2, h.3, refl) proof)
 
 -- a begun body goes on to a whole one
 body_begins : (ls : Lines) → IsBegunBody ls → Begins (Has IsWellFormed body_lines) ls
@@ -192,10 +258,15 @@ body_begins ls (inr (inl h)) =
     let w = walks_begin (atom_count h.1) h.3 h.6 in
     let whole = ap (λ (x : Lines). x ++ w.1) h.7 ∙ ap (λ (x : Lines). relation_line (codes "entails ") h.0 h.1 h.2 ∷ x) w.2.2 in
     (entails h.0 h.1 h.2 w.0, w.1, ((h.4, h.5, All-from_recursion AreSteps w.0 w.2.0, w.2.1), whole))
-body_begins ls (inr (inr h)) =
+body_begins ls (inr (inr (inl h))) =
     let t = may_begin (Has AreRanks timeline_lines) IsBegunTimeline ([], timeline_lines [], (no_intervals, refl)) timeline_begins h.3 h.6 in
     let whole = ap (λ (x : Lines). x ++ t.1) h.7 ∙ ap (λ (x : Lines). relation_line (codes "counter ") h.0 h.1 h.2 ∷ x) t.2.1 in
     (counter h.0 h.1 h.2 t.0, t.1, ((h.4, h.5, t.2.0), whole))
+body_begins ls (inr (inr (inr h))) =
+    let c = clash_begins h.0 h.1 h.2 h.3 in
+    let r = clash_is h.0 c.0 (h.1 ++ c.1) c.2 in
+    let whole = ap (λ (x : Lines). x ++ c.1) h.4 ∙ ap (λ (x : Lines). one_number (codes "clash ") h.0 ∷ x) r.2 ∙ ap (λ (k : Head). head_line k ∷ rest_lines c.0) (sym r.1) ∙ sym (body_is c.0) in
+    (c.0, c.1, (r.0, whole))
 
 -- after the first line, a body that goes on to a whole one goes on to a text
 text_begins : (ls rest : Lines) → ls ≡ first_line ∷ rest → Begins (Has IsWellFormed body_lines) rest → IsBegun ls

@@ -1,9 +1,10 @@
 -- The bytes that are written are those of the lines.
-use Rattle.std.proofs.Common.{◌≡◌, ℕ, List, [], ◌∷◌, ◌++◌, map, refl, ap, ◌∙◌}
+use Rattle.std.proofs.Common.{◌≡◌, ℕ, List, [], ◌∷◌, ◌++◌, length, map, refl, ap, ◌∙◌}
+use Rattle.std.specs.Prelude.{codes}
 use Rattle.std.specs.List.{concat, flat_map}
 use Rattle.net_core.specs.declared.step.Step.{Step}
 use Rattle.evidence_format.specs.Lines.{Lines}
-use Rattle.evidence_format.specs.Evidence.{PlainEvidence, timeline, entails, counter, at_line, timeline_lines, step_line, walk_lines, body_lines, text_lines, first_line, last_line}
+use Rattle.evidence_format.specs.Evidence.{PlainEvidence, timeline, entails, counter, clash, at_line, timeline_lines, step_line, walk_lines, cite_line, body_lines, text_lines, one_number, first_line, last_line}
 use Rattle.evidence_format.specs.Written.{timeline_bytes, walk_bytes, body_bytes}
 use Rattle.evidence_format.proofs.LineLaws.{concat_append}
 
@@ -12,10 +13,14 @@ mapped : {A : Type 0} (f : A → List ℕ) (vs : List A) → concat (map f vs) �
 mapped f [] = refl
 mapped f (v ∷ vs) = ap (λ (x : List ℕ). f v ++ x) (mapped f vs)
 
+-- lines and lines after them, joined
+joined : (a b : Lines) (x y : List ℕ) → concat a ≡ x → concat b ≡ y → concat (a ++ b) ≡ x ++ y
+joined a b x y p q = concat_append a b ∙ rw (p, q) refl
+
 -- lines, some for each value, joined
 flat : {A : Type 0} (lines : A → Lines) (bytes : A → List ℕ) → ((v : A) → concat (lines v) ≡ bytes v) → (vs : List A) → concat (flat_map lines vs) ≡ flat_map bytes vs
 flat lines bytes each [] = refl
-flat lines bytes each (v ∷ vs) = concat_append (lines v) (flat_map lines vs) ∙ rw (each v, flat lines bytes each vs) refl
+flat lines bytes each (v ∷ vs) = joined (lines v) (flat_map lines vs) (bytes v) (flat_map bytes vs) (each v) (flat lines bytes each vs)
 
 -- a timeline, joined
 timeline_is : (ranks : List (ℕ × ℕ)) → concat (timeline_lines ranks) ≡ timeline_bytes ranks
@@ -30,6 +35,10 @@ body_is : (e : PlainEvidence) → concat (body_lines e) ≡ body_bytes e
 body_is (timeline ranks) = timeline_is ranks
 body_is (entails a r b walks) = rw (flat walk_lines walk_bytes walk_is walks) refl
 body_is (counter a r b ranks) = rw (timeline_is ranks) refl
+body_is (clash cites walk spares) =
+    let proof = joined (walk_lines walk) (flat_map timeline_lines spares) (walk_bytes walk) (flat_map timeline_bytes spares) (walk_is walk) (flat timeline_lines timeline_bytes timeline_is spares) in
+    let all = joined (map cite_line cites) (walk_lines walk ++ flat_map timeline_lines spares) (flat_map cite_line cites) (walk_bytes walk ++ flat_map timeline_bytes spares) (mapped cite_line cites) proof in
+    ap (λ (x : List ℕ). one_number (codes "clash ") (length cites) ++ x) all
 
 -- the lines of a text, joined
 pub text_is : (e : PlainEvidence) → concat (text_lines e) ≡ first_line ++ (body_bytes e ++ last_line)

@@ -1,6 +1,7 @@
 -- Evidence as a plain value, and its one text.
 use Rattle.std.specs.Prelude.{◌≡◌, ℕ, ◌^◌, ◌<◌, List, [], ◌∷◌, ◌++◌, length, map, codes, decimal}
 use Rattle.std.specs.List.{All, concat, flat_map}
+use Rattle.std.specs.List.Sorted.{IsStrictlyIncreasing}
 use Rattle.net_core.specs.Atoms.{atom_count}
 use Rattle.net_core.specs.Rels.{rel_text}
 use Rattle.net_core.specs.declared.rels.Rel.{Rel}
@@ -8,11 +9,16 @@ use Rattle.net_core.specs.declared.step.Step.{Step}
 use Rattle.net_core.specs.declared.step.Step.TheVariants.{Link, Span, Calendar}
 use Rattle.evidence_format.specs.Lines.{Lines}
 
--- What a file is evidence of: a timeline, by the ranks of the start and the end of each interval; a relation between two intervals that holds in every timeline that fits, by a walk for each order that it is; or a relation that fails in one of them, by the ranks of that one.
+-- What a file is evidence of.
 pub data PlainEvidence : Type 0 where
+  -- a timeline, by the ranks of the start and the end of each interval
   timeline : List (ℕ × ℕ) → PlainEvidence
+  -- a relation between two intervals that holds in every timeline that fits, by a walk for each order that it is
   entails : ℕ → Rel → ℕ → List (List Step) → PlainEvidence
+  -- such a relation that fails in one of them, by the ranks of that one
   counter : ℕ → Rel → ℕ → List (ℕ × ℕ) → PlainEvidence
+  -- links that cannot all be true, by their numbers, the cites, by a closed walk over them, and by a spare for each of them: the ranks of a timeline in which the others hold
+  clash : List ℕ → List Step → List (List (ℕ × ℕ)) → PlainEvidence
 
 -- a number that can stand in a text
 abbrev pub IsNumber : ℕ → Type 0
@@ -34,11 +40,16 @@ HasNumbers (Calendar p q) = IsNumber p × IsNumber q
 abbrev pub AreSteps : List Step → Type 0
 AreSteps steps = All HasNumbers steps × IsNumber (length steps)
 
--- All numbers can stand in a text, and a relation has one walk for each order that it is.
+-- the numbers of links rise, and they and how many there are can stand in a text
+abbrev pub AreCites : List ℕ → Type 0
+AreCites cites = IsStrictlyIncreasing cites × All IsNumber cites × IsNumber (length cites)
+
+-- All numbers can stand in a text; a relation has one walk for each order that it is, and a clash one spare for each of its cites, which rise.
 abbrev pub IsWellFormed : PlainEvidence → Type 0
 IsWellFormed (timeline ranks) = AreRanks ranks
 IsWellFormed (entails a r b walks) = IsNumber a × IsNumber b × All AreSteps walks × (length walks ≡ atom_count r)
 IsWellFormed (counter a r b ranks) = IsNumber a × IsNumber b × AreRanks ranks
+IsWellFormed (clash cites walk spares) = AreCites cites × AreSteps walk × All AreRanks spares × (length spares ≡ length cites)
 
 -- a keyword that ends in a space, and a number
 abbrev pub one_number : List ℕ → ℕ → List ℕ
@@ -68,10 +79,14 @@ step_line (Calendar p q) = two_numbers (codes "calendar ") p q
 abbrev pub walk_lines : List Step → Lines
 walk_lines steps = one_number (codes "walk ") (length steps) ∷ map step_line steps
 
+abbrev pub cite_line : ℕ → List ℕ
+cite_line link = one_number (codes "cite ") link
+
 abbrev pub body_lines : PlainEvidence → Lines
 body_lines (timeline ranks) = timeline_lines ranks
 body_lines (entails a r b walks) = relation_line (codes "entails ") a r b ∷ flat_map walk_lines walks
 body_lines (counter a r b ranks) = relation_line (codes "counter ") a r b ∷ timeline_lines ranks
+body_lines (clash cites walk spares) = one_number (codes "clash ") (length cites) ∷ (map cite_line cites ++ (walk_lines walk ++ flat_map timeline_lines spares))
 
 abbrev pub first_line : List ℕ
 first_line = codes "tml-evidence 1\n"

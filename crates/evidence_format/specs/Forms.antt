@@ -1,11 +1,11 @@
--- Lines that have one of several forms.
-use Rattle.std.specs.Prelude.{ℕ, List, Option, option_map, codes}
+-- What a line says: a step, a cite, or the kind of evidence.
+use Rattle.std.specs.Prelude.{ℕ, ◌+◌, ◌^◌, ◌&&◌, nat_le, nat_lt, List, Option, Some, None, option_map, if◌then◌else◌, codes}
 use Rattle.std.specs.Option.{option_or}
 use Rattle.net_core.specs.declared.step.Step.{Step}
 use Rattle.net_core.specs.declared.step.Step.TheVariants as step
 use Rattle.evidence_format.specs.declared.head.Head.{Head}
 use Rattle.evidence_format.specs.declared.head.Head.TheVariants as head
-use Rattle.evidence_format.specs.Words.{one_of, two_of, relation_of}
+use Rattle.evidence_format.specs.Words.{◌>>=◌, one_of, two_of, relation_of}
 
 -- the step of a line
 unfoldable pub step_of : List ℕ → Option Step
@@ -14,9 +14,16 @@ step_of line =
     (option_or (option_map (λ i. step.Span i) (one_of (codes "span ") line))
     (option_map (λ pair. step.Calendar pair.0 pair.1) (two_of (codes "calendar ") line)))
 
+-- the cite of a line: a number that is at least the least one, and leaves numbers for those to come after it
+unfoldable pub cite_of : ℕ → ℕ → List ℕ → Option ℕ
+cite_of left least line = do
+  link ← one_of (codes "cite ") line
+  if nat_le least link && nat_lt (link + left) (2 ^ 32) then Some link else None
+
 -- the kind of evidence, by the line that tells it
 unfoldable pub head_of : List ℕ → Option Head
 head_of line =
     option_or (option_map (λ n. head.Timeline n) (one_of (codes "timeline ") line))
     (option_or (option_map (λ x. head.Entails x.0 x.1 x.2) (relation_of (codes "entails ") line))
-    (option_map (λ x. head.Counter x.0 x.1 x.2) (relation_of (codes "counter ") line)))
+    (option_or (option_map (λ x. head.Counter x.0 x.1 x.2) (relation_of (codes "counter ") line))
+    (option_map (λ n. head.Clash n) (one_of (codes "clash ") line))))

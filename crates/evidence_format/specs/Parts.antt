@@ -1,11 +1,12 @@
 -- Lines that are begun, by the parts of evidence. A part can be begun, and it can be whole.
-use Rattle.std.specs.Prelude.{◌≡◌, ℕ, ◌<◌, ◌≤◌, ◌⊎◌, ◌↔◌, List, [], ◌∷◌, ◌++◌, length, map, codes}
+use Rattle.std.specs.Prelude.{◌≡◌, ℕ, ◌+◌, ◌-◌, ◌<◌, ◌≤◌, ◌⊎◌, ◌↔◌, List, [], ◌∷◌, ◌++◌, length, map, slice_index, codes}
 use Rattle.std.specs.List.{All, flat_map}
+use Rattle.std.specs.List.Sorted.{IsStrictlyIncreasing}
 use Rattle.net_core.specs.Atoms.{atom_count}
 use Rattle.net_core.specs.declared.rels.Rel.{Rel}
 use Rattle.net_core.specs.declared.step.Step.{Step}
 use Rattle.evidence_format.specs.Lines.{Lines}
-use Rattle.evidence_format.specs.Evidence.{PlainEvidence, AreSteps, HasNumbers, IsNumber, IsPair, IsWellFormed, one_number, relation_line, at_line, step_line, walk_lines, first_line, text_lines}
+use Rattle.evidence_format.specs.Evidence.{PlainEvidence, AreRanks, AreSteps, AreCites, HasNumbers, IsNumber, IsPair, IsWellFormed, one_number, relation_line, at_line, timeline_lines, step_line, walk_lines, cite_line, first_line, text_lines}
 use Rattle.evidence_format.specs.Begun.{IsBegun}
 
 -- a timeline of some number of intervals, with the ranks of no more
@@ -20,21 +21,53 @@ IsBegunWalk ls = (n : ℕ) × (steps : List Step) × IsNumber n × All HasNumber
 abbrev pub MayBegin : (Lines → Type 0) → Lines → Type 0
 MayBegin IsBegunPart ls = (ls ≡ []) ⊎ IsBegunPart ls
 
--- whole walks, fewer than so many, and one more that may be begun; or so many
+-- whole parts of one kind, fewer than so many, and one more that may be begun; or so many
+abbrev pub AreBegunParts : {A : Type 0} → (A → Type 0) → (A → Lines) → (Lines → Type 0) → ℕ → Lines → Type 0
+AreBegunParts {A} IsWhole lines IsBegunPart n ls = (parts : List A) × (rest : Lines) × All IsWhole parts × (ls ≡ flat_map lines parts ++ rest)
+    × (((length parts < n) × MayBegin IsBegunPart rest) ⊎ ((length parts ≡ n) × (rest ≡ [])))
+
+-- so many walks
 abbrev pub AreBegunWalks : ℕ → Lines → Type 0
-AreBegunWalks n ls = (walks : List (List Step)) × (rest : Lines) × All AreSteps walks × (ls ≡ flat_map walk_lines walks ++ rest)
-    × (((length walks < n) × MayBegin IsBegunWalk rest) ⊎ ((length walks ≡ n) × (rest ≡ [])))
+AreBegunWalks n ls = AreBegunParts AreSteps walk_lines IsBegunWalk n ls
+
+-- so many timelines
+abbrev pub AreBegunTimelines : ℕ → Lines → Type 0
+AreBegunTimelines n ls = AreBegunParts AreRanks timeline_lines IsBegunTimeline n ls
+
+-- each of the first of so many cites leaves numbers for those to come after it
+abbrev pub LeaveNumbers : ℕ → List ℕ → Type 0
+LeaveNumbers n cites = (i : ℕ) → i < length cites → IsNumber (slice_index cites i + (n - (i + 1)))
+
+-- no more than so many cites, which rise, and leave numbers for those to come
+abbrev pub AreBegunCites : ℕ → Lines → Type 0
+AreBegunCites n ls = (cites : List ℕ) × (length cites ≤ n) × IsStrictlyIncreasing cites × LeaveNumbers n cites × (ls ≡ map cite_line cites)
+
+-- so many cites, and what may follow them
+abbrev pub IsBegunAfterCites : ℕ → (Lines → Type 0) → Lines → Type 0
+IsBegunAfterCites n Follows ls = (cites : List ℕ) × (rest : Lines) × AreCites cites × (length cites ≡ n) × Follows rest × (ls ≡ map cite_line cites ++ rest)
+
+-- a walk, and what may follow it
+abbrev pub IsBegunAfterWalk : (Lines → Type 0) → Lines → Type 0
+IsBegunAfterWalk Follows ls = (walk : List Step) × (rest : Lines) × AreSteps walk × Follows rest × (ls ≡ walk_lines walk ++ rest)
+
+-- what stands after the line of a clash: begun cites; all cites, and a walk that may be begun; or all cites, a walk and begun timelines
+abbrev pub IsBegunClash : ℕ → Lines → Type 0
+IsBegunClash n ls =
+    AreBegunCites n ls
+    ⊎ IsBegunAfterCites n (λ rest. MayBegin IsBegunWalk rest) ls
+    ⊎ IsBegunAfterCites n (λ rest. IsBegunAfterWalk (λ spares. AreBegunTimelines n spares) rest) ls
 
 -- a line with a relation, and what may follow it
 abbrev pub IsBegunRelation : List ℕ → (Rel → Lines → Type 0) → Lines → Type 0
 IsBegunRelation keyword Follows ls = (a : ℕ) × (r : Rel) × (b : ℕ) × (rest : Lines) × IsNumber a × IsNumber b × Follows r rest × (ls ≡ relation_line keyword a r b ∷ rest)
 
--- what stands after the first line: a begun timeline; a relation with begun walks for its orders; or a relation with a begun timeline
+-- what stands after the first line: a begun timeline; a relation with begun walks for its orders; a relation with a begun timeline; or a begun clash
 abbrev pub IsBegunBody : Lines → Type 0
 IsBegunBody ls =
     IsBegunTimeline ls
     ⊎ IsBegunRelation (codes "entails ") (λ r rest. AreBegunWalks (atom_count r) rest) ls
     ⊎ IsBegunRelation (codes "counter ") (λ r rest. MayBegin IsBegunTimeline rest) ls
+    ⊎ ((n : ℕ) × (rest : Lines) × IsNumber n × IsBegunClash n rest × (ls ≡ one_number (codes "clash ") n ∷ rest))
 
 -- no line; the first line alone; a begun body after it; or the lines of a whole text
 abbrev pub IsBegunByParts : Lines → Type 0

@@ -1,13 +1,13 @@
 -- Reading evidence, line by line.
-use Rattle.std.specs.Prelude.{ℕ, zero, suc, List, [], ◌∷◌, Result, Ok, codes}
+use Rattle.std.specs.Prelude.{ℕ, zero, suc, ◌+◌, List, [], ◌∷◌, Result, Ok, codes}
 use Rattle.net_core.specs.Atoms.{atom_count}
 use Rattle.net_core.specs.declared.step.Step.{Step}
 use Rattle.evidence_format.specs.declared.head.Head.{Head}
-use Rattle.evidence_format.specs.declared.head.Head.TheVariants.{Timeline, Entails, Counter}
+use Rattle.evidence_format.specs.declared.head.Head.TheVariants.{Timeline, Entails, Counter, Clash}
 use Rattle.evidence_format.specs.Lines.{Lines}
-use Rattle.evidence_format.specs.Evidence.{PlainEvidence, timeline, entails, counter, first_line, last_line}
+use Rattle.evidence_format.specs.Evidence.{PlainEvidence, timeline, entails, counter, clash, first_line, last_line}
 use Rattle.evidence_format.specs.Words.{one_of, two_of, same_of}
-use Rattle.evidence_format.specs.Forms.{step_of, head_of}
+use Rattle.evidence_format.specs.Forms.{step_of, cite_of, head_of}
 use Rattle.evidence_format.specs.Reading.{Read, ◌>>=◌, line_at, ended}
 
 -- n values, one after another
@@ -36,6 +36,14 @@ walk_at ls = do
   n ← line_at (one_of (codes "walk ")) ls
   steps_at n.0 n.1
 
+-- n cites, each of which is at least the least one, and leaves numbers for those to come after it
+unfoldable pub cites_at : ℕ → ℕ → Lines → Read (List ℕ)
+cites_at zero least ls = Ok ([], ls)
+cites_at (suc left) least ls = do
+  link ← line_at (cite_of left least) ls
+  more ← cites_at left (link.0 + 1) link.1
+  Ok (link.0 ∷ more.0, more.1)
+
 -- what follows the line that tells the kind
 unfoldable pub rest_at : Head → Lines → Read PlainEvidence
 rest_at (Timeline n) ls = do
@@ -47,6 +55,11 @@ rest_at (Entails a r b) ls = do
 rest_at (Counter a r b) ls = do
   ranks ← timeline_at ls
   Ok (counter a r b ranks.0, ranks.1)
+rest_at (Clash n) ls = do
+  cites ← cites_at n 0 ls
+  walk ← walk_at cites.1
+  spares ← many_at timeline_at n walk.1
+  Ok (clash cites.0 walk.0 spares.0, spares.1)
 
 unfoldable pub body_at : Lines → Read PlainEvidence
 body_at ls = do

@@ -2,7 +2,7 @@
 use Rattle.std.specs.Prelude.{ℕ, List, ◌++◌, length, codes}
 use Rattle.std.specs.List.{flat_map}
 use Rattle.net_core.specs.declared.step.Step.{Step}
-use Rattle.evidence_format.specs.Evidence.{PlainEvidence, timeline, entails, counter, one_number, relation_line, at_line, step_line}
+use Rattle.evidence_format.specs.Evidence.{PlainEvidence, timeline, entails, counter, clash, one_number, relation_line, at_line, step_line, cite_line}
 
 abbrev pub timeline_bytes : List (ℕ × ℕ) → List ℕ
 timeline_bytes ranks = one_number (codes "timeline ") (length ranks) ++ flat_map at_line ranks
@@ -14,3 +14,4 @@ abbrev pub body_bytes : PlainEvidence → List ℕ
 body_bytes (timeline ranks) = timeline_bytes ranks
 body_bytes (entails a r b walks) = relation_line (codes "entails ") a r b ++ flat_map walk_bytes walks
 body_bytes (counter a r b ranks) = relation_line (codes "counter ") a r b ++ timeline_bytes ranks
+body_bytes (clash cites walk spares) = one_number (codes "clash ") (length cites) ++ (flat_map cite_line cites ++ (walk_bytes walk ++ flat_map timeline_bytes spares))

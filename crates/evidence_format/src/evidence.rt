@@ -2,7 +2,8 @@
 use net_core::{List, Ranks, Rel, Walk};
 
 /// Evidence of what follows from a document. It is well formed where a relation has one walk for each order of starts
-/// and ends that it is, and where there are at most 4,294,967,295 intervals in a timeline and steps in a walk.
+/// and ends that it is, where the cites of a clash rise strictly and there are as many spares, and where there are at
+/// most 4,294,967,295 intervals in a timeline, steps in a walk and cites.
 #[derive(Drop)]
 pub enum Evidence {
     /// A timeline that fits the document.
@@ -25,5 +26,14 @@ pub enum Evidence {
         b: u32,
         /// The ranks of its intervals, in their order.
         ranks: Ranks,
+    },
+    /// A proof that links cannot all be true, and that without any one of them the others can.
+    Clash {
+        /// The numbers of the links.
+        cites: List<u32>,
+        /// A closed walk over these links.
+        walk: Walk,
+        /// For each of these links, in their order, the ranks of a timeline in which the others hold.
+        spares: List<Ranks>,
     },
 }

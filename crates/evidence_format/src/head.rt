@@ -19,6 +19,8 @@ pub enum Head {
     Entails { a: u32, rel: Rel, b: u32 },
     /// A relation between two intervals that is false in a timeline that fits.
     Counter { a: u32, rel: Rel, b: u32 },
+    /// So many links that cannot all be true.
+    Clash { links: u32 },
 }
 
 /// The kind of evidence, and what follows its line.
@@ -41,6 +43,9 @@ fn head_of(line: &[u8]) -> Option<Head>
     if let Some((a, rel, b)) = relation_of(b"entails ", line) {
         return Some(Head::Entails { a, rel, b });
     }
-    let (a, rel, b) = relation_of(b"counter ", line)?;
-    Some(Head::Counter { a, rel, b })
+    if let Some((a, rel, b)) = relation_of(b"counter ", line) {
+        return Some(Head::Counter { a, rel, b });
+    }
+    let links = one_of(b"clash ", line)?;
+    Some(Head::Clash { links })
 }

@@ -1,6 +1,7 @@
 //! The text of evidence, read and written.
 #![tactic(auto)]
 
+mod cites;
 mod evidence;
 mod head;
 mod laws;

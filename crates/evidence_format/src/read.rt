@@ -9,11 +9,12 @@ ghost use Rattle.std.specs.List.{count_by};
 ghost use Rattle.std.specs.Prelude.{◌≡◌, ◌≤◌, ◌+◌, ◌-◌, length, take, IfOk, IfErr};
 
 use crate::Evidence;
+use crate::cites::cites_at;
 use crate::head::{Head, head_at};
 use crate::lines::{next_line, same_at};
 use crate::stop::Stop;
-use crate::timeline::{ranks_at, timeline_at};
-use crate::walks::walks_at;
+use crate::timeline::{ranks_at, timeline_at, timelines_at};
+use crate::walks::{walk_at, walks_at};
 use std::alloc::Global;
 
 /// Why no evidence was read.
@@ -95,6 +96,17 @@ fn rest_at<'t>(alloc: Global, head: Head, text: &'t [u8]) -> Result<(Evidence, &
         Head::Counter { a, rel, b } => {
             let (ranks, rest) = timeline_at(alloc, text)?;
             Ok((Evidence::Counter { a, rel, b, ranks }, rest))
+        }
+        Head::Clash { links } => {
+            let (cites, rest) = cites_at(alloc, links, text)?;
+            let (walk, rest) = walk_at(alloc, rest)?;
+            let (spares, rest) = timelines_at(alloc, links, rest)?;
+            let clash = Evidence::Clash {
+                cites,
+                walk,
+                spares,
+            };
+            Ok((clash, rest))
         }
     }
 }

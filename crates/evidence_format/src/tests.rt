@@ -1,9 +1,10 @@
-//! Texts of evidence and their bad lines, by hand from the format.
-use crate::{Evidence, ReadEvidence, read_evidence, write_evidence};
-use net_core::{Rel, Step, Walk};
+//! Texts of evidence and what they say, by hand from the format.
+mod bad_lines;
+
+use crate::{Evidence, read_evidence, write_evidence};
+use net_core::{Ranks, Rel, Step, Walk};
 use std::alloc::AllocGlobal;
 use std::process::Abort;
-use std::test::Fail;
 
 /// What a text is evidence of.
 #[derive(Drop)]
@@ -11,12 +12,20 @@ enum Expected<'t> {
     Timeline(&'t [u32]),
     Entails(u32, Rel, u32, &'t [&'t [Step]]),
     Counter(u32, Rel, u32, &'t [u32]),
+    Clash(&'t [u32], &'t [Step], &'t [&'t [u32]]),
 }
 
 fn are_walks(rt: &(impl Abort + AllocGlobal), walks: &[Walk], want: &[&[Step]]) {
     assert_eq!(rt; walks.len(), want.len());
     for (walk, steps) in walks.iter().zip(want) {
         assert_eq!(rt; walk.as_slice(), *steps);
+    }
+}
+
+fn are_timelines(rt: &(impl Abort + AllocGlobal), timelines: &[Ranks], want: &[&[u32]]) {
+    assert_eq!(rt; timelines.len(), want.len());
+    for (ranks, want) in timelines.iter().zip(want) {
+        assert_eq!(rt; ranks.as_slice(), *want);
     }
 }
 
@@ -33,6 +42,18 @@ fn is_evidence_of(rt: &(impl Abort + AllocGlobal), evidence: &Evidence, want: &E
         (Evidence::Counter { a, rel, b, ranks }, Expected::Counter(from, want_rel, to, want)) => {
             assert_eq!(rt; (*a, *rel, *b), (*from, *want_rel, *to));
             assert_eq!(rt; ranks.as_slice(), *want);
+        }
+        (
+            Evidence::Clash {
+                cites,
+                walk,
+                spares,
+            },
+            Expected::Clash(links, steps, timelines),
+        ) => {
+            assert_eq!(rt; cites.as_slice(), *links);
+            assert_eq!(rt; walk.as_slice(), *steps);
+            are_timelines(rt, spares.as_slice(), timelines);
         }
         _ => panic!(rt; "evidence of another kind is read"),
     }
@@ -216,261 +237,41 @@ fn entailments_of_each_relation_are_read_and_written(rt: HostRuntime) {
     }
 }
 
-fn has_bad_line(rt: &(impl Abort + AllocGlobal), text: &[u8], want: u32) {
-    assert!(rt; text.len() < 200000);
-    match read_evidence(rt.alloc(), text) {
-        Err(e) => assert_eq!(rt; e, ReadEvidence::BadLine { line: want }),
-        Ok(_) => panic!(rt; "a text with bad line {want} is read"),
-    }
-}
-
 #[test]
-fn bad_first_and_second_lines_are_told(rt: HostRuntime) {
-    let cases: [(&[u8], u32); 46] = [
-        (b"", 1),
-        (b"\n", 1),
-        (b"\0\0\0", 1),
-        (b"\0\ntimeline 0\nend\n", 1),
-        (b"tml-evidence 1", 1),
-        (b"tml-evidence 1\r\ntimeline 0\r\nend\r\n", 1),
-        (b"tml-evidence 1 \ntimeline 0\nend\n", 1),
-        (b" tml-evidence 1\ntimeline 0\nend\n", 1),
-        (b"\xef\xbb\xbftml-evidence 1\ntimeline 0\nend\n", 1),
-        (b"tml-evidence 2\ntimeline 0\nend\n", 1),
-        (b"tml-evidence 01\ntimeline 0\nend\n", 1),
-        (b"timeline 0\nend\n", 1),
-        (b"tml-evidence 1\n", 2),
-        (b"tml-evidence 1\n\n", 2),
-        (b"tml-evidence 1\n\0\0", 2),
-        (b"tml-evidence 1\nend\n", 2),
-        (b"tml-evidence 1\ntimeline\nend\n", 2),
-        (b"tml-evidence 1\ntimeline \nend\n", 2),
-        (b"tml-evidence 1\ntimeline 0", 2),
-        (b"tml-evidence 1\ntimeline 00\nend\n", 2),
-        (b"tml-evidence 1\ntimeline -1\nend\n", 2),
-        (b"tml-evidence 1\ntimeline +0\nend\n", 2),
-        (b"tml-evidence 1\ntimeline 0\r\nend\n", 2),
-        (b"tml-evidence 1\ntimeline 0 0\nend\n", 2),
-        (b"tml-evidence 1\ntimeline  0\nend\n", 2),
-        (b"tml-evidence 1\ntimeline 4294967296\n", 2),
-        (b"tml-evidence 1\nclash 0\nwalk 0\nend\n", 2),
-        (b"tml-evidence 1\nwalk 0\nend\n", 2),
-        (b"tml-evidence 1\nspan 0\nend\n", 2),
-        (b"tml-evidence 1\nentails 0 before 1\nwalk 0\nend\n", 2),
-        (b"tml-evidence 1\nentails 0 OVERLAPS 1\nwalk 0\nend\n", 2),
-        (b"tml-evidence 1\nentails 0 BEFORE\0 1\nwalk 0\nend\n", 2),
-        (b"tml-evidence 1\nentails 0  1\nwalk 0\nend\n", 2),
-        (b"tml-evidence 1\nentails 0 BEFORE\nwalk 0\nend\n", 2),
-        (b"tml-evidence 1\nentails 0 BEFORE 1 2\nwalk 0\nend\n", 2),
-        (b"tml-evidence 1\nentails 0  BEFORE 1\nwalk 0\nend\n", 2),
-        (b"tml-evidence 1\nentails 00 BEFORE 1\nwalk 0\nend\n", 2),
-        (b"tml-evidence 1\nentails 0 BEFORE 01\nwalk 0\nend\n", 2),
+fn clashes_are_read_and_written(rt: HostRuntime) {
+    let cases: [(&[u8], Expected); 5] = [
         (
-            b"tml-evidence 1\nentails 4294967296 BEFORE 1\nwalk 0\nend\n",
-            2,
+            b"tml-evidence 1\nclash 0\nwalk 0\nend\n",
+            Expected::Clash(&[], &[], &[]),
         ),
         (
-            b"tml-evidence 1\nentails 0 BEFORE 4294967296\nwalk 0\nend\n",
-            2,
-        ),
-        (b"tml-evidence 1\nentails BEFORE 0 1\nwalk 0\nend\n", 2),
-        (b"tml-evidence 1\nentails 0 BEFORE 1\r\nwalk 0\nend\n", 2),
-        (b"tml-evidence 1\nentails 0 BEFORE 1", 2),
-        (b"tml-evidence 1\nCOUNTER 0 BEFORE 1\ntimeline 0\nend\n", 2),
-        (
-            b"tml-evidence 1\ncounter 0 IS INCLUDED 1\ntimeline 0\nend\n",
-            2,
-        ),
-        (b"tml-evidence 1\ncounter 0 AFTER 1 \ntimeline 0\nend\n", 2),
-    ];
-    for (text, line) in cases.iter() {
-        has_bad_line(&rt, text, *line);
-    }
-}
-
-#[test]
-fn bad_later_lines_of_timelines_are_told(rt: HostRuntime) {
-    let cases: [(&[u8], u32); 44] = [
-        (b"tml-evidence 1\ntimeline 4294967295\n", 3),
-        (b"tml-evidence 1\ntimeline 4294967295\nend\n", 3),
-        (b"tml-evidence 1\ntimeline 1\nat 00 1\nend\n", 3),
-        (b"tml-evidence 1\ntimeline 1\nat 0 01\nend\n", 3),
-        (b"tml-evidence 1\ntimeline 1\nat +1 2\nend\n", 3),
-        (b"tml-evidence 1\ntimeline 1\nat 0 -1\nend\n", 3),
-        (b"tml-evidence 1\ntimeline 1\nat 0 1 \nend\n", 3),
-        (b"tml-evidence 1\ntimeline 1\nat 0 1\r\nend\n", 3),
-        (b"tml-evidence 1\ntimeline 1\nat 0  1\nend\n", 3),
-        (b"tml-evidence 1\ntimeline 1\nat  0 1\nend\n", 3),
-        (b"tml-evidence 1\ntimeline 1\nat\t0 1\nend\n", 3),
-        (b"tml-evidence 1\ntimeline 1\n at 0 1\nend\n", 3),
-        (b"tml-evidence 1\ntimeline 1\nat 4294967296 1\nend\n", 3),
-        (b"tml-evidence 1\ntimeline 1\nat 1 4294967296\nend\n", 3),
-        (
-            b"tml-evidence 1\ntimeline 1\nat 18446744073709551616 1\nend\n",
-            3,
-        ),
-        (b"tml-evidence 1\ntimeline 1\nat 0\nend\n", 3),
-        (b"tml-evidence 1\ntimeline 1\nat 0 \nend\n", 3),
-        (b"tml-evidence 1\ntimeline 1\nat 0 1 2\nend\n", 3),
-        (b"tml-evidence 1\ntimeline 1\nat 0\0 1\nend\n", 3),
-        (b"tml-evidence 1\ntimeline 1\nat 0 \xd9\xa1\nend\n", 3),
-        (b"tml-evidence 1\ntimeline 1\nat 0 \xff\nend\n", 3),
-        (b"tml-evidence 1\ntimeline 1\nat 0 1", 3),
-        (b"tml-evidence 1\ntimeline 0\nat 0 1\nend\n", 3),
-        (b"tml-evidence 1\ntimeline 1\nat 0 1\nat 2 3\nend\n", 4),
-        (b"tml-evidence 1\ntimeline 2\nat 0 1\nend\n", 4),
-        (b"tml-evidence 1\ntimeline 2\nat 0 1\nat 2 3\n", 5),
-        (b"tml-evidence 1\ntimeline 1\nat 0 1\nend", 4),
-        (b"tml-evidence 1\ntimeline 1\nat 0 1\nend \n", 4),
-        (b"tml-evidence 1\ntimeline 1\nat 0 1\nEND\n", 4),
-        (b"tml-evidence 1\ntimeline 1\nat 0 1\nend\nx", 5),
-        (b"tml-evidence 1\ntimeline 1\nat 0 1\nend\n\0", 5),
-        (b"tml-evidence 1\ntimeline 1\nat 0 1\nend\n\n", 5),
-        (b"tml-evidence 1\ntimeline 0\nend\nend\n", 4),
-        (
-            b"tml-evidence 1\ntimeline 0\nentails 0 BEFORE 1\nwalk 0\nend\n",
-            3,
-        ),
-        (b"tml-evidence 1\ntimeline 1\nvia 0 1\nend\n", 3),
-        (b"tml-evidence 1\ncounter 0 BEFORE 1\nend\n", 3),
-        (b"tml-evidence 1\ncounter 0 BEFORE 1\n", 3),
-        (b"tml-evidence 1\ncounter 0 BEFORE 1\nwalk 0\nend\n", 3),
-        (
-            b"tml-evidence 1\ncounter 0 BEFORE 1\ntimeline 0\r\nend\n",
-            3,
-        ),
-        (b"tml-evidence 1\ncounter 0 BEFORE 1\ntimeline 0\nend", 4),
-        (
-            b"tml-evidence 1\ncounter 0 BEFORE 1\ntimeline 0\ntimeline 0\nend\n",
-            4,
+            b"tml-evidence 1\nclash 1\ncite 0\nwalk 1\nvia 0 0\ntimeline 1\nat 0 1\nend\n",
+            Expected::Clash(&[0], &[Step::Link { link: 0, atom: 0 }], &[&[0, 1]]),
         ),
         (
-            b"tml-evidence 1\ncounter 0 BEFORE 1\ntimeline 2\nat 0 1\nend\n",
-            5,
+            b"tml-evidence 1\nclash 3\ncite 0\ncite 5\ncite 12\nwalk 3\nvia 5 1\nspan 1\ncalendar 2 3\
+              \ntimeline 0\ntimeline 1\nat 2 3\ntimeline 2\nat 0 3\nat 1 2\nend\n",
+            Expected::Clash(
+                &[0, 5, 12],
+                &[
+                    Step::Link { link: 5, atom: 1 },
+                    Step::Span { interval: 1 },
+                    Step::Calendar { from: 2, to: 3 },
+                ],
+                &[&[], &[2, 3], &[0, 3, 1, 2]],
+            ),
         ),
         (
-            b"tml-evidence 1\ncounter 0 BEFORE 1\ntimeline 4294967295\nat 0 1\n",
-            5,
+            b"tml-evidence 1\nclash 1\ncite 4294967295\nwalk 0\ntimeline 0\nend\n",
+            Expected::Clash(&[4294967295], &[], &[&[]]),
         ),
         (
-            b"tml-evidence 1\ncounter 0 BEFORE 1\ntimeline 1\nat 0 1\nend\n\n",
-            6,
+            b"tml-evidence 1\nclash 3\ncite 7\ncite 4294967294\ncite 4294967295\nwalk 0\
+              \ntimeline 0\ntimeline 0\ntimeline 0\nend\n",
+            Expected::Clash(&[7, 4294967294, 4294967295], &[], &[&[], &[], &[]]),
         ),
     ];
-    for (text, line) in cases.iter() {
-        has_bad_line(&rt, text, *line);
+    for (text, want) in cases.iter() {
+        is_read_and_written(&rt, text, want);
     }
-}
-
-#[test]
-fn bad_later_lines_of_walks_are_told(rt: HostRuntime) {
-    let cases: [(&[u8], u32); 31] = [
-        (b"tml-evidence 1\nentails 0 BEFORE 1\nend\n", 3),
-        (b"tml-evidence 1\nentails 0 BEFORE 1\n", 3),
-        (b"tml-evidence 1\nentails 0 BEFORE 1\ntimeline 0\nend\n", 3),
-        (b"tml-evidence 1\nentails 0 BEFORE 1\nspan 0\nend\n", 3),
-        (b"tml-evidence 1\nentails 0 BEFORE 1\nwalk\nend\n", 3),
-        (b"tml-evidence 1\nentails 0 BEFORE 1\nwalk 00\nend\n", 3),
-        (b"tml-evidence 1\nentails 0 BEFORE 1\nwalk 0\r\nend\n", 3),
-        (b"tml-evidence 1\nentails 0 BEFORE 1\nwalk 4294967296\n", 3),
-        (b"tml-evidence 1\nentails 0 BEFORE 1\nwalk 0", 3),
-        (b"tml-evidence 1\nentails 0 BEFORE 1\nwalk 0\n", 4),
-        (b"tml-evidence 1\nentails 0 BEFORE 1\nwalk 0\nend", 4),
-        (
-            b"tml-evidence 1\nentails 0 BEFORE 1\nwalk 0\nspan 0\nend\n",
-            4,
-        ),
-        (
-            b"tml-evidence 1\nentails 0 BEFORE 1\nwalk 0\nwalk 0\nend\n",
-            4,
-        ),
-        (b"tml-evidence 1\nentails 0 INCLUDES 1\nwalk 0\nend\n", 4),
-        (
-            b"tml-evidence 1\nentails 0 IDENTITY 1\nwalk 0\nwalk 0\nwalk 0\nend\n",
-            6,
-        ),
-        (
-            b"tml-evidence 1\nentails 0 BEFORE 1\nwalk 1\nhop 0\nend\n",
-            4,
-        ),
-        (
-            b"tml-evidence 1\nentails 0 BEFORE 1\nwalk 1\nat 0 1\nend\n",
-            4,
-        ),
-        (
-            b"tml-evidence 1\nentails 0 BEFORE 1\nwalk 1\nvia 1\nend\n",
-            4,
-        ),
-        (
-            b"tml-evidence 1\nentails 0 BEFORE 1\nwalk 1\nvia 1 2 3\nend\n",
-            4,
-        ),
-        (
-            b"tml-evidence 1\nentails 0 BEFORE 1\nwalk 1\nvia 1  2\nend\n",
-            4,
-        ),
-        (
-            b"tml-evidence 1\nentails 0 BEFORE 1\nwalk 1\nspan 0 1\nend\n",
-            4,
-        ),
-        (
-            b"tml-evidence 1\nentails 0 BEFORE 1\nwalk 1\nspan 4294967296\nend\n",
-            4,
-        ),
-        (
-            b"tml-evidence 1\nentails 0 BEFORE 1\nwalk 1\nspan 0\r\nend\n",
-            4,
-        ),
-        (
-            b"tml-evidence 1\nentails 0 BEFORE 1\nwalk 1\ncalendar 0\nend\n",
-            4,
-        ),
-        (
-            b"tml-evidence 1\nentails 0 BEFORE 1\nwalk 1\ncalendar 0 +1\nend\n",
-            4,
-        ),
-        (
-            b"tml-evidence 1\nentails 0 BEFORE 1\nwalk 1\ncalendar 0 1",
-            4,
-        ),
-        (
-            b"tml-evidence 1\nentails 0 BEFORE 1\nwalk 2\nspan 0\nend\n",
-            5,
-        ),
-        (
-            b"tml-evidence 1\nentails 0 BEFORE 1\nwalk 2\nspan 0\nwalk 0\nend\n",
-            5,
-        ),
-        (
-            b"tml-evidence 1\nentails 0 BEFORE 1\nwalk 4294967295\nspan 0\nend\n",
-            5,
-        ),
-        (
-            b"tml-evidence 1\nentails 0 BEFORE 1\nwalk 1\nspan 0\nend\nx",
-            6,
-        ),
-        (
-            b"tml-evidence 1\nentails 0 BEFORE 1\nwalk 1\nspan 0\nend\nend\n",
-            6,
-        ),
-    ];
-    for (text, line) in cases.iter() {
-        has_bad_line(&rt, text, *line);
-    }
-}
-
-#[test]
-fn a_very_long_line_is_bad(rt: HostRuntime) -> Result<(), Fail> {
-    let mut text = vec![in rt.alloc(); b'1'; 100000]?;
-    has_bad_line(&rt, text.as_slice(), 1);
-    text.push(b'\n')?;
-    has_bad_line(&rt, text.as_slice(), 1);
-    let mut text = b"tml-evidence 1\ntimeline ".to_vec(rt.alloc())?;
-    let digits = [b'1'; 1000];
-    for _ in 0..100 {
-        text.extend_from_slice(&digits)?;
-    }
-    text.push(b'\n')?;
-    has_bad_line(&rt, text.as_slice(), 2);
-    Ok(())
 }

@@ -32,7 +32,7 @@ pub fn walks_at<'t>(
 
 /// A walk, and what follows it.
 #[tactic(auto, unfolding(crate::specs::Readers::walk_at))]
-fn walk_at<'t>(alloc: Global, text: &'t [u8]) -> Result<(Walk, &'t [u8]), Stop<'t>>
+pub fn walk_at<'t>(alloc: Global, text: &'t [u8]) -> Result<(Walk, &'t [u8]), Stop<'t>>
     ensures { Gives (λ x. (x.0, lines_of x.1.now)) result (readers.walk_at (lines_of text.now)) }
 {
     let (count, rest) = one_at(b"walk ", text)?;

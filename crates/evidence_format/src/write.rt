@@ -1,11 +1,11 @@
 //! Writing evidence.
 ghost use Rattle.evidence_format.specs.Evidence as lines;
-ghost use Rattle.evidence_format.specs.Evidence.{IsNumber, IsText, IsWellFormed, first_line, last_line};
+ghost use Rattle.evidence_format.specs.Evidence.{AreRanks, IsNumber, IsText, IsWellFormed, first_line, last_line};
 ghost use Rattle.evidence_format.specs.View.{plain};
 ghost use Rattle.evidence_format.specs.Written.{body_bytes, timeline_bytes, walk_bytes};
 ghost use Rattle.net_core.specs.Ranks.{pairs_of};
 ghost use Rattle.std.specs.List.{All, flat_map};
-ghost use Rattle.std.specs.Prelude.{◌≡◌, ◌++◌, ◌∷◌, [], decimal, length, IfOk, OnOk};
+ghost use Rattle.std.specs.Prelude.{◌≡◌, ◌++◌, ◌∷◌, [], decimal, length, map, IfOk, OnOk};
 
 use crate::Evidence;
 use itoa::Buffer;
@@ -52,7 +52,27 @@ fn push_body(out: &mut Vec<u8>, evidence: &Evidence) -> Result<(), AllocError>
             push_relation(out, b"counter ", *a, *rel, *b)?;
             push_timeline(out, ranks)
         }
+        Evidence::Clash {
+            cites,
+            walk,
+            spares,
+        } => {
+            push_one(out, b"clash ", cites.as_slice().len() as u32)?;
+            push_cites(out, cites.as_slice())?;
+            push_walk(out, walk)?;
+            push_timelines(out, spares.as_slice())
+        }
     }
+}
+
+fn push_timelines(out: &mut Vec<u8>, timelines: &[Ranks]) -> Result<(), AllocError>
+    requires { All AreRanks (map pairs_of timelines.now) }
+    ensures { OnOk result (out.new.items ≡ out.old.items ++ flat_map timeline_bytes (map pairs_of timelines.now)) }
+{
+    for ranks in timelines {
+        push_timeline(out, ranks)?;
+    }
+    Ok(())
 }
 
 fn push_timeline(out: &mut Vec<u8>, ranks: &Ranks) -> Result<(), AllocError>
@@ -98,6 +118,15 @@ fn push_steps(out: &mut Vec<u8>, steps: &[Step]) -> Result<(), AllocError>
 {
     for step in steps {
         push_step(out, *step)?;
+    }
+    Ok(())
+}
+
+fn push_cites(out: &mut Vec<u8>, cites: &[u32]) -> Result<(), AllocError>
+    ensures { OnOk result (out.new.items ≡ out.old.items ++ flat_map lines.cite_line cites.now) }
+{
+    for link in cites {
+        push_one(out, b"cite ", *link)?;
     }
     Ok(())
 }
