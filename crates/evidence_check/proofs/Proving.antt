@@ -13,7 +13,7 @@ use Rattle.net_core.specs.declared.step.Step.{Step as StepOf}
 use Rattle.net_core.specs.declared.step.Step.TheVariants as steps
 use Rattle.net_core.proofs.WalkLaws.{joined_push, joined_split, joined_take, one_end}
 use Rattle.evidence_check.specs.declared.refusal.Reason.{Reason}
-use Rattle.evidence_check.specs.declared.refusal.Reason.TheVariants.{Number, Size, Order, Link, Calendar, Step, End, Weak, Holds}
+use Rattle.evidence_check.specs.declared.refusal.Reason.TheVariants.{Number, Size, Order, Link, Calendar, Step, End, Weak, Cited, Holds}
 use Rattle.evidence_check.specs.Refusals.{GoFrom, IsNoProof}
 use Rattle.evidence_check.specs.Supported.{IsProof, atom_at, walk_at}
 
@@ -40,7 +40,7 @@ at_number P atoms walks k atom walk e f p = subst (λ (a : Atom). P a (walk_at w
 
 module _ (net : PlainNet) where
   -- steps that go on to their end do so to each place before it
-  goes_less : (x i k : ℕ) (all : List StepOf) → i ≤ k → GoFrom net x (take k all) → GoFrom net x (take i all)
+  pub goes_less : (x i k : ℕ) (all : List StepOf) → i ≤ k → GoFrom net x (take k all) → GoFrom net x (take i all)
   goes_less x i k all le goes =
       let less = joined_take net EveryLink (take k all) x goes.0 i goes.1 in
       (less.0, subst (λ (some : List StepOf). IsJoined net EveryLink some x less.0) (take_take i k all le) less.1)
@@ -51,7 +51,7 @@ module _ (net : PlainNet) where
       take_take (suc i) (suc k) [] le = refl
       take_take (suc i) (suc k) (s ∷ all) le = ap (λ (some : List StepOf). s ∷ some) (take_take i k all (omega arith))
 
-  goes_whole : (x y k : ℕ) (all : List StepOf) → IsJoined net EveryLink all x y → GoFrom net x (take k all)
+  pub goes_whole : (x y k : ℕ) (all : List StepOf) → IsJoined net EveryLink all x y → GoFrom net x (take k all)
   goes_whole x y k all joined = joined_take net EveryLink all x y k joined
 
   -- a walk is refused for no reason
@@ -64,6 +64,7 @@ module _ (net : PlainNet) where
   not_both atom all (Order n) proof h = h
   not_both atom all (Link n) proof h = h
   not_both atom all (Calendar p q) proof h = h
+  not_both atom all (Cited n) proof h = h
   not_both atom all Holds proof h = h
 
   -- the first step that does not go on is one
@@ -92,12 +93,14 @@ module _ (net : PlainNet) where
   one_reason atom all (Order n) s h g = absurd h
   one_reason atom all (Link n) s h g = absurd h
   one_reason atom all (Calendar p q) s h g = absurd h
+  one_reason atom all (Cited n) s h g = absurd h
   one_reason atom all Holds s h g = absurd h
   one_reason atom all r (Number n) h g = absurd g
   one_reason atom all r (Size n) h g = absurd g
   one_reason atom all r (Order n) h g = absurd g
   one_reason atom all r (Link n) h g = absurd g
   one_reason atom all r (Calendar p q) h g = absurd g
+  one_reason atom all r (Cited n) h g = absurd g
   one_reason atom all r Holds h g = absurd g
 
   -- how far a walk was followed: where the first steps lead, and whether one of them is strict

@@ -1,17 +1,41 @@
 -- What supported evidence shows is true.
-use Rattle.std.proofs.Common.{◌≡◌, ℕ, List, false, Result, Ok, Err, OnOk, IfOk, subst}
+use Rattle.std.proofs.Common.{◌≡◌, ℕ, zero, suc, ◌<◌, List, [], ◌∷◌, length, false, Some, Result, Ok, Err, OnOk, IfOk, arith, subst}
+use Rattle.std.specs.List.{Contains, slice_get}
 use Rattle.std.proofs.lemmas.List.Elements.{All-from_get_or, recursion_from_All}
+use Rattle.std.proofs.lemmas.Option.{option_and_then_some, slice_get_within}
 use Rattle.net_core.specs.Atoms.{Satisfies, atoms_of}
-use Rattle.net_core.specs.Fits.{EveryLink}
+use Rattle.net_core.specs.Relations.{Timeline}
+use Rattle.net_core.specs.Steps.{atom_of, link_of}
+use Rattle.net_core.specs.Walks.{GoesOver, IsJoined}
+use Rattle.net_core.specs.declared.atom.Atom.{Atom}
+use Rattle.net_core.specs.declared.net.NetLink.{NetLink}
+use Rattle.net_core.specs.declared.step.Step.TheVariants.{Link, Span, Calendar}
+use Rattle.net_core.specs.Clashes.{IsMinimalClash, Others}
+use Rattle.net_core.specs.Fits.{EveryLink, FitsWith}
 use Rattle.net_core.specs.Nets.{PlainNet}
 use Rattle.net_core.specs.Ranks.{ranks_of, timeline_of}
 use Rattle.net_core.specs.declared.rels.Rel.{Rel}
 use Rattle.net_core.specs.declared.step.Step.{Step as StepOf}
 use Rattle.net_core.proofs.AtomLaws.{atoms_say_the_relation}
-use Rattle.net_core.proofs.WalkLaws.{walk_kept}
-use Rattle.evidence_format.specs.Evidence.{PlainEvidence, timeline, entails, counter}
+use Rattle.net_core.proofs.WalkLaws.{joined_over, round_clashes, walk_kept}
+use Rattle.evidence_format.specs.Evidence.{PlainEvidence, timeline, entails, counter, clash}
 use Rattle.evidence_check.specs.Claims.{Follows, IsTrue}
-use Rattle.evidence_check.specs.Supported.{IsSupported, atom_at, walk_at}
+use Rattle.evidence_check.specs.Supported.{IsSupported, atom_at, ranks_at, walk_at}
+
+-- the link of a step that goes by an order is one of the net
+link_within : (net : PlainNet) (step : StepOf) (a : Atom) (k : ℕ) → atom_of net step ≡ Some a → link_of step ≡ Some k → k < length net.links
+link_within net (Link link i) a k e is =
+    let same : link ≡ k = let f = is in cc in
+    subst (λ (n : ℕ). n < length net.links) same
+    (option_and_then_some (λ (l : NetLink). slice_get (atoms_of l.rel l.a l.b) i) (slice_get net.links link) a e (λ l at here. slice_get_within net.links link l at))
+link_within net (Span i) a k e is = absurd cc
+link_within net (Calendar p q) a k e is = absurd cc
+
+-- the links that joined steps go over are links of the net
+over_links : (net : PlainNet) (steps : List StepOf) (x y k : ℕ) → IsJoined net EveryLink steps x y → GoesOver steps k → k < length net.links
+over_links net [] x y k joined over = absurd (omega (arith, over.1.1))
+over_links net (step ∷ steps) x y k joined (s, (zero, lt, is), of_link) = link_within net s joined.0 k (subst (λ (r : StepOf). atom_of net r ≡ Some joined.0) is joined.1.0) of_link
+over_links net (step ∷ steps) x y k joined (s, (suc i, lt, is), of_link) = over_links net steps joined.0.to y k joined.3 (s, (i, omega (arith, lt), is), of_link)
 
 pub supported_is_true : (net : PlainNet) (e : PlainEvidence) → IsSupported net e → IsTrue net e
 supported_is_true net (timeline ranks) fit = (timeline_of (ranks_of ranks), fit.1)
@@ -20,6 +44,15 @@ supported_is_true net (entails a r b walks) proofs = λ t fits.
     (atoms_say_the_relation t r a b).1 (recursion_from_All (Satisfies t) atoms (All-from_get_or (Satisfies t) atoms (record { from = 0; to = 0; strict = false }) (λ k lt.
     walk_kept net EveryLink t (walk_at walks k) (atom_at atoms k).from (atom_at atoms k).to (atom_at atoms k).strict fits (proofs.1 k lt))))
 supported_is_true net (counter a r b ranks) fails = (timeline_of (ranks_of ranks), fails.1.1, fails.2)
+supported_is_true net (clash cites walk spares) shown =
+    let round = shown.1.0 in
+    record {
+      links = All-from_get_or (λ (k : ℕ). k < length net.links) cites 0 shown.0;
+      clashes = round_clashes net (Contains cites) walk
+          (round.0, (joined_over net EveryLink (Contains cites) walk round.0 round.0 round.1.0 (λ k over. (shown.1.1 k (over_links net walk round.0 round.0 k round.1.0 over)).0 over), round.1.1));
+      needed = All-from_get_or (λ (k : ℕ). (t : Timeline) × FitsWith net (Others (Contains cites) k) t) cites 0
+          (λ i lt. (timeline_of (ranks_at spares i), (shown.2 i lt).1));
+    }
 
 -- the same, of what a function answers
 pub true_where_ok : {C E : Type 0} (result : Result C E) (net : PlainNet) (e : PlainEvidence) → OnOk result (IsSupported net e) → IfOk result (λ claim. IsTrue net e)
@@ -31,3 +64,8 @@ pub follows_where_ok : {C E : Type 0} (result : Result C E) (net : PlainNet) (e 
     → (a b : ℕ) (r : Rel) (walks : List (List StepOf)) → e ≡ entails a r b walks → IfOk result (λ claim. Follows net a r b)
 follows_where_ok (Ok claim) net e holds a b r walks same = subst (IsTrue net) same holds
 follows_where_ok (Err refused) net e holds a b r walks same = tt
+
+pub clashes_where_ok : {C E : Type 0} (result : Result C E) (net : PlainNet) (e : PlainEvidence) → IfOk result (λ claim. IsTrue net e)
+    → (cites : List ℕ) (walk : List StepOf) (spares : List (List (ℕ × ℕ))) → e ≡ clash cites walk spares → IfOk result (λ claim. IsMinimalClash net cites)
+clashes_where_ok (Ok claim) net e holds cites walk spares same = subst (IsTrue net) same holds
+clashes_where_ok (Err refused) net e holds cites walk spares same = tt

@@ -1,21 +1,23 @@
 -- Why evidence is refused: the first part that is not as it should be, and the first reason there.
 use Rattle.std.specs.Prelude.{◌≡◌, ◌≢◌, ◌⊎◌, ℕ, ◌+◌, ◌*◌, ◌<◌, ◌≤◌, true, false, List, length, take, Option, None, Some}
+use Rattle.std.specs.List.{Contains}
 use Rattle.net_core.specs.Atoms.{atoms_of}
+use Rattle.net_core.specs.Clashes.{Others}
 use Rattle.net_core.specs.Firsts.{IsFirst, IsFirstPair}
 use Rattle.net_core.specs.Fits.{EveryLink, KeepsCalendar, KeepsLink, RanksFit, StartsFirst}
 use Rattle.net_core.specs.Nets.{PlainNet, intervals, points}
 use Rattle.net_core.specs.Ranks.{ranks_of, timeline_of}
 use Rattle.net_core.specs.Relations.{Relates}
 use Rattle.net_core.specs.Steps.{has_strict}
-use Rattle.net_core.specs.Walks.{IsJoined}
+use Rattle.net_core.specs.Walks.{GoesRound, IsJoined}
 use Rattle.net_core.specs.declared.atom.Atom.{Atom}
 use Rattle.net_core.specs.declared.rels.Rel.{Rel}
 use Rattle.net_core.specs.declared.step.Step.{Step as StepOf}
-use Rattle.evidence_format.specs.Evidence.{PlainEvidence, timeline, entails, counter}
+use Rattle.evidence_format.specs.Evidence.{PlainEvidence, timeline, entails, counter, clash}
 use Rattle.evidence_check.specs.declared.refusal.Reason.{Reason}
-use Rattle.evidence_check.specs.declared.refusal.Reason.TheVariants.{Number, Size, Order, Link, Calendar, Step, End, Weak, Holds}
+use Rattle.evidence_check.specs.declared.refusal.Reason.TheVariants.{Number, Size, Order, Link, Calendar, Step, End, Weak, Cited, Holds}
 use Rattle.evidence_check.specs.declared.refusal.Refused.{Refused}
-use Rattle.evidence_check.specs.Supported.{AreIntervals, IsSupported, Proves, atom_at, walk_at}
+use Rattle.evidence_check.specs.Supported.{Agrees, AreIntervals, AreLinks, FitsOthers, GoesRoundOver, IsSupported, Proves, atom_at, cite_at, ranks_at, walk_at}
 
 -- there are two ranks for each interval
 abbrev pub HasSize : PlainNet → List ℕ → Type 0
@@ -25,21 +27,21 @@ HasSize net ranks = length ranks ≡ points net
 abbrev pub FirstUnordered : PlainNet → List ℕ → Option ℕ → Type 0
 FirstUnordered net ranks first = IsFirst (intervals net) (StartsFirst (timeline_of ranks)) first
 
--- the first link, if any, that does not hold
-abbrev pub FirstBrokenLink : PlainNet → List ℕ → Option ℕ → Type 0
-FirstBrokenLink net ranks first = IsFirst (length net.links) (KeepsLink net (timeline_of ranks)) first
+-- the first link of a set, if any, that does not hold
+abbrev pub FirstBrokenLink : PlainNet → (ℕ → Type 0) → List ℕ → Option ℕ → Type 0
+FirstBrokenLink net Chosen ranks first = IsFirst (length net.links) (λ k. Chosen k → KeepsLink net (timeline_of ranks) k) first
 
 -- the first pair of points, if any, that are not in the order of the calendar
 abbrev pub FirstBrokenPair : PlainNet → List ℕ → Option (ℕ × ℕ) → Type 0
 FirstBrokenPair net ranks first = IsFirstPair (points net) (KeepsCalendar net (timeline_of ranks)) first
 
--- The ranks are no timeline that fits the net, for this reason and for none before it.
-abbrev pub IsMisfit : PlainNet → List ℕ → Reason → Type 0
-IsMisfit net ranks (Size size) = (length ranks ≡ 2 * size) × (size ≢ intervals net)
-IsMisfit net ranks (Order interval) = HasSize net ranks × FirstUnordered net ranks (Some interval)
-IsMisfit net ranks (Link link) = HasSize net ranks × FirstUnordered net ranks None × FirstBrokenLink net ranks (Some link)
-IsMisfit net ranks (Calendar from to) = HasSize net ranks × FirstUnordered net ranks None × FirstBrokenLink net ranks None × FirstBrokenPair net ranks (Some (from, to))
-IsMisfit net ranks other = ⊥
+-- The ranks are no timeline that fits with a set of links, for this reason and for none before it.
+abbrev pub IsMisfit : PlainNet → (ℕ → Type 0) → List ℕ → Reason → Type 0
+IsMisfit net Chosen ranks (Size size) = (length ranks ≡ 2 * size) × (size ≢ intervals net)
+IsMisfit net Chosen ranks (Order interval) = HasSize net ranks × FirstUnordered net ranks (Some interval)
+IsMisfit net Chosen ranks (Link link) = HasSize net ranks × FirstUnordered net ranks None × FirstBrokenLink net Chosen ranks (Some link)
+IsMisfit net Chosen ranks (Calendar from to) = HasSize net ranks × FirstUnordered net ranks None × FirstBrokenLink net Chosen ranks None × FirstBrokenPair net ranks (Some (from, to))
+IsMisfit net Chosen ranks other = ⊥
 
 -- the first of two numbers, if any, that is none of an interval
 abbrev pub IsBadNumber : PlainNet → ℕ → ℕ → ℕ → Type 0
@@ -66,11 +68,37 @@ IsWalkRefused net atoms walks refused = (k : ℕ) × IsFirst (length atoms) (Pro
 
 -- the timeline, which is part 1
 abbrev pub IsTimelineRefused : PlainNet → List ℕ → Refused → Type 0
-IsTimelineRefused net ranks refused = (refused.part ≡ 1) × IsMisfit net ranks refused.reason
+IsTimelineRefused net ranks refused = (refused.part ≡ 1) × IsMisfit net EveryLink ranks refused.reason
 
 -- a relation that is true by ranks that fit, which is part 2
 abbrev pub IsRelationRefused : PlainNet → List ℕ → ℕ → Rel → ℕ → Refused → Type 0
 IsRelationRefused net ranks a r b refused = (refused.part ≡ 2) × (refused.reason ≡ Holds) × RanksFit net ranks × Relates (timeline_of ranks) r a b
+
+-- the steps are joined from some point to some point
+abbrev pub GoOn : PlainNet → List StepOf → Type 0
+GoOn net steps = (x : ℕ) × GoFrom net x steps
+
+-- The steps do not go round over exactly the cited links, for this reason and for none before it: step k is the first that does not go on; they do not end where they begin; none of them is strict; or a link is the first that is cited and not gone over, or gone over and not cited.
+abbrev pub IsNoRound : PlainNet → List ℕ → List StepOf → Reason → Type 0
+IsNoRound net cites steps (Step k) = (k < length steps) × GoOn net (take k steps) × (GoOn net (take (k + 1) steps) → ⊥)
+IsNoRound net cites steps End = (x : ℕ) × (y : ℕ) × IsJoined net EveryLink steps x y × (x ≢ y)
+IsNoRound net cites steps Weak = (x : ℕ) × IsJoined net EveryLink steps x x × (has_strict net steps ≡ false)
+IsNoRound net cites steps (Cited link) = GoesRound net EveryLink steps × IsFirst (length net.links) (Agrees cites steps) (Some link)
+IsNoRound net cites steps other = ⊥
+
+-- a cite that is none of a link, which is part 0
+abbrev pub IsCiteRefused : PlainNet → List ℕ → Refused → Type 0
+IsCiteRefused net cites refused = (refused.part ≡ 0) × (i : ℕ) × AreLinks net cites (Some i) × (refused.reason ≡ Number (cite_at cites i))
+
+-- the walk, which is part 1
+abbrev pub IsRoundRefused : PlainNet → List ℕ → List StepOf → Refused → Type 0
+IsRoundRefused net cites walk refused = (refused.part ≡ 1) × IsNoRound net cites walk refused.reason
+
+-- the first timeline that does not fit with the other cited links: timeline i is part i + 2
+abbrev pub IsSpareRefused : PlainNet → List ℕ → List (List (ℕ × ℕ)) → Refused → Type 0
+IsSpareRefused net cites spares refused =
+    (i : ℕ) × IsFirst (length cites) (FitsOthers net cites spares) (Some i) × (refused.part ≡ i + 2)
+    × IsMisfit net (Others (Contains cites) (cite_at cites i)) (ranks_at spares i) refused.reason
 
 -- the first part that is refused, and the first reason there
 abbrev pub IsRefused : PlainNet → PlainEvidence → Refused → Type 0
@@ -82,6 +110,10 @@ IsRefused net (counter a r b ranks) refused =
     IsNumberRefused net a b refused
     ⊎ (AreIntervals net a b × IsTimelineRefused net (ranks_of ranks) refused)
     ⊎ (AreIntervals net a b × IsRelationRefused net (ranks_of ranks) a r b refused)
+IsRefused net (clash cites walk spares) refused =
+    IsCiteRefused net cites refused
+    ⊎ (AreLinks net cites None × IsRoundRefused net cites walk refused)
+    ⊎ (AreLinks net cites None × GoesRoundOver net cites walk × IsSpareRefused net cites spares refused)
 
 -- the law: evidence is not both supported and refused, and is refused for one reason at most
 pub record Verdicts (net : PlainNet) (e : PlainEvidence) : Type 0 where

@@ -1,21 +1,26 @@
 //! Checking evidence.
 ghost use Rattle.evidence_check.specs.Claims.{CanFail, Follows, IsTrue, claim_of};
-ghost use Rattle.evidence_check.specs.Refusals.{IsNumberRefused, IsRefused};
-ghost use Rattle.evidence_check.specs.Supported.{AreIntervals, IsSupported};
-ghost use Rattle.evidence_format.specs.Evidence.{IsWellFormed, counter, entails, timeline};
+ghost use Rattle.evidence_check.specs.Asked.{AreRisingLinks};
+ghost use Rattle.evidence_check.specs.Refusals.{IsCiteRefused, IsNumberRefused, IsRefused, IsSpareRefused};
+ghost use Rattle.evidence_check.specs.Supported.{AreIntervals, AreLinks, FitsOthers, IsSupported};
+ghost use Rattle.evidence_format.specs.Evidence.{AreRanks, IsWellFormed, clash, counter, entails, timeline};
 ghost use Rattle.evidence_format.specs.View.{plain};
-ghost use Rattle.net_core.specs.Limits.{max_intervals};
+ghost use Rattle.net_core.specs.Clashes.{IsMinimalClash};
+ghost use Rattle.net_core.specs.Firsts.{IsFirst};
+ghost use Rattle.net_core.specs.Limits.{max_intervals, max_links};
 ghost use Rattle.net_core.specs.Nets.{intervals};
 ghost use Rattle.net_core.specs.Ranks.{pairs_of};
 ghost use Rattle.net_core.specs.declared.rels.Rel.{Rel as RelOf};
 ghost use Rattle.net_core.specs.declared.step.Step.{Step as StepOf};
-ghost use Rattle.std.specs.Prelude.{IfErr, IfOk, IsOk, List, OnOk, ℕ, ◌≡◌, ◌≤◌, ◌↔◌};
+ghost use Rattle.std.specs.List.{All};
+ghost use Rattle.std.specs.Prelude.{IfErr, IfOk, IsOk, List, None, OnOk, length, map, ℕ, ◌≡◌, ◌≤◌, ◌↔◌};
 
 use crate::refusal::{Claim, Reason, Refused};
-use crate::timeline::fit;
+use crate::rounds::go_round;
+use crate::timeline::{Asked, fit};
 use crate::walks::prove_all;
 use evidence_format::Evidence;
-use net_core::{Net, Ranks, Rel, Walk, atoms_of, ends_at, holds};
+use net_core::{Net, Ranks, Rel, Step, Walk, atoms_of, ends_at, holds};
 
 /// Checks evidence against the net of a document. It takes no memory.
 ///
@@ -33,6 +38,8 @@ pub fn verify(net: &Net, evidence: &Evidence) -> Result<Claim, Refused>
     ensures follows { (a b : ℕ) (r : RelOf) (walks : List (List StepOf)) → plain evidence.now ≡ entails a r b walks → IfOk result (λ claim. Follows net.now a r b) }
     // A counterexample: the relation is false in some timeline that fits.
     ensures can_fail { (a b : ℕ) (r : RelOf) (ranks : List (ℕ × ℕ)) → plain evidence.now ≡ counter a r b ranks → IfOk result (λ claim. CanFail net.now a r b) }
+    // A clash: its links cannot all be true, and any one of them left out, they can.
+    ensures clashes { (cites : List ℕ) (walk : List StepOf) (spares : List (List (ℕ × ℕ))) → plain evidence.now ≡ clash cites walk spares → IfOk result (λ claim. IsMinimalClash net.now cites) }
 {
     match evidence {
         Evidence::Timeline { ranks } => check_timeline(net, ranks),
@@ -40,6 +47,11 @@ pub fn verify(net: &Net, evidence: &Evidence) -> Result<Claim, Refused>
             check_entailment(net, *a, *rel, *b, walks.as_slice())
         }
         Evidence::Counter { a, rel, b, ranks } => check_counterexample(net, *a, *rel, *b, ranks),
+        Evidence::Clash {
+            cites,
+            walk,
+            spares,
+        } => check_clash(net, cites.as_slice(), walk.as_slice(), spares.as_slice()),
     }
 }
 
@@ -51,7 +63,7 @@ fn check_timeline(net: &Net, ranks: &Ranks) -> Result<Claim, Refused>
     ensures ok { OnOk result (IsSupported net.now (timeline (pairs_of ranks.now))) }
     ensures err { IfErr result (IsRefused net.now (timeline (pairs_of ranks.now))) }
 {
-    match fit(net, ranks.as_slice()) {
+    match fit(net, ranks.as_slice(), Asked::All) {
         Ok(()) => Ok(Claim::Fits),
         Err(reason) => Err(Refused { part: 1, reason }),
     }
@@ -84,7 +96,7 @@ fn check_counterexample(
     ensures err { IfErr result (IsRefused net.now (counter a rel b (pairs_of ranks.now))) }
 {
     check_numbers(net, a, b)?;
-    if let Err(reason) = fit(net, ranks.as_slice()) {
+    if let Err(reason) = fit(net, ranks.as_slice(), Asked::All) {
         return Err(Refused { part: 1, reason });
     }
     if holds(
@@ -115,4 +127,63 @@ fn check_numbers(net: &Net, a: u32, b: u32) -> Result<(), Refused>
         part: 0,
         reason: Reason::Number { number },
     })
+}
+
+/// Links that are to clash, a walk that is to go round over exactly these, and timelines that are to fit with all but one.
+fn check_clash(
+    net: &Net,
+    cites: &[u32],
+    walk: &[Step],
+    spares: &[Ranks],
+) -> Result<Claim, Refused>
+    requires { IsWellFormed (clash cites.now walk.now (map pairs_of spares.now)) }
+    ensures claim { IfOk result (λ claim. claim ≡ Claim.Clashes) }
+    ensures ok { OnOk result (IsSupported net.now (clash cites.now walk.now (map pairs_of spares.now))) }
+    ensures err { IfErr result (IsRefused net.now (clash cites.now walk.now (map pairs_of spares.now))) }
+{
+    check_cites(net, cites)?;
+    if let Err(reason) = go_round(net, cites, walk) {
+        return Err(Refused { part: 1, reason });
+    }
+    check_spares(net, cites, spares)?;
+    Ok(Claim::Clashes)
+}
+
+/// Ok where all cites are numbers of links of the net.
+fn check_cites(net: &Net, cites: &[u32]) -> Result<(), Refused>
+    ensures ok { OnOk result (AreLinks net.now cites.now None) }
+    ensures few { OnOk result (length net.now.links ≤ max_links) }
+    ensures err { IfErr result (IsCiteRefused net.now cites.now) }
+{
+    let count = net.links();
+    for cite in cites {
+        if *cite >= count {
+            return Err(Refused {
+                part: 0,
+                reason: Reason::Number { number: *cite },
+            });
+        }
+    }
+    Ok(())
+}
+
+/// Ok where each timeline fits with all cited links but its own.
+fn check_spares(net: &Net, cites: &[u32], spares: &[Ranks]) -> Result<(), Refused>
+    requires cites { AreRisingLinks net.now cites.now }
+    requires few { length cites.now ≤ max_links }
+    requires one_each { length spares.now ≡ length cites.now }
+    requires ranks { All AreRanks (map pairs_of spares.now) }
+    ensures ok { OnOk result (IsFirst (length cites.now) (FitsOthers net.now cites.now (map pairs_of spares.now)) None) }
+    ensures err { IfErr result (IsSpareRefused net.now cites.now (map pairs_of spares.now)) }
+{
+    for i in 0..cites.len() {
+        let own = cites[i];
+        if let Err(reason) = fit(net, spares[i].as_slice(), Asked::Others { cites, own }) {
+            return Err(Refused {
+                part: i as u32 + 2,
+                reason,
+            });
+        }
+    }
+    Ok(())
 }

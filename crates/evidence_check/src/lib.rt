@@ -5,6 +5,7 @@
 mod checker;
 mod laws;
 mod refusal;
+mod rounds;
 #[cfg(test)]
 mod tests;
 mod timeline;

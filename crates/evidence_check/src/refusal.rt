@@ -9,12 +9,14 @@ pub enum Claim {
     Entails,
     /// The relation is false in some timeline that fits the net.
     CanFail,
+    /// The cited links cannot all be true, and any one of them left out, they can.
+    Clashes,
 }
 
 /// Why a part of evidence is refused.
 #[derive(Clone, Copy, Debug, PartialEq, Eq)]
 pub enum Reason {
-    /// The first number that is none of an interval.
+    /// The first number that is none of an interval, or of a link where links are cited.
     Number { number: u32 },
     /// The timeline has so many intervals, and the net has another number.
     Size { size: u32 },
@@ -25,18 +27,21 @@ pub enum Reason {
     /// The first pair of points, by `from` and then by `to`, that are not in the order of the calendar.
     Calendar { from: u32, to: u32 },
     /// The first step, counted from 0, that goes by no order, or does not begin where the one before it ended. Step 0
-    /// begins at the first point of the order that the walk is to prove.
+    /// begins at the first point of the order that the walk is to prove, or anywhere where it is to go round.
     Step { step: u32 },
-    /// The walk does not end at the other point.
+    /// The walk does not end at the other point, or where it began.
     End,
-    /// No step is strict, and the order is.
+    /// No step is strict, and the order is, or the walk is to go round.
     Weak,
+    /// The first link that is cited and not gone over by the walk, or gone over and not cited.
+    Cited { link: u32 },
     /// The relation of a counterexample holds by its ranks.
     Holds,
 }
 
-/// The first part of evidence that is refused, and the first reason there. The numbers of the intervals are part 0, a
-/// timeline is part 1, and so is the first of the walks. The relation of a counterexample is part 2.
+/// The first part of evidence that is refused, and the first reason there. The numbers of the intervals, or of the cited
+/// links, are part 0. A timeline is part 1, and so is the first of the walks. The relation of a counterexample is part 2,
+/// and so is the first timeline of a clash.
 #[derive(Clone, Copy, Debug, PartialEq, Eq)]
 pub struct Refused {
     pub part: u32,

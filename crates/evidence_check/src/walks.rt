@@ -1,4 +1,5 @@
 //! Whether walks prove the orders that a relation is.
+ghost use Rattle.evidence_check.specs.Following.{LeadsTo, StopsAt};
 ghost use Rattle.evidence_check.specs.Refusals.{IsNoProof, IsWalkRefused};
 ghost use Rattle.evidence_check.specs.Supported.{IsProof, Proves};
 ghost use Rattle.evidence_format.specs.Evidence.{AreSteps, IsNumber};
@@ -8,7 +9,7 @@ ghost use Rattle.net_core.specs.Fits.{EveryLink};
 ghost use Rattle.net_core.specs.Steps.{GoesBy, atom_of};
 ghost use Rattle.net_core.specs.declared.atom.Atom.{Atom as AtomOf};
 ghost use Rattle.std.specs.List.{All};
-ghost use Rattle.std.specs.Prelude.{IfErr, IfNone, IfSome, None, OnOk, Some, length, ◌≡◌, ◌||◌};
+ghost use Rattle.std.specs.Prelude.{IfErr, IfNone, IfOk, IfSome, None, OnOk, Some, length, ◌≡◌, ◌||◌};
 
 use crate::refusal::{Reason, Refused};
 use net_core::{Atom, Atoms, Net, Step, Walk, step_atom};
@@ -41,24 +42,48 @@ fn prove(net: &Net, atom: Atom, steps: &[Step]) -> Result<(), Reason>
     ensures ok { OnOk result (IsProof net.now atom steps.now) }
     ensures err { IfErr result (IsNoProof net.now atom steps.now) }
 {
-    let mut at = atom.from;
+    let reached = match follow(net, atom.from, steps) {
+        Ok(reached) => reached,
+        Err(step) => return Err(Reason::Step { step }),
+    };
+    if reached.at != atom.to {
+        return Err(Reason::End);
+    }
+    if atom.strict && !reached.strict {
+        return Err(Reason::Weak);
+    }
+    Ok(())
+}
+
+/// Where steps lead, and whether one of them is strict.
+#[derive(Clone, Copy)]
+pub struct Reached {
+    pub at: u32,
+    pub strict: bool,
+}
+
+/// Where the steps lead from a point.
+///
+/// # Errors
+///
+/// The first step that does not go on.
+pub fn follow(net: &Net, from: u32, steps: &[Step]) -> Result<Reached, u32>
+    requires { IsNumber (length steps.now) }
+    ensures ok { IfOk result (LeadsTo net.now from steps.now) }
+    ensures err { IfErr result (StopsAt net.now from steps.now) }
+{
+    let mut at = from;
     let mut strict = false;
     let mut k = 0;
     for step in steps {
         let Some(next) = next_of(net, at, step) else {
-            return Err(Reason::Step { step: k });
+            return Err(k);
         };
         at = next.to;
         strict = either(strict, next.strict);
         k += 1;
     }
-    if at != atom.to {
-        return Err(Reason::End);
-    }
-    if atom.strict && !strict {
-        return Err(Reason::Weak);
-    }
-    Ok(())
+    Ok(Reached { at, strict })
 }
 
 /// The order that a step goes by, where it begins at a point.

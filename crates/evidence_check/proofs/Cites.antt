@@ -1,0 +1,36 @@
+-- The cites of a clash.
+use Rattle.std.proofs.Common.{◌≡◌, ℕ, zero, suc, ◌+◌, ◌<◌, ◌≤◌, List, length, map, refl, add-one, arith}
+use Rattle.std.specs.List.Sorted.{IsStrictlyIncreasing}
+use Rattle.std.proofs.lemmas.List.Kept.{AllPairs-from_increasing}
+use Rattle.net_core.specs.Nets.{PlainNet}
+use Rattle.net_core.specs.Ranks.{pairs_of}
+use Rattle.net_core.specs.declared.step.Step.{Step}
+use Rattle.evidence_format.specs.Evidence.{PlainEvidence, clash}
+use Rattle.evidence_check.specs.Asked.{AreRisingLinks}
+use Rattle.evidence_check.specs.Supported.{AreLinks, cite_at}
+
+-- each of the numbers that rise is at least its place
+at_least : (cites : List ℕ) → IsStrictlyIncreasing cites → (i : ℕ) → i < length cites → i ≤ cite_at cites i
+at_least cites rise zero below = omega arith
+at_least cites rise (suc i) below =
+    let next : cite_at cites i < cite_at cites (suc i) = rw (← add-one i) (rise i (omega (arith, below))) in
+    omega (arith, at_least cites rise i (omega (arith, below)), next)
+
+-- so there are no more than the numbers that they are below
+pub no_more : (cites : List ℕ) (n : ℕ) → IsStrictlyIncreasing cites → ((i : ℕ) → i < length cites → cite_at cites i < n) → length cites ≤ n
+no_more cites n rise links = last (length cites) refl
+  where
+    last : (m : ℕ) → m ≡ length cites → m ≤ n
+    last zero e = omega arith
+    last (suc m) e = omega (arith, at_least cites rise m (omega (arith, e)), links m (omega (arith, e)))
+
+pub rising_links : (net : PlainNet) (cites : List ℕ) → IsStrictlyIncreasing cites → ((i : ℕ) → i < length cites → cite_at cites i < length net.links) → AreRisingLinks net cites
+rising_links net cites rise links = record {
+  rise = λ i j before below. AllPairs-from_increasing cites rise i j 0 before below;
+  links = links;
+}
+
+-- a clash of the same parts is the same
+pub same_clash : (cites cs : List ℕ) (walk w : List Step) (spares ss : List (List ℕ)) → cs ≡ cites → w ≡ walk → ss ≡ spares
+    → clash cs w (map pairs_of ss) ≡ clash cites walk (map pairs_of spares)
+same_clash cites cs walk w spares ss e f g = λ i. clash (e i) (f i) (map pairs_of (g i))

@@ -1,0 +1,103 @@
+-- Marks of links: which are set once some links were marked.
+use Rattle.std.proofs.Common.{◌≡◌, ◌≢◌, ◌↔◌, ◌⊎◌, inl, inr, ℕ, zero, suc, ◌+◌, ◌<◌, Bool, true, false, List, [], ◌∷◌, ◌++◌, length, take, get_or, replicate, slice_index_or, Option, Some, None, refl, sym, ap, subst, ◌∙◌, arith}
+use Rattle.std.specs.List.{Contains}
+use Rattle.std.proofs.Math.Bool.{beq, not}
+use Rattle.std.proofs.lemmas.List.{get_or-replicate, take_more}
+use Rattle.std.proofs.lemmas.List.Elements.{Contains-append_cases, Contains-append_left, Contains-append_right}
+use Rattle.net_core.specs.Limits.{max_links}
+use Rattle.net_core.specs.Steps.{link_of}
+use Rattle.net_core.specs.Walks.{GoesOver}
+use Rattle.net_core.specs.declared.step.Step.{Step}
+use Rattle.evidence_check.specs.Supported.{Agrees}
+
+-- exactly the links of a set are marked
+abbrev pub AreMarked : List Bool → (ℕ → Type 0) → Type 0
+AreMarked marks Chosen = (k : ℕ) → k < max_links → (slice_index_or marks k false ≡ true) ↔ Chosen k
+
+-- at first none is
+pub none_marked : (Chosen : ℕ → Type 0) → ((k : ℕ) → Chosen k → ⊥) → AreMarked (replicate max_links false) Chosen
+none_marked Chosen none k below = (set, λ chosen. absurd (none k chosen))
+  where
+    set : slice_index_or (replicate max_links false) k false ≡ true → Chosen k
+    set e = let f = get_or-replicate max_links k false false below in absurd cc
+
+-- then those of more are
+pub more_marked : (new old : List Bool) (Before More After : ℕ → Type 0) → AreMarked old Before
+    → ((k : ℕ) → k < max_links → (slice_index_or new k false ≡ true) ↔ ((slice_index_or old k false ≡ true) ⊎ More k))
+    → ((k : ℕ) → After k ↔ (Before k ⊎ More k)) → AreMarked new After
+more_marked new old Before More After marked more after k below = (there, back)
+  where
+    there : slice_index_or new k false ≡ true → After k
+    there e = (after k).1 (elim ((more k below).0 e) [
+      | inl was ↦ inl ((marked k below).0 was)
+      | inr is ↦ inr is
+    ])
+    back : After k → slice_index_or new k false ≡ true
+    back chosen = (more k below).1 (elim ((after k).0 chosen) [
+      | inl was ↦ inl ((marked k below).1 was)
+      | inr is ↦ inr is
+    ])
+
+-- the elements of a list that is one longer
+pub contains_more : {X : Type 0} (xs : List X) (i : ℕ) (d x : X) → i < length xs → Contains (take (i + 1) xs) x ↔ (Contains (take i xs) x ⊎ (x ≡ get_or xs i d))
+contains_more {X} xs i d x below = (there, back)
+  where
+    longer : take (i + 1) xs ≡ take i xs ++ get_or xs i d ∷ []
+    longer = take_more xs i d below
+    single : (y : X) → Contains (y ∷ []) x → x ≡ y
+    single y (zero, lt, e) = sym e
+    single y (suc j, lt, e) = absurd (omega (arith, lt))
+    there : Contains (take (i + 1) xs) x → Contains (take i xs) x ⊎ (x ≡ get_or xs i d)
+    there h = elim (Contains-append_cases (take i xs) (get_or xs i d ∷ []) x (subst (λ (l : List X). Contains l x) longer h)) [
+      | inl before ↦ inl before
+      | inr last ↦ inr (single (get_or xs i d) last)
+    ]
+    back : Contains (take i xs) x ⊎ (x ≡ get_or xs i d) → Contains (take (i + 1) xs) x
+    back h = subst (λ (l : List X). Contains l x) (sym longer) (elim h [
+      | inl before ↦ Contains-append_left (take i xs) (get_or xs i d ∷ []) x before
+      | inr e ↦ Contains-append_right (take i xs) (get_or xs i d ∷ []) x (0, omega arith, sym e)
+    ])
+
+-- the links that one step more goes over
+pub goes_over_more : (steps : List Step) (i : ℕ) (d : Step) → i < length steps → (k : ℕ)
+    → GoesOver (take (i + 1) steps) k ↔ (GoesOver (take i steps) k ⊎ (link_of (get_or steps i d) ≡ Some k))
+goes_over_more steps i d below k = (there, back)
+  where
+    there : GoesOver (take (i + 1) steps) k → GoesOver (take i steps) k ⊎ (link_of (get_or steps i d) ≡ Some k)
+    there h = elim ((contains_more steps i d h.0 below).0 h.1) [
+      | inl before ↦ inl (h.0, before, h.2)
+      | inr last ↦ inr (ap link_of (sym last) ∙ h.2)
+    ]
+    back : GoesOver (take i steps) k ⊎ (link_of (get_or steps i d) ≡ Some k) → GoesOver (take (i + 1) steps) k
+    back h = elim h [
+      | inl before ↦ (before.0, (contains_more steps i d before.0 below).1 (inl before.1), before.2)
+      | inr e ↦ (get_or steps i d, (contains_more steps i d (get_or steps i d) below).1 (inr refl), e)
+    ]
+
+-- marks are alike exactly where a walk agrees with cites
+pub alike : (cited gone_over : List Bool) (cites : List ℕ) (steps : List Step) → AreMarked cited (Contains cites) → AreMarked gone_over (GoesOver steps)
+    → (k : ℕ) → k < max_links → (slice_index_or cited k false ≡ slice_index_or gone_over k false) ↔ Agrees cites steps k
+alike cited gone_over cites steps marked walked k below = (there, back)
+  where
+    there : slice_index_or cited k false ≡ slice_index_or gone_over k false → Agrees cites steps k
+    there e = (λ goes. (marked k below).0 (e ∙ (walked k below).1 goes), λ cites. (walked k below).0 (sym e ∙ (marked k below).1 cites))
+    both : (a b : Bool) → (a ≡ true → b ≡ true) → (b ≡ true → a ≡ true) → a ≡ b
+    both true b f g = sym (f refl)
+    both false true f g = g refl
+    both false false f g = refl
+    back : Agrees cites steps k → slice_index_or cited k false ≡ slice_index_or gone_over k false
+    back agrees = both (slice_index_or cited k false) (slice_index_or gone_over k false)
+        (λ e. (walked k below).1 (agrees.1 ((marked k below).0 e))) (λ e. (marked k below).1 (agrees.0 ((walked k below).0 e)))
+
+-- of two marks
+pub are_apart : (a b : Bool) → not (beq a b) ≡ true → a ≡ b → ⊥
+are_apart true true e f = cc
+are_apart true false e f = cc
+are_apart false true e f = cc
+are_apart false false e f = cc
+
+pub are_alike : (a b : Bool) → not (beq a b) ≡ false → a ≡ b
+are_alike true true e = refl
+are_alike true false e = absurd cc
+are_alike false true e = absurd cc
+are_alike false false e = refl

@@ -1,0 +1,101 @@
+//! Whether a walk goes round over exactly the cited links.
+ghost use Rattle.evidence_check.specs.Asked.{AreRisingLinks};
+ghost use Rattle.evidence_check.specs.Refusals.{IsNoRound};
+ghost use Rattle.evidence_check.specs.Supported.{Agrees, GoesRoundOver};
+ghost use Rattle.evidence_format.specs.Evidence.{IsNumber};
+ghost use Rattle.net_core.specs.Firsts.{IsFirst};
+ghost use Rattle.net_core.specs.Limits.{max_links};
+ghost use Rattle.net_core.specs.Steps.{link_of};
+ghost use Rattle.net_core.specs.Walks.{GoesOver};
+ghost use Rattle.std.specs.List.{Contains};
+ghost use Rattle.std.specs.Prelude.{IfErr, OnOk, Some, length, slice_index_or, true, false, ℕ, ◌<◌, ◌≡◌, ◌↔◌, ◌⊎◌};
+
+use crate::refusal::Reason;
+use crate::walks::follow;
+use net_core::{MAX_LINKS, Net, Step, step_atom};
+
+/// A mark for each link that a net can have.
+type Marks = [bool; MAX_LINKS as usize];
+
+/// Ok where the steps go round over exactly the cited links, else the first reason why they do not.
+pub fn go_round(net: &Net, cites: &[u32], steps: &[Step]) -> Result<(), Reason>
+    requires few { IsNumber (length steps.now) }
+    requires cites { AreRisingLinks net.now cites.now }
+    ensures ok { OnOk result (GoesRoundOver net.now cites.now steps.now) }
+    ensures err { IfErr result (IsNoRound net.now cites.now steps.now) }
+{
+    let Some(first) = steps.first() else {
+        return Err(Reason::Weak);
+    };
+    let Some(atom) = step_atom(net, first) else {
+        return Err(Reason::Step { step: 0 });
+    };
+    let reached = match follow(net, atom.from, steps) {
+        Ok(reached) => reached,
+        Err(step) => return Err(Reason::Step { step }),
+    };
+    if reached.at != atom.from {
+        return Err(Reason::End);
+    }
+    if !reached.strict {
+        return Err(Reason::Weak);
+    }
+    match first_disagreement(net, cites, steps) {
+        Some(link) => Err(Reason::Cited { link }),
+        None => Ok(()),
+    }
+}
+
+/// The first link that is cited and not gone over, or gone over and not cited.
+fn first_disagreement(net: &Net, cites: &[u32], steps: &[Step]) -> Option<u32>
+    ensures { IsFirst (length net.now.links) (Agrees cites.now steps.now) result }
+{
+    let cited = marks_of_cites(cites);
+    let gone_over = marks_of_steps(steps);
+    for k in 0..net.links() {
+        if cited[k as usize] != gone_over[k as usize] {
+            return Some(k);
+        }
+    }
+    None
+}
+
+/// The links that are cited.
+fn marks_of_cites(cites: &[u32]) -> Marks
+    ensures { (k : ℕ) → k < max_links → (slice_index_or result k false ≡ true) ↔ Contains cites.now k }
+{
+    let mut marks = [false; MAX_LINKS as usize];
+    for cite in cites {
+        mark(&mut marks, *cite);
+    }
+    marks
+}
+
+/// The links that steps go over.
+fn marks_of_steps(steps: &[Step]) -> Marks
+    ensures { (k : ℕ) → k < max_links → (slice_index_or result k false ≡ true) ↔ GoesOver steps.now k }
+{
+    let mut marks = [false; MAX_LINKS as usize];
+    for step in steps {
+        mark_step(&mut marks, step);
+    }
+    marks
+}
+
+/// Marks the link that a step goes over, if it does over one.
+fn mark_step(marks: &mut Marks, step: &Step)
+    ensures { (k : ℕ) → k < max_links → (slice_index_or marks.new k false ≡ true) ↔ ((slice_index_or marks.old k false ≡ true) ⊎ (link_of step.now ≡ Some k)) }
+{
+    if let Some(link) = step.link() {
+        mark(marks, link);
+    }
+}
+
+/// Marks a link, where a net can have it.
+fn mark(marks: &mut Marks, link: u32)
+    ensures { (k : ℕ) → k < max_links → (slice_index_or marks.new k false ≡ true) ↔ ((slice_index_or marks.old k false ≡ true) ⊎ (k ≡ link)) }
+{
+    if link < MAX_LINKS {
+        marks[link as usize] = true;
+    }
+}
