@@ -1,13 +1,13 @@
 -- The cites of a clash.
-use Rattle.std.proofs.Common.{◌≡◌, ℕ, zero, suc, ◌+◌, ◌<◌, ◌≤◌, List, length, map, refl, add-one, arith}
+use Rattle.std.proofs.Common.{◌≡◌, ℕ, zero, suc, ◌<◌, ◌≤◌, List, length, map, refl, add-one, arith}
 use Rattle.std.specs.List.Sorted.{IsStrictlyIncreasing}
 use Rattle.std.proofs.lemmas.List.Kept.{AllPairs-from_increasing}
 use Rattle.net_core.specs.Nets.{PlainNet}
 use Rattle.net_core.specs.Ranks.{pairs_of}
 use Rattle.net_core.specs.declared.step.Step.{Step}
-use Rattle.evidence_format.specs.Evidence.{PlainEvidence, clash}
+use Rattle.evidence_format.specs.Evidence.{clash}
 use Rattle.evidence_check.specs.Asked.{AreRisingLinks}
-use Rattle.evidence_check.specs.Supported.{AreLinks, cite_at}
+use Rattle.evidence_check.specs.Supported.{cite_at}
 
 -- each of the numbers that rise is at least its place
 at_least : (cites : List ℕ) → IsStrictlyIncreasing cites → (i : ℕ) → i < length cites → i ≤ cite_at cites i

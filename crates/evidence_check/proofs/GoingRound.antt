@@ -1,13 +1,12 @@
 -- Walks that go round over the cited links, and why steps do not.
-use Rattle.std.proofs.Common.{◌≡◌, ◌≢◌, ◌↔◌, ◌⊎◌, inl, inr, ℕ, zero, suc, ◌+◌, ◌<◌, ◌≤◌, Bool, true, false, List, [], ◌∷◌, length, take, Option, Some, None, refl, sym, ap, subst, ◌∙◌, arith}
-use Rattle.std.specs.List.{Contains}
+use Rattle.std.proofs.Common.{◌≡◌, inl, inr, ℕ, ◌+◌, ◌≤◌, Bool, true, false, List, [], ◌∷◌, length, take, Some, None, refl, sym, ap, subst, ◌∙◌, arith}
 use Rattle.std.proofs.Math.Bool.{not}
 use Rattle.std.proofs.lemmas.Bool.{cases_lt}
 use Rattle.net_core.specs.Firsts.{IsFirst}
 use Rattle.net_core.specs.Fits.{EveryLink}
 use Rattle.net_core.specs.Nets.{PlainNet}
-use Rattle.net_core.specs.Steps.{atom_of, has_strict}
-use Rattle.net_core.specs.Walks.{GoesOver, GoesRound, IsJoined}
+use Rattle.net_core.specs.Steps.{atom_of}
+use Rattle.net_core.specs.Walks.{IsJoined}
 use Rattle.net_core.specs.declared.atom.Atom.{Atom}
 use Rattle.net_core.specs.declared.step.Step.{Step as StepOf}
 use Rattle.net_core.proofs.FirstLaws.{one_first}
@@ -16,7 +15,7 @@ use Rattle.evidence_check.specs.declared.refusal.Reason.{Reason}
 use Rattle.evidence_check.specs.declared.refusal.Reason.TheVariants.{Number, Size, Order, Link, Calendar, Step, End, Weak, Cited, Holds}
 use Rattle.evidence_check.specs.declared.walks.Reached.{Reached}
 use Rattle.evidence_check.specs.Following.{LeadsTo}
-use Rattle.evidence_check.specs.Refusals.{GoFrom, GoOn, IsNoRound}
+use Rattle.evidence_check.specs.Refusals.{GoOn, IsNoRound}
 use Rattle.evidence_check.specs.Supported.{Agrees, GoesRoundOver}
 use Rattle.evidence_check.proofs.Proving.{goes_less}
 

@@ -1,5 +1,5 @@
 -- Marks of links: which are set once some links were marked.
-use Rattle.std.proofs.Common.{◌≡◌, ◌≢◌, ◌↔◌, ◌⊎◌, inl, inr, ℕ, zero, suc, ◌+◌, ◌<◌, Bool, true, false, List, [], ◌∷◌, ◌++◌, length, take, get_or, replicate, slice_index_or, Option, Some, None, refl, sym, ap, subst, ◌∙◌, arith}
+use Rattle.std.proofs.Common.{◌≡◌, ◌↔◌, ◌⊎◌, inl, inr, ℕ, zero, suc, ◌+◌, ◌<◌, Bool, true, false, List, [], ◌∷◌, ◌++◌, length, take, get_or, replicate, slice_index_or, Some, refl, sym, ap, subst, ◌∙◌, arith}
 use Rattle.std.specs.List.{Contains}
 use Rattle.std.proofs.Math.Bool.{beq, not}
 use Rattle.std.proofs.lemmas.List.{get_or-replicate, take_more}
@@ -32,6 +32,7 @@ more_marked new old Before More After marked more after k below = (there, back)
       | inl was ↦ inl ((marked k below).0 was)
       | inr is ↦ inr is
     ])
+
     back : After k → slice_index_or new k false ≡ true
     back chosen = (more k below).1 (elim ((after k).0 chosen) [
       | inl was ↦ inl ((marked k below).1 was)
@@ -44,14 +45,17 @@ contains_more {X} xs i d x below = (there, back)
   where
     longer : take (i + 1) xs ≡ take i xs ++ get_or xs i d ∷ []
     longer = take_more xs i d below
+
     single : (y : X) → Contains (y ∷ []) x → x ≡ y
     single y (zero, lt, e) = sym e
     single y (suc j, lt, e) = absurd (omega (arith, lt))
+
     there : Contains (take (i + 1) xs) x → Contains (take i xs) x ⊎ (x ≡ get_or xs i d)
     there h = elim (Contains-append_cases (take i xs) (get_or xs i d ∷ []) x (subst (λ (l : List X). Contains l x) longer h)) [
       | inl before ↦ inl before
       | inr last ↦ inr (single (get_or xs i d) last)
     ]
+
     back : Contains (take i xs) x ⊎ (x ≡ get_or xs i d) → Contains (take (i + 1) xs) x
     back h = subst (λ (l : List X). Contains l x) (sym longer) (elim h [
       | inl before ↦ Contains-append_left (take i xs) (get_or xs i d ∷ []) x before
@@ -68,6 +72,7 @@ goes_over_more steps i d below k = (there, back)
       | inl before ↦ inl (h.0, before, h.2)
       | inr last ↦ inr (ap link_of (sym last) ∙ h.2)
     ]
+
     back : GoesOver (take i steps) k ⊎ (link_of (get_or steps i d) ≡ Some k) → GoesOver (take (i + 1) steps) k
     back h = elim h [
       | inl before ↦ (before.0, (contains_more steps i d before.0 below).1 (inl before.1), before.2)
@@ -81,10 +86,12 @@ alike cited gone_over cites steps marked walked k below = (there, back)
   where
     there : slice_index_or cited k false ≡ slice_index_or gone_over k false → Agrees cites steps k
     there e = (λ goes. (marked k below).0 (e ∙ (walked k below).1 goes), λ cites. (walked k below).0 (sym e ∙ (marked k below).1 cites))
+
     both : (a b : Bool) → (a ≡ true → b ≡ true) → (b ≡ true → a ≡ true) → a ≡ b
     both true b f g = sym (f refl)
     both false true f g = g refl
     both false false f g = refl
+
     back : Agrees cites steps k → slice_index_or cited k false ≡ slice_index_or gone_over k false
     back agrees = both (slice_index_or cited k false) (slice_index_or gone_over k false)
         (λ e. (walked k below).1 (agrees.1 ((marked k below).0 e))) (λ e. (marked k below).1 (agrees.0 ((walked k below).0 e)))

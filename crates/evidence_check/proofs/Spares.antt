@@ -1,17 +1,15 @@
 -- Timelines without one of the cited links, by their number.
-use Rattle.std.proofs.Common.{◌≡◌, ℕ, ◌+◌, ◌<◌, List, [], length, map, get_or, Some, refl, sym, ap, subst, ◌∙◌, arith}
+use Rattle.std.proofs.Common.{◌≡◌, ℕ, ◌+◌, ◌<◌, List, [], length, map, get_or, refl, sym, ap, subst, ◌∙◌, arith}
 use Rattle.std.specs.List.{All, Contains}
 use Rattle.std.proofs.lemmas.List.{get_or-map, length-map}
 use Rattle.std.proofs.lemmas.List.Elements.{All-get_or}
 use Rattle.net_core.specs.Clashes.{Others}
-use Rattle.net_core.specs.Firsts.{IsFirst}
 use Rattle.net_core.specs.Fits.{RanksFitWith}
 use Rattle.net_core.specs.Nets.{PlainNet}
 use Rattle.net_core.specs.Ranks.{AreEven, pairs_of, ranks_of}
 use Rattle.net_core.proofs.RankLaws.{ranks_again}
 use Rattle.evidence_format.specs.Evidence.{AreRanks, IsNumber}
 use Rattle.evidence_check.specs.declared.refusal.Reason.{Reason}
-use Rattle.evidence_check.specs.declared.refusal.Refused.{Refused}
 use Rattle.evidence_check.specs.Refusals.{IsMisfit, IsSpareRefused}
 use Rattle.evidence_check.specs.Supported.{FitsOthers, cite_at, ranks_at}
 use Rattle.evidence_check.proofs.Verdicts.{no_misfit}

@@ -130,12 +130,7 @@ fn check_numbers(net: &Net, a: u32, b: u32) -> Result<(), Refused>
 }
 
 /// Links that are to clash, a walk that is to go round over exactly these, and timelines that are to fit with all but one.
-fn check_clash(
-    net: &Net,
-    cites: &[u32],
-    walk: &[Step],
-    spares: &[Ranks],
-) -> Result<Claim, Refused>
+fn check_clash(net: &Net, cites: &[u32], walk: &[Step], spares: &[Ranks]) -> Result<Claim, Refused>
     requires { IsWellFormed (clash cites.now walk.now (map pairs_of spares.now)) }
     ensures claim { IfOk result (λ claim. claim ≡ Claim.Clashes) }
     ensures ok { OnOk result (IsSupported net.now (clash cites.now walk.now (map pairs_of spares.now))) }

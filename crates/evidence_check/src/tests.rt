@@ -4,6 +4,8 @@ ghost use Rattle.net_core.specs.Bounds.{AreOrdered};
 ghost use Rattle.net_core.specs.Ranks.{pairs_of};
 ghost use Rattle.std.specs.Prelude.{IsTrue, ◌↔◌};
 
+mod clashes;
+
 use crate::{Claim, Reason, Refused, verify};
 use evidence_format::{Evidence, read_evidence};
 use net_core::{Bounds, List, Net, NetLink, Ranks, Rel};

@@ -1,4 +1,4 @@
-use Rattle.std.proofs.Common.{◌≡◌, ℕ, ◌<◌, length}
+use Rattle.std.proofs.Common.{ℕ, ◌<◌, length}
 use Rattle.evidence_check.specs.Supported.{cite_at}
 use Rattle.evidence_check.proofs.checker.check_cites.Given as goal
 

@@ -1,4 +1,4 @@
-use Rattle.std.proofs.Common.{◌≡◌, ◌≤◌, length, arith}
+use Rattle.std.proofs.Common.{◌≤◌, length, arith}
 use Rattle.net_core.specs.Limits.{max_links}
 use Rattle.evidence_check.proofs.Cites.{no_more, rising_links}
 use Rattle.evidence_check.proofs.checker.check_clash.Goals as goal

@@ -1,4 +1,4 @@
-use Rattle.std.proofs.Common.{◌≡◌, ◌<◌, ℕ, length, map, below_more, arith}
+use Rattle.std.proofs.Common.{map, below_more, arith}
 use Rattle.net_core.specs.Ranks.{pairs_of}
 use Rattle.evidence_check.specs.Supported.{FitsOthers}
 use Rattle.evidence_check.proofs.Spares.{fits_others, spare_is, spare_is_short, spare_refused}
@@ -13,7 +13,7 @@ pub returns-in-Err-clause-err : goal.returns-in-Err-clause-err
 returns-in-Err-clause-err c =
     let i = c.loop-i.i in
     let is = spare_is c.args.spares.now i c.index-spares-i.result c.as_slice.result.now (omega (arith, c.loop-i-test.true, c.requires.one_each))
-        c.index-spares-i.is c.as_slice.ensures.value c.as_slice.ensures.even in
+    c.index-spares-i.is c.as_slice.ensures.value c.as_slice.ensures.even in
     spare_refused c.args.net.now c.args.cites.now (map pairs_of c.args.spares.now) i c.as_slice.result.now is c.in-Err.reason (omega (arith, c.loop-i-test.true)) c.loop-i.invariant.so_far c.in-Err.ensures.err
 
 pub loop-i-preserved : goal.loop-i-preserved
@@ -23,7 +23,7 @@ loop-i-preserved c =
     let spares = map pairs_of c.args.spares.now in
     let i = c.loop-i.i in
     let is = spare_is c.args.spares.now i c.index-spares-i.result c.as_slice.result.now (omega (arith, c.loop-i-test.true, c.requires.one_each))
-        c.index-spares-i.is c.as_slice.ensures.value c.as_slice.ensures.even in
+    c.index-spares-i.is c.as_slice.ensures.value c.as_slice.ensures.even in
     record {
       end = c.loop-i.invariant.end;
       so_far = below_more (FitsOthers net cites spares) i c.loop-i.invariant.so_far (fits_others net cites spares i c.as_slice.result.now is (rw c.in_default.is at c.fit.ensures.ok));

@@ -1,4 +1,4 @@
-use Rattle.std.proofs.Common.{◌≡◌, ℕ, ◌+◌, ◌<◌, false, slice_index_or, below_more, arith}
+use Rattle.std.proofs.Common.{◌<◌, false, slice_index_or, below_more, arith}
 use Rattle.net_core.specs.Limits.{max_links}
 use Rattle.evidence_check.specs.Supported.{Agrees}
 use Rattle.evidence_check.proofs.Marks.{alike, are_alike, are_apart}
@@ -10,9 +10,11 @@ returns-then-cited-k c =
     let cited = c.marks_of_cites-cited.result in
     let gone_over = c.marks_of_steps-gone_over.result in
     let few : k < max_links = omega (arith, c.loop-k-test.true, c.links-k-end.ensures.count, c.links-k-end.ensures.net.few_links) in
-    let same = alike cited gone_over c.args.cites.now c.args.steps.now c.marks_of_cites-cited.ensures c.marks_of_steps-gone_over.ensures k few in
-    (omega (arith, c.loop-k-test.true, c.links-k-end.ensures.count),
-    (λ agrees. are_apart (slice_index_or cited k false) (slice_index_or gone_over k false) c.if-cited-k.true (same.1 agrees)), c.loop-k.invariant.so_far)
+    let same = alike cited gone_over c.args.cites.now c.args.steps.now c.marks_of_cites-cited.ensures c.marks_of_steps-gone_over.ensures k few in (
+      omega (arith, c.loop-k-test.true, c.links-k-end.ensures.count),
+      (λ agrees. are_apart (slice_index_or cited k false) (slice_index_or gone_over k false) c.if-cited-k.true (same.1 agrees)),
+      c.loop-k.invariant.so_far,
+    )
 
 pub loop-k-preserved : goal.loop-k-preserved
 loop-k-preserved c =

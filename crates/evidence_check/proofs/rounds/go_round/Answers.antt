@@ -1,4 +1,3 @@
-use Rattle.std.proofs.Common.{◌≡◌}
 use Rattle.evidence_check.proofs.GoingRound.{leads_round}
 use Rattle.evidence_check.proofs.rounds.go_round.Goals as goal
 

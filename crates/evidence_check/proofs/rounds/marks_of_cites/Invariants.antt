@@ -1,4 +1,4 @@
-use Rattle.std.proofs.Common.{◌≡◌, ◌↔◌, ℕ, ◌<◌, true, false, take, slice_index_or, length}
+use Rattle.std.proofs.Common.{◌≡◌, ◌↔◌, ℕ, ◌<◌, true, false, take, slice_index_or}
 use Rattle.std.specs.List.{Contains}
 use Rattle.net_core.specs.Limits.{max_links}
 use Rattle.evidence_check.proofs.rounds.marks_of_cites.Given as goal

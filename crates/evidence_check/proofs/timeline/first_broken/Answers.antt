@@ -1,4 +1,3 @@
-use Rattle.std.proofs.Common.{◌≡◌}
 use Rattle.evidence_check.proofs.timeline.first_broken.Goals as goal
 
 pub returns-in-Others : goal.returns-in-Others

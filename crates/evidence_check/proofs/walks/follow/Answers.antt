@@ -1,4 +1,4 @@
-use Rattle.std.proofs.Common.{ℕ, sym, subst, arith}
+use Rattle.std.proofs.Common.{sym, subst, arith}
 use Rattle.evidence_check.specs.Following.{StopsAt}
 use Rattle.evidence_check.proofs.Proving.{followed_more, none_given, stops_here}
 use Rattle.evidence_check.proofs.walks.follow.Goals as goal
@@ -9,10 +9,12 @@ returns-in_default-clause-err c =
     let steps = c.args.steps.now in
     let i = c.loop-step.step-index in
     let so_far = c.loop-step.invariant.so_far in
-    subst (StopsAt net c.args.from steps) (sym c.loop-step.invariant.number)
-    (omega (arith, c.loop-step-test.true), (c.loop-step.at, so_far.joined),
-    stops_here net steps i c.args.from c.loop-step.at c.loop-step.strict (omega (arith, c.loop-step-test.true)) so_far
-    (none_given c.next_of.result c.in_default.not-Some c.next_of.ensures.none))
+    subst (StopsAt net c.args.from steps) (sym c.loop-step.invariant.number) (
+      omega (arith, c.loop-step-test.true),
+      (c.loop-step.at, so_far.joined),
+      stops_here net steps i c.args.from c.loop-step.at c.loop-step.strict (omega (arith, c.loop-step-test.true)) so_far
+          (none_given c.next_of.result c.in_default.not-Some c.next_of.ensures.none),
+    )
 
 pub loop-step-preserved : goal.loop-step-preserved
 loop-step-preserved c = record {
