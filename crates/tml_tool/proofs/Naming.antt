@@ -6,7 +6,7 @@ use Rattle.net_core.specs.Nets.{PlainNet, intervals}
 use Rattle.net_core.specs.declared.rels.Rel.{Rel}
 use Rattle.net_build.specs.Built.{IntervalBounds, IsNetOf}
 use Rattle.evidence_check.specs.Supported.{IsSupported}
-use Rattle.evidence_format.specs.Evidence.{PlainEvidence, timeline, entails, counter}
+use Rattle.evidence_format.specs.Evidence.{PlainEvidence, timeline, entails, counter, clash}
 use Rattle.tml_refs.specs.Documents.{IsNamed, PlainDocument}
 use Rattle.tml_tool.specs.Asking.{Asks, OfNet, OfRelation}
 use Rattle.tml_tool.specs.EvidenceTexts.{NamesIntervals}
@@ -38,6 +38,7 @@ names_intervals contents net (entails a r b walks) built supported =
     let same = as_many contents net built in (omega (arith, supported.0.0, same), omega (arith, supported.0.1, same))
 names_intervals contents net (counter a r b ranks) built supported =
     let same = as_many contents net built in (omega (arith, supported.0.0, same), omega (arith, supported.0.1, same))
+names_intervals contents net (clash cites walk spares) built supported = tt
 
 -- there is nothing
 pub is_none : {A : Type 0} (o : Option A) → ((x : A) → o ≡ Some x → ⊥) → IsNone o

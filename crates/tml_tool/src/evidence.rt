@@ -1,5 +1,6 @@
 //! What is said of evidence of a document.
 ghost use Rattle.evidence_format.specs.View.{plain};
+ghost use Rattle.std.specs.List.{flat_map};
 ghost use Rattle.std.specs.Prelude.{◌≡◌, ◌<◌, ◌≤◌, ◌++◌, length, IfErr, IfOk, OnOk};
 ghost use Rattle.tml_tool.specs.Acceptance.{Says};
 ghost use Rattle.tml_tool.specs.EvidenceTexts as texts;
@@ -15,7 +16,7 @@ use crate::answer::{Answer, Finding};
 use crate::check::push_related;
 use crate::refusal::refusal;
 use crate::reply::Reply;
-use crate::table::{push_numbered, push_prefix};
+use crate::table::{push_number, push_numbered, push_prefix};
 use evidence_check::{Reason, Refused, verify};
 use evidence_format::{Evidence, ReadEvidence, read_evidence};
 use net_build::net_of;
@@ -77,6 +78,9 @@ fn claim_text(
         Evidence::Counter { a, rel, b, .. } => {
             push_relation(&mut text, b"verified counter ", document, *a, *rel, *b)?
         }
+        Evidence::Clash { cites, .. } => {
+            push_clash(&mut text, b"verified clash", cites.as_slice())?
+        }
     }
     Ok(text)
 }
@@ -102,6 +106,26 @@ fn push_relation(
         document.interval(b).name(),
     )?;
     out.extend_from_slice(b"\n")
+}
+
+/// Links that cannot all be true, by their numbers.
+fn push_clash(out: &mut Vec<u8>, words: &[u8], cites: &[u32]) -> Result<(), AllocError>
+    ensures { OnOk result (out.new.items ≡ out.old.items ++ texts.clash_claim words.now cites.now) }
+{
+    out.extend_from_slice(words)?;
+    push_cited(out, cites)?;
+    out.extend_from_slice(b"\n")
+}
+
+/// A space and a number for each of the links.
+fn push_cited(out: &mut Vec<u8>, cites: &[u32]) -> Result<(), AllocError>
+    ensures { OnOk result (out.new.items ≡ out.old.items ++ flat_map texts.cited cites.now) }
+{
+    for link in cites {
+        out.extend_from_slice(b" ")?;
+        push_number(out, u64::from(*link))?;
+    }
+    Ok(())
 }
 
 /// The answer to malformed evidence: its bad line.
@@ -147,6 +171,7 @@ fn push_reason(out: &mut Vec<u8>, reason: Reason) -> Result<(), AllocError>
         Reason::Step { step } => push_numbered(out, b"Step ", u64::from(step)),
         Reason::End => out.extend_from_slice(b"End\n"),
         Reason::Weak => out.extend_from_slice(b"Weak\n"),
+        Reason::Cited { link } => push_numbered(out, b"Cited ", u64::from(link)),
         Reason::Holds => out.extend_from_slice(b"Holds\n"),
     }
 }

@@ -231,6 +231,70 @@ fn claims_of_relations_are_verified_or_refused(rt: HostRuntime) -> Result<(), Fa
     Ok(())
 }
 
+/// An instance before itself.
+const ITSELF: &[u8] =
+    b"<TimeML><EVENT eid='e' class='OCCURRENCE'/><MAKEINSTANCE eiid='a' eventID='e'/><TLINK eventInstanceID='a' relatedToEventInstance='a' relType='BEFORE'/></TimeML>";
+
+/// Two instances, each before the other.
+const CIRCLE: &[u8] =
+    b"<TimeML><EVENT eid='e' class='OCCURRENCE'/><MAKEINSTANCE eiid='a' eventID='e'/><MAKEINSTANCE eiid='b' eventID='e'/><TLINK eventInstanceID='a' relatedToEventInstance='b' relType='BEFORE'/><TLINK eventInstanceID='b' relatedToEventInstance='a' relType='BEFORE'/></TimeML>";
+
+#[test]
+fn clashes_are_verified_or_refused(rt: HostRuntime) -> Result<(), Fail> {
+    let pairs = [
+        Pair {
+            doc: ITSELF,
+            evidence: b"tml-evidence 1\nclash 1\ncite 0\nwalk 2\nvia 0 0\nspan 0\ntimeline 1\nat 0 1\nend\n",
+            status: Status::Done,
+            text: b"verified clash 0\n",
+        },
+        Pair {
+            doc: CIRCLE,
+            evidence: b"tml-evidence 1\nclash 2\ncite 0\ncite 1\nwalk 4\nvia 0 0\nspan 1\nvia 1 0\nspan 0\ntimeline 2\nat 2 3\nat 0 1\ntimeline 2\nat 0 1\nat 2 3\nend\n",
+            status: Status::Done,
+            text: b"verified clash 0 1\n",
+        },
+        // a link that is not cited
+        refused(
+            CIRCLE,
+            b"tml-evidence 1\nclash 1\ncite 0\nwalk 4\nvia 0 0\nspan 1\nvia 1 0\nspan 0\ntimeline 2\nat 2 3\nat 0 1\nend\n",
+            b"evidence part 1 Cited 1\n",
+        ),
+        // the timelines exchanged
+        refused(
+            CIRCLE,
+            b"tml-evidence 1\nclash 2\ncite 0\ncite 1\nwalk 4\nvia 0 0\nspan 1\nvia 1 0\nspan 0\ntimeline 2\nat 0 1\nat 2 3\ntimeline 2\nat 2 3\nat 0 1\nend\n",
+            b"evidence part 2 Link 1\n",
+        ),
+        // links that do not clash, and one that the document does not have
+        refused(
+            CHAIN,
+            b"tml-evidence 1\nclash 1\ncite 0\nwalk 2\nvia 0 0\nspan 1\ntimeline 0\nend\n",
+            b"evidence part 1 End\n",
+        ),
+        refused(
+            CHAIN,
+            b"tml-evidence 1\nclash 1\ncite 2\nwalk 0\ntimeline 0\nend\n",
+            b"evidence part 0 Number 2\n",
+        ),
+        refused(
+            CHAIN,
+            b"tml-evidence 1\nclash 0\nwalk 0\nend\n",
+            b"evidence part 1 Weak\n",
+        ),
+        // cites that do not rise
+        refused(
+            CIRCLE,
+            b"tml-evidence 1\nclash 2\ncite 1\ncite 0\nwalk 0\ntimeline 0\ntimeline 0\nend\n",
+            b"evidence line 4\n",
+        ),
+    ];
+    for pair in pairs.iter() {
+        check_pair(&rt, pair)?;
+    }
+    Ok(())
+}
+
 #[test]
 fn malformed_evidence_has_its_bad_line(rt: HostRuntime) -> Result<(), Fail> {
     let pairs = [
