@@ -4,27 +4,29 @@ use Rattle.std.specs.List.{AllByRecursion}
 use Rattle.std.proofs.lemmas.Bool.{cases_lt, cases_eq}
 use Rattle.std.proofs.lemmas.Bool.Decides.{nat_tests}
 use Rattle.std.proofs.lemmas.List.Folds.{list_any-append}
+use Rattle.net_core.specs.Clashes.{Clashes}
 use Rattle.net_core.specs.Fits.{FitsWith}
 use Rattle.net_core.specs.Nets.{IsNet, PlainNet, points}
 use Rattle.net_core.specs.Relations.{Timeline}
 use Rattle.net_core.specs.Steps.{GoesBy, Uses, atom_of, has_strict, is_strict_order}
-use Rattle.net_core.specs.Walks.{HasWalk, Kept}
+use Rattle.net_core.specs.Walks.{GoesRound, HasWalk, Kept}
 use Rattle.net_core.specs.declared.atom.Atom.{Atom}
 use Rattle.net_core.specs.declared.step.Step.{Step}
 use Rattle.net_core.specs.declared.step.Step.TheVariants.{Link, Span, Calendar}
 use Rattle.net_core.proofs.StepLaws.{fits_from_steps, step_in_range}
-use Rattle.net_core.proofs.WalkLaws.{joined_then, walk_kept}
+use Rattle.net_core.proofs.WalkLaws.{joined_then, round_clashes, walk_kept}
 use Rattle.order_closure.specs.Cells.{joined, order, strength, stronger}
-use Rattle.order_closure.specs.Counting.{is_strict}
+use Rattle.order_closure.specs.Counting.{before_count, is_strict}
 use Rattle.order_closure.specs.Tables.{AreClosed, AreKept, Denies, new_cell, way}
 use Rattle.order_closure.specs.declared.cell.Cell.{Cell}
 use Rattle.order_closure.specs.declared.cell.Cell.TheVariants.{Free, Weak, Strict}
 use Rattle.order_closure.proofs.Adding.{new_closed}
 use Rattle.order_closure.proofs.Central.{always_stands, order_says}
 use Rattle.order_closure.proofs.Joining.{strength-stronger}
+use Rattle.order_closure.proofs.Ranking.{counts_kept}
 use Rattle.order_closure.proofs.Raising.{raised_closed, raised_kept}
 use Rattle.order_closure.proofs.Tables.{new_other}
-use Rattle.clash.specs.Walks.{AlwaysWith, WalksSayAll}
+use Rattle.clash.specs.Walks.{AlwaysWith, ClashesGoRound, WalksSayAll}
 use Rattle.clash.proofs.EveryStep.{every_step, of_every_step}
 
 -- ---- cells
@@ -228,6 +230,16 @@ module _ (net : PlainNet) (test : ℕ → Bool) (is : IsNet net) where
       let said = of_every_step (IsSaid cell) net step a is goes.0 has.said a goes in
       order_says (cell a.from a.to) a.strict (t a.from) (t a.to) said (kept a.from a.to range.0 range.1))
 
+  -- where none fits some walk goes round
+  pub goes_round : Clashes net (Passed test) → (steps : List Step) × GoesRound net (Passed test) steps
+  unfolding Result
+  goes_round none = elim (result (every_step net)) [
+    | inl good ↦
+        let t = before_count (points net) good.0 in
+        absurd (none t (kept_fits good.0 good.1 t (counts_kept (points net) good.0 good.1.closed)))
+    | inr bad ↦ (bad.2.0, (bad.0, bad.2.1))
+  ]
+
   -- what holds in all timelines that fit has a walk, where some timeline fits
   pub complete : (u : Timeline) (strict : Bool) (p q : ℕ) → FitsWith net (Passed test) u → p < points net → q < points net → AlwaysWith net (Passed test) strict p q → Walk p q strict
   unfolding Result
@@ -235,6 +247,10 @@ module _ (net : PlainNet) (test : ℕ → Bool) (is : IsNet net) where
     | inl good ↦ good.1.walks p q strict lp lq (always_stands (points net) good.0 good.1.closed strict p q lp lq (λ t kept. always t (kept_fits good.0 good.1 t kept)))
     | inr bad ↦ absurd (let less : u bad.0 < u bad.0 = walk_kept net (Passed test) u bad.2.0 bad.0 bad.0 true fits bad.2.1 in omega arith)
   ]
+
+-- clashes go round
+pub clashes_go_round : ClashesGoRound
+clashes_go_round net keep is = (goes_round net (λ k. slice_index_or keep k false) is, λ walk. round_clashes net (Kept keep) walk.0 walk.1)
 
 -- walks say all
 pub walks_say_all : WalksSayAll

@@ -1,10 +1,12 @@
--- The law of walks.
+-- The laws of walks.
 use Rattle.std.specs.Prelude.{ℕ, ◌<◌, ◌↔◌, Bool, List}
 use Rattle.net_core.specs.Atoms.{IsInOrder}
+use Rattle.net_core.specs.Clashes.{Clashes}
 use Rattle.net_core.specs.Fits.{FitsWith}
 use Rattle.net_core.specs.Nets.{IsNet, PlainNet, points}
 use Rattle.net_core.specs.Relations.{Timeline}
-use Rattle.net_core.specs.Walks.{HasWalk, Kept}
+use Rattle.net_core.specs.Walks.{GoesRound, HasWalk, Kept}
+use Rattle.net_core.specs.declared.step.Step.{Step}
 
 -- point p is before point q in every timeline that fits with a set of links
 abbrev pub AlwaysWith : PlainNet → (ℕ → Type 0) → Bool → ℕ → ℕ → Type 0
@@ -16,3 +18,7 @@ WalksSayAll =
     (net : PlainNet) (keep : List Bool) (u : Timeline) (strict : Bool) (p q : ℕ)
     → IsNet net → FitsWith net (Kept keep) u → p < points net → q < points net
     → AlwaysWith net (Kept keep) strict p q ↔ HasWalk net (Kept keep) p q strict
+
+-- The law: links clash exactly where a walk over spans, the calendar and these links goes round.
+abbrev pub ClashesGoRound : Type 0
+ClashesGoRound = (net : PlainNet) (keep : List Bool) → IsNet net → Clashes net (Kept keep) ↔ ((steps : List Step) × GoesRound net (Kept keep) steps)

@@ -10,4 +10,4 @@ mod links;
 mod tests;
 
 pub use closure::{Clash, CloseFault, close};
-pub use laws::walks_say_all;
+pub use laws::{clashes_go_round, walks_say_all};
