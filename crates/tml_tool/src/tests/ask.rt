@@ -186,9 +186,9 @@ fn the_first_word_that_names_nothing_is_told(rt: HostRuntime) -> Result<(), Fail
 fn asked(
     rt: &(impl Abort + AllocGlobal),
     doc: &[u8],
-    x: &str,
+    x: &'static str,
     rel: Rel,
-    y: &str,
+    y: &'static str,
 ) -> Result<MemorySink, Fail> {
     let alloc = rt.alloc();
     let Ok(rel) = std::str::from_utf8(rel.text()) else {
@@ -205,7 +205,13 @@ fn asked(
 }
 
 /// The line that `verify` prints of an answer.
-fn claim(alloc: Global, answer: &[u8], x: &str, rel: Rel, y: &str) -> Result<Vec<u8>, AllocError> {
+fn claim(
+    alloc: Global,
+    answer: &[u8],
+    x: &'static str,
+    rel: Rel,
+    y: &'static str,
+) -> Result<Vec<u8>, AllocError> {
     let word: &[u8] = if answer.starts_with(b"tml-evidence 1\nentails ") {
         b"verified entails "
     } else {
@@ -259,7 +265,7 @@ const SMALL: [(&[u8], &[&str]); 10] = [
 #[test]
 fn each_answer_is_verified(rt: HostRuntime) -> Result<(), Fail> {
     let alloc = rt.alloc();
-    let mut proofs = 0;
+    let mut proofs = 0u32;
     for (doc, names) in SMALL {
         for x in names {
             for y in names {
@@ -267,7 +273,7 @@ fn each_answer_is_verified(rt: HostRuntime) -> Result<(), Fail> {
                     let sink = asked(&rt, doc, x, *rel, y)?;
                     let line = claim(alloc, sink.written(), x, *rel, y)?;
                     if line.starts_with(b"verified entails ") {
-                        proofs += 1;
+                        proofs = proofs.saturating_add(1);
                     }
                     let evidence = Vec::from_slice(alloc, sink.written())?;
                     let doc = Vec::from_slice(alloc, doc)?;
