@@ -39,46 +39,6 @@ more_marked new old Before More After marked more after k below = (there, back)
       | inr is ↦ inr is
     ])
 
--- the elements of a list that is one longer
-pub contains_more : {X : Type 0} (xs : List X) (i : ℕ) (d x : X) → i < length xs → Contains (take (i + 1) xs) x ↔ (Contains (take i xs) x ⊎ (x ≡ get_or xs i d))
-contains_more {X} xs i d x below = (there, back)
-  where
-    longer : take (i + 1) xs ≡ take i xs ++ get_or xs i d ∷ []
-    longer = take_more xs i d below
-
-    single : (y : X) → Contains (y ∷ []) x → x ≡ y
-    single y (zero, lt, e) = sym e
-    single y (suc j, lt, e) = absurd (omega (arith, lt))
-
-    there : Contains (take (i + 1) xs) x → Contains (take i xs) x ⊎ (x ≡ get_or xs i d)
-    there h = elim (Contains-append_cases (take i xs) (get_or xs i d ∷ []) x (subst (λ (l : List X). Contains l x) longer h)) [
-      | inl before ↦ inl before
-      | inr last ↦ inr (single (get_or xs i d) last)
-    ]
-
-    back : Contains (take i xs) x ⊎ (x ≡ get_or xs i d) → Contains (take (i + 1) xs) x
-    back h = subst (λ (l : List X). Contains l x) (sym longer) (elim h [
-      | inl before ↦ Contains-append_left (take i xs) (get_or xs i d ∷ []) x before
-      | inr e ↦ Contains-append_right (take i xs) (get_or xs i d ∷ []) x (0, omega arith, sym e)
-    ])
-
--- the links that one step more goes over
-pub goes_over_more : (steps : List Step) (i : ℕ) (d : Step) → i < length steps → (k : ℕ)
-    → GoesOver (take (i + 1) steps) k ↔ (GoesOver (take i steps) k ⊎ (link_of (get_or steps i d) ≡ Some k))
-goes_over_more steps i d below k = (there, back)
-  where
-    there : GoesOver (take (i + 1) steps) k → GoesOver (take i steps) k ⊎ (link_of (get_or steps i d) ≡ Some k)
-    there h = elim ((contains_more steps i d h.0 below).0 h.1) [
-      | inl before ↦ inl (h.0, before, h.2)
-      | inr last ↦ inr (ap link_of (sym last) ∙ h.2)
-    ]
-
-    back : GoesOver (take i steps) k ⊎ (link_of (get_or steps i d) ≡ Some k) → GoesOver (take (i + 1) steps) k
-    back h = elim h [
-      | inl before ↦ (before.0, (contains_more steps i d before.0 below).1 (inl before.1), before.2)
-      | inr e ↦ (get_or steps i d, (contains_more steps i d (get_or steps i d) below).1 (inr refl), e)
-    ]
-
 -- marks are alike exactly where a walk agrees with cites
 pub alike : (cited gone_over : List Bool) (cites : List ℕ) (steps : List Step) → AreMarked cited (Contains cites) → AreMarked gone_over (GoesOver steps)
     → (k : ℕ) → k < max_links → (slice_index_or cited k false ≡ slice_index_or gone_over k false) ↔ Agrees cites steps k

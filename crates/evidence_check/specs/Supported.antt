@@ -1,22 +1,18 @@
 -- When evidence is supported.
-use Rattle.std.specs.Prelude.{ℕ, ◌<◌, ◌↔◌, false, List, [], length, Option, None, slice_index, slice_index_or}
+use Rattle.std.specs.Prelude.{ℕ, ◌<◌, false, List, [], length, Option, None, slice_index, slice_index_or}
 use Rattle.std.specs.List.{Contains}
 use Rattle.net_core.specs.Atoms.{atoms_of}
-use Rattle.net_core.specs.Clashes.{Others}
+use Rattle.net_core.specs.Clashes.{GoesRoundOver, Others}
 use Rattle.net_core.specs.Firsts.{IsFirst}
 use Rattle.net_core.specs.Fits.{EveryLink, RanksFit, RanksFitWith}
 use Rattle.net_core.specs.Nets.{PlainNet, intervals}
 use Rattle.net_core.specs.Ranks.{ranks_of, timeline_of}
 use Rattle.net_core.specs.Relations.{Relates}
-use Rattle.net_core.specs.Walks.{GoesOver, GoesRound, IsWalk}
+use Rattle.net_core.specs.Walks.{IsWalk}
 use Rattle.net_core.specs.declared.atom.Atom.{Atom}
 use Rattle.net_core.specs.declared.rels.Rel.{Rel}
 use Rattle.net_core.specs.declared.step.Step.{Step}
 use Rattle.evidence_format.specs.Evidence.{PlainEvidence, timeline, entails, counter, clash}
-
--- the walk goes over a link exactly where it is cited
-abbrev pub Agrees : List ℕ → List Step → ℕ → Type 0
-Agrees cites walk k = GoesOver walk k ↔ Contains cites k
 
 -- both numbers are those of intervals of the net
 abbrev pub AreIntervals : PlainNet → ℕ → ℕ → Type 0
@@ -46,10 +42,6 @@ cite_at cites i = slice_index cites i
 -- the first cite, if any, that is none of a link
 abbrev pub AreLinks : PlainNet → List ℕ → Option ℕ → Type 0
 AreLinks net cites first = IsFirst (length cites) (λ i. cite_at cites i < length net.links) first
-
--- the walk goes round over exactly the cited links
-abbrev pub GoesRoundOver : PlainNet → List ℕ → List Step → Type 0
-GoesRoundOver net cites walk = GoesRound net EveryLink walk × ((k : ℕ) → k < length net.links → Agrees cites walk k)
 
 abbrev pub ranks_at : List (List (ℕ × ℕ)) → ℕ → List ℕ
 ranks_at spares i = ranks_of (slice_index_or spares i [])

@@ -1,18 +1,17 @@
 //! Whether a walk goes round over exactly the cited links.
 ghost use Rattle.evidence_check.specs.Asked.{AreRisingLinks};
 ghost use Rattle.evidence_check.specs.Refusals.{IsNoRound};
-ghost use Rattle.evidence_check.specs.Supported.{Agrees, GoesRoundOver};
 ghost use Rattle.evidence_format.specs.Evidence.{IsNumber};
+ghost use Rattle.net_core.specs.Clashes.{Agrees, GoesRoundOver};
 ghost use Rattle.net_core.specs.Firsts.{IsFirst};
 ghost use Rattle.net_core.specs.Limits.{max_links};
-ghost use Rattle.net_core.specs.Steps.{link_of};
 ghost use Rattle.net_core.specs.Walks.{GoesOver};
 ghost use Rattle.std.specs.List.{Contains};
-ghost use Rattle.std.specs.Prelude.{IfErr, OnOk, Some, length, slice_index_or, true, false, ℕ, ◌<◌, ◌≡◌, ◌↔◌, ◌⊎◌};
+ghost use Rattle.std.specs.Prelude.{IfErr, OnOk, length, slice_index_or, true, false, ℕ, ◌<◌, ◌≡◌, ◌↔◌};
 
 use crate::refusal::Reason;
 use crate::walks::follow;
-use net_core::{MAX_LINKS, Net, Step, step_atom};
+use net_core::{MAX_LINKS, Net, Step, mark_link, mark_steps, step_atom};
 
 /// A mark for each link that a net can have.
 type Marks = [bool; MAX_LINKS as usize];
@@ -66,7 +65,7 @@ fn marks_of_cites(cites: &[u32]) -> Marks
 {
     let mut marks = [false; MAX_LINKS as usize];
     for cite in cites {
-        mark(&mut marks, *cite);
+        mark_link(&mut marks, *cite);
     }
     marks
 }
@@ -76,26 +75,6 @@ fn marks_of_steps(steps: &[Step]) -> Marks
     ensures { (k : ℕ) → k < max_links → (slice_index_or result k false ≡ true) ↔ GoesOver steps.now k }
 {
     let mut marks = [false; MAX_LINKS as usize];
-    for step in steps {
-        mark_step(&mut marks, step);
-    }
+    mark_steps(&mut marks, steps);
     marks
-}
-
-/// Marks the link that a step goes over, if it does over one.
-fn mark_step(marks: &mut Marks, step: &Step)
-    ensures { (k : ℕ) → k < max_links → (slice_index_or marks.new k false ≡ true) ↔ ((slice_index_or marks.old k false ≡ true) ⊎ (link_of step.now ≡ Some k)) }
-{
-    if let Some(link) = step.link() {
-        mark(marks, link);
-    }
-}
-
-/// Marks a link, where a net can have it.
-fn mark(marks: &mut Marks, link: u32)
-    ensures { (k : ℕ) → k < max_links → (slice_index_or marks.new k false ≡ true) ↔ ((slice_index_or marks.old k false ≡ true) ⊎ (k ≡ link)) }
-{
-    if link < MAX_LINKS {
-        marks[link as usize] = true;
-    }
 }

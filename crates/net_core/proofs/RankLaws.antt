@@ -1,5 +1,5 @@
 -- Ranks, two by two.
-use Rattle.std.proofs.Common.{◌≡◌, ℕ, zero, suc, ◌*◌, ◌≤◌, length, arith, List, [], ◌∷◌, ◌++◌, refl, ap}
+use Rattle.std.proofs.Common.{◌≡◌, ℕ, zero, suc, ◌*◌, ◌%◌, ◌≤◌, length, arith, List, [], ◌∷◌, ◌++◌, refl, ap}
 use Rattle.net_core.specs.Ranks.{AreEven, pairs_of, ranks_of}
 
 pub even_push : (ranks : List ℕ) (s e : ℕ) → AreEven ranks → AreEven (ranks ++ s ∷ e ∷ [])
@@ -35,3 +35,9 @@ even_length n [] size = tt
 even_length n (start ∷ []) size = omega (arith, size)
 even_length zero (start ∷ finish ∷ ranks) size = absurd (omega (arith, size))
 even_length (suc n) (start ∷ finish ∷ ranks) size = even_length n ranks (omega (arith, size))
+
+-- ranks of which none is left, taken two by two, are even
+pub even_of_length : (ranks : List ℕ) → length ranks % 2 ≡ 0 → AreEven ranks
+even_of_length [] even = tt
+even_of_length (start ∷ []) even = absurd (omega (arith, even))
+even_of_length (start ∷ finish ∷ ranks) even = even_of_length ranks (omega (arith, even))

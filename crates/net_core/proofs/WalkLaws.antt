@@ -1,12 +1,15 @@
 -- Walks, and what they say of timelines.
-use Rattle.std.proofs.Common.{◌≡◌, ℕ, zero, suc, take, Some, ◌<◌, ◌≤◌, Bool, true, false, ◌||◌, List, [], ◌∷◌, ◌++◌, refl, sym, ap, subst, ◌∙◌, arith}
+use Rattle.std.proofs.Common.{◌≡◌, ◌⊎◌, inl, inr, ℕ, zero, suc, take, Some, ◌<◌, ◌≤◌, Bool, true, false, ◌||◌, List, [], ◌∷◌, ◌++◌, refl, sym, ap, subst, ◌∙◌, arith}
+use Rattle.std.specs.List.{Contains}
+use Rattle.std.proofs.lemmas.Bool.{cases_eq}
+use Rattle.std.proofs.lemmas.List.Folds.{list_any-append}
 use Rattle.net_core.specs.Atoms.{IsInOrder}
 use Rattle.net_core.specs.Fits.{FitsWith}
 use Rattle.net_core.specs.Nets.{PlainNet}
 use Rattle.net_core.specs.Relations.{Timeline}
 use Rattle.net_core.specs.Steps.{GoesBy, Uses, atom_of, has_strict, is_strict_order, link_of}
 use Rattle.net_core.specs.Clashes.{Clashes}
-use Rattle.net_core.specs.Walks.{GoesOver, GoesRound, IsJoined, IsWalk}
+use Rattle.net_core.specs.Walks.{GoesOver, GoesRound, HasWalk, IsJoined, IsWalk}
 use Rattle.net_core.specs.declared.atom.Atom.{Atom}
 use Rattle.net_core.specs.declared.step.Step.{Step}
 use Rattle.net_core.specs.declared.step.Step.TheVariants.{Link, Span, Calendar}
@@ -105,3 +108,73 @@ joined_over net Chosen Other (step ∷ steps) x y joined over = (
 pub round_clashes : (net : PlainNet) (Chosen : ℕ → Type 0) (steps : List Step) → GoesRound net Chosen steps → Clashes net Chosen
 round_clashes net Chosen steps round t fits =
     let less : t round.0 < t round.0 = walk_kept net Chosen t steps round.0 round.0 true fits round.1 in omega arith
+
+-- joined steps go over links of the set only
+pub over_chosen : (net : PlainNet) (Chosen : ℕ → Type 0) (steps : List Step) (x y k : ℕ) → IsJoined net Chosen steps x y → GoesOver steps k → Chosen k
+over_chosen net Chosen [] x y k joined over = absurd (omega (arith, over.1.1))
+over_chosen net Chosen (step ∷ steps) x y k joined (other, (zero, lt, e), is) = uses_it step joined.1.1 (ap link_of e ∙ is)
+  where
+    uses_it : (step : Step) → Uses Chosen step → link_of step ≡ Some k → Chosen k
+    uses_it (Link j i) uses e = let same : j ≡ k = cc in subst Chosen same uses
+    uses_it (Span i) uses e = absurd cc
+    uses_it (Calendar p q) uses e = absurd cc
+over_chosen net Chosen (step ∷ steps) x y k joined (other, (suc j, lt, e), is) = over_chosen net Chosen steps joined.0.to y k joined.3 (other, (j, omega (arith, lt), e), is)
+
+-- whether steps go over a link
+pub over_or_not : (steps : List Step) (k : ℕ) → GoesOver steps k ⊎ ¬ GoesOver steps k
+over_or_not [] k = inr (λ over. omega (arith, over.1.1))
+over_or_not (step ∷ steps) k = elim (by_step step) [
+  | inl e ↦ inl (step, (zero, omega arith, refl), e)
+  | inr not ↦ elim (over_or_not steps k) [
+    | inl over ↦ inl (over.0, (suc over.1.0, omega (arith, over.1.1), over.1.2), over.2)
+    | inr none ↦ inr (neither not none)
+  ]
+]
+  where
+    by_number : (j i : ℕ) → (link_of (Link j i) ≡ Some k) ⊎ (link_of (Link j i) ≡ Some k → ⊥)
+    by_number j i = elim (cases_eq j k) [
+      | inl e ↦ inl (ap (λ (n : ℕ). Some n) e)
+      | inr ne ↦ inr (λ e. let same : j ≡ k = cc in ne same)
+    ]
+
+    by_step : (step : Step) → (link_of step ≡ Some k) ⊎ (link_of step ≡ Some k → ⊥)
+    by_step (Link j i) = by_number j i
+    by_step (Span i) = inr (λ e. cc)
+    by_step (Calendar p q) = inr (λ e. cc)
+
+    neither : (link_of step ≡ Some k → ⊥) → (GoesOver steps k → ⊥) → GoesOver (step ∷ steps) k → ⊥
+    neither not none (other, (zero, lt, e), is) = not (ap link_of e ∙ is)
+    neither not none (other, (suc j, lt, e), is) = none (other, (j, omega (arith, lt), e), is)
+
+-- a list about one of its elements
+contains_split : {X : Type 0} (xs : List X) (x : X) → Contains xs x → (before : List X) × (after : List X) × (xs ≡ before ++ x ∷ after)
+contains_split [] x (k, lt, e) = absurd (omega (arith, lt))
+contains_split {X} (y ∷ xs) x (zero, lt, e) = ([], xs, ap (λ (z : X). z ∷ xs) e)
+contains_split {X} (y ∷ xs) x (suc k, lt, e) =
+    let rest = contains_split xs x (k, omega (arith, lt), e) in
+    (y ∷ rest.0, rest.1, ap (λ (l : List X). y ∷ l) rest.2)
+
+or_swap : (a b : Bool) → (a || b) ≡ true → (b || a) ≡ true
+or_swap true true e = refl
+or_swap true false e = refl
+or_swap false b e = rw e refl
+
+-- a walk that goes round can begin with each of its steps
+pub round_from : (net : PlainNet) (Chosen : ℕ → Type 0) (steps : List Step) (step : Step) (a : Atom) → GoesRound net Chosen steps → Contains steps step → atom_of net step ≡ Some a
+    → HasWalk net Chosen a.from a.from true
+round_from net Chosen steps step a round has is =
+    let cut = contains_split steps step has in
+    let before = cut.0 in
+    let more = step ∷ cut.1 in
+    let x = round.0 in
+    let parts = joined_split net Chosen before more x x (subst (λ (all : List Step). IsJoined net Chosen all x x) cut.2 round.1.0) in
+    let same : parts.2.0 ≡ a = let e = parts.2.1.0 in cc in
+    let here : parts.0 ≡ a.from = sym parts.2.2 ∙ ap (λ (b : Atom). b.from) same in
+    let strict = subst (λ (all : List Step). has_strict net all ≡ true) cut.2 (round.1.1 refl) in
+    let by = λ (s : Step). is_strict_order (atom_of net s) in (
+      more ++ before,
+      (
+        subst (λ (y : ℕ). IsJoined net Chosen (more ++ before) y y) here (joined_then net Chosen more before parts.0 x parts.0 parts.2 parts.1),
+        λ e. list_any-append by more before ∙ or_swap (has_strict net before) (has_strict net more) (sym (list_any-append by before more) ∙ strict),
+      ),
+    )

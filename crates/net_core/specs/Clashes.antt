@@ -1,9 +1,11 @@
 -- Links that cannot all be true.
-use Rattle.std.specs.Prelude.{◌≢◌, ℕ, ◌<◌, List, length}
+use Rattle.std.specs.Prelude.{◌≢◌, ◌↔◌, ℕ, ◌<◌, List, length}
 use Rattle.std.specs.List.{All, Contains}
-use Rattle.net_core.specs.Fits.{FitsWith}
+use Rattle.net_core.specs.Fits.{EveryLink, FitsWith}
 use Rattle.net_core.specs.Nets.{PlainNet}
 use Rattle.net_core.specs.Relations.{Timeline}
+use Rattle.net_core.specs.Walks.{GoesOver, GoesRound}
+use Rattle.net_core.specs.declared.step.Step.{Step}
 
 -- no timeline fits with the links of a set
 abbrev pub Clashes : PlainNet → (ℕ → Type 0) → Type 0
@@ -18,3 +20,11 @@ pub record IsMinimalClash (net : PlainNet) (cites : List ℕ) : Type 0 where
   pub links : All (λ k. k < length net.links) cites
   pub clashes : Clashes net (Contains cites)
   pub needed : All (λ k. (t : Timeline) × FitsWith net (Others (Contains cites) k) t) cites
+
+-- the walk goes over a link exactly where it is cited
+abbrev pub Agrees : List ℕ → List Step → ℕ → Type 0
+Agrees cites walk k = GoesOver walk k ↔ Contains cites k
+
+-- the walk goes round over exactly the cited links
+abbrev pub GoesRoundOver : PlainNet → List ℕ → List Step → Type 0
+GoesRoundOver net cites walk = GoesRound net EveryLink walk × ((k : ℕ) → k < length net.links → Agrees cites walk k)

@@ -1,6 +1,6 @@
 //! Ranks of intervals: two for each, of its start and of its end.
 ghost use Rattle.net_core.specs.Ranks.{AreEven, pairs_of};
-ghost use Rattle.std.specs.Prelude.{[], ◌∷◌, ◌++◌, ◌≡◌, length, OnErr, OnOk};
+ghost use Rattle.std.specs.Prelude.{[], ◌∷◌, ◌++◌, ◌≡◌, length, ◌%◌, OnErr, OnOk};
 
 use crate::Memory;
 use std::alloc::Global;
@@ -31,6 +31,15 @@ impl Ranks {
         Ranks {
             items: Vec::new(alloc),
         }
+    }
+
+    #[tactic(auto, using(crate::proofs::RankLaws::even_of_length))]
+    /// The ranks of a `Vec`: an even number of them. It takes no memory.
+    pub fn from_vec(items: Vec<u32>) -> Ranks
+        requires { length items.items % 2 ≡ 0 }
+        ensures { result ≡ items.items }
+    {
+        Ranks { items }
     }
 
     /// The ranks, in order.

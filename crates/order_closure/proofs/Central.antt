@@ -116,8 +116,8 @@ matches_from_stands table atoms inside stands t = (
 )
 
 -- what holds of each of a list and one more, holds of each of the list
-pub All-front : {X : Type 0} (P : X → Type 0) (xs : List X) (x : X) → All P (xs ++ x ∷ []) → All P xs
-All-front P xs x h k d lt = subst P (get_or_append_left xs (x ∷ []) d k lt) (h k d (omega (arith, length-append xs (x ∷ []))))
+pub All-prefix : {X : Type 0} (P : X → Type 0) (xs : List X) (x : X) → All P (xs ++ x ∷ []) → All P xs
+All-prefix P xs x h k d lt = subst P (get_or_append_left xs (x ∷ []) d k lt) (h k d (omega (arith, length-append xs (x ∷ []))))
 
 -- what holds of each of a list and one more, holds of the last
 pub All-last : {X : Type 0} (P : X → Type 0) (xs : List X) (x : X) → All P (xs ++ x ∷ []) → P x
@@ -128,5 +128,5 @@ pub more_atoms : (table new : Table) (atoms : List Atom) (atom : Atom) → ((t :
 more_atoms table new atoms atom kept same t =
     let old = same t in (
       λ h. let both = (kept t).0 h in All-push (Satisfies t) atoms atom (old.0 both.0) both.1,
-      λ h. (kept t).1 (old.1 (All-front (Satisfies t) atoms atom h), All-last (Satisfies t) atoms atom h),
+      λ h. (kept t).1 (old.1 (All-prefix (Satisfies t) atoms atom h), All-last (Satisfies t) atoms atom h),
     )

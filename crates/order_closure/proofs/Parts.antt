@@ -31,7 +31,7 @@ row_within i n h lt = omega (arith, mul-le-mul_right n (let le : i + 1 ≤ h = o
 part_at : (a k j : ℕ) (xs : List Cell) → j < k → get_or (take k (drop a xs)) j Free ≡ get_or xs (a + j) Free
 part_at a k j xs lt = get_or-take k (drop a xs) j Free lt ∙ get_or-drop a xs j Free
 
--- what is put into the first part, and what is put to the front of the second
+-- what is put into the first part, and what is put at the start of the second
 put_first : (a k : ℕ) (xs ys row : List Cell) → a + k ≤ length xs → put_mid a k xs row ++ ys ≡ put_mid a k (xs ++ ys) row
 put_first a k xs ys row h =
     append_assoc (take a xs) (row ++ drop k (drop a xs)) ys ∙ ap (λ (z : List Cell). take a xs ++ z) (append_assoc row (drop k (drop a xs)) ys)
@@ -57,7 +57,7 @@ pub first_raised : (n i to : ℕ) (way : Cell) (xs ys row : List Cell) (k : ℕ)
     → length row ≡ length (take k (drop (i * n) xs))
     → ((j : ℕ) → j < length (take k (drop (i * n) xs)) → get_or row j Free ≡ stronger (get_or (take k (drop (i * n) xs)) j Free) (joined way (get_or (take n ys) j Free)))
     → IsRowRaised n i to way (xs ++ ys) (put_mid (i * n) k xs row ++ ys)
-first_raised n i to way xs ys row k front square lt lt_n e len is =
+first_raised n i to way xs ys row k prefix_len square lt lt_n e len is =
     let inside : i * n + n ≤ length xs = omega (arith, row_within i n to lt) in
     let some : n ≤ length (drop (i * n) xs) = omega (arith, length-drop (i * n) xs) in
     let all : length (take k (drop (i * n) xs)) ≡ n = ap (λ m. length (take m (drop (i * n) xs))) e ∙ length-take-le n (drop (i * n) xs) some in
@@ -66,19 +66,19 @@ first_raised n i to way xs ys row k front square lt lt_n e len is =
     (subst (IsRowRaised n i to way (xs ++ ys)) (sym (put_first (i * n) n xs ys row inside))
     (put_row n i to way (xs ++ ys) row (omega arith) square row_len (λ j lj. is j (omega arith)
     ∙ (λ m. stronger ((part_at (i * n) k j xs (omega arith) ∙ sym (get_or_append_left xs ys Free (i * n + j) (omega arith))) m)
-    (joined way ((get_or-take n ys j Free lj ∙ sym (get_or-append-add xs ys j Free) ∙ ap (λ a. get_or (xs ++ ys) (a + j) Free) front) m))))))
+    (joined way ((get_or-take n ys j Free lj ∙ sym (get_or-append-add xs ys j Free) ∙ ap (λ a. get_or (xs ++ ys) (a + j) Free) prefix_len) m))))))
 
--- a row at the front of the second part, raised by one in the first
+-- a row at the start of the second part, raised by one in the first
 pub second_raised : (n i to : ℕ) (way : Cell) (xs ys row : List Cell) (k : ℕ) → length xs ≡ i * n → length (xs ++ ys) ≡ n * n → to < i → i < n → k ≡ n
     → length row ≡ length (take n ys)
     → ((j : ℕ) → j < length (take n ys) → get_or row j Free ≡ stronger (get_or (take n ys) j Free) (joined way (get_or (take k (drop (to * n) xs)) j Free)))
     → IsRowRaised n i to way (xs ++ ys) (xs ++ (row ++ drop n ys))
-second_raised n i to way xs ys row k front square lt lt_n e len is =
+second_raised n i to way xs ys row k prefix_len square lt lt_n e len is =
     let fits : i * n + n ≤ n * n = omega (arith, row_within i n n lt_n) in
     let inside : to * n + n ≤ length xs = omega (arith, row_within to n i lt) in
     let all : length (take n ys) ≡ n = length-take-le n ys (omega (arith, length-append xs ys)) in
     let row_len : length row ≡ n = len ∙ all in
-    subst (IsRowRaised n i to way (xs ++ ys)) (sym (put_second n xs ys row ∙ ap (λ a. put_mid a n (xs ++ ys) row) front))
+    subst (IsRowRaised n i to way (xs ++ ys)) (sym (put_second n xs ys row ∙ ap (λ a. put_mid a n (xs ++ ys) row) prefix_len))
     (put_row n i to way (xs ++ ys) row lt_n square row_len (λ j lj. is j (omega arith)
-    ∙ (λ m. stronger ((get_or-take n ys j Free lj ∙ sym (get_or-append-add xs ys j Free) ∙ ap (λ a. get_or (xs ++ ys) (a + j) Free) front) m)
+    ∙ (λ m. stronger ((get_or-take n ys j Free lj ∙ sym (get_or-append-add xs ys j Free) ∙ ap (λ a. get_or (xs ++ ys) (a + j) Free) prefix_len) m)
     (joined way ((part_at (to * n) k j xs (omega arith) ∙ sym (get_or_append_left xs ys Free (to * n + j) (omega arith))) m)))))

@@ -53,11 +53,15 @@ fn raise_row(cells: &mut [Cell], size: usize, i: usize, to: usize, way: Cell)
     ensures others { (r j : ℕ) → r < size → j < size → r ≢ i → flat_at size cells.new r j ≡ flat_at size cells.old r j }
 {
     if i < to {
-        let (front, back) = cells.split_at_mut(to * size);
-        join(&mut front[i * size..(i + 1) * size], &back[..size], way);
+        let (prefix, suffix) = cells.split_at_mut(to * size);
+        join(&mut prefix[i * size..(i + 1) * size], &suffix[..size], way);
     } else {
-        let (front, back) = cells.split_at_mut(i * size);
-        join(&mut back[..size], &front[to * size..(to + 1) * size], way);
+        let (prefix, suffix) = cells.split_at_mut(i * size);
+        join(
+            &mut suffix[..size],
+            &prefix[to * size..(to + 1) * size],
+            way,
+        );
     }
 }
 

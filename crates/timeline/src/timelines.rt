@@ -25,7 +25,7 @@ pub fn least(alloc: Global, closed: &Closed) -> Result<Ranks, Memory>
     ensures small { IfOk result (λ ranks. (p : ℕ) → p < closed.now.points → slice_index ranks p < closed.now.points) }
 {
     let ranks = ranked(alloc, closed)?;
-    pairs(alloc, &ranks)
+    Ok(Ranks::from_vec(ranks))
 }
 
 /// The least ranks that keep every cell and make the atom false.
@@ -59,18 +59,4 @@ fn opposite(atom: Atom) -> Atom
         to: atom.from,
         strict: !atom.strict,
     }
-}
-
-/// Ranks of intervals, from those of all points.
-fn pairs(alloc: Global, ranks: &[u32]) -> Result<Ranks, Memory>
-    requires { length ranks.now % 2 ≡ 0 }
-    ensures { IfOk result (λ all. all ≡ ranks.now) }
-{
-    let mut all = Ranks::new(alloc);
-    let mut rest = ranks;
-    while let [start, finish, after @ ..] = rest {
-        all.push(*start, *finish)?;
-        rest = after;
-    }
-    Ok(all)
 }

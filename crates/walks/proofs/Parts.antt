@@ -6,12 +6,12 @@ use Rattle.std.proofs.lemmas.List.{get_or-drop, get_or-take, take-append-drop}
 use Rattle.std.proofs.lemmas.List.Elements.{All-contains, Contains-append_cases, Contains-append_left, Contains-append_right}
 
 -- what is true up to n is true of the first part
-front : {X : Type 0} (P : X → Type 0) (xs : List X) (n : ℕ) → AllWithin P xs 0 n → All P (take n xs)
-front P xs n all k d lk = let lt : k < n = omega (arith, length-take n xs) in rw get_or-take (all k d (omega arith) lt)
+prefix : {X : Type 0} (P : X → Type 0) (xs : List X) (n : ℕ) → AllWithin P xs 0 n → All P (take n xs)
+prefix P xs n all k d lk = let lt : k < n = omega (arith, length-take n xs) in rw get_or-take (all k d (omega arith) lt)
 
 -- what is true from n on is true of the second part
-back : {X : Type 0} (P : X → Type 0) (xs : List X) (n : ℕ) → AllWithin P xs n (length xs) → All P (drop n xs)
-back P xs n all k d lk = rw get_or-drop (all (n + k) d (omega arith) (omega (arith, length-drop n xs)))
+suffix : {X : Type 0} (P : X → Type 0) (xs : List X) (n : ℕ) → AllWithin P xs n (length xs) → All P (drop n xs)
+suffix P xs n all k d lk = rw get_or-drop (all (n + k) d (omega arith) (omega (arith, length-drop n xs)))
 
 module _ {X : Type 0} (p : X → Bool) (xs : List X) (n : ℕ) (cut : IsPartitionPoint (λ x. p x ≡ true) (λ x. p x ≡ false) xs n) where
   -- each element is in one of the parts
@@ -21,19 +21,19 @@ module _ {X : Type 0} (p : X → Bool) (xs : List X) (n : ℕ) (cut : IsPartitio
   -- the first part has the elements that pass
   pub taken : (x : X) → Contains (take n xs) x ↔ (Contains xs x × (p x ≡ true))
   taken x = (
-    λ h. (subst (λ (ys : List X). Contains ys x) (take-append-drop n xs) (Contains-append_left (take n xs) (drop n xs) x h), All-contains (λ (y : X). p y ≡ true) (take n xs) x (front (λ (y : X). p y ≡ true) xs n cut.0) h),
+    λ h. (subst (λ (ys : List X). Contains ys x) (take-append-drop n xs) (Contains-append_left (take n xs) (drop n xs) x h), All-contains (λ (y : X). p y ≡ true) (take n xs) x (prefix (λ (y : X). p y ≡ true) xs n cut.0) h),
     λ h. elim (in_part x h.0) [
       | inl first ↦ first
-      | inr second ↦ let fails = All-contains (λ (y : X). p y ≡ false) (drop n xs) x (back (λ (y : X). p y ≡ false) xs n cut.1) second in let both : true ≡ false = sym h.1 ∙ fails in cc
+      | inr second ↦ let fails = All-contains (λ (y : X). p y ≡ false) (drop n xs) x (suffix (λ (y : X). p y ≡ false) xs n cut.1) second in let both : true ≡ false = sym h.1 ∙ fails in cc
     ],
   )
 
   -- the second part has those that fail
   pub dropped : (x : X) → Contains (drop n xs) x ↔ (Contains xs x × (p x ≡ false))
   dropped x = (
-    λ h. (subst (λ (ys : List X). Contains ys x) (take-append-drop n xs) (Contains-append_right (take n xs) (drop n xs) x h), All-contains (λ (y : X). p y ≡ false) (drop n xs) x (back (λ (y : X). p y ≡ false) xs n cut.1) h),
+    λ h. (subst (λ (ys : List X). Contains ys x) (take-append-drop n xs) (Contains-append_right (take n xs) (drop n xs) x h), All-contains (λ (y : X). p y ≡ false) (drop n xs) x (suffix (λ (y : X). p y ≡ false) xs n cut.1) h),
     λ h. elim (in_part x h.0) [
       | inr second ↦ second
-      | inl first ↦ let passes = All-contains (λ (y : X). p y ≡ true) (take n xs) x (front (λ (y : X). p y ≡ true) xs n cut.0) first in let both : true ≡ false = sym passes ∙ h.1 in cc
+      | inl first ↦ let passes = All-contains (λ (y : X). p y ≡ true) (take n xs) x (prefix (λ (y : X). p y ≡ true) xs n cut.0) first in let both : true ≡ false = sym passes ∙ h.1 in cc
     ],
   )

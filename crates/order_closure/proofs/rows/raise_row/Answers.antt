@@ -6,26 +6,26 @@ use Rattle.order_closure.proofs.rows.raise_row.Goals as goal
 use Rattle.order_closure.proofs.rows.raise_row.Goals.{After-join, After-join-else-i-to}
 
 first : (c : After-join) → IsRowRaised c.args.size c.args.i c.args.to c.args.way c.args.cells.now
-    (put_mid (c.args.i * c.args.size) ((c.args.i + 1) * c.args.size - c.args.i * c.args.size) c.split_at_mut-front.result.0.now c.join.new.row ++ c.split_at_mut-front.result.1.now)
+    (put_mid (c.args.i * c.args.size) ((c.args.i + 1) * c.args.size - c.args.i * c.args.size) c.split_at_mut-prefix.result.0.now c.join.new.row ++ c.split_at_mut-prefix.result.1.now)
 first c =
     let n = c.args.size in
-    let front = c.split_at_mut-front.result.0.now in
-    let back = c.split_at_mut-front.result.1.now in
+    let prefix = c.split_at_mut-prefix.result.0.now in
+    let suffix = c.split_at_mut-prefix.result.1.now in
     let k = (c.args.i + 1) * n - c.args.i * n in
-    subst (λ (cells : List Cell). IsRowRaised n c.args.i c.args.to c.args.way cells (put_mid (c.args.i * n) k front c.join.new.row ++ back)) (sym c.split_at_mut-front.ensures.value)
-    (first_raised n c.args.i c.args.to c.args.way front back c.join.new.row k c.split_at_mut-front.ensures.front_len
-    (subst (λ (cells : List Cell). length cells ≡ n * n) c.split_at_mut-front.ensures.value c.requires.square) c.if-i-to.true c.requires.to (omega arith) c.join.ensures.length c.join.ensures.raised)
+    subst (λ (cells : List Cell). IsRowRaised n c.args.i c.args.to c.args.way cells (put_mid (c.args.i * n) k prefix c.join.new.row ++ suffix)) (sym c.split_at_mut-prefix.ensures.value)
+    (first_raised n c.args.i c.args.to c.args.way prefix suffix c.join.new.row k c.split_at_mut-prefix.ensures.front_len
+    (subst (λ (cells : List Cell). length cells ≡ n * n) c.split_at_mut-prefix.ensures.value c.requires.square) c.if-i-to.true c.requires.to (omega arith) c.join.ensures.length c.join.ensures.raised)
 
 second : (c : After-join-else-i-to) → IsRowRaised c.args.size c.args.i c.args.to c.args.way c.args.cells.now
-    (c.split_at_mut-front-else-i-to.result.0.now ++ (c.join-else-i-to.new.row ++ drop c.args.size c.split_at_mut-front-else-i-to.result.1.now))
+    (c.split_at_mut-prefix-else-i-to.result.0.now ++ (c.join-else-i-to.new.row ++ drop c.args.size c.split_at_mut-prefix-else-i-to.result.1.now))
 second c =
     let n = c.args.size in
-    let front = c.split_at_mut-front-else-i-to.result.0.now in
-    let back = c.split_at_mut-front-else-i-to.result.1.now in
+    let prefix = c.split_at_mut-prefix-else-i-to.result.0.now in
+    let suffix = c.split_at_mut-prefix-else-i-to.result.1.now in
     let k = (c.args.to + 1) * n - c.args.to * n in
-    subst (λ (cells : List Cell). IsRowRaised n c.args.i c.args.to c.args.way cells (front ++ (c.join-else-i-to.new.row ++ drop n back))) (sym c.split_at_mut-front-else-i-to.ensures.value)
-    (second_raised n c.args.i c.args.to c.args.way front back c.join-else-i-to.new.row k c.split_at_mut-front-else-i-to.ensures.front_len
-    (subst (λ (cells : List Cell). length cells ≡ n * n) c.split_at_mut-front-else-i-to.ensures.value c.requires.square) (omega arith) c.requires.i (omega arith) c.join-else-i-to.ensures.length c.join-else-i-to.ensures.raised)
+    subst (λ (cells : List Cell). IsRowRaised n c.args.i c.args.to c.args.way cells (prefix ++ (c.join-else-i-to.new.row ++ drop n suffix))) (sym c.split_at_mut-prefix-else-i-to.ensures.value)
+    (second_raised n c.args.i c.args.to c.args.way prefix suffix c.join-else-i-to.new.row k c.split_at_mut-prefix-else-i-to.ensures.front_len
+    (subst (λ (cells : List Cell). length cells ≡ n * n) c.split_at_mut-prefix-else-i-to.ensures.value c.requires.square) (omega arith) c.requires.i (omega arith) c.join-else-i-to.ensures.length c.join-else-i-to.ensures.raised)
 
 pub returns-then-i-to-clause-raised : goal.returns-then-i-to-clause-raised
 returns-then-i-to-clause-raised c = (first (goal.at.returns-then-i-to-clause-raised c).After-join).raised
