@@ -2,6 +2,7 @@
 use Rattle.std.proofs.Common.{◌≡◌, inl, inr, ℕ, ◌+◌, ◌≤◌, Bool, true, false, List, [], ◌∷◌, length, take, Some, None, refl, sym, ap, subst, ◌∙◌, arith}
 use Rattle.std.proofs.Math.Bool.{not}
 use Rattle.std.proofs.lemmas.Bool.{cases_lt}
+use Rattle.net_core.specs.Clashes.{Agrees, GoesRoundOver}
 use Rattle.net_core.specs.Firsts.{IsFirst}
 use Rattle.net_core.specs.Fits.{EveryLink}
 use Rattle.net_core.specs.Nets.{PlainNet}
@@ -16,7 +17,6 @@ use Rattle.evidence_check.specs.declared.refusal.Reason.TheVariants.{Number, Siz
 use Rattle.evidence_check.specs.declared.walks.Reached.{Reached}
 use Rattle.evidence_check.specs.Following.{LeadsTo}
 use Rattle.evidence_check.specs.Refusals.{GoOn, IsNoRound}
-use Rattle.evidence_check.specs.Supported.{Agrees, GoesRoundOver}
 use Rattle.evidence_check.proofs.Proving.{goes_less}
 
 module _ (net : PlainNet) where

@@ -1,14 +1,12 @@
 -- Marks of links: which are set once some links were marked.
-use Rattle.std.proofs.Common.{◌≡◌, ◌↔◌, ◌⊎◌, inl, inr, ℕ, zero, suc, ◌+◌, ◌<◌, Bool, true, false, List, [], ◌∷◌, ◌++◌, length, take, get_or, replicate, slice_index_or, Some, refl, sym, ap, subst, ◌∙◌, arith}
+use Rattle.std.proofs.Common.{◌≡◌, ◌↔◌, ◌⊎◌, inl, inr, ℕ, ◌<◌, Bool, true, false, List, replicate, slice_index_or, refl, sym, ◌∙◌}
 use Rattle.std.specs.List.{Contains}
 use Rattle.std.proofs.Math.Bool.{beq, not}
-use Rattle.std.proofs.lemmas.List.{get_or-replicate, take_more}
-use Rattle.std.proofs.lemmas.List.Elements.{Contains-append_cases, Contains-append_left, Contains-append_right}
+use Rattle.std.proofs.lemmas.List.{get_or-replicate}
 use Rattle.net_core.specs.Limits.{max_links}
-use Rattle.net_core.specs.Steps.{link_of}
 use Rattle.net_core.specs.Walks.{GoesOver}
 use Rattle.net_core.specs.declared.step.Step.{Step}
-use Rattle.evidence_check.specs.Supported.{Agrees}
+use Rattle.net_core.specs.Clashes.{Agrees}
 
 -- exactly the links of a set are marked
 abbrev pub AreMarked : List Bool → (ℕ → Type 0) → Type 0

@@ -2,7 +2,7 @@
 use Rattle.std.specs.Prelude.{◌≡◌, ◌≢◌, ◌⊎◌, ℕ, ◌+◌, ◌*◌, ◌<◌, ◌≤◌, true, false, List, length, take, Option, None, Some}
 use Rattle.std.specs.List.{Contains}
 use Rattle.net_core.specs.Atoms.{atoms_of}
-use Rattle.net_core.specs.Clashes.{Others}
+use Rattle.net_core.specs.Clashes.{Agrees, GoesRoundOver, Others}
 use Rattle.net_core.specs.Firsts.{IsFirst, IsFirstPair}
 use Rattle.net_core.specs.Fits.{EveryLink, KeepsCalendar, KeepsLink, RanksFit, StartsFirst}
 use Rattle.net_core.specs.Nets.{PlainNet, intervals, points}
@@ -17,7 +17,7 @@ use Rattle.evidence_format.specs.Evidence.{PlainEvidence, timeline, entails, cou
 use Rattle.evidence_check.specs.declared.refusal.Reason.{Reason}
 use Rattle.evidence_check.specs.declared.refusal.Reason.TheVariants.{Number, Size, Order, Link, Calendar, Step, End, Weak, Cited, Holds}
 use Rattle.evidence_check.specs.declared.refusal.Refused.{Refused}
-use Rattle.evidence_check.specs.Supported.{Agrees, AreIntervals, AreLinks, FitsOthers, GoesRoundOver, IsSupported, Proves, atom_at, cite_at, ranks_at, walk_at}
+use Rattle.evidence_check.specs.Supported.{AreIntervals, AreLinks, FitsOthers, IsSupported, Proves, atom_at, cite_at, ranks_at, walk_at}
 
 -- there are two ranks for each interval
 abbrev pub HasSize : PlainNet → List ℕ → Type 0

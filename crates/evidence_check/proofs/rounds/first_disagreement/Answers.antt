@@ -1,6 +1,6 @@
 use Rattle.std.proofs.Common.{◌<◌, false, slice_index_or, below_more, arith}
 use Rattle.net_core.specs.Limits.{max_links}
-use Rattle.evidence_check.specs.Supported.{Agrees}
+use Rattle.net_core.specs.Clashes.{Agrees}
 use Rattle.evidence_check.proofs.Marks.{alike, are_alike, are_apart}
 use Rattle.evidence_check.proofs.rounds.first_disagreement.Goals as goal
 

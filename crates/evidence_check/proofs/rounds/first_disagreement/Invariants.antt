@@ -1,5 +1,5 @@
 use Rattle.std.proofs.Common.{◌≡◌, ℕ, ◌<◌, length}
-use Rattle.evidence_check.specs.Supported.{Agrees}
+use Rattle.net_core.specs.Clashes.{Agrees}
 use Rattle.evidence_check.proofs.rounds.first_disagreement.Given as goal
 
 -- the walk agrees with the cites on the links so far
