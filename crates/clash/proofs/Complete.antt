@@ -23,7 +23,7 @@ use Rattle.order_closure.specs.declared.cell.Cell.TheVariants.{Free, Weak, Stric
 use Rattle.order_closure.proofs.Adding.{new_closed}
 use Rattle.order_closure.proofs.Central.{always_stands, order_says}
 use Rattle.order_closure.proofs.Joining.{strength-stronger}
-use Rattle.order_closure.proofs.Ranking.{counts_kept}
+use Rattle.order_closure.proofs.Ranking.{count_below_n, counts_kept}
 use Rattle.order_closure.proofs.Raising.{raised_closed, raised_kept}
 use Rattle.order_closure.proofs.Tables.{new_other}
 use Rattle.clash.specs.Walks.{AlwaysWith, ClashesGoRound, WalksSayAll}
@@ -230,14 +230,28 @@ module _ (net : PlainNet) (test : ℕ → Bool) (is : IsNet net) where
       let said = of_every_step (IsSaid cell) net step a is goes.0 has.said a goes in
       order_says (cell a.from a.to) a.strict (t a.from) (t a.to) said (kept a.from a.to range.0 range.1))
 
-  -- where none fits some walk goes round
-  pub goes_round : Clashes net (Passed test) → (steps : List Step) × GoesRound net (Passed test) steps
+  -- some timeline fits, and none of its ranks is above the number of points, or some walk goes round
+  pub fits_or_goes_round : ((t : Timeline) × FitsWith net (Passed test) t × ((p : ℕ) → p < points net → t p < points net)) ⊎ ((steps : List Step) × GoesRound net (Passed test) steps)
   unfolding Result
-  goes_round none = elim (result (every_step net)) [
+  fits_or_goes_round = elim (result (every_step net)) [
     | inl good ↦
         let t = before_count (points net) good.0 in
-        absurd (none t (kept_fits good.0 good.1 t (counts_kept (points net) good.0 good.1.closed)))
-    | inr bad ↦ (bad.2.0, (bad.0, bad.2.1))
+        inl (t, kept_fits good.0 good.1 t (counts_kept (points net) good.0 good.1.closed), count_below_n (points net) good.0 good.1.closed)
+    | inr bad ↦ inr (bad.2.0, (bad.0, bad.2.1))
+  ]
+
+  -- where none fits some walk goes round
+  pub goes_round : Clashes net (Passed test) → (steps : List Step) × GoesRound net (Passed test) steps
+  goes_round none = elim fits_or_goes_round [
+    | inl fits ↦ absurd (none fits.0 fits.1)
+    | inr round ↦ round
+  ]
+
+  -- where some timeline fits, one does with ranks below the number of points
+  pub small_timeline : (u : Timeline) → FitsWith net (Passed test) u → (t : Timeline) × FitsWith net (Passed test) t × ((p : ℕ) → p < points net → t p < points net)
+  small_timeline u fits = elim fits_or_goes_round [
+    | inl small ↦ small
+    | inr round ↦ absurd (round_clashes net (Passed test) round.0 round.1 u fits)
   ]
 
   -- what holds in all timelines that fit has a walk, where some timeline fits

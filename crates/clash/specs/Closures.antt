@@ -1,17 +1,22 @@
 -- The closure of a net.
 use Rattle.std.specs.Prelude.{◌≡◌, ℕ, ◌<◌, ◌↔◌, ⊤, Bool, true, false}
 use Rattle.net_core.specs.Atoms.{IsInOrder}
-use Rattle.net_core.specs.Fits.{Fits}
+use Rattle.net_core.specs.Fits.{Fits, FitsWith}
 use Rattle.net_core.specs.Nets.{PlainNet, points}
 use Rattle.net_core.specs.Relations.{Timeline}
 use Rattle.order_closure.specs.Tables.{Keeps, Table, cell_at}
 use Rattle.order_closure.specs.declared.cell.Cell.TheVariants.{Strict, Weak}
+use Rattle.clash.specs.Minimal.{IsProvedClash}
 use Rattle.clash.specs.declared.closure.CloseFault.{CloseFault}
 use Rattle.clash.specs.declared.closure.CloseFault.TheVariants as faults
 
 -- point p is before point q in every timeline that fits the net
 abbrev pub Always : PlainNet → Bool → ℕ → ℕ → Type 0
 Always net strict p q = (t : Timeline) → Fits net t → IsInOrder strict (t p) (t q)
+
+-- none of the links
+abbrev pub NoLink : ℕ → Type 0
+NoLink k = ⊥
 
 -- no timeline fits the net
 abbrev pub HasNoTimeline : PlainNet → Type 0
@@ -25,7 +30,12 @@ pub record IsClosureOf (net : PlainNet) (table : Table) : Type 0 where
   pub weak : (p q : ℕ) → p < points net → q < points net
       → (cell_at table p q ≡ Weak) ↔ (Always net false p q × ¬ Always net true p q)
 
--- a clash is told only where no timeline fits
+-- The timelines that keep the table are those that fit with no links.
+pub record IsUnlinked (net : PlainNet) (table : Table) : Type 0 where
+  pub size : table.points ≡ points net
+  pub keeps : (t : Timeline) → Keeps table t ↔ FitsWith net NoLink t
+
+-- a clash is told only where no timeline fits, and it is a minimal one
 abbrev pub TellsClash : PlainNet → CloseFault → Type 0
-TellsClash net (faults.Clash clash) = HasNoTimeline net
+TellsClash net (faults.Clash clash) = HasNoTimeline net × IsProvedClash net clash
 TellsClash net faults.Memory = ⊤

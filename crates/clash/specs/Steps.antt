@@ -1,12 +1,10 @@
 -- What is added to a table, step by step.
-use Rattle.std.specs.Prelude.{◌≡◌, ℕ, ◌<◌, ◌↔◌, ⊤, Result, Ok, Err}
+use Rattle.std.specs.Prelude.{◌≡◌, ℕ, ◌<◌, ◌↔◌, Result, Ok, Err, length}
 use Rattle.net_core.specs.Fits.{KeepsCalendar, KeepsLink, StartsFirst}
 use Rattle.net_core.specs.Nets.{PlainNet, intervals, points}
 use Rattle.net_core.specs.Relations.{Timeline}
 use Rattle.order_closure.specs.Tables.{Keeps, Table}
-use Rattle.std.specs.Prelude.{length}
-use Rattle.clash.specs.declared.closure.CloseFault.{CloseFault}
-use Rattle.clash.specs.declared.closure.CloseFault.TheVariants as faults
+use Rattle.order_closure.specs.declared.table.WouldClash.{WouldClash}
 
 -- each interval starts before it ends
 abbrev pub KeepsSpans : PlainNet → Timeline → Type 0
@@ -28,8 +26,17 @@ Adds IsTrue old new = (new.points ≡ old.points) × ((t : Timeline) → Keeps n
 abbrev pub Excludes : (Timeline → Type 0) → Table → Type 0
 Excludes IsTrue old = (t : Timeline) → Keeps old t → IsTrue t → ⊥
 
--- it was added, or it would clash, unless out of memory
-abbrev pub AddsOrClashes : (Timeline → Type 0) → Table → Table → Result Unit CloseFault → Type 0
+-- it was added, or it would clash
+abbrev pub AddsOrClashes : (Timeline → Type 0) → Table → Table → Result Unit WouldClash → Type 0
 AddsOrClashes IsTrue old new (Ok done) = Adds IsTrue old new
-AddsOrClashes IsTrue old new (Err (faults.Clash clash)) = Excludes IsTrue old
-AddsOrClashes IsTrue old new (Err faults.Memory) = ⊤
+AddsOrClashes IsTrue old new (Err fault) = Excludes IsTrue old
+
+-- each link before link k holds
+abbrev pub KeepsLinksBefore : PlainNet → ℕ → Timeline → Type 0
+KeepsLinksBefore net k t = (j : ℕ) → j < k → KeepsLink net t j
+
+-- Some timelines keep the table and the links before link k, and that link holds in none of them.
+pub record IsFirstExcluded (net : PlainNet) (table : Table) (k : ℕ) : Type 0 where
+  pub link : k < length net.links
+  pub before : (t : Timeline) × Keeps table t × KeepsLinksBefore net k t
+  pub excluded : (t : Timeline) → Keeps table t → KeepsLinksBefore net k t → KeepsLink net t k → ⊥

@@ -3,12 +3,11 @@ ghost use Rattle.clash.specs.Steps.{AddsOrClashes};
 ghost use Rattle.net_core.specs.Atoms.{Satisfies};
 ghost use Rattle.std.specs.Prelude.{◌<◌};
 
-use crate::closure::{Clash, CloseFault};
 use net_core::Atom;
-use order_closure::Closed;
+use order_closure::{Closed, WouldClash};
 
 /// Adds an atom, unless the table gives it.
-pub fn insert(table: &mut Closed, atom: Atom) -> Result<(), CloseFault>
+pub fn insert(table: &mut Closed, atom: Atom) -> Result<(), WouldClash>
     requires from { atom.from < table.old.points }
     requires to { atom.to < table.old.points }
     ensures { AddsOrClashes (λ t. Satisfies t atom) table.old table.new result }
@@ -16,8 +15,5 @@ pub fn insert(table: &mut Closed, atom: Atom) -> Result<(), CloseFault>
     if table.cell(atom.from, atom.to).gives(atom.strict) {
         return Ok(());
     }
-    match table.add(atom) {
-        Ok(()) => Ok(()),
-        Err(_) => Err(CloseFault::Clash(Clash)),
-    }
+    table.add(atom)
 }

@@ -6,8 +6,13 @@ mod closure;
 mod insert;
 mod laws;
 mod links;
+mod minimal;
+mod raising;
+mod round;
+mod spares;
 #[cfg(test)]
 mod tests;
 
-pub use closure::{Clash, CloseFault, close};
+pub use closure::{CloseFault, close};
 pub use laws::{clashes_go_round, walks_say_all};
+pub use minimal::Clash;

@@ -1,19 +1,18 @@
 //! Adding the spans of intervals, and the links between them.
-ghost use Rattle.clash.specs.Steps.{AddsOrClashes, KeepsLinks, KeepsSpans};
+ghost use Rattle.clash.specs.Steps.{Adds, AddsOrClashes, IsFirstExcluded, KeepsLinks, KeepsSpans};
 ghost use Rattle.net_core.specs.Atoms as spec;
 ghost use Rattle.net_core.specs.Atoms.{atoms_in, before};
-ghost use Rattle.net_core.specs.Nets.{IsNet, link_at, points};
+ghost use Rattle.net_core.specs.Nets.{link_at, points};
 ghost use Rattle.order_closure.specs.Tables.{AreInRange, SatisfiesAll};
 ghost use Rattle.std.specs.List.{slice_get};
-ghost use Rattle.std.specs.Prelude.{length, ◌*◌, ◌+◌, ◌<◌, ◌^◌, ◌≡◌};
+ghost use Rattle.std.specs.Prelude.{IfErr, OnOk, length, ◌*◌, ◌+◌, ◌<◌, ◌^◌, ◌≡◌};
 
-use crate::closure::CloseFault;
 use crate::insert::insert;
 use net_core::{Atom, Atoms, Net, atoms_of};
-use order_closure::Closed;
+use order_closure::{Closed, WouldClash};
 
 /// Adds that each interval starts before it ends.
-pub fn add_spans(table: &mut Closed, net: &Net) -> Result<(), CloseFault>
+pub fn add_spans(table: &mut Closed, net: &Net) -> Result<(), WouldClash>
     requires { table.old.points ≡ points net.now }
     ensures { AddsOrClashes (KeepsSpans net.now) table.old table.new result }
 {
@@ -24,7 +23,7 @@ pub fn add_spans(table: &mut Closed, net: &Net) -> Result<(), CloseFault>
 }
 
 /// The order of the start and the end of an interval.
-fn span_order(interval: u32) -> Atom
+pub fn span_order(interval: u32) -> Atom
     requires { interval < 2 ^ 31 }
     ensures { result ≡ before (2 * interval) (2 * interval + 1) }
 {
@@ -35,30 +34,40 @@ fn span_order(interval: u32) -> Atom
     }
 }
 
+/// The first link that clashes with those before it.
+#[derive(Clone, Copy)]
+pub struct FirstClash {
+    pub link: u32,
+}
+
 /// Adds that each link holds.
-pub fn add_links(table: &mut Closed, net: &Net) -> Result<(), CloseFault>
+pub fn add_links(table: &mut Closed, net: &Net) -> Result<(), FirstClash>
     requires { table.old.points ≡ points net.now }
-    ensures { AddsOrClashes (KeepsLinks net.now) table.old table.new result }
+    ensures ok { OnOk result (Adds (KeepsLinks net.now) table.old table.new) }
+    ensures err { IfErr result (λ first. IsFirstExcluded net.now table.old first.link) }
 {
-    for k in 0..net.links() {
-        add_atoms(table, atoms_of_link(net, k))?;
+    for link in 0..net.links() {
+        prove!(table.points() == 2 * net.intervals());
+        if add_atoms(table, atoms_of_link(net, link)).is_err() {
+            return Err(FirstClash { link });
+        }
     }
     Ok(())
 }
 
 /// The orders of points that the link of this number is.
-fn atoms_of_link(net: &Net, k: u32) -> Atoms
-    requires net { IsNet net.now }
-    requires k { k < length net.now.links }
+pub fn atoms_of_link(net: &Net, k: u32) -> Atoms
+    requires { k < length net.now.links }
     ensures atoms { let link = link_at net.now k in atoms_in result ≡ spec.atoms_of link.rel link.a link.b }
     ensures in_range { AreInRange (points net.now) (atoms_in result) }
 {
+    prove!(k < net.links());
     let link = net.link(k);
     atoms_of(link.rel, link.a, link.b)
 }
 
 /// Adds the orders of points that a relation is.
-fn add_atoms(table: &mut Closed, atoms: Atoms) -> Result<(), CloseFault>
+fn add_atoms(table: &mut Closed, atoms: Atoms) -> Result<(), WouldClash>
     requires { AreInRange table.old.points (atoms_in atoms) }
     ensures { AddsOrClashes (SatisfiesAll (atoms_in atoms)) table.old table.new result }
 {
@@ -69,7 +78,7 @@ fn add_atoms(table: &mut Closed, atoms: Atoms) -> Result<(), CloseFault>
 }
 
 /// The order of this number, of those that a relation is.
-fn nth(atoms: &Atoms, number: u32) -> Atom
+pub fn nth(atoms: &Atoms, number: u32) -> Atom
     requires { number < length (atoms_in atoms.now) }
     ensures { slice_get (atoms_in atoms.now) number ≡ Some result }
 {

@@ -1,0 +1,66 @@
+-- Minimal clashes, each with a walk and timelines that prove it.
+use Rattle.std.specs.Prelude.{◌≡◌, ◌↔◌, ℕ, ◌*◌, ◌+◌, ◌<◌, ◌≤◌, List, [], length, slice_index, slice_index_or}
+use Rattle.std.specs.List.{Contains}
+use Rattle.std.specs.List.Sorted.{IsStrictlyIncreasing}
+use Rattle.net_core.specs.Clashes.{Clashes, GoesRoundOver, IsMinimalClash, Others}
+use Rattle.net_core.specs.Fits.{FitsWith}
+use Rattle.net_core.specs.Nets.{PlainNet, lower, points, upper}
+use Rattle.net_core.specs.Ranks.{timeline_of}
+use Rattle.net_core.specs.Relations.{Timeline}
+use Rattle.net_core.specs.Walks.{GoesOver, GoesRound, Kept}
+use Rattle.order_closure.specs.Timelines.{IsLeast}
+use Rattle.clash.specs.declared.minimal.Clash.{Clash}
+use Rattle.walks.specs.Dates.{AreDates}
+use Rattle.clash.specs.declared.round.Round.{Round}
+use Rattle.clash.specs.declared.spares.Dates.{Dates}
+
+-- some timeline fits with the links of a set
+abbrev pub HasTimeline : PlainNet → (ℕ → Type 0) → Type 0
+HasTimeline net Chosen = (t : Timeline) × FitsWith net Chosen t
+
+-- the links before link k, and those up to it
+abbrev pub Before : ℕ → ℕ → Type 0
+Before k j = j < k
+
+abbrev pub UpTo : ℕ → ℕ → Type 0
+UpTo k j = j ≤ k
+
+-- some timeline fits with the links before link k, and none with these and link k
+pub record IsFirstClash (net : PlainNet) (k : ℕ) : Type 0 where
+  pub link : k < length net.links
+  pub before : HasTimeline net (Before k)
+  pub clashes : Clashes net (UpTo k)
+
+-- A walk goes round over exactly the links that are marked, in at most twice as many steps as there are points.
+pub record IsRound (net : PlainNet) (round : Round) : Type 0 where
+  pub size : length round.over.items ≡ length net.links
+  pub goes : GoesRound net (Kept round.over.items) round.walk
+  pub over : (k : ℕ) → k < length net.links → Kept round.over.items k ↔ GoesOver round.walk k
+  pub short : length round.walk ≤ 2 * points net
+
+-- a timeline fits with the links of a set but one
+abbrev pub IsSpared : PlainNet → (ℕ → Type 0) → ℕ → Type 0
+IsSpared net Chosen k = HasTimeline net (Others Chosen k)
+
+-- The ranks are the least with which the links of a set but one hold: there are two for each interval, and each is below the number of points.
+pub record IsSpare (net : PlainNet) (Chosen : ℕ → Type 0) (k : ℕ) (ranks : List ℕ) : Type 0 where
+  pub size : length ranks ≡ points net
+  pub least : IsLeast (points net) (FitsWith net (Others Chosen k)) (timeline_of ranks)
+  pub small : (p : ℕ) → p < points net → slice_index ranks p < points net
+
+-- there is a spare for each cite, in order
+abbrev pub AreSpares : PlainNet → (ℕ → Type 0) → List ℕ → List (List ℕ) → Type 0
+AreSpares net Chosen cites spares = (length spares ≡ length cites) × ((i : ℕ) → i < length cites → IsSpare net Chosen (slice_index cites i) (slice_index_or spares i []))
+
+-- Links that rise and are a minimal clash, a walk that goes round over exactly these, in at most twice as many steps as there are points, and for each of them the least ranks that fit with the others.
+pub record IsProvedClash (net : PlainNet) (clash : Clash) : Type 0 where
+  pub rising : IsStrictlyIncreasing clash.cites
+  pub minimal : IsMinimalClash net clash.cites
+  pub round : GoesRoundOver net clash.cites clash.walk
+  pub short : length clash.walk ≤ 2 * points net
+  pub spares : AreSpares net (Contains clash.cites) clash.cites clash.spares
+
+-- the points that the calendar gives numbers, on each side
+pub record AreOf (net : PlainNet) (dates : Dates) : Type 0 where
+  pub uppers : AreDates (upper net) (points net) dates.uppers.items
+  pub lowers : AreDates (lower net) (points net) dates.lowers.items

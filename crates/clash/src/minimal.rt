@@ -1,0 +1,86 @@
+//! Minimal clashes.
+ghost use Rattle.clash.specs.Minimal.{IsFirstClash, IsProvedClash, IsRound, IsSpared, UpTo};
+ghost use Rattle.net_core.specs.Walks.{Kept};
+ghost use Rattle.std.specs.List.{Contains};
+ghost use Rattle.std.specs.List.Sorted.{IsStrictlyIncreasing};
+ghost use Rattle.std.specs.Prelude.{IfOk, length, ℕ, ◌<◌, ◌≡◌, ◌≤◌, ◌↔◌};
+
+use crate::round::{Round, round_over, thin};
+use crate::spares::spares_of;
+use net_core::{List, Memory, Net, Ranks, Walk};
+use std::alloc::Global;
+
+/// Links that cannot all be true with the spans and the calendar, and of which any one can be left out so that the others
+/// can: a minimal unsatisfiable subset.
+#[derive(Drop)]
+pub struct Clash {
+    /// The numbers of the links, rising.
+    pub cites: List<u32>,
+    /// A walk from a point to itself with a strict step, over exactly these links. It has at most twice as many steps as
+    /// there are points.
+    pub walk: Walk,
+    /// For each of these links, in their order, the least ranks that fit with the others.
+    pub spares: List<Ranks>,
+}
+
+/// The clash of some links up to this one, the first that clashes with those before it.
+///
+/// # Errors
+///
+/// Out of memory.
+pub fn clash_up_to(alloc: Global, net: &Net, link: u32) -> Result<Clash, Memory>
+    requires { IsFirstClash net.now link }
+    ensures { IfOk result (IsProvedClash net.now) }
+{
+    let first = first_round(alloc, net, link)?;
+    let round = thin(alloc, net, first, link)?;
+    let cites = marked(alloc, &round.over)?;
+    let spares = spares_of(alloc, net, &round, cites.as_slice())?;
+    Ok(Clash {
+        cites,
+        walk: round.walk,
+        spares,
+    })
+}
+
+/// A walk that goes round over links up to this one.
+fn first_round(alloc: Global, net: &Net, link: u32) -> Result<Round, Memory>
+    requires { IsFirstClash net.now link }
+    ensures round { IfOk result (IsRound net.now) }
+    ensures spared { IfOk result (λ round. IsSpared net.now (Kept round.over.items) link) }
+{
+    let keep = up_to(alloc, net, link)?;
+    match round_over(alloc, net, &keep, link)? {
+        Some(walk) => Round::new(alloc, net, walk),
+        None => unreachable!(),
+    }
+}
+
+/// A mark for each link: those up to this one are kept.
+fn up_to(alloc: Global, net: &Net, link: u32) -> Result<Vec<bool>, Memory>
+    ensures size { IfOk result (λ keep. length keep.items ≡ length net.now.links) }
+    ensures kept { IfOk result (λ keep. (k : ℕ) → k < length net.now.links → Kept keep.items k ↔ UpTo link k) }
+{
+    let mut keep = Vec::new(alloc);
+    for k in 0..net.links() {
+        if keep.push(k <= link).is_err() {
+            return Err(Memory);
+        }
+    }
+    Ok(keep)
+}
+
+/// The numbers of the links that are marked.
+fn marked(alloc: Global, marks: &[bool]) -> Result<List<u32>, Memory>
+    requires { length marks.now ≤ 4096 }
+    ensures rising { IfOk result IsStrictlyIncreasing }
+    ensures exact { IfOk result (λ links. (k : ℕ) → Contains links k ↔ Kept marks.now k) }
+{
+    let mut links = List::new(alloc);
+    for k in 0..marks.len() {
+        if marks[k] {
+            links.push(k as u32)?;
+        }
+    }
+    Ok(links)
+}

@@ -1,0 +1,103 @@
+//! Walks that go round, and the links that they go over.
+ghost use Rattle.clash.specs.Minimal.{IsRound, IsSpared};
+ghost use Rattle.net_core.specs.Fits.{EveryLink};
+ghost use Rattle.net_core.specs.Nets.{points};
+ghost use Rattle.net_core.specs.Walks.{GoesOver, GoesRound, Kept};
+ghost use Rattle.net_core.specs.declared.step.Step.{Step as StepOf};
+ghost use Rattle.std.specs.Prelude.{IfNone, IfOk, IfSome, List, OnOk, false, length, ℕ, ◌*◌, ◌<◌, ◌≡◌, ◌≢◌, ◌≤◌};
+
+use crate::links::{atoms_of_link, nth};
+use net_core::{Memory, Net, Walk, mark_steps};
+use std::alloc::Global;
+use walks::walk;
+
+/// A walk from a point to itself with a strict step, and a mark for each link that it goes over.
+#[derive(Drop)]
+pub struct Round {
+    pub walk: Walk,
+    pub over: Vec<bool>,
+}
+
+impl Round {
+    /// A walk with the marks of the links that it goes over.
+    pub fn new(alloc: Global, net: &Net, walk: Walk) -> Result<Round, Memory>
+        requires goes { GoesRound net.now EveryLink walk }
+        requires short { length walk ≤ 2 * points net.now }
+        ensures round { IfOk result (IsRound net.now) }
+        ensures walk { IfOk result (λ round. round.walk ≡ walk) }
+    {
+        let Ok(mut over) = vec![in alloc; false; net.links() as usize] else {
+            return Err(Memory);
+        };
+        mark_steps(&mut over, walk.as_slice());
+        Ok(Round { walk, over })
+    }
+
+    /// Takes another walk, that does not go over a link, where there is one over the others. Another link is needed:
+    /// without it some timeline fits.
+    fn leave_out(&mut self, alloc: Global, net: &Net, link: u32, needed: u32) -> Result<(), Memory>
+        requires round { IsRound net.now self.old }
+        requires link { Kept self.old.over.items link }
+        requires needed { needed < length net.now.links }
+        requires other { link ≢ needed }
+        requires spared { IsSpared net.now (Kept self.old.over.items) needed }
+        ensures round { OnOk result (IsRound net.now self.new) }
+        ensures fewer { OnOk result ((k : ℕ) → Kept self.new.over.items k → Kept self.old.over.items k) }
+        ensures spared { OnOk result (Kept self.new.over.items link → IsSpared net.now (Kept self.new.over.items) link) }
+    {
+        self.over[link as usize] = false;
+        match round_over(alloc, net, &self.over, needed)? {
+            Some(walk) => *self = Round::new(alloc, net, walk)?,
+            None => self.over[link as usize] = true,
+        }
+        Ok(())
+    }
+}
+
+/// Leaves out each link without which some walk still goes round. One of them is needed: without it some timeline fits.
+///
+/// # Errors
+///
+/// Out of memory.
+pub fn thin(alloc: Global, net: &Net, first: Round, needed: u32) -> Result<Round, Memory>
+    requires round { IsRound net.now first }
+    requires needed { needed < length net.now.links }
+    requires spared { IsSpared net.now (Kept first.over.items) needed }
+    ensures round { IfOk result (IsRound net.now) }
+    ensures spared { IfOk result (λ round. (k : ℕ) → Kept round.over.items k → IsSpared net.now (Kept round.over.items) k) }
+{
+    let mut round = first;
+    for link in 0..net.links() {
+        if link != needed && round.over[link as usize] {
+            round.leave_out(alloc, net, link, needed)?;
+        }
+    }
+    Ok(round)
+}
+
+/// A walk that goes round over links that are kept. None comes only where no such walk goes over the link of this number.
+///
+/// # Errors
+///
+/// Out of memory.
+pub fn round_over(
+    alloc: Global,
+    net: &Net,
+    keep: &[bool],
+    link: u32,
+) -> Result<Option<Walk>, Memory>
+    requires keep { length keep.now ≡ length net.now.links }
+    requires link { link < length net.now.links }
+    ensures some { IfOk result (λ found. IfSome found (λ steps. GoesRound net.now (Kept keep.now) steps × (length steps ≤ 2 * points net.now))) }
+    ensures none { IfOk result (λ found. IfNone found ((steps : List StepOf) → GoesRound net.now (Kept keep.now) steps → GoesOver steps link → ⊥)) }
+{
+    let atoms = atoms_of_link(net, link);
+    for number in 0..atoms.count() {
+        let point = nth(&atoms, number).from;
+        let found = walk(alloc, net, keep, point, point, true)?;
+        if found.is_some() {
+            return Ok(found);
+        }
+    }
+    Ok(None)
+}
