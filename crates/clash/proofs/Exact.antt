@@ -1,6 +1,6 @@
 -- A closed table that is kept by the timelines that fit a net.
-use Rattle.std.proofs.Common.{◌≡◌, ◌↔◌, ℕ, ◌<◌, ◌≤◌, Bool, true, false, Err, refl, arith}
-use Rattle.net_core.specs.Fits.{Fits}
+use Rattle.std.proofs.Common.{◌≡◌, ◌↔◌, ℕ, ◌<◌, ◌≤◌, Bool, true, false, refl, arith}
+use Rattle.net_core.specs.Fits.{Fits, FitsWith}
 use Rattle.net_core.specs.Nets.{PlainNet, points}
 use Rattle.net_core.specs.Relations.{Timeline}
 use Rattle.order_closure.specs.Cells.{Says, order, strength}
@@ -10,10 +10,9 @@ use Rattle.order_closure.specs.declared.cell.Cell.{Cell}
 use Rattle.order_closure.specs.declared.cell.Cell.TheVariants.{Free, Strict, Weak}
 use Rattle.order_closure.proofs.Central.{always_stands, order_says}
 use Rattle.order_closure.proofs.Ranking.{counts_kept, strict_from, strict_says}
-use Rattle.clash.specs.Closures.{Always, IsClosureOf, TellsClash}
-use Rattle.clash.specs.Steps.{Adds, AddsOrClashes, KeepsDates, KeepsLinks, KeepsSpans}
-use Rattle.clash.specs.declared.closure.CloseFault.{CloseFault}
-use Rattle.clash.specs.declared.closure.CloseFault.TheVariants as faults
+use Rattle.clash.specs.Closures.{Always, HasNoTimeline, IsClosureOf, NoLink}
+use Rattle.clash.specs.Minimal.{IsFirstClash}
+use Rattle.clash.specs.Steps.{Adds, IsFirstExcluded, KeepsDates, KeepsLinks, KeepsSpans}
 
 -- a cell that says something is Weak or Strict
 weak_or_strict : (x : Cell) → 1 ≤ strength x → ¬ (x ≡ Strict) → x ≡ Weak
@@ -55,27 +54,40 @@ module _ (net : PlainNet) (table : Table) (closed : IsClosed table) (size : tabl
   pub one_fits : (t : Timeline) × Fits net t
   one_fits = let t = before_count table.points (cell_at table) in (t, (keeps t).0 (counts_kept table.points (cell_at table) closed))
 
-module _ (net : PlainNet) (none : Table) (all : (t : Timeline) → Keeps none t) where
-  module _ (spanned : Table) (spans : Adds (KeepsSpans net) none spanned) where
-    -- a clash of the links
-    pub links_clash : (last : Table) (fault : CloseFault) → AddsOrClashes (KeepsLinks net) spanned last (Err fault) → TellsClash net fault
-    links_clash last (faults.Clash clash) never = λ t fits. never t ((spans.1 t).1 (all t, fits.order)) (λ k lt. fits.links k lt tt)
-    links_clash last faults.Memory never = tt
+-- the timelines that keep the table of spans and dates are those that fit with no links
+pub unlinked : (net : PlainNet) (none spanned last : Table) → ((t : Timeline) → Keeps none t) → Adds (KeepsSpans net) none spanned → Adds (KeepsDates net) spanned last
+    → (t : Timeline) → Keeps last t ↔ FitsWith net NoLink t
+unlinked net none spanned last all spans dates t = (
+  λ kept.
+      let second = (dates.1 t).0 kept in
+      record { order = ((spans.1 t).0 second.0).1; links = λ k lt chosen. absurd chosen; calendar = second.1 },
+  λ fits. (dates.1 t).1 ((spans.1 t).1 (all t, fits.order), fits.calendar),
+)
 
-    module _ (linked : Table) (links : Adds (KeepsLinks net) spanned linked) where
-      -- a clash of the calendar
-      pub dates_clash : (last : Table) (fault : CloseFault) → AddsOrClashes (KeepsDates net) linked last (Err fault) → TellsClash net fault
-      dates_clash last (faults.Clash clash) never =
-          λ t fits. never t ((links.1 t).1 ((spans.1 t).1 (all t, fits.order), λ k lt. fits.links k lt tt)) fits.calendar
-      dates_clash last faults.Memory never = tt
+module _ (net : PlainNet) (table : Table) (fitting : (t : Timeline) → Keeps table t ↔ FitsWith net NoLink t) where
+  -- the timelines that keep the table with all links are those that fit
+  pub keeps_fits : (last : Table) → Adds (KeepsLinks net) table last → (t : Timeline) → Keeps last t ↔ Fits net t
+  keeps_fits last links t = (
+    λ kept.
+        let both = (links.1 t).0 kept in
+        let fits = (fitting t).0 both.0 in
+        record { order = fits.order; links = λ k lt any. both.1 k lt; calendar = fits.calendar },
+    λ fits. (links.1 t).1 ((fitting t).1 record { order = fits.order; links = λ k lt none. absurd none; calendar = fits.calendar }, λ k lt. fits.links k lt tt),
+  )
 
-      -- the timelines that keep the last table are those that fit
-      pub keeps_fits : (last : Table) → Adds (KeepsDates net) linked last → (t : Timeline) → Keeps last t ↔ Fits net t
-      keeps_fits last dates t = (
-        λ kept.
-            let third = (dates.1 t).0 kept in
-            let second = (links.1 t).0 third.0 in
-            let first = (spans.1 t).0 second.0 in
-            record { order = first.1; links = λ k lt any. second.1 k lt; calendar = third.1 },
-        λ fits. (dates.1 t).1 ((links.1 t).1 ((spans.1 t).1 (all t, fits.order), λ k lt. fits.links k lt tt), fits.calendar),
-      )
+  -- the first link that no timeline keeps with those before it is the first that clashes
+  pub first_clash : (k : ℕ) → IsFirstExcluded net table k → IsFirstClash net k
+  first_clash k first = record {
+    link = first.link;
+    before =
+        let t = first.before.0 in
+        let fits = (fitting t).0 first.before.1 in
+        (t, record { order = fits.order; links = λ j lt before. first.before.2 j before; calendar = fits.calendar });
+    clashes = λ t fits.
+        first.excluded t ((fitting t).1 record { order = fits.order; links = λ j lt none. absurd none; calendar = fits.calendar })
+        (λ j less. fits.links j (omega (arith, less, first.link)) (omega (arith, less))) (fits.links k first.link (omega arith));
+  }
+
+-- where a link clashes with those before it no timeline fits
+pub none_fits : (net : PlainNet) (k : ℕ) → IsFirstClash net k → HasNoTimeline net
+none_fits net k first t fits = first.clashes t record { order = fits.order; links = λ j lt up_to. fits.links j lt tt; calendar = fits.calendar }

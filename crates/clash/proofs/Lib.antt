@@ -4,3 +4,6 @@ pub mod LinkAtoms
 pub mod Steps
 pub mod EveryStep
 pub mod Complete
+pub mod Unlinked
+pub mod Rounds
+pub mod Marked

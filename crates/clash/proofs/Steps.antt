@@ -6,9 +6,8 @@ use Rattle.net_core.specs.Atoms.{Satisfies}
 use Rattle.net_core.specs.Relations.{Timeline}
 use Rattle.net_core.specs.declared.atom.Atom.{Atom}
 use Rattle.order_closure.specs.Tables.{Table}
+use Rattle.order_closure.specs.declared.table.WouldClash.{WouldClash}
 use Rattle.clash.specs.Steps.{Adds, AddsOrClashes}
-use Rattle.clash.specs.declared.closure.CloseFault.{CloseFault}
-use Rattle.clash.specs.declared.closure.CloseFault.TheVariants as faults
 
 -- something is true of all numbers below k
 abbrev pub Below : (ℕ → Timeline → Type 0) → ℕ → Timeline → Type 0
@@ -26,22 +25,20 @@ adds_more IsTrue k start now next so_far this = (
 )
 
 -- one thing more clashes, and so do all
-pub clashes_more : (IsTrue : ℕ → Timeline → Type 0) (k n : ℕ) (start now next last : Table) (fault : CloseFault) → k < n
+pub clashes_more : (IsTrue : ℕ → Timeline → Type 0) (k n : ℕ) (start now next last : Table) (fault : WouldClash) → k < n
     → Adds (Below IsTrue k) start now → AddsOrClashes (IsTrue k) now next (Err fault) → AddsOrClashes (Below IsTrue n) start last (Err fault)
-clashes_more IsTrue k n start now next last (faults.Clash clash) lt so_far none =
+clashes_more IsTrue k n start now next last fault lt so_far none =
     λ t kept all. none t ((so_far.1 t).1 (kept, λ j less. all j (omega arith))) (all k lt)
-clashes_more IsTrue k n start now next last faults.Memory lt so_far none = tt
 
 -- the same of something that is true where it is
-pub answer_same : (P Q : Timeline → Type 0) → ((t : Timeline) → P t ↔ Q t) → (start last : Table) (result : Result Unit CloseFault)
+pub answer_same : (P Q : Timeline → Type 0) → ((t : Timeline) → P t ↔ Q t) → (start last : Table) (result : Result Unit WouldClash)
     → AddsOrClashes P start last result → AddsOrClashes Q start last result
 answer_same P Q same start last (Ok done) adds =
     (adds.0, λ t. (λ kept. let both = (adds.1 t).0 kept in (both.0, (same t).0 both.1), λ both. (adds.1 t).1 (both.0, (same t).1 both.1)))
-answer_same P Q same start last (Err (faults.Clash clash)) none = λ t kept holds. none t kept ((same t).1 holds)
-answer_same P Q same start last (Err faults.Memory) none = tt
+answer_same P Q same start last (Err fault) none = λ t kept holds. none t kept ((same t).1 holds)
 
 -- the same where an atom is equal to another
-pub atom_same : (atom other : Atom) (start last : Table) (result : Result Unit CloseFault) → atom ≡ other
+pub atom_same : (atom other : Atom) (start last : Table) (result : Result Unit WouldClash) → atom ≡ other
     → AddsOrClashes (λ t. Satisfies t atom) start last result → AddsOrClashes (λ t. Satisfies t other) start last result
 atom_same atom other start last result same answer = subst (λ (a : Atom). AddsOrClashes (λ t. Satisfies t a) start last result) same answer
 

@@ -48,8 +48,9 @@ pub fn add_links(table: &mut Closed, net: &Net) -> Result<(), FirstClash>
 {
     for link in 0..net.links() {
         prove!(table.points() == 2 * net.intervals());
-        if add_atoms(table, atoms_of_link(net, link)).is_err() {
-            return Err(FirstClash { link });
+        match add_atoms(table, atoms_of_link(net, link)) {
+            Ok(()) => {}
+            Err(WouldClash) => return Err(FirstClash { link }),
         }
     }
     Ok(())

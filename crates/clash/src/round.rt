@@ -45,6 +45,7 @@ impl Round {
         ensures fewer { OnOk result ((k : ℕ) → Kept self.new.over.items k → Kept self.old.over.items k) }
         ensures spared { OnOk result (Kept self.new.over.items link → IsSpared net.now (Kept self.new.over.items) link) }
     {
+        prove!(needed < net.links());
         self.over[link as usize] = false;
         match round_over(alloc, net, &self.over, needed)? {
             Some(walk) => *self = Round::new(alloc, net, walk)?,
@@ -94,9 +95,8 @@ pub fn round_over(
     let atoms = atoms_of_link(net, link);
     for number in 0..atoms.count() {
         let point = nth(&atoms, number).from;
-        let found = walk(alloc, net, keep, point, point, true)?;
-        if found.is_some() {
-            return Ok(found);
+        if let Some(steps) = walk(alloc, net, keep, point, point, true)? {
+            return Ok(Some(steps));
         }
     }
     Ok(None)

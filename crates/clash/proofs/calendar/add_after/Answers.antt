@@ -22,7 +22,7 @@ pub returns-in_err-add_order : goal.returns-in_err-add_order
 returns-in_err-add_order c =
     let each = λ (k : ℕ) (t : Timeline). Follows c.args.upper (get_or c.args.lowers.now k no_date) t in
     let p = err_from_is_err_and c.from_residual.result c.from_residual.ensures.1 in
-    rw (p.1, p.2) (answer_same (Below each (length c.args.lowers.now)) (FollowsAll c.args.lowers.now c.args.upper)
+    rw p.1 (answer_same (Below each (length c.args.lowers.now)) (FollowsAll c.args.lowers.now c.args.upper)
     (all_below (Follows c.args.upper) c.args.lowers.now no_date) c.args.table.now c.add_order.new.table (Err c.in_err-add_order.field-0.0)
     (clashes_more each c.loop-lower.lower-index (length c.args.lowers.now) c.args.table.now c.loop-lower.table c.add_order.new.table c.add_order.new.table _
     (omega (arith, c.loop-lower-test.true)) c.loop-lower.invariant c.in_err-add_order.ensures))

@@ -23,7 +23,7 @@ pub returns-in_err-add_after : goal.returns-in_err-add_after
 returns-in_err-add_after c =
     let each = λ (k : ℕ) (t : Timeline). FollowsAll c.args.lowers.now (get_or c.args.uppers.now k no_date) t in
     let p = err_from_is_err_and c.from_residual.result c.from_residual.ensures.1 in
-    rw (p.1, p.2) (answer_same (Below each (length c.args.uppers.now)) (AllFollow c.args.uppers.now c.args.lowers.now)
+    rw p.1 (answer_same (Below each (length c.args.uppers.now)) (AllFollow c.args.uppers.now c.args.lowers.now)
     (all_below (FollowsAll c.args.lowers.now) c.args.uppers.now no_date) c.args.table.now c.add_after.new.table (Err c.in_err-add_after.field-0.0)
     (clashes_more each c.loop-upper.upper-index (length c.args.uppers.now) c.args.table.now c.loop-upper.table c.add_after.new.table c.add_after.new.table _
     (omega (arith, c.loop-upper-test.true)) c.loop-upper.invariant c.in_err-add_after.ensures))

@@ -35,7 +35,7 @@ returns-in_err-insert c =
     let same = added (goal.at.returns-in_err-insert c).After-nth in
     let fault = c.in_err-insert.field-0.0 in
     let p = err_from_is_err_and c.from_residual.result c.from_residual.ensures.1 in
-    rw (p.1, p.2) (answer_same (Below (Atoms atoms) (length atoms)) (SatisfiesAll atoms) (all_below (λ atom t. Satisfies t atom) atoms no_atom)
+    rw p.1 (answer_same (Below (Atoms atoms) (length atoms)) (SatisfiesAll atoms) (all_below (λ atom t. Satisfies t atom) atoms no_atom)
     c.args.table.now c.insert.new.table (Err fault)
     (clashes_more (Atoms atoms) c.loop-number.number (length atoms) c.args.table.now c.loop-number.table c.insert.new.table c.insert.new.table fault
     (omega arith) c.loop-number.invariant.so_far (atom_same _ _ c.loop-number.table c.insert.new.table (Err fault) same c.in_err-insert.ensures)))

@@ -5,8 +5,8 @@ use Rattle.clash.proofs.Steps.{Below}
 use Rattle.clash.proofs.links.add_links.Given as goal
 
 -- the links so far are added
-abbrev pub invariant-loop-k : goal.invariant-loop-k
-invariant-loop-k l = record {
-  end : l.k-end ≡ length l.net.links;
-  so_far : Adds (Below (λ k t. KeepsLink l.net t k) l.k) l.fn.table l.table;
+abbrev pub invariant-loop-link : goal.invariant-loop-link
+invariant-loop-link l = record {
+  end : l.link-end ≡ length l.net.links;
+  so_far : Adds (Below (λ k t. KeepsLink l.net t k) l.link) l.fn.table l.table;
 }

@@ -20,7 +20,7 @@ span i = before (2 * i) (2 * i + 1)
 pub returns-in_err-insert : goal.returns-in_err-insert
 returns-in_err-insert c =
     let p = err_from_is_err_and c.from_residual.result c.from_residual.ensures.1 in
-    rw (p.1, p.2) (clashes_more Spans c.loop-i.i (intervals c.args.net.now) c.args.table.now c.loop-i.table c.insert.new.table c.insert.new.table _
+    rw p.1 (clashes_more Spans c.loop-i.i (intervals c.args.net.now) c.args.table.now c.loop-i.table c.insert.new.table c.insert.new.table _
     (omega arith) c.loop-i.invariant.so_far (atom_same _ (span c.loop-i.i) c.loop-i.table c.insert.new.table (Err c.in_err-insert.field-0.0) c.span_order.ensures c.in_err-insert.ensures))
 
 pub loop-i-preserved : goal.loop-i-preserved

@@ -1,0 +1,140 @@
+-- Walks that go round, and sets of links that they clash by.
+use Rattle.std.proofs.Common.{◌≡◌, ◌↔◌, ◌⊎◌, inl, inr, ℕ, zero, suc, ◌<◌, ◌≤◌, Bool, true, false, List, [], ◌∷◌, length, Some, slice_index_or, slice_set, refl, sym, ap, subst, ◌∙◌, arith}
+use Rattle.std.specs.List.{Contains, slice_get}
+use Rattle.std.proofs.lemmas.Bool.{cases_eq, cases_lt}
+use Rattle.std.proofs.lemmas.Option.{get_or_from_slice_get, option_and_then_some, slice_get_within}
+use Rattle.net_core.specs.Atoms.{atoms_of}
+use Rattle.net_core.specs.Clashes.{Clashes, GoesRoundOver, IsMinimalClash, Others}
+use Rattle.net_core.specs.Fits.{EveryLink, FitsWith}
+use Rattle.net_core.specs.Nets.{IsNet, PlainNet, link_at, points}
+use Rattle.net_core.specs.Relations.{Timeline}
+use Rattle.net_core.specs.Steps.{atom_of, link_of}
+use Rattle.net_core.specs.Walks.{GoesOver, GoesRound, HasWalk, IsJoined, Kept}
+use Rattle.net_core.specs.declared.atom.Atom.{Atom}
+use Rattle.net_core.specs.declared.net.NetLink.{NetLink}
+use Rattle.net_core.specs.declared.rels.Rel.TheVariants as rel
+use Rattle.net_core.specs.declared.step.Step.{Step}
+use Rattle.net_core.specs.declared.step.Step.TheVariants.{Link, Span, Calendar}
+use Rattle.net_core.proofs.WalkLaws.{joined_more, joined_over, over_chosen, over_or_not, round_clashes, round_from}
+use Rattle.clash.specs.Minimal.{Before, HasTimeline, IsFirstClash, IsRound, IsSpared, UpTo}
+use Rattle.clash.specs.declared.round.Round.{Round}
+use Rattle.clash.proofs.Complete.{fits_or_goes_round}
+use Rattle.clash.proofs.Marked.{kept_within}
+
+-- ---- sets of links
+
+-- a timeline that fits with links fits with fewer of them
+pub fits_fewer : (net : PlainNet) (Chosen Fewer : ℕ → Type 0) (t : Timeline) → ((k : ℕ) → k < length net.links → Fewer k → Chosen k) → FitsWith net Chosen t → FitsWith net Fewer t
+fits_fewer net Chosen Fewer t fewer fits = record { order = fits.order; links = λ k lt chosen. fits.links k lt (fewer k lt chosen); calendar = fits.calendar }
+
+pub spared_fewer : (net : PlainNet) (Chosen Fewer : ℕ → Type 0) (k : ℕ) → ((j : ℕ) → Fewer j → Chosen j) → IsSpared net Chosen k → IsSpared net Fewer k
+spared_fewer net Chosen Fewer k fewer spared = (spared.0, fits_fewer net (Others Chosen k) (Others Fewer k) spared.0 (λ j lt other. (fewer j other.0, other.1)) spared.1)
+
+-- ---- walks that go round
+
+-- joined steps go over links of the net only
+pub over_links : (net : PlainNet) (Chosen : ℕ → Type 0) (steps : List Step) (x y k : ℕ) → IsJoined net Chosen steps x y → GoesOver steps k → k < length net.links
+over_links net Chosen [] x y k joined over = absurd (omega (arith, over.1.1))
+over_links net Chosen (step ∷ steps) x y k joined (other, (zero, lt, e), is) = in_range step joined.0 joined.1.0 (ap link_of e ∙ is)
+  where
+    in_range : (step : Step) (a : Atom) → atom_of net step ≡ Some a → link_of step ≡ Some k → k < length net.links
+    in_range (Link j i) a at link =
+        let same : j ≡ k = cc in
+        subst (λ (n : ℕ). n < length net.links) same
+        (option_and_then_some (λ (l : NetLink). slice_get (atoms_of l.rel l.a l.b) i) (slice_get net.links j) a at (λ l found here. slice_get_within net.links j l found))
+    in_range (Span i) a at link = absurd cc
+    in_range (Calendar p q) a at link = absurd cc
+over_links net Chosen (step ∷ steps) x y k joined (other, (suc j, lt, e), is) = over_links net Chosen steps joined.0.to y k joined.3 (other, (j, omega (arith, lt), e), is)
+
+pub round_more : (net : PlainNet) (Chosen Other : ℕ → Type 0) (steps : List Step) → ((k : ℕ) → Chosen k → Other k) → GoesRound net Chosen steps → GoesRound net Other steps
+round_more net Chosen Other steps more round = (round.0, (joined_more net Chosen Other steps round.0 round.0 more round.1.0, round.1.1))
+
+pub round_over : (net : PlainNet) (Chosen Other : ℕ → Type 0) (steps : List Step) → ((k : ℕ) → GoesOver steps k → Other k) → GoesRound net Chosen steps → GoesRound net Other steps
+round_over net Chosen Other steps over round = (round.0, (joined_over net Chosen Other steps round.0 round.0 round.1.0 over, round.1.1))
+
+-- a walk that goes round goes over a link where the others of its links do not clash
+goes_over : (net : PlainNet) (Chosen : ℕ → Type 0) (k : ℕ) (steps : List Step) → IsSpared net Chosen k → GoesRound net Chosen steps → GoesOver steps k
+goes_over net Chosen k steps spared round = elim (over_or_not steps k) [
+  | inl over ↦ over
+  | inr not ↦
+      let others = round_over net Chosen (Others Chosen k) steps (λ j over. (over_chosen net Chosen steps round.0 round.0 j round.1.0 over, λ e. not (subst (GoesOver steps) e over))) round in
+      absurd (round_clashes net (Others Chosen k) steps others spared.0 spared.1)
+]
+
+-- where no walk goes round over a link that is needed some timeline fits
+pub none_round : (net : PlainNet) (keep : List Bool) (needed : ℕ) → IsNet net → IsSpared net (Kept keep) needed
+    → ((steps : List Step) → GoesRound net (Kept keep) steps → GoesOver steps needed → ⊥) → HasTimeline net (Kept keep)
+none_round net keep needed is spared none = elim (fits_or_goes_round net (λ k. slice_index_or keep k false) is) [
+  | inl fits ↦ (fits.0, fits.1)
+  | inr round ↦ absurd (none round.0 round.1 (goes_over net (Kept keep) needed round.0 spared round.1))
+]
+
+-- where links clash, some walk goes round over one that is needed
+pub some_round : (net : PlainNet) (keep : List Bool) (needed : ℕ) → IsNet net → IsSpared net (Kept keep) needed → Clashes net (Kept keep)
+    → ((steps : List Step) → GoesRound net (Kept keep) steps → GoesOver steps needed → ⊥) → ⊥
+some_round net keep needed is spared clashes none = let fits = none_round net keep needed is spared none in clashes fits.0 fits.1
+
+-- each of joined steps goes by an order
+step_goes : (net : PlainNet) (Chosen : ℕ → Type 0) (steps : List Step) (x y : ℕ) (step : Step) → IsJoined net Chosen steps x y → Contains steps step → (a : Atom) × (atom_of net step ≡ Some a)
+step_goes net Chosen [] x y step joined (i, lt, e) = absurd (omega (arith, lt))
+step_goes net Chosen (first ∷ steps) x y step joined (zero, lt, e) = (joined.0, subst (λ (s : Step). atom_of net s ≡ Some joined.0) e joined.1.0)
+step_goes net Chosen (first ∷ steps) x y step joined (suc i, lt, e) = step_goes net Chosen steps joined.0.to y step joined.3 (i, omega (arith, lt), e)
+
+-- the orders that a link is
+abbrev pub orders_of : PlainNet → ℕ → List Atom
+orders_of net k = let link = link_at net k in atoms_of link.rel link.a link.b
+
+-- a walk that goes round over a link can begin with one of its orders
+pub round_through : (net : PlainNet) (Chosen : ℕ → Type 0) (k : ℕ) (steps : List Step) → GoesRound net Chosen steps → GoesOver steps k
+    → (i : ℕ) × (a : Atom) × (slice_get (orders_of net k) i ≡ Some a) × HasWalk net Chosen a.from a.from true
+round_through net Chosen k steps round (step, has, is) =
+    let goes = step_goes net Chosen steps round.0 round.0 step round.1.0 has in
+    by_step step goes.0 goes.1 has is
+  where
+    by_step : (step : Step) (a : Atom) → atom_of net step ≡ Some a → Contains steps step → link_of step ≡ Some k
+        → (i : ℕ) × (b : Atom) × (slice_get (orders_of net k) i ≡ Some b) × HasWalk net Chosen b.from b.from true
+    by_step (Link j i) a at has is =
+        let same : j ≡ k = cc in
+        let here : slice_get (orders_of net j) i ≡ Some a =
+            option_and_then_some (λ (l : NetLink). slice_get (atoms_of l.rel l.a l.b) i) (slice_get net.links j) a at (λ l found here.
+            subst (λ (x : NetLink). slice_get (atoms_of x.rel x.a x.b) i ≡ Some a) (sym (get_or_from_slice_get net.links j l (record { a = 0; rel = rel.Before; b = 0 }) found)) here) in
+        (i, a, subst (λ (n : ℕ). slice_get (orders_of net n) i ≡ Some a) same here, round_from net Chosen steps (Link j i) a round has at)
+    by_step (Span i) a at has is = absurd cc
+    by_step (Calendar p q) a at has is = absurd cc
+
+-- ---- rounds with marks
+
+module _ (net : PlainNet) where
+  -- a walk goes round over the links that are marked, where those are the links that it goes over
+  pub goes_from_marks : (walk : List Step) (marks : List Bool) → GoesRound net EveryLink walk → ((k : ℕ) → k < length net.links → Kept marks k ↔ GoesOver walk k) → GoesRound net (Kept marks) walk
+  goes_from_marks walk marks goes over =
+      round_over net EveryLink (Kept marks) walk (λ k gone. (over k (over_links net EveryLink walk goes.0 goes.0 k goes.1.0 gone)).1 gone) goes
+
+  -- a mark is that of a link
+  pub kept_below : (round : Round) → IsRound net round → (k : ℕ) → Kept round.over.items k → k < length net.links
+  kept_below round whole k kept = omega (arith, kept_within round.over.items k kept, whole.size)
+
+  -- a marked link is one that the walk goes over, and so one of any set that the walk goes over
+  pub marked_chosen : (Chosen : ℕ → Type 0) (round : Round) → IsRound net round → GoesRound net Chosen round.walk → (k : ℕ) → Kept round.over.items k → Chosen k
+  marked_chosen Chosen round whole goes k kept = over_chosen net Chosen round.walk goes.0 goes.0 k goes.1.0 ((whole.over k (kept_below round whole k kept)).0 kept)
+
+-- a mark that is taken away and set again is as it was
+pub set_again : (marks : List Bool) (k : ℕ) → Kept marks k → slice_set (slice_set marks k false) k true ≡ marks
+set_again [] k kept = absurd cc
+set_again (mark ∷ marks) zero kept = ap (λ (b : Bool). b ∷ marks) (sym kept)
+set_again (mark ∷ marks) (suc k) kept = ap (λ (more : List Bool). mark ∷ more) (set_again marks k kept)
+
+-- the others are marked where one mark is taken away
+pub set_others : (marks : List Bool) (k j : ℕ) → Kept (slice_set marks k false) j → Others (Kept marks) k j
+set_others [] k j kept = absurd cc
+set_others (mark ∷ marks) zero zero kept = absurd cc
+set_others (mark ∷ marks) zero (suc j) kept = (kept, λ e. cc)
+set_others (mark ∷ marks) (suc k) zero kept = (kept, λ e. cc)
+set_others (mark ∷ marks) (suc k) (suc j) kept = let other = set_others marks k j kept in (other.0, λ e. other.1 (omega arith))
+
+pub others_set : (marks : List Bool) (k j : ℕ) → Others (Kept marks) k j → Kept (slice_set marks k false) j
+others_set [] k j other = absurd (let e = other.0 in cc)
+others_set (mark ∷ marks) zero zero other = absurd (other.1 refl)
+others_set (mark ∷ marks) zero (suc j) other = other.0
+others_set (mark ∷ marks) (suc k) zero other = other.0
+others_set (mark ∷ marks) (suc k) (suc j) other = others_set marks k j (other.0, λ e. other.1 (omega arith))

@@ -1,0 +1,1 @@
+use Rattle.clash.proofs.minimal.up_to.Goals as goal
