@@ -138,3 +138,20 @@ others_set (mark ∷ marks) zero zero other = absurd (other.1 refl)
 others_set (mark ∷ marks) zero (suc j) other = other.0
 others_set (mark ∷ marks) (suc k) zero other = other.0
 others_set (mark ∷ marks) (suc k) (suc j) other = others_set marks k j (other.0, λ e. other.1 (omega arith))
+
+-- ---- the first link that clashes with those before it
+
+module _ (net : PlainNet) (link : ℕ) (keep : List Bool) (size : length keep ≡ length net.links) (kept : (k : ℕ) → k < length net.links → Kept keep k ↔ UpTo link k) (first : IsFirstClash net link) where
+  -- that link is needed
+  pub first_spared : IsSpared net (Kept keep) link
+  first_spared = (first.before.0, fits_fewer net (Before link) (Others (Kept keep) link) first.before.0 (λ k below other. under k ((kept k below).0 other.0) other.1) first.before.1)
+    where
+      under : (k : ℕ) → k ≤ link → ¬ (k ≡ link) → k < link
+      under k le other = elim (cases_lt k link) [
+        | inl less ↦ less
+        | inr not ↦ absurd (other (omega (arith, le, not)))
+      ]
+
+  -- and some walk goes round over it
+  pub first_clashes : Clashes net (Kept keep)
+  first_clashes t fits = first.clashes t (fits_fewer net (Kept keep) (UpTo link) t (λ k below up_to. (kept k below).1 up_to) fits)

@@ -49,6 +49,7 @@ fn first_round(alloc: Global, net: &Net, link: u32) -> Result<Round, Memory>
     ensures round { IfOk result (IsRound net.now) }
     ensures spared { IfOk result (λ round. IsSpared net.now (Kept round.over.items) link) }
 {
+    prove!(link < net.links());
     let keep = up_to(alloc, net, link)?;
     match round_over(alloc, net, &keep, link)? {
         Some(walk) => Round::new(alloc, net, walk),
