@@ -4,3 +4,4 @@ pub mod LinkAtoms
 pub mod Steps
 pub mod EveryStep
 pub mod Complete
+pub mod Rising

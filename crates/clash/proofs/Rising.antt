@@ -1,0 +1,114 @@
+-- Ranks that rise.
+use Rattle.std.proofs.Common.{◌≡◌, ◌↔◌, ℕ, ◌+◌, ◌<◌, ◌≤◌, List, length, slice_index, refl, sym, subst, ◌∙◌, arith, below_more, ◌⊎◌, inl, inr}
+use Rattle.std.proofs.lemmas.Bool.{cases_eq}
+use Rattle.std.proofs.lemmas.Grind.{same_number_lists}
+use Rattle.net_core.specs.Relations.{Timeline}
+use Rattle.net_core.specs.Ranks.{timeline_of}
+use Rattle.clash.specs.Raising.{AreUnder, HasRoom, Rises, RisesUntil}
+use Rattle.clash.proofs.Steps.{Below}
+
+-- ranks between two that are the same are these
+pub squeezed : (a b c : List ℕ) → length b ≡ length a → ((p : ℕ) → slice_index a p ≤ slice_index b p) → ((p : ℕ) → slice_index b p ≤ slice_index c p) → c ≡ a → b ≡ a
+squeezed a b c size up more same = same_number_lists b a size (λ k lt.
+    let first = up k in
+    let second = subst (λ (xs : List ℕ). slice_index b k ≤ slice_index xs k) same (more k) in
+    omega arith)
+
+-- ranks that stay
+pub stays : (IsTrue : Timeline → Type 0) (ranks : List ℕ) → Rises IsTrue ranks ranks
+stays IsTrue ranks = record { size = refl; higher = λ p. omega arith; under = λ t holds under. under }
+
+-- ranks that stay, where it is true of them
+pub stays_until : (IsTrue : Timeline → Type 0) (ranks : List ℕ) → IsTrue (timeline_of ranks) → RisesUntil IsTrue ranks ranks
+stays_until IsTrue ranks holds = record { rises = stays IsTrue ranks; settled = λ e. holds }
+
+-- ranks rise by one thing, and then by another
+pub rises_then : (First Second Both : Timeline → Type 0) (a b c : List ℕ) → ((t : Timeline) → Both t → First t) → ((t : Timeline) → Both t → Second t)
+    → Rises First a b → Rises Second b c → Rises Both a c
+rises_then First Second Both a b c first second one two = record {
+  size = two.size ∙ one.size;
+  higher = λ p. omega (arith, one.higher p, two.higher p);
+  under = λ t holds under. two.under t (second t holds) (one.under t (first t holds) under);
+}
+
+-- the same, as far as they must
+pub until_then : (First Second Both : Timeline → Type 0) (a b c : List ℕ) → ((t : Timeline) → Both t ↔ (First t × Second t))
+    → RisesUntil First a b → RisesUntil Second b c → RisesUntil Both a c
+until_then First Second Both a b c both one two = record {
+  rises = rises_then First Second Both a b c (λ t holds. ((both t).0 holds).0) (λ t holds. ((both t).0 holds).1) one.rises two.rises;
+  settled = λ same.
+      let here = squeezed a b c one.rises.size one.rises.higher two.rises.higher same in
+      (both (timeline_of a)).1 (one.settled here, subst (λ (xs : List ℕ). Second (timeline_of xs)) here (two.settled (same ∙ sym here)));
+}
+
+-- the same of something that is true where it is
+pub rises_same : (P Q : Timeline → Type 0) (old new : List ℕ) → ((t : Timeline) → P t ↔ Q t) → RisesUntil P old new → RisesUntil Q old new
+rises_same P Q old new same rises = record {
+  rises = record { size = rises.rises.size; higher = rises.rises.higher; under = λ t holds. rises.rises.under t ((same t).1 holds) };
+  settled = λ e. (same (timeline_of old)).0 (rises.settled e);
+}
+
+-- no thing yet
+pub rises_none : (IsTrue : ℕ → Timeline → Type 0) (ranks : List ℕ) → RisesUntil (Below IsTrue 0) ranks ranks
+rises_none IsTrue ranks = stays_until (Below IsTrue 0) ranks (λ j lt. absurd (omega arith))
+
+-- one thing more
+pub rises_more : (IsTrue : ℕ → Timeline → Type 0) (k : ℕ) (start now next : List ℕ)
+    → RisesUntil (Below IsTrue k) start now → RisesUntil (IsTrue k) now next → RisesUntil (Below IsTrue (k + 1)) start next
+rises_more IsTrue k start now next = until_then (Below IsTrue k) (IsTrue k) (Below IsTrue (k + 1)) start now next (λ t. (
+  λ all. (λ j lt. all j (omega arith), all k (omega arith)),
+  λ both. below_more (λ j. IsTrue j t) k both.0 both.1,
+))
+
+-- something is true of all numbers from k on that are below n
+abbrev pub From : (ℕ → Timeline → Type 0) → ℕ → ℕ → Timeline → Type 0
+From IsTrue n k t = (j : ℕ) → k ≤ j → j < n → IsTrue j t
+
+-- no thing yet, from the last back
+pub rises_none_back : (IsTrue : ℕ → Timeline → Type 0) (n : ℕ) (ranks : List ℕ) → RisesUntil (From IsTrue n n) ranks ranks
+rises_none_back IsTrue n ranks = stays_until (From IsTrue n n) ranks (λ j le lt. absurd (omega arith))
+
+-- one thing more, from the last back
+pub rises_more_back : (IsTrue : ℕ → Timeline → Type 0) (n k : ℕ) (start now next : List ℕ) → k < n
+    → RisesUntil (From IsTrue n (k + 1)) start now → RisesUntil (IsTrue k) now next → RisesUntil (From IsTrue n k) start next
+rises_more_back IsTrue n k start now next within = until_then (From IsTrue n (k + 1)) (IsTrue k) (From IsTrue n k) start now next (λ t. (
+  λ all. (λ j le lt. all j (omega arith) lt, all k (omega arith) within),
+  λ both. λ j le lt. elim (cases_eq k j) [
+    | inl e ↦ subst (λ (i : ℕ). IsTrue i t) e both.1
+    | inr ne ↦ both.0 j (omega arith) lt
+  ],
+))
+
+-- where there is room for all, there still is room for a part once ranks rose by another
+pub room_for : (All Done Next : Timeline → Type 0) (start now : List ℕ) → ((t : Timeline) → All t → Done t) → ((t : Timeline) → All t → Next t)
+    → HasRoom All start → Rises Done start now → HasRoom Next now
+room_for All Done Next start now done next room rises =
+    let t = room.0 in
+    let size = rises.size in
+    (t, next t room.1, rises.under t (done t room.1) room.2, λ p lt. room.3 p (omega arith))
+
+-- room for all things is room for the next one, once ranks rose by those before it
+pub room_next : (IsTrue : ℕ → Timeline → Type 0) (All : Timeline → Type 0) (k n : ℕ) (start now : List ℕ) → k < n → ((t : Timeline) → Below IsTrue n t ↔ All t)
+    → HasRoom All start → RisesUntil (Below IsTrue k) start now → HasRoom (IsTrue k) now
+room_next IsTrue All k n start now within same room so_far =
+    room_for All (Below IsTrue k) (IsTrue k) start now (λ t holds j lt. (same t).1 holds j (omega arith)) (λ t holds. (same t).1 holds k within) room so_far.rises
+
+-- and the same from the last back
+pub room_next_back : (IsTrue : ℕ → Timeline → Type 0) (All : Timeline → Type 0) (k n : ℕ) (start now : List ℕ) → k < n → ((t : Timeline) → Below IsTrue n t ↔ All t)
+    → HasRoom All start → RisesUntil (From IsTrue n (k + 1)) start now → HasRoom (IsTrue k) now
+room_next_back IsTrue All k n start now within same room so_far =
+    room_for All (From IsTrue n (k + 1)) (IsTrue k) start now (λ t holds j le lt. (same t).1 holds j lt) (λ t holds. (same t).1 holds k within) room so_far.rises
+
+-- all things, at the end
+pub rises_all : (IsTrue : ℕ → Timeline → Type 0) (All : Timeline → Type 0) (k n : ℕ) (start now : List ℕ) → k ≡ n → ((t : Timeline) → Below IsTrue n t ↔ All t)
+    → RisesUntil (Below IsTrue k) start now → RisesUntil All start now
+rises_all IsTrue All k n start now end same so_far =
+    rises_same (Below IsTrue n) All start now same (subst (λ (m : ℕ). RisesUntil (Below IsTrue m) start now) end so_far)
+
+-- all things, at the first
+pub rises_all_back : (IsTrue : ℕ → Timeline → Type 0) (All : Timeline → Type 0) (k n : ℕ) (start now : List ℕ) → k ≡ 0 → ((t : Timeline) → Below IsTrue n t ↔ All t)
+    → RisesUntil (From IsTrue n k) start now → RisesUntil All start now
+rises_all_back IsTrue All k n start now end same so_far = rises_same (From IsTrue n k) All start now (λ t. (
+  λ below. (same t).0 (λ j lt. below j (omega arith) lt),
+  λ all. λ j le lt. (same t).1 all j lt,
+)) so_far
