@@ -5,3 +5,4 @@ pub mod Steps
 pub mod EveryStep
 pub mod Complete
 pub mod Rising
+pub mod StepsBut

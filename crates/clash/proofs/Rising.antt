@@ -112,3 +112,7 @@ rises_all_back IsTrue All k n start now end same so_far = rises_same (From IsTru
   λ below. (same t).0 (λ j lt. below j (omega arith) lt),
   λ all. λ j le lt. (same t).1 all j lt,
 )) so_far
+
+-- room for what is true where something else is
+pub room_same : (P Q : Timeline → Type 0) (ranks : List ℕ) → ((t : Timeline) → P t ↔ Q t) → HasRoom P ranks → HasRoom Q ranks
+room_same P Q ranks same room = (room.0, (same room.0).0 room.1, room.2, room.3)
