@@ -1,7 +1,8 @@
 -- Ranks that rise.
-use Rattle.std.proofs.Common.{◌≡◌, ◌↔◌, ℕ, ◌+◌, ◌<◌, ◌≤◌, List, length, slice_index, refl, sym, subst, ◌∙◌, arith, below_more, ◌⊎◌, inl, inr}
+use Rattle.std.proofs.Common.{◌≡◌, ◌↔◌, ℕ, ◌+◌, ◌-◌, ◌<◌, ◌≤◌, List, length, get_or, take, slice_index, refl, sym, subst, ◌∙◌, arith, below_more, ◌⊎◌, inl, inr}
 use Rattle.std.proofs.lemmas.Bool.{cases_eq}
 use Rattle.std.proofs.lemmas.Grind.{same_number_lists}
+use Rattle.std.proofs.lemmas.List.{get_or-take, length-take-le}
 use Rattle.net_core.specs.Relations.{Timeline}
 use Rattle.net_core.specs.Ranks.{timeline_of}
 use Rattle.clash.specs.Raising.{AreUnder, HasRoom, Rises, RisesUntil}
@@ -69,15 +70,22 @@ pub rises_none_back : (IsTrue : ℕ → Timeline → Type 0) (n : ℕ) (ranks : 
 rises_none_back IsTrue n ranks = stays_until (From IsTrue n n) ranks (λ j le lt. absurd (omega arith))
 
 -- one thing more, from the last back
-pub rises_more_back : (IsTrue : ℕ → Timeline → Type 0) (n k : ℕ) (start now next : List ℕ) → k < n
-    → RisesUntil (From IsTrue n (k + 1)) start now → RisesUntil (IsTrue k) now next → RisesUntil (From IsTrue n k) start next
-rises_more_back IsTrue n k start now next within = until_then (From IsTrue n (k + 1)) (IsTrue k) (From IsTrue n k) start now next (λ t. (
-  λ all. (λ j le lt. all j (omega arith) lt, all k (omega arith) within),
+pub rises_more_back : (IsTrue : ℕ → Timeline → Type 0) (n m k : ℕ) (start now next : List ℕ) → m ≡ k + 1 → m ≤ n
+    → RisesUntil (From IsTrue n m) start now → RisesUntil (IsTrue k) now next → RisesUntil (From IsTrue n k) start next
+rises_more_back IsTrue n m k start now next last within = until_then (From IsTrue n m) (IsTrue k) (From IsTrue n k) start now next (λ t. (
+  λ all. (λ j le lt. all j (omega arith) lt, all k (omega arith) (omega arith)),
   λ both. λ j le lt. elim (cases_eq k j) [
     | inl e ↦ subst (λ (i : ℕ). IsTrue i t) e both.1
     | inr ne ↦ both.0 j (omega arith) lt
   ],
 ))
+
+-- what is left of a list is its first items, and so it is without the last of them
+pub left_less : {X : Type 0} (rest xs : List X) (d : X) → ((k : ℕ) → k < length rest → get_or rest k d ≡ get_or xs k d)
+    → (k : ℕ) → k < length (take (length rest - 1) rest) → get_or (take (length rest - 1) rest) k d ≡ get_or xs k d
+left_less rest xs d left k lt =
+    let size = length-take-le (length rest - 1) rest (omega arith) in
+    get_or-take (length rest - 1) rest k d (omega arith) ∙ left k (omega arith)
 
 -- where there is room for all, there still is room for a part once ranks rose by another
 pub room_for : (All Done Next : Timeline → Type 0) (start now : List ℕ) → ((t : Timeline) → All t → Done t) → ((t : Timeline) → All t → Next t)
@@ -94,10 +102,10 @@ room_next IsTrue All k n start now within same room so_far =
     room_for All (Below IsTrue k) (IsTrue k) start now (λ t holds j lt. (same t).1 holds j (omega arith)) (λ t holds. (same t).1 holds k within) room so_far.rises
 
 -- and the same from the last back
-pub room_next_back : (IsTrue : ℕ → Timeline → Type 0) (All : Timeline → Type 0) (k n : ℕ) (start now : List ℕ) → k < n → ((t : Timeline) → Below IsTrue n t ↔ All t)
-    → HasRoom All start → RisesUntil (From IsTrue n (k + 1)) start now → HasRoom (IsTrue k) now
-room_next_back IsTrue All k n start now within same room so_far =
-    room_for All (From IsTrue n (k + 1)) (IsTrue k) start now (λ t holds j le lt. (same t).1 holds j lt) (λ t holds. (same t).1 holds k within) room so_far.rises
+pub room_next_back : (IsTrue : ℕ → Timeline → Type 0) (All : Timeline → Type 0) (n m k : ℕ) (start now : List ℕ) → m ≡ k + 1 → m ≤ n → ((t : Timeline) → Below IsTrue n t ↔ All t)
+    → HasRoom All start → RisesUntil (From IsTrue n m) start now → HasRoom (IsTrue k) now
+room_next_back IsTrue All n m k start now last within same room so_far =
+    room_for All (From IsTrue n m) (IsTrue k) start now (λ t holds j le lt. (same t).1 holds j lt) (λ t holds. (same t).1 holds k (omega arith)) room so_far.rises
 
 -- all things, at the end
 pub rises_all : (IsTrue : ℕ → Timeline → Type 0) (All : Timeline → Type 0) (k n : ℕ) (start now : List ℕ) → k ≡ n → ((t : Timeline) → Below IsTrue n t ↔ All t)

@@ -12,6 +12,10 @@ use Rattle.order_closure.specs.Tables.{SatisfiesAll}
 use Rattle.clash.specs.Raising.{HoldsBut}
 use Rattle.clash.proofs.LinkAtoms.{link_said}
 
+-- what is read past the end of a list of steps
+abbrev pub no_step : Step
+no_step = Link 0 0
+
 -- what a step over a link is over holds where all atoms of the link are true
 pub over_link : (net : PlainNet) (but k : ℕ) (step : Step) (atoms : List Atom) → Some k ≡ link_of step → k ≢ but → k < length net.links
     → (let link = link_at net k in atoms ≡ atoms_of link.rel link.a link.b) → (t : Timeline) → SatisfiesAll atoms t ↔ HoldsBut net but step t
