@@ -124,3 +124,12 @@ rises_all_back IsTrue All k n start now end same so_far = rises_same (From IsTru
 -- room for what is true where something else is
 pub room_same : (P Q : Timeline → Type 0) (ranks : List ℕ) → ((t : Timeline) → P t ↔ Q t) → HasRoom P ranks → HasRoom Q ranks
 room_same P Q ranks same room = (room.0, (same room.0).0 room.1, room.2, room.3)
+
+-- ranks rise by one thing, and then as far as they must
+pub after_rising : (First All : Timeline → Type 0) (a b c : List ℕ) → ((t : Timeline) → All t → First t) → Rises First a b → RisesUntil All b c → RisesUntil All a c
+after_rising First All a b c first one two = record {
+  rises = rises_then First All All a b c first (λ t holds. holds) one two.rises;
+  settled = λ same.
+      let here = squeezed a b c one.size one.higher two.rises.higher same in
+      subst (λ (xs : List ℕ). All (timeline_of xs)) here (two.settled (same ∙ sym here));
+}
