@@ -6,3 +6,4 @@ pub mod EveryStep
 pub mod Complete
 pub mod Rising
 pub mod StepsBut
+pub mod RankSums
