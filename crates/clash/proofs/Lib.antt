@@ -7,3 +7,4 @@ pub mod Complete
 pub mod Rising
 pub mod StepsBut
 pub mod RankSums
+pub mod Spared
