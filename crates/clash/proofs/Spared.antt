@@ -1,14 +1,17 @@
 -- The least ranks with which a walk's links but one hold.
-use Rattle.std.proofs.Common.{◌≡◌, ◌≢◌, ◌↔◌, ◌==◌, ◌&&◌, ℕ, ◌<◌, ◌≤◌, Bool, true, false, not, List, length, replicate, slice_index, slice_index_or, sym, ap, subst, ◌∙◌, arith}
+use Rattle.std.proofs.Common.{◌≡◌, ◌≢◌, ◌↔◌, ◌==◌, ◌&&◌, ℕ, ◌+◌, ◌<◌, ◌≤◌, Bool, true, false, not, List, [], ◌∷◌, ◌++◌, length, length-append, replicate, take, slice_index, slice_index_or, sym, ap, subst, ◌∙◌, arith, ◌⊎◌, inl, inr}
+use Rattle.std.proofs.Math.ListN.{get_or-append}
+use Rattle.std.proofs.Math.Seq.{get_or-append_seam}
+use Rattle.std.proofs.lemmas.Bool.{cases_lt}
 use Rattle.std.proofs.lemmas.Bool.Decides.{nat_tests}
-use Rattle.std.proofs.lemmas.List.{get_or-replicate, length-replicate}
+use Rattle.std.proofs.lemmas.List.{get_or-replicate, length-replicate, take_more}
 use Rattle.net_core.specs.Clashes.{Others}
 use Rattle.net_core.specs.Fits.{FitsWith}
 use Rattle.net_core.specs.Nets.{IsNet, PlainNet, points}
 use Rattle.net_core.specs.Ranks.{timeline_of}
 use Rattle.net_core.specs.Relations.{Timeline}
 use Rattle.net_core.specs.Walks.{Kept}
-use Rattle.clash.specs.Minimal.{IsRound, IsSpare, IsSpared}
+use Rattle.clash.specs.Minimal.{AreSpares, IsRound, IsSpare, IsSpared}
 use Rattle.clash.specs.Raising.{AreUnder, FitsBut, HasRoom, Rises}
 use Rattle.clash.specs.declared.round.Round.{Round}
 use Rattle.clash.proofs.Complete.{small_timeline}
@@ -74,3 +77,29 @@ module _ (net : PlainNet) (round : Round) (but : ℕ) (net_is : IsNet net) (is :
         };
         small = λ p lt. let below = under small.0 small.1 p (omega arith) in let few = small.2 p lt in omega arith;
       }
+
+-- one spare more
+push_spare : (net : PlainNet) (Chosen : ℕ → Type 0) (cites : List ℕ) (spares : List (List ℕ)) (cite : ℕ) (spare : List ℕ) → AreSpares net Chosen cites spares → IsSpare net Chosen cite spare
+    → AreSpares net Chosen (cites ++ cite ∷ []) (spares ++ spare ∷ [])
+push_spare net Chosen cites spares cite spare are one =
+    let size = are.0 in
+    let Is = IsSpare net Chosen in (
+      omega (arith, length-append spares (spare ∷ []), length-append cites (cite ∷ [])),
+      λ i lt. elim (cases_lt i (length cites)) [
+        | inl less ↦
+            let first : slice_index (cites ++ cite ∷ []) i ≡ slice_index cites i = get_or-append cites (cite ∷ []) 0 i less in
+            let second : slice_index_or (spares ++ spare ∷ []) i [] ≡ slice_index_or spares i [] = get_or-append spares (spare ∷ []) [] i (omega arith) in
+            rw (first, second) (are.1 i less)
+        | inr more ↦
+            let last : i ≡ length cites = omega (arith, length-append cites (cite ∷ [])) in
+            let first : slice_index (cites ++ cite ∷ []) i ≡ cite = rw last (get_or-append_seam cites cite [] 0) in
+            let second : slice_index_or (spares ++ spare ∷ []) i [] ≡ spare = rw (last ∙ sym size) (get_or-append_seam spares spare [] []) in
+            rw (first, second) one
+      ],
+    )
+
+-- one cite more
+pub spares_more : (net : PlainNet) (Chosen : ℕ → Type 0) (cites : List ℕ) (k : ℕ) (spares now : List (List ℕ)) (spare : List ℕ) → k < length cites
+    → AreSpares net Chosen (take k cites) spares → IsSpare net Chosen (slice_index cites k) spare → now ≡ spares ++ spare ∷ [] → AreSpares net Chosen (take (k + 1) cites) now
+spares_more net Chosen cites k spares now spare within are one e =
+    rw (take_more cites k 0 within, e) (push_spare net Chosen (take k cites) spares (slice_index cites k) spare are one)
