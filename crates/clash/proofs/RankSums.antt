@@ -1,10 +1,10 @@
 -- Sums of ranks that rise.
-use Rattle.std.proofs.Common.{◌≡◌, ◌∷◌, ◌<◌, ◌≤◌, ◌+◌, ◌-◌, ◌*◌, if◌then◌else◌, Bool, true, nat_lt, ℕ, zero, suc, List, [], length, slice_index, refl, ap, arith}
+use Rattle.std.proofs.Common.{◌≡◌, ◌∷◌, ◌<◌, ◌≤◌, ◌+◌, ◌-◌, ◌*◌, if◌then◌else◌, Bool, true, nat_lt, ℕ, zero, suc, List, [], length, slice_index, refl, arith}
 use Rattle.std.specs.List.{All, sum_by}
 use Rattle.std.proofs.lemmas.Bool.Decides.{nat_tests}
 use Rattle.std.proofs.lemmas.List.Elements.{All-from_get_or}
 use Rattle.std.proofs.lemmas.List.Sums.{sum_by-cons, sum_by-le}
-use Rattle.clash.specs.Raising.{AreUnder, HasRoom, Rises}
+use Rattle.clash.specs.Raising.{HasRoom, Rises}
 use Rattle.net_core.specs.Relations.{Timeline}
 
 -- the sum of ranks

@@ -1,27 +1,19 @@
 -- Ranks that rise.
-use Rattle.std.proofs.Common.{◌≡◌, ◌↔◌, ℕ, ◌+◌, ◌-◌, ◌<◌, ◌≤◌, List, length, get_or, take, slice_index, refl, sym, subst, ◌∙◌, arith, below_more, ◌⊎◌, inl, inr}
+use Rattle.std.proofs.Common.{◌≡◌, ◌↔◌, ℕ, ◌+◌, ◌-◌, ◌<◌, ◌≤◌, List, length, get_or, take, slice_index, sym, subst, ◌∙◌, arith, below_more, inl, inr}
 use Rattle.std.proofs.lemmas.Bool.{cases_eq}
 use Rattle.std.proofs.lemmas.Grind.{same_number_lists}
 use Rattle.std.proofs.lemmas.List.{get_or-take, length-take-le}
 use Rattle.net_core.specs.Relations.{Timeline}
 use Rattle.net_core.specs.Ranks.{timeline_of}
-use Rattle.clash.specs.Raising.{AreUnder, HasRoom, Rises, RisesUntil}
+use Rattle.clash.specs.Raising.{HasRoom, Rises, RisesUntil}
 use Rattle.clash.proofs.Steps.{Below}
 
 -- ranks between two that are the same are these
-pub squeezed : (a b c : List ℕ) → length b ≡ length a → ((p : ℕ) → slice_index a p ≤ slice_index b p) → ((p : ℕ) → slice_index b p ≤ slice_index c p) → c ≡ a → b ≡ a
+squeezed : (a b c : List ℕ) → length b ≡ length a → ((p : ℕ) → slice_index a p ≤ slice_index b p) → ((p : ℕ) → slice_index b p ≤ slice_index c p) → c ≡ a → b ≡ a
 squeezed a b c size up more same = same_number_lists b a size (λ k lt.
     let first = up k in
     let second = subst (λ (xs : List ℕ). slice_index b k ≤ slice_index xs k) same (more k) in
     omega arith)
-
--- ranks that stay
-pub stays : (IsTrue : Timeline → Type 0) (ranks : List ℕ) → Rises IsTrue ranks ranks
-stays IsTrue ranks = record { size = refl; higher = λ p. omega arith; under = λ t holds under. under }
-
--- ranks that stay, where it is true of them
-pub stays_until : (IsTrue : Timeline → Type 0) (ranks : List ℕ) → IsTrue (timeline_of ranks) → RisesUntil IsTrue ranks ranks
-stays_until IsTrue ranks holds = record { rises = stays IsTrue ranks; settled = λ e. holds }
 
 -- ranks rise by one thing, and then by another
 pub rises_then : (First Second Both : Timeline → Type 0) (a b c : List ℕ) → ((t : Timeline) → Both t → First t) → ((t : Timeline) → Both t → Second t)
@@ -49,10 +41,6 @@ rises_same P Q old new same rises = record {
   settled = λ e. (same (timeline_of old)).0 (rises.settled e);
 }
 
--- no thing yet
-pub rises_none : (IsTrue : ℕ → Timeline → Type 0) (ranks : List ℕ) → RisesUntil (Below IsTrue 0) ranks ranks
-rises_none IsTrue ranks = stays_until (Below IsTrue 0) ranks (λ j lt. absurd (omega arith))
-
 -- one thing more
 pub rises_more : (IsTrue : ℕ → Timeline → Type 0) (k : ℕ) (start now next : List ℕ)
     → RisesUntil (Below IsTrue k) start now → RisesUntil (IsTrue k) now next → RisesUntil (Below IsTrue (k + 1)) start next
@@ -64,10 +52,6 @@ rises_more IsTrue k start now next = until_then (Below IsTrue k) (IsTrue k) (Bel
 -- something is true of all numbers from k on that are below n
 abbrev pub From : (ℕ → Timeline → Type 0) → ℕ → ℕ → Timeline → Type 0
 From IsTrue n k t = (j : ℕ) → k ≤ j → j < n → IsTrue j t
-
--- no thing yet, from the last back
-pub rises_none_back : (IsTrue : ℕ → Timeline → Type 0) (n : ℕ) (ranks : List ℕ) → RisesUntil (From IsTrue n n) ranks ranks
-rises_none_back IsTrue n ranks = stays_until (From IsTrue n n) ranks (λ j le lt. absurd (omega arith))
 
 -- one thing more, from the last back
 pub rises_more_back : (IsTrue : ℕ → Timeline → Type 0) (n m k : ℕ) (start now next : List ℕ) → m ≡ k + 1 → m ≤ n

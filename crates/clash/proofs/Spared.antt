@@ -1,5 +1,5 @@
 -- The least ranks with which a walk's links but one hold.
-use Rattle.std.proofs.Common.{◌≡◌, ◌≢◌, ◌↔◌, ◌==◌, ◌&&◌, ℕ, ◌+◌, ◌<◌, ◌≤◌, Bool, true, false, not, List, [], ◌∷◌, ◌++◌, length, length-append, replicate, take, slice_index, slice_index_or, sym, ap, subst, ◌∙◌, arith, ◌⊎◌, inl, inr}
+use Rattle.std.proofs.Common.{◌≡◌, ◌≢◌, ◌↔◌, ◌==◌, ◌&&◌, ℕ, ◌+◌, ◌<◌, Bool, true, false, not, List, [], ◌∷◌, ◌++◌, length, length-append, replicate, take, slice_index, slice_index_or, sym, ap, ◌∙◌, arith, inl, inr}
 use Rattle.std.proofs.Math.ListN.{get_or-append}
 use Rattle.std.proofs.Math.Seq.{get_or-append_seam}
 use Rattle.std.proofs.lemmas.Bool.{cases_lt}
@@ -42,7 +42,7 @@ module _ (net : PlainNet) (round : Round) (but : ℕ) (net_is : IsNet net) (is :
   small =
       let test = is_other round.over.items but in
       let one = small_timeline net test net_is spared.0
-          (fits_fewer net Rest (λ k. test k ≡ true) spared.0 (λ k. (others round.over.items but k).0) spared.1) in
+      (fits_fewer net Rest (λ k. test k ≡ true) spared.0 (λ k. (others round.over.items but k).0) spared.1) in
       (one.0, fits_fewer net (λ k. test k ≡ true) Rest one.0 (λ k. (others round.over.items but k).1) one.1, one.2)
 
   zeros_size : (zeros : List ℕ) → zeros ≡ replicate (points net) 0 → length zeros ≡ points net

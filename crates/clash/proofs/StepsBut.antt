@@ -1,5 +1,5 @@
 -- What steps are over holds, but for one link.
-use Rattle.std.proofs.Common.{◌≡◌, ◌≢◌, ◌↔◌, ℕ, ◌<◌, List, length, get_or, Option, Some, None, refl, sym, subst}
+use Rattle.std.proofs.Common.{◌≡◌, ◌≢◌, ◌↔◌, ℕ, ◌<◌, List, length, get_or, Some, None, refl, sym, subst}
 use Rattle.std.specs.List.{Contains}
 use Rattle.std.proofs.lemmas.List.Elements.{All-contains, All-from_get_or, Contains-get_or}
 use Rattle.net_core.specs.Clashes.{Others}
@@ -11,7 +11,7 @@ use Rattle.net_core.specs.Steps.{atom_of, link_of}
 use Rattle.net_core.specs.declared.atom.Atom.{Atom}
 use Rattle.net_core.specs.declared.step.Step.{Step}
 use Rattle.net_core.specs.declared.step.Step.TheVariants.{Link, Span, Calendar}
-use Rattle.net_core.specs.Walks.{GoesOver, Kept}
+use Rattle.net_core.specs.Walks.{Kept}
 use Rattle.net_core.proofs.StepLaws.{step_kept}
 use Rattle.order_closure.specs.Tables.{SatisfiesAll}
 use Rattle.clash.specs.Minimal.{IsRound}

@@ -1,5 +1,4 @@
-use Rattle.std.proofs.Common.{ℕ, length, get_or, arith}
-use Rattle.net_core.specs.Relations.{Timeline}
+use Rattle.std.proofs.Common.{length, get_or, arith}
 use Rattle.walks.proofs.DateLaws.{no_date}
 use Rattle.clash.specs.Dates.{Follows, FollowsAll}
 use Rattle.clash.proofs.Rising.{rises_all, rises_more, room_next}

@@ -1,4 +1,4 @@
-use Rattle.std.proofs.Common.{ℕ, ◌+◌, ◌*◌, subst, sym, arith}
+use Rattle.std.proofs.Common.{ℕ, subst, sym, arith}
 use Rattle.net_core.specs.Atoms.{Satisfies}
 use Rattle.net_core.specs.Fits.{StartsFirst}
 use Rattle.net_core.specs.Nets.{intervals}

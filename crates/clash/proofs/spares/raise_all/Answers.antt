@@ -50,9 +50,9 @@ pub raise_dates-requires-clause-room : goal.raise_dates-requires-clause-room
 raise_dates-requires-clause-room c =
     let net = c.args.net.now in
     let risen = by_spans net c.args.but c.args.steps.now c.args.ranks.now c.raise_steps_back.new.ranks c.raise_steps.new.ranks c.raise_spans.new.ranks
-        c.raise_steps_back.ensures c.raise_steps.ensures c.raise_spans.ensures in
+    c.raise_steps_back.ensures c.raise_steps.ensures c.raise_spans.ensures in
     let same = dates_are net c.deref.result.now c.deref-2.result.now c.args.dates.now.uppers.items c.args.dates.now.lowers.items c.deref.ensures.value c.deref-2.ensures.value
-        c.requires.dates.uppers c.requires.dates.lowers in
+    c.requires.dates.uppers c.requires.dates.lowers in
     room_for (FitsBut net c.args.but c.args.steps.now) (StepsAndSpans net c.args.but c.args.steps.now) (AllFollow c.deref.result.now c.deref-2.result.now)
     c.args.ranks.now c.raise_spans.new.ranks (λ t fits. (fits.held, fits.spans)) (λ t fits. (same t).1 fits.dates) c.requires.room risen.rises
 
@@ -60,7 +60,7 @@ pub returns : goal.returns
 returns c =
     let net = c.args.net.now in
     let same = dates_are net c.deref.result.now c.deref-2.result.now c.args.dates.now.uppers.items c.args.dates.now.lowers.items c.deref.ensures.value c.deref-2.ensures.value
-        c.requires.dates.uppers c.requires.dates.lowers in
+    c.requires.dates.uppers c.requires.dates.lowers in
     until_then (StepsAndSpans net c.args.but c.args.steps.now) (AllFollow c.deref.result.now c.deref-2.result.now) (FitsBut net c.args.but c.args.steps.now)
     c.args.ranks.now c.raise_spans.new.ranks c.raise_dates.new.ranks (λ t. (
       λ fits. ((fits.held, fits.spans), (same t).1 fits.dates),
