@@ -7,3 +7,7 @@ pub mod Complete
 pub mod Unlinked
 pub mod Rounds
 pub mod Marked
+pub mod Rising
+pub mod StepsBut
+pub mod RankSums
+pub mod Spared

@@ -9,7 +9,7 @@ ghost use Rattle.std.specs.Prelude.{IfOk, length, ◌≡◌, ◌≤◌};
 
 use crate::raising::{raise_dates, raise_spans, raise_steps, raise_steps_back};
 use crate::round::Round;
-use net_core::{List, Memory, Net, Ranks, Step};
+use net_core::{List, MAX_INTERVALS, Memory, Net, Ranks, Step};
 use std::alloc::Global;
 use walks::{Date, lowers_of, uppers_of};
 
@@ -84,6 +84,7 @@ fn settle(net: &Net, dates: &Dates, steps: &[Step], but: u32, ranks: &mut [u32])
     ensures rises { Rises (FitsBut net.now but steps.now) ranks.old ranks.new }
     ensures fits { FitsBut net.now but steps.now (timeline_of ranks.new) }
 {
+    prove!(net.intervals() <= MAX_INTERVALS);
     let mut risen = true;
     while risen {
         let before = total(ranks);

@@ -1,0 +1,73 @@
+-- What steps are over holds, but for one link.
+use Rattle.std.proofs.Common.{◌≡◌, ◌≢◌, ◌↔◌, ℕ, ◌<◌, List, length, get_or, Some, None, refl, sym, subst}
+use Rattle.std.specs.List.{Contains}
+use Rattle.std.proofs.lemmas.List.Elements.{All-contains, All-from_get_or, Contains-get_or}
+use Rattle.net_core.specs.Clashes.{Others}
+use Rattle.net_core.specs.Atoms.{Satisfies, atoms_of}
+use Rattle.net_core.specs.Fits.{FitsWith, KeepsLink}
+use Rattle.net_core.specs.Nets.{PlainNet, link_at}
+use Rattle.net_core.specs.Relations.{Timeline}
+use Rattle.net_core.specs.Steps.{atom_of, link_of}
+use Rattle.net_core.specs.declared.atom.Atom.{Atom}
+use Rattle.net_core.specs.declared.step.Step.{Step}
+use Rattle.net_core.specs.declared.step.Step.TheVariants.{Link, Span, Calendar}
+use Rattle.net_core.specs.Walks.{Kept}
+use Rattle.net_core.proofs.StepLaws.{step_kept}
+use Rattle.order_closure.specs.Tables.{SatisfiesAll}
+use Rattle.clash.specs.Minimal.{IsRound}
+use Rattle.clash.specs.Raising.{FitsBut, HoldsBut}
+use Rattle.clash.specs.declared.round.Round.{Round}
+use Rattle.clash.proofs.LinkAtoms.{link_said}
+
+-- what is read past the end of a list of steps
+abbrev pub no_step : Step
+no_step = Link 0 0
+
+-- what a step over a link is over holds where all atoms of the link are true
+pub over_link : (net : PlainNet) (but k : ℕ) (step : Step) (atoms : List Atom) → Some k ≡ link_of step → k ≢ but → k < length net.links
+    → (let link = link_at net k in atoms ≡ atoms_of link.rel link.a link.b) → (t : Timeline) → SatisfiesAll atoms t ↔ HoldsBut net but step t
+over_link net but k (Link j i) atoms e other within are t =
+    let same : k ≡ j = cc in
+    let said = link_said net k atoms are t in
+    subst (λ (n : ℕ). SatisfiesAll atoms t ↔ HoldsBut net but (Link n i) t) same (λ all. λ ne lt. said.0 all, λ holds. said.1 (holds other within))
+over_link net but k (Span i) atoms e other within are t = absurd cc
+over_link net but k (Calendar p q) atoms e other within are t = absurd cc
+
+-- what another step is over holds where its order is true
+pub over_order : (net : PlainNet) (but : ℕ) (step : Step) (a : Atom) → None ≡ link_of step → Some a ≡ atom_of net step → (t : Timeline) → Satisfies t a ↔ HoldsBut net but step t
+over_order net but (Link j i) a none is t = absurd cc
+over_order net but (Span i) a none is t = (λ holds. λ b e. subst (Satisfies t) (let same : a ≡ b = cc in same) holds, λ holds. holds a (sym is))
+over_order net but (Calendar p q) a none is t = (λ holds. λ b e. subst (Satisfies t) (let same : a ≡ b = cc in same) holds, λ holds. holds a (sym is))
+
+module _ (net : PlainNet) (round : Round) (but : ℕ) (is : IsRound net round) where
+  -- what a step of the walk is over holds where the other links do
+  held : (t : Timeline) (step : Step) → FitsWith net (Others (Kept round.over.items) but) t → Contains round.walk step → HoldsBut net but step t
+  held t (Link k i) fits has = λ other within. fits.links k within ((is.over k within).1 (Link k i, has, refl), other)
+  held t (Span i) fits has = λ a e. step_kept net (Others (Kept round.over.items) but) t (Span i) a fits (e, tt)
+  held t (Calendar p q) fits has = λ a e. step_kept net (Others (Kept round.over.items) but) t (Calendar p q) a fits (e, tt)
+
+  -- a link that a step goes over holds where what the step is over does
+  link_held : (t : Timeline) (k : ℕ) (step : Step) → link_of step ≡ Some k → k ≢ but → k < length net.links → HoldsBut net but step t → KeepsLink net t k
+  link_held t k (Link j i) e other within holds =
+      let same : j ≡ k = cc in
+      subst (KeepsLink net t) same (subst (λ (n : ℕ). n ≢ but → n < length net.links → KeepsLink net t j) same holds other within)
+  link_held t k (Span i) e other within holds = absurd cc
+  link_held t k (Calendar p q) e other within holds = absurd cc
+
+  -- the other links hold exactly where what the steps are over does
+  pub fits_but : (t : Timeline) → FitsWith net (Others (Kept round.over.items) but) t ↔ FitsBut net but round.walk t
+  fits_but t = (
+    λ fits. record {
+      held = All-from_get_or (λ (step : Step). HoldsBut net but step t) round.walk no_step (λ i lt.
+          held t (get_or round.walk i no_step) fits (Contains-get_or round.walk i no_step lt));
+      spans = fits.order;
+      dates = fits.calendar;
+    },
+    λ all. record {
+      order = all.spans;
+      links = λ k within chosen.
+          let over = (is.over k within).0 chosen.0 in
+          link_held t k over.0 over.2 chosen.1 within (All-contains (λ (step : Step). HoldsBut net but step t) round.walk over.0 all.held over.1);
+      calendar = all.dates;
+    },
+  )
