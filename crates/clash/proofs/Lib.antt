@@ -7,6 +7,7 @@ pub mod Complete
 pub mod Unlinked
 pub mod Rounds
 pub mod Marked
+pub mod Proved
 pub mod Rising
 pub mod StepsBut
 pub mod RankSums

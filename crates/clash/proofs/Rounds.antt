@@ -96,8 +96,8 @@ round_through net Chosen k steps round (step, has, is) =
     by_step (Link j i) a at has is =
         let same : j ≡ k = cc in
         let here : slice_get (orders_of net j) i ≡ Some a =
-            option_and_then_some (λ (l : NetLink). slice_get (atoms_of l.rel l.a l.b) i) (slice_get net.links j) a at (λ l found here.
-            subst (λ (x : NetLink). slice_get (atoms_of x.rel x.a x.b) i ≡ Some a) (sym (get_or_from_slice_get net.links j l (record { a = 0; rel = rel.Before; b = 0 }) found)) here) in
+        option_and_then_some (λ (l : NetLink). slice_get (atoms_of l.rel l.a l.b) i) (slice_get net.links j) a at (λ l found here.
+        subst (λ (x : NetLink). slice_get (atoms_of x.rel x.a x.b) i ≡ Some a) (sym (get_or_from_slice_get net.links j l (record { a = 0; rel = rel.Before; b = 0 }) found)) here) in
         (i, a, subst (λ (n : ℕ). slice_get (orders_of net n) i ≡ Some a) same here, round_from net Chosen steps (Link j i) a round has at)
     by_step (Span i) a at has is = absurd cc
     by_step (Calendar p q) a at has is = absurd cc

@@ -34,7 +34,7 @@ pub fn clash_up_to(alloc: Global, net: &Net, link: u32) -> Result<Clash, Memory>
 {
     let first = first_round(alloc, net, link)?;
     let round = thin(alloc, net, first, link)?;
-    let cites = marked(alloc, &round.over)?;
+    let cites = marked(alloc, net, &round.over)?;
     let spares = spares_of(alloc, net, &round, cites.as_slice())?;
     Ok(Clash {
         cites,
@@ -72,15 +72,15 @@ fn up_to(alloc: Global, net: &Net, link: u32) -> Result<Vec<bool>, Memory>
 }
 
 /// The numbers of the links that are marked.
-fn marked(alloc: Global, marks: &[bool]) -> Result<List<u32>, Memory>
-    requires { length marks.now ≤ 4096 }
+fn marked(alloc: Global, net: &Net, marks: &[bool]) -> Result<List<u32>, Memory>
+    requires { length marks.now ≡ length net.now.links }
     ensures rising { IfOk result IsStrictlyIncreasing }
     ensures exact { IfOk result (λ links. (k : ℕ) → Contains links k ↔ Kept marks.now k) }
 {
     let mut links = List::new(alloc);
-    for k in 0..marks.len() {
-        if marks[k] {
-            links.push(k as u32)?;
+    for link in 0..net.links() {
+        if marks[link as usize] {
+            links.push(link)?;
         }
     }
     Ok(links)

@@ -1,6 +1,7 @@
+use Rattle.std.proofs.Common.{◌≡◌, length}
 use Rattle.clash.proofs.Marked.{AreMarked}
 use Rattle.clash.proofs.minimal.marked.Given as goal
 
 -- the marked links so far stand in the list
-abbrev pub invariant-loop-k : goal.invariant-loop-k
-invariant-loop-k l = AreMarked l.marks l.k l.links
+abbrev pub invariant-loop-link : goal.invariant-loop-link
+invariant-loop-link l = (l.link-end ≡ length l.net.links) × AreMarked l.marks l.link l.links

@@ -43,7 +43,7 @@ same c = set_again c.args.self.now.over.items c.args.link c.requires.link
 abbrev AreMarks : After-index_mut-in-None → List Bool → Type 0
 AreMarks c marks =
     (length marks ≡ length c.args.net.now.links) × GoesRound c.args.net.now (Kept marks) c.args.self.now.walk
-        × ((k : ℕ) → k < length c.args.net.now.links → Kept marks k ↔ GoesOver c.args.self.now.walk k)
+    × ((k : ℕ) → k < length c.args.net.now.links → Kept marks k ↔ GoesOver c.args.self.now.walk k)
 
 pub returns-in-None-clause-round : goal.returns-in-None-clause-round
 returns-in-None-clause-round c =

@@ -39,5 +39,5 @@ returns-clause-round c =
     let marks = here.mark_steps.new.marks in
     let long : length marks ≡ c.in-Ok.over.len = here.mark_steps.ensures.length ∙ here.deref_mut.ensures.len in
     let all : AreMarks here (with_items c.in-Ok.over marks).items =
-        subst (AreMarks here) (sym (with_items_is c.in-Ok.over marks long)) (size here, goes_from_marks c.args.net.now c.args.walk marks c.requires.goes (over here), over here) in
+    subst (AreMarks here) (sym (with_items_is c.in-Ok.over marks long)) (size here, goes_from_marks c.args.net.now c.args.walk marks c.requires.goes (over here), over here) in
     record { size = all.0; goes = all.1; over = all.2; short = c.requires.short }
