@@ -13,15 +13,16 @@ use Rattle.net_core.specs.declared.rels.Rel.{Rel}
 use Rattle.net_core.specs.declared.step.Step.{Step}
 use Rattle.net_build.specs.Built.{IsNetOf}
 use Rattle.order_closure.specs.Timelines.{IsLeast}
-use Rattle.clash.specs.Closures.{Always, HasNoTimeline}
-use Rattle.evidence_format.specs.Evidence.{PlainEvidence, IsText, entails, counter}
-use Rattle.evidence_check.specs.Claims.{IsTrue, SomeFits}
-use Rattle.evidence_check.specs.Supported.{IsSupported, Proves, atom_at}
+use Rattle.clash.specs.Closures.{Always}
+use Rattle.evidence_format.specs.Evidence.{entails, counter}
+use Rattle.evidence_check.specs.Claims.{SomeFits}
+use Rattle.evidence_check.specs.Supported.{Proves, atom_at}
 use Rattle.tml_refs.specs.Documents.{PlainDocument, IsNamed}
 use Rattle.tml_tool.specs.declared.status.Status.{Status}
 use Rattle.tml_tool.specs.declared.status.Status.TheVariants.{Done, DocFault, Clash, UnknownName}
 use Rattle.tml_tool.specs.Acceptance.{FirstFault, Says}
-use Rattle.tml_tool.specs.Questions.{HasFaultLine, clash_line}
+use Rattle.tml_tool.specs.Questions.{HasFaultLine}
+use Rattle.tml_tool.specs.Showing.{TellsClash, TellsEvidence}
 
 -- no interval has this name
 abbrev pub NamesNone : PlainDocument → List ℕ → Type 0
@@ -51,10 +52,6 @@ pub record Asks (doc x rel y : List ℕ) (net : PlainNet) (a : ℕ) (r : Rel) (b
   pub relation : rel_text r ≡ rel
   pub second : IsNamed contents.intervals y b
 
--- the text is that of evidence that the net supports, and what it shows is true
-abbrev pub TellsEvidence : PlainNet → PlainEvidence → List ℕ → Type 0
-TellsEvidence net e text = IsText e text × IsSupported net e × IsTrue net e
-
 -- a proof that the relation holds in every timeline that fits, by walks of at most twice as many steps as there are points
 abbrev pub TellsProof : PlainNet → ℕ → Rel → ℕ → List ℕ → Type 0
 TellsProof net a r b text = (walks : List (List Step)) × All (λ steps. length steps ≤ 2 * points net) walks × TellsEvidence net (entails a r b walks) text
@@ -73,10 +70,10 @@ TellsCounterexample net a r b text =
     (atom : Atom) × (ranks : List ℕ) × IsFirstOpen net (atoms_of r a b) atom × (length ranks ≡ points net)
     × IsLeast (points net) (λ t. Fits net t × (Satisfies t atom → ⊥)) (timeline_of ranks) × TellsEvidence net (counter a r b (pairs_of ranks)) text
 
--- the answer to what is asked of a net: where some timeline fits, a proof or a counterexample, else that none does
+-- the answer to what is asked of a net: where some timeline fits, a proof or a counterexample, else a minimal clash
 abbrev pub OfNet : PlainNet → ℕ → Rel → ℕ → Status → List ℕ → Type 0
 OfNet net a r b Done text = SomeFits net × (TellsProof net a r b text ⊎ TellsCounterexample net a r b text)
-OfNet net a r b Clash text = HasNoTimeline net × (text ≡ clash_line)
+OfNet net a r b Clash text = TellsClash net text
 OfNet net a r b other text = ⊥
 
 -- the answer where all words name something

@@ -4,7 +4,7 @@ use Rattle.std.specs.declared.alloc.Global.{Global}
 use Rattle.std.specs.declared.option.Option.{Option}
 use Rattle.tml_tool.specs.declared.role.Role.TheVariants.{Doc, Evidence}
 use Rattle.tml_tool.specs.declared.status.Status.{Status}
-use Rattle.tml_tool.specs.declared.status.Status.TheVariants.{Done, DocFault, Usage}
+use Rattle.tml_tool.specs.declared.status.Status.TheVariants.{Done, DocFault, Clash, Usage}
 use Rattle.tml_tool.specs.Words.{CommandForm, by_relation, of_document, form_of, texts_of, usage, verify}
 use Rattle.tml_tool.specs.Acceptance.{Accepted, FirstFault}
 use Rattle.tml_tool.specs.Questions.{HasFaultLine}
@@ -24,8 +24,9 @@ rows_of (Some (verify name evidence)) (doc ∷ []) (reads file) = Accepted doc �
 rows_of (Some (verify name evidence)) (doc ∷ bytes ∷ []) (answers status text) = OfVerify doc bytes status text
 rows_of form contents next = ⊥
 
--- whether the contents determine the text that is answered with a status: which walks prove a relation is free, and all else is determined
+-- whether the contents determine the text that is answered with a status: which walks prove a relation, and which minimal clash is told, is free, and all else is determined
 abbrev pub is_determined : Option CommandForm → Status → Bool
+is_determined (Some (of_document query name)) Clash = false
 is_determined (Some (of_document (by_relation x rel y) name)) Done = false
 is_determined form status = true
 

@@ -10,8 +10,7 @@ use Rattle.net_core.specs.Nets.{PlainNet, points}
 use Rattle.net_core.specs.Ranks.{pairs_of, timeline_of}
 use Rattle.net_build.specs.Built.{IsNetOf}
 use Rattle.order_closure.specs.Timelines.{IsLeast}
-use Rattle.clash.specs.Closures.{HasNoTimeline}
-use Rattle.evidence_format.specs.Evidence.{IsText, timeline}
+use Rattle.evidence_format.specs.Evidence.{timeline}
 use Rattle.tml_tool.specs.declared.command.Question.{Question}
 use Rattle.tml_tool.specs.declared.command.Question.TheVariants.{Spans, Check, Dates, Solve}
 use Rattle.tml_tool.specs.declared.role.Role.TheVariants.{Doc}
@@ -20,6 +19,7 @@ use Rattle.tml_tool.specs.declared.status.Status.TheVariants.{Done, DocFault, Cl
 use Rattle.tml_tool.specs.Acceptance.{FirstFault, Says}
 use Rattle.tml_tool.specs.DateTexts.{DateLines}
 use Rattle.tml_tool.specs.Roles.{limit_of}
+use Rattle.tml_tool.specs.Showing.{TellsClash, TellsEvidence}
 use Rattle.tml_tool.specs.Texts as texts
 
 -- how many bytes a document has at most
@@ -44,15 +44,13 @@ HasNet doc net = (contents : PlainDocument) × Says doc contents × IsNetOf cont
 
 -- the text is that of the least timeline that fits the document
 abbrev pub TellsTimeline : List ℕ → List ℕ → Type 0
-TellsTimeline doc text = (net : PlainNet) × (ranks : List ℕ) × HasNet doc net × (length ranks ≡ points net) × IsLeast (points net) (Fits net) (timeline_of ranks) × IsText (timeline (pairs_of ranks)) text
+TellsTimeline doc text =
+    (net : PlainNet) × (ranks : List ℕ) × HasNet doc net × (length ranks ≡ points net) × IsLeast (points net) (Fits net) (timeline_of ranks)
+    × TellsEvidence net (timeline (pairs_of ranks)) text
 
--- that no timeline fits
-abbrev pub clash_line : List ℕ
-clash_line = codes "clash\n"
-
--- no timeline fits the document, and the text says so
-abbrev pub TellsClash : List ℕ → List ℕ → Type 0
-TellsClash doc text = (net : PlainNet) × HasNet doc net × HasNoTimeline net × (text ≡ clash_line)
+-- no timeline fits the document, and the text is that of a minimal clash
+abbrev pub ClashesBy : List ℕ → List ℕ → Type 0
+ClashesBy doc text = (net : PlainNet) × HasNet doc net × TellsClash net text
 
 -- What a question prints: `spans` the table of the units, `check` what an accepted document has, `dates` when its times are, and `solve` the least timeline.
 abbrev pub Prints : Question → List ℕ → List ℕ → Type 0
@@ -68,7 +66,7 @@ NamesFault question doc kind place = FirstFault doc kind place
 
 -- the answer to a question that needs a timeline, where none fits
 abbrev pub Clashes : Question → List ℕ → List ℕ → Type 0
-Clashes Solve doc text = TellsClash doc text
+Clashes Solve doc text = ClashesBy doc text
 Clashes question doc text = ⊥
 
 -- the answer to a question that is one word

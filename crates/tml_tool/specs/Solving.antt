@@ -11,16 +11,17 @@ use Rattle.evidence_format.specs.Evidence.{IsText, counter, timeline}
 use Rattle.order_closure.specs.Cells.{order, strength}
 use Rattle.order_closure.specs.Tables.{Keeps, Table, cell_at}
 use Rattle.order_closure.specs.Timelines.{IsLeast}
+use Rattle.tml_tool.specs.Showing.{printed_limit}
 
 -- the text is that of the least ranks that keep the table
 abbrev pub IsLeastText : Table → List ℕ → Type 0
-IsLeastText table text = (ranks : List ℕ) × (length ranks ≡ table.points) × IsLeast table.points (Keeps table) (timeline_of ranks) × IsText (timeline (pairs_of ranks)) text
+IsLeastText table text = (ranks : List ℕ) × (length ranks ≡ table.points) × IsLeast table.points (Keeps table) (timeline_of ranks) × IsText (timeline (pairs_of ranks)) text × (length text ≤ printed_limit)
 
 -- the text is that of the least ranks that keep the table and make an atom false
 abbrev pub IsCounterText : Table → ℕ → Rel → ℕ → Atom → List ℕ → Type 0
 IsCounterText table a r b atom text =
     (ranks : List ℕ) × (length ranks ≡ table.points) × IsLeast table.points (λ t. Keeps table t × (Satisfies t atom → ⊥)) (timeline_of ranks)
-    × IsText (counter a r b (pairs_of ranks)) text
+    × IsText (counter a r b (pairs_of ranks)) text × (length text ≤ printed_limit)
 
 -- the cell of an atom says at least its order
 abbrev pub Gives : Table → Atom → Type 0
