@@ -100,4 +100,4 @@ tells_counterexample net table a r b atom text closure both first told =
       subst (λ (rs : List ℕ). (length rs ≡ points net) × Fits net (timeline_of rs)) (sym again) (size, least.holds.0),
       subst (λ (rs : List ℕ). IsFalse rs a r b) (sym again) (false_by ranks a r b first.0 first.1.0 fails),
     ) in
-    (atom, ranks, first, size, least, (told.3, supported, supported_is_true net (counter a r b (pairs_of ranks)) supported))
+    (atom, ranks, first, size, least, (told.3, supported, supported_is_true net (counter a r b (pairs_of ranks)) supported, told.4))

@@ -18,3 +18,5 @@ pub mod WalkProofs
 pub mod Counterexamples
 pub mod Naming
 pub mod Forms
+pub mod Sizes
+pub mod ClashProofs

@@ -1,8 +1,8 @@
 -- After what a command has read one thing comes next.
 use Rattle.std.proofs.Common.{◌≡◌, ◌≢◌, true, ℕ, List, [], ◌∷◌, refl, sym, ◌∙◌, Option, Some, None}
 use Rattle.tml_tool.specs.declared.status.Status.{Status}
-use Rattle.tml_tool.specs.declared.status.Status.TheVariants.{Done, DocFault, Usage}
-use Rattle.tml_tool.specs.Words.{CommandForm, by_relation, by_word, of_document, verify}
+use Rattle.tml_tool.specs.declared.status.Status.TheVariants.{Done, DocFault, Clash, Usage}
+use Rattle.tml_tool.specs.Words.{CommandForm, QueryForm, by_relation, by_word, of_document, verify}
 use Rattle.tml_tool.specs.Commands.{is_determined, rows_of}
 use Rattle.tml_tool.specs.Rows.{Next, answers, reads}
 use Rattle.tml_tool.specs.OneReply.{Agree, HasOneNext, HasOneText}
@@ -10,6 +10,7 @@ use Rattle.tml_tool.specs.Acceptance.{FirstFault}
 use Rattle.tml_tool.proofs.OneAnswers as answers_of
 use Rattle.tml_tool.proofs.OneAnswers.{one_fault_line}
 use Rattle.tml_tool.proofs.OneRelation as relations
+use Rattle.tml_tool.proofs.OneRelation.{IsSettled}
 use Rattle.tml_tool.proofs.OneVerdicts as verdicts
 use Rattle.tml_tool.proofs.Phases.{accepted_or_fault, one_fault}
 
@@ -36,16 +37,21 @@ agree form contents next other h k = absurd h
 pub one_next : (form : Option CommandForm) → HasOneNext (rows_of form)
 one_next form = λ contents next other h k. agree form contents next other h k
 
--- where the text about a relation is determined, the status is not Done
-not_done : (x rel y name : List ℕ) (status : Status) → is_determined (Some (of_document (by_relation x rel y) name)) status ≡ true → status ≢ Done
-not_done x rel y name Done e = cc
-not_done x rel y name status e = λ done. cc
+-- where the text is determined, the status is not Clash, and about a relation not Done
+not_clash : (query : QueryForm) (name : List ℕ) (status : Status) → is_determined (Some (of_document query name)) status ≡ true → status ≢ Clash
+not_clash query name Clash e = cc
+not_clash query name status e = λ clash. cc
+
+settled : (x rel y name : List ℕ) (status : Status) → is_determined (Some (of_document (by_relation x rel y) name)) status ≡ true → IsSettled status
+settled x rel y name Done e = cc
+settled x rel y name Clash e = cc
+settled x rel y name status e = (λ done. cc, λ clash. cc)
 
 one_line : (form : Option CommandForm) (contents : List (List ℕ)) (status : Status) (text line : List ℕ) → is_determined form status ≡ true → rows_of form contents (answers status text) → rows_of form contents (answers status line)
     → text ≡ line
 one_line None [] Usage text line e h k = h ∙ sym k
-one_line (Some (of_document (by_word question) name)) (doc ∷ []) status text line e h k = answers_of.one_text question doc status text line h k
-one_line (Some (of_document (by_relation x rel y) name)) (doc ∷ []) status text line e h k = relations.one_text x rel y doc status text line (not_done x rel y name status e) h k
+one_line (Some (of_document (by_word question) name)) (doc ∷ []) status text line e h k = answers_of.one_text question doc status text line (not_clash (by_word question) name status e) h k
+one_line (Some (of_document (by_relation x rel y) name)) (doc ∷ []) status text line e h k = relations.one_text x rel y doc status text line (settled x rel y name status e) h k
 one_line (Some (verify name evidence)) (doc ∷ []) DocFault text line e h k = one_fault_line (FirstFault doc) text line (one_fault doc) h k
 one_line (Some (verify name evidence)) (doc ∷ bytes ∷ []) status text line e h k = verdicts.one_text doc bytes status text line h k
 one_line form contents status text line e h k = absurd h

@@ -1,4 +1,4 @@
--- Whether a relation holds has one answer: one status, and for each status but Done one text.
+-- Whether a relation holds has one answer: one status, and for each status but Done and Clash one text.
 use Rattle.std.proofs.Common.{◌≡◌, ◌≢◌, ℕ, List, refl, sym, subst, ◌∙◌, inl, inr}
 use Rattle.net_core.specs.Nets.{PlainNet}
 use Rattle.net_core.specs.declared.rels.Rel.{Rel}
@@ -70,17 +70,21 @@ of_one_net x rel y doc status other text line h k =
 -- of one net, some timeline fits or none does
 status_of_net : (net : PlainNet) (status other : Status) (text line : List ℕ) → OfSomeRelation net status text → OfSomeRelation net other line → status ≡ other
 status_of_net net Done Done text line h k = refl
-status_of_net net Done Clash text line h k = absurd (k.3.0 h.3.0.0 h.3.0.1)
-status_of_net net Clash Done text line h k = absurd (h.3.0 k.3.0.0 k.3.0.1)
+status_of_net net Done Clash text line h k = absurd (k.3.none h.3.0.0 h.3.0.1)
+status_of_net net Clash Done text line h k = absurd (h.3.none k.3.0.0 k.3.0.1)
 status_of_net net Clash Clash text line h k = refl
 status_of_net net Done other text line h k = absurd k.3
 status_of_net net Clash other text line h k = absurd k.3
 status_of_net net status other text line h k = absurd h.3
 
--- where none fits there is one text
-text_of_net : (net : PlainNet) (status : Status) (text line : List ℕ) → status ≢ Done → OfSomeRelation net status text → OfSomeRelation net status line → text ≡ line
-text_of_net net Done text line n h k = absurd (n refl)
-text_of_net net Clash text line n h k = h.3.1 ∙ sym k.3.1
+-- whether one text belongs to a status: walks that prove a relation, and minimal clashes, are free
+abbrev pub IsSettled : Status → Type 0
+IsSettled status = (status ≢ Done) × (status ≢ Clash)
+
+-- of one net, such a status has no text
+text_of_net : (net : PlainNet) (status : Status) (text line : List ℕ) → IsSettled status → OfSomeRelation net status text → OfSomeRelation net status line → text ≡ line
+text_of_net net Done text line n h k = absurd (n.0 refl)
+text_of_net net Clash text line n h k = absurd (n.1 refl)
 text_of_net net status text line n h k = absurd h.3
 
 -- what is asked of a document has one status
@@ -89,8 +93,8 @@ asked_status x rel y doc status other text line h k =
     let both = of_one_net x rel y doc status other text line h k in
     status_of_net both.0 status other text line both.1 both.2
 
--- what is asked of a document has one text for each status but Done
-asked_text : (x rel y doc : List ℕ) (status : Status) (text line : List ℕ) → status ≢ Done → OfAsked doc x rel y status text → OfAsked doc x rel y status line → text ≡ line
+-- what is asked of a document has one text for each settled status
+asked_text : (x rel y doc : List ℕ) (status : Status) (text line : List ℕ) → IsSettled status → OfAsked doc x rel y status text → OfAsked doc x rel y status line → text ≡ line
 asked_text x rel y doc status text line n h k =
     let both = of_one_net x rel y doc status status text line h k in
     text_of_net both.0 status text line n both.1 both.2
@@ -109,8 +113,8 @@ one_status x rel y doc status DocFault text line h k = absurd (accepted_or_fault
 one_status x rel y doc status UnknownName text line h k = absurd (asked_or_unknown x rel y doc status text line h k)
 one_status x rel y doc status other text line h k = asked_status x rel y doc status other text line h k
 
--- each status but Done has one text
-pub one_text : (x rel y doc : List ℕ) (status : Status) (text line : List ℕ) → status ≢ Done → OfRelation x rel y doc status text → OfRelation x rel y doc status line → text ≡ line
+-- each status but Done and Clash has one text
+pub one_text : (x rel y doc : List ℕ) (status : Status) (text line : List ℕ) → IsSettled status → OfRelation x rel y doc status text → OfRelation x rel y doc status line → text ≡ line
 one_text x rel y doc DocFault text line n h k = one_fault_line (FirstFault doc) text line (one_fault doc) h k
 one_text x rel y doc UnknownName text line n h k = one_unknown_line x rel y doc text line h k
 one_text x rel y doc status text line n h k = asked_text x rel y doc status text line n h k

@@ -14,9 +14,9 @@ use Rattle.evidence_format.specs.Evidence.{IsText, clash, counter, entails, time
 use Rattle.evidence_check.specs.Supported.{AreIntervals, Proves}
 use Rattle.tml_tool.specs.Showing.{printed_limit}
 
--- ranks of at most 1,024 points, each below their number
+-- ranks of no more than 2,048 points, each below that
 abbrev pub AreSmallRanks : List ℕ → Type 0
-AreSmallRanks ranks = (length ranks ≤ 1024) × ((p : ℕ) → p < length ranks → slice_index ranks p < 1024)
+AreSmallRanks ranks = (length ranks ≤ 2048) × ((p : ℕ) → p < length ranks → slice_index ranks p < 2048)
 
 pub timeline_size : (ranks text : List ℕ) → AreSmallRanks ranks → IsText (timeline (pairs_of ranks)) text → length text ≤ printed_limit
 timeline_size ranks text small is = ?

@@ -1,14 +1,16 @@
 -- The least timeline of a document, and its text.
 use Rattle.std.proofs.Common.{◌≡◌, ℕ, suc, ◌<◌, ◌≤◌, List, [], ◌∷◌, length, get_or, refl, sym, ap, subst, ◌∙◌, arith}
-use Rattle.net_core.specs.Fits.{Fits}
+use Rattle.net_core.specs.Fits.{Fits, RanksFit}
 use Rattle.net_core.specs.Nets.{PlainNet, points}
-use Rattle.net_core.specs.Ranks.{pairs_of, timeline_of}
+use Rattle.net_core.specs.Ranks.{pairs_of, ranks_of, timeline_of}
 use Rattle.net_core.specs.Relations.{Timeline}
+use Rattle.net_core.proofs.RankLaws.{even_length, ranks_again}
 use Rattle.clash.specs.Closures.{IsClosureOf}
+use Rattle.evidence_check.specs.Supported.{IsSupported}
 use Rattle.evidence_format.specs.Evidence.{IsText, timeline}
 use Rattle.order_closure.specs.Tables.{Keeps, Table}
 use Rattle.order_closure.specs.Timelines.{IsLeast}
-use Rattle.tml_tool.specs.Questions.{HasNet, TellsClash, TellsTimeline}
+use Rattle.tml_tool.specs.Questions.{ClashesBy, HasNet, TellsTimeline}
 use Rattle.tml_tool.specs.Solving.{IsLeastText}
 use Rattle.tml_tool.proofs.OneNet.{one_net_of}
 
@@ -21,7 +23,13 @@ least_fits net table t c l = record {
 
 -- the text of the least timeline of the closure tells the least timeline of the document
 pub tells_timeline : (doc text : List ℕ) (net : PlainNet) (table : Table) → HasNet doc net → IsClosureOf net table → IsLeastText table text → TellsTimeline doc text
-tells_timeline doc text net table h c l = (net, l.0, h, l.1 ∙ c.size, least_fits net table (timeline_of l.0) c l.2, l.3)
+tells_timeline doc text net table h c l =
+    let ranks = l.0 in
+    let size = l.1 ∙ c.size in
+    let least = least_fits net table (timeline_of ranks) c l.2 in
+    let again : ranks_of (pairs_of ranks) ≡ ranks = ranks_again ranks (even_length (length net.bounds) ranks size) in
+    let supported : IsSupported net (timeline (pairs_of ranks)) = subst (RanksFit net) (sym again) (size, least.holds) in
+    (net, ranks, h, size, least, (l.3, supported, (timeline_of ranks, least.holds), l.4))
 
 -- two lists of the same items are one
 same_items : (a b : List ℕ) → length a ≡ length b → ((p : ℕ) → p < length a → get_or a p 0 ≡ get_or b p 0) → a ≡ b
@@ -49,9 +57,9 @@ one_timeline doc text other h k =
     let least = subst (λ (n : PlainNet). IsLeast (points n) (Fits n) (timeline_of h.1)) net h.4 in
     let size = h.3 ∙ ap points net in
     let ranks = one_least k.0 h.1 k.1 size k.3 least k.4 in
-    let same = subst (λ (rs : List ℕ). IsText (timeline (pairs_of rs)) text) ranks h.5 in
-    same.1 ∙ sym k.5.1
+    let same = subst (λ (rs : List ℕ). IsText (timeline (pairs_of rs)) text) ranks h.5.0 in
+    same.1 ∙ sym k.5.0.1
 
 -- where a timeline is told none clashes
-pub timeline_or_clash : (doc text other : List ℕ) → TellsTimeline doc text → TellsClash doc other → ⊥
-timeline_or_clash doc text other h k = k.2 (timeline_of h.1) (subst (λ (n : PlainNet). Fits n (timeline_of h.1)) (one_net_of doc h.0 k.0 h.2 k.1) h.4.holds)
+pub timeline_or_clash : (doc text other : List ℕ) → TellsTimeline doc text → ClashesBy doc other → ⊥
+timeline_or_clash doc text other h k = k.2.none (timeline_of h.1) (subst (λ (n : PlainNet). Fits n (timeline_of h.1)) (one_net_of doc h.0 k.0 h.2 k.1) h.4.holds)

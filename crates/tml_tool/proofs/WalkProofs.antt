@@ -27,6 +27,7 @@ use Rattle.evidence_check.specs.Supported.{AreIntervals, IsProof, IsSupported, P
 use Rattle.evidence_check.proofs.Soundness.{supported_is_true}
 use Rattle.evidence_format.specs.Evidence.{AreSteps, HasNumbers, IsText, IsWellFormed, entails}
 use Rattle.tml_tool.specs.Asking.{AlwaysHolds, AreWalks, TellsProof}
+use Rattle.tml_tool.proofs.Sizes.{entails_size}
 
 -- ---- with all links kept
 
@@ -102,7 +103,7 @@ step_numbers net (Calendar p q) a is e =
     (omega (arith, lp, is.few_intervals), omega (arith, lq, is.few_intervals))
 
 -- the steps of a walk have numbers that a text can have
-walk_numbers : (net : PlainNet) (steps : List Step) (x y : ℕ) → IsNet net → IsJoined net EveryLink steps x y → All HasNumbers steps
+pub walk_numbers : (net : PlainNet) (steps : List Step) (x y : ℕ) → IsNet net → IsJoined net EveryLink steps x y → All HasNumbers steps
 walk_numbers net [] x y is joined = All-nil HasNumbers
 walk_numbers net (step ∷ steps) x y is joined = All-cons HasNumbers step steps (step_numbers net step joined.0 is joined.1.0) (walk_numbers net steps joined.0.to y is joined.3)
 
@@ -126,4 +127,8 @@ module _ (net : PlainNet) (a : ℕ) (r : Rel) (b : ℕ) (is : IsNet net) (both :
   pub tells_proof : (text : List ℕ) → IsText (entails a r b walks) text → TellsProof net a r b text
   tells_proof text is_text =
       let supported : IsSupported net (entails a r b walks) = (both, are.proofs) in
-      (walks, are.short, (is_text, supported, supported_is_true net (entails a r b walks) supported))
+      (
+        walks,
+        are.short,
+        (is_text, supported, supported_is_true net (entails a r b walks) supported, entails_size net a b r walks text is both are.one_each are.proofs are.short is_text),
+      )

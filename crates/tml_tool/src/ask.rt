@@ -13,8 +13,8 @@ use net_core::{Memory, rel_of};
 use std::alloc::{AllocError, Global};
 
 /// Whether a relation holds between two intervals in every timeline that fits the document, by the words for them: a
-/// proof or a counterexample as evidence; or that no timeline fits, the first word that names nothing, or the first fault
-/// of the document.
+/// proof or a counterexample, or a minimal clash where no timeline fits, as evidence; or the first word that names
+/// nothing, or the first fault of the document.
 pub fn ask(alloc: Global, doc: &[u8], x: &[u8], rel: &[u8], y: &[u8]) -> Result<Answer, AllocError>
     requires { length doc.now ≤ doc_limit }
     ensures { IfOk result (IsAnswerTo (by_relation x.now rel.now y.now) doc.now) }

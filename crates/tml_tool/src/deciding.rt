@@ -9,8 +9,8 @@ ghost use Rattle.tml_tool.specs.Solving.{IsCounterText, IsFirstNotGiven};
 ghost use Rattle.tml_tool.specs.View.{finding_status};
 
 use crate::answer::Answer;
+use crate::clashing::clash_answer;
 use crate::proving::proof_text;
-use crate::solve::clash_answer;
 use clash::{CloseFault, close};
 use evidence_format::{Evidence, write_evidence};
 use net_core::{Atom, Atoms, Memory, Net, Rel, atoms_of};
@@ -18,14 +18,14 @@ use order_closure::Closed;
 use std::alloc::{AllocError, Global};
 use timeline::counter;
 
-/// A proof or a counterexample as evidence, or that no timeline fits.
+/// A proof or a counterexample, or a minimal clash where no timeline fits, as evidence.
 pub fn decide(alloc: Global, net: &Net, a: u32, rel: Rel, b: u32) -> Result<Answer, AllocError>
     requires { AreIntervals net.now a b }
     ensures { IfOk result (λ answer. OfNet net.now a rel b (finding_status answer.finding) answer.text.items) }
 {
     let table = match close(alloc, net) {
         Ok(table) => table,
-        Err(CloseFault::Clash(_)) => return clash_answer(alloc),
+        Err(CloseFault::Clash(clash)) => return clash_answer(alloc, net, clash),
         Err(CloseFault::Memory) => return Err(AllocError),
     };
     let text = match first_not_given(&table, atoms_of(rel, a, b)) {

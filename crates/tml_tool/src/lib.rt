@@ -5,6 +5,7 @@ mod accept;
 mod answer;
 mod ask;
 mod check;
+mod clashing;
 mod command;
 mod dates;
 mod deciding;

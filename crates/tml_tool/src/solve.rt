@@ -6,13 +6,14 @@ ghost use Rattle.net_core.specs.Ranks.{pairs_of, timeline_of};
 ghost use Rattle.order_closure.specs.Tables.{Keeps};
 ghost use Rattle.order_closure.specs.Timelines.{IsLeast};
 ghost use Rattle.std.specs.Prelude.{◌≡◌, ◌≤◌, ◌%◌, length, IfOk, List, ℕ};
-ghost use Rattle.tml_tool.specs.Questions.{clash_line, doc_limit};
+ghost use Rattle.tml_tool.specs.Questions.{doc_limit};
 ghost use Rattle.tml_tool.specs.Solving.{IsLeastText};
 ghost use Rattle.tml_tool.specs.View.{IsAnswer};
 ghost use Rattle.tml_tool.specs.declared.command.Question.TheVariants as questions;
 
 use crate::accept::accept;
-use crate::answer::{Answer, Finding};
+use crate::answer::Answer;
+use crate::clashing::clash_answer;
 use crate::refusal::refusal;
 use clash::{CloseFault, close};
 use evidence_format::{Evidence, write_evidence};
@@ -22,7 +23,7 @@ use order_closure::Closed;
 use std::alloc::{AllocError, Global};
 use timeline::least;
 
-/// The least timeline that fits the document, as evidence, or that none does, or its first fault.
+/// The least timeline that fits the document, or a minimal clash where none does, as evidence; or its first fault.
 pub fn solve(alloc: Global, doc: &[u8]) -> Result<Answer, AllocError>
     requires { length doc.now ≤ doc_limit }
     ensures { IfOk result (IsAnswer questions.Solve doc.now) }
@@ -37,7 +38,7 @@ pub fn solve(alloc: Global, doc: &[u8]) -> Result<Answer, AllocError>
     };
     match close(alloc, &net) {
         Ok(table) => Ok(Answer::done(least_text(alloc, &table)?)),
-        Err(CloseFault::Clash(_)) => clash_answer(alloc),
+        Err(CloseFault::Clash(clash)) => clash_answer(alloc, &net, clash),
         Err(CloseFault::Memory) => Err(AllocError),
     }
 }
@@ -55,16 +56,4 @@ fn least_text(alloc: Global, table: &Closed) -> Result<Vec<u8>, AllocError>
         Ok(text) => Ok(text.into_vec()),
         Err(Memory) => Err(AllocError),
     }
-}
-
-/// The answer that no timeline fits.
-pub fn clash_answer(alloc: Global) -> Result<Answer, AllocError>
-    ensures finding { IfOk result (λ answer. answer.finding ≡ Finding.Clash) }
-    ensures text { IfOk result (λ answer. answer.text.items ≡ clash_line) }
-{
-    let text = Vec::from_slice(alloc, b"clash\n")?;
-    Ok(Answer {
-        finding: Finding::Clash,
-        text,
-    })
 }
