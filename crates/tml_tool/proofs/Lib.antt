@@ -18,3 +18,6 @@ pub mod WalkProofs
 pub mod Counterexamples
 pub mod Naming
 pub mod Forms
+pub mod LineSizes
+pub mod FewCites
+pub mod Sizes
