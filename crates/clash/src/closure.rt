@@ -37,7 +37,7 @@ impl From<Memory> for CloseFault {
 /// `Clash` comes exactly where no timeline fits. It is minimal, and proves itself.
 pub fn close(alloc: Global, net: &Net) -> Result<Closed, CloseFault>
     ensures ok { IfOk result (IsClosureOf net.now) }
-    ensures few { IfOk result (λ table. table.points ≤ 2048) }
+    ensures few { IfOk result (λ table. table.points ≤ 1024) }
     ensures fits { IfOk result (λ table. (t : Timeline) × Fits net.now t) }
     ensures err { IfErr result (TellsClash net.now) }
 {

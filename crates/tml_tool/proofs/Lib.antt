@@ -20,3 +20,5 @@ pub mod Naming
 pub mod Forms
 pub mod Sizes
 pub mod ClashProofs
+pub mod LineSizes
+pub mod FewCites

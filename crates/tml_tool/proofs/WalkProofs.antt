@@ -15,7 +15,6 @@ use Rattle.net_core.specs.Walks.{HasWalk, IsJoined, IsWalk, Kept}
 use Rattle.net_core.specs.declared.atom.Atom.{Atom}
 use Rattle.net_core.specs.declared.net.NetLink.{NetLink}
 use Rattle.net_core.specs.declared.rels.Rel.{Rel}
-use Rattle.net_core.specs.declared.rels.Rel.TheVariants as rel
 use Rattle.net_core.specs.declared.step.Step.{Step}
 use Rattle.net_core.specs.declared.step.Step.TheVariants.{Link, Span, Calendar}
 use Rattle.net_core.proofs.AtomLaws.{atoms_counted}
@@ -27,6 +26,7 @@ use Rattle.evidence_check.specs.Supported.{AreIntervals, IsProof, IsSupported, P
 use Rattle.evidence_check.proofs.Soundness.{supported_is_true}
 use Rattle.evidence_format.specs.Evidence.{AreSteps, HasNumbers, IsText, IsWellFormed, entails}
 use Rattle.tml_tool.specs.Asking.{AlwaysHolds, AreWalks, TellsProof}
+use Rattle.tml_tool.proofs.LineSizes.{few_orders}
 use Rattle.tml_tool.proofs.Sizes.{entails_size}
 
 -- ---- with all links kept
@@ -67,31 +67,13 @@ proofs_push net atoms walks k steps size so_far proof =
 
 -- ---- the numbers of steps can stand in a text
 
--- a relation is four orders at most
-few_orders : (r : Rel) → atom_count r ≤ 4
-few_orders rel.Before = omega arith
-few_orders rel.After = omega arith
-few_orders rel.Includes = omega arith
-few_orders rel.IsIncluded = omega arith
-few_orders rel.During = omega arith
-few_orders rel.DuringInv = omega arith
-few_orders rel.Simultaneous = omega arith
-few_orders rel.Identity = omega arith
-few_orders rel.Ibefore = omega arith
-few_orders rel.Iafter = omega arith
-few_orders rel.Begins = omega arith
-few_orders rel.BegunBy = omega arith
-few_orders rel.Ends = omega arith
-few_orders rel.EndedBy = omega arith
-
 step_numbers : (net : PlainNet) (step : Step) (a : Atom) → IsNet net → atom_of net step ≡ Some a → HasNumbers step
 step_numbers net (Link k i) a is e = option_and_then_some (λ (l : NetLink). slice_get (atoms_of l.rel l.a l.b) i) (slice_get net.links k) a e (λ l at here.
     let few_links = is.few_links in
     let lk = slice_get_within net.links k l at in
     let li = slice_get_within (atoms_of l.rel l.a l.b) i a here in
-    let few = few_orders l.rel in
-    let count = atoms_counted l.rel (points_of l.a) (points_of l.b) in
-    (omega (arith, lk, few_links), omega (arith, li, few, count)))
+    let few = few_orders l.rel l.a l.b in
+    (omega (arith, lk, few_links), omega (arith, li, few)))
 step_numbers net (Span i) a is e =
     let both = tested (nat_lt i (intervals net)) (before (2 * i) (2 * i + 1)) a e in
     let lt = ltb-true i (intervals net) both.0 in

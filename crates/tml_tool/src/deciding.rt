@@ -61,7 +61,7 @@ fn counterexample_text(
     atom: Atom,
 ) -> Result<Vec<u8>, AllocError>
     requires even { table.now.points % 2 ≡ 0 }
-    requires few { table.now.points ≤ 2048 }
+    requires few { table.now.points ≤ 1024 }
     requires from { atom.from < table.now.points }
     requires to { atom.to < table.now.points }
     requires a { a < table.now.points }

@@ -46,7 +46,7 @@ pub fn solve(alloc: Global, doc: &[u8]) -> Result<Answer, AllocError>
 /// The text of the least timeline that keeps a table.
 fn least_text(alloc: Global, table: &Closed) -> Result<Vec<u8>, AllocError>
     requires even { table.now.points % 2 ≡ 0 }
-    requires few { table.now.points ≤ 2048 }
+    requires few { table.now.points ≤ 1024 }
     ensures { IfOk result (λ text. IsLeastText table.now text.items) }
 {
     let Ok(ranks) = least(alloc, table) else {

@@ -30,3 +30,6 @@ returns-in_ok-clash_up_to-in-Err-clause-err c =
     let net = c.args.net.now in
     let first = first_clash net c.in_ok-table.table c.in_ok-table.ensures.keeps c.in-Err.first.link c.in-Err.ensures.err in
     (none_fits net c.in-Err.first.link first, c.in_ok-clash_up_to-in-Err.ensures)
+
+pub returns-in-Ok-clause-few : goal.returns-in-Ok-clause-few
+returns-in-Ok-clause-few c = omega (arith, size (goal.at.returns-in-Ok-clause-few c).In-Ok, c.intervals.ensures.net.few_intervals)
