@@ -41,7 +41,7 @@ map_at f (x ∷ xs) zero d e lt = refl
 map_at f (x ∷ xs) (suc i) d e lt = map_at f xs i d e (omega (arith, lt))
 
 module _ (net : PlainNet) (is : IsNet net) (found : Clash) (proved : IsProvedClash net found) where
-  spare_at : ℕ → List ℕ
+  abbrev spare_at : ℕ → List ℕ
   spare_at i = slice_index_or found.spares i []
 
   count : length found.spares ≡ length found.cites
@@ -57,10 +57,10 @@ module _ (net : PlainNet) (is : IsNet net) (found : Clash) (proved : IsProvedCla
         (proved.rising, (λ i d lt. let below = proved.minimal.links i d lt in omega arith), omega arith),
         (walk_numbers net found.walk round.0 round.0 is round.1.0, (let short = proved.short in omega arith)),
         All-from_get_or AreRanks (map pairs_of found.spares) [] (λ i lt.
-            let within : i < length found.spares = omega (arith, lt, length-map pairs_of found.spares) in
+            let within : i < length found.spares = omega (arith, lt, length-map found.spares pairs_of) in
             let spare = proved.spares.1 i (omega (arith, within, count)) in
             subst AreRanks (sym (map_at pairs_of found.spares i [] [] within)) (small_ranks (points net) (spare_at i) (omega arith) spare.size spare.small)),
-        length-map pairs_of found.spares ∙ count,
+        length-map found.spares pairs_of ∙ count,
       )
 
   -- each of its spares fits with the other links

@@ -83,7 +83,7 @@ pub timeline_size : (ranks text : List ℕ) → AreSmallRanks ranks → IsText (
 timeline_size ranks text small is = omega (arith, text_size (timeline (pairs_of ranks)) text 6670 is (ranks_size ranks small))
 
 -- the text of a counterexample of small ranks
-pub counter_size : (a b : ℕ) (r : Rel) (ranks text : List ℕ) → a < 512 → b < 512 → AreSmallRanks ranks → IsText (counter a r b (pairs_of ranks)) text → length text ≤ printed_limit
+pub counter_size : (a b : ℕ) (r : Rel) (ranks text : List ℕ) → a < 1024 → b < 1024 → AreSmallRanks ranks → IsText (counter a r b (pairs_of ranks)) text → length text ≤ printed_limit
 counter_size a b r ranks text la lb small is =
     let line = relation_line (codes "counter ") a r b in
     let head = relation_size (codes "counter ") a r b (omega (arith, la)) (omega (arith, lb)) in

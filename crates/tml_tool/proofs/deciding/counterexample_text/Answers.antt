@@ -1,5 +1,7 @@
-use Rattle.std.proofs.Common.{arith}
+use Rattle.std.proofs.Common.{sym, subst, arith}
 use Rattle.evidence_format.proofs.SmallRanks.{small_ranks}
+use Rattle.tml_tool.specs.Solving.{IsCounterText}
+use Rattle.tml_tool.proofs.Sizes.{AreSmallRanks, counter_size}
 use Rattle.tml_tool.proofs.deciding.counterexample_text.Goals as goal
 
 pub write_evidence-requires : goal.write_evidence-requires
@@ -10,4 +12,10 @@ write_evidence-requires c = (
 )
 
 pub returns-in-Ok-write_evidence : goal.returns-in-Ok-write_evidence
-returns-in-Ok-write_evidence c = ?
+returns-in-Ok-write_evidence c =
+    let ranks = c.in-Ok.ranks in
+    let size = c.in-Ok.ensures.size in
+    let few = c.requires.few in
+    let small : AreSmallRanks ranks = (omega (arith, size, few), λ p lt. let below = c.in-Ok.ensures.small p (omega (arith, lt, size)) in omega (arith, below, few)) in
+    let short = counter_size c.args.a c.args.b c.args.rel ranks c.in-Ok-write_evidence.text (omega (arith, c.requires.a, few)) (omega (arith, c.requires.b, few)) small c.in-Ok-write_evidence.ensures in
+    subst (IsCounterText c.args.table.now c.args.a c.args.rel c.args.b c.args.atom) (sym c.into_vec.ensures) (ranks, size, c.in-Ok.ensures.least, c.in-Ok-write_evidence.ensures, short)
