@@ -68,7 +68,7 @@ module _ (net : PlainNet) (is : IsNet net) (found : Clash) (proved : IsProvedCla
   spare_fits i lt =
       let spare = proved.spares.1 i lt in
       let here : ranks_at (map pairs_of found.spares) i ≡ spare_at i =
-          ap ranks_of (map_at pairs_of found.spares i [] [] (omega (arith, lt, count))) ∙ ranks_again (spare_at i) (even_length (length net.bounds) (spare_at i) spare.size) in
+      ap ranks_of (map_at pairs_of found.spares i [] [] (omega (arith, lt, count))) ∙ ranks_again (spare_at i) (even_length (length net.bounds) (spare_at i) spare.size) in
       subst (RanksFitWith net (Others (Contains found.cites) (cite_at found.cites i))) (sym here) (spare.size, spare.least.holds)
 
   -- and its text tells it

@@ -108,8 +108,7 @@ module _ (net : PlainNet) (a : ℕ) (r : Rel) (b : ℕ) (is : IsNet net) (both :
   -- their text tells a proof
   pub tells_proof : (text : List ℕ) → IsText (entails a r b walks) text → TellsProof net a r b text
   tells_proof text is_text =
-      let supported : IsSupported net (entails a r b walks) = (both, are.proofs) in
-      (
+      let supported : IsSupported net (entails a r b walks) = (both, are.proofs) in (
         walks,
         are.short,
         (is_text, supported, supported_is_true net (entails a r b walks) supported, entails_size net a b r walks text is both are.one_each are.proofs are.short is_text),

@@ -1,6 +1,7 @@
 //! Worked rows of the commands, by `run` over the objects in memory.
 mod ask;
 mod checks;
+mod clashes;
 mod dates;
 mod each_fault;
 mod files;

@@ -164,12 +164,6 @@ fn the_first_word_that_names_nothing_is_told(rt: HostRuntime) -> Result<(), Fail
             y,
         ),
         row(
-            &["ask", "d", "a", "BEFORE", "b"],
-            CLASH,
-            Status::Clash,
-            b"clash\n",
-        ),
-        row(
             &["ask", "d", "z", "z", "z"],
             b"",
             Status::DocFault,

@@ -18,15 +18,6 @@ fn solved(doc: &'static [u8], text: &'static [u8]) -> Row {
     }
 }
 
-fn clash(doc: &'static [u8]) -> Row {
-    Row {
-        words: SOLVE,
-        doc,
-        status: Status::Clash,
-        text: b"clash\n",
-    }
-}
-
 /// Documents with a timeline, and the least one, worked out by hand.
 fn solutions() -> [Row; 7] {
     [
@@ -67,7 +58,13 @@ fn least_timelines_are_written(rt: HostRuntime) -> Result<(), Fail> {
     for row in solutions().iter() {
         check(&rt, row)?;
     }
-    Ok(())
+    let fault = Row {
+        words: SOLVE,
+        doc: b"<TimeML>",
+        status: Status::DocFault,
+        text: b"fault 6 Unclosed 8\n",
+    };
+    check(&rt, &fault)
 }
 
 #[test]
@@ -83,32 +80,6 @@ fn what_is_solved_is_verified(rt: HostRuntime) -> Result<(), Fail> {
         let doc = Vec::from_slice(alloc, row.doc)?;
         let evidence = Vec::from_slice(alloc, sink.written())?;
         check_both(&rt, doc, evidence, Status::Done, b"verified timeline\n")?;
-    }
-    Ok(())
-}
-
-#[test]
-fn links_that_cannot_all_be_true_clash(rt: HostRuntime) -> Result<(), Fail> {
-    let rows = [
-        clash(
-            b"<TimeML><EVENT eid='e' class='STATE'/><MAKEINSTANCE eiid='a' eventID='e'/><TLINK eventInstanceID='a' relatedToEventInstance='a' relType='BEFORE'/></TimeML>",
-        ),
-        clash(
-            b"<TimeML><EVENT eid='e' class='STATE'/><MAKEINSTANCE eiid='a' eventID='e'/><MAKEINSTANCE eiid='b' eventID='e'/><MAKEINSTANCE eiid='c' eventID='e'/><TLINK eventInstanceID='a' relatedToEventInstance='b' relType='BEFORE'/><TLINK eventInstanceID='b' relatedToEventInstance='c' relType='BEFORE'/><TLINK eventInstanceID='c' relatedToEventInstance='a' relType='BEFORE'/></TimeML>",
-        ),
-        // Two events inside two days, against the calendar.
-        clash(
-            b"<TimeML><TIMEX3 tid='t1' type='DATE' value='1998-01-08'/><TIMEX3 tid='t2' type='DATE' value='1998-01-09'/><EVENT eid='e' class='STATE'/><MAKEINSTANCE eiid='i1' eventID='e'/><MAKEINSTANCE eiid='i2' eventID='e'/><TLINK eventInstanceID='i1' relatedToTime='t2' relType='IS_INCLUDED'/><TLINK eventInstanceID='i1' relatedToEventInstance='i2' relType='BEFORE'/><TLINK eventInstanceID='i2' relatedToTime='t1' relType='IS_INCLUDED'/></TimeML>",
-        ),
-        Row {
-            words: SOLVE,
-            doc: b"<TimeML>",
-            status: Status::DocFault,
-            text: b"fault 6 Unclosed 8\n",
-        },
-    ];
-    for row in rows.iter() {
-        check(&rt, row)?;
     }
     Ok(())
 }

@@ -51,7 +51,7 @@ fn refused(doc: &'static [u8], evidence: &'static [u8], text: &'static [u8]) -> 
 }
 
 /// Inputs with a document, and with evidence.
-fn both(alloc: Global, doc: Vec<u8>, evidence: Vec<u8>) -> Result<MemoryInputs, AllocError> {
+pub fn both(alloc: Global, doc: Vec<u8>, evidence: Vec<u8>) -> Result<MemoryInputs, AllocError> {
     let mut files = Vec::new(alloc);
     files.push((String::from_str(alloc, "d")?, doc))?;
     files.push((String::from_str(alloc, "e")?, evidence))?;
