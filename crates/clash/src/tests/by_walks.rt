@@ -81,7 +81,7 @@ fn net_of(
 }
 
 /// The steps are joined from one point to another, one of them strictly where that is asked for.
-fn joins(
+pub fn joins(
     rt: &(impl Abort + AllocGlobal),
     net: &Net,
     steps: &[Step],
