@@ -1,10 +1,12 @@
 //! Nets that clash, with the links that are cited by hand, and a sample of others.
+ghost use Rattle.std.specs.Prelude.{◌<◌};
 
+use super::by_definition::{RELATIONS, bounds};
 use super::net_of;
 use super::proving::proves_itself;
 use crate::{CloseFault, close};
-use net_core::{Bounds, NetLink, Rel};
-use std::alloc::AllocGlobal;
+use net_core::{Bounds, Net, NetLink, Rel};
+use std::alloc::{AllocError, AllocGlobal};
 use std::process::Abort;
 use std::test::Fail;
 
@@ -170,6 +172,16 @@ fn clashes_with_the_calendar_are_minimal(rt: HostRuntime) -> Result<(), Fail> {
                 ],
                 &[2, 3],
             ),
+            // nor are they cited where the first walk goes over one: it could as well go over the calendar
+            (
+                &[first, second, FREE],
+                &[
+                    link(0, Rel::Before, 1),
+                    link(1, Rel::Begins, 2),
+                    link(2, Rel::During, 0),
+                ],
+                &[1, 2],
+            ),
             (
                 &[first, second],
                 &[link(0, Rel::Before, 1), link(1, Rel::Ibefore, 0)],
@@ -213,4 +225,60 @@ fn clashes_with_the_calendar_are_minimal(rt: HostRuntime) -> Result<(), Fail> {
             ),
         ],
     )
+}
+
+/// The link of a number below 84, between two of three intervals.
+fn link_of(number: usize) -> NetLink
+    requires { number < 84 }
+{
+    let a = (number % 3) as u32;
+    let b = (a + 1 + (number / 3 % 2) as u32) % 3;
+    link(a, RELATIONS[number / 6], b)
+}
+
+/// The next number of a sequence that looks like chance, below a bound.
+fn next(seed: &mut u32, bound: u32) -> usize
+    requires { 0 < bound }
+    ensures { result < bound }
+{
+    *seed = seed.wrapping_mul(1664525).wrapping_add(1013904223);
+    (*seed / 65536 % bound) as usize
+}
+
+/// A net of three intervals and three or four links. Every second one has dates.
+fn sampled(
+    rt: &(impl Abort + AllocGlobal),
+    seed: &mut u32,
+    number: u32,
+) -> Result<Net, AllocError> {
+    let sorts = 1 + 4 * (number % 2);
+    let days = [
+        bounds(next(seed, sorts)),
+        bounds(next(seed, sorts)),
+        bounds(next(seed, sorts)),
+    ];
+    let mut links = Vec::new(rt.alloc());
+    for _ in 0..3 + number / 2 % 2 {
+        links.push(link_of(next(seed, 84)))?;
+    }
+    Ok(net_of(rt, &days, &links))
+}
+
+#[test]
+fn a_sample_of_clashes_is_minimal(rt: HostRuntime) -> Result<(), Fail> {
+    let mut seed = 0;
+    let mut clashes = 0u32;
+    for number in 0..2000u32 {
+        let net = sampled(&rt, &mut seed, number)?;
+        match close(rt.alloc(), &net) {
+            Ok(_table) => {}
+            Err(CloseFault::Clash(clash)) => {
+                proves_itself(&rt, &net, &clash)?;
+                clashes = clashes.saturating_add(1);
+            }
+            Err(CloseFault::Memory) => panic!(rt; "out of memory"),
+        }
+    }
+    assert!(rt; clashes > 1000);
+    Ok(())
 }

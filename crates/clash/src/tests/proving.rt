@@ -1,6 +1,6 @@
-//! What a clash is to be, by the definitions alone: all ranks that intervals can have are tried.
+//! What a clash is to be, by the definitions alone.
 ghost use Rattle.net_core.specs.Nets.{points};
-ghost use Rattle.std.specs.Prelude.{length, ◌<◌, ◌≤◌, ◌≡◌};
+ghost use Rattle.std.specs.Prelude.{length, ◌≡◌};
 
 use super::by_walks::joins;
 use crate::Clash;
@@ -9,27 +9,26 @@ use std::alloc::{AllocError, AllocGlobal, Global};
 use std::process::Abort;
 use std::test::Fail;
 
-/// The starts and ends of four intervals, of which a net of fewer has the first.
-type Ends = [u32; 8];
-
-/// The clash of a net of one to four intervals is minimal, and its walk and its ranks prove it.
+/// The cited links of a net rise, the walk goes round over exactly these, and the ranks are the least without each of
+/// them. So the clash proves that they cannot all be true, and that any one of them can be left out.
 pub fn proves_itself(
     rt: &(impl Abort + AllocGlobal),
     net: &Net,
     clash: &Clash,
 ) -> Result<(), Fail> {
-    assert!(rt; 1 <= net.intervals() && net.intervals() <= 4);
     let cites = clash.cites.as_slice();
-    are_rising_links(rt, net, cites);
+    rise(rt, net, cites);
     goes_round(rt, net, cites, clash.walk.as_slice());
-    let pairs = pairs_below(rt.alloc(), 2 * net.intervals())?;
-    assert_eq!(rt; least(net, cites, None, &pairs), None);
-    are_spares(rt, net, cites, clash.spares.as_slice(), &pairs);
+    let spares = clash.spares.as_slice();
+    assert_eq!(rt; spares.len(), cites.len());
+    for (own, spare) in cites.iter().zip(spares) {
+        is_spare(rt, net, cites, *own, spare)?;
+    }
     Ok(())
 }
 
 /// The cites are links of the net, each above the one before.
-fn are_rising_links(rt: &impl Abort, net: &Net, cites: &[u32]) {
+fn rise(rt: &impl Abort, net: &Net, cites: &[u32]) {
     let mut next = 0;
     for cite in cites {
         assert!(rt; next <= *cite && *cite < net.links());
@@ -37,7 +36,7 @@ fn are_rising_links(rt: &impl Abort, net: &Net, cites: &[u32]) {
     }
 }
 
-/// The steps lead from a point to itself, one of them strictly, over exactly the cited links. They are at most two for
+/// The steps lead from a point to itself, one of them strictly, over exactly the cited links. There are at most two for
 /// each point.
 fn goes_round(rt: &(impl Abort + AllocGlobal), net: &Net, cites: &[u32], steps: &[Step]) {
     let Some(first) = steps.first() else {
@@ -54,87 +53,75 @@ fn goes_round(rt: &(impl Abort + AllocGlobal), net: &Net, cites: &[u32], steps: 
     assert!(rt; steps.len() <= 4 * net.intervals() as usize);
 }
 
-/// There are ranks for each cite, the least that fit with the others.
-fn are_spares(rt: &impl Abort, net: &Net, cites: &[u32], spares: &[Ranks], pairs: &[(u32, u32)]) {
-    assert!(rt; net.intervals() <= 4);
-    assert_eq!(rt; spares.len(), cites.len());
-    for (own, spare) in cites.iter().zip(spares) {
-        let Some(least) = least(net, cites, Some(*own), pairs) else {
-            panic!(rt; "a link that is not needed");
-        };
-        let points = 2 * net.intervals() as usize;
-        assert_eq!(rt; spare.as_slice(), &least[..points]);
-    }
+/// The ranks fit with all cites but one, and no lower ones do.
+fn is_spare(
+    rt: &(impl Abort + AllocGlobal),
+    net: &Net,
+    cites: &[u32],
+    own: u32,
+    spare: &Ranks,
+) -> Result<(), Fail> {
+    assert!(rt; fits(net, spare.as_slice(), cites, own));
+    assert!(rt; are_least(rt.alloc(), net, spare.as_slice(), cites, own)?);
+    Ok(())
 }
 
-/// All starts and ends of one interval, the start first, below a number of points. Timelines need no others: points can
-/// be counted in their order.
-fn pairs_below(alloc: Global, points: u32) -> Result<Vec<(u32, u32)>, AllocError> {
-    let mut pairs = Vec::new(alloc);
-    for finish in 0..points {
-        for start in 0..finish {
-            pairs.push((start, finish))?;
+/// No ranks fit that are lower somewhere and nowhere higher. No others need be tried: the lower rank of each point, of two
+/// timelines that fit, is a timeline that fits.
+fn are_least(
+    alloc: Global,
+    net: &Net,
+    ranks: &[u32],
+    cites: &[u32],
+    own: u32,
+) -> Result<bool, AllocError> {
+    let mut lower = Vec::from_slice(alloc, ranks)?;
+    for number in 0..choices(ranks).saturating_sub(1) {
+        choose(&mut lower, ranks, number);
+        if fits(net, &lower, cites, own) {
+            return Ok(false);
         }
     }
-    Ok(pairs)
+    Ok(true)
 }
 
-/// The least ranks of those that fit with the cited links but one, or none where none fit.
-fn least(net: &Net, cites: &[u32], but: Option<u32>, pairs: &[(u32, u32)]) -> Option<Ends>
-    requires few { points net.now ≤ 8 }
-{
-    let points = 2 * net.intervals() as usize;
-    let mut least = None;
-    for number in 0..pairs.len().saturating_pow(net.intervals()) {
-        let ends = ends_of(number, pairs);
-        if fits(net, &ends[..points], cites, but) {
-            least = Some(lower(least, ends));
-        }
+/// How many lists of ranks are nowhere above these.
+fn choices(ranks: &[u32]) -> u64 {
+    let mut choices = 1u64;
+    for rank in ranks {
+        choices = choices.saturating_mul(u64::from(*rank) + 1);
     }
-    least
+    choices
 }
 
-/// The starts and ends of intervals, by a number: its digits choose a pair for each.
-fn ends_of(number: usize, pairs: &[(u32, u32)]) -> Ends {
-    let mut ends = [0; 8];
+/// Chooses ranks that are nowhere above these, by a number below that of all choices: the last of them is the ranks
+/// themselves.
+fn choose(lower: &mut [u32], ranks: &[u32], number: u64) {
     let mut rest = number;
-    for interval in 0..4usize {
-        if let Some((start, finish)) = pairs.get(rest % pairs.len().max(1)) {
-            ends[2 * interval] = *start;
-            ends[2 * interval + 1] = *finish;
-        }
-        rest /= pairs.len().max(1);
-    }
-    ends
-}
-
-/// The lower of two ranks for each point.
-fn lower(known: Option<Ends>, ends: Ends) -> Ends {
-    let mut lower = ends;
-    if let Some(known) = known {
-        for point in 0..8usize {
-            lower[point] = lower[point].min(known[point]);
+    for point in 0..lower.len() {
+        if let Some(rank) = ranks.get(point) {
+            let base = u64::from(*rank) + 1;
+            lower[point] = (rest % base) as u32;
+            rest /= base;
         }
     }
-    lower
 }
 
-/// The ranks fit with the cited links but one.
-fn fits(net: &Net, ranks: &[u32], cites: &[u32], but: Option<u32>) -> bool
-    requires { length ranks.now ≡ points net.now }
-{
-    first_unordered(net, ranks).is_none()
+/// The ranks are a timeline that fits with the cited links but one.
+fn fits(net: &Net, ranks: &[u32], cites: &[u32], own: u32) -> bool {
+    ranks.len() == 2 * net.intervals() as usize
+        && first_unordered(net, ranks).is_none()
         && first_broken_pair(net, ranks).is_none()
-        && keeps_cites(net, ranks, cites, but)
+        && keeps_others(net, ranks, cites, own)
 }
 
-/// The cited links but one are links of the net, and hold.
-fn keeps_cites(net: &Net, ranks: &[u32], cites: &[u32], but: Option<u32>) -> bool
+/// The cited links but one hold.
+fn keeps_others(net: &Net, ranks: &[u32], cites: &[u32], own: u32) -> bool
     requires { length ranks.now ≡ points net.now }
 {
     for cite in cites {
         let is_kept = *cite < net.links() && keeps_link(net, ranks, *cite);
-        if !is_kept && Some(*cite) != but {
+        if !is_kept && *cite != own {
             return false;
         }
     }
