@@ -1,7 +1,13 @@
 //! Small nets, with the cells that follow from them by hand. Interval `a` has the points 0 and 1, and `b` has 2 and 3.
+ghost use Rattle.net_core.specs.Bounds.{AreOrdered};
+ghost use Rattle.std.specs.Prelude.{IsTrue, ◌↔◌};
+
 mod by_definition;
 mod by_walks;
+mod minimal;
+mod proving;
 
+use self::proving::proves_itself;
 use crate::{CloseFault, close};
 use net_core::{Bounds, List, Net, NetLink, Rel};
 use order_closure::{Cell, Closed};
@@ -23,6 +29,30 @@ const MEETING: [Cell; 16] = [W, S, S, S, F, W, W, S, F, W, W, S, F, F, F, W];
 
 /// The cells where both begin together and end together.
 const AT_ONCE: [Cell; 16] = [W, S, W, S, F, W, F, W, W, S, W, S, F, W, F, W];
+
+fn is_ordered(bounds: &Bounds) -> bool
+    ensures { IsTrue result ↔ AreOrdered bounds.now }
+{
+    match *bounds {
+        Bounds::Exact { lo, hi } => lo < hi,
+        Bounds::Within { lo, hi } => lo < hi,
+        Bounds::Free => true,
+    }
+}
+
+/// The net of what a calendar says of some intervals, and of links between them.
+fn net_of(rt: &(impl Abort + AllocGlobal), bounds: &[Bounds], links: &[NetLink]) -> Net {
+    let count = bounds.len();
+    assert!(rt; count <= 512 && links.len() <= 4096);
+    assert!(rt; bounds.iter().all(is_ordered));
+    assert!(rt; links.iter().all(|link| (link.a as usize) < count && (link.b as usize) < count));
+    let bounds = Vec::from_slice(rt.alloc(), bounds);
+    let links = Vec::from_slice(rt.alloc(), links);
+    let (Ok(bounds), Ok(links)) = (bounds, links) else {
+        panic!(rt; "out of memory");
+    };
+    Net::new(List::from_vec(bounds), List::from_vec(links))
+}
 
 /// The cells of a table, row after row.
 fn cells_of(alloc: Global, table: &Closed) -> Result<Vec<Cell>, AllocError> {
@@ -47,7 +77,10 @@ fn closes_to(
             let cells = cells_of(rt.alloc(), &table)?;
             assert_eq!(rt; Some(cells.as_slice()), wanted);
         }
-        Err(CloseFault::Clash(_)) => assert!(rt; wanted.is_none()),
+        Err(CloseFault::Clash(clash)) => {
+            assert!(rt; wanted.is_none());
+            proves_itself(rt, net, &clash)?;
+        }
         Err(CloseFault::Memory) => panic!(rt; "out of memory"),
     }
     Ok(())

@@ -2,13 +2,14 @@
 ghost use Rattle.net_core.specs.Bounds.{AreOrdered};
 ghost use Rattle.std.specs.Prelude.{◌<◌};
 
+use super::proving::proves_itself;
 use crate::{CloseFault, close};
 use net_core::{Bounds, List, Net, NetLink, Rel, satisfies};
 use order_closure::Cell;
 use std::process::Abort;
 use std::test::Fail;
 
-const RELATIONS: [Rel; 14] = [
+pub const RELATIONS: [Rel; 14] = [
     Rel::Before,
     Rel::After,
     Rel::Includes,
@@ -50,7 +51,7 @@ fn both(known: Option<Cell>, p: u32, q: u32) -> Cell {
     }
 }
 
-fn agrees(rt: &(impl Abort + AllocGlobal), net: &Net) {
+fn agrees(rt: &(impl Abort + AllocGlobal), net: &Net) -> Result<(), Fail> {
     match close(rt.alloc(), net) {
         Ok(table) => {
             assert!(rt; table.points() == 4);
@@ -61,9 +62,13 @@ fn agrees(rt: &(impl Abort + AllocGlobal), net: &Net) {
                 }
             }
         }
-        Err(CloseFault::Clash(_)) => assert!(rt; cell_by_definition(net, 0, 0).is_none()),
+        Err(CloseFault::Clash(clash)) => {
+            assert!(rt; cell_by_definition(net, 0, 0).is_none());
+            proves_itself(rt, net, &clash)?;
+        }
         Err(CloseFault::Memory) => panic!(rt; "out of memory"),
     }
+    Ok(())
 }
 
 /// The link of a number below 56: its relation, and which of two intervals it is between.
@@ -88,14 +93,14 @@ fn two_links_between_two_intervals_close_as_defined(rt: HostRuntime) -> Result<(
             agrees(
                 &rt,
                 &Net::new(List::from_vec(bounds), List::from_vec(links)),
-            );
+            )?;
         }
     }
     Ok(())
 }
 
 /// What a calendar says of an interval, by a number below 5.
-fn bounds(k: usize) -> Bounds
+pub fn bounds(k: usize) -> Bounds
     requires { k < 5 }
     ensures { AreOrdered result }
 {
@@ -115,7 +120,7 @@ fn a_link_between_dates_closes_as_defined(rt: HostRuntime) -> Result<(), Fail> {
             for number in 0..56usize {
                 let dates = vec![in rt.alloc(); bounds(first), bounds(second)]?;
                 let links = vec![in rt.alloc(); link(number)]?;
-                agrees(&rt, &Net::new(List::from_vec(dates), List::from_vec(links)));
+                agrees(&rt, &Net::new(List::from_vec(dates), List::from_vec(links)))?;
             }
         }
     }

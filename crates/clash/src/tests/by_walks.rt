@@ -1,11 +1,9 @@
 //! Nets of three intervals, each but the last linked to the next: walks lead exactly where cells give orders.
-ghost use Rattle.net_core.specs.Bounds.{AreOrdered};
-ghost use Rattle.std.specs.Prelude.{IsTrue, ◌↔◌};
-
+use super::net_of;
 use crate::close;
-use net_core::{Bounds, List, Net, NetLink, Rel, Step, step_atom};
+use net_core::{Bounds, Net, NetLink, Rel, Step, step_atom};
 use order_closure::Closed;
-use std::alloc::{AllocError, AllocGlobal};
+use std::alloc::AllocGlobal;
 use std::process::Abort;
 use std::test::Fail;
 use walks::walk;
@@ -48,40 +46,29 @@ const NETS: [([Bounds; 3], [Rel; 2]); 10] = [
     ),
 ];
 
-fn is_ordered(bounds: Bounds) -> bool
-    ensures { IsTrue result ↔ AreOrdered bounds }
-{
-    match bounds {
-        Bounds::Exact { lo, hi } => lo < hi,
-        Bounds::Within { lo, hi } => lo < hi,
-        Bounds::Free => true,
-    }
-}
-
-fn net_of(
+/// The net of three intervals, with a link from the first to the second and from the second to the third.
+fn net_of_three(
     rt: &(impl Abort + AllocGlobal),
-    [a, b, c]: [Bounds; 3],
+    bounds: &[Bounds; 3],
     [first, second]: [Rel; 2],
-) -> Result<Net, AllocError> {
-    assert!(rt; is_ordered(a) && is_ordered(b) && is_ordered(c));
-    let bounds = vec![in rt.alloc(); a, b, c]?;
-    let links = vec![in rt.alloc();
+) -> Net {
+    let links = [
         NetLink {
             a: 0,
             rel: first,
-            b: 1
+            b: 1,
         },
         NetLink {
             a: 1,
             rel: second,
-            b: 2
+            b: 2,
         },
-    ]?;
-    Ok(Net::new(List::from_vec(bounds), List::from_vec(links)))
+    ];
+    net_of(rt, bounds, &links)
 }
 
 /// The steps are joined from one point to another, one of them strictly where that is asked for.
-fn joins(
+pub fn joins(
     rt: &(impl Abort + AllocGlobal),
     net: &Net,
     steps: &[Step],
@@ -136,7 +123,7 @@ fn walks_agree(rt: &(impl Abort + AllocGlobal), net: &Net, table: &Closed) {
 #[test]
 fn walks_lead_where_cells_give_orders(rt: HostRuntime) -> Result<(), Fail> {
     for (bounds, relations) in NETS {
-        let net = net_of(&rt, bounds, relations)?;
+        let net = net_of_three(&rt, &bounds, relations);
         let Ok(table) = close(rt.alloc(), &net) else {
             panic!(&rt; "no closure");
         };
