@@ -1,13 +1,13 @@
 -- A round whose links are all needed, with a spare for each, is a minimal clash that proves itself.
-use Rattle.std.proofs.Common.{◌≡◌, ◌↔◌, ℕ, ◌<◌, List, [], slice_index, slice_index_or, length}
-use Rattle.std.specs.List.{All, Contains}
+use Rattle.std.proofs.Common.{◌↔◌, ℕ, ◌<◌, List, [], slice_index, slice_index_or, length}
+use Rattle.std.specs.List.{Contains}
 use Rattle.std.specs.List.Sorted.{IsStrictlyIncreasing}
 use Rattle.std.proofs.lemmas.List.Elements.{All-contains_itself, All-weaker}
-use Rattle.net_core.specs.Clashes.{Clashes, IsMinimalClash, Others}
-use Rattle.net_core.specs.Fits.{EveryLink, FitsWith}
+use Rattle.net_core.specs.Clashes.{Others}
+use Rattle.net_core.specs.Fits.{EveryLink}
 use Rattle.net_core.specs.Nets.{PlainNet}
 use Rattle.net_core.specs.Ranks.{timeline_of}
-use Rattle.net_core.specs.Walks.{GoesOver, GoesRound, Kept}
+use Rattle.net_core.specs.Walks.{Kept}
 use Rattle.net_core.proofs.WalkLaws.{round_clashes}
 use Rattle.clash.specs.Minimal.{AreSpares, IsProvedClash, IsRound, IsSpare, IsSpared}
 use Rattle.clash.specs.declared.round.Round.{Round}

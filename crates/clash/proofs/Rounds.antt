@@ -1,12 +1,12 @@
 -- Walks that go round, and sets of links that they clash by.
-use Rattle.std.proofs.Common.{◌≡◌, ◌↔◌, ◌⊎◌, inl, inr, ℕ, zero, suc, ◌<◌, ◌≤◌, Bool, true, false, List, [], ◌∷◌, length, Some, slice_index_or, slice_set, refl, sym, ap, subst, ◌∙◌, arith}
+use Rattle.std.proofs.Common.{◌≡◌, ◌↔◌, inl, inr, ℕ, zero, suc, ◌<◌, ◌≤◌, Bool, true, false, List, [], ◌∷◌, length, Some, slice_index_or, slice_set, refl, sym, ap, subst, ◌∙◌, arith}
 use Rattle.std.specs.List.{Contains, slice_get}
-use Rattle.std.proofs.lemmas.Bool.{cases_eq, cases_lt}
+use Rattle.std.proofs.lemmas.Bool.{cases_lt}
 use Rattle.std.proofs.lemmas.Option.{get_or_from_slice_get, option_and_then_some, slice_get_within}
 use Rattle.net_core.specs.Atoms.{atoms_of}
-use Rattle.net_core.specs.Clashes.{Clashes, GoesRoundOver, IsMinimalClash, Others}
+use Rattle.net_core.specs.Clashes.{Clashes, Others}
 use Rattle.net_core.specs.Fits.{EveryLink, FitsWith}
-use Rattle.net_core.specs.Nets.{IsNet, PlainNet, link_at, points}
+use Rattle.net_core.specs.Nets.{IsNet, PlainNet, link_at}
 use Rattle.net_core.specs.Relations.{Timeline}
 use Rattle.net_core.specs.Steps.{atom_of, link_of}
 use Rattle.net_core.specs.Walks.{GoesOver, GoesRound, HasWalk, IsJoined, Kept}

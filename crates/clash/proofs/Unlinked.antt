@@ -1,12 +1,11 @@
 -- Spans and the calendar alone always fit: each date at its own numbers.
-use Rattle.std.proofs.Common.{◌≡◌, ℕ, zero, suc, ◌+◌, ◌-◌, ◌*◌, ◌/◌, ◌%◌, ◌==◌, ◌<◌, ◌≤◌, ℤ, ◌<ℤ◌, Bool, true, false, List, [], ◌∷◌, length, Some, None, slice_index_or, subst, sym, arith}
-use Rattle.std.specs.List.{All}
+use Rattle.std.proofs.Common.{◌≡◌, ℕ, zero, suc, ◌+◌, ◌-◌, ◌*◌, ◌/◌, ◌%◌, ◌==◌, ◌<◌, ◌≤◌, ℤ, ◌<ℤ◌, Bool, true, false, List, [], ◌∷◌, Some, slice_index_or, subst, arith}
 use borrow.Author.Differences.{up, down}
 use Rattle.std.proofs.lemmas.Int.{ints}
 use Rattle.std.proofs.lemmas.List.Elements.{All-get_or}
 use Rattle.net_core.specs.Bounds.{AreOrdered, lower_of, upper_of}
-use Rattle.net_core.specs.Fits.{FitsWith, FollowsNumbers, StartsFirst}
-use Rattle.net_core.specs.Nets.{IsNet, PlainNet, bounds_at, intervals, points}
+use Rattle.net_core.specs.Fits.{FitsWith, FollowsNumbers}
+use Rattle.net_core.specs.Nets.{IsNet, PlainNet, bounds_at}
 use Rattle.net_core.specs.Relations.{Timeline}
 use Rattle.net_core.specs.declared.bounds.Bounds.{Bounds}
 use Rattle.net_core.specs.declared.bounds.Bounds.TheVariants.{Exact, Within, Free}

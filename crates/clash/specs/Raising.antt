@@ -10,7 +10,7 @@ use Rattle.net_core.specs.Steps.{atom_of}
 use Rattle.clash.specs.Steps.{KeepsDates, KeepsSpans}
 use Rattle.net_core.specs.declared.atom.Atom.{Atom}
 use Rattle.net_core.specs.declared.step.Step.{Step}
-use Rattle.net_core.specs.declared.step.Step.TheVariants.{Link, Span, Calendar}
+use Rattle.net_core.specs.declared.step.Step.TheVariants.{Link}
 
 -- no rank is above that of a timeline
 abbrev pub AreUnder : List ℕ → Timeline → Type 0

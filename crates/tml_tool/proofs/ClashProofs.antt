@@ -1,9 +1,9 @@
 -- A minimal clash that proves itself is well-formed evidence that its net supports.
-use Rattle.std.proofs.Common.{◌≡◌, ℕ, zero, suc, ◌+◌, ◌<◌, ◌≤◌, List, [], ◌∷◌, length, map, get_or, slice_index, slice_index_or, add-one, refl, sym, ap, subst, ◌∙◌, arith}
+use Rattle.std.proofs.Common.{◌≡◌, ℕ, zero, suc, ◌<◌, ◌≤◌, List, [], ◌∷◌, length, map, get_or, slice_index_or, add-one, refl, sym, ap, subst, ◌∙◌, arith}
 use Rattle.std.specs.List.{All, Contains}
 use Rattle.std.specs.List.Sorted.{IsStrictlyIncreasing}
 use Rattle.std.proofs.lemmas.List.{length-map}
-use Rattle.std.proofs.lemmas.List.Elements.{All-from_get_or, All-get_or}
+use Rattle.std.proofs.lemmas.List.Elements.{All-from_get_or}
 use Rattle.net_core.specs.Clashes.{Others}
 use Rattle.net_core.specs.Fits.{RanksFitWith}
 use Rattle.net_core.specs.Nets.{IsNet, PlainNet, points}
@@ -12,7 +12,7 @@ use Rattle.net_core.proofs.RankLaws.{even_length, ranks_again}
 use Rattle.clash.specs.Closures.{HasNoTimeline}
 use Rattle.clash.specs.Minimal.{IsProvedClash}
 use Rattle.clash.specs.declared.minimal.Clash.{Clash}
-use Rattle.evidence_format.specs.Evidence.{AreRanks, IsNumber, IsText, IsWellFormed, clash}
+use Rattle.evidence_format.specs.Evidence.{AreRanks, IsText, IsWellFormed, clash}
 use Rattle.evidence_format.proofs.SmallRanks.{small_ranks}
 use Rattle.evidence_check.specs.Supported.{FitsOthers, IsSupported, cite_at, ranks_at}
 use Rattle.evidence_check.proofs.Soundness.{supported_is_true}

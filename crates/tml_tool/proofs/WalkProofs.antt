@@ -5,7 +5,7 @@ use Rattle.std.proofs.lemmas.Bool.{ltb-true}
 use Rattle.std.proofs.lemmas.List.{get_or-replicate, get_or_append_left}
 use Rattle.std.proofs.lemmas.List.Elements.{All-cons, All-from_get_or, All-get_or, All-nil}
 use Rattle.std.proofs.lemmas.Option.{option_and_then_some, slice_get_within}
-use Rattle.net_core.specs.Atoms.{IsInRange, atom_count, atoms_of, before, points_of}
+use Rattle.net_core.specs.Atoms.{IsInRange, atoms_of, before, points_of}
 use Rattle.net_core.specs.Bounds.{lower_of, upper_of}
 use Rattle.net_core.specs.Fits.{EveryLink, Fits, FitsWith}
 use Rattle.net_core.specs.Nets.{IsNet, PlainNet, intervals, lower, points, upper}

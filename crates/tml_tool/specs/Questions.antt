@@ -1,5 +1,5 @@
 -- The answers to questions of a document, by its bytes.
-use Rattle.std.specs.Prelude.{◌≡◌, ℕ, List, codes, length}
+use Rattle.std.specs.Prelude.{◌≡◌, ℕ, List, length}
 use Rattle.faults.specs.declared.kind.FaultKind.{FaultKind}
 use Rattle.tml_span.specs.Faults.{CutFault}
 use Rattle.tml_span.specs.Units.{PlainUnit}

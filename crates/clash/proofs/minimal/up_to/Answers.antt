@@ -1,1 +1,0 @@
-use Rattle.clash.proofs.minimal.up_to.Goals as goal

@@ -1,4 +1,4 @@
-use Rattle.std.proofs.Common.{◌≡◌, ◌↔◌, ℕ, ◌*◌, ◌<◌, ◌≤◌, Bool, true, false, List, Option, length, slice_set, refl, sym, subst, ap, ◌∙◌}
+use Rattle.std.proofs.Common.{◌≡◌, ◌↔◌, ℕ, ◌*◌, ◌<◌, ◌≤◌, Bool, true, false, List, Option, length, slice_set, refl, sym, subst}
 use Rattle.std.specs.Option.{IfNone, IfSome}
 use Rattle.net_core.specs.Clashes.{Others}
 use Rattle.net_core.specs.Fits.{EveryLink}
@@ -6,8 +6,7 @@ use Rattle.net_core.specs.Nets.{points}
 use Rattle.net_core.specs.Walks.{GoesOver, GoesRound, Kept}
 use Rattle.net_core.specs.declared.step.Step.{Step}
 use Rattle.net_core.specs.declared.walk.Walk.{Walk}
-use Rattle.clash.specs.Minimal.{IsRound, IsSpared}
-use Rattle.clash.specs.declared.round.Round.{Round}
+use Rattle.clash.specs.Minimal.{IsSpared}
 use Rattle.clash.proofs.Rounds.{fits_fewer, marked_chosen, none_round, others_set, round_more, set_again, set_others, spared_fewer}
 use Rattle.clash.proofs.round.Round.leave_out.Goals as goal
 use Rattle.clash.proofs.round.Round.leave_out.Goals.{After-drop-self-in-Some, After-index_mut-in-None, In-Some}
