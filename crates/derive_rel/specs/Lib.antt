@@ -1,0 +1,2 @@
+pub mod Entailed
+pub mod Pairs
