@@ -8,7 +8,7 @@ use Rattle.net_core.specs.declared.rels.Rel.{Rel}
 use Rattle.net_core.specs.declared.rels.Rel.TheVariants as rel
 use Rattle.order_closure.specs.Cells.{order, strength}
 use Rattle.order_closure.specs.Tables.{Table, cell_at}
-use Rattle.derive_rel.specs.declared.rows.Row.{Row}
+use Rattle.derive_rel.specs.declared.all_rows.Row.{Row}
 
 -- the cell of an atom says at least its order
 abbrev pub Gives : Table → Atom → Type 0

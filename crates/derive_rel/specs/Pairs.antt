@@ -1,5 +1,5 @@
 -- What a table says of the points of two intervals.
-use Rattle.std.specs.Prelude.{ℕ, Bool, true, false}
+use Rattle.std.specs.Prelude.{ℕ, Bool, true, false, List, [], ◌∷◌, slice_index_or}
 use Rattle.std.specs.List.{list_all}
 use Rattle.net_core.specs.Atoms.{atoms_between}
 use Rattle.net_core.specs.declared.atom.Atom.{Atom}
@@ -15,17 +15,17 @@ gives Weak true = false
 gives Weak false = true
 gives Free strict = false
 
--- the cell of two of the points 0 to 3: the start and the end of the first interval, and those of the second
+-- the rows of cells of the points 0 to 3: the start and the end of the first interval, and those of the second
+abbrev pub rows_in : RelSet → List (List Cell)
+rows_in set =
+    (Free ∷ Free ∷ set.starts.forth ∷ set.start_and_end.forth ∷ [])
+    ∷ (Free ∷ Free ∷ set.end_and_start.forth ∷ set.ends.forth ∷ [])
+    ∷ (set.starts.back ∷ set.end_and_start.back ∷ Free ∷ Free ∷ [])
+    ∷ (set.start_and_end.back ∷ set.ends.back ∷ Free ∷ Free ∷ [])
+    ∷ []
+
 abbrev pub cell_in : RelSet → ℕ → ℕ → Cell
-cell_in set 0 2 = set.starts.forth
-cell_in set 2 0 = set.starts.back
-cell_in set 0 3 = set.start_and_end.forth
-cell_in set 3 0 = set.start_and_end.back
-cell_in set 1 2 = set.end_and_start.forth
-cell_in set 2 1 = set.end_and_start.back
-cell_in set 1 3 = set.ends.forth
-cell_in set 3 1 = set.ends.back
-cell_in set p q = Free
+cell_in set p q = slice_index_or (slice_index_or (rows_in set) p []) q Free
 
 -- whether all orders that a relation is are given
 abbrev pub has : RelSet → Rel → Bool

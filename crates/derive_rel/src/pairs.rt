@@ -3,11 +3,10 @@ ghost use Rattle.derive_rel.specs.Entailed.{Entails};
 ghost use Rattle.derive_rel.specs.Pairs as spec;
 ghost use Rattle.net_core.specs.declared.rels.Rel.{Rel as RelOf};
 ghost use Rattle.order_closure.specs.Tables.{cell_at};
-ghost use Rattle.std.specs.Prelude.{true, ◌*◌, ◌+◌, ◌<◌, ◌≡◌, ◌↔◌};
+ghost use Rattle.std.specs.Prelude.{false, true, ◌&&◌, ◌*◌, ◌+◌, ◌<◌, ◌≡◌, ◌↔◌};
 
 use net_core::Rel;
 use order_closure::{Cell, Closed};
-use std::marker::Model;
 
 /// What a table says of the order of two points, both ways.
 #[derive(Clone, Copy)]
@@ -66,20 +65,10 @@ pub struct RelSet {
     ends: Order,
 }
 
-impl Model for RelSet {
-    ghost use Rattle.derive_rel.specs.Pairs.{has};
-    ghost use Rattle.net_core.specs.declared.rels.Rel.{Rel as RelOf};
-    ghost use Rattle.std.specs.Prelude.{Bool};
-
-    ghost Value = { RelOf → Bool };
-
-    ghost view = { λ a r. has a r };
-}
-
 impl RelSet {
     /// Whether the relation is one of them.
     pub fn has(&self, rel: Rel) -> bool
-        ensures { result ≡ self.now rel }
+        ensures { result ≡ spec.has self.now rel }
     {
         match rel {
             Rel::Before => self.end_and_start.is_before(),
@@ -106,8 +95,10 @@ impl RelSet {
 pub fn entailed(closed: &Closed, a: u32, b: u32) -> RelSet
     requires a { 2 * a + 1 < closed.now.points }
     requires b { 2 * b + 1 < closed.now.points }
-    ensures { (r : RelOf) → (result r ≡ true) ↔ Entails closed.now a r b }
+    ensures { (r : RelOf) → (spec.has result r ≡ true) ↔ Entails closed.now a r b }
 {
+    // so few that the numbers of the points fit
+    prove!(closed.points() <= 2048);
     RelSet {
         starts: order_of(closed, 2 * a, 2 * b),
         start_and_end: order_of(closed, 2 * a, 2 * b + 1),

@@ -1,6 +1,7 @@
 //! All relations that hold in all timelines of a table.
 ghost use Rattle.derive_rel.specs.Entailed.{AreRows};
-ghost use Rattle.std.specs.Prelude.{IfOk, ◌%◌, ◌≡◌};
+ghost use Rattle.derive_rel.specs.Pushing.{ArePutLast, IsFrom, IsOf};
+ghost use Rattle.std.specs.Prelude.{IfOk, OnOk, ◌%◌, ◌*◌, ◌+◌, ◌<◌, ◌≡◌, ◌≤◌};
 
 use crate::pairs::entailed;
 use named::Named;
@@ -35,6 +36,9 @@ pub fn rows(alloc: Global, closed: &Closed) -> Result<List<Row>, Memory>
 
 /// Puts the relations of an interval and each one after it last.
 fn push_from(rows: &mut List<Row>, closed: &Closed, a: u32) -> Result<(), Memory>
+    requires few { closed.now.points ≤ 2048 }
+    requires a { 2 * a + 1 < closed.now.points }
+    ensures { OnOk result (ArePutLast closed.now (IsFrom a) rows.old rows.new) }
 {
     for b in a + 1..closed.points() / 2 {
         push_pair(rows, closed, a, b)?;
@@ -44,6 +48,9 @@ fn push_from(rows: &mut List<Row>, closed: &Closed, a: u32) -> Result<(), Memory
 
 /// Puts the relations of two intervals last.
 fn push_pair(rows: &mut List<Row>, closed: &Closed, a: u32, b: u32) -> Result<(), Memory>
+    requires a { a < b }
+    requires b { 2 * b + 1 < closed.now.points }
+    ensures { OnOk result (ArePutLast closed.now (IsOf a b) rows.old rows.new) }
 {
     let set = entailed(closed, a, b);
     for rel in Rel::all() {
