@@ -1,11 +1,11 @@
 -- The rows of a table in the turns of the intervals and of the relations.
-use Rattle.std.proofs.Common.{◌≡◌, ◌⊎◌, ◌↔◌, inl, inr, ℕ, ◌+◌, ◌*◌, ◌/◌, ◌<◌, ◌≤◌, List, [], ◌∷◌, ◌++◌, length, slice_index_or, refl, sym, ap, subst, ◌∙◌, arith}
+use Rattle.std.proofs.Common.{◌≡◌, ◌⊎◌, inl, inr, ℕ, ◌+◌, ◌*◌, ◌/◌, ◌<◌, ◌≤◌, List, [], ◌∷◌, ◌++◌, slice_index_or, refl, sym, ap, subst, ◌∙◌, arith}
 use Rattle.std.proofs.lemmas.Bool.{cases_lt}
 use Rattle.net_core.specs.Rels.{all_rels}
 use Rattle.net_core.specs.declared.rels.Rel.{Rel}
 use Rattle.net_core.specs.declared.rels.Rel.TheVariants as rel
 use Rattle.order_closure.specs.Tables.{Table}
-use Rattle.derive_rel.specs.Entailed.{AreRows, ComesBefore, Entails, IsRow}
+use Rattle.derive_rel.specs.Entailed.{AreRows, Entails, IsRow}
 use Rattle.derive_rel.specs.Pushing.{ArePutLast, IsFrom, IsOf}
 use Rattle.derive_rel.specs.declared.all_rows.Row.{Row}
 use Rattle.derive_rel.proofs.Joined.{all_rows, none_put, one_put, put_last, same_put}

@@ -3,7 +3,7 @@ ghost use Rattle.std.specs.Prelude.{◌<◌};
 
 use crate::{Row, entailed, rows};
 use named::Named;
-use net_core::{Ends, List, Rel, atoms_of, holds};
+use net_core::{Atom, Ends, List, Rel, atoms_of, holds};
 use order_closure::{Closed, WouldClash};
 use std::process::Abort;
 use std::test::Fail;
@@ -23,7 +23,7 @@ fn close(
         panic!(rt; "out of memory");
     };
     for i in 0..intervals {
-        let span = net_core::Atom {
+        let span = Atom {
             from: 2 * i,
             to: 2 * i + 1,
             strict: true,

@@ -1,4 +1,3 @@
-use Rattle.std.proofs.Common.{◌≡◌, ap}
 use Rattle.derive_rel.proofs.Turns.{one_after}
 use Rattle.derive_rel.proofs.all_rows.push_from.Goals as goal
 

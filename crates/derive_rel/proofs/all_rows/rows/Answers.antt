@@ -1,4 +1,4 @@
-use Rattle.std.proofs.Common.{◌≡◌, [], arith}
+use Rattle.std.proofs.Common.{[], arith}
 use Rattle.derive_rel.proofs.Turns.{last_interval, one_interval}
 use Rattle.derive_rel.proofs.all_rows.rows.Goals as goal
 
