@@ -1,0 +1,165 @@
+-- The rows of a table in the turns of the intervals and of the relations.
+use Rattle.std.proofs.Common.{◌≡◌, ◌⊎◌, inl, inr, ℕ, ◌+◌, ◌*◌, ◌/◌, ◌<◌, ◌≤◌, List, [], ◌∷◌, ◌++◌, slice_index_or, refl, sym, ap, subst, ◌∙◌, arith}
+use Rattle.std.proofs.lemmas.Bool.{cases_lt}
+use Rattle.net_core.specs.Rels.{all_rels}
+use Rattle.net_core.specs.declared.rels.Rel.{Rel}
+use Rattle.net_core.specs.declared.rels.Rel.TheVariants as rel
+use Rattle.order_closure.specs.Tables.{Table}
+use Rattle.derive_rel.specs.Entailed.{AreRows, Entails, IsRow}
+use Rattle.derive_rel.specs.Pushing.{ArePutLast, IsFrom, IsOf}
+use Rattle.derive_rel.specs.declared.all_rows.Row.{Row}
+use Rattle.derive_rel.proofs.Joined.{all_rows, none_put, one_put, put_last, same_put}
+
+-- a row of an interval before one
+abbrev pub IsFromBelow : ℕ → Row → Type 0
+IsFromBelow a row = row.a < a
+
+-- a row of an interval and one before another
+abbrev pub IsOfBelow : ℕ → ℕ → Row → Type 0
+IsOfBelow a b row = (row.a ≡ a) × (row.b < b)
+
+-- the relation of this number
+abbrev pub rel_at : ℕ → Rel
+rel_at k = slice_index_or all_rels k rel.Before
+
+-- the relation of a row is one of the first
+abbrev pub HasFirst : ℕ → Row → Type 0
+HasFirst k row = (i : ℕ) × (i < k) × (rel_at i ≡ row.rel)
+
+-- a row of two intervals, and one of the first relations
+abbrev pub IsOfFirst : ℕ → ℕ → ℕ → Row → Type 0
+IsOfFirst a b k row = (row.a ≡ a) × (row.b ≡ b) × HasFirst k row
+
+-- each relation has a number
+numbered : (r : Rel) → (i : ℕ) × (i < 14) × (rel_at i ≡ r)
+numbered rel.Before = (0, omega arith, refl)
+numbered rel.After = (1, omega arith, refl)
+numbered rel.Includes = (2, omega arith, refl)
+numbered rel.IsIncluded = (3, omega arith, refl)
+numbered rel.During = (4, omega arith, refl)
+numbered rel.DuringInv = (5, omega arith, refl)
+numbered rel.Simultaneous = (6, omega arith, refl)
+numbered rel.Identity = (7, omega arith, refl)
+numbered rel.Ibefore = (8, omega arith, refl)
+numbered rel.Iafter = (9, omega arith, refl)
+numbered rel.Begins = (10, omega arith, refl)
+numbered rel.BegunBy = (11, omega arith, refl)
+numbered rel.Ends = (12, omega arith, refl)
+numbered rel.EndedBy = (13, omega arith, refl)
+
+module _ (table : Table) where
+  module _ (a b : ℕ) where
+    -- a row of two intervals and a relation
+    abbrev row_of : Rel → Row
+    row_of r = record { a = a; rel = r; b = b }
+
+    -- before the first relation
+    pub first_relation : (rows : List Row) → ArePutLast table (IsOfFirst a b 0) rows rows
+    first_relation rows = none_put table (IsOfFirst a b 0) rows (λ row is meets. omega (arith, meets.2.1))
+
+    -- one relation more, which is entailed
+    pub one_relation : (before rows : List Row) (k : ℕ) (r : Rel) → a < b → 2 * b + 1 < table.points → k < 14 → rel_at k ≡ r → Entails table a r b
+        → ArePutLast table (IsOfFirst a b k) before rows → ArePutLast table (IsOfFirst a b (k + 1)) before (rows ++ row_of r ∷ [])
+    one_relation before rows k r less within lt at entails put =
+        put_last table (IsOfFirst a b k) (λ (other : Row). other ≡ row_of r) (IsOfFirst a b (k + 1)) before rows (rows ++ row_of r ∷ [])
+        put (one_put table rows (row_of r) (less, within, entails))
+        (λ x y is_x is_y meets same. inr (inr (
+          meets.0 ∙ sym (ap (λ (row : Row). row.a) same),
+          meets.1 ∙ sym (ap (λ (row : Row). row.b) same),
+          (meets.2.0, k, meets.2.1, lt, meets.2.2, at ∙ sym (ap (λ (row : Row). row.rel) same)),
+        )))
+        (λ row is. (λ either. there row either, λ meets. here row meets))
+      where
+        there : (row : Row) → (IsOfFirst a b k row ⊎ (row ≡ row_of r)) → IsOfFirst a b (k + 1) row
+        there row either = elim either [
+          | inl old ↦ (old.0, old.1, (old.2.0, omega (arith, old.2.1), old.2.2))
+          | inr same ↦ (ap (λ (x : Row). x.a) same, ap (λ (x : Row). x.b) same, (k, omega arith, at ∙ sym (ap (λ (x : Row). x.rel) same)))
+        ]
+
+        here : (row : Row) → IsOfFirst a b (k + 1) row → IsOfFirst a b k row ⊎ (row ≡ row_of r)
+        here row meets = elim (cases_lt meets.2.0 k) [
+          | inl old ↦ inl (meets.0, meets.1, (meets.2.0, old, meets.2.2))
+          | inr last ↦
+              let is : meets.2.0 ≡ k = omega (arith, last, meets.2.1) in
+              let rels : row.rel ≡ r = sym meets.2.2 ∙ ap rel_at is ∙ at in
+              inr (λ i. record { a = meets.0 i; rel = rels i; b = meets.1 i })
+        ]
+
+    -- one relation more, which is not
+    pub no_relation : (before rows : List Row) (k : ℕ) (r : Rel) → rel_at k ≡ r → (Entails table a r b → ⊥)
+        → ArePutLast table (IsOfFirst a b k) before rows → ArePutLast table (IsOfFirst a b (k + 1)) before rows
+    no_relation before rows k r at not put =
+        same_put table (IsOfFirst a b k) (IsOfFirst a b (k + 1)) before rows
+        (λ row is. (λ old. (old.0, old.1, (old.2.0, omega (arith, old.2.1), old.2.2)), λ meets. here row is meets)) put
+      where
+        here : (row : Row) → IsRow table row → IsOfFirst a b (k + 1) row → IsOfFirst a b k row
+        here row is meets = elim (cases_lt meets.2.0 k) [
+          | inl old ↦ (meets.0, meets.1, (meets.2.0, old, meets.2.2))
+          | inr last ↦
+              let e : meets.2.0 ≡ k = omega (arith, last, meets.2.1) in
+              let rels : row.rel ≡ r = sym meets.2.2 ∙ ap rel_at e ∙ at in
+              let same : row ≡ row_of r = λ i. record { a = meets.0 i; rel = rels i; b = meets.1 i } in
+              absurd (not (subst (λ (x : Row). Entails table x.a x.rel x.b) same is.2))
+        ]
+
+    -- after the last relation
+    pub last_relation : (before rows : List Row) (k : ℕ) → 14 ≤ k → ArePutLast table (IsOfFirst a b k) before rows → ArePutLast table (IsOf a b) before rows
+    last_relation before rows k all put =
+        same_put table (IsOfFirst a b k) (IsOf a b) before rows
+        (λ row is. (λ h. (h.0, h.1), λ h. let at = numbered row.rel in (h.0, h.1, (at.0, omega (arith, at.1, all), at.2)))) put
+
+  module _ (a : ℕ) where
+    -- before the first interval after one
+    pub first_after : (rows : List Row) → ArePutLast table (IsOfBelow a (a + 1)) rows rows
+    first_after rows = none_put table (IsOfBelow a (a + 1)) rows (λ row is meets. omega (arith, is.0, meets.0, meets.1))
+
+    -- one interval more after it
+    pub one_after : (before old new : List Row) (b : ℕ) → ArePutLast table (IsOfBelow a b) before old → ArePutLast table (IsOf a b) old new → ArePutLast table (IsOfBelow a (b + 1)) before new
+    one_after before old new b first next =
+        put_last table (IsOfBelow a b) (IsOf a b) (IsOfBelow a (b + 1)) before old new first next
+        (λ x y is_x is_y earlier later. inr (inl (earlier.0 ∙ sym later.0, omega (arith, earlier.1, later.1))))
+        (λ row is. (λ either. there row either, λ meets. here row meets))
+      where
+        there : (row : Row) → (IsOfBelow a b row ⊎ IsOf a b row) → IsOfBelow a (b + 1) row
+        there row either = elim either [
+          | inl less ↦ (less.0, omega (arith, less.1))
+          | inr at ↦ (at.0, omega (arith, at.1))
+        ]
+
+        here : (row : Row) → IsOfBelow a (b + 1) row → IsOfBelow a b row ⊎ IsOf a b row
+        here row meets = elim (cases_lt row.b b) [
+          | inl less ↦ inl (meets.0, less)
+          | inr not ↦ inr (meets.0, omega (arith, meets.1, not))
+        ]
+
+    -- after the last interval
+    pub last_after : (before rows : List Row) (b : ℕ) → table.points / 2 ≤ b → ArePutLast table (IsOfBelow a b) before rows → ArePutLast table (IsFrom a) before rows
+    last_after before rows b all put =
+        same_put table (IsOfBelow a b) (IsFrom a) before rows (λ row is. (λ meets. meets.0, λ at. (at, omega (arith, is.1, all)))) put
+
+  -- before the first interval
+  pub first_interval : ArePutLast table (IsFromBelow 0) [] []
+  first_interval = none_put table (IsFromBelow 0) [] (λ row is meets. omega (arith, meets))
+
+  -- one interval more
+  pub one_interval : (before old new : List Row) (a : ℕ) → ArePutLast table (IsFromBelow a) before old → ArePutLast table (IsFrom a) old new → ArePutLast table (IsFromBelow (a + 1)) before new
+  one_interval before old new a first next =
+      put_last table (IsFromBelow a) (IsFrom a) (IsFromBelow (a + 1)) before old new first next
+      (λ x y is_x is_y earlier later. inl (omega (arith, earlier, later)))
+      (λ row is. (λ either. there row either, λ meets. here row meets))
+    where
+      there : (row : Row) → (IsFromBelow a row ⊎ IsFrom a row) → IsFromBelow (a + 1) row
+      there row either = elim either [
+        | inl less ↦ omega (arith, less)
+        | inr at ↦ omega (arith, at)
+      ]
+
+      here : (row : Row) → IsFromBelow (a + 1) row → IsFromBelow a row ⊎ IsFrom a row
+      here row meets = elim (cases_lt row.a a) [
+        | inl less ↦ inl less
+        | inr not ↦ inr (omega (arith, meets, not))
+      ]
+
+  -- after the last interval
+  pub last_interval : (rows : List Row) (a : ℕ) → table.points / 2 ≤ a → ArePutLast table (IsFromBelow a) [] rows → AreRows table rows
+  last_interval rows a all put = all_rows table (IsFromBelow a) rows (λ row is. omega (arith, is.0, is.1, all)) put

@@ -1,0 +1,12 @@
+use Rattle.std.proofs.Common.{◌≡◌, ◌/◌, ◌≤◌, []}
+use Rattle.derive_rel.specs.Pushing.{ArePutLast}
+use Rattle.derive_rel.proofs.Turns.{IsFromBelow}
+use Rattle.derive_rel.proofs.all_rows.rows.Given as goal
+
+-- the rows of the intervals so far are put after none
+abbrev pub invariant-loop-a : goal.invariant-loop-a
+invariant-loop-a l = record {
+  end : l.a-end ≡ l.closed.points / 2;
+  few : l.closed.points ≤ 2048;
+  put : ArePutLast l.closed (IsFromBelow l.a) [] l.rows;
+}

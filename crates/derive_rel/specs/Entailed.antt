@@ -1,0 +1,40 @@
+-- The relations that hold in all timelines of a table.
+use Rattle.std.specs.Prelude.{◌≡◌, ◌⊎◌, ℕ, ◌*◌, ◌+◌, ◌<◌, ◌≤◌, List, length, slice_index_or}
+use Rattle.std.specs.List.{All, Contains}
+use Rattle.net_core.specs.Atoms.{atoms_of}
+use Rattle.net_core.specs.Rels.{all_rels}
+use Rattle.net_core.specs.declared.atom.Atom.{Atom}
+use Rattle.net_core.specs.declared.rels.Rel.{Rel}
+use Rattle.net_core.specs.declared.rels.Rel.TheVariants as rel
+use Rattle.order_closure.specs.Cells.{order, strength}
+use Rattle.order_closure.specs.Tables.{Table, cell_at}
+use Rattle.derive_rel.specs.declared.all_rows.Row.{Row}
+
+-- the cell of an atom says at least its order
+abbrev pub Gives : Table → Atom → Type 0
+Gives table atom = strength (order atom.strict) ≤ strength (cell_at table atom.from atom.to)
+
+-- the table gives all orders that a relation is between two intervals
+abbrev pub Entails : Table → ℕ → Rel → ℕ → Type 0
+Entails table a r b = All (Gives table) (atoms_of r a b)
+
+-- a row has an interval, a relation and an interval after it, between which the table entails the relation
+abbrev pub IsRow : Table → Row → Type 0
+IsRow table row = (row.a < row.b) × (2 * row.b + 1 < table.points) × Entails table row.a row.rel row.b
+
+-- a relation stands before another one in the table of relations
+abbrev pub StandsBefore : Rel → Rel → Type 0
+StandsBefore r s = (i : ℕ) × (j : ℕ) × (i < j) × (j < length all_rels) × (slice_index_or all_rels i rel.Before ≡ r) × (slice_index_or all_rels j rel.Before ≡ s)
+
+-- rows are in the order of their first intervals, then of their second ones, then of the table of relations
+abbrev pub ComesBefore : Row → Row → Type 0
+ComesBefore row other = (row.a < other.a) ⊎ ((row.a ≡ other.a) × (row.b < other.b)) ⊎ ((row.a ≡ other.a) × (row.b ≡ other.b) × StandsBefore row.rel other.rel)
+
+abbrev pub row_at : List Row → ℕ → Row
+row_at rows k = slice_index_or rows k (record { a = 0; rel = rel.Before; b = 0 })
+
+-- all rows of a table, each once, in order
+pub record AreRows (table : Table) (rows : List Row) : Type 0 where
+  pub right : All (IsRow table) rows
+  pub whole : (row : Row) → IsRow table row → Contains rows row
+  pub sorted : (k : ℕ) → k + 1 < length rows → ComesBefore (row_at rows k) (row_at rows (k + 1))

@@ -1,0 +1,3 @@
+pub mod Entailed
+pub mod Pairs
+pub mod Pushing

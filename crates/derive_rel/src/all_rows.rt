@@ -1,0 +1,62 @@
+//! All relations that hold in all timelines of a table.
+ghost use Rattle.derive_rel.specs.Entailed.{AreRows};
+ghost use Rattle.derive_rel.specs.Pushing.{ArePutLast, IsFrom, IsOf};
+ghost use Rattle.std.specs.Prelude.{IfOk, OnOk, ◌%◌, ◌*◌, ◌+◌, ◌<◌, ◌≡◌, ◌≤◌};
+
+use crate::pairs::entailed;
+use named::Named;
+use net_core::{List, Memory, Rel};
+use order_closure::Closed;
+use std::alloc::Global;
+
+/// A relation between two intervals, by their numbers.
+#[derive(Clone, Copy, Debug, PartialEq, Eq)]
+pub struct Row {
+    pub a: u32,
+    pub rel: Rel,
+    pub b: u32,
+}
+
+/// The relations that hold between any two intervals in all timelines that keep a table: those of an interval and each
+/// one after it, in the order of the intervals and then of the table of relations.
+///
+/// # Errors
+///
+/// Out of memory.
+pub fn rows(alloc: Global, closed: &Closed) -> Result<List<Row>, Memory>
+    requires { closed.now.points % 2 ≡ 0 }
+    ensures { IfOk result (AreRows closed.now) }
+{
+    let mut rows = List::new(alloc);
+    for a in 0..closed.points() / 2 {
+        push_from(&mut rows, closed, a)?;
+    }
+    Ok(rows)
+}
+
+/// Puts the relations of an interval and each one after it last.
+fn push_from(rows: &mut List<Row>, closed: &Closed, a: u32) -> Result<(), Memory>
+    requires few { closed.now.points ≤ 2048 }
+    requires a { 2 * a + 1 < closed.now.points }
+    ensures { OnOk result (ArePutLast closed.now (IsFrom a) rows.old rows.new) }
+{
+    for b in a + 1..closed.points() / 2 {
+        push_pair(rows, closed, a, b)?;
+    }
+    Ok(())
+}
+
+/// Puts the relations of two intervals last.
+fn push_pair(rows: &mut List<Row>, closed: &Closed, a: u32, b: u32) -> Result<(), Memory>
+    requires a { a < b }
+    requires b { 2 * b + 1 < closed.now.points }
+    ensures { OnOk result (ArePutLast closed.now (IsOf a b) rows.old rows.new) }
+{
+    let set = entailed(closed, a, b);
+    for rel in Rel::all() {
+        if set.has(*rel) {
+            rows.push(Row { a, rel: *rel, b })?;
+        }
+    }
+    Ok(())
+}

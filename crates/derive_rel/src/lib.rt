@@ -1,0 +1,10 @@
+//! The relations that hold in all timelines of a table.
+#![tactic(auto)]
+
+mod all_rows;
+mod pairs;
+#[cfg(test)]
+mod tests;
+
+pub use all_rows::{Row, rows};
+pub use pairs::{RelSet, entailed};
