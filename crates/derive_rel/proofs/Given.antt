@@ -24,10 +24,11 @@ given Weak false = (λ e. omega arith, λ h. refl)
 given Strict true = (λ e. omega arith, λ h. refl)
 given Strict false = (λ e. omega arith, λ h. refl)
 
--- cells and orders, each of which is given
+-- each cell gives its order
 abbrev AreGiven : List (Cell × Bool) → Type 0
 AreGiven asked = AllByRecursion (λ (x : Cell × Bool). strength (order x.1) ≤ strength x.0) asked
 
+-- a test of all is true exactly where each is given
 all_given : (asked : List (Cell × Bool)) → (list_all (λ (x : Cell × Bool). gives x.0 x.1) asked ≡ true) ↔ AreGiven asked
 all_given [] = (λ e. tt, λ h. refl)
 all_given (x ∷ asked) = (
@@ -66,6 +67,7 @@ module _ (table : Table) (a b : ℕ) where
   has_given rel.Ends = all_given (asked rel.Ends)
   has_given rel.EndedBy = all_given (asked rel.EndedBy)
 
+  -- a relation is one of those of the cells exactly where the table entails it
   pub has_entails : (r : Rel) → (has set_of r ≡ true) ↔ Entails table a r b
   has_entails r = (
     λ e. All-from_recursion (Gives table) (atoms_of r a b) ((has_given r).0 e),

@@ -1,5 +1,5 @@
 -- Rows of a table that come after others.
-use Rattle.std.proofs.Common.{◌≡◌, ◌⊎◌, ◌↔◌, inl, inr, ℕ, ◌+◌, ◌-◌, ◌<◌, ◌≤◌, List, [], ◌∷◌, ◌++◌, length, refl, sym, ap, subst, ◌∙◌, arith, length-append, append-nil, append_assoc}
+use Rattle.std.proofs.Common.{◌≡◌, ◌⊎◌, ◌↔◌, inl, inr, ℕ, ◌+◌, ◌-◌, ◌<◌, ◌≤◌, List, [], ◌∷◌, ◌++◌, length, refl, sym, ap, subst, ◌∙◌, arith, length-append, append_assoc}
 use Rattle.std.proofs.lemmas.Bool.{cases_lt}
 use Rattle.std.proofs.lemmas.List.{get_or_append_left, get_or-append_right}
 use Rattle.std.proofs.lemmas.List.Elements.{All-append, All-cons, All-nil, All-weaker, Contains-append_left, Contains-append_right}
@@ -13,21 +13,15 @@ use Rattle.derive_rel.specs.declared.all_rows.Row.{Row}
 abbrev default : Row
 default = record { a = 0; rel = rel.Before; b = 0 }
 
+-- the first rows of a list and another one are those of the list
 left : (xs ys : List Row) (k : ℕ) → k < length xs → row_at (xs ++ ys) k ≡ row_at xs k
 left xs ys k lt = get_or_append_left xs ys default k lt
 
+-- and the rest are those of the other one
 right : (xs ys : List Row) (k : ℕ) → length xs ≤ k → row_at (xs ++ ys) k ≡ row_at ys (k - length xs)
 right xs ys k ge = get_or-append_right xs ys (length xs) k default refl ge
 
 module _ (table : Table) where
-  -- no row, where no row of the table meets the condition
-  pub no_rows : (P : Row → Type 0) → ((row : Row) → IsRow table row → P row → ⊥) → AreRowsWhere table P []
-  no_rows P not = record {
-    right = All-nil (λ (row : Row). IsRow table row × P row);
-    whole = λ row is meets. absurd (not row is meets);
-    sorted = λ k lt. absurd (omega arith);
-  }
-
   -- one row
   pub one_row : (row : Row) → IsRow table row → AreRowsWhere table (λ (other : Row). other ≡ row) (row ∷ [])
   one_row row is = record {
@@ -45,6 +39,7 @@ module _ (table : Table) where
   }
 
   module _ (P Q : Row → Type 0) (xs ys : List Row) (first : AreRowsWhere table P xs) (next : AreRowsWhere table Q ys) (turn : (x y : Row) → IsRow table x → IsRow table y → P x → Q y → ComesBefore x y) where
+    -- rows that are in order stay so where all of the first come before the next
     in_turn : (k : ℕ) → k + 1 < length (xs ++ ys) → ComesBefore (row_at (xs ++ ys) k) (row_at (xs ++ ys) (k + 1))
     in_turn k lt = elim (cases_lt (k + 1) (length xs)) [
       | inl less ↦ subst (λ (x : Row). ComesBefore x (row_at (xs ++ ys) (k + 1))) (sym (left xs ys k (omega (arith, less))))
@@ -64,7 +59,7 @@ module _ (table : Table) where
       ]
     ]
 
-    -- both, one after the other
+    -- the rows that meet either condition
     pub joined_rows : (R : Row → Type 0) → ((row : Row) → IsRow table row → (P row ⊎ Q row) ↔ R row) → AreRowsWhere table R (xs ++ ys)
     joined_rows R both = record {
       right = All-append (λ (row : Row). IsRow table row × R row) xs ys
@@ -82,10 +77,6 @@ module _ (table : Table) where
       → ((x y : Row) → IsRow table x → IsRow table y → P x → Q y → ComesBefore x y) → ((row : Row) → IsRow table row → (P row ⊎ Q row) ↔ R row) → ArePutLast table R before new
   put_last P Q R before old new first next turn both =
       (first.0 ++ next.0, next.1 ∙ ap (λ (rows : List Row). rows ++ next.0) first.1 ∙ append_assoc before first.0 next.0, joined_rows P Q first.0 next.0 first.2 next.2 turn R both)
-
-  -- no row is put last
-  pub none_put : (P : Row → Type 0) (rows : List Row) → ((row : Row) → IsRow table row → P row → ⊥) → ArePutLast table P rows rows
-  none_put P rows not = ([], sym (append-nil rows), no_rows P not)
 
   -- one row is put last
   pub one_put : (rows : List Row) (row : Row) → IsRow table row → ArePutLast table (λ (other : Row). other ≡ row) rows (rows ++ row ∷ [])

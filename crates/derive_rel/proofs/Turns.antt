@@ -8,7 +8,7 @@ use Rattle.order_closure.specs.Tables.{Table}
 use Rattle.derive_rel.specs.Entailed.{AreRows, Entails, IsRow}
 use Rattle.derive_rel.specs.Pushing.{ArePutLast, IsFrom, IsOf}
 use Rattle.derive_rel.specs.declared.all_rows.Row.{Row}
-use Rattle.derive_rel.proofs.Joined.{all_rows, none_put, one_put, put_last, same_put}
+use Rattle.derive_rel.proofs.Joined.{all_rows, one_put, put_last, same_put}
 
 -- a row of an interval before one
 abbrev pub IsFromBelow : ℕ → Row → Type 0
@@ -52,10 +52,6 @@ module _ (table : Table) where
     -- a row of two intervals and a relation
     abbrev row_of : Rel → Row
     row_of r = record { a = a; rel = r; b = b }
-
-    -- before the first relation
-    pub first_relation : (rows : List Row) → ArePutLast table (IsOfFirst a b 0) rows rows
-    first_relation rows = none_put table (IsOfFirst a b 0) rows (λ row is meets. omega (arith, meets.2.1))
 
     -- one relation more, which is entailed
     pub one_relation : (before rows : List Row) (k : ℕ) (r : Rel) → a < b → 2 * b + 1 < table.points → k < 14 → rel_at k ≡ r → Entails table a r b
@@ -109,10 +105,6 @@ module _ (table : Table) where
         (λ row is. (λ h. (h.0, h.1), λ h. let at = numbered row.rel in (h.0, h.1, (at.0, omega (arith, at.1, all), at.2)))) put
 
   module _ (a : ℕ) where
-    -- before the first interval after one
-    pub first_after : (rows : List Row) → ArePutLast table (IsOfBelow a (a + 1)) rows rows
-    first_after rows = none_put table (IsOfBelow a (a + 1)) rows (λ row is meets. omega (arith, is.0, meets.0, meets.1))
-
     -- one interval more after it
     pub one_after : (before old new : List Row) (b : ℕ) → ArePutLast table (IsOfBelow a b) before old → ArePutLast table (IsOf a b) old new → ArePutLast table (IsOfBelow a (b + 1)) before new
     one_after before old new b first next =
@@ -136,10 +128,6 @@ module _ (table : Table) where
     pub last_after : (before rows : List Row) (b : ℕ) → table.points / 2 ≤ b → ArePutLast table (IsOfBelow a b) before rows → ArePutLast table (IsFrom a) before rows
     last_after before rows b all put =
         same_put table (IsOfBelow a b) (IsFrom a) before rows (λ row is. (λ meets. meets.0, λ at. (at, omega (arith, is.1, all)))) put
-
-  -- before the first interval
-  pub first_interval : ArePutLast table (IsFromBelow 0) [] []
-  first_interval = none_put table (IsFromBelow 0) [] (λ row is meets. omega (arith, meets))
 
   -- one interval more
   pub one_interval : (before old new : List Row) (a : ℕ) → ArePutLast table (IsFromBelow a) before old → ArePutLast table (IsFrom a) old new → ArePutLast table (IsFromBelow (a + 1)) before new
