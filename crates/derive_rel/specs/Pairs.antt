@@ -24,6 +24,7 @@ rows_in set =
     ∷ (set.start_and_end.back ∷ set.ends.back ∷ Free ∷ Free ∷ [])
     ∷ []
 
+-- the cell of two of these points
 abbrev pub cell_in : RelSet → ℕ → ℕ → Cell
 cell_in set p q = slice_index_or (slice_index_or (rows_in set) p []) q Free
 
