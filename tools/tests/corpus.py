@@ -1,0 +1,63 @@
+"""What the tests share: a folder for documents, and runs of `tml-corpus` over it with the real program."""
+
+import os
+import subprocess
+import sys
+import tempfile
+import unittest
+
+TOOLS = os.path.dirname(os.path.dirname(os.path.abspath(__file__)))
+TOP = os.path.dirname(TOOLS)
+sys.path.insert(0, TOOLS)
+
+COMPANION = os.path.join(TOOLS, "tml-corpus")
+TML = os.environ.get("TML") or os.path.join(TOP, "crates", "tml", "out", "tml")
+EVENT = '<EVENT eid="e1" class="STATE">x</EVENT>'
+INSTANCE = '<MAKEINSTANCE eiid="i1" eventID="e1"/>'
+
+
+def document(inner):
+    """A document with some tags on its second line."""
+    return f"<TimeML>\n{inner}</TimeML>\n"
+
+
+@unittest.skipUnless(os.access(TML, os.X_OK), f"no program {TML}: build it as README.md says, or name one by TML=PROGRAM")
+class CorpusTest(unittest.TestCase):
+    """A test with a folder of its own, which is the current one of each run."""
+
+    def setUp(self):
+        held = tempfile.TemporaryDirectory()
+        self.addCleanup(held.cleanup)
+        self.folder = held.name
+
+    def path(self, name):
+        return os.path.join(self.folder, name)
+
+    def write(self, name, content):
+        path = self.path(name)
+        os.makedirs(os.path.dirname(path), exist_ok=True)
+        with open(path, "wb") as file:
+            file.write(content if isinstance(content, bytes) else content.encode())
+
+    def start(self, *words, tml=TML):
+        command, *rest = words
+        return subprocess.Popen(
+            [sys.executable, COMPANION, command, "--tml", tml, *rest],
+            cwd=self.folder,
+            stdin=subprocess.DEVNULL,
+            stdout=subprocess.PIPE,
+            stderr=subprocess.PIPE,
+            env={**os.environ, "PYTHONIOENCODING": "utf-8", "PYTHONDONTWRITEBYTECODE": "1"},
+        )
+
+    def run_it(self, *words, tml=TML):
+        """The status, the lines of standard output, and standard error."""
+        child = self.start(*words, tml=tml)
+        out, err = child.communicate(timeout=120)
+        return child.returncode, out.decode("utf-8", "replace").splitlines(), err.decode("utf-8", "replace")
+
+    def notes(self, content, *words):
+        """The notes on a document, from line and column on."""
+        self.write("d.xml", content)
+        _, lines, _ = self.run_it("check", "--explain", *words, "d.xml")
+        return [line.removeprefix("d.xml:").replace(" note: ", " ") for line in lines if " note: " in line]

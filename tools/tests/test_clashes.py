@@ -1,0 +1,85 @@
+"""`tml-corpus clashes`: the words of the samples, and the evidence."""
+
+import glob
+import os
+import stat
+import subprocess
+import unittest
+
+from corpus import EVENT, TML, TOP, CorpusTest, document
+
+SAMPLES = os.path.join(TOP, "samples")
+
+
+class Clashes(CorpusTest):
+    def sample(self, name):
+        with open(os.path.join(SAMPLES, name), "rb") as file:
+            self.write(name, file.read())
+
+    def test_samples_in_words(self):
+        rows = {
+            "talks.xml": [
+                "7:1: error: clash, 1 of 3: ended IS_INCLUDED 9 January (link 0: ei1 IS_INCLUDED t1)",
+                "8:1: error: clash, 2 of 3: left AFTER ended (link 1: ei2 AFTER ei1)",
+                "9:1: error: clash, 3 of 3: left IS_INCLUDED the eighth (link 2: ei2 IS_INCLUDED t2)",
+                "4:109: note: by the calendar the eighth ends at 1998-01-09T00:00:00, and 9 January starts at 1998-01-09T00:00:00",
+            ],
+            "plant.xml": [
+                "8:1: error: clash, 1 of 3: closed BEFORE rose (link 0: ei2 BEFORE ei1)",
+                "9:1: error: clash, 2 of 3: warned BEFORE closed (link 1: ei3 BEFORE ei2)",
+                "10:1: error: clash, 3 of 3: rose BEFORE warned (link 2: ei1 BEFORE ei3)",
+            ],
+            "cut.xml": [
+                "7:1: error: clash, 1 of 2: cut IS_INCLUDED meeting (link 0: ei1 IS_INCLUDED ei2)",
+                "8:1: error: clash, 2 of 2: meeting IBEFORE cut (link 1: ei2 IBEFORE ei1)",
+            ],
+            "rates.xml": [],
+        }
+        for name, told in rows.items():
+            with self.subTest(name):
+                self.sample(name)
+                status, lines, _ = self.run_it("clashes", name)
+                self.assertEqual(lines[:-1], [f"{name}:{line}" for line in told])
+                self.assertEqual(status, 1 if told else 0)
+
+    def test_texts_of_many_kinds(self):
+        times = '<TIMEX3 tid="a" type="DATE" value="199X">\n the <!-- x -->\n1990s&amp; </TIMEX3><TIMEX3 tid="b" type="DATE" value="1980-Q1"/>'
+        self.write("d.xml", document(times + '<TLINK timeID="a" relatedToTime="b" relType="BEFORE"/>'))
+        _, lines, _ = self.run_it("clashes", "d.xml")
+        self.assertTrue(lines[0].endswith(": the 1990s& BEFORE 1980-Q1 (link 0: a BEFORE b)"), lines[0])
+        said = "by the calendar 1980-Q1 starts at 1980-01-01T00:00:00, and the 1990s& starts no earlier than 1990-01-01T00:00:00"
+        self.assertTrue(lines[1].endswith(said), lines[1])
+
+    def test_evidence_is_kept_and_verified(self):
+        for name in ("talks.xml", "plant.xml", "rates.xml"):
+            self.sample(name)
+        self.sample("cut.xml")
+        os.mkdir(self.path("sub"))
+        os.rename(self.path("cut.xml"), self.path("sub/talks.xml"))
+        status, lines, _ = self.run_it("clashes", "--evidence", "kept/here", ".")
+        kept = [line.split(": evidence in ") for line in lines if ": evidence in " in line]
+        self.assertEqual((status, [path for path, _ in kept]), (1, ["./plant.xml", "./talks.xml", "./sub/talks.xml"]))
+        for path, evidence in kept:
+            judged = subprocess.run([TML, "verify", path, evidence], cwd=self.folder, stdout=subprocess.PIPE, check=False)
+            self.assertEqual((judged.returncode, judged.stdout[:15]), (0, b"verified clash "))
+        self.assertEqual(len(glob.glob(self.path("kept/here/*"))), 3)
+        self.assertEqual(lines[-1], "4 files: 3 with a clash, 1 without, 0 with a fault, 0 not judged")
+
+    def test_evidence_that_is_refused_is_not_reported(self):
+        self.sample("plant.xml")
+        self.write("fake", f'#!/bin/sh\nif [ $1 = solve ]; then {TML} "$@" | sed "s/^span 1$/span 2/"; exit 2; fi\nexec {TML} "$@"\n')
+        os.chmod(self.path("fake"), stat.S_IRWXU)
+        status, lines, _ = self.run_it("clashes", "plant.xml", tml=self.path("fake"))
+        self.assertEqual(status, 2)
+        self.assertEqual(lines[0], "plant.xml: not judged: tml verify refused the evidence of tml solve: evidence part 1 Step 3")
+
+    def test_faults_and_files_that_are_not_there(self):
+        self.write("a.xml", document(EVENT + "<EVENT/>"))
+        status, lines, _ = self.run_it("clashes", "a.xml", "b.xml")
+        self.assertEqual(status, 2)
+        self.assertTrue(lines[0].startswith("a.xml:2:40: error: 10 MissingAttribute: "), lines[0])
+        self.assertEqual(lines[1], "b.xml: not judged: no such file or directory")
+
+
+if __name__ == "__main__":
+    unittest.main()

@@ -1,0 +1,157 @@
+"""The command line of `tml-corpus`.
+
+Status 0 says that all was well, 1 that a document has a fault (or a clash, or an unknown tag), 2 that something could not
+be run or read, and 130 that the run was interrupted.
+"""
+
+from __future__ import annotations
+
+import argparse
+import os
+import sys
+from collections.abc import Callable, Sequence
+from functools import partial
+from typing import TypeVar
+
+from .check import Judgement, judge
+from .clashes import ClashReport, ClashSummary, find_clash
+from .files import PATTERNS, Found, counted, find_files, reason, shown
+from .formats import Summary, make_format
+from .pool import Interruption, Progress, in_order, processors
+from .program import CannotRun, Program, find_program
+from .tags import MOST_NAMES, Names, Table, is_known, names_in
+
+Result = TypeVar("Result")
+INTERRUPTED = 130
+
+
+def main(arguments: list[str]) -> int:
+    """Runs one command and answers its status."""
+    for stream in (sys.stdout, sys.stderr):
+        stream.reconfigure(encoding=stream.encoding, errors="backslashreplace")
+    options = parser().parse_args(arguments)
+    try:
+        options.program = Program(find_program(options.tml))
+        with Interruption() as stop:
+            status = options.command(options, stop)
+            sys.stdout.flush()
+            return INTERRUPTED if stop.happened.is_set() else status
+    except CannotRun as problem:
+        print(f"tml-corpus: {shown(str(problem))}", file=sys.stderr)
+        return 2
+    except KeyboardInterrupt:
+        return INTERRUPTED
+    except BrokenPipeError:
+        os.dup2(os.open(os.devnull, os.O_WRONLY), sys.stdout.fileno())
+        return 2
+
+
+def number_from_zero(text: str) -> int:
+    """A number for an option."""
+    number = int(text)
+    if number < 0:
+        raise ValueError(text)
+    return number
+
+
+def parser() -> argparse.ArgumentParser:
+    """The words that are understood."""
+    whole = argparse.ArgumentParser(prog="tml-corpus", description="Asks tml about all documents of a corpus.")
+    commands = whole.add_subparsers(required=True, metavar="COMMAND")
+    check = commands.add_parser("check", help="say of each document whether tml accepts it, or where its first fault is")
+    check.add_argument("--format", choices=("text", "json", "junit", "github"), default="text", help="the form of the output")
+    check.add_argument("--explain", action=argparse.BooleanOptionalAction, help="say what is at fault (default at a terminal)")
+    check.add_argument("--more", type=number_from_zero, default=0, metavar="N", help="go on to at most N further faults of each document")
+    check.set_defaults(command=check_command)
+    tags = commands.add_parser("tags", help="count the names of tags, and say which of them tml does not know")
+    tags.set_defaults(command=tags_command)
+    clashes = commands.add_parser("clashes", help="show the links of each document that contradict each other")
+    clashes.add_argument("--evidence", metavar="FOLDER", help="keep the evidence of each clash in this folder")
+    clashes.set_defaults(command=clashes_command)
+    for command in (check, tags, clashes):
+        command.add_argument("paths", nargs="+", metavar="PATH", help="a file, or a folder to search")
+        command.add_argument("--glob", action="append", metavar="PATTERN", help=f"names to look for in folders (default {' '.join(PATTERNS)})")
+        command.add_argument("--tml", metavar="PROGRAM", help="the program tml (default: that of this repository, else that on PATH)")
+        command.add_argument("--jobs", type=int, default=processors(), metavar="N", help="how many files at once (default: one a processor)")
+    return whole
+
+
+def search(options: argparse.Namespace) -> list[Found]:
+    """The files that the command is about."""
+    return find_files(options.paths, options.glob or list(PATTERNS))
+
+
+def each(
+    options: argparse.Namespace, stop: Interruption, found: Sequence[Found], work: Callable[[Found], Result], tell: Callable[[Result], str]
+) -> None:
+    """Does the work for each file on all processors, and prints in the order of the files what there is to tell."""
+    progress = Progress(len(found), "files")
+    for result in in_order(work, found, max(options.jobs, 1), stop):
+        text = tell(result)
+        if text:
+            progress.clear()
+            sys.stdout.write(text)
+            if sys.stdout.isatty():
+                sys.stdout.flush()
+        progress.step()
+    progress.close()
+
+
+def check_command(options: argparse.Namespace, stop: Interruption) -> int:
+    """`tml-corpus check`."""
+    found = search(options)
+    terminal = sys.stdout.isatty()
+    explained = terminal if options.explain is None else options.explain
+    form, summary = make_format(options.format, terminal), Summary(len(found))
+
+    def tell(judgement: Judgement) -> str:
+        summary.add(judgement)
+        return form.file(judgement)
+
+    each(options, stop, found, partial(judge, options.program, explained=explained, more=options.more), tell)
+    sys.stdout.write(form.end(summary))
+    apart = sys.stderr if form.summary_apart else sys.stdout
+    apart.write(summary.text(stop.happened.is_set()))
+    return summary.status()
+
+
+def tags_command(options: argparse.Namespace, stop: Interruption) -> int:
+    """`tml-corpus tags`."""
+    found = search(options)
+    table, problems = Table(), 0
+
+    def tell(names: Names) -> str:
+        nonlocal problems
+        table.add(names)
+        problems += names.problem is not None
+        said = f"not counted: {names.problem}" if names.problem else names.remark
+        return f"{shown(names.path)}: {shown(said)}\n" if said else ""
+
+    each(options, stop, found, partial(names_in, options.program), tell)
+    asked = table.names()[:MOST_NAMES]
+    known = dict(zip(asked, in_order(partial(is_known, options.program), asked, max(options.jobs, 1), stop), strict=False))
+    sys.stdout.write(table.text(known))
+    unknown = list(known.values()).count(False)
+    sys.stdout.write(f"{counted(len(found), 'file')}: {counted(len(table.counts), 'name')} of tags, {unknown} unknown to tml; {problems} not counted\n")
+    if stop.happened.is_set():
+        sys.stdout.write("interrupted: not all files were looked at\n")
+    return 2 if problems else 1 if unknown else 0
+
+
+def clashes_command(options: argparse.Namespace, stop: Interruption) -> int:
+    """`tml-corpus clashes`."""
+    if options.evidence is not None:
+        try:
+            os.makedirs(options.evidence, exist_ok=True)
+        except (OSError, ValueError) as error:
+            raise CannotRun(f"the folder {options.evidence} cannot be made: {reason(error)}") from None
+    found = search(options)
+    summary = ClashSummary(len(found))
+
+    def tell(report: ClashReport) -> str:
+        summary.add(report)
+        return report.text()
+
+    each(options, stop, found, partial(find_clash, options.program, folder=options.evidence), tell)
+    sys.stdout.write(summary.text(stop.happened.is_set()))
+    return summary.status()

@@ -1,0 +1,129 @@
+"""Work on all processors, with the results in the order of the work, a sign of progress, and a way to be interrupted."""
+
+from __future__ import annotations
+
+import multiprocessing
+import os
+import signal
+import sys
+import threading
+import time
+from collections import deque
+from collections.abc import Callable, Iterator, Sequence
+from concurrent.futures import Future, ProcessPoolExecutor, wait
+from concurrent.futures.process import BrokenProcessPool
+from itertools import islice
+from typing import TypeVar
+
+from .program import CannotRun
+
+Item = TypeVar("Item")
+Result = TypeVar("Result")
+
+AHEAD = 256
+"""So many results may wait for one that comes before them; more are not begun, so that memory stays bounded."""
+
+PATIENCE = 0.5
+"""So many seconds pass at most until an interruption is seen."""
+
+
+class Interruption:
+    """Notes the first Ctrl-C, so that what was judged can still be told; a second one ends the program at once."""
+
+    def __init__(self) -> None:
+        self.happened = threading.Event()
+
+    def __enter__(self) -> Interruption:
+        self.before = signal.signal(signal.SIGINT, self.note)
+        return self
+
+    def __exit__(self, *error: object) -> None:
+        signal.signal(signal.SIGINT, self.before)
+
+    def note(self, number: int, frame: object) -> None:
+        """Is called by the signal."""
+        self.happened.set()
+        signal.signal(signal.SIGINT, signal.SIG_DFL)
+
+
+def processors() -> int:
+    """The number of processors that this program may use."""
+    return len(os.sched_getaffinity(0)) if hasattr(os, "sched_getaffinity") else os.cpu_count() or 1
+
+
+def in_order(work: Callable[[Item], Result], items: Sequence[Item], workers: int, stop: Interruption) -> Iterator[Result]:
+    """The results of the items in their order. After an interruption no item is begun; what was begun is still told.
+
+    The work is done in processes of Python, since much of it is to start `tml` again and again, which threads would do
+    one after the other.
+    """
+    with ProcessPoolExecutor(workers, multiprocessing.get_context("fork"), prepare_worker, (os.getpid(),)) as pool:
+        waiting: deque[Future[Result]] = deque()
+        rest = iter(items)
+        while True:
+            for item in islice(rest, 0 if stop.happened.is_set() else AHEAD - len(waiting)):
+                waiting.append(pool.submit(work, item))
+            if not waiting:
+                return
+            if stop.happened.is_set():
+                yield from [finished(future) for future in waiting if not future.cancel()]
+                return
+            if not wait([waiting[0]], PATIENCE).done:
+                continue
+            yield finished(waiting.popleft())
+
+
+def finished(future: Future[Result]) -> Result:
+    """The result of a work that was begun."""
+    try:
+        return future.result()
+    except BrokenProcessPool:
+        raise CannotRun("a process of this program was ended from outside, or had no memory") from None
+
+
+def prepare_worker(parent: int) -> None:
+    """Lets a worker leave Ctrl-C to the program, and end when the program is no more."""
+    signal.signal(signal.SIGINT, signal.SIG_IGN)
+
+    def watch() -> None:
+        while os.getppid() == parent:
+            time.sleep(1)
+        os._exit(1)
+
+    threading.Thread(target=watch, daemon=True).start()
+
+
+class Progress:
+    """How many of the items are done, on standard error where that is a terminal: by tqdm, or as a plain count."""
+
+    def __init__(self, total: int, unit: str) -> None:
+        self.total, self.unit, self.done, self.bar = total, unit, 0, None
+        self.seen = sys.stderr.isatty()
+        if self.seen:
+            try:
+                from tqdm import tqdm
+
+                self.bar = tqdm(total=total, unit=f" {unit}", leave=False, file=sys.stderr)
+            except ImportError:
+                pass
+
+    def step(self) -> None:
+        """One more is done."""
+        self.done += 1
+        if self.bar is not None:
+            self.bar.update(1)
+        elif self.seen and (self.done % 20 == 0 or self.done == self.total):
+            print(f"\r{self.done} of {self.total} {self.unit}", end="", file=sys.stderr, flush=True)
+
+    def clear(self) -> None:
+        """Makes room for a line of the output."""
+        if self.bar is not None:
+            self.bar.clear()
+        elif self.seen:
+            print("\r\x1b[K", end="", file=sys.stderr, flush=True)
+
+    def close(self) -> None:
+        """Takes the sign of progress away."""
+        self.clear()
+        if self.bar is not None:
+            self.bar.close()

@@ -1,0 +1,96 @@
+"""An accepted document in words: the texts of its events and times, its links, and what the calendar says of its times."""
+
+from __future__ import annotations
+
+import html
+from dataclasses import dataclass
+
+from .places import Place, Places
+from .program import CannotRun, Program
+from .units import Unit, end_of, units_of
+
+LONGEST = 40
+
+
+@dataclass(frozen=True)
+class Link:
+    """A TLINK as `tml check` numbers it: its place, and its relation between the names of two intervals."""
+
+    number: int
+    place: Place
+    left: str
+    relation: str
+    right: str
+
+
+class Wording:
+    """What can be said of the intervals and links of one accepted document."""
+
+    def __init__(self, program: Program, document: bytes) -> None:
+        self.document, self.places = document, Places(document)
+        self.units = units_of(program, document) or []
+        self.tags = {kind: self.tags_by(kind, key) for kind, key in (("EVENT", "eid"), ("MAKEINSTANCE", "eiid"), ("TIMEX3", "tid"))}
+        self.intervals: list[str] = []
+        self.links: list[Link] = []
+        try:
+            self.read_check(program)
+        except (ValueError, IndexError):
+            raise CannotRun("the answer of tml to `check` cannot be read") from None
+        self.dates = {words[0]: words[1:] for words in program.ask(["dates", "-"], document).lines() if len(words) > 1}
+
+    def tags_by(self, kind: str, key: str) -> dict[str, Unit]:
+        """The tags of a kind by their identifiers."""
+        return {unit.value_of(key, self.document) or "": unit for unit in self.units if unit.opens() and unit.name == kind}
+
+    def read_check(self, program: Program) -> None:
+        """Reads the intervals and the links from `tml check`; the links stand there in the order of the TLINK tags."""
+        tags = [unit for unit in self.units if unit.opens() and unit.name == "TLINK"]
+        for words in program.check(self.document).lines():
+            if words[0] == "interval":
+                self.intervals.append(words[2])
+            elif words[0] == "tlink":
+                tag = tags[int(words[1])]
+                self.links.append(Link(int(words[1]), self.places.place(tag.start), words[2], words[3], words[4]))
+        if len(tags) != len(self.links):
+            raise CannotRun("the answers of tml to `check` and `spans` do not belong together")
+
+    def text_of(self, name: str) -> str:
+        """The text of the event or time that an interval is, or its name where it has none."""
+        tag = self.tags["TIMEX3"].get(name)
+        instance = self.tags["MAKEINSTANCE"].get(name)
+        if tag is None and instance is not None:
+            tag = self.tags["EVENT"].get(instance.value_of("eventID", self.document) or "")
+        text = self.inner_text(tag) if tag is not None else ""
+        return (text if len(text) <= LONGEST else text[: LONGEST - 3] + "...") or name
+
+    def inner_text(self, tag: Unit) -> str:
+        """The text inside a tag, with single spaces; of an empty time its value."""
+        end = end_of(self.units, tag) if tag.kind == "start" else None
+        if end is None:
+            return html.unescape(tag.value_of("value", self.document) or "")
+        texts = (unit for unit in self.units if unit.kind == "text" and tag.end <= unit.start < end.start)
+        raw = b"".join(self.document[unit.start : unit.end] for unit in texts)
+        return " ".join(html.unescape(raw.decode("utf-8", "surrogateescape")).split())
+
+    def in_words(self, link: Link) -> str:
+        """A link in words, and beside it its number and the names of its intervals."""
+        words = f"{self.text_of(link.left)} {link.relation} {self.text_of(link.right)}"
+        return f"{words} (link {link.number}: {link.left} {link.relation} {link.right})"
+
+    def calendar(self, first: int, second: int) -> tuple[Place, str]:
+        """Why the calendar puts one point no later than another: what it says of both."""
+        name = self.intervals[first // 2]
+        tag = self.tags["TIMEX3"].get(name)
+        place = self.places.place(tag.start if tag is not None else 0)
+        return place, f"by the calendar {self.point(first, 'no later than', 4)}, and {self.point(second, 'no earlier than', 3)}"
+
+    def point(self, point: int, bound: str, column: int) -> str:
+        """Where the start or the end of a time lies: exactly, or by its upper or its lower bound."""
+        name = self.intervals[point // 2]
+        date = self.dates.get(name, ["free"])
+        verb = "ends" if point % 2 else "starts"
+        if date[0] == "exact":
+            return f"{self.text_of(name)} {verb} at {date[3 + point % 2]}"
+        if date[0] == "within":
+            return f"{self.text_of(name)} {verb} {bound} {date[column]}"
+        return f"{self.text_of(name)} {verb} anywhere"
