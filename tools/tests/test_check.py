@@ -107,6 +107,17 @@ class Statuses(CorpusTest):
         self.write("fake", f"#!/bin/sh\n{body}\n")
         os.chmod(self.path("fake"), stat.S_IRWXU)
 
+    def test_a_worker_that_is_ended(self):
+        for number in range(12):
+            self.write(f"{number:02}.xml", "<TimeML/>\n" if number != 5 else "<TimeML/>\n<!--end-->\n")
+        # A program that ends the process that asks it, where the document has a word in it.
+        self.write("fake", f"#!/bin/sh\ntext=$(cat)\ncase $text in *end*) kill -9 $PPID; sleep 1;; esac\nprintf '%s\\n' \"$text\" | {TML} \"$@\"\n")
+        os.chmod(self.path("fake"), 0o700)
+        status, lines, _ = self.run_it("check", "--jobs", "3", ".", tml=self.path("fake"))
+        self.assertEqual(status, 2)
+        self.assertTrue(lines[0].startswith("./05.xml: not judged: a process of this program"), lines)
+        self.assertEqual(lines[1], "12 files: 11 accepted, 0 with a fault, 1 not judged")
+
     def test_interrupted(self):
         for number in range(400):
             self.write(f"{number:03}.xml", BAD)

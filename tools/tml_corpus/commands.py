@@ -23,6 +23,7 @@ from .tags import MOST_NAMES, Names, Table, is_known, names_in
 
 Result = TypeVar("Result")
 INTERRUPTED = 130
+ENDED = "a process of this program that looked at it was ended from outside, or had no memory"
 
 
 def main(arguments: list[str]) -> int:
@@ -82,11 +83,16 @@ def search(options: argparse.Namespace) -> list[Found]:
 
 
 def each(
-    options: argparse.Namespace, stop: Interruption, found: Sequence[Found], work: Callable[[Found], Result], tell: Callable[[Result], str]
+    options: argparse.Namespace,
+    stop: Interruption,
+    found: Sequence[Found],
+    work: Callable[[Found], Result],
+    lost: Callable[[Found], Result],
+    tell: Callable[[Result], str],
 ) -> None:
     """Does the work for each file on all processors, and prints in the order of the files what there is to tell."""
     progress = Progress(len(found), "files")
-    for result in in_order(work, found, max(options.jobs, 1), stop):
+    for result in in_order(work, found, max(options.jobs, 1), stop, lost):
         text = tell(result)
         if text:
             progress.clear()
@@ -108,7 +114,8 @@ def check_command(options: argparse.Namespace, stop: Interruption) -> int:
         summary.add(judgement)
         return form.file(judgement)
 
-    each(options, stop, found, partial(judge, options.program, explained=explained, more=options.more), tell)
+    work = partial(judge, options.program, explained=explained, more=options.more)
+    each(options, stop, found, work, lambda one: Judgement(one.path, problem=ENDED), tell)
     sys.stdout.write(form.end(summary))
     apart = sys.stderr if form.summary_apart else sys.stdout
     apart.write(summary.text(stop.happened.is_set()))
@@ -127,9 +134,9 @@ def tags_command(options: argparse.Namespace, stop: Interruption) -> int:
         said = f"not counted: {names.problem}" if names.problem else names.remark
         return f"{shown(names.path)}: {shown(said)}\n" if said else ""
 
-    each(options, stop, found, partial(names_in, options.program), tell)
+    each(options, stop, found, partial(names_in, options.program), lambda one: Names(one.path, problem=ENDED), tell)
     asked = table.names()[:MOST_NAMES]
-    known = dict(zip(asked, in_order(partial(is_known, options.program), asked, max(options.jobs, 1), stop), strict=False))
+    known = dict(zip(asked, in_order(partial(is_known, options.program), asked, max(options.jobs, 1), stop, lambda name: None), strict=False))
     sys.stdout.write(table.text(known))
     unknown = list(known.values()).count(False)
     sys.stdout.write(f"{counted(len(found), 'file')}: {counted(len(table.counts), 'name')} of tags, {unknown} unknown to tml; {problems} not counted\n")
@@ -152,6 +159,7 @@ def clashes_command(options: argparse.Namespace, stop: Interruption) -> int:
         summary.add(report)
         return report.text()
 
-    each(options, stop, found, partial(find_clash, options.program, folder=options.evidence), tell)
+    work = partial(find_clash, options.program, folder=options.evidence)
+    each(options, stop, found, work, lambda one: ClashReport(one.path, problem=ENDED), tell)
     sys.stdout.write(summary.text(stop.happened.is_set()))
     return summary.status()

@@ -9,13 +9,11 @@ import sys
 import threading
 import time
 from collections import deque
-from collections.abc import Callable, Iterator, Sequence
+from collections.abc import Callable, Iterable, Iterator, Sequence
 from concurrent.futures import Future, ProcessPoolExecutor, wait
 from concurrent.futures.process import BrokenProcessPool
 from itertools import islice
 from typing import TypeVar
-
-from .program import CannotRun
 
 Item = TypeVar("Item")
 Result = TypeVar("Result")
@@ -51,34 +49,56 @@ def processors() -> int:
     return len(os.sched_getaffinity(0)) if hasattr(os, "sched_getaffinity") else os.cpu_count() or 1
 
 
-def in_order(work: Callable[[Item], Result], items: Sequence[Item], workers: int, stop: Interruption) -> Iterator[Result]:
+def in_order(
+    work: Callable[[Item], Result], items: Sequence[Item], workers: int, stop: Interruption, lost: Callable[[Item], Result]
+) -> Iterator[Result]:
     """The results of the items in their order. After an interruption no item is begun; what was begun is still told.
 
     The work is done in processes of Python, since much of it is to start `tml` again and again, which threads would do
-    one after the other.
+    one after the other. Where such a process is ended from outside, as where it is out of memory, the items that were not told
+    yet are begun again one at a time, until the one that ends its process again is met: its result is made by `lost`.
     """
-    with ProcessPoolExecutor(workers, multiprocessing.get_context("fork"), prepare_worker, (os.getpid(),)) as pool:
+    left = deque(items)
+    while left:
+        try:
+            for result in at_once(work, left, workers, stop):
+                left.popleft()
+                yield result
+            return
+        except BrokenProcessPool:
+            pass
+        for _ in range(min(len(left), AHEAD)):
+            if stop.happened.is_set():
+                return
+            item = left.popleft()
+            try:
+                yield next(at_once(work, [item], 1, stop))
+            except BrokenProcessPool:
+                yield lost(item)
+                break
+
+
+def at_once(work: Callable[[Item], Result], items: Iterable[Item], workers: int, stop: Interruption) -> Iterator[Result]:
+    """The same by so many processes, as long as none of them is ended from outside."""
+    with pool_of(workers) as pool:
         waiting: deque[Future[Result]] = deque()
-        rest = iter(items)
+        rest = iter(list(items))
         while True:
             for item in islice(rest, 0 if stop.happened.is_set() else AHEAD - len(waiting)):
                 waiting.append(pool.submit(work, item))
             if not waiting:
                 return
             if stop.happened.is_set():
-                yield from [finished(future) for future in waiting if not future.cancel()]
+                yield from [future.result() for future in waiting if not future.cancel()]
                 return
             if not wait([waiting[0]], PATIENCE).done:
                 continue
-            yield finished(waiting.popleft())
+            yield waiting.popleft().result()
 
 
-def finished(future: Future[Result]) -> Result:
-    """The result of a work that was begun."""
-    try:
-        return future.result()
-    except BrokenProcessPool:
-        raise CannotRun("a process of this program was ended from outside, or had no memory") from None
+def pool_of(workers: int) -> ProcessPoolExecutor:
+    """So many processes, which leave Ctrl-C to the program."""
+    return ProcessPoolExecutor(workers, multiprocessing.get_context("fork"), prepare_worker, (os.getpid(),))
 
 
 def prepare_worker(parent: int) -> None:
