@@ -75,10 +75,6 @@ class Text:
     def __init__(self, with_source: bool) -> None:
         self.with_source = with_source
 
-    def begin(self) -> str:
-        """What comes before all files."""
-        return ""
-
     def file(self, judgement: Judgement) -> str:
         """What is told of one file."""
         lines = [f"{shown(judgement.path)}: not judged: {shown(judgement.problem)}"] if judgement.problem else []
