@@ -9,3 +9,4 @@ pub mod Whole
 pub mod Reader
 pub mod Reading
 pub mod Checking
+pub mod Written

@@ -11,3 +11,4 @@ pub mod Trees
 pub mod View
 pub mod Walking
 pub mod Whole
+pub mod Written

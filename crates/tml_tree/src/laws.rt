@@ -2,6 +2,7 @@
 ghost use Rattle.tml_tree.specs.Places.{TreeIsLaidOut};
 ghost use Rattle.tml_tree.specs.Trees.{LastUnit, OneAnswers, OnePath, OneTree, PathEnds};
 ghost use Rattle.tml_tree.specs.Whole.{OneSourceAnswers, OneTreeOfSource};
+ghost use Rattle.tml_tree.specs.Written.{WrittenIsRead};
 
 /// Units have one path.
 pub fn one_path()
@@ -43,4 +44,9 @@ pub fn one_source_answer()
 /// at most 32 elements are inside each other.
 pub fn tree_is_laid_out()
     ensures { TreeIsLaidOut }
+{}
+
+/// A tree that is written is read again as it was, but for places.
+pub fn written_is_read()
+    ensures { WrittenIsRead }
 {}

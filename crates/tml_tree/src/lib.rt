@@ -14,7 +14,7 @@ mod whole;
 
 pub use laws::{
     last_unit, one_answer, one_path, one_source_answer, one_tree, one_tree_of_source, path_ends,
-    tree_is_laid_out,
+    tree_is_laid_out, written_is_read,
 };
 pub use node::{Node, Tag};
 pub use pulled::SourceFault;
