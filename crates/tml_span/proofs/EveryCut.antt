@@ -57,7 +57,7 @@ unit_or_none place (b ∷ bytes) = elim (nat_eq b 60) as (λ t. nat_eq b 60 ≡ 
 ] refl
 
 -- the spelling of a unit is not empty
-spelling_some : (place : ℕ) (u : PlainUnit) (prefix : List ℕ) → Spelled place u prefix → 0 < length prefix
+pub spelling_some : (place : ℕ) (u : PlainUnit) (prefix : List ℕ) → Spelled place u prefix → 0 < length prefix
 spelling_some place u [] h = absurd (empty_stops place u [] [] refl h)
 spelling_some place u (b ∷ prefix) h = omega arith
 
