@@ -2,6 +2,7 @@
 ghost use Rattle.tml_span.specs.Cutting.{EveryCut, OneCut};
 ghost use Rattle.tml_span.specs.Faults.{OneFaults};
 ghost use Rattle.tml_span.specs.Slices.{SlicesAreInSource};
+ghost use Rattle.tml_span.specs.Written.{WrittenIsCut};
 
 /// Every source has a cut.
 pub fn every_cut()
@@ -21,4 +22,10 @@ pub fn one_fault()
 /// Each slice of a unit is the source at its place.
 pub fn slices_are_in_source()
     ensures { SlicesAreInSource }
+{}
+
+/// Units that are written are cut again as they were, where none of them is a Bom, a declaration or a doctype, the first
+/// is no text, and no two texts meet.
+pub fn written_is_cut()
+    ensures { WrittenIsCut }
 {}

@@ -14,7 +14,7 @@ mod unit;
 mod unit_list;
 
 pub use bytes::is_white;
-pub use laws::{every_cut, one_cut, one_fault, slices_are_in_source};
+pub use laws::{every_cut, one_cut, one_fault, slices_are_in_source, written_is_cut};
 pub use list::{List, Memory};
 pub use reader::{Cut, MarkupFault, NotUtf8, UnitReader};
 pub use unit::{Attr, Quote, Span, Unit};
