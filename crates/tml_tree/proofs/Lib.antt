@@ -12,3 +12,6 @@ pub mod Rows
 pub mod Running
 pub mod Stacks
 pub mod Taken
+pub mod WrittenPlaces
+pub mod WrittenRules
+pub mod WrittenTrees

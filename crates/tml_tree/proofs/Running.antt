@@ -16,7 +16,8 @@ pub then_some : {A B : Type 0} (o : Option A) (f : A → Option B) (y : B) → o
 then_some (Some x) f y e = (x, refl, e)
 then_some None f y e = absurd cc
 
-pub list_of : PlainNodes → List PlainNode
+-- the children of a node as a list
+unfoldable pub list_of : PlainNodes → List PlainNode
 list_of none = []
 list_of (more n ns) = n ∷ list_of ns
 
