@@ -1,0 +1,38 @@
+-- What is true of every drill.
+use Rattle.std.specs.Prelude.{ℕ, ◌≤◌, List, length}
+use Rattle.net_core.specs.Fits.{Fits}
+use Rattle.net_core.specs.Limits.{max_intervals}
+use Rattle.net_core.specs.Nets.{PlainNet}
+use Rattle.net_build.specs.Built.{IsNetOf}
+use Rattle.tml_refs.specs.Documents.{PlainDocument, Resolved}
+use Rattle.tml_tree.specs.Plain.{PlainNode}
+use Rattle.tml_tree.specs.Walking.{elements}
+use Rattle.tml_tree.specs.Whole.{IsTreeOf}
+use Rattle.tml_types.specs.Content.{PlainTyped}
+use Rattle.tml_types.specs.Whole.{Types}
+use Rattle.drill.specs.Numbers.{hidden_timeline}
+use Rattle.drill.specs.Texts.{drill_contents, drill_document}
+
+-- there are drills of 1 to 512 intervals
+abbrev pub IsDrill : ℕ → Type 0
+IsDrill n = (1 ≤ n) × (n ≤ max_intervals)
+
+-- a document has a tree, its tags break no rule, and this is what they say
+pub record IsAcceptedAs (document : List ℕ) (contents : PlainDocument) : Type 0 where
+  pub root : PlainNode
+  pub tags : List PlainTyped
+  pub tree : IsTreeOf document root
+  pub typed : Types (elements root) tags
+  pub resolved : Resolved tags contents
+
+-- the document of a drill breaks no rule, and says what was drawn
+abbrev pub DrillIsAccepted : Type 0
+DrillIsAccepted = (n : ℕ) → IsDrill n → IsAcceptedAs (drill_document n) (drill_contents n)
+
+-- it has no more bytes than a document may have
+abbrev pub DrillIsShort : Type 0
+DrillIsShort = (n : ℕ) → IsDrill n → length (drill_document n) ≤ 4194304
+
+-- the hidden intervals fit: so some timeline always does
+abbrev pub HiddenIntervalsFit : Type 0
+HiddenIntervalsFit = (n : ℕ) (net : PlainNet) → IsDrill n → IsNetOf (drill_contents n) net → Fits net (hidden_timeline n)
