@@ -2,7 +2,7 @@
 use Rattle.std.specs.Prelude.{◌≡◌, ℕ, ◌+◌, ◌<◌, Bool, true, false, ◌&&◌, List, [], ◌∷◌, ◌++◌, length, codes, ⊤}
 use Rattle.std.specs.List.{list_all}
 use Rattle.tml_span.specs.Bytes.{is_white}
-use Rattle.tml_span.specs.Units.{Attribute, Kind, text, comment, start_tag, end_tag, empty_tag}
+use Rattle.tml_span.specs.Units.{Kind, text, comment, start_tag, end_tag, empty_tag}
 use Rattle.tml_span.specs.Written.{AreWritable, kind_text, tag_attributes, written}
 use Rattle.tml_tree.specs.Plain.{PlainNode, PlainNodes, text_node, comment_node, element, none, more}
 use Rattle.tml_tree.specs.TagNames.{is_known, is_link, is_root}
