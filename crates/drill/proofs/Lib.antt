@@ -1,0 +1,10 @@
+pub mod AcceptedLists
+pub mod AcceptedTree
+pub mod AcceptedBytes
+pub mod AcceptedWriting
+pub mod AcceptedNames
+pub mod AcceptedTags
+pub mod AcceptedLinks
+pub mod AcceptedReferences
+pub mod AcceptedResolved
+pub mod Accepted
