@@ -26,7 +26,7 @@ module _ (table : Table) where
   pub one_row : (row : Row) → IsRow table row → AreRowsWhere table (λ (other : Row). other ≡ row) (row ∷ [])
   one_row row is = record {
     right = All-cons (λ (other : Row). IsRow table other × (other ≡ row)) row [] (is, refl) (All-nil (λ (other : Row). IsRow table other × (other ≡ row)));
-    whole = λ other is_row same. (0, omega arith, sym same);
+    whole = λ other both. (0, omega arith, sym both.1);
     sorted = λ k lt. absurd (omega arith);
   }
 
@@ -34,7 +34,7 @@ module _ (table : Table) where
   pub same_rows : (P Q : Row → Type 0) (rows : List Row) → ((row : Row) → IsRow table row → P row ↔ Q row) → AreRowsWhere table P rows → AreRowsWhere table Q rows
   same_rows P Q rows same are = record {
     right = All-weaker (λ (row : Row). IsRow table row × P row) (λ (row : Row). IsRow table row × Q row) (λ row both. (both.0, (same row both.0).0 both.1)) rows are.right;
-    whole = λ row is meets. are.whole row is ((same row is).1 meets);
+    whole = λ row both. are.whole row (both.0, (same row both.0).1 both.1);
     sorted = are.sorted;
   }
 
@@ -65,9 +65,9 @@ module _ (table : Table) where
       right = All-append (λ (row : Row). IsRow table row × R row) xs ys
           (All-weaker (λ (row : Row). IsRow table row × P row) (λ (row : Row). IsRow table row × R row) (λ row h. (h.0, (both row h.0).0 (inl h.1))) xs first.right)
           (All-weaker (λ (row : Row). IsRow table row × Q row) (λ (row : Row). IsRow table row × R row) (λ row h. (h.0, (both row h.0).0 (inr h.1))) ys next.right);
-      whole = λ row is meets. elim ((both row is).1 meets) [
-        | inl old ↦ Contains-append_left xs ys row (first.whole row is old)
-        | inr new ↦ Contains-append_right xs ys row (next.whole row is new)
+      whole = λ row meets. elim ((both row meets.0).1 meets.1) [
+        | inl old ↦ Contains-append_left xs ys row (first.whole row (meets.0, old))
+        | inr new ↦ Contains-append_right xs ys row (next.whole row (meets.0, new))
       ];
       sorted = in_turn;
     }
@@ -90,6 +90,6 @@ module _ (table : Table) where
   pub all_rows : (P : Row → Type 0) (rows : List Row) → ((row : Row) → IsRow table row → P row) → ArePutLast table P [] rows → AreRows table rows
   all_rows P rows all put = subst (AreRows table) (sym put.1) (record {
     right = All-weaker (λ (row : Row). IsRow table row × P row) (IsRow table) (λ row both. both.0) put.0 put.2.right;
-    whole = λ row is. put.2.whole row is (all row is);
+    whole = λ row is. put.2.whole row (is, all row is);
     sorted = put.2.sorted;
   })

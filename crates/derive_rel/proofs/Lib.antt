@@ -1,3 +1,4 @@
 pub mod Given
 pub mod Joined
 pub mod Turns
+pub mod OneList

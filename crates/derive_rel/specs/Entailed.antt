@@ -33,8 +33,16 @@ ComesBefore row other = (row.a < other.a) ⊎ ((row.a ≡ other.a) × (row.b < o
 abbrev pub row_at : List Row → ℕ → Row
 row_at rows k = slice_index_or rows k (record { a = 0; rel = rel.Before; b = 0 })
 
--- all rows of a table, each once, in order
-pub record AreRows (table : Table) (rows : List Row) : Type 0 where
-  pub right : All (IsRow table) rows
-  pub whole : (row : Row) → IsRow table row → Contains rows row
+-- all rows that meet a condition, each once, in order
+pub record AreAll (Meets : Row → Type 0) (rows : List Row) : Type 0 where
+  pub right : All Meets rows
+  pub whole : (row : Row) → Meets row → Contains rows row
   pub sorted : (k : ℕ) → k + 1 < length rows → ComesBefore (row_at rows k) (row_at rows (k + 1))
+
+-- all rows of a table
+abbrev pub AreRows : Table → List Row → Type 0
+AreRows table rows = AreAll (IsRow table) rows
+
+-- the law: a table has one list of rows
+abbrev pub OneRowList : Type 0
+OneRowList = (table : Table) (rows others : List Row) → AreRows table rows → AreRows table others → rows ≡ others

@@ -1,15 +1,12 @@
 -- Rows that are put last, those of a part of a table.
-use Rattle.std.specs.Prelude.{◌≡◌, ℕ, ◌+◌, ◌<◌, List, ◌++◌, length}
-use Rattle.std.specs.List.{All, Contains}
+use Rattle.std.specs.Prelude.{◌≡◌, ℕ, List, ◌++◌}
 use Rattle.order_closure.specs.Tables.{Table}
-use Rattle.derive_rel.specs.Entailed.{ComesBefore, IsRow, row_at}
+use Rattle.derive_rel.specs.Entailed.{AreAll, IsRow}
 use Rattle.derive_rel.specs.declared.all_rows.Row.{Row}
 
--- the rows of a table that meet a condition, each once, in order
-pub record AreRowsWhere (table : Table) (Meets : Row → Type 0) (rows : List Row) : Type 0 where
-  pub right : All (λ (row : Row). IsRow table row × Meets row) rows
-  pub whole : (row : Row) → IsRow table row → Meets row → Contains rows row
-  pub sorted : (k : ℕ) → k + 1 < length rows → ComesBefore (row_at rows k) (row_at rows (k + 1))
+-- the rows of a table that meet a condition
+abbrev pub AreRowsWhere : Table → (Row → Type 0) → List Row → Type 0
+AreRowsWhere table Meets rows = AreAll (λ (row : Row). IsRow table row × Meets row) rows
 
 -- these rows of a table are put last
 abbrev pub ArePutLast : Table → (Row → Type 0) → List Row → List Row → Type 0

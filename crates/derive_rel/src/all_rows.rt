@@ -1,5 +1,5 @@
 //! All relations that hold in all timelines of a table.
-ghost use Rattle.derive_rel.specs.Entailed.{AreRows};
+ghost use Rattle.derive_rel.specs.Entailed.{AreRows, OneRowList};
 ghost use Rattle.derive_rel.specs.Pushing.{ArePutLast, IsFrom, IsOf};
 ghost use Rattle.std.specs.Prelude.{IfOk, OnOk, ◌%◌, ◌*◌, ◌+◌, ◌<◌, ◌≡◌, ◌≤◌};
 
@@ -60,3 +60,8 @@ fn push_pair(rows: &mut List<Row>, closed: &Closed, a: u32, b: u32) -> Result<()
     }
     Ok(())
 }
+
+/// A table has one list of rows.
+pub fn one_row_list()
+    ensures { OneRowList }
+{}

@@ -6,5 +6,5 @@ mod pairs;
 #[cfg(test)]
 mod tests;
 
-pub use all_rows::{Row, rows};
+pub use all_rows::{Row, one_row_list, rows};
 pub use pairs::{RelSet, entailed};

@@ -8,3 +8,10 @@ pub mod AcceptedLinks
 pub mod AcceptedReferences
 pub mod AcceptedResolved
 pub mod Accepted
+pub mod Numbers
+pub mod Relations
+pub mod Lists
+pub mod Lines
+pub mod Links
+pub mod Short
+pub mod Fitting

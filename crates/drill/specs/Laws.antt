@@ -1,5 +1,6 @@
 -- What is true of every drill.
 use Rattle.std.specs.Prelude.{ℕ, ◌≤◌, List, length}
+use Rattle.std.specs.List.{range_with_len}
 use Rattle.net_core.specs.Fits.{Fits}
 use Rattle.net_core.specs.Limits.{max_intervals}
 use Rattle.net_core.specs.Nets.{PlainNet}
@@ -16,6 +17,10 @@ use Rattle.drill.specs.Texts.{drill_contents, drill_document}
 -- there are drills of 1 to 512 intervals
 abbrev pub IsDrill : ℕ → Type 0
 IsDrill n = (1 ≤ n) × (n ≤ max_intervals)
+
+-- their numbers
+abbrev pub drill_numbers : List ℕ
+drill_numbers = range_with_len 1 max_intervals
 
 -- a document has a tree, its tags break no rule, and this is what they say
 pub record IsAcceptedAs (document : List ℕ) (contents : PlainDocument) : Type 0 where

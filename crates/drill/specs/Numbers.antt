@@ -1,5 +1,5 @@
 -- The numbers of a drill: hidden intervals and links between them, all drawn from its number.
-use Rattle.std.specs.Prelude.{ℕ, zero, suc, ◌+◌, ◌-◌, ◌*◌, ◌%◌, ◌/◌, ◌==◌, nat_lt, nat_le, Bool, true, false, List, [], ◌∷◌, map, Option, option_map, if◌then◌else◌}
+use Rattle.std.specs.Prelude.{ℕ, zero, suc, ◌+◌, ◌-◌, ◌*◌, ◌%◌, ◌/◌, ◌==◌, nat_lt, nat_le, Bool, List, [], ◌∷◌, map, Option, option_map, if◌then◌else◌}
 use Rattle.std.specs.List.{filter_map, find, flat_map, list_all, range_with_len}
 use Rattle.net_core.specs.Atoms.{atoms_between}
 use Rattle.net_core.specs.Relations.{Timeline}

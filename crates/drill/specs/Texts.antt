@@ -2,7 +2,7 @@
 use Rattle.std.specs.Prelude.{ℕ, List, ◌++◌, codes, decimal, length, map}
 use Rattle.std.specs.List.{flat_map, range_with_len}
 use Rattle.net_core.specs.Rels.{rel_text}
-use Rattle.tml_refs.specs.Documents.{PlainDocument, PlainInterval, instance}
+use Rattle.tml_refs.specs.Documents.{PlainDocument, instance}
 use Rattle.tml_refs.specs.declared.document.DocLink.{DocLink}
 use Rattle.drill.specs.Numbers.{links_of}
 

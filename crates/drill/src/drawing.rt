@@ -25,6 +25,7 @@ impl Draws {
     }
 
     /// Draws the next number.
+    #[tactic(auto, using(crate::proofs::Numbers::next_within), unfolding(crate::specs::Numbers::next))]
     pub fn draw(&mut self) -> u32
         requires { self.old.last < 65537 }
         ensures drawn { result ≡ spec.next self.old.last }
@@ -60,10 +61,7 @@ pub fn link_between(hidden: &[Ends], i: u32, j: u32) -> Option<DocLink>
     requires j { j < length hidden.now }
     ensures { result ≡ spec.link_between (length hidden.now) i j }
 {
-    let (Some(a), Some(b)) = (hidden.get(i as usize), hidden.get(j as usize)) else {
-        unreachable!()
-    };
-    let rel = first_relation(*a, *b)?;
+    let rel = first_relation(hidden[i as usize], hidden[j as usize])?;
     Some(DocLink { a: i, rel, b: j })
 }
 

@@ -1,12 +1,13 @@
 //! The document of a drill.
+ghost use Rattle.drill.specs.Numbers as spec;
 ghost use Rattle.drill.specs.Numbers.{drawn, hidden_intervals, links_from, links_of};
 ghost use Rattle.drill.specs.Texts as texts;
 ghost use Rattle.std.specs.List.{flat_map};
+ghost use Rattle.std.specs.Option.{option_to_list};
 ghost use Rattle.std.specs.Prelude.{IfOk, OnOk, decimal, length, ◌*◌, ◌++◌, ◌+◌, ◌-◌, ◌<◌, ◌≡◌, ◌≤◌};
 
 use crate::drawing::{Draws, hidden_intervals, link_between};
 use itoa::Buffer;
-use named::Named;
 use net_core::Ends;
 use std::alloc::{AllocError, Global};
 use tml_io::{List, Memory};
@@ -59,7 +60,7 @@ fn push_interval(out: &mut Vec<u8>, i: u32) -> Result<(), AllocError>
 }
 
 /// Puts the links of a drill last, after the numbers for its intervals were drawn.
-fn push_links(out: &mut Vec<u8>, hidden: &[Ends], draws: Draws) -> Result<(), AllocError>
+fn push_links(out: &mut Vec<u8>, hidden: &[Ends], mut draws: Draws) -> Result<(), AllocError>
     requires some { 1 ≤ length hidden.now }
     requires few { length hidden.now ≤ 512 }
     requires hidden { hidden.now ≡ hidden_intervals (length hidden.now) }
@@ -67,7 +68,6 @@ fn push_links(out: &mut Vec<u8>, hidden: &[Ends], draws: Draws) -> Result<(), Al
     requires within { draws.last < 65537 }
     ensures { OnOk result (out.new.items ≡ out.old.items ++ flat_map texts.link_line (links_of (length hidden.now))) }
 {
-    let mut draws = draws;
     for i in 1..hidden.len() as u32 {
         push_links_from(out, hidden, i, &mut draws)?;
     }
@@ -91,13 +91,24 @@ fn push_links_from(
     ensures draws { OnOk result (draws.new.last ≡ drawn (length hidden.now) (2 * length hidden.now + 3 * i)) }
     ensures still_within { draws.new.last < 65537 }
 {
-    for _ in 0..3 {
+    for _ in 0..3_u32 {
         let j = draws.draw() % i;
-        if let Some(link) = link_between(hidden, i, j) {
-            push_link(out, link)?;
-        }
+        push_link_between(out, hidden, i, j)?;
     }
     Ok(())
+}
+
+/// Puts the link from an interval to one before it last, where a relation holds between them.
+fn push_link_between(out: &mut Vec<u8>, hidden: &[Ends], i: u32, j: u32) -> Result<(), AllocError>
+    requires hidden { hidden.now ≡ hidden_intervals (length hidden.now) }
+    requires i { i < length hidden.now }
+    requires j { j < length hidden.now }
+    ensures { OnOk result (out.new.items ≡ out.old.items ++ flat_map texts.link_line (option_to_list (spec.link_between (length hidden.now) i j))) }
+{
+    match link_between(hidden, i, j) {
+        Some(link) => push_link(out, link),
+        None => Ok(()),
+    }
 }
 
 /// Puts a TLINK last.

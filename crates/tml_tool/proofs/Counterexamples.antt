@@ -18,11 +18,12 @@ use Rattle.order_closure.specs.declared.cell.Cell.{Cell}
 use Rattle.order_closure.specs.declared.cell.Cell.TheVariants.{Free, Weak, Strict}
 use Rattle.order_closure.proofs.Central.{order_says}
 use Rattle.clash.specs.Closures.{Always, IsClosureOf}
+use Rattle.derive_rel.specs.Entailed.{Gives}
 use Rattle.evidence_check.specs.Supported.{AreIntervals, IsFalse, IsSupported, atom_at}
 use Rattle.evidence_check.proofs.Soundness.{supported_is_true}
 use Rattle.evidence_format.specs.Evidence.{counter}
 use Rattle.tml_tool.specs.Asking.{AlwaysHolds, IsFirstOpen, TellsCounterexample}
-use Rattle.tml_tool.specs.Solving.{Gives, IsCounterText, IsFirstNotGiven}
+use Rattle.tml_tool.specs.Solving.{IsCounterText, IsFirstNotGiven}
 
 -- a cell that is Strict or Weak is at least Weak
 at_least : (x : Cell) (P Q : Type 0) → ((x ≡ Strict) ↔ P) → ((x ≡ Weak) ↔ (Q × ¬ P)) → Q → 1 ≤ strength x
@@ -32,13 +33,13 @@ at_least Strict P Q s w q = omega arith
 
 module _ (net : PlainNet) (table : Table) (closure : IsClosureOf net table) where
   -- what a cell says always holds
-  given_holds : (atom : Atom) → IsInRange (points net) atom → Gives table atom → AlwaysHolds net atom
+  pub given_holds : (atom : Atom) → IsInRange (points net) atom → Gives table atom → AlwaysHolds net atom
   given_holds atom range gives t fits =
       order_says (cell_at table atom.from atom.to) atom.strict (t atom.from) (t atom.to) gives
       ((closure.keeps t).1 fits atom.from atom.to (omega (arith, range.0, closure.size)) (omega (arith, range.1, closure.size)))
 
   -- what always holds a cell says
-  held_given : (atom : Atom) → IsInRange (points net) atom → AlwaysHolds net atom → Gives table atom
+  pub held_given : (atom : Atom) → IsInRange (points net) atom → AlwaysHolds net atom → Gives table atom
   held_given atom range always = by atom.strict always
     where
       by : (strict : Bool) → Always net strict atom.from atom.to → strength (order strict) ≤ strength (cell_at table atom.from atom.to)

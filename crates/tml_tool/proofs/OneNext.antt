@@ -2,7 +2,7 @@
 use Rattle.std.proofs.Common.{◌≡◌, ◌≢◌, true, ℕ, List, [], ◌∷◌, refl, sym, ◌∙◌, Option, Some, None}
 use Rattle.tml_tool.specs.declared.status.Status.{Status}
 use Rattle.tml_tool.specs.declared.status.Status.TheVariants.{Done, DocFault, Clash, Usage}
-use Rattle.tml_tool.specs.Words.{CommandForm, QueryForm, by_relation, by_word, of_document, verify}
+use Rattle.tml_tool.specs.Words.{CommandForm, QueryForm, by_relation, by_word, drill, of_document, verify}
 use Rattle.tml_tool.specs.Commands.{is_determined, rows_of}
 use Rattle.tml_tool.specs.Rows.{Next, answers, reads}
 use Rattle.tml_tool.specs.OneReply.{Agree, HasOneNext, HasOneText}
@@ -12,6 +12,7 @@ use Rattle.tml_tool.proofs.OneAnswers.{one_fault_line}
 use Rattle.tml_tool.proofs.OneRelation as relations
 use Rattle.tml_tool.proofs.OneRelation.{IsSettled}
 use Rattle.tml_tool.proofs.OneVerdicts as verdicts
+use Rattle.tml_tool.proofs.Drills.{one_summary}
 use Rattle.tml_tool.proofs.Phases.{accepted_or_fault, one_fault}
 
 agree : (form : Option CommandForm) (contents : List (List ℕ)) (next other : Next) → rows_of form contents next → rows_of form contents other → Agree next other
@@ -32,6 +33,8 @@ agree (Some (verify name evidence)) (doc ∷ []) (reads file) (reads other) h k 
 agree (Some (verify name evidence)) (doc ∷ []) (reads file) other h k = absurd k
 agree (Some (verify name evidence)) (doc ∷ bytes ∷ []) (answers status text) (answers other line) h k = verdicts.one_status doc bytes status other text line h k
 agree (Some (verify name evidence)) (doc ∷ bytes ∷ []) (answers status text) other h k = absurd k
+agree (Some (drill n)) [] (answers Done text) (answers Done line) h k = refl
+agree (Some (drill n)) [] (answers Done text) other h k = absurd k
 agree form contents next other h k = absurd h
 
 pub one_next : (form : Option CommandForm) → HasOneNext (rows_of form)
@@ -54,6 +57,7 @@ one_line (Some (of_document (by_word question) name)) (doc ∷ []) status text l
 one_line (Some (of_document (by_relation x rel y) name)) (doc ∷ []) status text line e h k = relations.one_text x rel y doc status text line (settled x rel y name status e) h k
 one_line (Some (verify name evidence)) (doc ∷ []) DocFault text line e h k = one_fault_line (FirstFault doc) text line (one_fault doc) h k
 one_line (Some (verify name evidence)) (doc ∷ bytes ∷ []) status text line e h k = verdicts.one_text doc bytes status text line h k
+one_line (Some (drill n)) [] Done text line e h k = one_summary n text line h k
 one_line form contents status text line e h k = absurd h
 
 pub one_text : (form : Option CommandForm) (status : Status) → is_determined form status ≡ true → HasOneText (rows_of form) status

@@ -21,7 +21,8 @@ claim_or_refusal contents net evidence text line h k =
     let same = one_value k.0 h.0 evidence k.2 h.1 in
     (one_verdict net h.0).not_both k.1 h.2 (subst (λ (e : PlainEvidence). IsRefused net e k.1) same k.3)
 
-same_status : (contents : PlainDocument) (net : PlainNet) (evidence : List ℕ) (status other : Status) (text line : List ℕ) → OfEvidence contents net evidence status text → OfEvidence contents net evidence other line → status ≡ other
+-- evidence has one status
+pub same_status : (contents : PlainDocument) (net : PlainNet) (evidence : List ℕ) (status other : Status) (text line : List ℕ) → OfEvidence contents net evidence status text → OfEvidence contents net evidence other line → status ≡ other
 same_status contents net evidence Done Done text line h k = refl
 same_status contents net evidence Done EvidenceFault text line h (inl k) = absurd (k.0 h.0 h.1)
 same_status contents net evidence Done EvidenceFault text line h (inr k) = absurd (claim_or_refusal contents net evidence text line h k)
@@ -40,7 +41,8 @@ same_fault contents net evidence text line (inr h) (inr k) =
     let same = one_value h.0 k.0 evidence h.2 k.2 in
     h.4 ∙ ap refusal_line ((one_verdict net k.0).one_refusal h.1 k.1 (subst (λ (e : PlainEvidence). IsRefused net e h.1) same h.3) k.3) ∙ sym k.4
 
-same_text : (contents : PlainDocument) (net : PlainNet) (evidence : List ℕ) (status : Status) (text line : List ℕ) → OfEvidence contents net evidence status text → OfEvidence contents net evidence status line → text ≡ line
+-- and one text for it
+pub same_text : (contents : PlainDocument) (net : PlainNet) (evidence : List ℕ) (status : Status) (text line : List ℕ) → OfEvidence contents net evidence status text → OfEvidence contents net evidence status line → text ≡ line
 same_text contents net evidence Done text line h k = h.4 ∙ ap (claim_line contents) (one_value h.0 k.0 evidence h.1 k.1) ∙ sym k.4
 same_text contents net evidence EvidenceFault text line h k = same_fault contents net evidence text line h k
 same_text contents net evidence status text line h k = absurd h

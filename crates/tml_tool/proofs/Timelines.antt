@@ -1,5 +1,5 @@
 -- The least timeline of a document, and its text.
-use Rattle.std.proofs.Common.{◌≡◌, ℕ, suc, ◌<◌, ◌≤◌, List, [], ◌∷◌, length, get_or, refl, sym, ap, subst, ◌∙◌, arith}
+use Rattle.std.proofs.Common.{◌≡◌, ℕ, suc, ◌<◌, ◌≤◌, List, [], ◌∷◌, length, get_or, refl, sym, subst, ◌∙◌, arith}
 use Rattle.net_core.specs.Fits.{Fits, RanksFit}
 use Rattle.net_core.specs.Nets.{PlainNet, points}
 use Rattle.net_core.specs.Ranks.{pairs_of, ranks_of, timeline_of}
@@ -10,12 +10,12 @@ use Rattle.evidence_check.specs.Supported.{IsSupported}
 use Rattle.evidence_format.specs.Evidence.{IsText, timeline}
 use Rattle.order_closure.specs.Tables.{Keeps, Table}
 use Rattle.order_closure.specs.Timelines.{IsLeast}
-use Rattle.tml_tool.specs.Questions.{ClashesBy, HasNet, TellsTimeline}
+use Rattle.tml_tool.specs.Questions.{AreLeastRanks, ClashesBy, HasNet, TellsTimeline}
 use Rattle.tml_tool.specs.Solving.{IsLeastText}
 use Rattle.tml_tool.proofs.OneNet.{one_net_of}
 
 -- the least timeline that keeps the closure of a net is the least one that fits the net
-least_fits : (net : PlainNet) (table : Table) (t : Timeline) → IsClosureOf net table → IsLeast table.points (Keeps table) t → IsLeast (points net) (Fits net) t
+pub least_fits : (net : PlainNet) (table : Table) (t : Timeline) → IsClosureOf net table → IsLeast table.points (Keeps table) t → IsLeast (points net) (Fits net) t
 least_fits net table t c l = record {
   holds = (c.keeps t).0 l.holds;
   least = λ u fits p less. l.least u ((c.keeps u).1 fits) p (omega (arith, less, c.size));
@@ -29,7 +29,7 @@ tells_timeline doc text net table h c l =
     let least = least_fits net table (timeline_of ranks) c l.2 in
     let again : ranks_of (pairs_of ranks) ≡ ranks = ranks_again ranks (even_length (length net.bounds) ranks size) in
     let supported : IsSupported net (timeline (pairs_of ranks)) = subst (RanksFit net) (sym again) (size, least.holds) in
-    (net, ranks, h, size, least, (l.3, supported, (timeline_of ranks, least.holds), l.4))
+    (net, ranks, h, (size, least), (l.3, supported, (timeline_of ranks, least.holds), l.4))
 
 -- two lists of the same items are one
 same_items : (a b : List ℕ) → length a ≡ length b → ((p : ℕ) → p < length a → get_or a p 0 ≡ get_or b p 0) → a ≡ b
@@ -42,24 +42,22 @@ same_items (x ∷ a) (y ∷ b) e same =
     λ i. first i ∷ others i
 
 -- two numbers of which neither is more are one
-one_number : (m n : ℕ) → m ≤ n → n ≤ m → m ≡ n
+pub one_number : (m n : ℕ) → m ≤ n → n ≤ m → m ≡ n
 one_number m n le ge = omega arith
 
 -- a net has one least timeline
-one_least : (net : PlainNet) (a b : List ℕ) → length a ≡ points net → length b ≡ points net → IsLeast (points net) (Fits net) (timeline_of a) → IsLeast (points net) (Fits net) (timeline_of b) → a ≡ b
-one_least net a b la lb h k = same_items a b (la ∙ sym lb) (λ p less.
+pub one_least : (net : PlainNet) (a b : List ℕ) → AreLeastRanks net a → AreLeastRanks net b → a ≡ b
+one_least net a b (la, h) (lb, k) = same_items a b (la ∙ sym lb) (λ p less.
     one_number (get_or a p 0) (get_or b p 0) (h.least (timeline_of b) k.holds p (omega (arith, less, la))) (k.least (timeline_of a) h.holds p (omega (arith, less, la))))
 
 -- a document has one text of its least timeline
 pub one_timeline : (doc text other : List ℕ) → TellsTimeline doc text → TellsTimeline doc other → text ≡ other
 one_timeline doc text other h k =
     let net = one_net_of doc h.0 k.0 h.2 k.2 in
-    let least = subst (λ (n : PlainNet). IsLeast (points n) (Fits n) (timeline_of h.1)) net h.4 in
-    let size = h.3 ∙ ap points net in
-    let ranks = one_least k.0 h.1 k.1 size k.3 least k.4 in
-    let same = subst (λ (rs : List ℕ). IsText (timeline (pairs_of rs)) text) ranks h.5.0 in
-    same.1 ∙ sym k.5.0.1
+    let ranks = one_least k.0 h.1 k.1 (subst (λ (n : PlainNet). AreLeastRanks n h.1) net h.3) k.3 in
+    let same = subst (λ (rs : List ℕ). IsText (timeline (pairs_of rs)) text) ranks h.4.0 in
+    same.1 ∙ sym k.4.0.1
 
 -- where a timeline is told none clashes
 pub timeline_or_clash : (doc text other : List ℕ) → TellsTimeline doc text → ClashesBy doc other → ⊥
-timeline_or_clash doc text other h k = k.2.none (timeline_of h.1) (subst (λ (n : PlainNet). Fits n (timeline_of h.1)) (one_net_of doc h.0 k.0 h.2 k.1) h.4.holds)
+timeline_or_clash doc text other h k = k.2.none (timeline_of h.1) (subst (λ (n : PlainNet). Fits n (timeline_of h.1)) (one_net_of doc h.0 k.0 h.2 k.1) h.3.1.holds)

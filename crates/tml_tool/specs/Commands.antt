@@ -5,8 +5,9 @@ use Rattle.std.specs.declared.option.Option.{Option}
 use Rattle.tml_tool.specs.declared.role.Role.TheVariants.{Doc, Evidence}
 use Rattle.tml_tool.specs.declared.status.Status.{Status}
 use Rattle.tml_tool.specs.declared.status.Status.TheVariants.{Done, DocFault, Clash, Usage}
-use Rattle.tml_tool.specs.Words.{CommandForm, by_relation, of_document, form_of, texts_of, usage, verify}
+use Rattle.tml_tool.specs.Words.{CommandForm, by_relation, drill, of_document, form_of, texts_of, usage, verify}
 use Rattle.tml_tool.specs.Acceptance.{Accepted, FirstFault}
+use Rattle.tml_tool.specs.Drilling.{OfDrill}
 use Rattle.tml_tool.specs.Questions.{HasFaultLine}
 use Rattle.tml_tool.specs.Queries.{OfDocument}
 use Rattle.tml_tool.specs.Verdicts.{OfVerify}
@@ -22,6 +23,7 @@ rows_of (Some (verify name evidence)) [] (reads file) = file ≡ file_of Doc nam
 rows_of (Some (verify name evidence)) (doc ∷ []) (answers DocFault text) = HasFaultLine (FirstFault doc) text
 rows_of (Some (verify name evidence)) (doc ∷ []) (reads file) = Accepted doc × (file ≡ file_of Evidence evidence)
 rows_of (Some (verify name evidence)) (doc ∷ bytes ∷ []) (answers status text) = OfVerify doc bytes status text
+rows_of (Some (drill n)) [] (answers status text) = OfDrill n status text
 rows_of form contents next = ⊥
 
 -- whether the contents determine the text that is answered with a status: which walks prove a relation, and which minimal clash is told, is free, and all else is determined

@@ -2,12 +2,14 @@ pub mod Acceptance
 pub mod Asking
 pub mod Commands
 pub mod DateTexts
+pub mod Drilling
 pub mod EvidenceTexts
 pub mod OneReply
 pub mod Outcome
 pub mod Queries
 pub mod Questions
 pub mod Reading
+pub mod Relating
 pub mod Replies
 pub mod Roles
 pub mod Rows
@@ -16,6 +18,7 @@ pub mod Solving
 pub mod Status
 pub mod Texts
 pub mod TwoFiles
+pub mod TwoRuns
 pub mod Verdicts
 pub mod View
 pub mod Words

@@ -12,12 +12,13 @@ use Rattle.net_build.specs.Built.{IsNetOf}
 use Rattle.order_closure.specs.Timelines.{IsLeast}
 use Rattle.evidence_format.specs.Evidence.{timeline}
 use Rattle.tml_tool.specs.declared.command.Question.{Question}
-use Rattle.tml_tool.specs.declared.command.Question.TheVariants.{Spans, Check, Dates, Solve}
+use Rattle.tml_tool.specs.declared.command.Question.TheVariants.{Spans, Check, Dates, Solve, Relations}
 use Rattle.tml_tool.specs.declared.role.Role.TheVariants.{Doc}
 use Rattle.tml_tool.specs.declared.status.Status.{Status}
 use Rattle.tml_tool.specs.declared.status.Status.TheVariants.{Done, DocFault, Clash}
 use Rattle.tml_tool.specs.Acceptance.{FirstFault, Says}
 use Rattle.tml_tool.specs.DateTexts.{DateLines}
+use Rattle.tml_tool.specs.Relating.{TellsRelations}
 use Rattle.tml_tool.specs.Roles.{limit_of}
 use Rattle.tml_tool.specs.Showing.{TellsClash, TellsEvidence}
 use Rattle.tml_tool.specs.Texts as texts
@@ -42,22 +43,25 @@ HasFaultLine Fault text = (kind : FaultKind) × (place : ℕ) × Fault kind plac
 abbrev pub HasNet : List ℕ → PlainNet → Type 0
 HasNet doc net = (contents : PlainDocument) × Says doc contents × IsNetOf contents net
 
+-- two ranks for each interval, which are those of the least timeline that fits
+abbrev pub AreLeastRanks : PlainNet → List ℕ → Type 0
+AreLeastRanks net ranks = (length ranks ≡ points net) × IsLeast (points net) (Fits net) (timeline_of ranks)
+
 -- the text is that of the least timeline that fits the document
 abbrev pub TellsTimeline : List ℕ → List ℕ → Type 0
-TellsTimeline doc text =
-    (net : PlainNet) × (ranks : List ℕ) × HasNet doc net × (length ranks ≡ points net) × IsLeast (points net) (Fits net) (timeline_of ranks)
-    × TellsEvidence net (timeline (pairs_of ranks)) text
+TellsTimeline doc text = (net : PlainNet) × (ranks : List ℕ) × HasNet doc net × AreLeastRanks net ranks × TellsEvidence net (timeline (pairs_of ranks)) text
 
 -- no timeline fits the document, and the text is that of a minimal clash
 abbrev pub ClashesBy : List ℕ → List ℕ → Type 0
 ClashesBy doc text = (net : PlainNet) × HasNet doc net × TellsClash net text
 
--- What a question prints: `spans` the table of the units, `check` what an accepted document has, `dates` when its times are, and `solve` the least timeline.
+-- What a question prints: `spans` the table of the units, `check` what an accepted document has, `dates` when its times are, `solve` the least timeline, and `relations` the relations that follow.
 abbrev pub Prints : Question → List ℕ → List ℕ → Type 0
 Prints Spans doc text = HasTable doc text
 Prints Check doc text = HasText (λ contents out. out ≡ texts.accepted contents) doc text
 Prints Dates doc text = HasText (λ contents out. DateLines contents.intervals out) doc text
 Prints Solve doc text = TellsTimeline doc text
+Prints Relations doc text = TellsRelations doc text
 
 -- The fault that a question names where it prints nothing else: `spans` looks at the units alone.
 abbrev pub NamesFault : Question → List ℕ → FaultKind → ℕ → Type 0
@@ -67,6 +71,7 @@ NamesFault question doc kind place = FirstFault doc kind place
 -- the answer to a question that needs a timeline, where none fits
 abbrev pub Clashes : Question → List ℕ → List ℕ → Type 0
 Clashes Solve doc text = ClashesBy doc text
+Clashes Relations doc text = ClashesBy doc text
 Clashes question doc text = ⊥
 
 -- the answer to a question that is one word

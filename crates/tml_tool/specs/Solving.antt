@@ -6,10 +6,10 @@ use Rattle.net_core.specs.Firsts.{IsFirst}
 use Rattle.net_core.specs.Ranks.{pairs_of, timeline_of}
 use Rattle.net_core.specs.declared.atom.Atom.{Atom}
 use Rattle.net_core.specs.declared.rels.Rel.{Rel}
+use Rattle.derive_rel.specs.Entailed.{Gives}
 use Rattle.evidence_check.specs.Supported.{atom_at}
 use Rattle.evidence_format.specs.Evidence.{IsText, counter, timeline}
-use Rattle.order_closure.specs.Cells.{order, strength}
-use Rattle.order_closure.specs.Tables.{Keeps, Table, cell_at}
+use Rattle.order_closure.specs.Tables.{Keeps, Table}
 use Rattle.order_closure.specs.Timelines.{IsLeast}
 use Rattle.tml_tool.specs.Showing.{printed_limit}
 
@@ -22,10 +22,6 @@ abbrev pub IsCounterText : Table → ℕ → Rel → ℕ → Atom → List ℕ �
 IsCounterText table a r b atom text =
     (ranks : List ℕ) × (length ranks ≡ table.points) × IsLeast table.points (λ t. Keeps table t × (Satisfies t atom → ⊥)) (timeline_of ranks)
     × IsText (counter a r b (pairs_of ranks)) text × (length text ≤ printed_limit)
-
--- the cell of an atom says at least its order
-abbrev pub Gives : Table → Atom → Type 0
-Gives table atom = strength (order atom.strict) ≤ strength (cell_at table atom.from atom.to)
 
 -- the first of some atoms that a table does not give, if any
 abbrev pub IsFirstNotGiven : Table → List Atom → Option Atom → Type 0

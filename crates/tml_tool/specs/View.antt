@@ -1,7 +1,8 @@
 -- The plain values that the types of the program stand for.
-use Rattle.std.specs.Prelude.{◌≡◌, ℕ, List, [], None, Some, Ok, Err}
+use Rattle.std.specs.Prelude.{◌≡◌, ℕ, List, [], None, Some, Ok, Err, ⊤}
 use Rattle.std.specs.declared.option.Option.{Option}
 use Rattle.std.specs.declared.result.Result.{Result}
+use Rattle.drill.specs.Laws.{IsDrill}
 use Rattle.tml_tool.specs.declared.answer.Answer.{Answer}
 use Rattle.tml_tool.specs.declared.answer.Finding.{Finding}
 use Rattle.tml_tool.specs.declared.answer.Finding.TheVariants as findings
@@ -20,7 +21,7 @@ use Rattle.tml_tool.specs.Replies.{CannotRead, read_fault, too_long}
 use Rattle.tml_tool.specs.Reading.{ReadsWhole}
 use Rattle.tml_tool.specs.Roles.{word_of}
 use Rattle.tml_tool.specs.Rows.{File}
-use Rattle.tml_tool.specs.Words.{CommandForm, QueryForm, by_relation, by_word, of_document, usage, verify}
+use Rattle.tml_tool.specs.Words.{CommandForm, QueryForm, by_relation, by_word, drill, of_document, usage, verify}
 use Rattle.tml_io.specs.Files.{Files}
 use Rattle.std.specs.Prelude.{length}
 
@@ -34,6 +35,12 @@ abbrev pub command_form : Command → Option CommandForm
 command_form commands.Usage = None
 command_form (commands.OfDocument query name) = Some (of_document (query_form query) name.now)
 command_form (commands.Verify name evidence) = Some (verify name.now evidence.now)
+command_form (commands.Drill n) = Some (drill n)
+
+-- a drill has one of the numbers that drills have
+abbrev pub IsInRange : Command → Type 0
+IsInRange (commands.Drill n) = IsDrill n
+IsInRange other = ⊤
 
 -- the status of a finding
 abbrev pub finding_status : Finding → Status

@@ -1,11 +1,14 @@
 //! What the words of a run ask for.
 ghost use Rattle.std.proofs.Common.{rules};
-ghost use Rattle.std.specs.Prelude.{◌≡◌, ◌∷◌, [], None, Some, if◌then◌else◌};
+ghost use Rattle.drill.specs.Laws.{IsDrill};
+ghost use Rattle.std.specs.Prelude.{◌≡◌, ◌∷◌, [], IfSome, None, Some, if◌then◌else◌};
 ghost use Rattle.std.specs.Str.{bytes_eq};
-ghost use Rattle.tml_tool.specs.View.{command_form, query_form};
-ghost use Rattle.tml_tool.specs.Words.{ask_text, form_of, of_document, texts_of};
+ghost use Rattle.tml_tool.specs.View.{IsInRange, command_form, query_form};
+ghost use Rattle.tml_tool.specs.Words.{ask_text, drill_number, form_of, of_document, texts_of};
 
+use itoa::Buffer;
 use named::{Named, named_by};
+use net_core::MAX_INTERVALS;
 
 /// What can be asked of one document.
 #[derive(Clone, Copy, Debug, PartialEq, Eq)]
@@ -18,6 +21,8 @@ pub enum Question {
     Dates,
     /// In what order its intervals can lie.
     Solve,
+    /// Which relations follow from its links and times.
+    Relations,
 }
 
 impl Named for Question {
@@ -35,6 +40,7 @@ impl Named for Question {
             Question::Check,
             Question::Dates,
             Question::Solve,
+            Question::Relations,
         ]
     }
 
@@ -44,6 +50,7 @@ impl Named for Question {
             Question::Check => b"check",
             Question::Dates => b"dates",
             Question::Solve => b"solve",
+            Question::Relations => b"relations",
         }
     }
 }
@@ -70,18 +77,21 @@ pub enum Command<'w> {
     OfDocument { query: Query<'w>, name: &'w str },
     /// To check evidence against a document.
     Verify { name: &'w str, evidence: &'w str },
+    /// To go through the document of a drill.
+    Drill { n: u32 },
 }
 
 /// The command that the words are a form of. With no words it is `spans` of standard input.
 pub fn command_of(words: &[String]) -> Command<'_>
-    ensures { command_form result ≡ form_of (texts_of words.now) }
+    ensures form { command_form result ≡ form_of (texts_of words.now) }
+    ensures range { IsInRange result }
 {
     match words {
         [] => Command::OfDocument {
             query: Query::Question(Question::Spans),
             name: "-",
         },
-        [command, name] => of_two(command.as_str(), name.as_str()),
+        [command, word] => of_two(command.as_str(), word.as_str()),
         [command, name, evidence] => of_three(command.as_str(), name.as_str(), evidence.as_str()),
         [command, name, x, rel, y] => {
             let query = Query::Relation {
@@ -95,16 +105,39 @@ pub fn command_of(words: &[String]) -> Command<'_>
     }
 }
 
-/// A question that is one word, and the name of a document.
-fn of_two<'w>(command: &str, name: &'w str) -> Command<'w>
-    ensures { command_form result ≡ form_of (command.now ∷ name.now ∷ []) }
+/// A question that is one word, and the name of a document; or a drill, and its number.
+fn of_two<'w>(command: &str, word: &'w str) -> Command<'w>
+    ensures form { command_form result ≡ form_of (command.now ∷ word.now ∷ []) }
+    ensures range { IsInRange result }
 {
+    if is_word(command, b"drill") {
+        return match drill_number(word) {
+            Some(n) => Command::Drill { n },
+            None => Command::Usage,
+        };
+    }
     match named_by(command.as_bytes()) {
         Some(question) => Command::OfDocument {
             query: Query::Question(question),
-            name,
+            name: word,
         },
         None => Command::Usage,
+    }
+}
+
+/// The number of a drill, from 1 to 512 in decimal, without sign or leading zero.
+fn drill_number(word: &str) -> Option<u32>
+    ensures number { result ≡ drill_number word.now }
+    ensures range { IfSome result IsDrill }
+{
+    let Ok(n) = word.parse::<u32>() else {
+        return None;
+    };
+    let mut buffer = Buffer::new();
+    if 1 <= n && n <= MAX_INTERVALS && buffer.format(n) == word {
+        Some(n)
+    } else {
+        None
     }
 }
 

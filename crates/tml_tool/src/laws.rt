@@ -5,6 +5,7 @@ ghost use Rattle.tml_tool.specs.Acceptance.{OneAcceptances};
 ghost use Rattle.tml_tool.specs.Commands.{rows_of, is_determined};
 ghost use Rattle.tml_tool.specs.OneReply.{HasOneNext, HasOneText, HasOneReply};
 ghost use Rattle.tml_tool.specs.TwoFiles.{VerifyJudgesFirst, ScoreReadsFirst};
+ghost use Rattle.tml_tool.specs.TwoRuns.{EvidenceIsVerified};
 ghost use Rattle.tml_tool.specs.Words.{CommandForm};
 
 use crate::Status;
@@ -39,4 +40,9 @@ pub fn verify_judges_first()
 /// where the links of the first one clash.
 pub fn score_reads_first()
     ensures { ScoreReadsFirst }
+{}
+
+/// What `solve`, `ask` and `relations` print as evidence of a document, `verify` accepts over the same document.
+pub fn evidence_is_verified()
+    ensures { EvidenceIsVerified }
 {}

@@ -15,20 +15,24 @@ mod proving;
 mod questions;
 mod reading;
 mod refusal;
+mod relations;
 mod reply;
 mod replying;
 mod role;
 mod solve;
 mod spans;
 mod status;
+mod summary;
 mod table;
 #[cfg(test)]
 mod tests;
 mod top;
 mod usage;
 
+pub use drill::drill_text;
 pub use laws::{
-    one_acceptance, one_reply, one_status, one_text, score_reads_first, verify_judges_first,
+    evidence_is_verified, one_acceptance, one_reply, one_status, one_text, score_reads_first,
+    verify_judges_first,
 };
 pub use status::Status;
 pub use top::run;

@@ -8,6 +8,7 @@ use crate::ask::ask;
 use crate::check::check;
 use crate::command::{Query, Question};
 use crate::dates::dates;
+use crate::relations::relations;
 use crate::solve::solve;
 use crate::spans::spans;
 use std::alloc::{AllocError, Global};
@@ -35,5 +36,6 @@ fn answer_question(alloc: Global, question: Question, doc: &[u8]) -> Result<Answ
         Question::Check => check(alloc, doc),
         Question::Dates => dates(alloc, doc),
         Question::Solve => solve(alloc, doc),
+        Question::Relations => relations(alloc, doc),
     }
 }

@@ -68,7 +68,7 @@ impl Reply {
     {
         match self {
             Reply::Answered(answer) => write_all(sink, answer.text.as_slice()),
-            Reply::Usage => write_all(sink, usage_text().as_slice()),
+            Reply::Usage => write_all(sink, usage_text()),
             Reply::ReadFault => write_all(sink, b"read fault\n"),
             Reply::TooLong(role) => write_all(sink, role.too_long()),
             Reply::NoMemory => write_all(sink, b""),

@@ -5,7 +5,7 @@ ghost use Rattle.tml_io.specs.Files.{CountsTaken};
 ghost use Rattle.tml_tool.specs.Commands.{rows_of};
 ghost use Rattle.tml_tool.specs.Reading.{AllThere, NoneReached};
 ghost use Rattle.tml_tool.specs.Replies.{Replies};
-ghost use Rattle.tml_tool.specs.View.{command_form, query_form, status_of, text_of};
+ghost use Rattle.tml_tool.specs.View.{IsInRange, command_form, query_form, status_of, text_of};
 ghost use Rattle.tml_tool.specs.Words.{of_document, verify};
 
 use crate::Status;
@@ -15,11 +15,13 @@ use crate::questions::answer;
 use crate::reading::read;
 use crate::reply::Reply;
 use crate::role::Role;
+use crate::summary::drill_summary;
 use std::alloc::Global;
 use tml_io::Inputs;
 
 /// The reply to a command, with the files that it reads from the inputs.
 pub fn reply_to<I: Inputs>(alloc: Global, command: Command<'_>, inputs: &mut I) -> Reply
+    requires { IsInRange command }
     ensures replies { CountsTaken (I.given inputs.old) (I.given inputs.new)
         (Replies (I.files inputs.old) (rows_of (command_form command.entry)) (status_of result) (text_of result)) }
     ensures usage { (status_of result ≡ Status.Usage) ↔ (command_form command.entry ≡ None) }
@@ -36,6 +38,7 @@ pub fn reply_to<I: Inputs>(alloc: Global, command: Command<'_>, inputs: &mut I) 
         Command::Usage => Reply::Usage,
         Command::OfDocument { query, name } => of_document(alloc, query, name, inputs),
         Command::Verify { name, evidence } => of_evidence(alloc, name, evidence, inputs),
+        Command::Drill { n } => Reply::from_answer(drill_summary(alloc, n)),
     }
 }
 

@@ -1,12 +1,9 @@
 //! The question `solve`: in what order the intervals of a document can lie.
-ghost use Rattle.clash.specs.Closures.{IsClosureOf};
 ghost use Rattle.evidence_format.specs.Evidence.{IsText, timeline};
-ghost use Rattle.net_core.specs.Nets.{points};
-ghost use Rattle.net_core.specs.Ranks.{pairs_of, timeline_of};
-ghost use Rattle.order_closure.specs.Tables.{Keeps};
-ghost use Rattle.order_closure.specs.Timelines.{IsLeast};
-ghost use Rattle.std.specs.Prelude.{◌≡◌, ◌≤◌, ◌%◌, length, IfOk, List, ℕ};
+ghost use Rattle.net_core.specs.Ranks.{pairs_of};
+ghost use Rattle.std.specs.Prelude.{◌≡◌, ◌<◌, ◌≤◌, ◌%◌, length, slice_index, IfOk, ℕ};
 ghost use Rattle.tml_tool.specs.Questions.{doc_limit};
+ghost use Rattle.tml_tool.specs.Showing.{printed_limit};
 ghost use Rattle.tml_tool.specs.Solving.{IsLeastText};
 ghost use Rattle.tml_tool.specs.View.{IsAnswer};
 ghost use Rattle.tml_tool.specs.declared.command.Question.TheVariants as questions;
@@ -18,7 +15,7 @@ use crate::refusal::refusal;
 use clash::{CloseFault, close};
 use evidence_format::{Evidence, write_evidence};
 use net_build::net_of;
-use net_core::Memory;
+use net_core::{Memory, Ranks};
 use order_closure::Closed;
 use std::alloc::{AllocError, Global};
 use timeline::least;
@@ -49,9 +46,19 @@ fn least_text(alloc: Global, table: &Closed) -> Result<Vec<u8>, AllocError>
     requires few { table.now.points ≤ 1024 }
     ensures { IfOk result (λ text. IsLeastText table.now text.items) }
 {
-    let Ok(ranks) = least(alloc, table) else {
-        return Err(AllocError);
-    };
+    match least(alloc, table) {
+        Ok(ranks) => timeline_text(alloc, ranks),
+        Err(Memory) => Err(AllocError),
+    }
+}
+
+/// The text of a timeline of so few and so small ranks.
+pub fn timeline_text(alloc: Global, ranks: Ranks) -> Result<Vec<u8>, AllocError>
+    requires few { length ranks ≤ 1024 }
+    requires small { (p : ℕ) → p < length ranks → slice_index ranks p < length ranks }
+    ensures text { IfOk result (λ text. IsText (timeline (pairs_of ranks)) text.items) }
+    ensures short { IfOk result (λ text. length text.items ≤ printed_limit) }
+{
     match write_evidence(alloc, &Evidence::Timeline { ranks }) {
         Ok(text) => Ok(text.into_vec()),
         Err(Memory) => Err(AllocError),

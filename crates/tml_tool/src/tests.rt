@@ -3,8 +3,10 @@ mod ask;
 mod checks;
 mod clashes;
 mod dates;
+mod drills;
 mod each_fault;
 mod files;
+mod relations;
 mod solve;
 mod verify;
 
@@ -26,7 +28,7 @@ struct Row {
 const SPANS: &[&str] = &["spans", "d"];
 
 const USAGE: &[u8] =
-    b"usage:\ntml spans DOC\ntml check DOC\ntml dates DOC\ntml solve DOC\ntml ask DOC X REL Y\ntml verify DOC EVIDENCE\n";
+    b"usage:\ntml spans DOC\ntml check DOC\ntml dates DOC\ntml solve DOC\ntml ask DOC X REL Y\ntml relations DOC\ntml verify DOC EVIDENCE\ntml drill N\n";
 
 const TAGS: &[u8] = b"<TimeML><EVENT eid=\"e1\" class='STATE'>is</EVENT></TimeML>";
 

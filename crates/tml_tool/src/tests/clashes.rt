@@ -133,9 +133,11 @@ fn each_clash_is_minimal_and_verified(rt: HostRuntime) -> Result<(), Fail> {
 }
 
 #[test]
-fn what_is_asked_of_links_that_clash_tells_the_clash(rt: HostRuntime) -> Result<(), Fail> {
+fn ask_and_relations_tell_the_same_clash(rt: HostRuntime) -> Result<(), Fail> {
     for (doc, text, _) in TOLD {
         let sink = clash(&rt, &["ask", "d", "ei1", "BEFORE", "ei2"], doc)?;
+        assert_eq!(&rt; sink.written(), *text);
+        let sink = clash(&rt, &["relations", "d"], doc)?;
         assert_eq!(&rt; sink.written(), *text);
     }
     Ok(())

@@ -1,7 +1,7 @@
 use Rattle.std.proofs.Common.{◌≡◌, ◌<◌, ℕ, length}
 use Rattle.evidence_check.specs.Supported.{atom_at}
 use Rattle.net_core.specs.Atoms.{atoms_in}
-use Rattle.tml_tool.specs.Solving.{Gives}
+use Rattle.derive_rel.specs.Entailed.{Gives}
 use Rattle.tml_tool.proofs.deciding.first_not_given.Given as goal
 
 -- the table gives the atoms so far

@@ -1,0 +1,29 @@
+-- The relations that follow from a document.
+use Rattle.std.specs.Prelude.{◌≡◌, ℕ, ◌<◌, List, ◌++◌, codes}
+use Rattle.std.specs.List.{flat_map}
+use Rattle.net_core.specs.Nets.{PlainNet, intervals}
+use Rattle.net_build.specs.Built.{IsNetOf}
+use Rattle.derive_rel.specs.Entailed.{AreAll}
+use Rattle.derive_rel.specs.declared.all_rows.Row.{Row}
+use Rattle.evidence_check.specs.Claims.{Follows, SomeFits}
+use Rattle.tml_refs.specs.Documents.{PlainDocument}
+use Rattle.tml_tool.specs.Acceptance.{Says}
+use Rattle.tml_tool.specs.Texts.{name_at, related}
+
+-- a relation holds between an interval and one after it in every timeline that fits
+abbrev pub FollowsBetween : PlainNet → Row → Type 0
+FollowsBetween net row = (row.a < row.b) × (row.b < intervals net) × Follows net row.a row.rel row.b
+
+-- all relations that follow, each once, in the order of the intervals and of the table of relations
+abbrev pub AreRelations : PlainNet → List Row → Type 0
+AreRelations net rows = AreAll (FollowsBetween net) rows
+
+-- the line of a relation, by the names of its intervals
+abbrev pub row_line : PlainDocument → Row → List ℕ
+row_line contents row = related (name_at contents.intervals row.a) row.rel (name_at contents.intervals row.b) ++ codes "\n"
+
+-- some timeline fits the document, and the text has a line for each relation that follows
+abbrev pub TellsRelations : List ℕ → List ℕ → Type 0
+TellsRelations doc text =
+    (contents : PlainDocument) × (net : PlainNet) × (rows : List Row) × Says doc contents × IsNetOf contents net × SomeFits net × AreRelations net rows
+    × (text ≡ flat_map (row_line contents) rows)
