@@ -1,0 +1,268 @@
+"""The small scripts of `tools/`: `redundant-links`, `tml-edit`, `from-tempeval2` and `html-entities`."""
+
+import os
+import subprocess
+import sys
+import unittest
+
+from corpus import EVENT, INSTANCE, TML, TOOLS, CorpusTest, document
+
+A, B = '<TIMEX3 tid="a" type="SET"/>', '<TIMEX3 tid="b" type="SET"/>'
+RELATIONS = "BEFORE AFTER INCLUDES IS_INCLUDED DURING DURING_INV SIMULTANEOUS IDENTITY IBEFORE IAFTER BEGINS BEGUN_BY ENDS ENDED_BY".split()
+
+
+def link(a, relation, b, rest="/>"):
+    """A TLINK between two times."""
+    return f'<TLINK timeID="{a}" relatedToTime="{b}" relType="{relation}"{rest}'
+
+
+class ScriptTest(CorpusTest):
+    """A test that runs scripts in its folder."""
+
+    def run_script(self, name, *words, given=b""):
+        """The status, standard output and standard error of a script."""
+        tml = ["--tml", TML] if name in ("redundant-links", "tml-edit") else []
+        done = subprocess.run(
+            [sys.executable, os.path.join(TOOLS, name), *tml, *words],
+            cwd=self.folder,
+            input=given,
+            stdout=subprocess.PIPE,
+            stderr=subprocess.PIPE,
+            timeout=120,
+            check=False,
+            env={**os.environ, "PYTHONIOENCODING": "utf-8", "PYTHONDONTWRITEBYTECODE": "1"},
+        )
+        return done.returncode, done.stdout.decode(), done.stderr.decode()
+
+    def edit(self, content, *words):
+        """What `tml-edit` makes of a document."""
+        self.write("d.xml", content)
+        status, out, error = self.run_script("tml-edit", *words, "d.xml")
+        self.assertEqual((status, error), (0, ""))
+        return out
+
+    def tml(self, *words, given=b""):
+        """The status and the text of `tml`."""
+        done = subprocess.run([TML, *words], input=given, cwd=self.folder, stdout=subprocess.PIPE, check=False)
+        return done.returncode, done.stdout.decode()
+
+    def test_help_has_an_example(self):
+        for name in ("redundant-links", "tml-edit", "from-tempeval2", "html-entities"):
+            with self.subTest(name):
+                status, out, _ = self.run_script(name, "--help")
+                self.assertEqual(status, 0)
+                self.assertIn("Example", out)
+                self.assertEqual(self.run_script(name, "--no-such-option")[0], 2)
+
+
+class RedundantLinks(ScriptTest):
+    def test_each_and_together(self):
+        times = "".join(f'<TIMEX3 tid="{name}" type="SET"/>' for name in "abc")
+        chain = link("a", "BEFORE", "b") + "\n" + link("b", "BEFORE", "c", "> </TLINK>") + "\n"
+        rows = [
+            (chain, [], []),
+            (chain + link("a", "BEFORE", "c"), ["4:1"], ["4:1"]),
+            (chain + link("b", "AFTER", "a") + "\n" + link("c", "AFTER", "b"), ["2:85", "3:1", "4:1", "5:1"], ["4:1", "5:1"]),
+            (chain + link("a", "DURING", "b", "><!-- x --></TLINK>"), None, None),
+        ]
+        for links, alone, together in rows:
+            with self.subTest(links):
+                self.write("d e.xml", document(times + links))
+                for words, places in (((), alone), (("--together",), together)):
+                    status, out, error = self.run_script("redundant-links", *words, "d e.xml")
+                    told = [":".join(line.split(":")[1:3]) for line in out.splitlines() if ": follows: " in line]
+                    self.assertEqual((status, told, error), (2, [], "") if places is None else (1 if places else 0, places, ""))
+
+    def test_what_is_named_together_follows_from_the_rest(self):
+        names = [f"t{number}" for number in range(5)]
+        times = "".join(f'<TIMEX3 tid="{name}" type="SET"/>' for name in names)
+        links = [link(a, "BEFORE", b) for a in names for b in names if a < b]
+        self.write("d.xml", document(times + "\n" + "\n".join(links) + "\n"))
+        lines = self.run_script("redundant-links", "--together", "d.xml")[1].splitlines()
+        left_out = {int(line.split(":")[1]) for line in lines if ": follows: " in line}
+        self.assertEqual(len(left_out), 6)
+        with open(self.path("d.xml"), encoding="utf-8") as file:
+            kept = "".join(line for number, line in enumerate(file, 1) if number not in left_out)
+        self.assertEqual(self.tml("relations", "-", given=kept.encode()), self.tml("relations", "d.xml"))
+
+    def test_what_cannot_be_asked_about(self):
+        self.write("a.xml", document("<EVENT/>"))
+        self.write("b.xml", document(A + B + link("a", "BEFORE", "b") + link("a", "AFTER", "b") + link("a", "ENDS", "b")))
+        self.write("c.xml", document(A + B + link("a", "BEFORE", "b")))
+        status, out, _ = self.run_script("redundant-links", ".", "gone.xml")
+        self.assertEqual(status, 2)
+        self.assertEqual(
+            out.splitlines(),
+            [
+                "./a.xml: not asked: fault 10 MissingAttribute at 2:1",
+                "./b.xml: not asked: no timeline fits it: see tools/tml-corpus clashes",
+                "gone.xml: not asked: no such file or directory",
+                "4 files, 3 not asked about; links that follow from the others of their document: 0 of 1",
+            ],
+        )
+
+
+class Edits(ScriptTest):
+    def test_tags_and_values(self):
+        rows = [
+            ("<a><HL b='1'>x</HL><hr /></a>", ["--unwrap", "hr", "--rename", "HL=HEADLINE", "--unwrap", "a"], "<HEADLINE b='1'>x</HEADLINE>"),
+            ("<!-- <HL> --><HL >x</HL >", ["--unwrap", "HL"], "<!-- <HL> -->x"),
+            ("<P a='>' pos = 'x'/>", ["--value", "P", "pos", "x", "y"], "<P a='>' pos = 'y'/>"),
+            ("<P  a='1'\n pos='x' pos='z' b=''/>", ["--value", "P", "pos", "x", ""], "<P  a='1' pos='z' b=''/>"),
+            ("<P pos='x' qpos='x'>pos='x'</P>", ["--value", "P", "pos", "*", ""], "<P qpos='x'>pos='x'</P>"),
+            ("<P pos='x'/>", ["--value", "S", "pos", "x", "y", "--value", "P", "pos", "y", "z"], "<P pos='x'/>"),
+            (link("a", "VAGUE", "b") + link("a", "ENDS", "b") + "<TLINK/>", ["--drop-links", "VAGUE,"], link("a", "ENDS", "b")),
+            (link("a", "NONE", "b", ">\n</TLINK>") + "<SLINK relType='NONE'/>é", ["--drop-links", "VAGUE", "--drop-links", "NONE"], "é"),
+        ]
+        for inner, words, changed in rows:
+            with self.subTest(inner):
+                self.assertEqual(self.edit(document(inner), *words), document(changed))
+
+    def test_nothing_to_change_changes_no_byte(self):
+        content = "\ufeff<?xml version='1.0'?>\r\n<!DOCTYPE TimeML>\r\n<TimeML  >\t<P a = \"&lt;é\" />&#xe9;</TimeML\n><!-- - -->"
+        self.assertEqual(self.edit(content, "--unwrap", "X", "--overlaps", "--iso", "--drop-links", "NONE").encode(), content.encode())
+
+    def test_instances(self):
+        events = '<EVENT eid="e1" class="STATE" tense="PAST" x="y">a</EVENT><EVENT eid="e2" class="STATE"/><SIGNAL sid="i.e2"/>\n'
+        before = events + '<MAKEINSTANCE eiid="m" eventID="e1"/><TLINK eventInstanceID="m" relatedToEvent="e2" relType="ENDS"/>\n'
+        after = events + '<MAKEINSTANCE eiid="m" eventID="e1"/><TLINK eventInstanceID="m" relatedToEventInstance="i.e2.2" relType="ENDS"/>\n'
+        made = '<MAKEINSTANCE eiid="i.e2.2" eventID="e2"/>\n'
+        self.assertEqual(self.edit(document(before), "--instances"), document(after + made))
+        self.assertEqual(self.tml("relations", "-", given=document(after + made).encode()), (0, "m DURING i.e2.2\nm ENDS i.e2.2\n"))
+        # A name of an event that is the name of an instance too is that of the instance.
+        same = '<EVENT eid="e1" class="STATE"/><EVENT eid="e2" class="STATE"/><MAKEINSTANCE eiid="e1" eventID="e2"/>'
+        ends = '<TLINK eventInstanceID="e1" relatedToEventInstance="e2" relType="ENDS"/>'
+        self.assertIn('eventInstanceID="e1" relatedToEventInstance="e1"', self.edit(document(same + ends), "--instances"))
+
+    def test_iso(self):
+        inner = '<EVENT xml:id="e1" class="STATE" tense="PAST"/><TIMEX3 xml:id="t1" type="DATE" anchorTimeID="#t1" value="#x"/>\n'
+        inner += '<SLINK xml:id="l1" eventID="#e1" subordinatedEvent="#e1" relType="MODAL"/>\n'
+        made = self.edit(document(inner), "--iso")
+        self.assertIn('<TIMEX3 tid="t1" type="DATE" anchorTimeID="t1" value="#x"/>', made)
+        self.assertIn('<SLINK lid="l1" eventInstanceID="i.e1" subordinatedEventInstance="i.e1" relType="MODAL"/>', made)
+        self.assertEqual(self.tml("check", "-", given=made.encode())[0], 0)
+
+    def test_overlaps_leave_just_the_relations_that_they_should(self):
+        left = {"OVERLAP": {"BEFORE", "AFTER", "IBEFORE", "IAFTER"}, "BEFORE-OR-OVERLAP": {"AFTER", "IAFTER"}, "OVERLAP-OR-AFTER": {"BEFORE", "IBEFORE"}}
+        for overlap, excluded in left.items():
+            for relation in RELATIONS:
+                with self.subTest(overlap=overlap, relation=relation):
+                    made = self.edit(document(A + B + link("a", overlap, "b") + link("a", relation, "b")), "--overlaps")
+                    self.assertEqual(self.tml("solve", "-", given=made.encode())[0], 2 if relation in excluded else 0)
+            # Nothing of the fourteen follows: what is left of Allen's thirteen has no relation in common.
+            made = self.edit(document(A + B + link("a", overlap, "b", "> </TLINK>")), "--overlaps")
+            told = self.tml("relations", "-", given=made.encode())[1]
+            self.assertEqual([line for line in told.splitlines() if "o." not in line], [])
+
+    def test_links_of_a_table(self):
+        inner = EVENT + INSTANCE + '<MAKEINSTANCE eiid="i2" eventID="e1"/>' + A
+        self.write("table", "d a e1 ii\nother a a b\n\nd i2 a BEFORE\n")
+        made = self.edit(document(inner), "--links", "table")
+        links = ['timeID="a" relatedToEventInstance="i1" relType="IS_INCLUDED"', 'eventInstanceID="i2" relatedToTime="a" relType="BEFORE"']
+        self.assertEqual(made, document(inner + "".join(f"<TLINK {words}/>\n" for words in links)))
+        for line in ("d a e9 b", "d a b", 'd a a "'):
+            with self.subTest(line):
+                self.write("table", line + "\n")
+                status, out, error = self.run_script("tml-edit", "--links", "table", "d.xml")
+                self.assertEqual((status, out), (1, ""))
+                self.assertIn("line 1 of the table", error)
+
+    def test_what_cannot_be_changed(self):
+        rows = [
+            (1, document("&"), ["--unwrap", "P"], "d.xml: not changed: fault 2 BadReference at 2:1: mend it first\n"),
+            (1, document("<TLINK relType='NONE'>"), ["--drop-links", "NONE"], "d.xml: not changed: <TLINK> at 2:1 has no end tag\n"),
+            (1, document("<TLINK relType='OVERLAP'/>"), ["--overlaps"], "d.xml: not changed: <TLINK> at 2:1 lacks eventInstanceID or timeID\n"),
+            (1, "<P>" + EVENT + "</P>", ["--instances"], "d.xml: not changed: there is no </TimeML>\n"),
+            (1, document("<P a='1'/>"), ["--value", "P", "a", "1", "'"], "d.xml: not changed: fault 3 BadMarkup at 2:1: mend it first\n"),
+            (2, document(""), ["--links", "gone"], "d.xml: [Errno 2] No such file or directory: 'gone'\n"),
+        ]
+        for status, content, words, error in rows:
+            with self.subTest(words):
+                self.write("d.xml", content)
+                self.assertEqual(self.run_script("tml-edit", *words, "d.xml"), (status, "", error))
+        self.assertEqual(self.run_script("tml-edit", "gone.xml")[0], 2)
+
+
+class Tables(ScriptTest):
+    def tables(self, **tables):
+        """Writes tables, with a space for each tab."""
+        for name, text in tables.items():
+            self.write(f"in/{name.replace('_', '-')}.{'txt' if name == 'dct' else 'tab'}", text.replace(" ", "\t"))
+
+    def test_documents(self):
+        self.tables(
+            base_segmentation="a 0 0 <He\na 0 1 left\na 0 2 next\na 0 10 week\na 1 0 A&B\nb 0 0 x\n",
+            event_extents="a 0 1 event e1 1\na 0 10 event e2 1\n",
+            event_attributes='a 0 1 event e1 1 class OCCURRENCE\na 0 10 event e2 1 class STATE\na 0 1 event e1 1 modality "c"\n',
+            dct="a 19980108\nb 1998-01\n",
+            tlinks_x="a e1 t0 BEFORE\na t0 e2 VAGUE\n",
+        )
+        self.assertEqual(self.run_script("from-tempeval2", "in", "out/here"), (0, "", ""))
+        with open(self.path("out/here/a.xml"), encoding="utf-8") as file:
+            lines = file.read().splitlines()
+        self.assertEqual(
+            lines[4:],
+            [
+                '&lt;He <EVENT eid="e1" class="OCCURRENCE">left</EVENT> next <EVENT eid="e2" class="STATE">week</EVENT>',
+                "A&amp;B",
+                "</TEXT>",
+                "<MAKEINSTANCE eiid=\"i.e1\" eventID=\"e1\" modality='\"c\"'/>",
+                '<MAKEINSTANCE eiid="i.e2" eventID="e2"/>',
+                '<TLINK eventInstanceID="i.e1" relatedToTime="t0" relType="BEFORE"/>',
+                '<TLINK timeID="t0" relatedToEventInstance="i.e2" relType="VAGUE"/>',
+                "</TimeML>",
+            ],
+        )
+        self.assertEqual(self.tml("dates", "out/here/b.xml")[1].split()[:2], ["t0", "exact"])
+
+    def test_tags_within_tags(self):
+        self.tables(
+            base_segmentation="a 0 0 the\na 0 1 fall\na 0 2 season\n",
+            event_extents="a 0 1 event e1 1\n",
+            event_attributes="a 0 1 event e1 1 class STATE\n",
+            timex_extents="a 0 0 timex3 t1 1\na 0 1 timex3 t1 1\na 0 2 timex3 t1 1\na 0 1 timex3 t2 1\n",
+            timex_attributes="a 0 0 timex3 t1 1 type SET\na 0 1 timex3 t2 1 type SET\n",
+        )
+        self.assertEqual(self.run_script("from-tempeval2", "in", "out")[0], 0)
+        self.assertEqual(self.tml("check", "out/a.xml")[0], 0)
+
+    def test_tables_of_another_form(self):
+        base = "a 0 0 x\na 0 1 y\na 0 2 z\n"
+        rows = [
+            ({"base_segmentation": "a 0 0\n"}, "base-segmentation.tab:1: 3 columns instead of 4"),
+            ({"base_segmentation": "a x 0 0\n"}, "invalid literal for int"),
+            ({"base_segmentation": "../a 0 0 x\n"}, "is no name for a file"),
+            ({"base_segmentation": base, "event_extents": "a 0 7 event e1 1\n"}, "e1 stands at a token that is not there"),
+            ({"base_segmentation": base, "event_extents": "a 0 0 event e1 1\na 0 2 event e1 1\n"}, "the tokens of e1 do not follow each other"),
+            (
+                {"base_segmentation": base, "event_extents": "", "timex_extents": "a 0 0 timex3 t1 1\na 0 1 timex3 t1 1\na 0 1 timex3 t2 1\na 0 2 timex3 t2 1\n"},
+                "the tokens of t2 lie partly within those of t1",
+            ),
+            ({"base_segmentation": base, "event_extents": "", "timex_extents": "", "timex_attributes": "a 0 0 timex3 t9 1 type SET\n"}, "t9 has attributes and no extent"),
+        ]
+        for tables, said in rows:
+            with self.subTest(said):
+                self.tables(**tables)
+                status, out, error = self.run_script("from-tempeval2", "in", "out")
+                self.assertEqual((status, out), (1, ""))
+                self.assertIn(said, error)
+                self.assertFalse(os.path.exists(self.path("out/a.xml")))
+        self.assertEqual(self.run_script("from-tempeval2", "gone", "out")[0], 1)
+
+
+class Entities(ScriptTest):
+    def test_entities(self):
+        rows = [
+            ("a&nbsp;&eacute;\r\n", "a\u00a0é\r\n"),
+            ("&lt;&gt;&amp;&quot;&apos;&#233;", "&lt;&gt;&amp;&quot;&apos;&#233;"),
+            ("&bank; AT&T &eacute &ampx;", "&bank; AT&T &eacute &ampx;"),
+            ("&LT;&AMP;", "&lt;&amp;"),
+        ]
+        for given, made in rows:
+            with self.subTest(given):
+                self.assertEqual(self.run_script("html-entities", given=given.encode()), (0, made, ""))
+        self.assertEqual(self.run_script("html-entities", given=b"a\xe9"), (1, "", "html-entities: byte 1 is not UTF-8\n"))
+
+
+if __name__ == "__main__":
+    unittest.main()
