@@ -1,0 +1,126 @@
+//! The canonical text of a tree.
+ghost use Rattle.std.specs.List.{flat_map};
+ghost use Rattle.std.specs.Prelude.{IfOk, OnOk, map, ◌++◌, ◌≡◌};
+ghost use Rattle.tml_canon.specs.Canonical as spec;
+ghost use Rattle.tml_span.specs.View.{attribute_of};
+ghost use Rattle.tml_span.specs.Written.{attribute_text};
+ghost use Rattle.tml_tree.specs.Plain.{PlainNode};
+ghost use Rattle.tml_tree.specs.View.{node_of, tag_node};
+ghost use Rattle.tml_tree.specs.Whole.{IsTreeOf};
+ghost use Rattle.tml_tree.specs.Written.{node_text};
+
+use std::alloc::{AllocError, Global};
+use tml_io::{List, Memory};
+use tml_span::Attr;
+use tml_tree::{Node, Tag, TagTree};
+
+/// The canonical text of a tree: that of its root, and a line feed. What stands outside the root is dropped; a tag without
+/// children is an empty tag; attributes stand in the byte order of their names, each after one space and with its value
+/// between double quotes, in which `&quot;` stands for `"`. Nothing else changes.
+///
+/// # Errors
+///
+/// Out of memory.
+pub fn canon(alloc: Global, tree: &TagTree<'_>) -> Result<List<u8>, Memory>
+    ensures { IfOk result (λ text. (root : PlainNode) × IsTreeOf tree.now root × (text ≡ spec.canonical_text root)) }
+{
+    match text_of(alloc, tree.root()) {
+        Ok(text) => Ok(List::from_vec(text)),
+        Err(AllocError) => Err(Memory),
+    }
+}
+
+/// The canonical text of a root.
+fn text_of(alloc: Global, root: &Tag<'_>) -> Result<Vec<u8>, AllocError>
+    ensures { IfOk result (λ text. text.items ≡ spec.canonical_text (tag_node root.now)) }
+{
+    let mut text = Vec::new(alloc);
+    let mut sorted = Vec::new(alloc);
+    push_tag(&mut text, &mut sorted, root)?;
+    text.extend_from_slice(b"\n")?;
+    Ok(text)
+}
+
+/// Puts the text of an element last. `sorted` is room for attributes, whatever is in it.
+#[cycle(push)]
+fn push_tag<'s>(
+    out: &mut Vec<u8>,
+    sorted: &mut Vec<Attr<'s>>,
+    tag: &Tag<'s>,
+) -> Result<(), AllocError>
+    ensures { OnOk result (out.new.items ≡ out.old.items ++ node_text (spec.canonical (tag_node tag.now))) }
+{
+    let name = tag.name.text();
+    out.extend_from_slice(b"<")?;
+    out.extend_from_slice(name)?;
+    push_attributes(out, sorted, tag.attrs.as_slice())?;
+    if tag.children.is_empty() {
+        return out.extend_from_slice(b"/>");
+    }
+    out.extend_from_slice(b">")?;
+    for node in tag.children.as_slice() {
+        push_node(out, sorted, node)?;
+    }
+    out.extend_from_slice(b"</")?;
+    out.extend_from_slice(name)?;
+    out.extend_from_slice(b">")
+}
+
+/// Puts the text of a node last.
+#[cycle(push)]
+fn push_node<'s>(
+    out: &mut Vec<u8>,
+    sorted: &mut Vec<Attr<'s>>,
+    node: &Node<'s>,
+) -> Result<(), AllocError>
+    ensures { OnOk result (out.new.items ≡ out.old.items ++ node_text (spec.canonical (node_of node.now))) }
+{
+    match node {
+        Node::Text { text, .. } => out.extend_from_slice(text),
+        Node::Comment { text, .. } => out.extend_from_slice(text),
+        Node::Element(tag) => push_tag(out, sorted, tag),
+    }
+}
+
+/// Puts the attributes of a tag last, in the byte order of their names.
+fn push_attributes<'s>(
+    out: &mut Vec<u8>,
+    sorted: &mut Vec<Attr<'s>>,
+    attrs: &[Attr<'s>],
+) -> Result<(), AllocError>
+    ensures { OnOk result (out.new.items ≡ out.old.items ++ flat_map attribute_text (spec.canonical_attributes (map attribute_of attrs.now))) }
+{
+    sorted.clear();
+    sorted.extend_from_slice(attrs)?;
+    sorted.sort_by(|a, b| a.name.cmp(b.name))?;
+    for attr in sorted.as_slice() {
+        push_attribute(out, attr)?;
+    }
+    Ok(())
+}
+
+/// Puts an attribute last, with its value between double quotes.
+fn push_attribute(out: &mut Vec<u8>, attr: &Attr<'_>) -> Result<(), AllocError>
+    ensures { OnOk result (out.new.items ≡ out.old.items ++ attribute_text (spec.canonical_attribute (attribute_of attr.now))) }
+{
+    out.extend_from_slice(b" ")?;
+    out.extend_from_slice(attr.name)?;
+    out.extend_from_slice(b"=\"")?;
+    push_value(out, attr.value)?;
+    out.extend_from_slice(b"\"")
+}
+
+/// Puts a value last, with `&quot;` for each `"`.
+fn push_value(out: &mut Vec<u8>, value: &[u8]) -> Result<(), AllocError>
+    ensures { OnOk result (out.new.items ≡ out.old.items ++ spec.quoted value.now) }
+{
+    let mut pieces = value.split(|byte| *byte == b'"');
+    if let Some(first) = pieces.next() {
+        out.extend_from_slice(first)?;
+    }
+    for piece in pieces {
+        out.extend_from_slice(b"&quot;")?;
+        out.extend_from_slice(piece)?;
+    }
+    Ok(())
+}
