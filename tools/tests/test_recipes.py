@@ -1,4 +1,4 @@
-"""The commands of docs/RECIPES.md and docs/CORPORA.md, run as they are written, and what they print.
+"""The commands of README.md and of pages of docs, run as they are written, and what they print.
 
 A block marked `console` has lines `$ command`, lines `> ..` that go on with one, and after each command what it prints,
 standard error included. A line `...` stands for any lines. The blocks of a section (from one heading `##` to the next) go
@@ -17,7 +17,7 @@ from dataclasses import dataclass, field
 
 from corpus import TML, TOP
 
-PAGES = ("RECIPES.md", "CORPORA.md")
+PAGES = ("README.md", "docs/CLASHES.md", "docs/CORPORA.md", "docs/RECIPES.md")
 NEEDED = ("perl", "iconv", "make", "xmllint", "sha256sum", "diff")
 MARK = "the-end-of-command"
 
@@ -106,7 +106,7 @@ class Pages(unittest.TestCase):
 
     def test_commands_print_what_the_page_says(self):
         for name in PAGES:
-            with open(os.path.join(TOP, "docs", name), encoding="utf-8") as file:
+            with open(os.path.join(TOP, name), encoding="utf-8") as file:
                 sections = sections_of(file.read())
             self.assertTrue(sections, name)
             for section in sections:
@@ -121,7 +121,7 @@ class Pages(unittest.TestCase):
         printed = self.run_section(section)
         self.assertEqual(len(printed), len(section.commands), printed[-1:])
         for command, lines in zip(section.commands, printed, strict=True):
-            place = f"docs/{name}:{command.line}"
+            place = f"{name}:{command.line}"
             self.assertTrue(agree(command.printed, lines), "\n".join([f"{place}: {command.text}", "expected:", *command.printed, "printed:", *lines]))
 
 
