@@ -8,6 +8,7 @@ pub mod OneDateLines
 pub mod OneNet
 pub mod Timelines
 pub mod AllRelations
+pub mod Alike
 pub mod OneAnswers
 pub mod OneRelation
 pub mod OneVerdicts

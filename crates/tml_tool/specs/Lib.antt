@@ -1,4 +1,5 @@
 pub mod Acceptance
+pub mod Alike
 pub mod Asking
 pub mod Commands
 pub mod DateTexts
@@ -11,6 +12,7 @@ pub mod Questions
 pub mod Reading
 pub mod Relating
 pub mod Replies
+pub mod Rewriting
 pub mod Roles
 pub mod Rows
 pub mod Showing

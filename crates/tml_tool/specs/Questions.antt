@@ -12,13 +12,14 @@ use Rattle.net_build.specs.Built.{IsNetOf}
 use Rattle.order_closure.specs.Timelines.{IsLeast}
 use Rattle.evidence_format.specs.Evidence.{timeline}
 use Rattle.tml_tool.specs.declared.command.Question.{Question}
-use Rattle.tml_tool.specs.declared.command.Question.TheVariants.{Spans, Check, Dates, Solve, Relations}
+use Rattle.tml_tool.specs.declared.command.Question.TheVariants.{Spans, Check, Dates, Solve, Relations, Canon}
 use Rattle.tml_tool.specs.declared.role.Role.TheVariants.{Doc}
 use Rattle.tml_tool.specs.declared.status.Status.{Status}
 use Rattle.tml_tool.specs.declared.status.Status.TheVariants.{Done, DocFault, Clash}
 use Rattle.tml_tool.specs.Acceptance.{FirstFault, Says}
 use Rattle.tml_tool.specs.DateTexts.{DateLines}
 use Rattle.tml_tool.specs.Relating.{TellsRelations}
+use Rattle.tml_tool.specs.Rewriting.{TellsCanonical}
 use Rattle.tml_tool.specs.Roles.{limit_of}
 use Rattle.tml_tool.specs.Showing.{TellsClash, TellsEvidence}
 use Rattle.tml_tool.specs.Texts as texts
@@ -55,13 +56,14 @@ TellsTimeline doc text = (net : PlainNet) × (ranks : List ℕ) × HasNet doc ne
 abbrev pub ClashesBy : List ℕ → List ℕ → Type 0
 ClashesBy doc text = (net : PlainNet) × HasNet doc net × TellsClash net text
 
--- What a question prints: `spans` the table of the units, `check` what an accepted document has, `dates` when its times are, `solve` the least timeline, and `relations` the relations that follow.
+-- What a question prints: `spans` the table of the units, `check` what an accepted document has, `dates` when its times are, `solve` the least timeline, `relations` the relations that follow, and `canon` the canonical text.
 abbrev pub Prints : Question → List ℕ → List ℕ → Type 0
 Prints Spans doc text = HasTable doc text
 Prints Check doc text = HasText (λ contents out. out ≡ texts.accepted contents) doc text
 Prints Dates doc text = HasText (λ contents out. DateLines contents.intervals out) doc text
 Prints Solve doc text = TellsTimeline doc text
 Prints Relations doc text = TellsRelations doc text
+Prints Canon doc text = TellsCanonical doc text
 
 -- The fault that a question names where it prints nothing else: `spans` looks at the units alone.
 abbrev pub NamesFault : Question → List ℕ → FaultKind → ℕ → Type 0

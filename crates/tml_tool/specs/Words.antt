@@ -7,7 +7,7 @@ use Rattle.std.specs.declared.option.Option.{Option}
 use Rattle.drill.specs.Laws.{drill_numbers}
 use Rattle.named.specs.Texts.{named_of}
 use Rattle.tml_tool.specs.declared.command.Question.{Question}
-use Rattle.tml_tool.specs.declared.command.Question.TheVariants.{Spans, Check, Dates, Solve, Relations}
+use Rattle.tml_tool.specs.declared.command.Question.TheVariants.{Spans, Check, Dates, Solve, Relations, Canon}
 
 -- the words as bytes
 abbrev pub texts_of : List (String Global) → List (List ℕ)
@@ -20,9 +20,10 @@ question_text Check = codes "check"
 question_text Dates = codes "dates"
 question_text Solve = codes "solve"
 question_text Relations = codes "relations"
+question_text Canon = codes "canon"
 
 abbrev pub all_questions : List Question
-all_questions = Spans ∷ Check ∷ Dates ∷ Solve ∷ Relations ∷ []
+all_questions = Spans ∷ Check ∷ Dates ∷ Solve ∷ Relations ∷ Canon ∷ []
 
 -- the word that asks whether a relation holds between two intervals
 abbrev pub ask_text : List ℕ
@@ -65,7 +66,7 @@ form_of words = None
 abbrev pub all_forms : List (List ℕ)
 all_forms =
     codes "spans DOC" ∷ codes "check DOC" ∷ codes "dates DOC" ∷ codes "solve DOC" ∷ codes "ask DOC X REL Y"
-    ∷ codes "relations DOC" ∷ codes "verify DOC EVIDENCE" ∷ codes "drill N" ∷ []
+    ∷ codes "relations DOC" ∷ codes "canon DOC" ∷ codes "verify DOC EVIDENCE" ∷ codes "drill N" ∷ []
 
 abbrev pub usage_line : List ℕ → List ℕ
 usage_line form = codes "tml " ++ form ++ codes "\n"

@@ -23,6 +23,8 @@ pub enum Question {
     Solve,
     /// Which relations follow from its links and times.
     Relations,
+    /// Its canonical text.
+    Canon,
 }
 
 impl Named for Question {
@@ -41,6 +43,7 @@ impl Named for Question {
             Question::Dates,
             Question::Solve,
             Question::Relations,
+            Question::Canon,
         ]
     }
 
@@ -51,6 +54,7 @@ impl Named for Question {
             Question::Dates => b"dates",
             Question::Solve => b"solve",
             Question::Relations => b"relations",
+            Question::Canon => b"canon",
         }
     }
 }

@@ -2,6 +2,7 @@
 ghost use Rattle.std.specs.Prelude.{true, ◌≡◌};
 ghost use Rattle.std.specs.declared.option.Option.{Option};
 ghost use Rattle.tml_tool.specs.Acceptance.{OneAcceptances};
+ghost use Rattle.tml_tool.specs.Alike.{CanonicalIsAlike};
 ghost use Rattle.tml_tool.specs.Commands.{rows_of, is_determined};
 ghost use Rattle.tml_tool.specs.OneReply.{HasOneNext, HasOneText, HasOneReply};
 ghost use Rattle.tml_tool.specs.TwoFiles.{VerifyJudgesFirst, ScoreReadsFirst};
@@ -45,4 +46,10 @@ pub fn score_reads_first()
 /// What `solve`, `ask` and `relations` print as evidence of a document, `verify` accepts over the same document.
 pub fn evidence_is_verified()
     ensures { EvidenceIsVerified }
+{}
+
+/// A canonical text is accepted, and is its own canonical text. What is asked of it, but its units and itself, has the answer
+/// that it has of the document.
+pub fn canonical_is_alike()
+    ensures { CanonicalIsAlike }
 {}

@@ -18,6 +18,7 @@ mod refusal;
 mod relations;
 mod reply;
 mod replying;
+mod rewriting;
 mod role;
 mod solve;
 mod spans;
@@ -31,8 +32,8 @@ mod usage;
 
 pub use drill::drill_text;
 pub use laws::{
-    evidence_is_verified, one_acceptance, one_reply, one_status, one_text, score_reads_first,
-    verify_judges_first,
+    canonical_is_alike, evidence_is_verified, one_acceptance, one_reply, one_status, one_text,
+    score_reads_first, verify_judges_first,
 };
 pub use status::Status;
 pub use top::run;

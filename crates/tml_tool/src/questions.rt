@@ -9,6 +9,7 @@ use crate::check::check;
 use crate::command::{Query, Question};
 use crate::dates::dates;
 use crate::relations::relations;
+use crate::rewriting::canonical_text;
 use crate::solve::solve;
 use crate::spans::spans;
 use std::alloc::{AllocError, Global};
@@ -37,5 +38,6 @@ fn answer_question(alloc: Global, question: Question, doc: &[u8]) -> Result<Answ
         Question::Dates => dates(alloc, doc),
         Question::Solve => solve(alloc, doc),
         Question::Relations => relations(alloc, doc),
+        Question::Canon => canonical_text(alloc, doc),
     }
 }

@@ -1,5 +1,6 @@
 //! Worked rows of the commands, by `run` over the objects in memory.
 mod ask;
+mod canon;
 mod checks;
 mod clashes;
 mod dates;
@@ -28,7 +29,7 @@ struct Row {
 const SPANS: &[&str] = &["spans", "d"];
 
 const USAGE: &[u8] =
-    b"usage:\ntml spans DOC\ntml check DOC\ntml dates DOC\ntml solve DOC\ntml ask DOC X REL Y\ntml relations DOC\ntml verify DOC EVIDENCE\ntml drill N\n";
+    b"usage:\ntml spans DOC\ntml check DOC\ntml dates DOC\ntml solve DOC\ntml ask DOC X REL Y\ntml relations DOC\ntml canon DOC\ntml verify DOC EVIDENCE\ntml drill N\n";
 
 const TAGS: &[u8] = b"<TimeML><EVENT eid=\"e1\" class='STATE'>is</EVENT></TimeML>";
 

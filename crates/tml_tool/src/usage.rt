@@ -13,6 +13,7 @@ tml dates DOC
 tml solve DOC
 tml ask DOC X REL Y
 tml relations DOC
+tml canon DOC
 tml verify DOC EVIDENCE
 tml drill N
 "
