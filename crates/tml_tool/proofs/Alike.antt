@@ -3,8 +3,8 @@ use Rattle.std.proofs.Common.{◌≡◌, ◌↔◌, true, ℕ, List, sym, ap, su
 use Rattle.tml_canon.specs.Canonical.{canonical_text}
 use Rattle.tml_canon.specs.Laws.{canonical_tree}
 use Rattle.tml_canon.proofs.CanonicalTrees.{canonical_is_read}
-use Rattle.tml_canon.proofs.Resolving.{canonical_says_the_same}
-use Rattle.tml_canon.proofs.OwnText.{canonical_is_itself}
+use Rattle.tml_canon.proofs.Saying.{canonical_says_the_same}
+use Rattle.tml_canon.proofs.Alike.{canonical_is_itself}
 use Rattle.tml_refs.specs.Documents.{PlainDocument}
 use Rattle.tml_tree.specs.Plain.{PlainNode}
 use Rattle.tml_tool.specs.declared.command.Question.TheVariants.{Check, Dates, Solve, Relations}
