@@ -1,0 +1,4 @@
+pub mod Allowed
+pub mod Apart
+pub mod ApartUnits
+pub mod Standing
