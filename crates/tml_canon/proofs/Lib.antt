@@ -1,5 +1,5 @@
 pub mod Quoted
 pub mod Ordered
 pub mod Alike
-pub mod Apart
+pub mod UnlikeNames
 pub mod OneText

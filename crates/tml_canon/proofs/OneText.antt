@@ -15,7 +15,7 @@ use Rattle.tml_canon.specs.Canonical.{canonical, canonical_nodes, canonical_text
 use Rattle.tml_canon.specs.Laws.{OneCanonicalText, SaysOf, canonical_tree}
 use Rattle.tml_canon.specs.Same.{AllSame, Same}
 use Rattle.tml_canon.proofs.Alike.{canonical_is_same, same_back, same_on}
-use Rattle.tml_canon.proofs.Apart.{same_attributes}
+use Rattle.tml_canon.proofs.UnlikeNames.{same_attributes}
 use Rattle.tml_canon.proofs.CanonicalTrees.{canonical_is_read}
 
 -- ---- trees that are the same have one canonical text
