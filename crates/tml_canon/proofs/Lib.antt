@@ -7,3 +7,8 @@ pub mod Quoting
 pub mod SourceUnits
 pub mod Content
 pub mod CanonicalTrees
+pub mod Quoted
+pub mod Ordered
+pub mod Alike
+pub mod UnlikeNames
+pub mod OneText
