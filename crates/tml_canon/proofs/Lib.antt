@@ -12,3 +12,11 @@ pub mod Ordered
 pub mod Alike
 pub mod UnlikeNames
 pub mod OneText
+pub mod Pairs
+pub mod Resolving
+pub mod Unchanged
+pub mod TimeValues
+pub mod Named
+pub mod Forms
+pub mod Sound
+pub mod Saying
