@@ -1,0 +1,4 @@
+pub mod Pushing
+pub mod Searching
+pub mod Sorting
+pub mod SortedNames
