@@ -20,3 +20,7 @@ pub mod Named
 pub mod Forms
 pub mod Sound
 pub mod Saying
+pub mod Pushing
+pub mod Searching
+pub mod Sorting
+pub mod SortedNames
