@@ -3,7 +3,12 @@
 #![tactic(auto)]
 
 mod canonical;
+mod laws;
 #[cfg(test)]
 mod tests;
 
 pub use canonical::canon;
+pub use laws::{
+    canonical_is_itself, canonical_is_read, canonical_is_same, canonical_says_the_same,
+    one_canonical_text,
+};
