@@ -1,14 +1,17 @@
 //! The canonical text of a tree.
 ghost use Rattle.std.specs.List.{flat_map};
-ghost use Rattle.std.specs.Prelude.{IfOk, OnOk, map, ◌++◌, ◌≡◌};
+ghost use Rattle.std.specs.Prelude.{IfOk, OnOk, codes, map, ◌++◌, ◌≡◌};
 ghost use Rattle.tml_canon.specs.Canonical as spec;
+ghost use Rattle.tml_span.specs.Units.{end_tag};
 ghost use Rattle.tml_span.specs.View.{attribute_of};
-ghost use Rattle.tml_span.specs.Written.{attribute_text};
+ghost use Rattle.tml_span.specs.Written.{attribute_text, kind_text};
 ghost use Rattle.tml_tree.specs.Plain.{PlainNode};
+ghost use Rattle.tml_tree.specs.TagNames as names;
 ghost use Rattle.tml_tree.specs.View.{node_of, tag_node};
 ghost use Rattle.tml_tree.specs.Whole.{IsTreeOf};
 ghost use Rattle.tml_tree.specs.Written.{node_text};
 
+use memchr::memchr;
 use std::alloc::{AllocError, Global};
 use tml_io::{List, Memory};
 use tml_span::Attr;
@@ -50,20 +53,16 @@ fn push_tag<'s>(
 ) -> Result<(), AllocError>
     ensures { OnOk result (out.new.items ≡ out.old.items ++ node_text (spec.canonical (tag_node tag.now))) }
 {
-    let name = tag.name.text();
-    out.extend_from_slice(b"<")?;
-    out.extend_from_slice(name)?;
-    push_attributes(out, sorted, tag.attrs.as_slice())?;
-    if tag.children.is_empty() {
+    push_opening(out, sorted, tag)?;
+    let children = tag.children.as_slice();
+    if children.is_empty() {
         return out.extend_from_slice(b"/>");
     }
     out.extend_from_slice(b">")?;
-    for node in tag.children.as_slice() {
+    for node in children {
         push_node(out, sorted, node)?;
     }
-    out.extend_from_slice(b"</")?;
-    out.extend_from_slice(name)?;
-    out.extend_from_slice(b">")
+    push_end_tag(out, tag.name.text())
 }
 
 /// Puts the text of a node last.
@@ -76,10 +75,31 @@ fn push_node<'s>(
     ensures { OnOk result (out.new.items ≡ out.old.items ++ node_text (spec.canonical (node_of node.now))) }
 {
     match node {
-        Node::Text { text, .. } => out.extend_from_slice(text),
-        Node::Comment { text, .. } => out.extend_from_slice(text),
+        Node::Text { text, .. } | Node::Comment { text, .. } => out.extend_from_slice(text),
         Node::Element(tag) => push_tag(out, sorted, tag),
     }
+}
+
+/// Puts last what a start tag and an empty tag begin with: `<`, the name and the attributes.
+fn push_opening<'s>(
+    out: &mut Vec<u8>,
+    sorted: &mut Vec<Attr<'s>>,
+    tag: &Tag<'s>,
+) -> Result<(), AllocError>
+    ensures { OnOk result (out.new.items ≡ out.old.items ++ (codes "<" ++ names.text_of tag.now.name ++ flat_map attribute_text (spec.canonical_attributes (map attribute_of tag.now.attrs)))) }
+{
+    out.extend_from_slice(b"<")?;
+    out.extend_from_slice(tag.name.text())?;
+    push_attributes(out, sorted, tag.attrs.as_slice())
+}
+
+/// Puts an end tag last.
+fn push_end_tag(out: &mut Vec<u8>, name: &[u8]) -> Result<(), AllocError>
+    ensures { OnOk result (out.new.items ≡ out.old.items ++ kind_text (end_tag name.now)) }
+{
+    out.extend_from_slice(b"</")?;
+    out.extend_from_slice(name)?;
+    out.extend_from_slice(b">")
 }
 
 /// Puts the attributes of a tag last, in the byte order of their names.
@@ -114,13 +134,11 @@ fn push_attribute(out: &mut Vec<u8>, attr: &Attr<'_>) -> Result<(), AllocError>
 fn push_value(out: &mut Vec<u8>, value: &[u8]) -> Result<(), AllocError>
     ensures { OnOk result (out.new.items ≡ out.old.items ++ spec.quoted value.now) }
 {
-    let mut pieces = value.split(|byte| *byte == b'"');
-    if let Some(first) = pieces.next() {
-        out.extend_from_slice(first)?;
-    }
-    for piece in pieces {
+    let mut rest = value;
+    while let Some(at) = memchr(b'"', rest) {
+        out.extend_from_slice(&rest[..at])?;
         out.extend_from_slice(b"&quot;")?;
-        out.extend_from_slice(piece)?;
+        rest = &rest[at + 1..];
     }
-    Ok(())
+    out.extend_from_slice(rest)
 }

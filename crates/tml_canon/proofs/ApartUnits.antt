@@ -1,0 +1,121 @@
+-- In the cut of a source two texts never follow each other, and behind the first tag each unit is part of an item.
+use Rattle.std.proofs.Common.{◌≡◌, ◌≢◌, ◌⊎◌, inl, inr, ℕ, ◌+◌, ◌<◌, true, false, cond, List, [], ◌∷◌, ◌++◌, length, map, refl, sym, ap, subst, ◌∙◌, append_assoc, arith, Some}
+use Rattle.std.specs.List.{filter, list_any, list_all}
+use Rattle.std.proofs.lemmas.Bool.{both_ways, or_cases, or_left, or_parts, or_right, cond-true}
+use Rattle.std.proofs.lemmas.List.Folds.{list_any-append}
+use Rattle.faults.specs.First.{NoneBreaks}
+use Rattle.faults.specs.declared.kind.FaultKind.TheVariants as fault
+use Rattle.tml_span.specs.Bytes.{is_text_byte}
+use Rattle.tml_span.specs.Cutting.{Ends, CutsFrom}
+use Rattle.tml_span.specs.Units.{Kind, bom, declaration, doctype, text, start_tag, end_tag, empty_tag, PlainUnit, SpelledKind}
+use Rattle.tml_span.specs.Written.{BeginsWithText, NoTextsMeet}
+use Rattle.tml_span.proofs.EveryCut.{spelling_some}
+use Rattle.tml_span.proofs.Runs.{both}
+use Rattle.tml_tree.specs.Plain.{unit, PlainNode}
+use Rattle.tml_tree.specs.Nesting.{OpenTag, Opens, is_content}
+use Rattle.tml_tree.specs.Rules.{is_past_bom, is_tag, is_doctype}
+use Rattle.tml_tree.specs.Stage.{Stage, step, run}
+use Rattle.tml_tree.specs.Trees.{Breaks}
+use Rattle.tml_tree.proofs.Running.{then_some, opens_step}
+use Rattle.tml_canon.proofs.Allowed.{not_at_fault}
+
+-- a unit apart from its place
+abbrev pub kind_of : PlainUnit → Kind
+kind_of u = u.kind
+
+-- the units behind the first tag
+abbrev pub after_tag : List PlainUnit → List PlainUnit
+after_tag [] = []
+after_tag (u ∷ us) = cond (is_tag u) us (after_tag us)
+
+-- ---- no texts meet in a cut
+
+-- a byte that ends a text begins no other one
+text_begins : (own rest bytes : List ℕ) → own ≢ [] → list_all is_text_byte own ≡ true → Ends (text bytes) (own ++ rest) → ⊥
+text_begins [] rest bytes some all e = some refl
+text_begins (b ∷ own) rest bytes some all e = both_ways (is_text_byte b) e (both (is_text_byte b) (list_all is_text_byte own) all).0
+
+-- what ends a text is the beginning of no text
+kind_begins : (place : ℕ) (k : Kind) (kinds : List Kind) (prefix rest bytes : List ℕ) → SpelledKind place k prefix → Ends (text bytes) (prefix ++ rest) → BeginsWithText (k ∷ kinds) → ⊥
+kind_begins place (text own) kinds prefix rest bytes h e b = text_begins own rest bytes h.1 h.2 (subst (λ (x : List ℕ). Ends (text bytes) (x ++ rest)) h.0 e)
+kind_begins place k kinds prefix rest bytes h e b = b
+
+-- a text is followed by no text
+text_ends : (bytes : List ℕ) (place : ℕ) (suffix : List ℕ) (us : List PlainUnit) → Ends (text bytes) suffix → CutsFrom place suffix us [] → BeginsWithText (map kind_of us) → ⊥
+text_ends bytes place suffix [] e c b = b
+text_ends bytes place suffix (u ∷ us) e c b = kind_begins place u.kind (map kind_of us) c.0 c.1 bytes c.3.kind (subst (λ (x : List ℕ). Ends (text bytes) x) c.2 e) b
+
+-- one unit more before those of which no two texts meet
+kind_apart : (k : Kind) (place : ℕ) (suffix : List ℕ) (us : List PlainUnit) → Ends k suffix → CutsFrom place suffix us [] → NoTextsMeet (map kind_of us) → NoTextsMeet (k ∷ map kind_of us)
+kind_apart (text bytes) place suffix us e c h = (text_ends bytes place suffix us e c, h)
+kind_apart k place suffix us e c h = h
+
+-- among the units of a cut no two texts meet
+cut_apart : (place : ℕ) (bytes : List ℕ) (us : List PlainUnit) → CutsFrom place bytes us [] → NoTextsMeet (map kind_of us)
+cut_apart place bytes [] c = tt
+cut_apart place bytes (u ∷ us) c = kind_apart u.kind (place + length c.0) c.1 us c.4 c.5 (cut_apart (place + length c.0) c.1 us c.5)
+
+-- ---- behind a tag
+
+-- a tag is among units where it is among the first or the last of them
+tagged_more : (us vs : List PlainUnit) → (list_any is_tag us ≡ true) ⊎ (list_any is_tag vs ≡ true) → list_any is_tag (us ++ vs) ≡ true
+tagged_more us vs (inl h) = list_any-append is_tag us vs ∙ or_left (list_any is_tag us) (list_any is_tag vs) h
+tagged_more us vs (inr h) = list_any-append is_tag us vs ∙ or_right (list_any is_tag us) (list_any is_tag vs) h
+
+-- a tag is no Bom
+tag_past_bom : (start end : ℕ) (k : Kind) → is_tag (unit start end k) ≡ true → is_past_bom (unit start end k) ≡ true
+tag_past_bom start end bom h = absurd cc
+tag_past_bom start end k h = refl
+
+-- where a tag is among units, one but a Bom is
+tag_begun : (us : List PlainUnit) → list_any is_tag us ≡ true → list_any is_past_bom us ≡ true
+tag_begun [] h = h
+tag_begun (u ∷ us) h = elim (or_cases (is_tag u) (list_any is_tag us) h) [
+  | inl here ↦ or_left (is_past_bom u) (list_any is_past_bom us) (tag_past_bom u.start u.end u.kind here)
+  | inr later ↦ or_right (is_past_bom u) (list_any is_past_bom us) (tag_begun us later)
+]
+
+-- a unit behind a tag is no Bom, no declaration and no doctype
+kind_is_content : (start end : ℕ) (k : Kind) (place : ℕ) (prefix : List ℕ) (done us : List PlainUnit) (tags : List OpenTag) (nodes : List PlainNode) → 0 < place → list_any is_tag done ≡ true
+    → Opens (filter is_content done) tags nodes → NoneBreaks Breaks (done ++ unit start end k ∷ us) → SpelledKind place k prefix → is_content (unit start end k) ≡ true
+kind_is_content start end bom place prefix done us tags nodes some t o lawful h = absurd (omega (arith, h.0))
+kind_is_content start end (declaration b) place prefix done us tags nodes some t o lawful h =
+    absurd (both_ways (list_any is_past_bom done) (not_at_fault done us (unit start end (declaration b)) tags nodes o lawful fault.Misplaced) (tag_begun done t))
+kind_is_content start end (doctype b) place prefix done us tags nodes some t o lawful h =
+    let none = or_parts (list_any is_tag done) (list_any is_doctype done) (not_at_fault done us (unit start end (doctype b)) tags nodes o lawful fault.Misplaced) in
+    absurd (both_ways (list_any is_tag done) none.0 t)
+kind_is_content start end k place prefix done us tags nodes some t o lawful h = refl
+
+-- behind a tag each unit is part of an item
+content_from : (done us : List PlainUnit) (place : ℕ) (bytes : List ℕ) (tags : List OpenTag) (nodes : List PlainNode) (s : Stage) → 0 < place → list_any is_tag done ≡ true → Opens (filter is_content done) tags nodes
+    → run tags nodes us ≡ Some s → NoneBreaks Breaks (done ++ us) → CutsFrom place bytes us [] → filter is_content us ≡ us
+content_from done [] place bytes tags nodes s some t o e lawful c = refl
+content_from done (u ∷ us) place bytes tags nodes s some t o e lawful c =
+    let one = then_some (step tags nodes u) (λ r. run r.tags r.nodes us) s e in
+    let here = kind_is_content u.start u.end u.kind place c.0 done us tags nodes some t o lawful c.3.kind in
+    let rest = content_from (done ++ u ∷ []) us (place + length c.0) c.1 one.0.tags one.0.nodes s (omega arith) (tagged_more done (u ∷ []) (inl t)) (opens_step done u tags nodes one.0 o one.1) one.2
+    (subst (λ (vs : List PlainUnit). NoneBreaks Breaks vs) (sym (append_assoc done (u ∷ []) us)) lawful) c.5 in
+    cond-true (is_content u) (u ∷ filter is_content us) (filter is_content us) here ∙ ap (λ (vs : List PlainUnit). u ∷ vs) rest
+
+-- one unit more: where it is a tag, what is behind the first tag is what follows it
+after_kind : (start end : ℕ) (k : Kind) (us : List PlainUnit) → (is_tag (unit start end k) ≡ true → NoTextsMeet (map kind_of (filter is_content us))) → NoTextsMeet (map kind_of (after_tag (filter is_content us)))
+    → NoTextsMeet (map kind_of (after_tag (filter is_content (unit start end k ∷ us))))
+after_kind start end (start_tag name attrs) us f h = f refl
+after_kind start end (end_tag name) us f h = f refl
+after_kind start end (empty_tag name attrs) us f h = f refl
+after_kind start end k us f h = h
+
+-- behind the first tag of the items no two texts meet
+pub apart_after_tag : (done us : List PlainUnit) (place : ℕ) (bytes : List ℕ) (tags : List OpenTag) (nodes : List PlainNode) (s : Stage) → Opens (filter is_content done) tags nodes → run tags nodes us ≡ Some s
+    → NoneBreaks Breaks (done ++ us) → CutsFrom place bytes us [] → NoTextsMeet (map kind_of (after_tag (filter is_content us)))
+apart_after_tag done [] place bytes tags nodes s o e lawful c = tt
+apart_after_tag done (u ∷ us) place bytes tags nodes s o e lawful c =
+    let one = then_some (step tags nodes u) (λ r. run r.tags r.nodes us) s e in
+    let next = opens_step done u tags nodes one.0 o one.1 in
+    let others = subst (λ (vs : List PlainUnit). NoneBreaks Breaks vs) (sym (append_assoc done (u ∷ []) us)) lawful in
+    let behind = place + length c.0 in
+    let some : 0 < behind = omega (arith, spelling_some place u c.0 c.3) in
+    let tagged = λ (t : is_tag u ≡ true). tagged_more done (u ∷ []) (inr (or_left (is_tag u) false t)) in
+    after_kind u.start u.end u.kind us
+    (λ t. subst (λ (vs : List PlainUnit). NoTextsMeet (map kind_of vs)) (sym (content_from (done ++ u ∷ []) us behind c.1 one.0.tags one.0.nodes s some (tagged t) next one.2 others c.5)) (cut_apart behind c.1 us c.5))
+    (apart_after_tag (done ++ u ∷ []) us behind c.1 one.0.tags one.0.nodes s next one.2 others c.5)
