@@ -1,5 +1,5 @@
 -- A document and its canonical text have one answer to what is asked of what they say.
-use Rattle.std.proofs.Common.{◌≡◌, ◌↔◌, true, ℕ, List, sym, ap, subst, ◌∙◌}
+use Rattle.std.proofs.Common.{◌≡◌, true, ℕ, List, sym, subst, ◌∙◌}
 use Rattle.tml_canon.specs.Canonical.{canonical_text}
 use Rattle.tml_canon.specs.Laws.{canonical_tree}
 use Rattle.tml_canon.proofs.CanonicalTrees.{canonical_is_read}
@@ -7,16 +7,24 @@ use Rattle.tml_canon.proofs.Saying.{canonical_says_the_same}
 use Rattle.tml_canon.proofs.Alike.{canonical_is_itself}
 use Rattle.tml_refs.specs.Documents.{PlainDocument}
 use Rattle.tml_tree.specs.Plain.{PlainNode}
+use Rattle.tml_tree.specs.Whole.{IsTreeOf}
+use Rattle.tml_tree.proofs.Paths.{one_tree_of_source}
 use Rattle.tml_tool.specs.declared.command.Question.TheVariants.{Check, Dates, Solve, Relations}
 use Rattle.tml_tool.specs.declared.status.Status.{Status}
 use Rattle.tml_tool.specs.declared.status.Status.TheVariants.{Done, DocFault, Clash, UnknownName}
-use Rattle.tml_tool.specs.Acceptance.{FirstFault, IsAccepted, Says}
+use Rattle.tml_tool.specs.Acceptance.{Accepted, FirstFault, IsAccepted, Says}
 use Rattle.tml_tool.specs.Alike.{CanonicalIsAlike, is_of_contents}
 use Rattle.tml_tool.specs.Asking.{OfAsked, OfRelation}
 use Rattle.tml_tool.specs.Queries.{OfDocument}
+use Rattle.tml_tool.specs.Rewriting.{TellsCanonical}
 use Rattle.tml_tool.specs.Questions.{HasFaultLine, OfQuestion}
 use Rattle.tml_tool.specs.Words.{QueryForm, by_relation, by_word}
 use Rattle.tml_tool.proofs.Phases.{accepted_or_fault, one_document}
+
+-- the canonical text of the tree of an accepted document is told
+pub tells_canonical : (doc text : List ℕ) (root : PlainNode) → Accepted doc → IsTreeOf doc root → text ≡ canonical_text root → TellsCanonical doc text
+tells_canonical doc text root (contents, (only, is)) tree written =
+    (root, contents, subst (λ (r : PlainNode). IsAccepted doc r contents) (one_tree_of_source doc only root is.1.0 tree) is, written)
 
 -- the canonical text of an accepted document is accepted, and says the same
 canonical_accepted : (doc : List ℕ) (root : PlainNode) (contents : PlainDocument) → IsAccepted doc root contents → IsAccepted (canonical_text root) (canonical_tree root) contents

@@ -1,5 +1,5 @@
 -- The canonical text of a document.
-use Rattle.std.specs.Prelude.{◌≡◌, ◌↔◌, Bool, true, false, ℕ, List}
+use Rattle.std.specs.Prelude.{◌≡◌, ℕ, List}
 use Rattle.tml_canon.specs.Canonical.{canonical_text}
 use Rattle.tml_refs.specs.Documents.{PlainDocument}
 use Rattle.tml_tool.specs.Acceptance.{IsAccepted}
