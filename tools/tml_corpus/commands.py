@@ -20,6 +20,7 @@ from .formats import Summary, make_format
 from .pool import Interruption, Progress, in_order, processors
 from .program import CannotRun, Program, find_program
 from .tags import MOST_NAMES, Names, Table, is_known, names_in
+from .timeline import draw, form_of, written
 
 Result = TypeVar("Result")
 INTERRUPTED = 130
@@ -72,9 +73,34 @@ def parser() -> argparse.ArgumentParser:
     for command in (check, tags, clashes):
         command.add_argument("paths", nargs="+", metavar="PATH", help="a file, or a folder to search")
         command.add_argument("--glob", action="append", metavar="PATTERN", help=f"names to look for in folders (default {' '.join(PATTERNS)})")
-        command.add_argument("--tml", metavar="PROGRAM", help="the program tml (default: that of this repository, else that on PATH)")
         command.add_argument("--jobs", type=int, default=processors(), metavar="N", help="how many files at once (default: one a processor)")
+    for command in (check, tags, clashes, timeline_words(commands)):
+        command.add_argument("--tml", metavar="PROGRAM", help="the program tml (default: that of this repository, else that on PATH)")
     return whole
+
+
+def timeline_words(commands: argparse._SubParsersAction[argparse.ArgumentParser]) -> argparse.ArgumentParser:
+    """The words of `timeline`, which is about one document."""
+    words = commands.add_parser(
+        "timeline",
+        help="draw the least timeline of a document",
+        description="Draws the least timeline of a document, once tml verify accepted it. Where links clash it says which ones, and where the "
+        "document has a fault it tells that; the status is 1 then, and no file is written.",
+        epilog="Example: tools/tml-corpus timeline samples/rates.xml -o rates.html",
+    )
+    words.add_argument("document", metavar="DOC", help="a file")
+    words.add_argument("-o", "--output", type=picture_name, required=True, metavar="FILE", help="the picture: FILE.svg, or FILE.html with the links of each row")
+    words.set_defaults(command=timeline_command)
+    return words
+
+
+def picture_name(text: str) -> str:
+    """A name for a picture."""
+    try:
+        form_of(text)
+    except ValueError as problem:
+        raise argparse.ArgumentTypeError(shown(str(problem))) from None
+    return text
 
 
 def search(options: argparse.Namespace) -> list[Found]:
@@ -163,3 +189,12 @@ def clashes_command(options: argparse.Namespace, stop: Interruption) -> int:
     each(options, stop, found, work, lambda one: ClashReport(one.path, problem=ENDED), tell)
     sys.stdout.write(summary.text(stop.happened.is_set()))
     return summary.status()
+
+
+def timeline_command(options: argparse.Namespace, stop: Interruption) -> int:
+    """`tml-corpus timeline`."""
+    told = draw(options.program, options.document, options.output, sys.stdout.isatty())
+    if told.picture is not None and not stop.happened.is_set():
+        written(options.output, told.picture)
+    sys.stdout.write(told.text)
+    return told.status

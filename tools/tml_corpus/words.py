@@ -3,6 +3,7 @@
 from __future__ import annotations
 
 import html
+from bisect import bisect_left
 from dataclasses import dataclass
 
 from .places import Place, Places
@@ -30,6 +31,7 @@ class Wording:
         self.document, self.places = document, Places(document)
         self.units = units_of(program, document) or []
         self.tags = {kind: self.tags_by(kind, key) for kind, key in (("EVENT", "eid"), ("MAKEINSTANCE", "eiid"), ("TIMEX3", "tid"))}
+        self.texts: dict[str, str] = {}
         self.intervals: list[str] = []
         self.links: list[Link] = []
         try:
@@ -55,20 +57,28 @@ class Wording:
             raise CannotRun("the answers of tml to `check` and `spans` do not belong together")
 
     def text_of(self, name: str) -> str:
-        """The text of the event or time that an interval is, or its name where it has none."""
-        tag = self.tags["TIMEX3"].get(name)
-        instance = self.tags["MAKEINSTANCE"].get(name)
-        if tag is None and instance is not None:
-            tag = self.tags["EVENT"].get(instance.value_of("eventID", self.document) or "")
-        text = self.inner_text(tag) if tag is not None else ""
+        """The text of the event or time that an interval is, cut where it is long, or its name where it has none."""
+        text = self.whole_text_of(name)
         return (text if len(text) <= LONGEST else text[: LONGEST - 3] + "...") or name
+
+    def whole_text_of(self, name: str) -> str:
+        """The text of the event or time that an interval is; it may be empty. It is looked for once."""
+        if name not in self.texts:
+            tag = self.tags["TIMEX3"].get(name)
+            instance = self.tags["MAKEINSTANCE"].get(name)
+            if tag is None and instance is not None:
+                tag = self.tags["EVENT"].get(instance.value_of("eventID", self.document) or "")
+            self.texts[name] = self.inner_text(tag) if tag is not None else ""
+        return self.texts[name]
 
     def inner_text(self, tag: Unit) -> str:
         """The text inside a tag, with single spaces; of an empty time its value."""
-        end = end_of(self.units, tag) if tag.kind == "start" else None
+        begin = bisect_left(self.units, tag.start, key=lambda unit: unit.start)
+        end = end_of(self.units[begin:], tag) if tag.kind == "start" else None
         if end is None:
             return html.unescape(tag.value_of("value", self.document) or "")
-        texts = (unit for unit in self.units if unit.kind == "text" and tag.end <= unit.start < end.start)
+        last = bisect_left(self.units, end.start, key=lambda unit: unit.start)
+        texts = (unit for unit in self.units[begin:last] if unit.kind == "text")
         raw = b"".join(self.document[unit.start : unit.end] for unit in texts)
         return " ".join(html.unescape(raw.decode("utf-8", "surrogateescape")).split())
 

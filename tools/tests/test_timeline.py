@@ -1,0 +1,290 @@
+"""`tml-corpus timeline`: rows in the order of starts, escaped texts, clashes and faults, and that only what is verified is drawn."""
+
+import html.parser
+import os
+import re
+import stat
+import subprocess
+import unittest
+import xml.etree.ElementTree as ElementTree
+
+from corpus import EVENT, INSTANCE, TML, TOP, CorpusTest, document
+
+SVG = "{http://www.w3.org/2000/svg}"
+XHTML = "{http://www.w3.org/1999/xhtml}"
+
+
+def event(number, text="x"):
+    """An event and its instance."""
+    return f'<EVENT eid="e{number}" class="STATE">{text}</EVENT><MAKEINSTANCE eiid="i{number}" eventID="e{number}"/>\n'
+
+
+def link(left, relation, right):
+    """A TLINK between two instances."""
+    return f'<TLINK eventInstanceID="i{left}" relatedToEventInstance="i{right}" relType="{relation}"/>\n'
+
+
+class Parsed(html.parser.HTMLParser):
+    """The tags of a page that are open, and the names of all that were opened."""
+
+    def __init__(self, text):
+        super().__init__()
+        self.open, self.names, self.wrong = [], [], []
+        self.feed(text)
+        self.close()
+
+    def handle_starttag(self, tag, attrs):
+        self.names.append(tag)
+        self.open.append(tag)
+
+    def handle_startendtag(self, tag, attrs):
+        self.names.append(tag)
+
+    def handle_endtag(self, tag):
+        if not self.open or self.open.pop() != tag:
+            self.wrong.append(tag)
+
+
+class TimelineTest(CorpusTest):
+    def drawn(self, content, name="d.svg"):
+        """The picture of a document, as text."""
+        self.write("d.xml", content)
+        status, lines, error = self.run_it("timeline", "d.xml", "-o", name)
+        self.assertEqual((status, error), (0, ""), lines)
+        self.assertRegex(lines[0], rf"^d\.xml: drawn in {re.escape(name)}: \d+ intervals?, \d+ links?, ranks 0 to \d+$")
+        with open(self.path(name), encoding="utf-8", newline="") as file:
+            return file.read()
+
+    def rows(self, picture):
+        """Of each row its kind, the text of its label, and the left and the right end of its bar, in the order of the file."""
+        root = ElementTree.fromstring(picture.encode())
+        rows = [group for group in root.iter(SVG + "g") if group.get("class", "").startswith("row ")]
+        found = []
+        for group in rows:
+            [bar] = [rect for rect in group.iter(SVG + "rect") if rect.get("class") == "bar"]
+            x, width = float(bar.get("x")), float(bar.get("width"))
+            found.append((group.get("class")[4:], "".join(group.find(SVG + "text").itertext()), x, x + width))
+        heights = [float(group.find(SVG + "text").get("y")) for group in rows]
+        self.assertEqual(heights, sorted(set(heights)))
+        return found
+
+    def titles(self, picture):
+        """What is told of each row."""
+        return [title.text for title in ElementTree.fromstring(picture.encode()).iter(SVG + "title")]
+
+    def fake(self, body):
+        """A program in the place of `tml`."""
+        self.write("fake", f"#!/bin/sh\n{body}\n")
+        os.chmod(self.path("fake"), stat.S_IRWXU)
+        return self.path("fake")
+
+    def refused(self, status, content, *words, tml=TML):
+        """What is told of a document that is not drawn; there is no file then, and nothing is left of one."""
+        self.write("d.xml", content)
+        told, lines, error = self.run_it("timeline", "d.xml", "-o", "d.svg", *words, tml=tml)
+        self.assertEqual((told, error), (status, ""), lines)
+        self.assertEqual([name for name in os.listdir(self.folder) if name not in ("d.xml", "fake")], [])
+        return lines
+
+
+class Rows(TimelineTest):
+    def mended(self):
+        with open(os.path.join(TOP, "samples", "port.xml"), encoding="utf-8") as file:
+            return "".join(line.replace("DURING", "AFTER") if 'lid="l6"' in line else line for line in file)
+
+    def test_the_mended_sample(self):
+        rows = self.rows(self.drawn(self.mended()))
+        names = "Monday (t1),warned (ei2),failed (ei1),walked (ei3),closed (ei4),called (ei7),waited (ei5),agreed (ei8),"
+        names += "Wednesday (t2),turned (ei6),reopened (ei9),Thursday (t0),said (ei10)"
+        self.assertEqual(",".join(text for _, text, _, _ in rows), names)
+        self.assertEqual([kind == "exact" for kind, _, _, _ in rows], ["(t" in text for _, text, _, _ in rows])
+        self.assertEqual([x for _, _, x, _ in rows], sorted(x for _, _, x, _ in rows))
+
+    def test_ends_are_those_of_the_ranks(self):
+        content = self.mended()
+        rows = {re.search(r"\((.*)\)$", text)[1]: (x, right) for _, text, x, right in self.rows(self.drawn(content))}
+        checked = subprocess.run([TML, "check", "d.xml"], cwd=self.folder, stdout=subprocess.PIPE, check=True).stdout.decode()
+        solved = subprocess.run([TML, "solve", "d.xml"], cwd=self.folder, stdout=subprocess.PIPE, check=True).stdout.decode()
+        ranks = [tuple(map(int, pair)) for pair in re.findall(r"^at (\d+) (\d+)$", solved, re.MULTILINE)]
+        intervals = re.findall(r"^interval \d+ (\S+)$", checked, re.MULTILINE)
+        self.assertEqual(len(rows), len(intervals))
+        places = {rank: place for name, pair in zip(intervals, ranks, strict=True) for rank, place in zip(pair, rows[name], strict=True)}
+        step = places[1] - places[0]
+        for name, (start, finish) in zip(intervals, ranks, strict=True):
+            self.assertEqual(rows[name], (places[0] + start * step, places[0] + finish * step), name)
+
+    def test_the_picture_of_the_sample_is_that_of_the_command(self):
+        self.write("mended.xml", self.mended())
+        self.assertEqual(self.run_it("timeline", "mended.xml", "-o", "port.svg")[0], 0)
+        with open(self.path("port.svg"), "rb") as made, open(os.path.join(TOP, "samples", "port.svg"), "rb") as kept:
+            content = kept.read()
+            self.assertEqual(made.read(), content)
+        self.assertLess(len(content), 20_000)
+
+    def test_links_are_told_in_the_words_of_the_text(self):
+        told = self.titles(self.drawn(self.mended()))[6].split("\n")
+        links = ["waited AFTER closed (link 5: ei5 AFTER ei4)", "turned IS_INCLUDED waited (link 6: ei6 IS_INCLUDED ei5)"]
+        self.assertEqual(told, ["waited (ei5): event, ranks 8 to 11", *links, "waited IBEFORE reopened (link 11: ei5 IBEFORE ei9)"])
+
+    def test_kinds_and_dates(self):
+        times = [
+            ("a", "DATE", "1998-01-08", "exact", "1998-01-08T00:00 – 1998-01-09T00:00"),
+            ("b", "TIME", "1998-01-08T18:30:05", "exact", "1998-01-08T18:30:05 – 1998-01-08T18:30:06"),
+            ("c", "DATE", "1998-01-XX", "within", "within 1998-01-01T00:00 – 1998-02-01T00:00"),
+            ("d", "DURATION", "P3D", "free", "no date"),
+        ]
+        picture = self.drawn(document("".join(f'<TIMEX3 tid="{name}" type="{kind}" value="{value}"/>\n' for name, kind, value, _, _ in times) + EVENT + INSTANCE))
+        kinds = {text: kind for kind, text, _, _ in self.rows(picture)}
+        self.assertEqual(kinds, {"x (i1)": "event", **{f"{value} ({name})": kind for name, _, value, kind, _ in times}})
+        shown = [text.text for text in ElementTree.fromstring(picture.encode()).iter(SVG + "text")]
+        for *_, civil in times:
+            self.assertIn(civil, shown)
+        self.assertIn("1998-01-08T00:00:00 to 1998-01-09T00:00:00", picture)
+
+    def test_what_ranks_mean_is_said(self):
+        root = ElementTree.fromstring(self.drawn(document(event(1))).encode())
+        said = " ".join(text.text for text in root.iter(SVG + "text") if text.text)
+        for words in ("ranks, which have no lengths", "as early as the links and dates allow", "at the same time as far as is known"):
+            self.assertIn(words, said)
+
+    def test_numbers_of_intervals(self):
+        for count in (0, 1, 2, 100, 512):
+            with self.subTest(count):
+                events = "".join(event(number) for number in range(count))
+                picture = self.drawn(document(events + "".join(link(number, "AFTER", number - 1) for number in range(1, count))))
+                self.assertEqual([text for _, text, _, _ in self.rows(picture)], [f"x (i{number})" for number in range(count)])
+                self.assertEqual("There is no interval" in picture, count == 0)
+                root = ElementTree.fromstring(picture.encode())
+                width = float(root.get("width"))
+                self.assertTrue(all(right <= width for _, _, _, right in self.rows(picture)))
+
+
+class Strangers(TimelineTest):
+    TEXTS = ("<b>&amp;", "\"q\" 'x' ]]>", "日本語", "Straße 𝄞", "</title></svg><script>x</script>", "&#0;&#xFFFF;", "\x01\u202ey", "")
+
+    def content(self):
+        escaped = [text.replace("&", "&amp;").replace("<", "&lt;") if "#" not in text else text for text in self.TEXTS]
+        links = "".join(link(number, "BEFORE", number + 1) for number in range(len(self.TEXTS) - 1))
+        return document("".join(event(number, text) for number, text in enumerate(escaped)) + links)
+
+    def test_texts_are_escaped(self):
+        picture = self.drawn(self.content())
+        texts = [text for _, text, _, _ in self.rows(picture)]
+        made = [*self.TEXTS[:5], "\ufffd", "\ufffdy"]
+        self.assertEqual(texts, [*(f"{text} (i{number})" for number, text in enumerate(made)), "i7"])
+        self.assertTrue(self.titles(picture)[0].startswith("<b>&amp; (i0): event, ranks 0 to 1\n<b>&amp; BEFORE \"q\" 'x' ]]> (link 0: "))
+
+    def test_pages_parse_and_load_nothing(self):
+        for content in (self.content(), document(""), document(event(1) + link(1, "IDENTITY", 1))):
+            page = self.drawn(content, "d.html")
+            root = ElementTree.fromstring(page.encode())
+            parsed = Parsed(page)
+            self.assertEqual((parsed.open, parsed.wrong), ([], []))
+            self.assertEqual(parsed.names.count("script"), 2)
+            self.assertEqual([tag.tag for tag in root], [XHTML + "head", XHTML + "body"])
+            self.assertEqual(len(list(root.iter(SVG + "svg"))), 1)
+            for name in ("src", "href"):
+                self.assertFalse([tag for tag in root.iter() if tag.get(name)])
+            self.assertIn("default-src 'none'", page)
+
+    def test_the_rows_that_a_page_marks_are_those_of_the_links(self):
+        links = link(3, "BEFORE", 1) + link(2, "AFTER", 1) + link(3, "IDENTITY", 3)
+        page = self.drawn(document(event(1) + event(2) + event(3) + links), "d.html")
+        [partners] = re.findall(r'<script type="application/json" id="partners">(.*?)</script>', page)
+        rows = [title.split(" ")[1] for title in self.titles(page)]
+        self.assertEqual((rows, partners), (["(i3):", "(i1):", "(i2):"], "[[1], [0, 2], [1]]"))
+
+    def test_long_texts_are_cut(self):
+        for text in ("word " * 50, "W" * 300, "日" * 300, "e\u0301" * 300):
+            with self.subTest(text[:9]):
+                picture = self.drawn(document(event(1, text) + event(2)))
+                label = next(label for _, label, _, _ in self.rows(picture) if "(i1)" in label)
+                self.assertRegex(label, r"^.{10,80}…\s\(i1\)$")
+                self.assertIn(" ".join(text.split()), self.titles(picture)[0])
+
+    def test_names_of_files(self):
+        name = 'a<&">é\udce9\n.xml'
+        self.write(name, document(event(1)))
+        status, lines, _ = self.run_it("timeline", name, "-o", "d.svg")
+        self.assertEqual((status, lines[0].split(": ")[0]), (0, 'a<&">é\\xe9\\x0a.xml'))
+        heading = ElementTree.parse(self.path("d.svg")).getroot().find(SVG + "text").text
+        self.assertEqual(heading, 'Timeline of a<&">é\ufffd .xml')
+
+
+class NotDrawn(TimelineTest):
+    def test_links_that_clash_are_told_as_clashes_tells_them(self):
+        with open(os.path.join(TOP, "samples", "plant.xml"), encoding="utf-8") as file:
+            lines = self.refused(1, file.read())
+        told = self.run_it("clashes", "d.xml")[1][:-1]
+        self.assertEqual(len(told), 3)
+        self.assertEqual(lines, [*told, "d.xml: not drawn: no timeline fits, since these links clash"])
+
+    def test_a_fault_is_told_as_check_tells_it(self):
+        lines = self.refused(1, document(EVENT + "<EVENT/>"))
+        self.assertEqual(lines, self.run_it("check", "d.xml")[1][:1])
+        self.assertTrue(lines[0].startswith("d.xml:2:40: error: 10 MissingAttribute: "), lines)
+
+    def test_only_what_verify_accepts_is_drawn(self):
+        content = document(event(1) + event(2) + link(1, "BEFORE", 2))
+        rows = [
+            ("s/^at 0 1$/at 2 3/", "tml verify did not accept the timeline of tml solve: evidence part 1 Link 0"),
+            ("s/^timeline 2$/timeline 1/", "tml verify did not accept the timeline of tml solve: evidence line 4"),
+            ("s/^timeline 2$/counter 1 BEFORE 0\\ntimeline 2/", "tml verify did not accept the timeline of tml solve: verified counter i2 BEFORE i1"),
+            ("s/^at 2 3$/at 4 5/", "the timeline that tml solve printed is not the least one"),
+            ("s/^at 2 3$/at 2 4294967295/", "the timeline that tml solve printed is not the least one"),
+        ]
+        for change, told in rows:
+            with self.subTest(change):
+                fake = self.fake(f'if [ $1 = solve ]; then {TML} "$@" | sed "{change}"; exit 0; fi\nexec {TML} "$@"')
+                self.assertEqual(self.refused(2, content, tml=fake), [f"d.xml: not judged: {told}"])
+
+    def test_verify_has_the_last_word(self):
+        for answer in ("echo verified clash 0", "echo verified timeline; exit 7", "printf 'verified timeline'", "true"):
+            with self.subTest(answer):
+                fake = self.fake(f'if [ $1 = verify ]; then {answer}; exit; fi\nexec {TML} "$@"')
+                [line] = self.refused(2, document(event(1)), tml=fake)
+                self.assertTrue(line.startswith("d.xml: not judged: tml verify did not accept the timeline of tml solve: "), line)
+
+    def test_answers_that_do_not_belong_together(self):
+        for answer in ("solve ] && echo fault 10 MissingAttribute 9 && exit 1", "solve ] && exit 2", "solve ] && exit 6", "dates ] && exit 0", "check ] && exit 0"):
+            with self.subTest(answer):
+                fake = self.fake(f'[ $1 = {answer}\nexec {TML} "$@"')
+                [line] = self.refused(2, document(event(1) + '<TIMEX3 tid="t" type="DATE"/>'), tml=fake)
+                self.assertTrue(line.startswith("d.xml: not judged: "), line)
+
+    def test_files_that_cannot_be_read_or_written(self):
+        self.write("d.xml", document(event(1)))
+        os.mkdir(self.path("dir.svg"))
+        os.link(self.path("d.xml"), self.path("same.svg"))
+        rows = [
+            (["gone.xml", "-o", "a.svg"], "gone.xml: not judged: no such file or directory"),
+            ([".", "-o", "a.svg"], ".: not judged: is not a regular file"),
+            (["d.xml", "-o", "same.svg"], "d.xml: not judged: the picture would be written over it"),
+            (["d.xml", "-o", "gone/a.svg"], "tml-corpus: gone/a.svg cannot be written: no such file or directory"),
+            (["d.xml", "-o", "dir.svg"], "tml-corpus: dir.svg cannot be written: is a directory"),
+            (["d.xml", "-o", "a.png"], "a.png ends neither in .svg nor in .html"),
+            (["d.xml"], "required: -o/--output"),
+        ]
+        for words, told in rows:
+            with self.subTest(words):
+                status, lines, error = self.run_it("timeline", *words)
+                self.assertEqual(status, 2)
+                self.assertIn(told, "\n".join(lines) + error)
+        self.assertEqual(sorted(os.listdir(self.folder)), ["d.xml", "dir.svg", "same.svg"])
+
+    def test_a_picture_that_is_there_stays_where_none_is_drawn(self):
+        self.write("d.svg", "old")
+        self.write("d.xml", document(event(1) + link(1, "BEFORE", 1)))
+        self.assertEqual(self.run_it("timeline", "d.xml", "-o", "d.svg")[0], 1)
+        with open(self.path("d.svg"), encoding="utf-8") as file:
+            self.assertEqual(file.read(), "old")
+        self.drawn(document(event(1)))
+
+    def test_help_has_an_example(self):
+        status, lines, _ = self.run_it("timeline", "--help")
+        self.assertEqual(status, 0)
+        self.assertIn("Example: tools/tml-corpus timeline samples/rates.xml -o rates.html", " ".join(lines))
+
+
+if __name__ == "__main__":
+    unittest.main()

@@ -1,0 +1,140 @@
+"""The least timeline of one document in rows: printed by `tml solve`, and accepted by `tml verify` before it is looked at."""
+
+from __future__ import annotations
+
+import os
+import re
+import secrets
+from dataclasses import dataclass
+
+from .check import judge_document, problem_of
+from .clashes import clash_of, kept
+from .files import CannotRead, counted, read_document, reason, shown
+from .formats import make_format
+from .page import page
+from .picture import svg
+from .program import ACCEPTED, CLASH, FAULT, CannotRun, Program, Reply
+from .rows import Row, Timeline
+from .units import room_for
+from .words import Wording
+
+FORMS = {".svg": svg, ".html": page, ".htm": page}
+"""How a timeline is drawn, by the end of the file's name."""
+
+
+@dataclass(frozen=True)
+class Told:
+    """What is printed of a document, its status, and the picture where there is one."""
+
+    text: str
+    status: int
+    picture: str | None = None
+
+
+def form_of(target: str) -> str:
+    """The end of a file's name that says how to draw; other ends are refused."""
+    end = os.path.splitext(target)[1].lower()
+    if end not in FORMS:
+        raise ValueError(f"{target} ends neither in .svg nor in .html")
+    return end
+
+
+def draw(program: Program, path: str, target: str, terminal: bool) -> Told:
+    """The picture of the timeline of one file, or why there is none."""
+    try:
+        document = read_document(path)
+        if os.path.exists(target) and os.path.samefile(path, target):
+            raise CannotRead("the picture would be written over it")
+        with room_for(document):
+            return draw_document(program, path, document, target, terminal)
+    except (CannotRead, CannotRun) as problem:
+        return Told(f"{shown(path)}: not judged: {shown(str(problem))}\n", 2)
+
+
+def draw_document(program: Program, path: str, document: bytes, target: str, terminal: bool) -> Told:
+    """The picture of a document in memory, or its fault, or the links that clash."""
+    reply = program.ask(["solve", "-"], document)
+    if reply.status == FAULT:
+        return fault_of(program, path, document, terminal)
+    if reply.status == CLASH:
+        return links_of(program, path, document)
+    if reply.status != ACCEPTED:
+        raise CannotRun(problem_of(reply) or "the answer of tml to `solve` cannot be read")
+    timeline = verified(program, path, document, reply)
+    told = f"{counted(len(timeline.rows), 'interval')}, {counted(timeline.links, 'link')}, ranks 0 to {timeline.greatest()}"
+    return Told(f"{shown(path)}: drawn in {shown(target)}: {told}\n", 0, FORMS[form_of(target)](timeline))
+
+
+def fault_of(program: Program, path: str, document: bytes, terminal: bool) -> Told:
+    """The fault of a document, as `tml-corpus check` tells it."""
+    judgement = judge_document(program, path, document, terminal, 0)
+    if judgement.accepted():
+        raise CannotRun("the answers of tml to `solve` and `check` do not belong together")
+    return Told(make_format("text", terminal).file(judgement), 2 if judgement.problem else 1)
+
+
+def links_of(program: Program, path: str, document: bytes) -> Told:
+    """The links that clash, as `tml-corpus clashes` tells them."""
+    report = clash_of(program, path, document, None)
+    if not report.links:
+        raise CannotRun(report.problem or "two answers of tml to `solve` do not belong together")
+    return Told(f"{report.text()}{shown(path)}: not drawn: no timeline fits, since these links clash\n", 1)
+
+
+def verified(program: Program, path: str, document: bytes, reply: Reply) -> Timeline:
+    """The rows of what `tml solve` printed, once `tml verify` said that it is a timeline of the document."""
+    with kept(path, reply.text, None) as evidence:
+        judged = program.ask(["verify", "-", "./" + os.path.basename(evidence)], document, os.path.dirname(evidence))
+    if judged.status != ACCEPTED or judged.text != b"verified timeline\n":
+        said = judged.text.decode("utf-8", "replace").strip()
+        raise CannotRun(f"tml verify did not accept the timeline of tml solve: {said}")
+    found = re.fullmatch(rb"tml-evidence 1\ntimeline \d+\n((?:at \d+ \d+\n)*)end\n", reply.text)
+    if found is None:
+        raise CannotRun("the answer of tml to `solve` cannot be read")
+    ranks = [(int(line[1]), int(line[2])) for line in map(bytes.split, found[1].splitlines())]
+    # Each rank of a least timeline is forced by a point at the rank before it, so none is left out.
+    points = {point for pair in ranks for point in pair}
+    if points and len(points) != max(points) + 1:
+        raise CannotRun("the timeline that tml solve printed is not the least one")
+    return in_rows(os.path.basename(path), Wording(program, document), ranks)
+
+
+def in_rows(title: str, wording: Wording, ranks: list[tuple[int, int]]) -> Timeline:
+    """The intervals in the order of their starts; of those that start together the ones that end later come first."""
+    if len(ranks) != len(wording.intervals):
+        raise CannotRun("the answers of tml to `check` and `solve` do not belong together")
+    order = sorted(range(len(ranks)), key=lambda number: (ranks[number][0], -ranks[number][1], number))
+    rows = [row_of(wording, number, ranks[number]) for number in order]
+    places = {row.name: place for place, row in enumerate(rows)}
+    for link in wording.links:
+        left, right = places[link.left], places[link.right]
+        words = wording.in_words(link)
+        for place, other in {left: right, right: left}.items():
+            rows[place].links.append(words)
+            rows[place].partners.append(other)
+    return Timeline(title, rows, len(wording.links))
+
+
+def row_of(wording: Wording, number: int, ranks: tuple[int, int]) -> Row:
+    """The row of one interval, without its links."""
+    name = wording.intervals[number]
+    date = wording.dates.get(name)
+    if date is None and name in wording.tags["TIMEX3"]:
+        raise CannotRun("the answers of tml to `check` and `dates` do not belong together")
+    kind, *numbers = date or ["event"]
+    if date and (kind, len(numbers)) not in (("exact", 4), ("within", 4), ("free", 0)):
+        raise CannotRun("the answer of tml to `dates` cannot be read")
+    return Row(name, wording.whole_text_of(name), kind, *ranks, civil=tuple(numbers[2:]))
+
+
+def written(target: str, text: str) -> None:
+    """Writes a picture: under another name first, so that no file is left half written."""
+    temporary = os.path.join(os.path.dirname(os.path.abspath(target)), f".tml-{secrets.token_hex(8)}")
+    try:
+        with open(temporary, "x", encoding="utf-8", newline="\n") as file:
+            file.write(text)
+        os.replace(temporary, target)
+    except (OSError, ValueError) as error:
+        if os.path.lexists(temporary):
+            os.unlink(temporary)
+        raise CannotRun(f"{target} cannot be written: {reason(error)}") from None
