@@ -85,7 +85,12 @@ fn rows_are_lent_as_words(rt: HostRuntime) -> Result<(), Fail> {
     assert!(&rt; table.points() == 3);
     assert_eq!(&rt; table.weak_row(0), [1].as_slice());
     assert_eq!(&rt; table.strict_row(0), [0].as_slice());
-    assert!(&rt; table.add(atom(0, 2, true)).is_ok());
+    let strictly_before = Atom {
+        from: 0,
+        to: 2,
+        strict: true,
+    };
+    assert!(&rt; table.add(strictly_before).is_ok());
     assert!(&rt; table.points() == 3);
     assert_eq!(&rt; table.weak_row(0), [5].as_slice());
     assert_eq!(&rt; table.strict_row(0), [4].as_slice());
@@ -108,6 +113,8 @@ fn a_table_of_no_points_is_made_and_copied(rt: HostRuntime) -> Result<(), Fail> 
 const POINTS: u32 = 130;
 
 const SIZE: usize = 130;
+
+const CELLS: usize = 16900;
 
 /// What both cells say together.
 fn stronger(one: Cell, other: Cell) -> Cell {
@@ -150,7 +157,7 @@ fn add_plainly(cells: &mut [Cell], atom: Atom) -> Result<(), WouldClash>
 /// The cells of a new table.
 fn new_plainly(rt: &HostRuntime) -> Result<Vec<Cell>, AllocError> {
     let mut cells = Vec::new(rt.alloc());
-    for k in 0..SIZE * SIZE {
+    for k in 0..CELLS {
         cells.push(if k / SIZE == k % SIZE { W } else { F })?;
     }
     Ok(cells)
@@ -185,8 +192,13 @@ fn drawn_atoms_clash_and_leave_cells_as_counted(rt: HostRuntime) -> Result<(), F
         let from = drawn(x);
         let to = drawn(from);
         x = drawn(to);
-        let atom = atom(from % POINTS, to % POINTS, x % 2 == 1);
-        assert!(&rt; table.points() == POINTS && plain.len() == SIZE * SIZE);
+        let atom = Atom {
+            from: from % POINTS,
+            to: to % POINTS,
+            strict: x % 2 == 1,
+        };
+        assert!(&rt; table.points() == POINTS);
+        assert!(&rt; plain.len() == CELLS);
         let answer = table.add(atom);
         assert_eq!(&rt; answer, add_plainly(&mut plain, atom));
         if answer.is_err() {
