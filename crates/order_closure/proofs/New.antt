@@ -79,6 +79,7 @@ module _ (n w : ℕ) (weak strict : List ℕ) (reflexive : (i j : ℕ) → i < n
 
   -- its planes
   pub new_planes : n ≤ 2048 → w ≡ (n + 63) / 64 → length weak ≡ n * w → length strict ≡ n * w → AreClosedPlanes n w weak strict
+  unfolding AreClosedPlanes
   new_planes small wide weak_long strict_long = record {
     planes = record {
       small = small;

@@ -28,10 +28,9 @@ pub record ArePlanes (n w : ℕ) (weak strict : List ℕ) : Type 0 where
   pub both : (i j : ℕ) → i < n → j < 64 * w → plane_bit w strict i j ≤ plane_bit w weak i j
   pub tail : (i j : ℕ) → i < n → n ≤ j → j < 64 * w → plane_bit w weak i j ≡ 0
 
--- planes whose cells are closed
-pub record AreClosedPlanes (n w : ℕ) (weak strict : List ℕ) : Type 0 where
-  pub planes : ArePlanes n w weak strict
-  pub closed : AreClosed n (plane_cell w weak strict)
+-- planes whose cells are closed; what this says is not seen where it is not needed
+unfoldable pub AreClosedPlanes : ℕ → ℕ → List ℕ → List ℕ → Type 0
+AreClosedPlanes n w weak strict = record { planes : ArePlanes n w weak strict; closed : AreClosed n (plane_cell w weak strict) }
 
 -- row i is joined, bit by bit, with row `to` of a plane, and the other rows are as they were
 pub record IsRowJoined (w i to : ℕ) (over old new : List ℕ) : Type 0 where

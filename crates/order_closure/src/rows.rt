@@ -1,6 +1,7 @@
 //! The rows of a table, joined with one of them.
 ghost use Rattle.order_closure.specs.Cells.{joined, strength, stronger};
-ghost use Rattle.order_closure.specs.Planes.{AreClosedPlanes, ArePlanes, IsRowJoined, plane_bit, plane_cell};
+ghost use Rattle.order_closure.specs.Planes.{ArePlanes, IsRowJoined, plane_bit, plane_cell};
+ghost use Rattle.order_closure.specs.Tables.{AreClosed};
 ghost use Rattle.std.specs.Prelude.{IsTrue, bit_or, length, slice_index, ℕ, ◌*◌, ◌+◌, ◌/◌, ◌<◌, ◌↔◌, ◌≡◌, ◌≢◌, ◌≤◌};
 
 use crate::Cell;
@@ -18,7 +19,8 @@ pub fn raise(
     to: usize,
     order: Cell,
 )
-    requires planes { AreClosedPlanes size width weak.old strict.old }
+    requires planes { ArePlanes size width weak.old strict.old }
+    requires closed { AreClosed size (plane_cell width weak.old strict.old) }
     requires from { from < size }
     requires to { to < size }
     // The atom is not denied.

@@ -39,6 +39,7 @@ impl Model for Closed {
     ghost invariant = { λ a. AreClosedPlanes a.size a.width a.weak.items a.strict.items };
 }
 
+#[tactic(auto, unfolding(crate::specs::Planes::AreClosedPlanes))]
 impl Closed {
     /// A table in which nothing is known but that each point is with itself.
     ///

@@ -18,7 +18,7 @@ loop-i-preserved c =
     let way = c.joined-way.result in
     let li : i < n = omega arith in
     let is = c.joined-way.ensures ∙ (λ k. joined (c.cell_at.ensures k) order) in
-    let can : CanBeRaised n cell from to order = record { closed = c.requires.planes.closed; has_from = c.requires.from; has_to = c.requires.to; fits = c.requires.fits } in
+    let can : CanBeRaised n cell from to order = record { closed = c.requires.closed; has_from = c.requires.from; has_to = c.requires.to; fits = c.requires.fits } in
     elim c.if-says_more.branch [
       | then-says_more t ↦ record {
         planes = rw (t.weak-is, t.strict-is) t.raise_row.ensures.planes;

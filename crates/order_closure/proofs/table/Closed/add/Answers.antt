@@ -19,6 +19,7 @@ abbrev cell : Else-denies → ℕ → ℕ → Cell
 cell c = plane_cell c.self.inside.width c.self.inside.weak.items c.self.inside.strict.items
 
 closed : (c : Else-denies) → IsClosed c.args.self.now
+unfolding AreClosedPlanes
 closed c = table_closed c.self.inside.size (cell c) c.args.self.now c.self.view_is c.self.invariant.closed
 
 -- the table does not deny the atom, and neither do the planes
@@ -66,6 +67,7 @@ module _ (c : After-raise) (fit : ¬ Denies (plane_cell c.self.inside.width c.se
   strict_items = let same : length strict ≡ c.self.inside.strict.len = omega (arith, c.deref_mut-2.ensures.len, c.self.inside.strict.ok.0) in with_items_is c.self.inside.strict strict same
 
   planes : AreClosedPlanes n w (with_items c.self.inside.weak weak).items (with_items c.self.inside.strict strict).items
+  unfolding AreClosedPlanes
   planes = rw (weak_items, strict_items) (record {
     planes = c.raise.ensures.planes;
     closed = raised_closed n old c.args.atom c.self.invariant.closed from to fit (plane_cell w weak strict) raised;

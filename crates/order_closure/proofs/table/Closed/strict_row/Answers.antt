@@ -1,11 +1,13 @@
 use Rattle.std.proofs.Common.{◌≡◌, ℕ, ◌<◌, ◌+◌, ◌*◌, ◌∙◌, List, get_or, ap, subst, sym}
 use Rattle.order_closure.specs.declared.cell.Cell.TheVariants.{Strict}
 use Rattle.order_closure.specs.Bits.{AreBitsOf}
+use Rattle.order_closure.specs.Planes.{AreClosedPlanes}
 use Rattle.order_closure.specs.Tables.{Table, cell_at}
 use Rattle.order_closure.proofs.Lending.{strict_lent}
 use Rattle.order_closure.proofs.table.Closed.strict_row.Goals as goal
 
 pub returns : goal.returns
+unfolding AreClosedPlanes
 returns c =
     let inside = c.self.inside in
     let w = inside.width in
