@@ -9,7 +9,6 @@ use Rattle.net_core.specs.declared.atom.Atom.{Atom}
 use Rattle.order_closure.specs.declared.cell.Cell.{Cell}
 use Rattle.order_closure.specs.declared.cell.Cell.TheVariants.{Free, Weak, Strict}
 use Rattle.order_closure.specs.Cells.{Says, order, stronger, joined}
-use Rattle.order_closure.specs.Flat.{flat_at}
 use Rattle.order_closure.specs.Tables.{Table, table_of, cell_at, new_cell, AreClosed, IsClosed, AreInRange, Stands, Denies, way, AreKept, Keeps}
 use Rattle.order_closure.proofs.Raising.{raised_closed, raised_kept}
 use Rattle.order_closure.proofs.Tables.{cell_at-table_of, table_of-same, table_of-closed, new_same, new_other}
@@ -34,12 +33,12 @@ module _ (table : Table) (atom : Atom) (closed : IsClosed table) (f : atom.from 
       stands_from_matches new (atoms ++ atom ∷ []) (raised_closed table.points (cell_at table) atom closed f t fits (cell_at new) added_at)
       (more_atoms table new atoms atom added_kept (matches_from_stands table atoms inside stands))
 
--- the table of the raised cells of a flat table
-pub added_table : (n : ℕ) (old : List Cell) (atom : Atom) (cell : ℕ → ℕ → Cell) (table : Table) → table_of n (flat_at n old) ≡ table → atom.from < n → atom.to < n
-    → ((i j : ℕ) → i < n → j < n → cell i j ≡ stronger (flat_at n old i j) (way (flat_at n old) atom i j)) → table_of n cell ≡ table_of table.points (added_cell table atom)
-added_table n old atom cell table e f t is = subst (λ (u : Table). table_of n cell ≡ table_of u.points (added_cell u atom)) e
-    (let at = λ (i j : ℕ) (li : i < n) (lj : j < n). sym (cell_at-table_of n (flat_at n old) i j li lj) in
-    table_of-same n cell (added_cell (table_of n (flat_at n old)) atom) (λ i j li lj. is i j li lj
+-- the table of the raised cells of a function
+pub added_table : (n : ℕ) (cell : ℕ → ℕ → Cell) (atom : Atom) (new : ℕ → ℕ → Cell) (table : Table) → table_of n cell ≡ table → atom.from < n → atom.to < n
+    → ((i j : ℕ) → i < n → j < n → new i j ≡ stronger (cell i j) (way cell atom i j)) → table_of n new ≡ table_of table.points (added_cell table atom)
+added_table n cell atom new table e f t is = subst (λ (u : Table). table_of n new ≡ table_of u.points (added_cell u atom)) e
+    (let at = λ (i j : ℕ) (li : i < n) (lj : j < n). sym (cell_at-table_of n cell i j li lj) in
+    table_of-same n new (added_cell (table_of n cell) atom) (λ i j li lj. is i j li lj
     ∙ (λ k. stronger (at i j li lj k) (joined (joined (at i atom.from li f k) (order atom.strict)) (at atom.to j t lj k)))))
 
 -- a test that said no
@@ -58,9 +57,11 @@ denied Free strict a b d h k = d
 pub atom_denied : (table : Table) (atom : Atom) → atom.from < table.points → atom.to < table.points → Denies (cell_at table atom.to atom.from) atom.strict → (t : Timeline) → Keeps table t → ¬ Satisfies t atom
 atom_denied table atom f to d t kept s = denied (cell_at table atom.to atom.from) atom.strict _ _ d (kept atom.to atom.from to f) s
 
+-- a new table is closed
 pub new_closed : (n : ℕ) → AreClosed n new_cell
 new_closed n = record { itself = λ i li. new_same i; through = λ i j k li lj lk. grind (arith, nat_tests) }
 
+-- every timeline keeps its cells
 new_kept : (n : ℕ) (t : Timeline) → AreKept n new_cell t
 new_kept n t i j li lj = elim (cases_eq i j) [
   | inl e ↦ subst (λ (m : ℕ). Says (new_cell i m) (t i) (t m)) e (rw new_same (omega arith))

@@ -5,5 +5,8 @@ pub mod Ranking
 pub mod Central
 pub mod Tables
 pub mod Kept
-pub mod Parts
+pub mod Bits
+pub mod Joined
+pub mod Lending
 pub mod Adding
+pub mod New

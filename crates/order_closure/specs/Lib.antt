@@ -2,4 +2,5 @@ pub mod Cells
 pub mod Tables
 pub mod Counting
 pub mod Timelines
-pub mod Flat
+pub mod Bits
+pub mod Planes

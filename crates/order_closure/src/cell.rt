@@ -1,7 +1,7 @@
 //! What is known of the order of two points.
 ghost use Rattle.order_closure.specs.Cells as spec;
 ghost use Rattle.order_closure.specs.Tables.{Denies};
-ghost use Rattle.std.specs.Prelude.{IsTrue, ◌<◌, ◌≤◌, ◌≡◌, ◌↔◌};
+ghost use Rattle.std.specs.Prelude.{IsTrue, ◌≤◌, ◌≡◌, ◌↔◌};
 
 /// What is known of the order of a point and another one.
 #[derive(Clone, Copy, Debug, PartialEq, Eq)]
@@ -22,17 +22,6 @@ impl Cell {
         if strict { Cell::Strict } else { Cell::Weak }
     }
 
-    /// What both say together.
-    pub(crate) fn stronger(self, other: Cell) -> Cell
-        ensures { result ≡ spec.stronger self other }
-    {
-        match (self, other) {
-            (Cell::Strict, _) | (_, Cell::Strict) => Cell::Strict,
-            (Cell::Weak, _) | (_, Cell::Weak) => Cell::Weak,
-            (Cell::Free, Cell::Free) => Cell::Free,
-        }
-    }
-
     /// What follows from this order and the next.
     pub(crate) fn joined(self, next: Cell) -> Cell
         ensures { result ≡ spec.joined self next }
@@ -41,17 +30,6 @@ impl Cell {
             (Cell::Free, _) | (_, Cell::Free) => Cell::Free,
             (Cell::Weak, Cell::Weak) => Cell::Weak,
             (Cell::Strict, _) | (_, Cell::Strict) => Cell::Strict,
-        }
-    }
-
-    /// Whether the other cell says more.
-    pub(crate) fn says_less(self, other: Cell) -> bool
-        ensures { IsTrue result ↔ (spec.strength self < spec.strength other) }
-    {
-        match self {
-            Cell::Free => other != Cell::Free,
-            Cell::Weak => other == Cell::Strict,
-            Cell::Strict => false,
         }
     }
 

@@ -3,6 +3,7 @@
 
 mod cell;
 mod laws;
+mod planes;
 mod rows;
 mod table;
 #[cfg(test)]

@@ -1,12 +1,14 @@
 //! A table of orders, closed under what follows.
 ghost use Rattle.net_core.specs.Atoms.{Satisfies};
 ghost use Rattle.net_core.specs.Relations.{Timeline};
+ghost use Rattle.order_closure.specs.Bits.{AreBitsOf};
 ghost use Rattle.order_closure.specs.Cells.{stronger};
 ghost use Rattle.order_closure.specs.Tables.{AreInRange, Denies, IsClosed, Keeps, Stands, cell_at, new_cell, table_of, way};
-ghost use Rattle.std.specs.Prelude.{IfOk, IsErr, List, OnErr, OnOk, [], ◌++◌, ◌<◌, ◌∷◌, ◌↔◌, ◌≡◌, ◌≤◌};
+ghost use Rattle.std.specs.Prelude.{IfOk, IsErr, List, OnErr, OnOk, [], ◌++◌, ◌<◌, ◌∷◌, ◌↔◌, ◌≡◌, ◌≢◌, ◌≤◌};
 
 use crate::Cell;
-use crate::rows::{raise, reflect};
+use crate::planes::{cell_at, clear, reflect, row};
+use crate::rows::raise;
 use net_core::{Atom, Memory};
 use std::alloc::Global;
 use std::marker::Model;
@@ -16,24 +18,28 @@ use std::marker::Model;
 pub struct WouldClash;
 
 /// What is known of the order of each two of some points. It is closed: each point is with itself, and what follows from
-/// two cells stands in a third.
+/// two cells stands in a third. It is kept as two planes of bits, whose rows have `width` words: in the one, bit j of row i
+/// is set where cell (i, j) is Weak or Strict, in the other where it is Strict.
 #[derive(Drop)]
 pub struct Closed {
     size: usize,
-    cells: Vec<Cell>,
+    width: usize,
+    weak: Vec<u64>,
+    strict: Vec<u64>,
 }
 
 impl Model for Closed {
-    ghost use Rattle.order_closure.specs.Flat.{flat_at, IsSquare};
+    ghost use Rattle.order_closure.specs.Planes.{AreClosedPlanes, plane_cell};
     ghost use Rattle.order_closure.specs.Tables.{Table, table_of};
 
     ghost Value = { Table };
 
-    ghost view = { λ a. table_of a.size (flat_at a.size a.cells.items) };
+    ghost view = { λ a. table_of a.size (plane_cell a.width a.weak.items a.strict.items) };
 
-    ghost invariant = { λ a. IsSquare a.size a.cells.items };
+    ghost invariant = { λ a. AreClosedPlanes a.size a.width a.weak.items a.strict.items };
 }
 
+#[tactic(auto, unfolding(crate::specs::Planes::AreClosedPlanes))]
 impl Closed {
     /// A table in which nothing is known but that each point is with itself.
     ///
@@ -47,11 +53,16 @@ impl Closed {
         ensures stands { IfOk result (λ table. Stands table []) }
     {
         let size = points as usize;
-        let Ok(mut cells) = vec![in alloc; Cell::Free; size * size] else {
-            return Err(Memory);
-        };
-        reflect(&mut cells, size);
-        Ok(Closed { size, cells })
+        let width = size.div_ceil(64);
+        let mut weak = clear(alloc, size * width)?;
+        let strict = clear(alloc, size * width)?;
+        reflect(&mut weak, size, width);
+        Ok(Closed {
+            size,
+            width,
+            weak,
+            strict,
+        })
     }
 
     /// How many points there are, at most 2,048.
@@ -69,7 +80,23 @@ impl Closed {
         requires j { j < self.now.points }
         ensures { result ≡ cell_at self.now i j }
     {
-        self.cells[i as usize * self.size + j as usize]
+        cell_at(&self.weak, &self.strict, self.width, i as usize, j as usize)
+    }
+
+    /// The points that point `i` is before or with, as bits. It takes no memory.
+    pub fn weak_row(&self, i: u32) -> &[u64]
+        requires { i < self.now.points }
+        ensures { AreBitsOf self.now.points (λ j. cell_at self.now i j ≢ Cell.Free) result.now }
+    {
+        row(&self.weak, self.width, i as usize)
+    }
+
+    /// The points that point `i` is before, as bits. It takes no memory.
+    pub fn strict_row(&self, i: u32) -> &[u64]
+        requires { i < self.now.points }
+        ensures { AreBitsOf self.now.points (λ j. cell_at self.now i j ≡ Cell.Strict) result.now }
+    {
+        row(&self.strict, self.width, i as usize)
     }
 
     /// The same table once more.
@@ -80,12 +107,17 @@ impl Closed {
     pub fn copy(&self, alloc: Global) -> Result<Closed, Memory>
         ensures { IfOk result (λ table. table ≡ self.now) }
     {
-        let Ok(cells) = Vec::from_slice(alloc, &self.cells) else {
+        let Ok(weak) = Vec::from_slice(alloc, &self.weak) else {
+            return Err(Memory);
+        };
+        let Ok(strict) = Vec::from_slice(alloc, &self.strict) else {
             return Err(Memory);
         };
         Ok(Closed {
             size: self.size,
-            cells,
+            width: self.width,
+            weak,
+            strict,
         })
     }
 
@@ -115,8 +147,10 @@ impl Closed {
             return Err(WouldClash);
         }
         raise(
-            &mut self.cells,
+            &mut self.weak,
+            &mut self.strict,
             self.size,
+            self.width,
             atom.from as usize,
             atom.to as usize,
             Cell::order(atom.strict),

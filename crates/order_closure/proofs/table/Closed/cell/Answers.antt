@@ -1,17 +1,11 @@
-use Rattle.std.proofs.Common.{sym, subst, ◌∙◌, ◌<◌, ◌+◌, ◌*◌, arith}
-use Rattle.std.proofs.lemmas.List.{get_or_default}
-use Rattle.std.proofs.lemmas.Nat.{mul-add-lt}
-use Rattle.order_closure.specs.declared.cell.Cell.TheVariants.{Free}
-use Rattle.order_closure.specs.Tables.{Table}
-use Rattle.order_closure.proofs.Tables.{flat_cell}
+use Rattle.std.proofs.Common.{◌∙◌}
+use Rattle.order_closure.specs.Planes.{plane_cell}
+use Rattle.order_closure.proofs.Tables.{cell_of_table}
 use Rattle.order_closure.proofs.table.Closed.cell.Goals as goal
 
 pub returns : goal.returns
 returns c =
-    let i = c.args.i in
-    let j = c.args.j in
-    let n = c.self.inside.size in
-    let li : i < n = subst (λ (t : Table). i < t.points) (sym c.self.view_is) c.requires.i in
-    let lj : j < n = subst (λ (t : Table). j < t.points) (sym c.self.view_is) c.requires.j in
-    let flat = get_or_default c.self.inside.cells.items (i * n + j) c.index.result.now Free (let e = c.self.invariant.square in let lt = mul-add-lt i n j n li lj in omega arith) in
-    c.index.ensures ∙ flat ∙ flat_cell n c.self.inside.cells.items c.args.self.now c.self.view_is i j c.requires.i c.requires.j
+    let inside = c.self.inside in
+    c.cell_at.ensures
+    ∙ (λ k. plane_cell inside.width (c.deref.ensures.value k) (c.deref-2.ensures.value k) c.args.i c.args.j)
+    ∙ cell_of_table inside.size (plane_cell inside.width inside.weak.items inside.strict.items) c.args.self.now c.self.view_is c.args.i c.args.j c.requires.i c.requires.j

@@ -1,0 +1,73 @@
+//! A plane of bits: rows of as many words of 64 bits each, one after another.
+ghost use Rattle.order_closure.specs.Planes.{plane_bit, plane_cell};
+ghost use Rattle.std.specs.Prelude.{IfOk, if◌then◌else◌, length, slice_index, vec_len, ℕ, ◌*◌, ◌+◌, ◌/◌, ◌<◌, ◌==◌, ◌≡◌, ◌≤◌};
+
+use crate::Cell;
+use net_core::Memory;
+use std::alloc::Global;
+
+/// A plane of so many words, in which no bit is set.
+///
+/// # Errors
+///
+/// Out of memory.
+pub fn clear(alloc: Global, words: usize) -> Result<Vec<u64>, Memory>
+    ensures long { IfOk result (λ plane. vec_len plane ≡ words) }
+    ensures clear { IfOk result (λ plane. (k : ℕ) → slice_index plane.items k ≡ 0) }
+{
+    let Ok(plane) = vec![in alloc; 0; words] else {
+        return Err(Memory);
+    };
+    Ok(plane)
+}
+
+/// Puts each point with itself.
+pub fn reflect(plane: &mut [u64], size: usize, width: usize)
+    requires small { size ≤ 2048 }
+    requires words { width ≡ (size + 63) / 64 }
+    requires long { length plane.old ≡ size * width }
+    requires clear { (k : ℕ) → slice_index plane.old k ≡ 0 }
+    ensures { (i j : ℕ) → i < size → j < 64 * width → plane_bit width plane.new i j ≡ (if i == j then 1 else 0) }
+{
+    for i in 0..size {
+        plane[i * width + i / 64] = 1 << (i % 64);
+    }
+}
+
+/// The words of row `i`.
+pub fn row(plane: &[u64], width: usize, i: usize) -> &[u64]
+    requires words { width ≤ 32 }
+    requires i { i ≤ 2048 }
+    requires within { i * width + width ≤ length plane.now }
+    ensures length { length result.now ≡ width }
+    ensures words { (k : ℕ) → k < width → slice_index result.now k ≡ slice_index plane.now (i * width + k) }
+{
+    &plane[i * width..(i + 1) * width]
+}
+
+/// Whether bit `j` of row `i` is set.
+pub fn has_bit(plane: &[u64], width: usize, i: usize, j: usize) -> bool
+    requires words { width ≤ 32 }
+    requires i { i ≤ 2048 }
+    requires within { i * width + j / 64 < length plane.now }
+    ensures { result ≡ (plane_bit width plane.now i j == 1) }
+{
+    (plane[i * width + j / 64] >> (j % 64)) & 1 == 1
+}
+
+/// What two planes say of point `i` and point `j`.
+pub fn cell_at(weak: &[u64], strict: &[u64], width: usize, i: usize, j: usize) -> Cell
+    requires words { width ≤ 32 }
+    requires i { i ≤ 2048 }
+    requires weak { i * width + j / 64 < length weak.now }
+    requires strict { i * width + j / 64 < length strict.now }
+    ensures { result ≡ plane_cell width weak.now strict.now i j }
+{
+    if !has_bit(weak, width, i, j) {
+        Cell::Free
+    } else if has_bit(strict, width, i, j) {
+        Cell::Strict
+    } else {
+        Cell::Weak
+    }
+}
