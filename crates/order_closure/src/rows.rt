@@ -113,11 +113,11 @@ fn join_rows(plane: &mut [u64], width: usize, i: usize, to: usize)
     ensures { IsRowJoined width i to plane.old plane.old plane.new }
 {
     if i < to {
-        let (front, back) = plane.split_at_mut(to * width);
-        join(&mut front[i * width..(i + 1) * width], &back[..width]);
+        let (prefix, suffix) = plane.split_at_mut(to * width);
+        join(&mut prefix[i * width..(i + 1) * width], &suffix[..width]);
     } else {
-        let (front, back) = plane.split_at_mut(i * width);
-        join(&mut back[..width], row(front, width, to));
+        let (prefix, suffix) = plane.split_at_mut(i * width);
+        join(&mut suffix[..width], row(prefix, width, to));
     }
 }
 
