@@ -7,6 +7,7 @@ pub mod Tables
 pub mod Kept
 pub mod Bits
 pub mod Joined
+pub mod RaisedRow
 pub mod Lending
 pub mod Adding
 pub mod New

@@ -1,6 +1,7 @@
 -- Two planes of bits stand for the cells of a table.
 use Rattle.std.specs.Prelude.{◌≡◌, ◌≢◌, ℕ, ◌+◌, ◌*◌, ◌/◌, ◌%◌, ◌<◌, ◌≤◌, ◌==◌, Bool, true, false, List, length, max, slice_index}
 use Rattle.std.specs.Int.{bit_at}
+use Rattle.order_closure.specs.Bits.{bit_of}
 use Rattle.order_closure.specs.Tables.{AreClosed}
 use Rattle.order_closure.specs.declared.cell.Cell.{Cell}
 use Rattle.order_closure.specs.declared.cell.Cell.TheVariants.{Free, Weak, Strict}
@@ -32,7 +33,11 @@ pub record ArePlanes (n w : ℕ) (weak strict : List ℕ) : Type 0 where
 unfoldable pub AreClosedPlanes : ℕ → ℕ → List ℕ → List ℕ → Type 0
 AreClosedPlanes n w weak strict = record { planes : ArePlanes n w weak strict; closed : AreClosed n (plane_cell w weak strict) }
 
--- row i is joined, bit by bit, with row `to` of a plane, and the other rows are as they were
-pub record IsRowJoined (w i to : ℕ) (over old new : List ℕ) : Type 0 where
-  pub joined : (j : ℕ) → j < 64 * w → plane_bit w new i j ≡ max (plane_bit w old i j) (plane_bit w over to j)
+-- words that begin with those of row i of a plane
+abbrev pub BeginWithRow : ℕ → ℕ → List ℕ → List ℕ → Type 0
+BeginWithRow w i plane words = (k : ℕ) → k < w → slice_index words k ≡ slice_index plane (i * w + k)
+
+-- row i is joined with other words, bit by bit, and the other rows are as they were
+pub record IsRowJoined (w i : ℕ) (over old new : List ℕ) : Type 0 where
+  pub joined : (j : ℕ) → j < 64 * w → plane_bit w new i j ≡ max (plane_bit w old i j) (bit_of over j)
   pub others : (r j : ℕ) → r ≢ i → j < 64 * w → plane_bit w new r j ≡ plane_bit w old r j

@@ -1,10 +1,13 @@
 //! A plane of bits: rows of as many words of 64 bits each, one after another.
-ghost use Rattle.order_closure.specs.Planes.{plane_bit, plane_cell};
+ghost use Rattle.order_closure.specs.Planes.{BeginWithRow, plane_bit, plane_cell};
 ghost use Rattle.std.specs.Prelude.{IfOk, if◌then◌else◌, length, slice_index, vec_len, ℕ, ◌*◌, ◌+◌, ◌/◌, ◌<◌, ◌==◌, ◌≡◌, ◌≤◌};
 
 use crate::Cell;
 use net_core::Memory;
 use std::alloc::Global;
+
+/// How many words the longest row has: a table has at most 2,048 points.
+pub const MOST_WORDS: usize = 32;
 
 /// A plane of so many words, in which no bit is set.
 ///
@@ -40,9 +43,22 @@ pub fn row(plane: &[u64], width: usize, i: usize) -> &[u64]
     requires i { i ≤ 2048 }
     requires within { i * width + width ≤ length plane.now }
     ensures length { length result.now ≡ width }
-    ensures words { (k : ℕ) → k < width → slice_index result.now k ≡ slice_index plane.now (i * width + k) }
+    ensures words { BeginWithRow width i plane.now result.now }
 {
     &plane[i * width..(i + 1) * width]
+}
+
+/// The words of row `i`, and words in which no bit is set. They stand apart from the plane, so that the compiler knows that
+/// no write to the plane changes them.
+pub fn copied_row(plane: &[u64], width: usize, i: usize) -> [u64; MOST_WORDS]
+    requires words { width ≤ 32 }
+    requires i { i ≤ 2048 }
+    requires within { i * width + width ≤ length plane.now }
+    ensures { BeginWithRow width i plane.now result }
+{
+    let mut words = [0; MOST_WORDS];
+    words[..width].copy_from_slice(row(plane, width, i));
+    words
 }
 
 /// Whether bit `j` of row `i` is set.

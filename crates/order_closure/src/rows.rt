@@ -5,11 +5,11 @@ ghost use Rattle.order_closure.specs.Tables.{AreClosed};
 ghost use Rattle.std.specs.Prelude.{IsTrue, bit_or, length, slice_index, ℕ, ◌*◌, ◌+◌, ◌/◌, ◌<◌, ◌↔◌, ◌≡◌, ◌≢◌, ◌≤◌};
 
 use crate::Cell;
-use crate::planes::{cell_at, has_bit, row};
+use crate::planes::{cell_at, copied_row, has_bit};
 
 /// Raises each cell to the stronger of what it was and of the way over an atom of this order, from point `from` to point
 /// `to`. A row is joined only where its point is before `from`, and the way to `to` says more than its cell does: else
-/// nothing follows that does not stand there.
+/// nothing follows that does not stand there. Row `to` itself stays, since the atom is not denied.
 pub fn raise(
     weak: &mut [u64],
     strict: &mut [u64],
@@ -30,10 +30,12 @@ pub fn raise(
         ≡ stronger (plane_cell width weak.old strict.old i j)
         (joined (joined (plane_cell width weak.old strict.old i from) order) (plane_cell width weak.old strict.old to j)) }
 {
+    let over_weak = copied_row(weak, width, to);
+    let over_strict = copied_row(strict, width, to);
     for i in 0..size {
         let way = cell_at(weak, strict, width, i, from).joined(order);
         if says_more(weak, strict, width, i, to, way) {
-            raise_row(weak, strict, size, width, i, to, way);
+            raise_row(weak, strict, width, i, &over_weak, &over_strict, way);
         }
     }
 }
@@ -54,77 +56,49 @@ fn says_more(weak: &[u64], strict: &[u64], width: usize, i: usize, to: usize, wa
     }
 }
 
-/// Raises the cells of row `i` by the way to point `to`, and from there by row `to`.
+/// Raises the cells of row `i` by the way to a point, and from there by its row: where the way is strict, all bits of that
+/// row make strict ones.
 fn raise_row(
     weak: &mut [u64],
     strict: &mut [u64],
-    size: usize,
     width: usize,
     i: usize,
-    to: usize,
+    over_weak: &[u64],
+    over_strict: &[u64],
     way: Cell,
 )
-    requires planes { ArePlanes size width weak.old strict.old }
-    requires i { i < size }
-    requires to { to < size }
-    requires apart { i ≢ to }
-    requires some { 1 ≤ strength way }
-    ensures planes { ArePlanes size width weak.new strict.new }
-    ensures raised { (j : ℕ) → j < size → plane_cell width weak.new strict.new i j
-        ≡ stronger (plane_cell width weak.old strict.old i j) (joined way (plane_cell width weak.old strict.old to j)) }
-    ensures others { (r j : ℕ) → r < size → j < size → r ≢ i
-        → plane_cell width weak.new strict.new r j ≡ plane_cell width weak.old strict.old r j }
-{
-    raise_strict(weak, strict, width, i, to, way);
-    join_rows(weak, width, i, to);
-}
-
-/// Joins the strict bits of row `i` with all bits of row `to`, where the way there is strict, and else with the strict
-/// ones.
-fn raise_strict(weak: &[u64], strict: &mut [u64], width: usize, i: usize, to: usize, way: Cell)
     requires words { width ≤ 32 }
     requires i { i ≤ 2048 }
-    requires to { to ≤ 2048 }
-    requires row { i * width + width ≤ length strict.old }
-    requires over { to * width + width ≤ length strict.old }
-    requires planes { length weak.now ≡ length strict.old }
-    requires apart { i ≢ to }
-    ensures strict { way ≡ Cell.Strict → IsRowJoined width i to weak.now strict.old strict.new }
-    ensures weak { way ≢ Cell.Strict → IsRowJoined width i to strict.old strict.old strict.new }
+    requires weak { i * width + width ≤ length weak.old }
+    requires strict { i * width + width ≤ length strict.old }
+    requires over_weak { width ≤ length over_weak.now }
+    requires over_strict { width ≤ length over_strict.now }
+    ensures weak { IsRowJoined width i over_weak.now weak.old weak.new }
+    ensures by_strict { way ≡ Cell.Strict → IsRowJoined width i over_weak.now strict.old strict.new }
+    ensures by_weak { way ≢ Cell.Strict → IsRowJoined width i over_strict.now strict.old strict.new }
 {
+    join_row(weak, width, i, over_weak);
     if way == Cell::Strict {
-        join(
-            &mut strict[i * width..(i + 1) * width],
-            row(weak, width, to),
-        );
+        join_row(strict, width, i, over_weak);
     } else {
-        join_rows(strict, width, i, to);
+        join_row(strict, width, i, over_strict);
     }
 }
 
-/// Joins row `i` with row `to` of the same plane.
-fn join_rows(plane: &mut [u64], width: usize, i: usize, to: usize)
+/// Joins row `i` of a plane with other words.
+fn join_row(plane: &mut [u64], width: usize, i: usize, over: &[u64])
     requires words { width ≤ 32 }
     requires i { i ≤ 2048 }
-    requires to { to ≤ 2048 }
-    requires row { i * width + width ≤ length plane.old }
-    requires over { to * width + width ≤ length plane.old }
-    requires apart { i ≢ to }
-    ensures { IsRowJoined width i to plane.old plane.old plane.new }
+    requires within { i * width + width ≤ length plane.old }
+    requires over { width ≤ length over.now }
+    ensures { IsRowJoined width i over.now plane.old plane.new }
 {
-    if i < to {
-        let (prefix, suffix) = plane.split_at_mut(to * width);
-        join(&mut prefix[i * width..(i + 1) * width], &suffix[..width]);
-    } else {
-        let (prefix, suffix) = plane.split_at_mut(i * width);
-        join(&mut suffix[..width], row(prefix, width, to));
-    }
+    join(&mut plane[i * width..(i + 1) * width], over);
 }
 
-/// Joins the words of a row with those of another. The loop has no branch, so that the compiler can take many words at
-/// once.
+/// Joins words with the first of others. The loop has no branch, so that the compiler can take many words at once.
 fn join(row: &mut [u64], over: &[u64])
-    requires { length row.old ≡ length over.now }
+    requires { length row.old ≤ length over.now }
     ensures { (k : ℕ) → k < length row.old → slice_index row.new k ≡ bit_or (slice_index row.old k) (slice_index over.now k) }
 {
     for (k, word) in row.iter_mut().enumerate() {

@@ -1,4 +1,4 @@
-use Rattle.std.proofs.Common.{List, Some, inl, inr, sym, ap, subst}
+use Rattle.std.proofs.Common.{List, None, Some, inl, inr, sym, ap, subst}
 use Rattle.std.proofs.lemmas.List.Elements.{All-from_recursion}
 use Rattle.net_core.specs.Atoms.{IsInRange, atoms_of}
 use Rattle.net_core.specs.Nets.{intervals, points}
@@ -8,9 +8,17 @@ use Rattle.order_closure.specs.Tables.{AreInRange}
 use Rattle.tml_tool.specs.Asking.{OfNet}
 use Rattle.tml_tool.specs.Solving.{IsFirstNotGiven}
 use Rattle.tml_tool.specs.declared.status.Status.TheVariants.{Done}
-use Rattle.tml_tool.proofs.Counterexamples.{first_open, tells_counterexample}
+use Rattle.tml_tool.proofs.Counterexamples.{all_hold, first_open, tells_counterexample}
 use Rattle.tml_tool.proofs.deciding.decide.Goals as goal
 use Rattle.tml_tool.proofs.deciding.decide.Goals.{in-None+in_ok-text-in-None, in-Some+in_ok-text-in-Some}
+
+-- where the table gives all orders of the relation, all always hold
+pub proof_text-requires-clause-always : goal.proof_text-requires-clause-always
+proof_text-requires-clause-always c =
+    let atoms = atoms_of c.args.rel c.args.a c.args.b in
+    let range : AreInRange (points c.args.net.now) atoms =
+    All-from_recursion (IsInRange (points c.args.net.now)) atoms (atoms_in_range (intervals c.args.net.now) c.args.rel c.args.a c.args.b c.requires.0 c.requires.1) in
+    all_hold c.args.net.now c.in-Ok.table c.in-Ok.ensures.ok atoms range (subst (λ (all : List Atom). IsFirstNotGiven c.in-Ok.table all None) c.atoms_of.ensures c.in-None.ensures)
 
 pub returns : goal.returns
 returns c =
