@@ -1,0 +1,81 @@
+# Completion for tml and tml-corpus in bash: `. tools/completion/tml.bash`, or let an installed package load it.
+# Where a file is asked for, nothing is offered here, and readline offers the names of files.
+
+_tml_commands=(spans check dates solve ask relations canon verify drill)
+_tml_relations=(
+    BEFORE AFTER INCLUDES IS_INCLUDED DURING DURING_INV SIMULTANEOUS IDENTITY
+    IBEFORE IAFTER BEGINS BEGUN_BY ENDS ENDED_BY
+)
+
+# Offers those of some words that begin with the word at the cursor, and no names of files.
+_tml_offer() {
+    local word
+    compopt +o bashdefault +o default 2>/dev/null
+    for word; do
+        [[ $word != "${COMP_WORDS[COMP_CWORD]}"* ]] || COMPREPLY+=("$word")
+    done
+}
+
+# A word of the command line without its quotes. Nothing is expanded but ~/ at the beginning.
+_tml_plain() {
+    local word=$1 plain='' quote='' letter
+    if [[ $word == \~/* ]]; then
+        plain=$HOME/ word=${word:2}
+    fi
+    while [[ $word ]]; do
+        letter=${word:0:1} word=${word:1}
+        case $quote$letter in
+            \' | \") quote=$letter ;;
+            "''" | '""') quote='' ;;
+            \\ | \"\\) plain+=${word:0:1} word=${word:1} ;;
+            *) plain+=$letter ;;
+        esac
+    done
+    printf '%s' "$plain"
+}
+
+# Offers the names of the intervals of a document; none where tml does not accept it. No standard input is read.
+_tml_offer_intervals() {
+    local program document word name names=()
+    program=$(_tml_plain "${COMP_WORDS[0]}")
+    document=$(_tml_plain "$1")
+    if [[ -f $document ]]; then
+        while read -r word _ name; do
+            [[ $word != interval ]] || names+=("$name")
+        done < <("$program" check "$document" </dev/null 2>/dev/null)
+    fi
+    _tml_offer "${names[@]}"
+}
+
+# Completes the words of tml.
+_tml() {
+    COMPREPLY=()
+    case ${COMP_WORDS[1]}:$COMP_CWORD in
+        *:1) _tml_offer "${_tml_commands[@]}" ;;
+        ask:3 | ask:5) _tml_offer_intervals "${COMP_WORDS[2]}" ;;
+        ask:4) _tml_offer "${_tml_relations[@]}" ;;
+        spans:2 | check:2 | dates:2 | solve:2 | ask:2 | relations:2 | canon:2 | verify:[23]) ;;
+        *) _tml_offer ;;
+    esac
+}
+
+# Completes the words of tml-corpus: its commands, their options, and the values of these.
+_tml_corpus() {
+    local options=(--help)
+    COMPREPLY=()
+    case ${COMP_WORDS[1]} in
+        check) options+=(--format --explain --no-explain --more --glob --tml --jobs) ;;
+        tags) options+=(--glob --tml --jobs) ;;
+        clashes) options+=(--evidence --glob --tml --jobs) ;;
+        timeline) options+=(--output -o --tml) ;;
+    esac
+    case ${COMP_WORDS[COMP_CWORD - 1]}:$COMP_CWORD:${COMP_WORDS[COMP_CWORD]} in
+        *:1:*) _tml_offer check tags clashes timeline --help ;;
+        --format:*) _tml_offer text json junit github ;;
+        --more:* | --glob:* | --jobs:*) _tml_offer ;;
+        *:-*) _tml_offer "${options[@]}" ;;
+    esac
+}
+
+complete -o bashdefault -o default -F _tml tml
+complete -o bashdefault -o default -F _tml_corpus tml-corpus
