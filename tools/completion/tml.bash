@@ -64,15 +64,15 @@ _tml_corpus() {
     local options=(--help)
     COMPREPLY=()
     case ${COMP_WORDS[1]} in
-        check) options+=(--format --explain --no-explain --more --glob --tml --jobs) ;;
+        check) options+=(--format --explain --no-explain --more --glob --tml --jobs --cluster) ;;
         tags) options+=(--glob --tml --jobs) ;;
-        clashes) options+=(--evidence --glob --tml --jobs) ;;
+        clashes) options+=(--evidence --glob --tml --jobs --cluster) ;;
         timeline) options+=(--output -o --tml) ;;
     esac
     case ${COMP_WORDS[COMP_CWORD - 1]}:$COMP_CWORD:${COMP_WORDS[COMP_CWORD]} in
         *:1:*) _tml_offer check tags clashes timeline --help ;;
         --format:*) _tml_offer text json junit github ;;
-        --more:* | --glob:* | --jobs:*) _tml_offer ;;
+        --more:* | --glob:* | --jobs:* | --cluster:*) _tml_offer ;;
         *:-*) _tml_offer "${options[@]}" ;;
     esac
 }

@@ -39,10 +39,10 @@ class CorpusTest(unittest.TestCase):
         with open(path, "wb") as file:
             file.write(content if isinstance(content, bytes) else content.encode())
 
-    def start(self, *words, tml=TML):
+    def start(self, *words, tml=TML, python=sys.executable):
         command, *rest = words
         return subprocess.Popen(
-            [sys.executable, COMPANION, command, "--tml", tml, *rest],
+            [python, COMPANION, command, "--tml", tml, *rest],
             cwd=self.folder,
             stdin=subprocess.DEVNULL,
             stdout=subprocess.PIPE,

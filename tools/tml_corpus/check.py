@@ -51,7 +51,7 @@ def judge(program: Program, found: Found, explained: bool, more: int) -> Judgeme
     if found.problem is not None:
         return Judgement(found.path, problem=found.problem)
     try:
-        with opened(found.path) as file:
+        with opened(found.place()) as file:
             reply = program.check(file)
             if reply.status != FAULT:
                 return Judgement(found.path, problem=problem_of(reply))

@@ -80,9 +80,12 @@ def find_clash(program: Program, found: Found, folder: str | None) -> ClashRepor
     if found.problem is not None:
         return ClashReport(found.path, problem=found.problem)
     try:
-        document = read_document(found.path)
+        document = read_document(found.place())
         with room_for(document):
-            return clash_of(program, found.path, document, folder)
+            report = clash_of(program, found.path, document, folder and os.path.join(found.base, folder))
+        if folder is not None and report.evidence is not None:
+            report.evidence = os.path.join(folder, os.path.basename(report.evidence))
+        return report
     except (CannotRead, CannotRun) as problem:
         return ClashReport(found.path, problem=str(problem))
 

@@ -9,12 +9,14 @@ from __future__ import annotations
 import argparse
 import os
 import sys
-from collections.abc import Callable, Sequence
+from collections.abc import Callable, Iterator, Sequence
+from contextlib import contextmanager
 from functools import partial
 from typing import TypeVar
 
 from .check import Judgement, judge
 from .clashes import ClashReport, ClashSummary, find_clash
+from .cluster import connected
 from .files import PATTERNS, Found, counted, find_files, reason, shown
 from .formats import Summary, make_format
 from .pool import Interruption, Progress, in_order, processors
@@ -24,6 +26,9 @@ from .timeline import draw, form_of, written
 
 Result = TypeVar("Result")
 INTERRUPTED = 130
+EXAMPLES = """Examples:
+  tools/tml-corpus {0} samples
+  tools/tml-corpus {0} --cluster tcp://head:8786 --tml /shared/bin/tml /shared/corpus"""
 ENDED = "a process of this program that looked at it was ended from outside, or had no memory"
 
 
@@ -33,8 +38,7 @@ def main(arguments: list[str]) -> int:
         stream.reconfigure(encoding=stream.encoding, errors="backslashreplace")
     options = parser().parse_args(arguments)
     try:
-        options.program = Program(find_program(options.tml))
-        with Interruption() as stop:
+        with Interruption() as stop, prepared(options, stop):
             status = options.command(options, stop)
             sys.stdout.flush()
             return INTERRUPTED if stop.happened.is_set() else status
@@ -46,6 +50,19 @@ def main(arguments: list[str]) -> int:
     except BrokenPipeError:
         os.dup2(os.open(os.devnull, os.O_WRONLY), sys.stdout.fileno())
         return 2
+
+
+@contextmanager
+def prepared(options: argparse.Namespace, stop: Interruption) -> Iterator[None]:
+    """Finds the program, and what does the work on files in their order: the processors here, or a cluster."""
+    if getattr(options, "cluster", None) is None:
+        options.program = Program(find_program(options.tml))
+        options.in_order = partial(in_order, workers=max(getattr(options, "jobs", 1), 1))
+        yield
+    else:
+        with connected(options.cluster, stop) as cluster:
+            options.program, options.in_order = cluster.program(options.tml), cluster.in_order
+            yield
 
 
 def number_from_zero(text: str) -> int:
@@ -60,20 +77,32 @@ def parser() -> argparse.ArgumentParser:
     """The words that are understood."""
     whole = argparse.ArgumentParser(prog="tml-corpus", description="Asks tml about all documents of a corpus.")
     commands = whole.add_subparsers(required=True, metavar="COMMAND")
-    check = commands.add_parser("check", help="say of each document whether tml accepts it, or where its first fault is")
+    check = commands.add_parser(
+        "check",
+        help="say of each document whether tml accepts it, or where its first fault is",
+        epilog=EXAMPLES.format("check"),
+        formatter_class=argparse.RawDescriptionHelpFormatter,
+    )
     check.add_argument("--format", choices=("text", "json", "junit", "github"), default="text", help="the form of the output")
     check.add_argument("--explain", action=argparse.BooleanOptionalAction, help="say what is at fault (default at a terminal)")
     check.add_argument("--more", type=number_from_zero, default=0, metavar="N", help="go on to at most N further faults of each document")
     check.set_defaults(command=check_command)
     tags = commands.add_parser("tags", help="count the names of tags, and say which of them tml does not know")
     tags.set_defaults(command=tags_command)
-    clashes = commands.add_parser("clashes", help="show the links of each document that contradict each other")
+    clashes = commands.add_parser(
+        "clashes",
+        help="show the links of each document that contradict each other",
+        epilog=EXAMPLES.format("clashes"),
+        formatter_class=argparse.RawDescriptionHelpFormatter,
+    )
     clashes.add_argument("--evidence", metavar="FOLDER", help="keep the evidence of each clash in this folder")
     clashes.set_defaults(command=clashes_command)
     for command in (check, tags, clashes):
         command.add_argument("paths", nargs="+", metavar="PATH", help="a file, or a folder to search")
         command.add_argument("--glob", action="append", metavar="PATTERN", help=f"names to look for in folders (default {' '.join(PATTERNS)})")
         command.add_argument("--jobs", type=int, default=processors(), metavar="N", help="how many files at once (default: one a processor)")
+    for command in (check, clashes):
+        command.add_argument("--cluster", metavar="ADDRESS", help="work on a Dask cluster, whose workers see the files and tml by the same paths; --jobs says nothing then")
     for command in (check, tags, clashes, timeline_words(commands)):
         command.add_argument("--tml", metavar="PROGRAM", help="the program tml (default: that of this repository, else that on PATH)")
     return whole
@@ -116,17 +145,19 @@ def each(
     lost: Callable[[Found], Result],
     tell: Callable[[Result], str],
 ) -> None:
-    """Does the work for each file on all processors, and prints in the order of the files what there is to tell."""
+    """Does the work for each file on all processors or a cluster, and prints in the order of the files what there is to tell."""
     progress = Progress(len(found), "files")
-    for result in in_order(work, found, max(options.jobs, 1), stop, lost):
-        text = tell(result)
-        if text:
-            progress.clear()
-            sys.stdout.write(text)
-            if sys.stdout.isatty():
-                sys.stdout.flush()
-        progress.step()
-    progress.close()
+    try:
+        for result in options.in_order(work, found, stop=stop, lost=lost):
+            text = tell(result)
+            if text:
+                progress.clear()
+                sys.stdout.write(text)
+                if sys.stdout.isatty():
+                    sys.stdout.flush()
+            progress.step()
+    finally:
+        progress.close()
 
 
 def check_command(options: argparse.Namespace, stop: Interruption) -> int:
@@ -162,7 +193,7 @@ def tags_command(options: argparse.Namespace, stop: Interruption) -> int:
 
     each(options, stop, found, partial(names_in, options.program), lambda one: Names(one.path, problem=ENDED), tell)
     asked = table.names()[:MOST_NAMES]
-    known = dict(zip(asked, in_order(partial(is_known, options.program), asked, max(options.jobs, 1), stop, lambda name: None), strict=False))
+    known = dict(zip(asked, options.in_order(partial(is_known, options.program), asked, stop=stop, lost=lambda name: None), strict=False))
     sys.stdout.write(table.text(known))
     unknown = list(known.values()).count(False)
     sys.stdout.write(f"{counted(len(found), 'file')}: {counted(len(table.counts), 'name')} of tags, {unknown} unknown to tml; {problems} not counted\n")

@@ -23,6 +23,11 @@ class Found:
 
     path: str
     problem: str | None = None
+    base: str = ""
+
+    def place(self) -> str:
+        """Where the file lies: its path is told as it was given, and is one of the base where another folder is the current one."""
+        return os.path.join(self.base, self.path)
 
 
 def find_files(paths: list[str], patterns: list[str]) -> list[Found]:

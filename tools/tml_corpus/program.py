@@ -47,12 +47,17 @@ def find_program(chosen: str | None) -> str:
         if found is None:
             raise CannotRun(f"no program {chosen}")
         return os.path.abspath(found)
-    top = os.path.dirname(os.path.dirname(os.path.dirname(os.path.realpath(__file__))))
-    built = os.path.join(top, "crates", "tml", "out", "tml")
-    found = built if os.access(built, os.X_OK) else shutil.which("tml")
+    found = built_program() or shutil.which("tml")
     if found is None:
         raise CannotRun("no program tml: build it as README.md says, or choose one by --tml PROGRAM")
     return os.path.abspath(found)
+
+
+def built_program() -> str | None:
+    """The program that was built beside this folder."""
+    top = os.path.dirname(os.path.dirname(os.path.dirname(os.path.realpath(__file__))))
+    built = os.path.join(top, "crates", "tml", "out", "tml")
+    return built if os.access(built, os.X_OK) else None
 
 
 class Program:
