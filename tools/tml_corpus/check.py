@@ -90,21 +90,21 @@ def further_faults(program: Program, document: bytes, fault: Fault, told: Explan
     """At most so many faults after the first one, each found with what was at fault before it blanked out."""
     found: list[tuple[Fault, Explanation]] = []
     cut_tags: set[int] = set()
-    changed: bytes | None = document
     whole = False
     while len(found) < more:
         if told.attributes:
             cut_tags.add(fault.offset)
-        changed = blanked(program, changed, fault, told, whole)
+        changed = blanked(program, document, fault, told, whole)
         if changed is None:
             break
-        reply = program.check(changed)
+        document = changed
+        reply = program.check(document)
         following = read_fault(reply.text) if reply.status == FAULT else None
         if following is None:
             break
         # That a tag lacks the attribute that was just blanked out is no news: the tag goes as a whole.
         whole = following.number == faults.MISSING and following.offset in cut_tags
-        fault, told = following, explain(program, changed, following)
+        fault, told = following, explain(program, document, following)
         if not whole:
             found.append((fault, told))
     return found

@@ -139,7 +139,7 @@ class Cluster:
                 if not waiting or not self.is_done(waiting[0][1], stop):
                     break
                 batch, future = waiting.popleft()
-                results = self.results_of(future)
+                results: list[Result] | None = self.results_of(future)
                 if results is not None:
                     yield from results
                     continue

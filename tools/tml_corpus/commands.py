@@ -7,6 +7,7 @@ be run or read, and 130 that the run was interrupted.
 from __future__ import annotations
 
 import argparse
+import io
 import os
 import sys
 from collections.abc import Callable, Iterator, Sequence
@@ -35,7 +36,8 @@ ENDED = "a process of this program that looked at it was ended from outside, or 
 def main(arguments: list[str]) -> int:
     """Runs one command and answers its status."""
     for stream in (sys.stdout, sys.stderr):
-        stream.reconfigure(encoding=stream.encoding, errors="backslashreplace")
+        if isinstance(stream, io.TextIOWrapper):
+            stream.reconfigure(encoding=stream.encoding, errors="backslashreplace")
     options = parser().parse_args(arguments)
     try:
         with Interruption() as stop, prepared(options, stop):

@@ -99,11 +99,11 @@ def choose(prober: Prober, told: Explanation, found: Culprits | None, words: str
     if found is None:
         return
     edits = sorted(found.edits, key=lambda edit: edit.start)
+    attributes = [edit.attribute for edit in edits if edit.attribute]
     texts = written(edits, prober.document)
     several = found.each_alone and len(texts) > 1
-    told.notes.append(Note(edits[0].attribute.start, words.format(("one of " if several else "") + " and ".join(texts))))
-    chosen = edits[-1:] if found.each_alone else edits
-    told.attributes = [edit.attribute for edit in chosen]
+    told.notes.append(Note(attributes[0].start, words.format(("one of " if several else "") + " and ".join(texts))))
+    told.attributes = attributes[-1:] if found.each_alone else attributes
 
 
 def by_taking_out(prober: Prober, tag: Unit, told: Explanation) -> None:
@@ -194,12 +194,15 @@ def unknown_reference(prober: Prober, tag: Unit, told: Explanation) -> None:
     if found is None:
         return
     for edit in found.edits:
+        at_fault = edit.attribute
+        if at_fault is None:
+            continue
         others = [] if found.each_alone else [other for other in found.edits if other is not edit]
-        kinds = [added(edit.attribute, prober.document, ends[-1], [kind]) for kind in TARGETS]
+        kinds = [added(at_fault, prober.document, ends[-1], [kind]) for kind in TARGETS]
         wanted = [one.words for one in kinds if prober.tell([*others, one]) == LATER]
         words = wanted[0] if len(wanted) == 1 else "tag of the kind that it asks for"
-        told.notes.append(Note(edit.attribute.start, f"{edit.attribute.written(prober.document)} names no {words}"))
-        told.attributes.append(edit.attribute)
+        told.notes.append(Note(at_fault.start, f"{at_fault.written(prober.document)} names no {words}"))
+        told.attributes.append(at_fault)
 
 
 def added(attribute: Attribute, document: bytes, at: int, kinds: list[str]) -> Edit:

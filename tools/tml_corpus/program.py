@@ -6,7 +6,7 @@ import shutil
 import subprocess
 from collections.abc import Iterator
 from dataclasses import dataclass
-from typing import IO
+from typing import IO, Any
 
 DOCUMENT_LIMIT = 4_194_304
 """The number of bytes that `tml` takes of a document."""
@@ -72,7 +72,7 @@ class Program:
         So the names of documents are no words of `tml`, which takes none that is not UTF-8. No shell is used. The child
         gets a session of its own, so that Ctrl-C ends this program in its own way and does not kill a judgement half-way.
         """
-        given = {"input": document} if isinstance(document, bytes) else {"stdin": document}
+        given: dict[str, Any] = {"input": document} if isinstance(document, bytes) else {"stdin": document}
         try:
             done = subprocess.run(
                 [self.path, *words],

@@ -70,8 +70,9 @@ def cut(program: Program, document: bytes) -> tuple[Reply, str | None]:
         fault = read_fault(reply.text) if reply.status == FAULT else None
         if fault is None or fault.number != BAD_MARKUP:
             return reply, remark
-        document = document[: fault.offset] + b" " + document[fault.offset + 1 :]
-    return program.spans(document[: fault.offset]), f"has fault {first.title()}; its tags are counted up to byte {fault.offset}"
+        at = fault.offset
+        document = document[:at] + b" " + document[at + 1 :]
+    return program.spans(document[:at]), f"has fault {first.title()}; its tags are counted up to byte {at}"
 
 
 def is_known(program: Program, name: str) -> bool:
@@ -104,6 +105,6 @@ class Table:
         """A line for each name: those that `tml` does not know first, with their first place."""
         lines = [f"{'count':>9} {'files':>7}  tag"]
         for name in sorted(self.names(), key=lambda name: known.get(name, False)):
-            words = {True: "", False: f"  unknown, first at {self.firsts[name]}"}.get(known.get(name), "  not asked")
+            words = {True: "", False: f"  unknown, first at {self.firsts[name]}", None: "  not asked"}[known.get(name)]
             lines.append(f"{self.counts[name]:9} {self.files[name]:7}  {shown(name)}{words}")
         return "".join(line + "\n" for line in lines)
