@@ -2,8 +2,7 @@
 """Measures `tml relations` over documents of 512 intervals beside `tml solve` of the same document, and `tml drill`.
 
 Prints, for each document, the least time of five runs of both, of `cat` of what `relations` printed, how much was printed,
-and how many times as long as `solve` it took without that of `cat`: at most 1.5 times. `drill 512` is to take less than two
-seconds. Build the program first, as README.md says.
+and how many times as long as `solve` it took without that of `cat`. Build the program first, as README.md says.
 
 usage: bench/relations.py [PROGRAM]       (PROGRAM is crates/tml/out/tml if left out)
 """
