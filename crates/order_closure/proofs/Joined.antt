@@ -15,8 +15,8 @@ put_inside a k j xs row h l = search (rules, places)
 put_before : (a k p : ℕ) (xs row : List ℕ) → a ≤ length xs → p < a → get_or (put_mid a k xs row) p 0 ≡ get_or xs p 0
 put_before a k p xs row h l = search (rules, places)
 
-put_behind : (a k p : ℕ) (xs row : List ℕ) → a + k ≤ length xs → length row ≡ k → a + k ≤ p → get_or (put_mid a k xs row) p 0 ≡ get_or xs p 0
-put_behind a k p xs row h e l = search (rules, places)
+put_after : (a k p : ℕ) (xs row : List ℕ) → a + k ≤ length xs → length row ≡ k → a + k ≤ p → get_or (put_mid a k xs row) p 0 ≡ get_or xs p 0
+put_after a k p xs row h e l = search (rules, places)
 
 -- a place of a part of a list
 part_at : (a k j : ℕ) (xs : List ℕ) → j < k → get_or (take k (drop a xs)) j 0 ≡ get_or xs (a + j) 0
@@ -34,7 +34,7 @@ put_row w i over xs row fits len is = record {
       let lk = word_below w j lj in
       ap (λ n. bit_at n (j % 64)) (elim (cases_lt r i) [
         | inl less ↦ put_before (i * w) w (r * w + j / 64) xs row (omega arith) (omega (arith, row_within w r i less))
-        | inr at ↦ let more : i < r = omega arith in put_behind (i * w) w (r * w + j / 64) xs row fits len (omega (arith, row_within w i r more))
+        | inr at ↦ let more : i < r = omega arith in put_after (i * w) w (r * w + j / 64) xs row fits len (omega (arith, row_within w i r more))
       ]);
 }
 

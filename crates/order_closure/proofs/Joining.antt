@@ -55,3 +55,17 @@ back_is_weak Free o h = omega arith
 back_is_weak Weak true h = absurd (h tt)
 back_is_weak Weak false h = omega arith
 back_is_weak Strict o h = absurd (h tt)
+
+-- what is joined with nothing gives nothing
+pub joined_free : (x : Cell) → joined x Free ≡ Free
+joined_free Free = refl
+joined_free Weak = refl
+joined_free Strict = refl
+
+-- where the stronger of two cells says nothing, the first says nothing
+pub first_free : (x y : Cell) → stronger x y ≡ Free → x ≡ Free
+first_free Free y e = refl
+first_free Weak Free e = e
+first_free Weak Weak e = e
+first_free Weak Strict e = let clash : Strict ≡ Free = e in cc
+first_free Strict y e = e

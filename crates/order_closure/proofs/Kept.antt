@@ -1,8 +1,9 @@
 -- A table raised row by row: the row that is read stays, and a row in which the way says no more than its cell does stays too.
-use Rattle.std.proofs.Common.{◌≡◌, ◌≢◌, ◌↔◌, ℕ, ◌+◌, ◌<◌, ◌≤◌, Bool, true, false, refl, subst, sym, ◌∙◌, arith, inl, inr}
+use Rattle.std.proofs.Common.{◌≡◌, ◌≢◌, ◌↔◌, ℕ, ◌+◌, ◌<◌, ◌≤◌, Bool, true, false, refl, ap, subst, sym, ◌∙◌, arith, inl, inr}
 use Rattle.std.specs.Prelude.{IsTrue}
 use Rattle.std.proofs.lemmas.Bool.{cases_lt}
 use Rattle.order_closure.specs.declared.cell.Cell.{Cell}
+use Rattle.order_closure.specs.declared.cell.Cell.TheVariants.{Free}
 use Rattle.order_closure.specs.Cells.{strength, stronger, joined}
 use Rattle.order_closure.specs.Tables.{AreClosed}
 use Rattle.order_closure.proofs.Joining.{joined-mono, stronger_stays}
@@ -78,9 +79,22 @@ module _ (n : ℕ) (cell : ℕ → ℕ → Cell) (from to : ℕ) (order : Cell) 
       over = λ j lj. there to j can.has_to lj (λ e. apart more (sym e)) ∙ so_far.over j lj;
     }
 
--- no row is raised yet
-pub none_raised : (n : ℕ) (cell : ℕ → ℕ → Cell) (from to : ℕ) (order : Cell) → AreRaisedBelow n cell from to order 0 cell
-none_raised n cell from to order = record { done = λ r j lr _ _. absurd (omega arith); others = λ r j _ _ _. refl; over = λ j _. refl }
+module _ (n : ℕ) (cell : ℕ → ℕ → Cell) (from to : ℕ) (order : Cell) where
+  -- a row whose point is not before the first point is raised as it is
+  free_stays : (i j : ℕ) → cell i from ≡ Free → raised cell from to order i j ≡ cell i j
+  free_stays i j e = ap (λ x. stronger (cell i j) (joined (joined x order) (cell to j))) e ∙ stronger_stays (cell i j) Free (omega arith)
+
+  -- no row is raised yet, and those below i need not be
+  pub none_raised : (i : ℕ) → ((r : ℕ) → r < i → r < n → cell r from ≡ Free) → AreRaisedBelow n cell from to order i cell
+  none_raised i free = record { done = λ r j lr ln _. sym (free_stays r j (free r lr ln)); others = λ r j _ _ _. refl; over = λ j _. refl }
+
+  -- the rows below i are raised, and the others need not be
+  pub all_raised : (i : ℕ) (now : ℕ → ℕ → Cell) → AreRaisedBelow n cell from to order i now → ((r : ℕ) → i ≤ r → r < n → cell r from ≡ Free)
+      → (r j : ℕ) → r < n → j < n → now r j ≡ raised cell from to order r j
+  all_raised i now so_far free r j lr lj = elim (cases_lt r i) [
+    | inl before ↦ so_far.done r j before lr lj
+    | inr at ↦ so_far.others r j at lr lj ∙ sym (free_stays r j (free r at lr))
+  ]
 
 -- a test of a smaller number that says no
 pub no_smaller : (r : Bool) (a b : ℕ) → (IsTrue r ↔ (a < b)) → r ≡ false → b ≤ a

@@ -9,7 +9,7 @@ use Rattle.order_closure.specs.declared.cell.Cell.TheVariants.{Free, Strict}
 use Rattle.order_closure.specs.Bits.{bit_of, AreBitsOf}
 use Rattle.order_closure.specs.Planes.{ArePlanes, cell_if, plane_bit, plane_cell}
 use Rattle.order_closure.specs.Tables.{table_of, cell_at}
-use Rattle.order_closure.proofs.Bits.{word_below}
+use Rattle.order_closure.proofs.Bits.{row_bit}
 use Rattle.order_closure.proofs.Tables.{cell_at-table_of}
 
 -- a cell whose weak bit is set is not Free
@@ -33,10 +33,6 @@ strict_set (suc zero) (suc (suc b)) lt le = absurd (omega arith)
 strict_set (suc (suc a)) b lt le = absurd (omega arith)
 
 module _ (w i : ℕ) (plane words : List ℕ) (long : length words ≡ w) (same : (k : ℕ) → k < w → get_or words k 0 ≡ get_or plane (i * w + k) 0) where
-  -- the bits of the words of a row
-  bit_lent : (j : ℕ) → j < 64 * w → bit_of words j ≡ plane_bit w plane i j
-  bit_lent j lj = ap (λ n. bit_at n (j % 64)) (same (j / 64) (word_below w j lj))
-
   -- past the words nothing is set
   bit_past : (j : ℕ) → 64 * w ≤ j → bit_of words j ≡ 0
   bit_past j le = ap (λ n. bit_at n (j % 64)) (get_or_past words (j / 64) 0 (omega arith)) ∙ bit_at-zero (j % 64)
@@ -44,7 +40,7 @@ module _ (w i : ℕ) (plane words : List ℕ) (long : length words ≡ w) (same 
   -- nor past the last point
   tail_lent : (n : ℕ) → ((j : ℕ) → n ≤ j → j < 64 * w → plane_bit w plane i j ≡ 0) → (j : ℕ) → n ≤ j → bit_of words j ≡ 0
   tail_lent n tail j le = elim (cases_lt j (64 * w)) [
-    | inl lj ↦ bit_lent j lj ∙ tail j le lj
+    | inl lj ↦ row_bit w i plane words same j lj ∙ tail j le lj
     | inr past ↦ bit_past j past
   ]
 
@@ -58,7 +54,7 @@ module _ (n w : ℕ) (weak strict : List ℕ) (planes : ArePlanes n w weak stric
     long = long ∙ planes.width;
     set = λ j lj.
         let width = planes.width in
-        rw (cell_at-table_of n (plane_cell w weak strict) i j li lj, bit_lent w i weak words long same j (omega arith)) (weak_set (plane_bit w weak i j) (plane_bit w strict i j) (bit_small j));
+        rw (cell_at-table_of n (plane_cell w weak strict) i j li lj, row_bit w i weak words same j (omega arith)) (weak_set (plane_bit w weak i j) (plane_bit w strict i j) (bit_small j));
     tail = tail_lent w i weak words long same n (λ j le lj. planes.tail i j li le lj);
   }
 
@@ -68,6 +64,6 @@ module _ (n w : ℕ) (weak strict : List ℕ) (planes : ArePlanes n w weak stric
     long = long ∙ planes.width;
     set = λ j lj.
         let width = planes.width in
-        rw (cell_at-table_of n (plane_cell w weak strict) i j li lj, bit_lent w i strict words long same j (omega arith)) (strict_set (plane_bit w weak i j) (plane_bit w strict i j) (bit_small j) (planes.both i j li (omega arith)));
+        rw (cell_at-table_of n (plane_cell w weak strict) i j li lj, row_bit w i strict words same j (omega arith)) (strict_set (plane_bit w weak i j) (plane_bit w strict i j) (bit_small j) (planes.both i j li (omega arith)));
     tail = tail_lent w i strict words long same n (λ j le lj. let clear = planes.tail i j li le lj in let less = planes.both i j li lj in omega arith);
   }

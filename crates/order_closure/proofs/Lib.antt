@@ -9,5 +9,7 @@ pub mod Bits
 pub mod Joined
 pub mod RaisedRow
 pub mod Lending
+pub mod Reached
 pub mod Adding
 pub mod New
+pub mod Ones

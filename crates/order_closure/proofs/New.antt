@@ -10,7 +10,7 @@ use Rattle.order_closure.specs.declared.cell.Cell.TheVariants.{Free, Weak}
 use Rattle.order_closure.specs.Planes.{AreClosedPlanes, cell_if, plane_bit, plane_cell}
 use Rattle.order_closure.specs.Tables.{new_cell}
 use Rattle.order_closure.proofs.Bits.{word_below}
-use Rattle.order_closure.proofs.Tables.{same_closed}
+use Rattle.order_closure.proofs.Tables.{new_other, same_closed}
 use Rattle.order_closure.proofs.Adding.{new_closed}
 
 -- the weak bit of two points of a new table: 1 where they are one
@@ -78,9 +78,9 @@ module _ (n w : ℕ) (weak strict : List ℕ) (reflexive : (i j : ℕ) → i < n
   new_cells wide i j li lj = (λ k. cell_if (reflexive i j li (omega arith) k == 1) (no_strict i j k == 1)) ∙ cell_of_new (i == j)
 
   -- its planes
-  pub new_planes : n ≤ 2048 → w ≡ (n + 63) / 64 → length weak ≡ n * w → length strict ≡ n * w → AreClosedPlanes n w weak strict
+  pub new_planes : (reached : List ℕ) → n ≤ 2048 → w ≡ (n + 63) / 64 → length weak ≡ n * w → length strict ≡ n * w → AreClosedPlanes n w weak strict reached
   unfolding AreClosedPlanes
-  new_planes small wide weak_long strict_long = record {
+  new_planes reached small wide weak_long strict_long = record {
     planes = record {
       small = small;
       width = wide;
@@ -90,4 +90,5 @@ module _ (n w : ℕ) (weak strict : List ℕ) (reflexive : (i j : ℕ) → i < n
       tail = λ i j li le lj. reflexive i j li lj ∙ other_bit i j (λ e. absurd (omega arith));
     };
     closed = same_closed n new_cell (plane_cell w weak strict) (λ i j li lj. sym (new_cells wide i j li lj)) (new_closed n);
+    marked = λ i j li lj differ _. new_cells wide i j li lj ∙ new_other i j differ;
   }

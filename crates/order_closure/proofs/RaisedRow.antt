@@ -1,7 +1,6 @@
 -- A row that is joined with the words of another one is raised by the way there.
 use Rattle.std.proofs.Common.{◌≡◌, ◌≢◌, ℕ, ◌+◌, ◌*◌, ◌/◌, ◌%◌, ◌<◌, ◌≤◌, max, Bool, true, false, List, length, get_or, refl, ap, subst, sym, ◌∙◌, arith, inl, inr}
 use Rattle.std.specs.Prelude.{◌==◌, ◌||◌}
-use Rattle.std.specs.Int.{bit_at}
 use Rattle.std.proofs.lemmas.Nat.Bits.{bit_at-lt}
 use Rattle.std.proofs.lemmas.Bool.{cases_eq}
 use Rattle.std.proofs.lemmas.Bool.Decides.{nat_tests}
@@ -10,7 +9,7 @@ use Rattle.order_closure.specs.declared.cell.Cell.TheVariants.{Free, Weak, Stric
 use Rattle.order_closure.specs.Bits.{bit_of}
 use Rattle.order_closure.specs.Cells.{strength, stronger, joined}
 use Rattle.order_closure.specs.Planes.{ArePlanes, BeginWithRow, IsRowJoined, plane_bit, cell_if, plane_cell}
-use Rattle.order_closure.proofs.Bits.{word_below}
+use Rattle.order_closure.proofs.Bits.{row_bit}
 
 -- of a bit that is at most another one: where it is set, so is the other
 one_le : (a b : ℕ) → a ≤ b → b < 2 → (a == 1) ≡ true → (b == 1) ≡ true
@@ -71,10 +70,10 @@ pub record IsRaised (n w : ℕ) (weak strict : List ℕ) (i : ℕ) (over : ℕ �
 module _ (n w to : ℕ) (old_weak old_strict : List ℕ) (old : ArePlanes n w old_weak old_strict) (lt : to < n)
     (over_weak over_strict : List ℕ) (weak_words : BeginWithRow w to old_weak over_weak) (strict_words : BeginWithRow w to old_strict over_strict) where
   weak_over : (j : ℕ) → j < 64 * w → bit_of over_weak j ≡ plane_bit w old_weak to j
-  weak_over j lj = ap (λ m. bit_at m (j % 64)) (weak_words (j / 64) (word_below w j lj))
+  weak_over = row_bit w to old_weak over_weak weak_words
 
   strict_over : (j : ℕ) → j < 64 * w → bit_of over_strict j ≡ plane_bit w old_strict to j
-  strict_over j lj = ap (λ m. bit_at m (j % 64)) (strict_words (j / 64) (word_below w j lj))
+  strict_over = row_bit w to old_strict over_strict strict_words
 
   both_over : (j : ℕ) → j < 64 * w → bit_of over_strict j ≤ bit_of over_weak j
   both_over j lj = let e = weak_over j lj in let f = strict_over j lj in let le = old.both to j lt lj in omega arith

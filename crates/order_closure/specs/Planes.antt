@@ -29,9 +29,17 @@ pub record ArePlanes (n w : ℕ) (weak strict : List ℕ) : Type 0 where
   pub both : (i j : ℕ) → i < n → j < 64 * w → plane_bit w strict i j ≤ plane_bit w weak i j
   pub tail : (i j : ℕ) → i < n → n ≤ j → j < 64 * w → plane_bit w weak i j ≡ 0
 
--- planes whose cells are closed; what this says is not seen where it is not needed
-unfoldable pub AreClosedPlanes : ℕ → ℕ → List ℕ → List ℕ → Type 0
-AreClosedPlanes n w weak strict = record { planes : ArePlanes n w weak strict; closed : AreClosed n (plane_cell w weak strict) }
+-- a plane of one row, in which bit j is set where a point other than j is before or with point j; it may be set elsewhere too
+abbrev pub MarksReached : ℕ → ℕ → (ℕ → ℕ → Cell) → List ℕ → Type 0
+MarksReached n w cell reached = (i j : ℕ) → i < n → j < n → i ≢ j → plane_bit w reached 0 j ≡ 0 → cell i j ≡ Free
+
+-- planes whose cells are closed, and the row of the points that others reach; what this says is not seen where it is not needed
+unfoldable pub AreClosedPlanes : ℕ → ℕ → List ℕ → List ℕ → List ℕ → Type 0
+AreClosedPlanes n w weak strict reached = record {
+  planes : ArePlanes n w weak strict;
+  closed : AreClosed n (plane_cell w weak strict);
+  marked : MarksReached n w (plane_cell w weak strict) reached;
+}
 
 -- words that begin with those of row i of a plane
 abbrev pub BeginWithRow : ℕ → ℕ → List ℕ → List ℕ → Type 0

@@ -79,11 +79,9 @@ pub fn cell_at(weak: &[u64], strict: &[u64], width: usize, i: usize, j: usize) -
     requires strict { i * width + j / 64 < length strict.now }
     ensures { result ≡ plane_cell width weak.now strict.now i j }
 {
-    if !has_bit(weak, width, i, j) {
-        Cell::Free
-    } else if has_bit(strict, width, i, j) {
-        Cell::Strict
-    } else {
-        Cell::Weak
+    match (has_bit(weak, width, i, j), has_bit(strict, width, i, j)) {
+        (false, _) => Cell::Free,
+        (true, false) => Cell::Weak,
+        (true, true) => Cell::Strict,
     }
 }

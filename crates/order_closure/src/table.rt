@@ -7,8 +7,8 @@ ghost use Rattle.order_closure.specs.Tables.{AreInRange, Denies, IsClosed, Keeps
 ghost use Rattle.std.specs.Prelude.{IfOk, IsErr, List, OnErr, OnOk, [], ◌++◌, ◌<◌, ◌∷◌, ◌↔◌, ◌≡◌, ◌≢◌, ◌≤◌};
 
 use crate::Cell;
-use crate::planes::{cell_at, clear, reflect, row};
-use crate::rows::raise;
+use crate::planes::{MOST_WORDS, cell_at, clear, reflect, row};
+use crate::rows::{join_row, raise};
 use net_core::{Atom, Memory};
 use std::alloc::Global;
 use std::marker::Model;
@@ -19,13 +19,16 @@ pub struct WouldClash;
 
 /// What is known of the order of each two of some points. It is closed: each point is with itself, and what follows from
 /// two cells stands in a third. It is kept as two planes of bits, whose rows have `width` words: in the one, bit j of row i
-/// is set where cell (i, j) is Weak or Strict, in the other where it is Strict.
+/// is set where cell (i, j) is Weak or Strict, in the other where it is Strict. One more row of bits says which points
+/// others reach: where bit j of `reached` is not set, no point but j itself is before or with point j, and so an atom from
+/// point j raises no row but row j.
 #[derive(Drop)]
 pub struct Closed {
     size: usize,
     width: usize,
     weak: Vec<u64>,
     strict: Vec<u64>,
+    reached: [u64; MOST_WORDS],
 }
 
 impl Model for Closed {
@@ -36,7 +39,7 @@ impl Model for Closed {
 
     ghost view = { λ a. table_of a.size (plane_cell a.width a.weak.items a.strict.items) };
 
-    ghost invariant = { λ a. AreClosedPlanes a.size a.width a.weak.items a.strict.items };
+    ghost invariant = { λ a. AreClosedPlanes a.size a.width a.weak.items a.strict.items a.reached };
 }
 
 #[tactic(auto, unfolding(crate::specs::Planes::AreClosedPlanes))]
@@ -62,6 +65,7 @@ impl Closed {
             width,
             weak,
             strict,
+            reached: [0; MOST_WORDS],
         })
     }
 
@@ -118,6 +122,7 @@ impl Closed {
             width: self.width,
             weak,
             strict,
+            reached: self.reached,
         })
     }
 
@@ -149,12 +154,14 @@ impl Closed {
         raise(
             &mut self.weak,
             &mut self.strict,
+            &self.reached,
             self.size,
             self.width,
-            atom.from as usize,
-            atom.to as usize,
-            Cell::order(atom.strict),
+            atom,
         );
+        // What is now before a point or with it was so, or is so over `atom.to`.
+        let over = row(&self.weak, self.width, atom.to as usize);
+        join_row(&mut self.reached, self.width, 0, over);
         Ok(())
     }
 }

@@ -29,16 +29,16 @@ module _ (c : After-reflect) where
   items : (with_items c.in_ok-weak.weak weak).items ≡ weak
   items = let same : length weak ≡ c.in_ok-weak.weak.len = omega arith in with_items_is c.in_ok-weak.weak weak same
 
-  planes : AreClosedPlanes n w (with_items c.in_ok-weak.weak weak).items strict
-  planes = subst (λ (plane : List ℕ). AreClosedPlanes n w plane strict) (sym items)
-      (new_planes n w weak strict c.reflect.ensures c.in_ok-strict.ensures.clear c.requires wide (omega (arith, c.in_ok-weak.ensures.long, c.in_ok-weak.weak.ok.0)) (omega (arith, c.in_ok-strict.ensures.long, c.in_ok-strict.strict.ok.0)))
+  planes : (reached : List ℕ) → AreClosedPlanes n w (with_items c.in_ok-weak.weak weak).items strict reached
+  planes reached = subst (λ (plane : List ℕ). AreClosedPlanes n w plane strict reached) (sym items)
+      (new_planes n w weak strict c.reflect.ensures c.in_ok-strict.ensures.clear reached c.requires wide (omega (arith, c.in_ok-weak.ensures.long, c.in_ok-weak.weak.ok.0)) (omega (arith, c.in_ok-strict.ensures.long, c.in_ok-strict.strict.ok.0)))
 
   is_new : table_of n (plane_cell w (with_items c.in_ok-weak.weak weak).items strict) ≡ table_of n new_cell
   is_new = subst (λ (plane : List ℕ). table_of n (plane_cell w plane strict) ≡ table_of n new_cell) (sym items)
       (table_of-same n (plane_cell w weak strict) new_cell (new_cells n w weak strict c.reflect.ensures c.in_ok-strict.ensures.clear wide))
 
 pub invariant_of-result : goal.invariant_of-result
-invariant_of-result c = planes (goal.at.invariant_of-result c).After-reflect
+invariant_of-result c = planes (goal.at.invariant_of-result c).After-reflect _
 
 pub returns-clause-ok : goal.returns-clause-ok
 returns-clause-ok c = is_new (goal.at.returns-clause-ok c).After-reflect
