@@ -1,2 +1,4 @@
 pub mod Turns
+pub mod Words
+pub mod Raised
 pub mod Whole

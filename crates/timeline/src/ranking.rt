@@ -1,19 +1,21 @@
-//! The ranks of points, from those with the fewest points before them on.
+//! The ranks of points, from those with the most points after them on.
 ghost use Rattle.net_core.specs.Ranks.{timeline_of};
-ghost use Rattle.order_closure.specs.Counting as spec;
+ghost use Rattle.order_closure.specs.Bits.{bit_of};
 ghost use Rattle.order_closure.specs.Tables.{IsClosed, Keeps, cell_at};
 ghost use Rattle.order_closure.specs.Timelines.{IsLeast};
-ghost use Rattle.std.specs.Prelude.{IfOk, length, slice_index, ℕ, ◌<◌, ◌≡◌};
-ghost use Rattle.timeline.specs.Ranking.{AreCounted, AreInTurn, AreRanks, AreSmall, IsRankOf};
+ghost use Rattle.std.specs.Int.{bit_at};
+ghost use Rattle.std.specs.Prelude.{IfOk, length, slice_index, ℕ, ◌*◌, ◌+◌, ◌/◌, ◌<◌, ◌≡◌, ◌≤◌};
+ghost use Rattle.timeline.specs.Ranking.{AreCounted, AreInTurn, AreRanks, after_count, raised};
 
 use net_core::Memory;
-use order_closure::{Cell, Closed};
+use order_closure::Closed;
 use std::alloc::Global;
+use std::cmp::Reverse;
 
-/// A point, and how many points are before it.
+/// A point, and how many points are after it.
 #[derive(Clone, Copy)]
 struct Counted {
-    before: u32,
+    after: u32,
     point: u32,
 }
 
@@ -37,32 +39,47 @@ pub fn ranked(alloc: Global, closed: &Closed) -> Result<Vec<u32>, Memory>
     Ok(ranks)
 }
 
-/// The points, those with the fewest points before them first: so each comes after all that are before it.
+/// The points, those with the most points after them first: so each comes before all that are after it.
 fn in_turn(alloc: Global, closed: &Closed) -> Result<Vec<Counted>, Memory>
     ensures counted { IfOk result (λ turns. AreCounted closed.now.points (cell_at closed.now) turns.items) }
     ensures sorted { IfOk result (λ turns. AreInTurn turns.items) }
 {
     let mut turns = count_all(alloc, closed)?;
-    turns.sort_unstable_by_key(|turn| turn.before);
+    turns.sort_unstable_by_key(|turn| Reverse(turn.after));
     Ok(turns)
 }
 
-/// How many points are before each point.
+/// How many points are after each point.
 fn count_all(alloc: Global, closed: &Closed) -> Result<Vec<Counted>, Memory>
     ensures { IfOk result (λ all. AreCounted closed.now.points (cell_at closed.now) all.items) }
 {
     let mut all = Vec::new(alloc);
     for point in 0..closed.points() {
-        let before = count_before(closed, point);
-        if all.push(Counted { before, point }).is_err() {
+        let after = count_after(closed, point);
+        if all.push(Counted { after, point }).is_err() {
             return Err(Memory);
         }
     }
     Ok(all)
 }
 
-/// Ranks the points in their turns.
+/// How many points are after a point.
+fn count_after(closed: &Closed, point: u32) -> u32
+    requires few { closed.now.points ≤ 2048 }
+    requires point { point < closed.now.points }
+    ensures { result ≡ after_count closed.now.points (cell_at closed.now) point }
+{
+    let row = closed.strict_row(point);
+    let mut count = 0;
+    for word in row {
+        count += word.count_ones();
+    }
+    count
+}
+
+/// Ranks the points: each in its turn raises the ranks of the points after it above its own, which no later turn changes.
 fn rank_all(closed: &Closed, turns: &[Counted], ranks: &mut [u32])
+    requires few { closed.now.points ≤ 2048 }
     requires closed { IsClosed closed.now }
     requires counted { AreCounted closed.now.points (cell_at closed.now) turns.now }
     requires sorted { AreInTurn turns.now }
@@ -71,45 +88,35 @@ fn rank_all(closed: &Closed, turns: &[Counted], ranks: &mut [u32])
     ensures { AreRanks closed.now.points (cell_at closed.now) ranks.new }
 {
     for turn in turns {
-        ranks[turn.point as usize] = rank_of(closed, ranks, turn.point);
+        let least = ranks[turn.point as usize] + 1;
+        raise_after(ranks, closed.strict_row(turn.point), least);
     }
 }
 
-/// Whether point `r` is before point `p`.
-fn is_before(closed: &Closed, r: u32, p: u32) -> bool
-    requires r { r < closed.now.points }
-    requires p { p < closed.now.points }
-    ensures { result ≡ spec.is_strict (cell_at closed.now r p) }
+/// Raises the rank of each point whose bit is set in a row: it is then at least `least`. The other ranks stay.
+fn raise_after(ranks: &mut [u32], row: &[u64], least: u32)
+    requires long { length row.now ≡ (length ranks.old + 63) / 64 }
+    requires within { (q : ℕ) → bit_of row.now q ≡ 1 → q < length ranks.old }
+    ensures { (q : ℕ) → slice_index ranks.new q ≡ raised (bit_of row.now q) least (slice_index ranks.old q) }
 {
-    closed.cell(r, p) == Cell::Strict
+    for (k, word) in row.iter().enumerate() {
+        raise_word(ranks, 64 * k, *word, least);
+    }
 }
 
-/// How many points are before a point.
-fn count_before(closed: &Closed, p: u32) -> u32
-    requires { p < closed.now.points }
-    ensures { result ≡ spec.before_count closed.now.points (cell_at closed.now) p }
+/// Raises the rank of each point whose bit is set in one word, of which bit 0 is that of point `first`. It takes one step
+/// for each bit that is set.
+fn raise_word(ranks: &mut [u32], first: usize, word: u64, least: u32)
+    requires { (j : ℕ) → bit_at word j ≡ 1 → first + j < length ranks.old }
+    ensures raised { (j : ℕ) → slice_index ranks.new (first + j)
+        ≡ raised (bit_at word j) least (slice_index ranks.old (first + j)) }
+    ensures others { (q : ℕ) → q < first → slice_index ranks.new q ≡ slice_index ranks.old q }
 {
-    let mut count = 0;
-    for r in 0..closed.points() {
-        if is_before(closed, r, p) {
-            count += 1;
-        }
+    let mut rest = word;
+    while rest != 0 {
+        let j = rest.trailing_zeros() as usize;
+        let rank = &mut ranks[first + j];
+        *rank = (*rank).max(least);
+        rest &= rest - 1;
     }
-    count
-}
-
-/// The least number above the ranks of the points before a point.
-fn rank_of(closed: &Closed, ranks: &[u32], p: u32) -> u32
-    requires p { p < closed.now.points }
-    requires size { length ranks.now ≡ closed.now.points }
-    requires small { AreSmall closed.now.points (cell_at closed.now) ranks.now }
-    ensures { IsRankOf closed.now.points (cell_at closed.now) ranks.now p result }
-{
-    let mut rank: u32 = 0;
-    for r in 0..closed.points() {
-        if is_before(closed, r, p) {
-            rank = rank.max(ranks[r as usize] + 1);
-        }
-    }
-    rank
 }

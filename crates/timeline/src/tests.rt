@@ -86,6 +86,22 @@ fn least_ranks_are_the_longest_chains(rt: HostRuntime) {
     }
 }
 
+#[test]
+fn ranks_go_past_a_word(rt: HostRuntime) {
+    // a chain of more points than a word has bits, against the order of numbers
+    let mut atoms = [before(1, 0); 129];
+    for (point, atom) in atoms.iter_mut().enumerate() {
+        *atom = before(point as u32 + 1, point as u32);
+    }
+    let table = closed(&rt, 130, &atoms);
+    let ranks = least_of(&rt, &table);
+    let ranks = ranks.as_slice();
+    assert!(&rt; ranks.len() == 130);
+    for (point, rank) in ranks.iter().enumerate() {
+        assert_eq!(&rt; *rank as usize, 129 - point);
+    }
+}
+
 fn counter_of(rt: &(impl Abort + AllocGlobal), table: &Closed, atom: Atom) -> Ranks {
     assert!(rt; table.points() % 2 == 0);
     assert!(rt; atom.from < table.points() && atom.to < table.points());

@@ -13,8 +13,8 @@ loop-point-preserved c =
     let p = c.loop-point.point in
     let old = c.loop-point.invariant in
     let lt : p < n = omega (arith, old.end) in
-    let pushed : c.push.new.self.items ≡ c.loop-point.all.items ++ record { before = c.count_before-before.result; point = p } ∷ [] = search rules in
-    let all : c.push.new.self.items ≡ c.loop-point.all.items ++ counted_at n cell p ∷ [] = pushed ∙ (λ i. c.loop-point.all.items ++ record { before = c.count_before-before.ensures i; point = p } ∷ []) in
+    let pushed : c.push.new.self.items ≡ c.loop-point.all.items ++ record { after = c.count_after-after.result; point = p } ∷ [] = search rules in
+    let all : c.push.new.self.items ≡ c.loop-point.all.items ++ counted_at n cell p ∷ [] = pushed ∙ (λ i. c.loop-point.all.items ++ record { after = c.count_after-after.ensures i; point = p } ∷ []) in
     let more = counted_more n p cell c.loop-point.all.items lt old.right old.whole in
     record {
       end = old.end;

@@ -1,12 +1,11 @@
-use Rattle.std.proofs.Common.{◌≡◌, length}
+use Rattle.std.proofs.Common.{◌≡◌, get_or, length}
 use Rattle.order_closure.specs.Tables.{cell_at}
-use Rattle.timeline.specs.Ranking.{AreSmall}
-use Rattle.timeline.proofs.Turns.{AreRankedTo}
+use Rattle.timeline.proofs.Raised.{AreRankedTo}
+use Rattle.timeline.proofs.Turns.{point_at}
 use Rattle.timeline.proofs.ranking.rank_all.Given as goal
 
 abbrev pub invariant-loop-turn : goal.invariant-loop-turn
 invariant-loop-turn l = record {
   size : length l.ranks ≡ l.closed.points;
-  ranked : AreRankedTo l.closed.points (cell_at l.closed) l.turns l.turn-index l.ranks;
-  small : AreSmall l.closed.points (cell_at l.closed) l.ranks;
+  ranked : AreRankedTo l.closed.points (cell_at l.closed) (point_at l.turns) l.turn-index (λ q. get_or l.ranks q 0);
 }
