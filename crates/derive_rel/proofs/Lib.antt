@@ -1,3 +1,4 @@
+pub mod OneWay
 pub mod Given
 pub mod Joined
 pub mod Turns

@@ -1,5 +1,5 @@
 -- What a table says of the points of two intervals.
-use Rattle.std.specs.Prelude.{ℕ, Bool, true, false, List, [], ◌∷◌, slice_index_or}
+use Rattle.std.specs.Prelude.{ℕ, ◌+◌, ◌*◌, Bool, true, false, ◌||◌, List, [], ◌∷◌, slice_index_or}
 use Rattle.std.specs.List.{list_all}
 use Rattle.net_core.specs.Atoms.{atoms_between}
 use Rattle.net_core.specs.declared.atom.Atom.{Atom}
@@ -31,3 +31,7 @@ cell_in set p q = slice_index_or (slice_index_or (rows_in set) p []) q Free
 -- whether all orders that a relation is are given
 abbrev pub has : RelSet → Rel → Bool
 has set r = list_all (λ (atom : Atom). gives (cell_in set atom.from atom.to) atom.strict) (atoms_between r (record { start = 0; finish = 1 }) (record { start = 2; finish = 3 }))
+
+-- whether some cell from a point of the first interval to one of the second gives an order
+abbrev pub says_some : (ℕ → ℕ → Cell) → ℕ → ℕ → Bool
+says_some cell a b = gives (cell (2 * a) (2 * b)) false || gives (cell (2 * a) (2 * b + 1)) false || gives (cell (2 * a + 1) (2 * b)) false || gives (cell (2 * a + 1) (2 * b + 1)) false

@@ -1,9 +1,12 @@
 //! All relations that hold in all timelines of a table.
 ghost use Rattle.derive_rel.specs.Entailed.{AreRows, OneRowList};
+ghost use Rattle.derive_rel.specs.Pairs.{says_some};
 ghost use Rattle.derive_rel.specs.Pushing.{ArePutLast, IsFrom, IsOf};
-ghost use Rattle.std.specs.Prelude.{IfOk, OnOk, ◌%◌, ◌*◌, ◌+◌, ◌<◌, ◌≡◌, ◌≤◌};
+ghost use Rattle.order_closure.specs.Tables.{cell_at};
+ghost use Rattle.std.specs.Prelude.{IfOk, OnOk, false, ◌%◌, ◌*◌, ◌+◌, ◌<◌, ◌≡◌, ◌≤◌};
 
 use crate::pairs::entailed;
+use crate::ways::gives_some;
 use named::Named;
 use net_core::{List, Memory, Rel};
 use order_closure::Closed;
@@ -46,8 +49,54 @@ fn push_from(rows: &mut List<Row>, closed: &Closed, a: u32) -> Result<(), Memory
     Ok(())
 }
 
-/// Puts the relations of two intervals last.
+/// Puts the relations of two intervals last. Where the table orders their points one way alone, only BEFORE or only AFTER
+/// can be one: so it is for most intervals of most documents.
 fn push_pair(rows: &mut List<Row>, closed: &Closed, a: u32, b: u32) -> Result<(), Memory>
+    requires a { a < b }
+    requires b { 2 * b + 1 < closed.now.points }
+    ensures { OnOk result (ArePutLast closed.now (IsOf a b) rows.old rows.new) }
+{
+    if !gives_some(closed, b, a) {
+        return push_before(rows, closed, a, b);
+    }
+    if !gives_some(closed, a, b) {
+        return push_after(rows, closed, a, b);
+    }
+    push_all(rows, closed, a, b)
+}
+
+/// Puts BEFORE last, where it holds between two intervals and no other relation can.
+fn push_before(rows: &mut List<Row>, closed: &Closed, a: u32, b: u32) -> Result<(), Memory>
+    requires a { a < b }
+    requires b { 2 * b + 1 < closed.now.points }
+    requires alone { says_some (cell_at closed.now) b a ≡ false }
+    ensures { OnOk result (ArePutLast closed.now (IsOf a b) rows.old rows.new) }
+{
+    prove!(closed.points() <= 2048);
+    if closed.cell(2 * a + 1, 2 * b).gives(true) {
+        let rel = Rel::Before;
+        return rows.push(Row { a, rel, b });
+    }
+    Ok(())
+}
+
+/// Puts AFTER last, where it holds between two intervals and no other relation can.
+fn push_after(rows: &mut List<Row>, closed: &Closed, a: u32, b: u32) -> Result<(), Memory>
+    requires a { a < b }
+    requires b { 2 * b + 1 < closed.now.points }
+    requires alone { says_some (cell_at closed.now) a b ≡ false }
+    ensures { OnOk result (ArePutLast closed.now (IsOf a b) rows.old rows.new) }
+{
+    prove!(closed.points() <= 2048);
+    if closed.cell(2 * b + 1, 2 * a).gives(true) {
+        let rel = Rel::After;
+        return rows.push(Row { a, rel, b });
+    }
+    Ok(())
+}
+
+/// Puts the relations of two intervals last, each that holds between them.
+fn push_all(rows: &mut List<Row>, closed: &Closed, a: u32, b: u32) -> Result<(), Memory>
     requires a { a < b }
     requires b { 2 * b + 1 < closed.now.points }
     ensures { OnOk result (ArePutLast closed.now (IsOf a b) rows.old rows.new) }

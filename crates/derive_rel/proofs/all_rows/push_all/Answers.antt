@@ -3,8 +3,8 @@ use Rattle.net_core.specs.declared.rels.Rel.{Rel}
 use Rattle.net_core.specs.declared.rels.Rel.TheVariants as rel
 use Rattle.derive_rel.specs.Pushing.{ArePutLast}
 use Rattle.derive_rel.proofs.Turns.{IsOfFirst, last_relation, no_relation, one_relation, rel_at}
-use Rattle.derive_rel.proofs.all_rows.push_pair.Goals as goal
-use Rattle.derive_rel.proofs.all_rows.push_pair.Goals.{then-has+in_ok-push, else-has}
+use Rattle.derive_rel.proofs.all_rows.push_all.Goals as goal
+use Rattle.derive_rel.proofs.all_rows.push_all.Goals.{then-has+in_ok-push, else-has}
 
 pub loop-rel-preserved : goal.loop-rel-preserved
 loop-rel-preserved c =
