@@ -1,18 +1,20 @@
 -- A closed table that is kept by the timelines that fit a net.
-use Rattle.std.proofs.Common.{◌≡◌, ◌↔◌, ℕ, ◌<◌, ◌≤◌, Bool, true, false, refl, arith}
+use Rattle.std.proofs.Common.{◌≡◌, ◌↔◌, ℕ, ◌<◌, ◌≤◌, Bool, true, false, List, refl, arith}
 use Rattle.net_core.specs.Fits.{Fits, FitsWith}
 use Rattle.net_core.specs.Nets.{PlainNet, points}
 use Rattle.net_core.specs.Relations.{Timeline}
 use Rattle.order_closure.specs.Cells.{Says, order, strength}
 use Rattle.order_closure.specs.Counting.{before_count}
-use Rattle.order_closure.specs.Tables.{IsClosed, Keeps, Table, cell_at}
+use Rattle.net_core.specs.declared.atom.Atom.{Atom}
+use Rattle.order_closure.specs.Tables.{IsClosed, Keeps, SatisfiesAll, Table, cell_at}
 use Rattle.order_closure.specs.declared.cell.Cell.{Cell}
 use Rattle.order_closure.specs.declared.cell.Cell.TheVariants.{Free, Strict, Weak}
 use Rattle.order_closure.proofs.Central.{always_stands, order_says}
 use Rattle.order_closure.proofs.Ranking.{counts_kept, strict_from, strict_says}
 use Rattle.clash.specs.Closures.{Always, HasNoTimeline, IsClosureOf, NoLink}
 use Rattle.clash.specs.Minimal.{IsFirstClash}
-use Rattle.clash.specs.Steps.{Adds, IsFirstExcluded, KeepsDates, KeepsLinks, KeepsSpans}
+use Rattle.clash.specs.Orders.{AreFixed}
+use Rattle.clash.specs.Steps.{Adds, IsFirstExcluded, KeepsLinks}
 
 -- a cell that says something is Weak or Strict
 weak_or_strict : (x : Cell) → 1 ≤ strength x → ¬ (x ≡ Strict) → x ≡ Weak
@@ -54,14 +56,14 @@ module _ (net : PlainNet) (table : Table) (closed : IsClosed table) (size : tabl
   pub one_fits : (t : Timeline) × Fits net t
   one_fits = let t = before_count table.points (cell_at table) in (t, (keeps t).0 (counts_kept table.points (cell_at table) closed))
 
--- the timelines that keep the table of spans and dates are those that fit with no links
-pub unlinked : (net : PlainNet) (none spanned last : Table) → ((t : Timeline) → Keeps none t) → Adds (KeepsSpans net) none spanned → Adds (KeepsDates net) spanned last
+-- the timelines that keep the table of what is fixed are those that fit with no links
+pub unlinked : (net : PlainNet) (fixed : List Atom) (none last : Table) → AreFixed net fixed → ((t : Timeline) → Keeps none t) → Adds (SatisfiesAll fixed) none last
     → (t : Timeline) → Keeps last t ↔ FitsWith net NoLink t
-unlinked net none spanned last all spans dates t = (
+unlinked net fixed none last are all adds t = (
   λ kept.
-      let second = (dates.1 t).0 kept in
-      record { order = ((spans.1 t).0 second.0).1; links = λ k lt chosen. absurd chosen; calendar = second.1 },
-  λ fits. (dates.1 t).1 ((spans.1 t).1 (all t, fits.order), fits.calendar),
+      let both = (are.exact t).0 ((adds.1 t).0 kept).1 in
+      record { order = both.0; links = λ k lt chosen. absurd chosen; calendar = both.1 },
+  λ fits. (adds.1 t).1 (all t, (are.exact t).1 (fits.order, fits.calendar)),
 )
 
 module _ (net : PlainNet) (table : Table) (fitting : (t : Timeline) → Keeps table t ↔ FitsWith net NoLink t) where

@@ -1,4 +1,5 @@
 pub mod DateOrders
+pub mod CalendarOrders
 pub mod Exact
 pub mod LinkAtoms
 pub mod Steps
@@ -8,7 +9,9 @@ pub mod Unlinked
 pub mod Rounds
 pub mod Marked
 pub mod Proved
+pub mod Ordered
 pub mod Rising
+pub mod Settled
 pub mod StepsBut
 pub mod RankSums
 pub mod Spared

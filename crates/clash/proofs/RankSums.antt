@@ -1,11 +1,9 @@
 -- Sums of ranks that rise.
-use Rattle.std.proofs.Common.{◌≡◌, ◌∷◌, ◌<◌, ◌≤◌, ◌+◌, ◌-◌, ◌*◌, if◌then◌else◌, Bool, true, nat_lt, ℕ, zero, suc, List, [], length, slice_index, refl, arith}
+use Rattle.std.proofs.Common.{◌≡◌, ◌∷◌, ◌≤◌, ◌*◌, ℕ, zero, suc, List, [], length, slice_index, refl, arith}
 use Rattle.std.specs.List.{All, sum_by}
-use Rattle.std.proofs.lemmas.Bool.Decides.{nat_tests}
 use Rattle.std.proofs.lemmas.List.Elements.{All-from_get_or}
 use Rattle.std.proofs.lemmas.List.Sums.{sum_by-cons, sum_by-le}
-use Rattle.clash.specs.Raising.{HasRoom, Rises}
-use Rattle.net_core.specs.Relations.{Timeline}
+use Rattle.clash.specs.Raising.{AreWithin}
 
 -- the sum of ranks
 abbrev pub sum_of : List ℕ → ℕ
@@ -34,16 +32,8 @@ same_sum (x ∷ old) (y ∷ new) size up less =
     let more = same_sum old new (omega arith) (λ p. up (suc p)) (omega arith) in
     cc
 
--- ranks that are not past a timeline with small ranks have a bounded sum
-pub sum_bounded : (IsTrue : Timeline → Type 0) (start now : List ℕ) → HasRoom IsTrue start → Rises IsTrue start now → sum_of now ≤ length start * 2048
-sum_bounded IsTrue start now room rises =
-    let under = rises.under room.0 room.1 room.2 in
-    let size = rises.size in
-    let small : All (λ (rank : ℕ). rank ≤ 2048) now = All-from_get_or (λ (rank : ℕ). rank ≤ 2048) now 0 (λ p lt. let below = under p lt in let few = room.3 p (omega arith) in omega arith) in
-    let sum = sum_by-le (λ (rank : ℕ). rank) 2048 now small in
-    omega arith
-
--- where a sum grew it is nearer to its bound
-pub nearer : (most before after x y : ℕ) (risen : Bool) → x ≡ before → y ≡ after → risen ≡ true → after ≤ most
-    → (if nat_lt x y then most - after + 1 else 0) < (if risen then most - before + 1 else 0)
-nearer most before after x y risen e f g le = grind (arith, nat_tests)
+-- ranks that are not past the highest have a bounded sum
+pub sum_bounded : (ranks : List ℕ) → AreWithin ranks → sum_of ranks ≤ length ranks * 1024
+sum_bounded ranks within =
+    let small : All (λ (rank : ℕ). rank ≤ 1024) ranks = All-from_get_or (λ (rank : ℕ). rank ≤ 1024) ranks 0 (λ p lt. within p) in
+    omega (arith, sum_by-le (λ (rank : ℕ). rank) 1024 ranks small)

@@ -1,18 +1,23 @@
 -- The least ranks with which a walk's links but one hold.
-use Rattle.std.proofs.Common.{◌≡◌, ◌≢◌, ◌↔◌, ◌==◌, ◌&&◌, ℕ, ◌+◌, ◌<◌, Bool, true, false, not, List, [], ◌∷◌, ◌++◌, length, length-append, replicate, take, slice_index, slice_index_or, sym, ap, ◌∙◌, arith, inl, inr}
+use Rattle.std.proofs.Common.{◌≡◌, ◌≢◌, ◌↔◌, ◌==◌, ◌&&◌, ℕ, ◌+◌, ◌<◌, ◌≤◌, Bool, true, false, not, List, [], ◌∷◌, ◌++◌, length, length-append, replicate, take, slice_index, slice_index_or, sym, ap, subst, ◌∙◌, arith, inl, inr}
+use Rattle.std.specs.List.{Contains}
 use Rattle.std.proofs.Math.ListN.{get_or-append}
 use Rattle.std.proofs.Math.Seq.{get_or-append_seam}
 use Rattle.std.proofs.lemmas.Bool.{cases_lt}
 use Rattle.std.proofs.lemmas.Bool.Decides.{nat_tests}
-use Rattle.std.proofs.lemmas.List.{get_or-replicate, length-replicate, take_more}
+use Rattle.std.proofs.lemmas.List.{get_or-replicate, get_or_default, get_or_past, length-replicate, take_more}
 use Rattle.net_core.specs.Clashes.{Others}
 use Rattle.net_core.specs.Fits.{FitsWith}
 use Rattle.net_core.specs.Nets.{IsNet, PlainNet, points}
 use Rattle.net_core.specs.Ranks.{timeline_of}
 use Rattle.net_core.specs.Relations.{Timeline}
 use Rattle.net_core.specs.Walks.{Kept}
+use Rattle.net_core.specs.declared.atom.Atom.{Atom}
+use Rattle.order_closure.specs.Tables.{AreInRange}
 use Rattle.clash.specs.Minimal.{AreSpares, IsRound, IsSpare, IsSpared}
-use Rattle.clash.specs.Raising.{AreUnder, FitsBut, HasRoom, Rises}
+use Rattle.clash.specs.Orders.{AreBelow, AreFixed, FitsBut}
+use Rattle.clash.specs.Raising.{AreLow, AreUnder, AreWithin, Rises}
+use Rattle.clash.specs.declared.orders.Order.{Order}
 use Rattle.clash.specs.declared.round.Round.{Round}
 use Rattle.clash.proofs.Complete.{small_timeline}
 use Rattle.clash.proofs.Rounds.{fits_fewer}
@@ -30,7 +35,38 @@ others marks but k = both (slice_index_or marks k false)
     both true = grind (arith, nat_tests)
     both false = (λ e. absurd cc, λ e. absurd (let f = e.0 in cc))
 
-module _ (net : PlainNet) (round : Round) (but : ℕ) (net_is : IsNet net) (is : IsRound net round) (spared : IsSpared net (Kept round.over.items) but) where
+-- there is a zero for each point
+pub zeros_size : (net : PlainNet) (zeros : List ℕ) → zeros ≡ replicate (points net) 0 → length zeros ≡ points net
+zeros_size net zeros e = ap length e ∙ length-replicate (points net) 0
+
+-- each is zero
+zero_at : (net : PlainNet) (zeros : List ℕ) → zeros ≡ replicate (points net) 0 → (p : ℕ) → slice_index zeros p ≡ 0
+zero_at net zeros e p = elim (cases_lt p (points net)) [
+  | inl lt ↦ ap (λ (xs : List ℕ). slice_index xs p) e ∙ get_or-replicate (points net) p 0 0 lt
+  | inr past ↦ get_or_past zeros p 0 (let size = zeros_size net zeros e in omega arith)
+]
+
+-- no zero is above the highest rank, or above a rank of a timeline
+pub zeros_within : (net : PlainNet) (zeros : List ℕ) → zeros ≡ replicate (points net) 0 → AreWithin zeros
+zeros_within net zeros e p = omega (arith, zero_at net zeros e p)
+
+zeros_under : (net : PlainNet) (zeros : List ℕ) (t : Timeline) → zeros ≡ replicate (points net) 0 → AreUnder zeros t
+zeros_under net zeros t e p lt = omega (arith, zero_at net zeros e p)
+
+-- zeros can be raised by the orders of a round and by those that are fixed
+pub zeros_ready : (net : PlainNet) (round : Round) (fixed : List Atom) (orders : List Order) (zeros : List ℕ) → IsNet net → IsRound net round → AreFixed net fixed
+    → orders ≡ round.orders → zeros ≡ replicate (points net) 0
+    → AreBelow (length zeros) orders × AreInRange (length zeros) fixed × (length zeros ≤ 1024) × AreWithin zeros
+zeros_ready net round fixed orders zeros net_is is are same e =
+    let size = sym (zeros_size net zeros e) in
+    let few = net_is.few_intervals in (
+      subst (λ (n : ℕ). AreBelow n orders) size (subst (AreBelow (points net)) (sym same) is.orders.in_range),
+      subst (λ (n : ℕ). AreInRange n fixed) size are.in_range,
+      omega (arith, size),
+      zeros_within net zeros e,
+    )
+
+module _ (net : PlainNet) (round : Round) (fixed : List Atom) (but : ℕ) (net_is : IsNet net) (is : IsRound net round) (are : AreFixed net fixed) (spared : IsSpared net (Kept round.over.items) but) where
   abbrev Rest : ℕ → Type 0
   Rest = Others (Kept round.over.items) but
 
@@ -42,38 +78,48 @@ module _ (net : PlainNet) (round : Round) (but : ℕ) (net_is : IsNet net) (is :
       (fits_fewer net Rest (λ k. test k ≡ true) spared.0 (λ k below. (others round.over.items but k).0) spared.1) in
       (one.0, fits_fewer net (λ k. test k ≡ true) Rest one.0 (λ k below. (others round.over.items but k).1) one.1, one.2)
 
-  zeros_size : (zeros : List ℕ) → zeros ≡ replicate (points net) 0 → length zeros ≡ points net
-  zeros_size zeros e = ap length e ∙ length-replicate (points net) 0
-
-  -- no zero is above a rank
-  zeros_under : (zeros : List ℕ) (t : Timeline) → zeros ≡ replicate (points net) 0 → AreUnder zeros t
-  zeros_under zeros t e = λ p lt.
-      let size : length zeros ≡ points net = zeros_size zeros e in
-      let here : slice_index zeros p ≡ 0 = ap (λ (xs : List ℕ). slice_index xs p) e ∙ get_or-replicate (points net) p 0 0 (omega arith) in
-      omega arith
-
-  -- zeros have room
-  pub room_of_zeros : (zeros : List ℕ) → zeros ≡ replicate (points net) 0 → HasRoom (FitsBut net but round.walk) zeros
-  room_of_zeros zeros e =
-      let size = zeros_size zeros e in
+  -- ranks that rose from zeros are low
+  pub low_from_zeros : (zeros ranks : List ℕ) → zeros ≡ replicate (points net) 0 → Rises (FitsBut round.orders fixed but) zeros ranks → AreLow ranks
+  low_from_zeros zeros ranks e rises p =
+      let size = zeros_size net zeros e in
+      let long = rises.size in
       let few = net_is.few_intervals in
-      (small.0, (fits_but net round but is small.0).0 small.1, zeros_under zeros small.0 e, λ p lt. let less = small.2 p (omega arith) in omega arith)
+      elim (cases_lt p (length ranks)) [
+        | inl lt ↦
+            let under = rises.under small.0 ((fits_but net round fixed but is are small.0).0 small.1) (zeros_under net zeros small.0 e) p lt in
+            let below = small.2 p (omega arith) in
+            omega arith
+        | inr past ↦ omega (arith, get_or_past ranks p 0 past)
+      ]
 
   -- zeros that rise until they fit are the least ranks
-  pub spare_of_zeros : (zeros ranks : List ℕ) → zeros ≡ replicate (points net) 0 → Rises (FitsBut net but round.walk) zeros ranks → FitsBut net but round.walk (timeline_of ranks)
+  pub spare_of_zeros : (zeros ranks : List ℕ) → zeros ≡ replicate (points net) 0 → Rises (FitsBut round.orders fixed but) zeros ranks → FitsBut round.orders fixed but (timeline_of ranks)
       → IsSpare net (Kept round.over.items) but ranks
   spare_of_zeros zeros ranks e rises fits =
-      let size = zeros_size zeros e in
+      let size = zeros_size net zeros e in
       let long = rises.size in
-      let under = λ (u : Timeline) (holds : FitsWith net Rest u). rises.under u ((fits_but net round but is u).0 holds) (zeros_under zeros u e) in
+      let under = λ (u : Timeline) (holds : FitsWith net Rest u). rises.under u ((fits_but net round fixed but is are u).0 holds) (zeros_under net zeros u e) in
       record {
         size = long ∙ size;
         least = record {
-          holds = (fits_but net round but is (timeline_of ranks)).1 fits;
+          holds = (fits_but net round fixed but is are (timeline_of ranks)).1 fits;
           least = λ u holds p lt. under u holds p (omega arith);
         };
         small = λ p lt. let below = under small.0 small.1 p (omega arith) in let few = small.2 p lt in omega arith;
       }
+
+-- zeros that rise until they fit are the least ranks, and so a timeline fits
+pub spare_from_zeros : (net : PlainNet) (round : Round) (fixed : List Atom) (but : ℕ) (zeros ranks : List ℕ) → IsNet net → IsRound net round → AreFixed net fixed
+    → zeros ≡ replicate (points net) 0 → Rises (FitsBut round.orders fixed but) zeros ranks → FitsBut round.orders fixed but (timeline_of ranks) → IsSpare net (Kept round.over.items) but ranks
+spare_from_zeros net round fixed but zeros ranks net_is is are e rises fits =
+    spare_of_zeros net round fixed but net_is is are (timeline_of ranks, (fits_but net round fixed but is are (timeline_of ranks)).1 fits) zeros ranks e rises fits
+
+-- where there is a spare for each of some links, each of them is needed
+pub spares_needed : (net : PlainNet) (Chosen : ℕ → Type 0) (cites : List ℕ) (spares : List (List ℕ)) → AreSpares net Chosen cites spares → (k : ℕ) → Contains cites k → IsSpared net Chosen k
+spares_needed net Chosen cites spares are k has =
+    let at : slice_index cites has.0 ≡ k = get_or_default cites has.0 0 k has.1 ∙ has.2 in
+    let spare = are.1 has.0 has.1 in
+    subst (IsSpared net Chosen) at (timeline_of (slice_index_or spares has.0 []), spare.least.holds)
 
 -- one spare more
 push_spare : (net : PlainNet) (Chosen : ℕ → Type 0) (cites : List ℕ) (spares : List (List ℕ)) (cite : ℕ) (spare : List ℕ) → AreSpares net Chosen cites spares → IsSpare net Chosen cite spare

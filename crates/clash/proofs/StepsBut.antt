@@ -1,11 +1,11 @@
 -- What steps are over holds, but for one link.
-use Rattle.std.proofs.Common.{◌≡◌, ◌≢◌, ◌↔◌, ℕ, ◌<◌, List, length, get_or, Some, None, refl, sym, subst}
+use Rattle.std.proofs.Common.{◌≡◌, ◌≢◌, ◌↔◌, ℕ, ◌<◌, ◌≤◌, List, length, get_or, Some, None, refl, sym, subst, arith}
 use Rattle.std.specs.List.{Contains}
 use Rattle.std.proofs.lemmas.List.Elements.{All-contains, All-from_get_or, Contains-get_or}
 use Rattle.net_core.specs.Clashes.{Others}
-use Rattle.net_core.specs.Atoms.{Satisfies, atoms_of}
+use Rattle.net_core.specs.Atoms.{Satisfies}
 use Rattle.net_core.specs.Fits.{FitsWith, KeepsLink}
-use Rattle.net_core.specs.Nets.{PlainNet, link_at}
+use Rattle.net_core.specs.Nets.{PlainNet}
 use Rattle.net_core.specs.Relations.{Timeline}
 use Rattle.net_core.specs.Steps.{atom_of, link_of}
 use Rattle.net_core.specs.declared.atom.Atom.{Atom}
@@ -13,25 +13,27 @@ use Rattle.net_core.specs.declared.step.Step.{Step}
 use Rattle.net_core.specs.declared.step.Step.TheVariants.{Link, Span, Calendar}
 use Rattle.net_core.specs.Walks.{Kept}
 use Rattle.net_core.proofs.StepLaws.{step_kept}
-use Rattle.order_closure.specs.Tables.{SatisfiesAll}
 use Rattle.clash.specs.Minimal.{IsRound}
-use Rattle.clash.specs.Raising.{FitsBut, HoldsBut}
+use Rattle.clash.specs.Orders.{AreFixed, FitsBut, HoldsBut}
 use Rattle.clash.specs.declared.round.Round.{Round}
-use Rattle.clash.proofs.LinkAtoms.{link_said}
 
 -- what is read past the end of a list of steps
 abbrev pub no_step : Step
 no_step = Link 0 0
 
--- what a step over a link is over holds where all atoms of the link are true
-pub over_link : (net : PlainNet) (but k : ℕ) (step : Step) (atoms : List Atom) → Some k ≡ link_of step → k ≢ but → k < length net.links
-    → (let link = link_at net k in atoms ≡ atoms_of link.rel link.a link.b) → (t : Timeline) → SatisfiesAll atoms t ↔ HoldsBut net but step t
-over_link net but k (Link j i) atoms e other within are t =
+-- what a step over a link is over holds where the link does, unless it is left out
+pub over_link : (net : PlainNet) (but k : ℕ) (step : Step) → Some k ≡ link_of step → k < length net.links → (t : Timeline) → (k ≢ but → KeepsLink net t k) ↔ HoldsBut net but step t
+over_link net but k (Link j i) e within t =
     let same : k ≡ j = cc in
-    let said = link_said net k atoms are t in
-    subst (λ (n : ℕ). SatisfiesAll atoms t ↔ HoldsBut net but (Link n i) t) same (λ all. λ ne lt. said.0 all, λ holds. said.1 (holds other within))
-over_link net but k (Span i) atoms e other within are t = absurd cc
-over_link net but k (Calendar p q) atoms e other within are t = absurd cc
+    subst (λ (n : ℕ). (k ≢ but → KeepsLink net t k) ↔ HoldsBut net but (Link n i) t) same (λ holds. λ other lt. holds other, λ holds. λ other. holds other within)
+over_link net but k (Span i) e within t = absurd cc
+over_link net but k (Calendar p q) e within t = absurd cc
+
+-- a step over a link that is not there asks for nothing
+pub over_no_link : (net : PlainNet) (but k : ℕ) (step : Step) → Some k ≡ link_of step → length net.links ≤ k → (t : Timeline) → HoldsBut net but step t
+over_no_link net but k (Link j i) e past t = λ other lt. let same : k ≡ j = cc in absurd (omega arith)
+over_no_link net but k (Span i) e past t = absurd cc
+over_no_link net but k (Calendar p q) e past t = absurd cc
 
 -- what another step is over holds where its order is true
 pub over_order : (net : PlainNet) (but : ℕ) (step : Step) (a : Atom) → None ≡ link_of step → Some a ≡ atom_of net step → (t : Timeline) → Satisfies t a ↔ HoldsBut net but step t
@@ -39,7 +41,13 @@ over_order net but (Link j i) a none is t = absurd cc
 over_order net but (Span i) a none is t = (λ holds. λ b e. subst (Satisfies t) (let same : a ≡ b = cc in same) holds, λ holds. holds a (sym is))
 over_order net but (Calendar p q) a none is t = (λ holds. λ b e. subst (Satisfies t) (let same : a ≡ b = cc in same) holds, λ holds. holds a (sym is))
 
-module _ (net : PlainNet) (round : Round) (but : ℕ) (is : IsRound net round) where
+-- another step that goes by no order asks for nothing
+pub over_nothing : (net : PlainNet) (but : ℕ) (step : Step) → None ≡ link_of step → None ≡ atom_of net step → (t : Timeline) → HoldsBut net but step t
+over_nothing net but (Link j i) none is t = absurd cc
+over_nothing net but (Span i) none is t = λ a e. absurd cc
+over_nothing net but (Calendar p q) none is t = λ a e. absurd cc
+
+module _ (net : PlainNet) (round : Round) (fixed : List Atom) (but : ℕ) (is : IsRound net round) (are : AreFixed net fixed) where
   -- what a step of the walk is over holds where the other links do
   held : (t : Timeline) (step : Step) → FitsWith net (Others (Kept round.over.items) but) t → Contains round.walk step → HoldsBut net but step t
   held t (Link k i) fits has = λ other within. fits.links k within ((is.over k within).1 (Link k i, has, refl), other)
@@ -54,20 +62,21 @@ module _ (net : PlainNet) (round : Round) (but : ℕ) (is : IsRound net round) w
   link_held t k (Span i) e other within holds = absurd cc
   link_held t k (Calendar p q) e other within holds = absurd cc
 
-  -- the other links hold exactly where what the steps are over does
-  pub fits_but : (t : Timeline) → FitsWith net (Others (Kept round.over.items) but) t ↔ FitsBut net but round.walk t
+  -- the other links hold exactly where all orders are true but those of one link
+  pub fits_but : (t : Timeline) → FitsWith net (Others (Kept round.over.items) but) t ↔ FitsBut round.orders fixed but t
   fits_but t = (
     λ fits. record {
-      held = All-from_get_or (λ (step : Step). HoldsBut net but step t) round.walk no_step (λ i lt.
-          held t (get_or round.walk i no_step) fits (Contains-get_or round.walk i no_step lt));
-      spans = fits.order;
-      dates = fits.calendar;
+      held = (is.orders.exact but t).1 (All-from_get_or (λ (step : Step). HoldsBut net but step t) round.walk no_step (λ i lt.
+          held t (get_or round.walk i no_step) fits (Contains-get_or round.walk i no_step lt)));
+      kept = (are.exact t).1 (fits.order, fits.calendar);
     },
-    λ all. record {
-      order = all.spans;
-      links = λ k within chosen.
-          let over = (is.over k within).0 chosen.0 in
-          link_held t k over.0 over.2 chosen.1 within (All-contains (λ (step : Step). HoldsBut net but step t) round.walk over.0 all.held over.1);
-      calendar = all.dates;
-    },
+    λ all.
+        let both = (are.exact t).0 all.kept in
+        record {
+          order = both.0;
+          links = λ k within chosen.
+              let over = (is.over k within).0 chosen.0 in
+              link_held t k over.0 over.2 chosen.1 within (All-contains (λ (step : Step). HoldsBut net but step t) round.walk over.0 ((is.orders.exact but t).0 all.held) over.1);
+          calendar = both.1;
+        },
   )

@@ -30,6 +30,11 @@ pub record IsClosureOf (net : PlainNet) (table : Table) : Type 0 where
   pub weak : (p q : ℕ) → p < points net → q < points net
       → (cell_at table p q ≡ Weak) ↔ (Always net false p q × ¬ Always net true p q)
 
+-- The table has n points, and the timelines that keep it are those of which something is true.
+pub record IsTableOf (n : ℕ) (IsTrue : Timeline → Type 0) (table : Table) : Type 0 where
+  pub size : table.points ≡ n
+  pub keeps : (t : Timeline) → Keeps table t ↔ IsTrue t
+
 -- The timelines that keep the table are those that fit with no links.
 pub record IsUnlinked (net : PlainNet) (table : Table) : Type 0 where
   pub size : table.points ≡ points net

@@ -4,15 +4,14 @@ use Rattle.std.specs.List.{Contains}
 use Rattle.std.specs.List.Sorted.{IsStrictlyIncreasing}
 use Rattle.net_core.specs.Clashes.{Clashes, GoesRoundOver, IsMinimalClash, Others}
 use Rattle.net_core.specs.Fits.{FitsWith}
-use Rattle.net_core.specs.Nets.{PlainNet, lower, points, upper}
+use Rattle.net_core.specs.Nets.{PlainNet, points}
 use Rattle.net_core.specs.Ranks.{timeline_of}
 use Rattle.net_core.specs.Relations.{Timeline}
 use Rattle.net_core.specs.Walks.{GoesOver, GoesRound, Kept}
 use Rattle.order_closure.specs.Timelines.{IsLeast}
 use Rattle.clash.specs.declared.minimal.Clash.{Clash}
-use Rattle.walks.specs.Dates.{AreDates}
+use Rattle.clash.specs.Orders.{AreOrdersOf}
 use Rattle.clash.specs.declared.round.Round.{Round}
-use Rattle.clash.specs.declared.spares.Dates.{Dates}
 
 -- some timeline fits with the links of a set
 abbrev pub HasTimeline : PlainNet → (ℕ → Type 0) → Type 0
@@ -31,12 +30,13 @@ pub record IsFirstClash (net : PlainNet) (k : ℕ) : Type 0 where
   pub before : HasTimeline net (Before k)
   pub clashes : Clashes net (UpTo k)
 
--- A walk goes round over exactly the links that are marked, in at most twice as many steps as there are points.
+-- A walk goes round over exactly the links that are marked, in at most twice as many steps as there are points, and the orders are those that its steps are over.
 pub record IsRound (net : PlainNet) (round : Round) : Type 0 where
   pub size : length round.over.items ≡ length net.links
   pub goes : GoesRound net (Kept round.over.items) round.walk
   pub over : (k : ℕ) → k < length net.links → Kept round.over.items k ↔ GoesOver round.walk k
   pub short : length round.walk ≤ 2 * points net
+  pub orders : AreOrdersOf net round.walk round.orders
 
 -- a timeline fits with the links of a set but one
 abbrev pub IsSpared : PlainNet → (ℕ → Type 0) → ℕ → Type 0
@@ -59,8 +59,3 @@ pub record IsProvedClash (net : PlainNet) (clash : Clash) : Type 0 where
   pub round : GoesRoundOver net clash.cites clash.walk
   pub short : length clash.walk ≤ 2 * points net
   pub spares : AreSpares net (Contains clash.cites) clash.cites clash.spares
-
--- the points that the calendar gives numbers, on each side
-pub record AreOf (net : PlainNet) (dates : Dates) : Type 0 where
-  pub uppers : AreDates (upper net) (points net) dates.uppers.items
-  pub lowers : AreDates (lower net) (points net) dates.lowers.items

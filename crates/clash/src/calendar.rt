@@ -1,51 +1,112 @@
-//! Adding the orders of the calendar.
-ghost use Rattle.clash.specs.Dates.{AllFollow, Follows, FollowsAll};
-ghost use Rattle.clash.specs.Steps.{AddsOrClashes};
+//! The orders of the calendar.
+ghost use Rattle.clash.specs.Dates.{Extends, Follows, FollowsAll, IsFixed, PutsFixedBefore, PutsLastBefore};
+ghost use Rattle.clash.specs.Steps.{KeepsDates};
+ghost use Rattle.net_core.specs.Nets as nets;
+ghost use Rattle.net_core.specs.Nets.{points};
+ghost use Rattle.net_core.specs.Relations.{Timeline};
 ghost use Rattle.net_core.specs.Steps.{calendar_order};
-ghost use Rattle.std.specs.Prelude.{Some, ◌<◌, ◌≡◌};
-ghost use Rattle.walks.specs.Dates.{AreBelow};
+ghost use Rattle.order_closure.specs.Tables.{AreInRange, SatisfiesAll};
+ghost use Rattle.std.specs.Prelude.{IfOk, IsTrue, OnOk, Some, ℕ, ◌<◌, ◌≡◌, ◌↔◌};
+ghost use Rattle.walks.specs.Dates.{AreAscending, AreDates};
 
-use crate::insert::insert;
-use net_core::Atom;
-use order_closure::{Closed, WouldClash};
-use walks::Date;
+use net_core::{Atom, Memory, Net};
+use std::alloc::Global;
+use walks::{Date, dates_from, lowers_of, uppers_of};
 
-/// Adds the orders of all points with an upper number and all with a lower number. The first are taken from the greatest
-/// number down, and for each of them the others from the least number up: so nearly each order but one for each date
-/// stands in the table before it is asked.
-pub fn add_dates(table: &mut Closed, uppers: &[Date], lowers: &[Date]) -> Result<(), WouldClash>
-    requires uppers { AreBelow table.old.points uppers.now }
-    requires lowers { AreBelow table.old.points lowers.now }
-    ensures { AddsOrClashes (AllFollow uppers.now lowers.now) table.old table.new result }
+/// The orders of the calendar, without nearly all that follow from others: they say what all of them say.
+///
+/// # Errors
+///
+/// Out of memory.
+pub fn calendar_orders(alloc: Global, net: &Net) -> Result<Vec<Atom>, Memory>
+    ensures in_range { IfOk result (λ orders. AreInRange (points net.now) orders.items) }
+    ensures exact { IfOk result (λ orders. (t : Timeline) → SatisfiesAll orders.items t ↔ KeepsDates net.now t) }
 {
-    for upper in uppers {
-        add_after(table, *upper, lowers)?;
+    let uppers = uppers_of(alloc, net)?;
+    let lowers = lowers_of(alloc, net)?;
+    let mut orders = Vec::new(alloc);
+    let mut last = None;
+    for upper in &uppers {
+        push_orders(net, *upper, last, &lowers, &mut orders)?;
+        if is_fixed(net, *upper) {
+            last = Some(*upper);
+        }
+    }
+    Ok(orders)
+}
+
+/// Pushes orders so that all points with lower numbers follow a point with an upper number. `last` is the last fixed
+/// point before it: where its number is the same, they follow this one as they follow that one.
+fn push_orders(
+    net: &Net,
+    upper: Date,
+    last: Option<Date>,
+    lowers: &[Date],
+    orders: &mut Vec<Atom>,
+) -> Result<(), Memory>
+    requires upper { upper.point < points net.now }
+    requires lowers { AreDates (nets.lower net.now) (points net.now) lowers.now }
+    requires sorted { AreAscending lowers.now }
+    requires in_range { AreInRange (points net.now) orders.old.items }
+    requires last { PutsLastBefore lowers.now orders.old.items last }
+    requires above { PutsFixedBefore net.now lowers.now orders.old.items upper.number }
+    ensures { OnOk result (Extends (points net.now) (FollowsAll lowers.now upper) orders.old.items orders.new.items) }
+{
+    match last {
+        Some(fixed) if fixed.number == upper.number => push_order(upper, fixed, orders),
+        _ => push_orders_from(net, upper, lowers, orders),
+    }
+}
+
+/// Pushes the orders of a point with an upper number and the points with lower numbers, up to the first fixed point that
+/// comes after it: the rest follow that one.
+fn push_orders_from(
+    net: &Net,
+    upper: Date,
+    lowers: &[Date],
+    orders: &mut Vec<Atom>,
+) -> Result<(), Memory>
+    requires upper { upper.point < points net.now }
+    requires lowers { AreDates (nets.lower net.now) (points net.now) lowers.now }
+    requires sorted { AreAscending lowers.now }
+    requires in_range { AreInRange (points net.now) orders.old.items }
+    requires above { PutsFixedBefore net.now lowers.now orders.old.items upper.number }
+    ensures { OnOk result (Extends (points net.now) (FollowsAll lowers.now upper) orders.old.items orders.new.items) }
+{
+    let later = dates_from(lowers, upper.number);
+    for lower in later {
+        push_order(upper, *lower, orders)?;
+        if upper.number < lower.number && is_fixed(net, *lower) {
+            return Ok(());
+        }
     }
     Ok(())
 }
 
-/// Adds the orders of a point with an upper number and all points with a lower number.
-fn add_after(table: &mut Closed, upper: Date, lowers: &[Date]) -> Result<(), WouldClash>
-    requires upper { upper.point < table.old.points }
-    requires lowers { AreBelow table.old.points lowers.now }
-    ensures { AddsOrClashes (FollowsAll lowers.now upper) table.old table.new result }
+/// Pushes the order of a point with an upper number and one with a lower number, where the calendar orders them and they
+/// are not the same.
+fn push_order(upper: Date, lower: Date, orders: &mut Vec<Atom>) -> Result<(), Memory>
+    ensures { OnOk result ((n : ℕ) → AreInRange n orders.old.items → upper.point < n → lower.point < n
+        → Extends n (Follows upper lower) orders.old.items orders.new.items) }
 {
-    for lower in lowers {
-        add_order(table, upper, *lower)?;
+    if upper == lower {
+        return Ok(());
     }
-    Ok(())
-}
-
-/// Adds the order of a point with an upper number and one with a lower number, where the calendar orders them.
-fn add_order(table: &mut Closed, upper: Date, lower: Date) -> Result<(), WouldClash>
-    requires upper { upper.point < table.old.points }
-    requires lower { lower.point < table.old.points }
-    ensures { AddsOrClashes (Follows upper lower) table.old table.new result }
-{
-    let Some(atom) = order_of(upper, lower) else {
+    let Some(order) = order_of(upper, lower) else {
         return Ok(());
     };
-    insert(table, atom)
+    match orders.push(order) {
+        Ok(()) => Ok(()),
+        Err(_) => Err(Memory),
+    }
+}
+
+/// Whether a point has this number on both sides.
+fn is_fixed(net: &Net, date: Date) -> bool
+    requires { date.point < points net.now }
+    ensures { IsTrue result ↔ IsFixed net.now date }
+{
+    net.lower(date.point) == Some(date.number) && net.upper(date.point) == Some(date.number)
 }
 
 /// The order of a point with an upper number and one with a lower number, where the calendar gives one.

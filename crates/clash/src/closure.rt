@@ -1,17 +1,21 @@
 //! The closure of a net.
-ghost use Rattle.clash.specs.Closures.{IsClosureOf, IsUnlinked, TellsClash};
+ghost use Rattle.clash.specs.Closures.{HasNoTimeline, IsClosureOf, IsTableOf, IsUnlinked, TellsClash};
+ghost use Rattle.clash.specs.Minimal.{IsFirstClash};
+ghost use Rattle.clash.specs.Orders.{AreFixed};
 ghost use Rattle.clash.specs.declared.closure.CloseFault.TheVariants as faults;
 ghost use Rattle.net_core.specs.Fits.{Fits};
 ghost use Rattle.net_core.specs.Relations.{Timeline};
-ghost use Rattle.std.specs.Prelude.{IfErr, IfOk, ◌≤◌, ◌≡◌, ◌↔◌};
+ghost use Rattle.order_closure.specs.Tables.{AreInRange, SatisfiesAll};
+ghost use Rattle.std.specs.Prelude.{IfErr, IfNone, IfOk, IfSome, ◌≤◌, ◌≡◌, ◌↔◌};
 
-use crate::calendar::add_dates;
-use crate::links::{add_links, add_spans};
+use crate::insert::{add_in_turns, add_orders};
+use crate::links::add_links;
 use crate::minimal::{Clash, clash_up_to};
-use net_core::{Memory, Net};
+use crate::orders::{all_orders, fixed_orders};
+use crate::sequence::sequence_of;
+use net_core::{Atom, Memory, Net};
 use order_closure::Closed;
 use std::alloc::Global;
-use walks::{lowers_of, uppers_of};
 
 /// Why there is no closure.
 #[derive(Drop)]
@@ -41,27 +45,58 @@ pub fn close(alloc: Global, net: &Net) -> Result<Closed, CloseFault>
     ensures fits { IfOk result (λ table. (t : Timeline) × Fits net.now t) }
     ensures err { IfErr result (TellsClash net.now) }
 {
-    let mut table = without_links(alloc, net)?;
+    let fixed = fixed_orders(alloc, net)?;
+    let orders = all_orders(alloc, net, &fixed)?;
+    if let Some(table) = closure_of(alloc, 2 * net.intervals(), &orders)? {
+        prove!(table.points() == 2 * net.intervals());
+        return Ok(table);
+    }
+    let link = first_clash(alloc, net, &fixed)?;
+    Err(CloseFault::Clash(clash_up_to(alloc, net, &fixed, link)?))
+}
+
+/// The table of what is true of every timeline that satisfies some orders. None comes exactly where none does.
+fn closure_of(alloc: Global, points: u32, orders: &[Atom]) -> Result<Option<Closed>, Memory>
+    requires few { points ≤ 2048 }
+    requires in_range { AreInRange points orders.now }
+    ensures some { IfOk result (λ found. IfSome found (IsTableOf points (SatisfiesAll orders.now))) }
+    ensures none { IfOk result (λ found. IfNone found ((t : Timeline) → SatisfiesAll orders.now t → ⊥)) }
+{
+    let turns = sequence_of(alloc, points, orders)?;
+    let mut table = Closed::new(alloc, points)?;
+    let Ok(()) = add_in_turns(&mut table, orders, &turns) else {
+        return Ok(None);
+    };
+    let Ok(()) = add_orders(&mut table, orders) else {
+        return Ok(None);
+    };
+    Ok(Some(table))
+}
+
+/// The first link that clashes with those before it, where no timeline fits.
+fn first_clash(alloc: Global, net: &Net, fixed: &[Atom]) -> Result<u32, Memory>
+    requires fixed { AreFixed net.now fixed.now }
+    requires none { HasNoTimeline net.now }
+    ensures { IfOk result (IsFirstClash net.now) }
+{
+    let mut table = without_links(alloc, net, fixed)?;
     match add_links(&mut table, net) {
         Ok(()) => {
-            prove!(table.points() == 2 * net.intervals());
-            Ok(table)
+            // a table is kept by some timeline
+            prove!(table.points() <= 2048);
+            unreachable!()
         }
-        Err(first) => Err(CloseFault::Clash(clash_up_to(alloc, net, first.link)?)),
+        Err(first) => Ok(first.link),
     }
 }
 
 /// The table of what spans and the calendar say. Some timeline always fits with these alone.
-fn without_links(alloc: Global, net: &Net) -> Result<Closed, Memory>
+fn without_links(alloc: Global, net: &Net, fixed: &[Atom]) -> Result<Closed, Memory>
+    requires { AreFixed net.now fixed.now }
     ensures { IfOk result (IsUnlinked net.now) }
 {
     let mut table = Closed::new(alloc, 2 * net.intervals())?;
-    let uppers = uppers_of(alloc, net)?;
-    let lowers = lowers_of(alloc, net)?;
-    let Ok(()) = add_spans(&mut table, net) else {
-        unreachable!()
-    };
-    let Ok(()) = add_dates(&mut table, &uppers, &lowers) else {
+    let Ok(()) = add_orders(&mut table, fixed) else {
         unreachable!()
     };
     Ok(table)

@@ -1,7 +1,9 @@
-//! Adding one atom that a table does not give yet.
-ghost use Rattle.clash.specs.Steps.{AddsOrClashes};
+//! Adding orders that a table does not give yet.
+ghost use Rattle.clash.specs.Steps.{AddsOrClashes, AddsPartOrClashes};
 ghost use Rattle.net_core.specs.Atoms.{Satisfies};
-ghost use Rattle.std.specs.Prelude.{◌<◌};
+ghost use Rattle.order_closure.specs.Tables.{AreInRange, SatisfiesAll};
+ghost use Rattle.std.specs.List.{All};
+ghost use Rattle.std.specs.Prelude.{length, ◌<◌};
 
 use net_core::Atom;
 use order_closure::{Closed, WouldClash};
@@ -16,4 +18,27 @@ pub fn insert(table: &mut Closed, atom: Atom) -> Result<(), WouldClash>
         return Ok(());
     }
     table.add(atom)
+}
+
+/// Adds orders of points, one after another.
+pub fn add_orders(table: &mut Closed, orders: &[Atom]) -> Result<(), WouldClash>
+    requires { AreInRange table.old.points orders.now }
+    ensures { AddsOrClashes (SatisfiesAll orders.now) table.old table.new result }
+{
+    for order in orders {
+        insert(table, *order)?;
+    }
+    Ok(())
+}
+
+/// Adds those of some orders that have these numbers.
+pub fn add_in_turns(table: &mut Closed, orders: &[Atom], turns: &[usize]) -> Result<(), WouldClash>
+    requires in_range { AreInRange table.old.points orders.now }
+    requires turns { All (λ k. k < length orders.now) turns.now }
+    ensures { AddsPartOrClashes (SatisfiesAll orders.now) table.old table.new result }
+{
+    for turn in turns {
+        insert(table, orders[*turn])?;
+    }
+    Ok(())
 }

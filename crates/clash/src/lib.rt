@@ -7,8 +7,11 @@ mod insert;
 mod laws;
 mod links;
 mod minimal;
+mod orders;
 mod raising;
 mod round;
+mod sequence;
+mod settling;
 mod spares;
 #[cfg(test)]
 mod tests;

@@ -1,5 +1,5 @@
-//! Adding the spans of intervals, and the links between them.
-ghost use Rattle.clash.specs.Steps.{Adds, AddsOrClashes, IsFirstExcluded, KeepsLinks, KeepsSpans};
+//! The orders of intervals and of links, and adding those of links.
+ghost use Rattle.clash.specs.Steps.{Adds, AddsOrClashes, IsFirstExcluded, KeepsLinks};
 ghost use Rattle.net_core.specs.Atoms as spec;
 ghost use Rattle.net_core.specs.Atoms.{atoms_in, before};
 ghost use Rattle.net_core.specs.Nets.{link_at, points};
@@ -10,17 +10,6 @@ ghost use Rattle.std.specs.Prelude.{IfErr, OnOk, length, ◌*◌, ◌+◌, ◌<�
 use crate::insert::insert;
 use net_core::{Atom, Atoms, Net, atoms_of};
 use order_closure::{Closed, WouldClash};
-
-/// Adds that each interval starts before it ends.
-pub fn add_spans(table: &mut Closed, net: &Net) -> Result<(), WouldClash>
-    requires { table.old.points ≡ points net.now }
-    ensures { AddsOrClashes (KeepsSpans net.now) table.old table.new result }
-{
-    for i in 0..net.intervals() {
-        insert(table, span_order(i))?;
-    }
-    Ok(())
-}
 
 /// The order of the start and the end of an interval.
 pub fn span_order(interval: u32) -> Atom

@@ -1,13 +1,14 @@
 //! Minimal clashes.
 ghost use Rattle.clash.specs.Minimal.{IsFirstClash, IsProvedClash, IsRound, IsSpared, UpTo};
+ghost use Rattle.clash.specs.Orders.{AreFixed};
 ghost use Rattle.net_core.specs.Walks.{Kept};
 ghost use Rattle.std.specs.List.{Contains};
 ghost use Rattle.std.specs.List.Sorted.{IsStrictlyIncreasing};
 ghost use Rattle.std.specs.Prelude.{IfOk, length, ℕ, ◌<◌, ◌≡◌, ◌≤◌, ◌↔◌};
 
 use crate::round::{Round, round_over, thin};
-use crate::spares::spares_of;
-use net_core::{List, Memory, Net, Ranks, Walk};
+use crate::spares::{spares_of, spares_soon};
+use net_core::{Atom, List, Memory, Net, Ranks, Walk};
 use std::alloc::Global;
 
 /// Links that cannot all be true with the spans and the calendar, and of which any one can be left out so that the others
@@ -28,14 +29,40 @@ pub struct Clash {
 /// # Errors
 ///
 /// Out of memory.
-pub fn clash_up_to(alloc: Global, net: &Net, link: u32) -> Result<Clash, Memory>
-    requires { IsFirstClash net.now link }
+pub fn clash_up_to(alloc: Global, net: &Net, fixed: &[Atom], link: u32) -> Result<Clash, Memory>
+    requires fixed { AreFixed net.now fixed.now }
+    requires first { IsFirstClash net.now link }
     ensures { IfOk result (IsProvedClash net.now) }
 {
     let first = first_round(alloc, net, link)?;
-    let round = thin(alloc, net, first, link)?;
+    let cites = marked(alloc, net, &first.over)?;
+    if let Some(spares) = spares_soon(alloc, net, fixed, &first, cites.as_slice())? {
+        return Ok(Clash {
+            cites,
+            walk: first.walk,
+            spares,
+        });
+    }
+    thinned_clash(alloc, net, fixed, first, link)
+}
+
+/// The clash of some of the links that a walk goes over, of which one is needed.
+fn thinned_clash(
+    alloc: Global,
+    net: &Net,
+    fixed: &[Atom],
+    first: Round,
+    needed: u32,
+) -> Result<Clash, Memory>
+    requires fixed { AreFixed net.now fixed.now }
+    requires round { IsRound net.now first }
+    requires needed { needed < length net.now.links }
+    requires spared { IsSpared net.now (Kept first.over.items) needed }
+    ensures { IfOk result (IsProvedClash net.now) }
+{
+    let round = thin(alloc, net, fixed, first, needed)?;
     let cites = marked(alloc, net, &round.over)?;
-    let spares = spares_of(alloc, net, &round, cites.as_slice())?;
+    let spares = spares_of(alloc, net, fixed, &round, cites.as_slice())?;
     Ok(Clash {
         cites,
         walk: round.walk,

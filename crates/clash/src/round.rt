@@ -1,21 +1,29 @@
 //! Walks that go round, and the links that they go over.
-ghost use Rattle.clash.specs.Minimal.{IsRound, IsSpared};
+ghost use Rattle.clash.specs.Minimal.{IsRound, IsSpare, IsSpared};
+ghost use Rattle.clash.specs.Orders.{AreFixed};
 ghost use Rattle.net_core.specs.Fits.{EveryLink};
 ghost use Rattle.net_core.specs.Nets.{points};
 ghost use Rattle.net_core.specs.Walks.{GoesOver, GoesRound, Kept};
 ghost use Rattle.net_core.specs.declared.step.Step.{Step as StepOf};
-ghost use Rattle.std.specs.Prelude.{IfNone, IfOk, IfSome, List, OnOk, false, length, ℕ, ◌*◌, ◌<◌, ◌≡◌, ◌≢◌, ◌≤◌};
+ghost use Rattle.std.specs.Prelude.{IfNone, IfOk, IfSome, IsTrue, List as ListOf, OnOk, false, length, ℕ, ◌*◌, ◌<◌, ◌≡◌, ◌≢◌, ◌≤◌};
 
 use crate::links::{atoms_of_link, nth};
-use net_core::{Memory, Net, Walk, mark_steps};
+use crate::orders::{Order, orders_of};
+use crate::settling::settle;
+use net_core::{Atom, List, Memory, Net, Ranks, Walk, mark_steps};
 use std::alloc::Global;
 use walks::walk;
 
-/// A walk from a point to itself with a strict step, and a mark for each link that it goes over.
+/// How many turns ranks are given to settle without a link: without nearly all that are needed they do so in three.
+pub const TURNS: u32 = 8;
+
+/// A walk from a point to itself with a strict step, a mark for each link that it goes over, and the orders that its steps
+/// are over.
 #[derive(Drop)]
 pub struct Round {
     pub walk: Walk,
     pub over: Vec<bool>,
+    pub orders: List<Order>,
 }
 
 impl Round {
@@ -30,13 +38,47 @@ impl Round {
             return Err(Memory);
         };
         mark_steps(&mut over, walk.as_slice());
-        Ok(Round { walk, over })
+        let orders = orders_of(alloc, net, walk.as_slice())?;
+        Ok(Round { walk, over, orders })
+    }
+
+    /// The least ranks that fit with the links that the walk goes over, but one, where they settle in so many turns. They
+    /// do in all turns that there are where any fit.
+    pub fn spare(
+        &self,
+        alloc: Global,
+        net: &Net,
+        fixed: &[Atom],
+        but: u32,
+        turns: u32,
+    ) -> Result<Option<Ranks>, Memory>
+        requires round { IsRound net.now self.now }
+        requires fixed { AreFixed net.now fixed.now }
+        ensures some { IfOk result (λ found. IfSome found (IsSpare net.now (Kept self.now.over.items) but)) }
+        ensures none { IfOk result (λ found. IfNone found (turns ≡ u32.MAX → IsSpared net.now (Kept self.now.over.items) but → ⊥)) }
+    {
+        let Ok(mut ranks) = vec![in alloc; 0u32; 2 * net.intervals() as usize] else {
+            return Err(Memory);
+        };
+        if settle(self.orders.as_slice(), fixed, but, &mut ranks, turns) {
+            Ok(Some(Ranks::from_vec(ranks)))
+        } else {
+            Ok(None)
+        }
     }
 
     /// Takes another walk, that does not go over a link, where there is one over the others. Another link is needed:
     /// without it some timeline fits.
-    fn leave_out(&mut self, alloc: Global, net: &Net, link: u32, needed: u32) -> Result<(), Memory>
+    fn leave_out(
+        &mut self,
+        alloc: Global,
+        net: &Net,
+        fixed: &[Atom],
+        link: u32,
+        needed: u32,
+    ) -> Result<(), Memory>
         requires round { IsRound net.now self.old }
+        requires fixed { AreFixed net.now fixed.now }
         requires link { Kept self.old.over.items link }
         requires needed { needed < length net.now.links }
         requires other { link ≢ needed }
@@ -45,6 +87,9 @@ impl Round {
         ensures fewer { OnOk result ((k : ℕ) → Kept self.new.over.items k → Kept self.old.over.items k) }
         ensures spared { OnOk result (Kept self.new.over.items link → IsSpared net.now (Kept self.new.over.items) link) }
     {
+        if self.spare(alloc, net, fixed, link, TURNS)?.is_some() {
+            return Ok(());
+        }
         prove!(needed < net.links());
         self.over[link as usize] = false;
         match round_over(alloc, net, &self.over, needed)? {
@@ -60,7 +105,14 @@ impl Round {
 /// # Errors
 ///
 /// Out of memory.
-pub fn thin(alloc: Global, net: &Net, first: Round, needed: u32) -> Result<Round, Memory>
+pub fn thin(
+    alloc: Global,
+    net: &Net,
+    fixed: &[Atom],
+    first: Round,
+    needed: u32,
+) -> Result<Round, Memory>
+    requires fixed { AreFixed net.now fixed.now }
     requires round { IsRound net.now first }
     requires needed { needed < length net.now.links }
     requires spared { IsSpared net.now (Kept first.over.items) needed }
@@ -70,7 +122,7 @@ pub fn thin(alloc: Global, net: &Net, first: Round, needed: u32) -> Result<Round
     let mut round = first;
     for link in 0..net.links() {
         if link != needed && round.over[link as usize] {
-            round.leave_out(alloc, net, link, needed)?;
+            round.leave_out(alloc, net, fixed, link, needed)?;
         }
     }
     Ok(round)
@@ -90,7 +142,7 @@ pub fn round_over(
     requires keep { length keep.now ≡ length net.now.links }
     requires link { link < length net.now.links }
     ensures some { IfOk result (λ found. IfSome found (λ steps. GoesRound net.now (Kept keep.now) steps × (length steps ≤ 2 * points net.now))) }
-    ensures none { IfOk result (λ found. IfNone found ((steps : List StepOf) → GoesRound net.now (Kept keep.now) steps → GoesOver steps link → ⊥)) }
+    ensures none { IfOk result (λ found. IfNone found ((steps : ListOf StepOf) → GoesRound net.now (Kept keep.now) steps → GoesOver steps link → ⊥)) }
 {
     let atoms = atoms_of_link(net, link);
     for number in 0..atoms.count() {

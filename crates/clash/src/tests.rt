@@ -4,6 +4,7 @@ ghost use Rattle.std.specs.Prelude.{IsTrue, ◌↔◌};
 
 mod by_definition;
 mod by_walks;
+mod calendar;
 mod minimal;
 mod proving;
 

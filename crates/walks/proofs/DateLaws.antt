@@ -1,13 +1,14 @@
 -- The points that have a number, one after another.
-use Rattle.std.proofs.Common.{◌≡◌, ◌↔◌, ℕ, ◌+◌, ℤ, ◌≤ℤ◌, int_cmp, int_lt, is_lt, pos, drop, get_or, false, true, List, Option, Some, None, [], ◌∷◌, ◌++◌, subst, arith, below_more}
+use Rattle.std.proofs.Common.{◌≡◌, ◌↔◌, ℕ, ◌+◌, ◌<◌, ◌≤◌, ℤ, ◌≤ℤ◌, int_cmp, int_lt, is_lt, pos, drop, get_or, false, true, List, Option, Some, None, [], ◌∷◌, ◌++◌, length, length-drop, subst, arith, below_more}
 use Rattle.std.specs.List.{All, Contains}
 use Rattle.std.specs.List.Sorted.{IsPartitionPoint, IsPartitionedBy, IsPermutation}
+use Rattle.std.proofs.lemmas.List.{get_or-drop}
 use Rattle.std.proofs.lemmas.List.Elements.{All-push, All-weaker, Contains-append_left, Contains-push}
 use Rattle.std.proofs.lemmas.List.Sorted.{All-permutation, Contains-permutation, ranks_by, sorted_far}
-use Rattle.std.proofs.lemmas.Cmp.{int_cmp_total}
+use Rattle.std.proofs.lemmas.Cmp.{back_total, int_cmp_total}
 use Rattle.std.proofs.lemmas.Int.{ints}
 use Rattle.walks.proofs.Parts.{dropped}
-use Rattle.walks.specs.Dates.{AreAscending, AreDates, AreFrom, IsDate}
+use Rattle.walks.specs.Dates.{AreAscending, AreDates, AreDescending, AreFrom, IsDate}
 use Rattle.walks.specs.declared.dates.Date.{Date}
 
 -- what is read past the end of a list of dates
@@ -54,11 +55,28 @@ less_first x y z le lt = grind (arith, ints)
 from_test : (x y : ℤ) → int_lt x y ≡ false ↔ (y ≤ℤ x)
 from_test x y = (λ e. grind (arith, ints), λ le. grind (arith, ints))
 
+-- in a list with the least number first, no number is less than an earlier one
+pub ascending : (dates : List Date) (i j : ℕ) (d : Date) → AreAscending dates → i ≤ j → j < length dates → (get_or dates i d).number ≤ℤ (get_or dates j d).number
+ascending dates i j d sorted le lt =
+    not_less (get_or dates j d).number (get_or dates i d).number
+    (sorted_far (λ (x y : Date). is_lt (int_cmp x.number y.number)) (ranks_by int_cmp_total (λ (date : Date). date.number)) dates sorted i j d le lt)
+
+-- in a list with the greatest number first, no number is greater than an earlier one
+pub descending : (dates : List Date) (i j : ℕ) (d : Date) → AreDescending dates → i ≤ j → j < length dates → (get_or dates j d).number ≤ℤ (get_or dates i d).number
+descending dates i j d sorted le lt =
+    not_less (get_or dates i d).number (get_or dates j d).number
+    (sorted_far (λ (x y : Date). is_lt (int_cmp y.number x.number)) (ranks_by (back_total int_cmp_total) (λ (date : Date). date.number)) dates sorted i j d le lt)
+
+-- what is left of a list with the least number first is such a list
+pub ascending_from : (dates : List Date) (first : ℕ) → AreAscending dates → AreAscending (drop first dates)
+ascending_from dates first sorted k d low lt =
+    let next : first + (k + 1) ≡ first + k + 1 = omega arith in
+    rw (get_or-drop, next, get_or-drop) (sorted (first + k) d (omega arith) (omega (arith, length-drop first dates)))
+
 -- in a list with the least number first, those below a number stand first
 pub below_first : (dates : List Date) (number : ℤ) → AreAscending dates → IsPartitionedBy (λ (date : Date). int_lt date.number number) dates
 below_first dates number sorted i j d le lt passes =
-    let order = sorted_far (λ (x y : Date). is_lt (int_cmp x.number y.number)) (ranks_by int_cmp_total (λ (date : Date). date.number)) dates sorted i j d le lt in
-    less_first (get_or dates i d).number (get_or dates j d).number number (not_less (get_or dates j d).number (get_or dates i d).number order) passes
+    less_first (get_or dates i d).number (get_or dates j d).number number (ascending dates i j d sorted le lt) passes
 
 -- the dates from a number on come after those below it
 pub from_number : (dates : List Date) (number : ℤ) (first : ℕ)

@@ -52,7 +52,8 @@ pub fn uppers_of(alloc: Global, net: &Net) -> Result<Vec<Date>, Memory>
 /// The dates whose numbers are not below a number, of dates with the least number first.
 pub fn dates_from(dates: &[Date], number: i64) -> &[Date]
     requires { AreAscending dates.now }
-    ensures { AreFrom number dates.now result.now }
+    ensures dates { AreFrom number dates.now result.now }
+    ensures sorted { AreAscending result.now }
 {
     let first = dates.partition_point(|date| date.number < number);
     &dates[first..]

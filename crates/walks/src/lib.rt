@@ -9,5 +9,5 @@ mod states;
 #[cfg(test)]
 mod tests;
 
-pub use dates::{Date, lowers_of, uppers_of};
+pub use dates::{Date, dates_from, lowers_of, uppers_of};
 pub use search::walk;

@@ -43,7 +43,7 @@ fn cell_by_definition(net: &Net, p: usize, q: usize) -> Option<Cell>
 }
 
 /// What is known where two points may also have these ranks.
-fn both(known: Option<Cell>, p: u32, q: u32) -> Cell {
+pub fn both(known: Option<Cell>, p: u32, q: u32) -> Cell {
     match known {
         None | Some(Cell::Strict) if p < q => Cell::Strict,
         None | Some(Cell::Strict | Cell::Weak) if p <= q => Cell::Weak,

@@ -1,28 +1,20 @@
-use Rattle.std.proofs.Common.{◌↔◌, ℕ, Bool, List, subst, sym}
-use Rattle.std.specs.List.{All, Contains}
-use Rattle.std.proofs.lemmas.List.Elements.{All-contains_itself, All-weaker}
+use Rattle.std.proofs.Common.{◌↔◌, ℕ, Bool, List, Option, subst}
+use Rattle.std.specs.List.{Contains}
+use Rattle.std.specs.Option.{IfSome}
 use Rattle.net_core.specs.Walks.{Kept}
-use Rattle.clash.specs.Minimal.{AreSpares, IsSpared}
+use Rattle.net_core.specs.declared.ranks.Ranks.{Ranks}
+use Rattle.clash.specs.Minimal.{AreSpares}
 use Rattle.clash.proofs.Proved.{proved_clash}
+use Rattle.clash.proofs.Spared.{spares_needed}
 use Rattle.clash.proofs.minimal.clash_up_to.Goals as goal
-use Rattle.clash.proofs.minimal.clash_up_to.Goals.{After-as_slice}
 
--- the cites are the links that are marked
-exact : (c : After-as_slice) (k : ℕ) → Contains c.in_ok-cites.cites k ↔ Kept c.in_ok-round.round.over.items k
-exact c = subst (λ (marks : List Bool). (k : ℕ) → Contains c.in_ok-cites.cites k ↔ Kept marks k) c.deref.ensures.value c.in_ok-cites.ensures.exact
-
-pub spares_of-requires-clause-spared : goal.spares_of-requires-clause-spared
-spares_of-requires-clause-spared c =
+pub returns-in-Some : goal.returns-in-Some
+returns-in-Some c =
     let net = c.args.net.now in
-    let over = c.in_ok-round.round.over.items in
-    let here = exact (goal.at.spares_of-requires-clause-spared c).After-as_slice in
-    subst (λ (cites : List ℕ). All (IsSpared net (Kept over)) cites) (sym c.as_slice.ensures)
-    (All-weaker (Contains c.in_ok-cites.cites) (IsSpared net (Kept over)) (λ k has. c.in_ok-round.ensures.spared k ((here k).0 has)) c.in_ok-cites.cites (All-contains_itself c.in_ok-cites.cites))
-
-pub returns : goal.returns
-returns c =
-    let net = c.args.net.now in
-    let round = c.in_ok-round.round in
-    let here = exact (goal.at.returns c).After-as_slice in
-    proved_clash net c.in_ok-cites.cites round c.in_ok-round.ensures.round here c.in_ok-round.ensures.spared c.in_ok-spares.spares c.in_ok-cites.ensures.rising
-    (subst (λ (cites : List ℕ). AreSpares net (Kept round.over.items) cites c.in_ok-spares.spares) c.as_slice.ensures c.in_ok-spares.ensures)
+    let round = c.in_ok-first.first in
+    let over = round.over.items in
+    let cites = c.in_ok-cites.cites in
+    let exact = subst (λ (marks : List Bool). (k : ℕ) → Contains cites k ↔ Kept marks k) c.deref.ensures.value c.in_ok-cites.ensures.exact in
+    let spares = subst (λ (xs : List ℕ). AreSpares net (Kept over) xs c.in-Some.spares) c.as_slice.ensures
+    (subst (λ (o : Option (List Ranks)). IfSome o (AreSpares net (Kept over) c.as_slice.result.now)) c.in-Some.is c.in_ok-spares.ensures) in
+    proved_clash net cites round c.in_ok-first.ensures.round exact (λ k kept. spares_needed net (Kept over) cites c.in-Some.spares spares k ((exact k).1 kept)) c.in-Some.spares c.in_ok-cites.ensures.rising spares

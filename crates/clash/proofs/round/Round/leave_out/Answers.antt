@@ -9,7 +9,7 @@ use Rattle.net_core.specs.declared.walk.Walk.{Walk}
 use Rattle.clash.specs.Minimal.{IsSpared}
 use Rattle.clash.proofs.Rounds.{fits_fewer, marked_chosen, none_round, others_set, round_more, set_again, set_others, spared_fewer}
 use Rattle.clash.proofs.round.Round.leave_out.Goals as goal
-use Rattle.clash.proofs.round.Round.leave_out.Goals.{After-drop-self-in-Some, After-index_mut-in-None, In-Some}
+use Rattle.clash.proofs.round.Round.leave_out.Goals.{After-drop-self-in-Some-2, After-index_mut-in-None, In-Some}
 
 -- the links but the one that is left out
 but : (c : In-Some) (k : ℕ) → Kept c.deref.result.now k → Others (Kept c.args.self.now.over.items) c.args.link k
@@ -22,9 +22,9 @@ pub new-requires-clause-goes : goal.new-requires-clause-goes
 new-requires-clause-goes c = round_more c.args.net.now (Kept c.deref.result.now) EveryLink c.in-Some.walk (λ k kept. tt) (goes c)
 
 -- the links that the new walk goes over are among those
-among : (c : After-drop-self-in-Some) (k : ℕ) → Kept c.in_ok-self-in-Some.field-0.over.items k → Others (Kept c.args.self.now.over.items) c.args.link k
+among : (c : After-drop-self-in-Some-2) (k : ℕ) → Kept c.in_ok-self-in-Some.field-0.over.items k → Others (Kept c.args.self.now.over.items) c.args.link k
 among c k kept =
-    let here = (goal.at.After-drop-self-in-Some c).In-Some in
+    let here = (goal.at.After-drop-self-in-Some-2 c).In-Some in
     but here k (marked_chosen c.args.net.now (Kept c.deref.result.now) c.in_ok-self-in-Some.field-0 c.in_ok-self-in-Some.ensures.round
     (subst (GoesRound c.args.net.now (Kept c.deref.result.now)) (sym c.in_ok-self-in-Some.ensures.walk) (goes here)) k kept)
 
@@ -49,7 +49,7 @@ returns-in-None-clause-round c =
     let here = (goal.at.returns-in-None-clause-round c).After-index_mut-in-None in
     let old = c.requires.round in
     let all = subst (AreMarks here) (sym (same here)) (old.size, old.goes, old.over) in
-    record { size = all.0; goes = all.1; over = all.2; short = old.short }
+    record { size = all.0; goes = all.1; over = all.2; short = old.short; orders = old.orders }
 
 pub returns-in-None-clause-spared : goal.returns-in-None-clause-spared
 returns-in-None-clause-spared c kept =

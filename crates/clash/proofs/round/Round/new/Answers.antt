@@ -3,6 +3,7 @@ use Rattle.std.specs.Vec.{with_items}
 use Rattle.std.proofs.lemmas.List.{get_or-replicate, length-replicate, with_items_is}
 use Rattle.net_core.specs.Walks.{GoesOver, GoesRound, Kept}
 use Rattle.net_core.specs.declared.step.Step.{Step}
+use Rattle.clash.specs.Orders.{AreOrdersOf}
 use Rattle.clash.proofs.Rounds.{goes_from_marks}
 use Rattle.clash.proofs.round.Round.new.Goals as goal
 use Rattle.clash.proofs.round.Round.new.Goals.{After-mark_steps}
@@ -40,4 +41,10 @@ returns-clause-round c =
     let long : length marks ≡ c.in-Ok.over.len = here.mark_steps.ensures.length ∙ here.deref_mut.ensures.len in
     let all : AreMarks here (with_items c.in-Ok.over marks).items =
     subst (AreMarks here) (sym (with_items_is c.in-Ok.over marks long)) (size here, goes_from_marks c.args.net.now c.args.walk marks c.requires.goes (over here), over here) in
-    record { size = all.0; goes = all.1; over = all.2; short = c.requires.short }
+    record {
+      size = all.0;
+      goes = all.1;
+      over = all.2;
+      short = c.requires.short;
+      orders = subst (λ (steps : List Step). AreOrdersOf c.args.net.now steps c.in_ok-orders.orders) c.as_slice-2.ensures c.in_ok-orders.ensures;
+    }

@@ -22,7 +22,7 @@ is_upper c =
 
 -- the dates are those of the graph from the number on
 from_graph : (c : After-dates_from) → AreFrom (first c).number c.args.self.now.lowers.items c.dates_from.result.now
-from_graph c = subst (λ (all : List Date). AreFrom (first c).number all c.dates_from.result.now) c.deref.ensures.value c.dates_from.ensures
+from_graph c = subst (λ (all : List Date). AreFrom (first c).number all c.dates_from.result.now) c.deref.ensures.value c.dates_from.ensures.dates
 
 pub follow_dates-requires-clause-lowers : goal.follow_dates-requires-clause-lowers
 follow_dates-requires-clause-lowers c =

@@ -1,0 +1,8 @@
+use Rattle.std.proofs.Common.{take}
+use Rattle.net_core.specs.Walks.{Kept}
+use Rattle.clash.specs.Minimal.{AreSpares}
+use Rattle.clash.proofs.spares.spares_soon.Given as goal
+
+-- there is a spare for each cite so far
+abbrev pub invariant-loop-cite : goal.invariant-loop-cite
+invariant-loop-cite l = AreSpares l.net (Kept l.round.over.items) (take l.cite-index l.cites) l.spares
