@@ -2,7 +2,7 @@
 """Measures `tml solve` over documents of 512 intervals beside `tml check` of the same document.
 
 Prints, for each document, the least time of five runs of both, their difference, and how much more memory `solve` takes.
-Each document is to take less than 300 ms. Build the program first, as README.md says.
+The difference is to be at most 10 ms. Build the program first, as README.md says.
 
 usage: bench/solve.py [PROGRAM]       (PROGRAM is crates/tml/out/tml if left out)
 """
