@@ -29,7 +29,7 @@ module _ (n w : ℕ) (wide : n ≤ 64 * w) (cell : ℕ → ℕ → Cell) (atom :
   raised_marked old over reached words marks row i j li lj differ none =
       let both = row.joined j (omega arith) in
       let before : cell i j ≡ Free = marks i j li lj differ (omega arith) in
-      let behind : cell atom.to j ≡ Free = over_free over words j lj (omega arith) in
+      let later : cell atom.to j ≡ Free = over_free over words j lj (omega arith) in
       is i j li lj
-      ∙ (λ k. stronger (before k) (joined (joined (cell i atom.from) (order atom.strict)) (behind k)))
+      ∙ (λ k. stronger (before k) (joined (joined (cell i atom.from) (order atom.strict)) (later k)))
       ∙ joined_free (joined (cell i atom.from) (order atom.strict))
