@@ -5,12 +5,15 @@ ghost use Rattle.evidence_format.specs.View.{plain};
 ghost use Rattle.evidence_format.specs.Written.{body_bytes, timeline_bytes, walk_bytes};
 ghost use Rattle.net_core.specs.Ranks.{pairs_of};
 ghost use Rattle.std.specs.List.{All, flat_map};
-ghost use Rattle.std.specs.Prelude.{◌≡◌, ◌++◌, ◌∷◌, [], decimal, length, map, IfOk, OnOk};
+ghost use Rattle.std.specs.Prelude.{◌≡◌, ◌++◌, ◌∷◌, [], codes, decimal, length, map, IfOk, OnOk};
 
 use crate::Evidence;
-use itoa::Buffer;
+use itoa::write_digits;
 use net_core::{List, Memory, Ranks, Rel, Step, Walk};
 use std::alloc::{AllocError, Global};
+
+/// Room for the digits of a number, at most ten, and for the byte that ends it.
+const NUMBER_ROOM: usize = 11;
 
 /// The text of well-formed evidence.
 ///
@@ -171,15 +174,26 @@ fn push_two(out: &mut Vec<u8>, keyword: &[u8], m: u32, n: u32) -> Result<(), All
     ensures { OnOk result (out.new.items ≡ out.old.items ++ lines.two_numbers keyword.now m n) }
 {
     out.extend_from_slice(keyword)?;
-    push_number(out, m, b' ')?;
-    push_number(out, n, b'\n')
+    push_pair(out, m, n)
+}
+
+/// Two numbers with a space between them, and the LF that ends their line. They are written from the right, to be put last
+/// at once: most of the longest texts are such lines.
+fn push_pair(out: &mut Vec<u8>, m: u32, n: u32) -> Result<(), AllocError>
+    ensures { OnOk result (out.new.items ≡ out.old.items ++ (decimal m ++ codes " " ++ decimal n ++ codes "\n")) }
+{
+    let mut text = [b'\n'; 2 * NUMBER_ROOM];
+    let second = write_digits(u64::from(n), &mut text, 2 * NUMBER_ROOM - 1);
+    text[second - 1] = b' ';
+    let first = write_digits(u64::from(m), &mut text, second - 1);
+    out.extend_from_slice(&text[first..])
 }
 
 /// A number, and the byte that ends it.
 fn push_number(out: &mut Vec<u8>, n: u32, stop: u8) -> Result<(), AllocError>
     ensures { OnOk result (out.new.items ≡ out.old.items ++ (decimal n ++ stop ∷ [])) }
 {
-    let mut buffer = Buffer::new();
-    out.extend_from_slice(buffer.format(n).as_bytes())?;
-    out.extend_from_slice(&[stop])
+    let mut text = [stop; NUMBER_ROOM];
+    let first = write_digits(u64::from(n), &mut text, NUMBER_ROOM - 1);
+    out.extend_from_slice(&text[first..])
 }
