@@ -3,3 +3,4 @@ pub mod Given
 pub mod Joined
 pub mod Turns
 pub mod OneList
+pub mod WordBits

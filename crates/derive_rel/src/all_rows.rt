@@ -1,9 +1,7 @@
 //! All relations that hold in all timelines of a table.
 ghost use Rattle.derive_rel.specs.Entailed.{AreRows, OneRowList};
-ghost use Rattle.derive_rel.specs.Pairs.{says_some};
-ghost use Rattle.derive_rel.specs.Pushing.{ArePutLast, IsFrom, IsOf};
-ghost use Rattle.order_closure.specs.Tables.{cell_at};
-ghost use Rattle.std.specs.Prelude.{IfOk, OnOk, false, ◌%◌, ◌*◌, ◌+◌, ◌<◌, ◌≡◌, ◌≤◌};
+ghost use Rattle.derive_rel.specs.Pushing.{ArePutLast, IsAlone, IsFrom, IsOf, IsOrder};
+ghost use Rattle.std.specs.Prelude.{IfOk, OnOk, ◌%◌, ◌*◌, ◌+◌, ◌<◌, ◌≡◌, ◌≤◌};
 
 use crate::pairs::entailed;
 use crate::ways::gives_some;
@@ -56,41 +54,38 @@ fn push_pair(rows: &mut List<Row>, closed: &Closed, a: u32, b: u32) -> Result<()
     requires b { 2 * b + 1 < closed.now.points }
     ensures { OnOk result (ArePutLast closed.now (IsOf a b) rows.old rows.new) }
 {
+    // so few that the numbers of the points fit
+    prove!(closed.points() <= 2048);
     if !gives_some(closed, b, a) {
-        return push_before(rows, closed, a, b);
+        let rel = Rel::Before;
+        return push_alone(rows, closed, Row { a, rel, b }, 2 * a + 1, 2 * b);
     }
     if !gives_some(closed, a, b) {
-        return push_after(rows, closed, a, b);
+        let rel = Rel::After;
+        return push_alone(rows, closed, Row { a, rel, b }, 2 * b + 1, 2 * a);
     }
     push_all(rows, closed, a, b)
 }
 
-/// Puts BEFORE last, where it holds between two intervals and no other relation can.
-fn push_before(rows: &mut List<Row>, closed: &Closed, a: u32, b: u32) -> Result<(), Memory>
-    requires a { a < b }
-    requires b { 2 * b + 1 < closed.now.points }
-    requires alone { says_some (cell_at closed.now) b a ≡ false }
-    ensures { OnOk result (ArePutLast closed.now (IsOf a b) rows.old rows.new) }
+/// Puts a row last, where the first of two points is before the second: that is its relation, and no other one can hold
+/// between its intervals.
+fn push_alone(
+    rows: &mut List<Row>,
+    closed: &Closed,
+    row: Row,
+    from: u32,
+    to: u32,
+) -> Result<(), Memory>
+    requires a { row.a < row.b }
+    requires b { 2 * row.b + 1 < closed.now.points }
+    requires from { from < closed.now.points }
+    requires to { to < closed.now.points }
+    requires alone { IsAlone closed.now row }
+    requires order { IsOrder closed.now row from to }
+    ensures { OnOk result (ArePutLast closed.now (IsOf row.a row.b) rows.old rows.new) }
 {
-    prove!(closed.points() <= 2048);
-    if closed.cell(2 * a + 1, 2 * b).gives(true) {
-        let rel = Rel::Before;
-        return rows.push(Row { a, rel, b });
-    }
-    Ok(())
-}
-
-/// Puts AFTER last, where it holds between two intervals and no other relation can.
-fn push_after(rows: &mut List<Row>, closed: &Closed, a: u32, b: u32) -> Result<(), Memory>
-    requires a { a < b }
-    requires b { 2 * b + 1 < closed.now.points }
-    requires alone { says_some (cell_at closed.now) a b ≡ false }
-    ensures { OnOk result (ArePutLast closed.now (IsOf a b) rows.old rows.new) }
-{
-    prove!(closed.points() <= 2048);
-    if closed.cell(2 * b + 1, 2 * a).gives(true) {
-        let rel = Rel::After;
-        return rows.push(Row { a, rel, b });
+    if closed.cell(from, to).gives(true) {
+        return rows.push(row);
     }
     Ok(())
 }

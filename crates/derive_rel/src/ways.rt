@@ -1,8 +1,8 @@
 //! Which way a table orders the points of two intervals, by the bits of its rows.
 ghost use Rattle.derive_rel.specs.Pairs.{says_some};
-ghost use Rattle.order_closure.specs.Bits.{bit_of};
 ghost use Rattle.order_closure.specs.Tables.{cell_at};
-ghost use Rattle.std.specs.Prelude.{length, ◌*◌, ◌+◌, ◌/◌, ◌<◌, ◌==◌, ◌≡◌};
+ghost use Rattle.std.specs.Int.{bit_at};
+ghost use Rattle.std.specs.Prelude.{◌*◌, ◌+◌, ◌<◌, ◌==◌, ◌≡◌, ◌||◌};
 
 use order_closure::Closed;
 
@@ -15,16 +15,23 @@ pub fn gives_some(closed: &Closed, a: u32, b: u32) -> bool
     prove!(closed.points() <= 2048);
     let start = closed.weak_row(2 * a);
     let finish = closed.weak_row(2 * a + 1);
-    has_bit(start, 2 * b)
-        || has_bit(start, 2 * b + 1)
-        || has_bit(finish, 2 * b)
-        || has_bit(finish, 2 * b + 1)
+    // both points of an interval have their bits in one word
+    let word = start[2 * b as usize / 64] | finish[2 * b as usize / 64];
+    has_one(word, 2 * b % 64)
 }
 
-/// Whether bit `j` of words is set.
-fn has_bit(words: &[u64], j: u32) -> bool
-    requires { j / 64 < length words.now }
-    ensures { result ≡ (bit_of words.now j == 1) }
+/// Whether bit `j` of a word or the next one is set.
+fn has_one(word: u64, j: u32) -> bool
+    requires { j + 1 < 64 }
+    ensures { result ≡ (bit_at word j == 1 || bit_at word (j + 1) == 1) }
 {
-    (words[j as usize / 64] >> (j % 64)) & 1 == 1
+    has_bit(word, j) || has_bit(word, j + 1)
+}
+
+/// Whether bit `j` of a word is set.
+fn has_bit(word: u64, j: u32) -> bool
+    requires { j < 64 }
+    ensures { result ≡ (bit_at word j == 1) }
+{
+    (word >> j) & 1 == 1
 }
