@@ -110,7 +110,7 @@ fn is_fixed(net: &Net, date: Date) -> bool
 }
 
 /// The order of a point with an upper number and one with a lower number, where the calendar gives one.
-pub fn order_of(upper: Date, lower: Date) -> Option<Atom>
+fn order_of(upper: Date, lower: Date) -> Option<Atom>
     ensures { result ≡ calendar_order (Some upper.number) (Some lower.number) upper.point lower.point }
 {
     if upper.number > lower.number {

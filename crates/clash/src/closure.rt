@@ -8,7 +8,7 @@ ghost use Rattle.net_core.specs.Relations.{Timeline};
 ghost use Rattle.order_closure.specs.Tables.{AreInRange, SatisfiesAll};
 ghost use Rattle.std.specs.Prelude.{IfErr, IfNone, IfOk, IfSome, ◌≤◌, ◌≡◌, ◌↔◌};
 
-use crate::insert::{add_in_turns, add_orders};
+use crate::insert::{add_in_sequence, add_orders};
 use crate::links::add_links;
 use crate::minimal::{Clash, clash_up_to};
 use crate::orders::{all_orders, fixed_orders};
@@ -62,9 +62,9 @@ fn closure_of(alloc: Global, points: u32, orders: &[Atom]) -> Result<Option<Clos
     ensures some { IfOk result (λ found. IfSome found (IsTableOf points (SatisfiesAll orders.now))) }
     ensures none { IfOk result (λ found. IfNone found ((t : Timeline) → SatisfiesAll orders.now t → ⊥)) }
 {
-    let turns = sequence_of(alloc, points, orders)?;
+    let sequence = sequence_of(alloc, points, orders)?;
     let mut table = Closed::new(alloc, points)?;
-    let Ok(()) = add_in_turns(&mut table, orders, &turns) else {
+    let Ok(()) = add_in_sequence(&mut table, orders, &sequence) else {
         return Ok(None);
     };
     let Ok(()) = add_orders(&mut table, orders) else {

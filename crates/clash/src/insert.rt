@@ -31,14 +31,18 @@ pub fn add_orders(table: &mut Closed, orders: &[Atom]) -> Result<(), WouldClash>
     Ok(())
 }
 
-/// Adds those of some orders that have these numbers.
-pub fn add_in_turns(table: &mut Closed, orders: &[Atom], turns: &[usize]) -> Result<(), WouldClash>
+/// Adds those of some orders that have these numbers, in this sequence.
+pub fn add_in_sequence(
+    table: &mut Closed,
+    orders: &[Atom],
+    sequence: &[usize],
+) -> Result<(), WouldClash>
     requires in_range { AreInRange table.old.points orders.now }
-    requires turns { All (λ k. k < length orders.now) turns.now }
+    requires sequence { All (λ k. k < length orders.now) sequence.now }
     ensures { AddsPartOrClashes (SatisfiesAll orders.now) table.old table.new result }
 {
-    for turn in turns {
-        insert(table, orders[*turn])?;
+    for number in sequence {
+        insert(table, orders[*number])?;
     }
     Ok(())
 }

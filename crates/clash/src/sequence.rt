@@ -16,19 +16,19 @@ use std::alloc::Global;
 /// Out of memory.
 pub fn sequence_of(alloc: Global, points: u32, orders: &[Atom]) -> Result<Vec<usize>, Memory>
     requires { AreInRange points orders.now }
-    ensures { IfOk result (λ turns. All (λ k. k < length orders.now) turns.items) }
+    ensures { IfOk result (λ sequence. All (λ k. k < length orders.now) sequence.items) }
 {
     let leaving = Leaving::new(alloc, points as usize, orders)?;
     let Ok(mut seen) = vec![in alloc; false; points as usize] else {
         return Err(Memory);
     };
     let mut path = Vec::new(alloc);
-    let mut turns = Vec::new(alloc);
+    let mut sequence = Vec::new(alloc);
     for point in 0..points as usize {
         enter(&leaving, point, &mut seen, &mut path)?;
-        descend(&leaving, orders, &mut seen, &mut path, &mut turns)?;
+        descend(&leaving, orders, &mut seen, &mut path, &mut sequence)?;
     }
-    Ok(turns)
+    Ok(sequence)
 }
 
 /// The orders that leave each point, as lists by their numbers.
@@ -92,23 +92,23 @@ fn enter(
     Ok(())
 }
 
-/// Follows orders to points that were not entered, and back where a point has no more. There are no more turns than the
-/// search can take.
+/// Follows orders to points that were not entered, and back where a point has no more. A step
+/// leaves a point by an order, or for good: so there are no more steps than points and orders.
 fn descend(
     leaving: &Leaving,
     orders: &[Atom],
     seen: &mut [bool],
     path: &mut Vec<Visit>,
-    turns: &mut Vec<usize>,
+    sequence: &mut Vec<usize>,
 ) -> Result<(), Memory>
     requires leaving { AreLeaving leaving.now }
     requires orders { length leaving.now.before.items ≡ length orders.now }
     requires in_range { AreInRange (length leaving.now.last.items) orders.now }
     requires seen { length seen.old ≡ length leaving.now.last.items }
     requires path { All (IsVisit leaving.now) path.old.items }
-    requires turns { All (λ k. k < length orders.now) turns.old.items }
+    requires sequence { All (λ k. k < length orders.now) sequence.old.items }
     ensures path { OnOk result (All (IsVisit leaving.now) path.new.items) }
-    ensures turns { OnOk result (All (λ k. k < length orders.now) turns.new.items) }
+    ensures sequence { OnOk result (All (λ k. k < length orders.now) sequence.new.items) }
 {
     let most = leaving.last.len() + orders.len();
     'descent: for _ in 0..most {
@@ -117,7 +117,7 @@ fn descend(
         };
         match visit.next {
             Some(k) => follow(leaving, orders, visit.point, k, seen, path)?,
-            None => push_leaving(leaving, visit.point, turns)?,
+            None => push_leaving(leaving, visit.point, sequence)?,
         }
     }
     Ok(())
@@ -149,15 +149,15 @@ fn follow(
 }
 
 /// Puts the orders that leave a point last.
-fn push_leaving(leaving: &Leaving, point: usize, turns: &mut Vec<usize>) -> Result<(), Memory>
+fn push_leaving(leaving: &Leaving, point: usize, sequence: &mut Vec<usize>) -> Result<(), Memory>
     requires leaving { AreLeaving leaving.now }
     requires point { point < length leaving.now.last.items }
-    requires turns { All (λ k. k < length leaving.now.before.items) turns.old.items }
-    ensures { OnOk result (All (λ k. k < length leaving.now.before.items) turns.new.items) }
+    requires sequence { All (λ k. k < length leaving.now.before.items) sequence.old.items }
+    ensures { OnOk result (All (λ k. k < length leaving.now.before.items) sequence.new.items) }
 {
     let mut next = leaving.last[point];
     while let Some(k) = next {
-        if turns.push(k).is_err() {
+        if sequence.push(k).is_err() {
             return Err(Memory);
         }
         next = leaving.before[k];

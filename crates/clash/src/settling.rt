@@ -36,7 +36,8 @@ pub fn settle(orders: &[Order], fixed: &[Atom], but: u32, ranks: &mut [u32], tur
     false
 }
 
-/// Raises ranks once by each order but those of one link: forward, or back.
+/// Raises ranks once by each order but those of one link: forward from a place on and then round to it, or the same way
+/// back. So the orders of a walk that goes round are raised at once, from where it is cut.
 fn raise_turn(
     orders: &[Order],
     fixed: &[Atom],
@@ -51,39 +52,14 @@ fn raise_turn(
     requires within { AreWithin ranks.old }
     ensures { RisesUntil (FitsBut orders.now fixed.now but) ranks.old ranks.new }
 {
+    let (before, after) = orders.split_at(place);
     if forward {
-        raise_forward(orders, fixed, but, place, ranks);
+        raise_orders(ranks, after, but);
+        raise_orders(ranks, before, but);
     } else {
-        raise_back(orders, fixed, but, place, ranks);
+        raise_orders_back(ranks, before, but);
+        raise_orders_back(ranks, after, but);
     }
-}
-
-/// Raises ranks by each order but those of one link, from a place on and then round to it: the orders of a walk that goes
-/// round, from where it is cut, are so raised at once.
-fn raise_forward(orders: &[Order], fixed: &[Atom], but: u32, place: usize, ranks: &mut [u32])
-    requires orders { spec.AreBelow (length ranks.old) orders.now }
-    requires fixed { AreInRange (length ranks.old) fixed.now }
-    requires place { place ≤ length orders.now }
-    requires within { AreWithin ranks.old }
-    ensures { RisesUntil (FitsBut orders.now fixed.now but) ranks.old ranks.new }
-{
-    let (before, after) = orders.split_at(place);
-    raise_orders(ranks, after, but);
-    raise_orders(ranks, before, but);
-    raise_all(ranks, fixed);
-}
-
-/// Raises ranks the same way back.
-fn raise_back(orders: &[Order], fixed: &[Atom], but: u32, place: usize, ranks: &mut [u32])
-    requires orders { spec.AreBelow (length ranks.old) orders.now }
-    requires fixed { AreInRange (length ranks.old) fixed.now }
-    requires place { place ≤ length orders.now }
-    requires within { AreWithin ranks.old }
-    ensures { RisesUntil (FitsBut orders.now fixed.now but) ranks.old ranks.new }
-{
-    let (before, after) = orders.split_at(place);
-    raise_orders_back(ranks, before, but);
-    raise_orders_back(ranks, after, but);
     raise_all(ranks, fixed);
 }
 

@@ -6,5 +6,5 @@ use Rattle.clash.proofs.sequence.descend.Given as goal
 abbrev pub invariant-descent : goal.invariant-descent
 invariant-descent l = record {
   path : All (IsVisit l.leaving) l.path.items;
-  turns : All (λ k. k < length l.orders) l.turns.items;
+  sequence : All (λ k. k < length l.orders) l.sequence.items;
 }

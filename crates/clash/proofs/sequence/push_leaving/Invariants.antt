@@ -6,7 +6,7 @@ use Rattle.clash.proofs.sequence.push_leaving.Given as goal
 abbrev pub invariant-loop-next : goal.invariant-loop-next
 invariant-loop-next l = record {
   next : IsNumber (length l.leaving.before.items) l.next;
-  turns : All (λ k. k < length l.leaving.before.items) l.turns.items;
+  sequence : All (λ k. k < length l.leaving.before.items) l.sequence.items;
 }
 
 -- how far down a list may go on

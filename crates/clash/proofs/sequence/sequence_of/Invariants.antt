@@ -6,5 +6,5 @@ use Rattle.clash.proofs.sequence.sequence_of.Given as goal
 abbrev pub invariant-loop-point : goal.invariant-loop-point
 invariant-loop-point l = record {
   path : All (IsVisit l.leaving) l.path.items;
-  turns : All (λ k. k < length l.orders) l.turns.items;
+  sequence : All (λ k. k < length l.orders) l.sequence.items;
 }
