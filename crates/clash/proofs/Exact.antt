@@ -11,7 +11,7 @@ use Rattle.order_closure.specs.declared.cell.Cell.{Cell}
 use Rattle.order_closure.specs.declared.cell.Cell.TheVariants.{Free, Strict, Weak}
 use Rattle.order_closure.proofs.Central.{always_stands, order_says}
 use Rattle.order_closure.proofs.Ranking.{counts_kept, strict_from, strict_says}
-use Rattle.clash.specs.Closures.{Always, IsClosureOf, NoLink}
+use Rattle.clash.specs.Closures.{Always, HasNoTimeline, IsClosureOf, NoLink}
 use Rattle.clash.specs.Minimal.{IsFirstClash}
 use Rattle.clash.specs.Orders.{AreFixed}
 use Rattle.clash.specs.Steps.{Adds, IsFirstExcluded, KeepsLinks}
@@ -89,3 +89,7 @@ module _ (net : PlainNet) (table : Table) (fitting : (t : Timeline) → Keeps ta
         first.excluded t ((fitting t).1 record { order = fits.order; links = λ j lt none. absurd none; calendar = fits.calendar })
         (λ j less. fits.links j (omega (arith, less, first.link)) (omega (arith, less))) (fits.links k first.link (omega arith));
   }
+
+-- where a link clashes with those before it no timeline fits
+pub none_fits : (net : PlainNet) (k : ℕ) → IsFirstClash net k → HasNoTimeline net
+none_fits net k first t fits = first.clashes t record { order = fits.order; links = λ j lt up_to. fits.links j lt tt; calendar = fits.calendar }

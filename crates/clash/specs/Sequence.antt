@@ -1,5 +1,5 @@
 -- Numbers of orders, by the points that the orders leave.
-use Rattle.std.specs.Prelude.{ℕ, ◌<◌, length, None, Option, IfSome, slice_index_or}
+use Rattle.std.specs.Prelude.{ℕ, ◌<◌, length, List, None, Option, IfSome, slice_index_or}
 use Rattle.std.specs.List.{All}
 use Rattle.clash.specs.declared.sequence.Leaving.{Leaving}
 use Rattle.clash.specs.declared.sequence.Visit.{Visit}
@@ -16,3 +16,7 @@ pub record AreLeaving (leaving : Leaving) : Type 0 where
 -- the point of a visit is one that orders may leave, and it is left by an order next, if by any
 abbrev pub IsVisit : Leaving → Visit → Type 0
 IsVisit leaving visit = (visit.point < length leaving.last.items) × IsNumber (length leaving.before.items) visit.next
+
+-- numbers of n points
+abbrev pub ArePoints : ℕ → List ℕ → Type 0
+ArePoints n met = All (λ (point : ℕ). point < n) met

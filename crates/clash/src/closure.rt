@@ -1,17 +1,19 @@
 //! The closure of a net.
-ghost use Rattle.clash.specs.Closures.{HasNoTimeline, IsClosureOf, IsTableOf, IsUnlinked, TellsClash};
-ghost use Rattle.clash.specs.Minimal.{IsFirstClash};
+ghost use Rattle.clash.specs.Closures.{IsClosureOf, IsTableOf, IsUnlinked, TellsClash};
 ghost use Rattle.clash.specs.Orders.{AreFixed};
 ghost use Rattle.clash.specs.declared.closure.CloseFault.TheVariants as faults;
 ghost use Rattle.net_core.specs.Fits.{Fits};
+ghost use Rattle.net_core.specs.Nets.{points};
 ghost use Rattle.net_core.specs.Relations.{Timeline};
 ghost use Rattle.order_closure.specs.Tables.{AreInRange, SatisfiesAll};
-ghost use Rattle.std.specs.Prelude.{IfErr, IfNone, IfOk, IfSome, ◌≤◌, ◌≡◌, ◌↔◌};
+ghost use Rattle.std.specs.List.{All};
+ghost use Rattle.std.specs.Prelude.{IfErr, IfOk, IfSome, length, ◌<◌, ◌≤◌, ◌≡◌};
 
 use crate::insert::{add_in_sequence, add_orders};
 use crate::links::add_links;
 use crate::minimal::{Clash, clash_up_to};
 use crate::orders::{all_orders, fixed_orders};
+use crate::rings::go_round;
 use crate::sequence::sequence_of;
 use net_core::{Atom, Memory, Net};
 use order_closure::Closed;
@@ -45,26 +47,57 @@ pub fn close(alloc: Global, net: &Net) -> Result<Closed, CloseFault>
     ensures fits { IfOk result (λ table. (t : Timeline) × Fits net.now t) }
     ensures err { IfErr result (TellsClash net.now) }
 {
-    let fixed = fixed_orders(alloc, net)?;
-    let orders = all_orders(alloc, net, &fixed)?;
-    if let Some(table) = closure_of(alloc, 2 * net.intervals(), &orders)? {
-        prove!(table.points() == 2 * net.intervals());
-        return Ok(table);
+    match table_of(alloc, net) {
+        Ok(table) => {
+            // it is closed
+            prove!(table.points() == 2 * net.intervals());
+            Ok(table)
+        }
+        Err(fault) => Err(fault),
     }
-    let link = first_clash(alloc, net, &fixed)?;
-    Err(CloseFault::Clash(clash_up_to(alloc, net, &fixed, link)?))
 }
 
-/// The table of what is true of every timeline that satisfies some orders. None comes exactly where none does.
-fn closure_of(alloc: Global, points: u32, orders: &[Atom]) -> Result<Option<Closed>, Memory>
+/// The table that is kept by exactly the timelines that fit the net, or a clash.
+fn table_of(alloc: Global, net: &Net) -> Result<Closed, CloseFault>
+    ensures ok { IfOk result (IsTableOf (points net.now) (Fits net.now)) }
+    ensures err { IfErr result (TellsClash net.now) }
+{
+    let fixed = fixed_orders(alloc, net)?;
+    if let Some(table) = in_sequence(alloc, net, &fixed)? {
+        return Ok(table);
+    }
+    by_links(alloc, net, &fixed)
+}
+
+/// The same, with all orders added in a sequence in which few rows change. None comes mostly where no timeline fits.
+fn in_sequence(alloc: Global, net: &Net, fixed: &[Atom]) -> Result<Option<Closed>, Memory>
+    requires { AreFixed net.now fixed.now }
+    ensures { IfOk result (λ found. IfSome found (IsTableOf (points net.now) (Fits net.now))) }
+{
+    let points = 2 * net.intervals();
+    let orders = all_orders(alloc, net, fixed)?;
+    let sequence = sequence_of(alloc, points, &orders)?;
+    if go_round(alloc, points, &orders, &sequence)? {
+        return Ok(None);
+    }
+    closure_of(alloc, points, &orders, &sequence)
+}
+
+/// The table of what is true of every timeline that satisfies some orders, added in a sequence. None comes where they deny
+/// one another.
+fn closure_of(
+    alloc: Global,
+    points: u32,
+    orders: &[Atom],
+    sequence: &[usize],
+) -> Result<Option<Closed>, Memory>
     requires few { points ≤ 2048 }
     requires in_range { AreInRange points orders.now }
-    ensures some { IfOk result (λ found. IfSome found (IsTableOf points (SatisfiesAll orders.now))) }
-    ensures none { IfOk result (λ found. IfNone found ((t : Timeline) → SatisfiesAll orders.now t → ⊥)) }
+    requires sequence { All (λ k. k < length orders.now) sequence.now }
+    ensures { IfOk result (λ found. IfSome found (IsTableOf points (SatisfiesAll orders.now))) }
 {
-    let sequence = sequence_of(alloc, points, orders)?;
     let mut table = Closed::new(alloc, points)?;
-    let Ok(()) = add_in_sequence(&mut table, orders, &sequence) else {
+    let Ok(()) = add_in_sequence(&mut table, orders, sequence) else {
         return Ok(None);
     };
     let Ok(()) = add_orders(&mut table, orders) else {
@@ -73,20 +106,20 @@ fn closure_of(alloc: Global, points: u32, orders: &[Atom]) -> Result<Option<Clos
     Ok(Some(table))
 }
 
-/// The first link that clashes with those before it, where no timeline fits.
-fn first_clash(alloc: Global, net: &Net, fixed: &[Atom]) -> Result<u32, Memory>
-    requires fixed { AreFixed net.now fixed.now }
-    requires none { HasNoTimeline net.now }
-    ensures { IfOk result (IsFirstClash net.now) }
+/// The table that is kept by exactly the timelines that fit the net, the links added in their order, or a clash up to the
+/// first of them that is denied.
+fn by_links(alloc: Global, net: &Net, fixed: &[Atom]) -> Result<Closed, CloseFault>
+    requires { AreFixed net.now fixed.now }
+    ensures ok { IfOk result (IsTableOf (points net.now) (Fits net.now)) }
+    ensures err { IfErr result (TellsClash net.now) }
 {
     let mut table = without_links(alloc, net, fixed)?;
     match add_links(&mut table, net) {
-        Ok(()) => {
-            // a table is kept by some timeline
-            prove!(table.points() <= 2048);
-            unreachable!()
+        Ok(()) => Ok(table),
+        Err(first) => {
+            let clash = clash_up_to(alloc, net, fixed, first.link)?;
+            Err(CloseFault::Clash(clash))
         }
-        Err(first) => Ok(first.link),
     }
 }
 

@@ -9,6 +9,7 @@ mod links;
 mod minimal;
 mod orders;
 mod raising;
+mod rings;
 mod round;
 mod sequence;
 mod settling;

@@ -33,15 +33,20 @@ pub fn sequence_of(alloc: Global, points: u32, orders: &[Atom]) -> Result<Vec<us
 
 /// The orders that leave each point, as lists by their numbers.
 #[derive(Drop)]
-struct Leaving {
+pub struct Leaving {
     /// For each point the last order that leaves it.
-    last: Vec<Option<usize>>,
+    pub last: Vec<Option<usize>>,
     /// For each order the one before it that leaves the same point.
-    before: Vec<Option<usize>>,
+    pub before: Vec<Option<usize>>,
 }
 
 impl Leaving {
-    fn new(alloc: Global, points: usize, orders: &[Atom]) -> Result<Leaving, Memory>
+    /// The lists of some orders.
+    ///
+    /// # Errors
+    ///
+    /// Out of memory.
+    pub fn new(alloc: Global, points: usize, orders: &[Atom]) -> Result<Leaving, Memory>
         requires { AreInRange points orders.now }
         ensures leaving { IfOk result AreLeaving }
         ensures points { IfOk result (λ leaving. length leaving.last.items ≡ points) }
@@ -92,8 +97,8 @@ fn enter(
     Ok(())
 }
 
-/// Follows orders to points that were not entered, and back where a point has no more. A step
-/// leaves a point by an order, or for good: so there are no more steps than points and orders.
+/// Follows orders to points that were not entered, and back where a point has no more. A step leaves a point by an order,
+/// or for good: so there are no more steps than points and orders.
 fn descend(
     leaving: &Leaving,
     orders: &[Atom],

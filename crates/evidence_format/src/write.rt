@@ -169,7 +169,8 @@ fn push_one(out: &mut Vec<u8>, keyword: &[u8], n: u32) -> Result<(), AllocError>
     push_number(out, n, b'\n')
 }
 
-/// A keyword that ends in a space, and two numbers.
+/// A keyword that ends in a space, and two numbers. It stands in its callers, where the keyword is a constant.
+#[inline(always)]
 fn push_two(out: &mut Vec<u8>, keyword: &[u8], m: u32, n: u32) -> Result<(), AllocError>
     ensures { OnOk result (out.new.items ≡ out.old.items ++ lines.two_numbers keyword.now m n) }
 {
