@@ -7,6 +7,7 @@ mod by_walks;
 mod calendar;
 mod minimal;
 mod proving;
+mod rings;
 
 use self::proving::proves_itself;
 use crate::{CloseFault, close};

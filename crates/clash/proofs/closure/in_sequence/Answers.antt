@@ -16,7 +16,7 @@ returns c =
     let net = c.args.net.now in
     let size : 2 * c.intervals-points.result ≡ points net = ap (λ (n : ℕ). 2 * n) c.intervals-points.ensures.count in
     let said : (t : Timeline) → SatisfiesAll c.deref-4.result.now t ↔ Fits net t =
-        subst (λ (orders : List Atom). (t : Timeline) → SatisfiesAll orders t ↔ Fits net t) (sym c.deref-4.ensures.value) c.in_ok-orders.ensures.exact in
+    subst (λ (orders : List Atom). (t : Timeline) → SatisfiesAll orders t ↔ Fits net t) (sym c.deref-4.ensures.value) c.in_ok-orders.ensures.exact in
     IfOk-weaker c.closure_of.result
     (λ (found : Option Closed). IfSome found (IsTableOf (2 * c.intervals-points.result) (SatisfiesAll c.deref-4.result.now)))
     (λ (found : Option Closed). IfSome found (IsTableOf (points net) (Fits net)))
