@@ -3,7 +3,7 @@
 `tml verify` of the clash that it printed.
 
 Prints, for each document, how many links the clash cites, how many steps its walk has, how many bytes were printed, and
-the least time of five runs. Each `solve` is to take at most 40 ms more than `check`, and each clash is to be verified.
+the least time of five runs. Each `solve` is to take at most 20 ms more than `check`, and each clash is to be verified.
 Build the program first, as README.md says.
 
 usage: bench/clash.py [PROGRAM]       (PROGRAM is crates/tml/out/tml if left out)
