@@ -1,7 +1,8 @@
 -- The numbers of the kinds of fault.
-use Rattle.std.proofs.Common.{◌≡◌, ℕ, ◌-◌, Some, refl, ap, sym, ◌∙◌}
+use Rattle.std.proofs.Common.{◌≡◌, ℕ, ◌-◌, Some, refl, ap, sym, subst, ◌∙◌, Contains}
 use Rattle.std.specs.List.{slice_get}
-use Rattle.std.proofs.lemmas.Option.{same_Some}
+use Rattle.std.proofs.lemmas.List.Elements.{Contains-get_or}
+use Rattle.std.proofs.lemmas.Option.{get_or_from_slice_get, same_Some, slice_get_within}
 use Rattle.faults.specs.declared.kind.FaultKind.{FaultKind}
 use Rattle.faults.specs.declared.kind.FaultKind.TheVariants as fault
 use Rattle.faults.specs.First.{AreNumbered}
@@ -29,3 +30,10 @@ numbered_at fault.TooManyLinks = refl
 
 pub kinds_are_numbered : AreNumbered number_of
 kinds_are_numbered kind other same = same_Some _ _ (sym (numbered_at kind) ∙ ap (λ (n : ℕ). slice_get all_kinds (n - 1)) same ∙ numbered_at other)
+
+-- each kind is one of the list
+pub every_kind : (kind : FaultKind) → Contains all_kinds kind
+every_kind kind =
+    let at = numbered_at kind in
+    subst (Contains all_kinds) (get_or_from_slice_get all_kinds (number_of kind - 1) kind kind at)
+    (Contains-get_or all_kinds (number_of kind - 1) kind (slice_get_within all_kinds (number_of kind - 1) kind at))
