@@ -1,5 +1,5 @@
 -- Declarations, doctypes and comments: where none begins, that there is one or none, and that it ends in one way.
-use Rattle.std.proofs.Common.{◌≡◌, ◌≢◌, ◌⊎◌, ℕ, ◌+◌, ◌-◌, true, false, List, ◌∷◌, ◌++◌, length, take, drop, refl, sym, ap, subst, ◌∙◌, append_assoc, arith, inl, inr, ⊎_elim, length-append}
+use Rattle.std.proofs.Common.{◌≡◌, ◌≢◌, ◌⊎◌, ℕ, ◌+◌, ◌-◌, true, false, List, ◌∷◌, ◌++◌, length, take, drop, refl, sym, ap, subst, ◌∙◌, append_assoc, arith, inl, inr, length-append}
 use Rattle.std.specs.Prelude.{nat_eq, codes}
 use Rattle.std.specs.List.{starts_with, prefix_len, list_all}
 use Rattle.std.proofs.lemmas.Bool.{cond-false}
@@ -42,13 +42,13 @@ comment_finds place bytes body rest e l =
     inl (record { start = place; end = place + length prefix; kind = comment prefix }, (rest, (prefix, e ∙ sym (parts (codes "<!--") body (codes "-->") prefix rest refl), record { kind = (refl, body, refl, l); start = refl; end = refl }, tt)))
 
 pub comment_or_none : (place : ℕ) (bytes : List ℕ) → lead bytes ≡ comments → FindsOrStops place bytes
-comment_or_none place bytes l = ⊎_elim
-    (λ here. ⊎_elim
-    (λ found. comment_finds place bytes found.0 found.1 (here.1 ∙ ap (λ (x : List ℕ). codes "<!--" ++ x) found.2) found.3)
-    (λ none. inr (comment_unclosed place bytes l (subst (Lacks (codes "-->")) (sym (ap (drop 4) here.1)) none)))
-    (find_piece (codes "-->") here.0 (λ e. absurd cc)))
-    (λ not_here. inr (comment_stops place bytes l (λ body rest e. not_here (body ++ (codes "-->" ++ rest), e))))
-    (begins_or_not (codes "<!--") bytes)
+comment_or_none place bytes l = elim (begins_or_not (codes "<!--") bytes) [
+  | yes here ↦ elim (find_piece (codes "-->") here.0 (λ e. absurd cc)) [
+    | inl found ↦ comment_finds place bytes found.0 found.1 (here.1 ∙ ap (λ (x : List ℕ). codes "<!--" ++ x) found.2) found.3
+    | inr lacks ↦ inr (comment_unclosed place bytes l (subst (Lacks (codes "-->")) (sym (ap (drop 4) here.1)) lacks))
+  ]
+  | no not_here ↦ inr (comment_stops place bytes l (λ body rest e. not_here (body ++ (codes "-->" ++ rest), e)))
+]
 
 pub one_comment : (place : ℕ) (s t suffix after : List ℕ) → s ++ suffix ≡ t ++ after → SpelledKind place (comment s) s → SpelledKind place (comment t) t → s ≡ t
 one_comment place s t suffix after e h k =
@@ -82,13 +82,13 @@ declaration_finds place bytes white body rest e w l =
     inl (record { start = place; end = place + length prefix; kind = declaration prefix }, (rest, (prefix, e ∙ sym (parts (codes "<?xml") (white ∷ body) (codes "?>") prefix rest refl), record { kind = (refl, white, body, refl, w, l); start = refl; end = refl }, tt)))
 
 pub declaration_or_none : (place : ℕ) (bytes : List ℕ) → lead bytes ≡ query → FindsOrStops place bytes
-declaration_or_none place bytes l = ⊎_elim
-    (λ here. ⊎_elim
-    (λ found. declaration_finds place bytes here.0 found.0 found.1 (here.2 ∙ ap (λ (x : List ℕ). codes "<?xml" ++ here.0 ∷ x) found.2) here.3 found.3)
-    (λ none. inr (declaration_unclosed place bytes l (subst (Lacks (codes "?>")) (sym (ap (drop 6) here.2)) none)))
-    (find_piece (codes "?>") here.1 (λ e. absurd cc)))
-    (λ not_here. inr (declaration_unnamed place bytes l not_here))
-    (begins_with_word_or_not (codes "<?xml") bytes)
+declaration_or_none place bytes l = elim (begins_with_word_or_not (codes "<?xml") bytes) [
+  | yes here ↦ elim (find_piece (codes "?>") here.1 (λ e. absurd cc)) [
+    | inl found ↦ declaration_finds place bytes here.0 found.0 found.1 (here.2 ∙ ap (λ (x : List ℕ). codes "<?xml" ++ here.0 ∷ x) found.2) here.3 found.3
+    | inr lacks ↦ inr (declaration_unclosed place bytes l (subst (Lacks (codes "?>")) (sym (ap (drop 6) here.2)) lacks))
+  ]
+  | no not_here ↦ inr (declaration_unnamed place bytes l not_here)
+]
 
 pub one_declaration : (place : ℕ) (s t suffix after : List ℕ) → s ++ suffix ≡ t ++ after → SpelledKind place (declaration s) s → SpelledKind place (declaration t) t → s ≡ t
 one_declaration place s t suffix after e h k =
@@ -151,15 +151,15 @@ doctype_finds place bytes end rest all here is closed whole =
     )
 
 pub doctype_or_none : (place : ℕ) (bytes : List ℕ) → lead bytes ≡ doctypes → FindsOrStops place bytes
-doctype_or_none place bytes l = ⊎_elim
-    (λ here. ⊎_elim
-    (λ closed.
-    let all = take (length bytes - length closed.0) bytes in
-    inl (record { start = place; end = place + length all; kind = doctype all }, (closed.0, doctype_finds place bytes (past_body (drop 10 bytes)) closed.0 all here refl closed.1 refl)))
-    (λ not_closed. inr (doctype_unclosed place bytes (past_body (drop 10 bytes)) l refl (λ rest e. not_closed (rest, e))))
-    (begins_or_not (codes ">") (past_body (drop 10 bytes))))
-    (λ not_here. inr (doctype_unnamed place bytes l not_here))
-    (begins_with_word_or_not (codes "<!DOCTYPE") bytes)
+doctype_or_none place bytes l = elim (begins_with_word_or_not (codes "<!DOCTYPE") bytes) [
+  | yes here ↦ elim (begins_or_not (codes ">") (past_body (drop 10 bytes))) [
+    | yes closed ↦
+        let all = take (length bytes - length closed.0) bytes in
+        inl (record { start = place; end = place + length all; kind = doctype all }, (closed.0, doctype_finds place bytes (past_body (drop 10 bytes)) closed.0 all here refl closed.1 refl))
+    | no not_closed ↦ inr (doctype_unclosed place bytes (past_body (drop 10 bytes)) l refl (λ rest e. not_closed (rest, e)))
+  ]
+  | no not_here ↦ inr (doctype_unnamed place bytes l not_here)
+]
 
 pub one_doctype : (place : ℕ) (s t suffix after : List ℕ) → s ++ suffix ≡ t ++ after → SpelledKind place (doctype s) s → SpelledKind place (doctype t) t → s ≡ t
 one_doctype place s t suffix after e h k =

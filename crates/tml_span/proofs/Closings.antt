@@ -1,13 +1,13 @@
 -- Where a piece is first within bytes.
-use Rattle.std.proofs.Common.{◌≡◌, ◌≢◌, ◌⊎◌, ℕ, ◌+◌, ◌<◌, ◌≤◌, Bool, true, List, get_or, [], ◌∷◌, ◌++◌, length, take, drop, refl, sym, ap, ◌∙◌, append_assoc, arith, Some, None, inl, inr, ⊎_elim, length-append, length-take, length-drop}
+use Rattle.std.proofs.Common.{◌≡◌, ◌≢◌, ◌⊎◌, ℕ, ◌+◌, ◌<◌, ◌≤◌, Bool, true, List, get_or, [], ◌∷◌, ◌++◌, length, take, drop, refl, sym, ap, ◌∙◌, append_assoc, arith, Some, None, inl, inr, length-append, length-take, length-drop}
 use Rattle.std.specs.Prelude.{nat_eq, codes}
 use Rattle.std.specs.Bool.{Decides}
 use Rattle.std.specs.List.{starts_with}
-use Rattle.std.proofs.lemmas.Bool.{cases_Bool, both_ways}
 use Rattle.std.proofs.lemmas.Bool.Decides.{Decides-eqb}
 use Rattle.std.proofs.lemmas.List.{append_cancel_left, take-append-drop, take_at, drop_at}
 use Rattle.std.proofs.lemmas.List.Prefix.{at_from_reads, at_reads}
 use Rattle.std.proofs.lemmas.Slice.Eq.{starts_is}
+use Rattle.named.proofs.Deciding.{by_test}
 use Rattle.memchr.specs.Find.{OccursAt, FindsNeedle}
 use Rattle.tml_span.specs.Bytes.{is_white}
 use Rattle.tml_span.specs.Units.{Lacks, BeginsWith}
@@ -18,11 +18,8 @@ use Rattle.tml_span.specs.Units.{Lacks, BeginsWith}
 pub begins_true : (piece bytes : List ℕ) → starts_with nat_eq bytes piece ≡ true → BeginsWith piece bytes
 begins_true piece bytes e = (drop (length piece) bytes, (starts_is Decides-eqb bytes piece (starts_with nat_eq bytes piece) refl).0 e)
 
-pub begins_or_not : (piece bytes : List ℕ) → BeginsWith piece bytes ⊎ (BeginsWith piece bytes → ⊥)
-begins_or_not piece bytes = ⊎_elim
-    (λ yes_is. inl (begins_true piece bytes yes_is))
-    (λ no_is. inr (λ h. both_ways _ no_is ((starts_is Decides-eqb bytes piece (starts_with nat_eq bytes piece) refl).1 h.0 h.1)))
-    (cases_Bool (starts_with nat_eq bytes piece))
+pub begins_or_not : (piece bytes : List ℕ) → Dec (BeginsWith piece bytes)
+begins_or_not piece bytes = by_test (starts_with nat_eq bytes piece) (begins_true piece bytes, λ h. (starts_is Decides-eqb bytes piece (starts_with nat_eq bytes piece) refl).1 h.0 h.1)
 
 -- the bytes begin with a word and one white space
 abbrev pub BeginsWithWord : List ℕ → List ℕ → Type 0
@@ -39,17 +36,15 @@ word_decides word bytes (w ∷ rest) r e some h = (
       h ∙ ap is_white first ∙ k.3,
 )
 
-word_or_not : (word bytes rest : List ℕ) → bytes ≡ word ++ rest → BeginsWithWord word bytes ⊎ (BeginsWithWord word bytes → ⊥)
-word_or_not word bytes [] e = inr (λ h. let same = append_cancel_left word [] (h.0 ∷ h.1) (sym e ∙ h.2) in cc same)
-word_or_not word bytes (w ∷ rest) e =
-    let decides = word_decides word bytes (w ∷ rest) (is_white w) e (omega arith) refl in
-    ⊎_elim (λ yes_is. inl (decides.0 yes_is)) (λ no_is. inr (λ h. both_ways _ no_is (decides.1 h))) (cases_Bool (is_white w))
+word_or_not : (word bytes rest : List ℕ) → bytes ≡ word ++ rest → Dec (BeginsWithWord word bytes)
+word_or_not word bytes [] e = no (λ h. let same = append_cancel_left word [] (h.0 ∷ h.1) (sym e ∙ h.2) in cc same)
+word_or_not word bytes (w ∷ rest) e = by_test (is_white w) (word_decides word bytes (w ∷ rest) (is_white w) e (omega arith) refl)
 
-pub begins_with_word_or_not : (word bytes : List ℕ) → BeginsWithWord word bytes ⊎ (BeginsWithWord word bytes → ⊥)
-begins_with_word_or_not word bytes = ⊎_elim
-    (λ here. word_or_not word bytes here.0 here.1)
-    (λ not_here. inr (λ h. not_here (h.0 ∷ h.1, h.2)))
-    (begins_or_not word bytes)
+pub begins_with_word_or_not : (word bytes : List ℕ) → Dec (BeginsWithWord word bytes)
+begins_with_word_or_not word bytes = elim (begins_or_not word bytes) [
+  | yes here ↦ word_or_not word bytes here.0 here.1
+  | no not_here ↦ no (λ h. not_here (h.0 ∷ h.1, h.2))
+]
 
 -- ---- the first place
 
@@ -80,10 +75,13 @@ split_more piece b bytes not_here s = (
 -- a piece is in the bytes for a first time, or in no part of them
 pub find_piece : (piece bytes : List ℕ) → piece ≢ [] → SplitsAt piece bytes ⊎ Lacks piece bytes
 find_piece piece [] some = inr (lacks_empty piece some)
-find_piece piece (b ∷ bytes) some = ⊎_elim
-    (λ here. inl ([], here.0, here.1, lacks_empty piece some))
-    (λ not_here. ⊎_elim (λ s. inl (split_more piece b bytes not_here s)) (λ l. inr (lacks_more piece b bytes not_here l)) (find_piece piece bytes some))
-    (begins_or_not piece (b ∷ bytes))
+find_piece piece (b ∷ bytes) some = elim (begins_or_not piece (b ∷ bytes)) [
+  | yes here ↦ inl ([], here.0, here.1, lacks_empty piece some)
+  | no not_here ↦ elim (find_piece piece bytes some) [
+    | inl split ↦ inl (split_more piece b bytes not_here split)
+    | inr lacks ↦ inr (lacks_more piece b bytes not_here lacks)
+  ]
+]
 
 -- ---- one body
 

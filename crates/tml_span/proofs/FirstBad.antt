@@ -15,7 +15,7 @@ pub bad_at_within : (bytes : List ℕ) (index : ℕ) → IsBadAt bytes index →
 bad_at_within bytes index h = omega (arith, h.index_is, ap length h.whole, length-append h.prefix (38 ∷ h.suffix))
 
 -- an `&` is bad if no reference begins there
-bad_here : (bytes : List ℕ) (index : ℕ) → index < length bytes → slice_index bytes index ≡ 38 → (BeginsReference (drop index bytes) → ⊥) → IsBadAt bytes index
+pub bad_here : (bytes : List ℕ) (index : ℕ) → index < length bytes → slice_index bytes index ≡ 38 → (BeginsReference (drop index bytes) → ⊥) → IsBadAt bytes index
 bad_here bytes index within is none =
     let split : drop index bytes ≡ 38 ∷ drop (index + 1) bytes = drop_more bytes index 0 within ∙ ap (λ (b : ℕ). b ∷ drop (index + 1) bytes) is in record {
       prefix = take index bytes;
@@ -30,13 +30,13 @@ from_bad : (bytes : List ℕ) (index : ℕ) → (h : IsBadAt bytes index) → dr
 from_bad bytes index h = ap (drop index) h.whole ∙ drop_at h.prefix (38 ∷ h.suffix) index (sym h.index_is)
 
 -- a bad index is an `&`
-bad_is : (bytes : List ℕ) (index : ℕ) → IsBadAt bytes index → slice_index bytes index ≡ 38
+pub bad_is : (bytes : List ℕ) (index : ℕ) → IsBadAt bytes index → slice_index bytes index ≡ 38
 bad_is bytes index h =
     let sum : index ≡ index + 0 = omega arith in
     ap (slice_index bytes) sum ∙ sym (get_or-drop index bytes 0 0) ∙ ap (λ (x : List ℕ). slice_index x 0) (from_bad bytes index h)
 
 -- at a bad index no reference begins
-not_begun : (bytes : List ℕ) (index : ℕ) → IsBadAt bytes index → BeginsReference (drop index bytes) → ⊥
+pub not_begun : (bytes : List ℕ) (index : ℕ) → IsBadAt bytes index → BeginsReference (drop index bytes) → ⊥
 not_begun bytes index h b = h.bad (subst BeginsReference (from_bad bytes index h) b)
 
 -- no index below this one is bad

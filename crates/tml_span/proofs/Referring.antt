@@ -1,13 +1,18 @@
 -- A reference that bytes begin with.
-use Rattle.std.proofs.Common.{◌≡◌, ◌↔◌, ◌⊎◌, inl, inr, ℕ, zero, suc, ◌≤◌, Bool, true, false, List, [], ◌∷◌, ◌++◌, length, take, drop, refl, sym, ap, subst, ◌∙◌, append_assoc, arith, Some, length-take}
+use mathlib.Core.Logic.Dec
+use native.Mathlib.Decide.{dec_le, ℕ_discrete}
+use Rattle.std.proofs.Common.{◌≡◌, ◌↔◌, ◌⊎◌, inl, inr, ℕ, zero, suc, ◌≤◌, Bool, true, false, List, [], ◌∷◌, ◌++◌, length, take, drop, refl, sym, ap, subst, ◌∙◌, append_assoc, arith, Option, Some, None, length-take}
 use Rattle.std.specs.Prelude.{codes, nat_eq, slice_get, Contains, IsTrue}
 use Rattle.std.specs.List.{list_all, list_any, prefix_len, starts_with}
 use Rattle.std.proofs.lemmas.Bool.Decides.{Decides-eqb}
 use Rattle.std.proofs.lemmas.List.Folds.{Any-from_list_any, list_any_at}
-use Rattle.std.proofs.lemmas.Option.{slice_get_within}
+use Rattle.std.proofs.lemmas.Option.{same_Some, slice_get_within}
 use Rattle.std.proofs.lemmas.Slice.Eq.{starts_is}
+use Rattle.named.proofs.Deciding.{all_three, either, by_test}
 use Rattle.tml_span.specs.Bytes.{is_digit, is_hex_digit}
-use Rattle.tml_span.specs.References.{named_references, Begins, IsDecimalReference, IsHexReference, BeginsReference}
+use Rattle.tml_span.specs.References.{named_references, Begins, IsDecimalReference, IsHexReference, BeginsReference, IsClosed}
+use Rattle.tml_span.specs.Units.{BeginsWith}
+use Rattle.tml_span.proofs.Closings.{begins_or_not}
 use Rattle.tml_span.proofs.Runs.{prefix_len_again, prefix_passes}
 
 -- what passes the test of one of some names begins with one of them
@@ -24,16 +29,15 @@ begins_one names bytes h =
     list_any_at (starts_with nat_eq bytes) names at.0 h.0 at.1 ((starts_is Decides-eqb bytes _ _ refl).1 h.1 (h.2 ∙ ap (λ (x : List ℕ). x ++ h.1) (sym at.2)))
 
 -- the bytes begin with a reference of one of the three forms
+pub one_form : (bytes : List ℕ) → BeginsReference bytes → Begins (Contains named_references) bytes ⊎ Begins IsDecimalReference bytes ⊎ Begins IsHexReference bytes
+one_form bytes (prefix, suffix, whole, inl h) = inl (prefix, suffix, whole, h)
+one_form bytes (prefix, suffix, whole, inr (inl h)) = inr (inl (prefix, suffix, whole, h))
+one_form bytes (prefix, suffix, whole, inr (inr h)) = inr (inr (prefix, suffix, whole, h))
+
 pub reference_begins : (bytes : List ℕ) → Begins (Contains named_references) bytes ⊎ Begins IsDecimalReference bytes ⊎ Begins IsHexReference bytes → BeginsReference bytes
 reference_begins bytes (inl h) = (h.0, h.1, h.2, inl h.3)
 reference_begins bytes (inr (inl h)) = (h.0, h.1, h.2, inr (inl h.3))
 reference_begins bytes (inr (inr h)) = (h.0, h.1, h.2, inr (inr h.3))
-
--- where neither a name nor decimal digits begin, hexadecimal digits do
-pub hex_is_left : (bytes : List ℕ) → (Begins (Contains named_references) bytes → ⊥) → (Begins IsDecimalReference bytes → ⊥) → BeginsReference bytes → Begins IsHexReference bytes
-hex_is_left bytes no_name no_decimal (prefix, suffix, whole, inl h) = absurd (no_name (prefix, suffix, whole, h))
-hex_is_left bytes no_name no_decimal (prefix, suffix, whole, inr (inl h)) = absurd (no_decimal (prefix, suffix, whole, h))
-hex_is_left bytes no_name no_decimal (prefix, suffix, whole, inr (inr h)) = (prefix, suffix, whole, h)
 
 -- the test of the named references says whether the bytes begin with one of them
 pub named_begins : (bytes : List ℕ) (r : Bool) → r ≡ list_any (starts_with nat_eq bytes) named_references → IsTrue r ↔ Begins (Contains named_references) bytes
@@ -55,34 +59,63 @@ abbrev Closed : (ℕ → Bool) → ℕ → List ℕ → Type 0
 Closed p most bytes = (digits : List ℕ) × (suffix : List ℕ) × (bytes ≡ digits ++ 59 ∷ suffix) × (1 ≤ length digits) × (length digits ≤ most) × (list_all p digits ≡ true)
 
 -- a run of digits that is closed by `;`
-closed : (p : ℕ → Bool) (most n : ℕ) (bytes : List ℕ) → n ≡ prefix_len p bytes → (1 ≤ n) × (n ≤ most) × (slice_get bytes n ≡ Some 59) → Closed p most bytes
+closed : (p : ℕ → Bool) (most n : ℕ) (bytes : List ℕ) → n ≡ prefix_len p bytes → IsClosed n most bytes → Closed p most bytes
 closed p most n bytes e h =
     let len : length (take n bytes) ≡ n = omega (arith, length-take n bytes, slice_get_within bytes n 59 h.2) in
     (take n bytes, drop (suc n) bytes, at_index bytes n 59 h.2, omega (arith, len, h.0), omega (arith, len, h.1), subst (λ (m : ℕ). list_all p (take m bytes) ≡ true) (sym e) (prefix_passes p bytes))
 
 -- digits that are closed by `;` are the run
-closed_run : (p : ℕ → Bool) (most n : ℕ) (bytes : List ℕ) → p 59 ≡ false → n ≡ prefix_len p bytes → Closed p most bytes → (1 ≤ n) × (n ≤ most) × (slice_get bytes n ≡ Some 59)
+closed_run : (p : ℕ → Bool) (most n : ℕ) (bytes : List ℕ) → p 59 ≡ false → n ≡ prefix_len p bytes → Closed p most bytes → IsClosed n most bytes
 closed_run p most n bytes other e h =
     let is : n ≡ length h.0 = e ∙ ap (prefix_len p) h.2 ∙ prefix_len_again p h.0 (59 ∷ h.1) h.5 other in
     let semicolon : slice_get bytes n ≡ Some 59 = ap (slice_get bytes) is ∙ ap (λ (x : List ℕ). slice_get x (length h.0)) h.2 ∙ byte_after h.0 h.1 59 in
     (omega (arith, is, h.3), omega (arith, is, h.4), semicolon)
 
--- the test of a run of digits after `&#`
-pub decimal_begins : (bytes digits : List ℕ) (n : ℕ) (r : Bool) → bytes ≡ codes "&#" ++ digits → n ≡ prefix_len is_digit digits → (IsTrue r ↔ ((1 ≤ n) × (n ≤ 7) × (slice_get digits n ≡ Some 59))) → IsTrue r ↔ Begins IsDecimalReference bytes
-decimal_begins bytes digits n r e len h = (
-  λ t. let c = closed is_digit 7 n digits len (h.0 t) in
+-- the run of digits after `&#` says whether a decimal reference begins
+pub decimal_begins : (bytes digits : List ℕ) (n : ℕ) → bytes ≡ codes "&#" ++ digits → n ≡ prefix_len is_digit digits → IsClosed n 7 digits ↔ Begins IsDecimalReference bytes
+decimal_begins bytes digits n e len = (
+  λ h. let c = closed is_digit 7 n digits len h in
       (codes "&#" ++ c.0 ++ codes ";", c.1, e ∙ ap (λ (x : List ℕ). codes "&#" ++ x) (c.2 ∙ sym (append_assoc c.0 (codes ";") c.1)), record { digits = c.0; whole = refl; some = c.3; most = c.4; kind = c.5 }),
   λ b. let d = b.3 in
       let whole : codes "&#" ++ digits ≡ codes "&#" ++ (d.digits ++ 59 ∷ b.1) = sym e ∙ b.2 ∙ ap (λ (x : List ℕ). x ++ b.1) d.whole ∙ simp append_assoc in
-      h.1 (closed_run is_digit 7 n digits refl len (d.digits, b.1, cc whole, d.some, d.most, d.kind)),
+      closed_run is_digit 7 n digits refl len (d.digits, b.1, cc whole, d.some, d.most, d.kind),
 )
 
--- the test of a run of hexadecimal digits after `&#x`
-pub hex_begins : (bytes digits : List ℕ) (n : ℕ) (r : Bool) → bytes ≡ codes "&#x" ++ digits → n ≡ prefix_len is_hex_digit digits → (IsTrue r ↔ ((1 ≤ n) × (n ≤ 6) × (slice_get digits n ≡ Some 59))) → IsTrue r ↔ Begins IsHexReference bytes
-hex_begins bytes digits n r e len h = (
-  λ t. let c = closed is_hex_digit 6 n digits len (h.0 t) in
+-- the run of hexadecimal digits after `&#x` does the same
+pub hex_begins : (bytes digits : List ℕ) (n : ℕ) → bytes ≡ codes "&#x" ++ digits → n ≡ prefix_len is_hex_digit digits → IsClosed n 6 digits ↔ Begins IsHexReference bytes
+hex_begins bytes digits n e len = (
+  λ h. let c = closed is_hex_digit 6 n digits len h in
       (codes "&#x" ++ c.0 ++ codes ";", c.1, e ∙ ap (λ (x : List ℕ). codes "&#x" ++ x) (c.2 ∙ sym (append_assoc c.0 (codes ";") c.1)), record { digits = c.0; whole = refl; some = c.3; most = c.4; kind = c.5 }),
   λ b. let d = b.3 in
       let whole : codes "&#x" ++ digits ≡ codes "&#x" ++ (d.digits ++ 59 ∷ b.1) = sym e ∙ b.2 ∙ ap (λ (x : List ℕ). x ++ b.1) d.whole ∙ simp append_assoc in
-      h.1 (closed_run is_hex_digit 6 n digits refl len (d.digits, b.1, cc whole, d.some, d.most, d.kind)),
+      closed_run is_hex_digit 6 n digits refl len (d.digits, b.1, cc whole, d.some, d.most, d.kind),
 )
+
+-- ---- deciding
+
+-- the option is a number
+is_number : (o : Option ℕ) (n : ℕ) → Dec (o ≡ Some n)
+is_number None n = no (λ e. absurd cc)
+is_number (Some b) n = Dec.of_iff (λ e. ap (λ (x : ℕ). Some x) e, λ e. same_Some b n e) (ℕ_discrete b n)
+
+closed_or_not : (n most : ℕ) (digits : List ℕ) → Dec (IsClosed n most digits)
+closed_or_not n most digits = all_three (dec_le 1 n) (dec_le n most) (is_number (slice_get digits n) 59)
+
+-- what begins with a mark is decided by what follows the mark
+marked : (mark bytes : List ℕ) (Is : List ℕ → Type 0) → ((prefix : List ℕ) → Is prefix → BeginsWith mark prefix) → ((rest : List ℕ) → bytes ≡ mark ++ rest → Dec (Begins Is bytes)) → Dec (Begins Is bytes)
+marked mark bytes Is begins decided = elim (begins_or_not mark bytes) [
+  | yes here ↦ decided here.0 here.1
+  | no not_here ↦ no (λ h. let at = begins h.0 h.3 in not_here (at.0 ++ h.1, h.2 ∙ ap (λ (x : List ℕ). x ++ h.1) at.1 ∙ append_assoc mark at.0 h.1))
+]
+
+decimal_or_not : (bytes : List ℕ) → Dec (Begins IsDecimalReference bytes)
+decimal_or_not bytes = marked (codes "&#") bytes IsDecimalReference (λ prefix d. (d.digits ++ codes ";", d.whole ∙ append_assoc (codes "&#") d.digits (codes ";")))
+    (λ rest e. Dec.of_iff (decimal_begins bytes rest _ e refl) (closed_or_not _ 7 rest))
+
+hex_or_not : (bytes : List ℕ) → Dec (Begins IsHexReference bytes)
+hex_or_not bytes = marked (codes "&#x") bytes IsHexReference (λ prefix d. (d.digits ++ codes ";", d.whole ∙ append_assoc (codes "&#x") d.digits (codes ";")))
+    (λ rest e. Dec.of_iff (hex_begins bytes rest _ e refl) (closed_or_not _ 6 rest))
+
+-- the bytes begin with a reference, or not
+pub reference_or_not : (bytes : List ℕ) → Dec (BeginsReference bytes)
+reference_or_not bytes = Dec.of_iff (reference_begins bytes, one_form bytes) (either (by_test _ (named_begins bytes _ refl)) (either (decimal_or_not bytes) (hex_or_not bytes)))

@@ -1,5 +1,5 @@
 -- Why a source is not cut into units whole.
-use Rattle.std.specs.Prelude.{◌≡◌, ◌≢◌, ℕ, ◌+◌, List, [], length, IsUtf8, Option, Some, None, IfSome}
+use Rattle.std.specs.Prelude.{◌≡◌, ◌≢◌, ◌⊎◌, ℕ, ◌+◌, List, [], length, IsUtf8, Option, Some, None, IfSome}
 use Rattle.std.specs.Str.{IsValidUpTo}
 use Rattle.faults.specs.declared.kind.FaultKind.{FaultKind}
 use Rattle.faults.specs.declared.kind.FaultKind.TheVariants as fault
@@ -47,3 +47,7 @@ pub record OneFault (source : List ℕ) : Type 0 where
 
 abbrev pub OneFaults : Type 0
 OneFaults = (source : List ℕ) → OneFault source
+
+-- a source is cut whole, or has a fault
+abbrev pub CutOrFault : List ℕ → Type 0
+CutOrFault source = ((units : List PlainUnit) × IsWhole (record { source = source; units = units })) ⊎ ((place : ℕ) × (kind : FaultKind) × CutFault source place kind)

@@ -1,6 +1,7 @@
 //! Laws of the cut: public functions that do nothing, each with the law as its contract.
+ghost use Rattle.std.specs.Prelude.{List, ℕ};
 ghost use Rattle.tml_span.specs.Cutting.{EveryCut, OneCut};
-ghost use Rattle.tml_span.specs.Faults.{OneFaults};
+ghost use Rattle.tml_span.specs.Faults.{CutOrFault, OneFaults};
 ghost use Rattle.tml_span.specs.Slices.{SlicesAreInSource};
 ghost use Rattle.tml_span.specs.Written.{WrittenIsCut};
 
@@ -17,6 +18,11 @@ pub fn one_cut()
 /// A source has one fault at most, and none where it is cut whole.
 pub fn one_fault()
     ensures { OneFaults }
+{}
+
+/// Every source is cut whole or has a fault.
+pub fn cut_or_fault()
+    ensures { (source : List ℕ) → CutOrFault source }
 {}
 
 /// Each slice of a unit is the source at its place.

@@ -2,6 +2,7 @@ pub mod Depths
 pub mod Endings
 pub mod Faults
 pub mod FirstFaults
+pub mod Judged
 pub mod Known
 pub mod LastUnits
 pub mod LaidOut

@@ -1,14 +1,18 @@
 -- Laws of paths.
-use Rattle.std.proofs.Common.{◌≡◌, ℕ, Bool, true, false, List, [], ◌∷◌, ◌++◌, map, refl, sym, ap, subst, ◌∙◌}
+use Rattle.std.proofs.Common.{◌≡◌, ℕ, Bool, true, List, [], ◌∷◌, ◌++◌, map, refl, sym, ap, subst, ◌∙◌, Some, None}
 use Rattle.std.specs.List.{filter}
+use Rattle.faults.specs.First.{NoneBreaks}
+use Rattle.faults.specs.declared.kind.FaultKind.{FaultKind}
+use Rattle.faults.proofs.First.{none_breaks_more}
 use Rattle.tml_span.specs.Units.{PlainUnit}
 use Rattle.tml_tree.specs.Plain.{PlainNode}
 use Rattle.tml_tree.specs.Nesting.{OpenTag, Nests, name_of, is_seen, is_element}
-use Rattle.faults.specs.declared.kind.FaultKind.{FaultKind}
 use Rattle.tml_tree.specs.Rules.{history_of, is_at_fault}
-use Rattle.tml_tree.specs.Trees.{Breaks, Path, Document, OneTree}
+use Rattle.tml_tree.specs.Taking.{first_fault}
+use Rattle.tml_tree.specs.Trees.{Breaks, Path, Document, FaultAt, OneTree}
 use Rattle.tml_tree.specs.Whole.{OneTreeOfSource}
 use Rattle.tml_span.proofs.OneCut.{one_cut_from}
+use Rattle.tml_tree.proofs.FirstFaults.{no_fault, has_fault, is_least}
 use Rattle.tml_tree.proofs.Running.{one_nesting}
 
 -- ---- a list has at most one path
@@ -24,17 +28,31 @@ one_path us names others seen was h k = one_nests us names others seen was h.0 k
 -- ---- one more unit
 
 -- a unit that breaks a rule is at fault, in whichever way the units before it nest
-pub fault_by : (us : List PlainUnit) (u : PlainUnit) (names : List (List ℕ)) (seen : Bool) → Nests us names seen → (kind : FaultKind) → Breaks kind us u → is_at_fault kind (history_of us names seen) u.kind ≡ true
+fault_by : (us : List PlainUnit) (u : PlainUnit) (names : List (List ℕ)) (seen : Bool) → Nests us names seen → (kind : FaultKind) → Breaks kind us u → is_at_fault kind (history_of us names seen) u.kind ≡ true
 fault_by us u names seen h kind b =
     let same = one_nests us names b.0 seen b.1 h b.2 in
     ap (λ (q : List (List ℕ) × Bool). is_at_fault kind (history_of us q.0 q.1) u.kind) (λ i. (same.0 i, same.1 i)) ∙ b.3
 
--- a unit with no fault breaks no rule
-pub breaks_none : (us : List PlainUnit) (u : PlainUnit) (names : List (List ℕ)) (seen : Bool) → Nests us names seen → ((kind : FaultKind) → is_at_fault kind (history_of us names seen) u.kind ≡ false) → (kind : FaultKind) → Breaks kind us u → ⊥
-breaks_none us u names seen h none kind b =
-    let here = fault_by us u names seen h kind b in
-    let not_here = none kind in
-    absurd cc
+module _ (us : List PlainUnit) (u : PlainUnit) (names : List (List ℕ)) (seen : Bool) (path : Path us names seen) where
+  -- after units that have a path, a unit with a fault is the first that breaks a rule
+  pub fault_at : (rest : List PlainUnit) (kind : FaultKind) → first_fault (history_of us names seen) u.kind ≡ Some kind → FaultAt (us ++ u ∷ rest) u.start kind
+  fault_at rest kind e = record {
+    before = us;
+    element = u;
+    after = rest;
+    whole = refl;
+    none_before = path.1;
+    broken = (names, seen, path.0, has_fault (history_of us names seen) u.kind kind e);
+    least = λ other b. is_least (history_of us names seen) u.kind kind other e (fault_by us u names seen path.0 other b);
+    place_is = refl;
+  }
+
+  -- and with a unit that has none they break no rule
+  pub lawful_more : first_fault (history_of us names seen) u.kind ≡ None → NoneBreaks Breaks (us ++ u ∷ [])
+  lawful_more e = none_breaks_more Breaks us u path.1 (λ kind b.
+      let here = fault_by us u names seen path.0 kind b in
+      let not_here = no_fault (history_of us names seen) u.kind e kind in
+      absurd cc)
 
 -- ---- units make one tree, and so does a source
 

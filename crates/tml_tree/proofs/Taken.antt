@@ -11,7 +11,6 @@ use Rattle.tml_tree.specs.declared.builder.Frame.{Frame}
 use Rattle.tml_tree.specs.declared.builder.Builder.{Builder}
 use Rattle.faults.specs.First.{NoneBreaks}
 use Rattle.faults.specs.declared.kind.FaultKind.{FaultKind}
-use Rattle.faults.proofs.First.{none_breaks_more}
 use Rattle.tml_tree.specs.Plain.{unit, PlainNode, text_node, comment_node, element, none, nodes_of}
 use Rattle.tml_tree.specs.Nesting.{OpenTag, Opens, name_of, is_seen, is_content, is_element}
 use Rattle.tml_tree.specs.TagNames.{is_known, is_root}
@@ -23,8 +22,8 @@ use Rattle.tml_tree.specs.Roots.{outer, AtMostOne, EndsIn}
 use Rattle.tml_tree.specs.View as view
 use Rattle.tml_tree.specs.Taking.{TakesUnit, HasTaken, first_fault, fault_of, stage_of}
 use Rattle.tml_tree.proofs.Running.{opens_step}
-use Rattle.tml_tree.proofs.FirstFaults.{first_of, no_fault, has_fault, is_least}
-use Rattle.tml_tree.proofs.Paths.{one_path, breaks_none, fault_by}
+use Rattle.tml_tree.proofs.FirstFaults.{first_of}
+use Rattle.tml_tree.proofs.Paths.{one_path, fault_at, lawful_more}
 use Rattle.tml_tree.proofs.LastUnits.{differs}
 use Rattle.tml_tree.proofs.LinkTags.{links_kept}
 
@@ -94,7 +93,7 @@ kept_end t tags nodes start end name s true h e =
     let n = element t.start end t.name t.attrs (nodes_of nodes) in
     subst (λ (r : Stage). Kept (t ∷ tags) nodes (unit start end (end_tag name)) r) (same_Some _ _ e) (record { seen = seen_element tags t.before n refl; single = single_element tags t.before n refl h })
 
-kept_kind : (start end : ℕ) (k : Kind) (before : List PlainUnit) (tags : List OpenTag) (nodes : List PlainNode) (s : Stage) → AtMostOne tags nodes → first_fault (history_of before (map name_of tags) (is_seen tags nodes)) k ≡ None
+pub kept_kind : (start end : ℕ) (k : Kind) (before : List PlainUnit) (tags : List OpenTag) (nodes : List PlainNode) (s : Stage) → AtMostOne tags nodes → first_fault (history_of before (map name_of tags) (is_seen tags nodes)) k ≡ None
     → step tags nodes (unit start end k) ≡ Some s → Kept tags nodes (unit start end k) s
 kept_kind start end bom before tags nodes s h l e = subst (λ (r : Stage). Kept tags nodes (unit start end bom) r) (same_Some _ _ e) (record { seen = refl; single = h })
 kept_kind start end (declaration b) before tags nodes s h l e = subst (λ (r : Stage). Kept tags nodes (unit start end (declaration b)) r) (same_Some _ _ e) (record { seen = refl; single = h })
@@ -168,7 +167,7 @@ taken_more us u b c s t =
     let kept = kept_kind u.start u.end u.kind us tags nodes (stage_of c) s.single none t.step in
     record {
       opens = opens_step us u tags nodes (stage_of c) s.opens t.step;
-      lawful = none_breaks_more Breaks us u s.lawful (breaks_none us u (map name_of tags) (is_seen tags nodes) (path_is us b s).0 (no_fault history u.kind none));
+      lawful = lawful_more us u (map name_of tags) (is_seen tags nodes) (path_is us b s) none;
       begun = t.begun ∙ ap (λ (x : Bool). x || is_past_bom u) s.begun ∙ sym (any_more is_past_bom us u);
       tagged = t.tagged ∙ ap (λ (x : Bool). x || is_tag u) s.tagged ∙ sym (any_more is_tag us u);
       doctyped = t.doctyped ∙ ap (λ (x : Bool). x || is_doctype u) s.doctyped ∙ sym (any_more is_doctype us u);
@@ -179,20 +178,7 @@ taken_more us u b c s t =
 
 -- a unit that is refused is at fault
 pub fault_here : (us rest : List PlainUnit) (u : PlainUnit) (b : Builder) (kind : FaultKind) → HasTaken us b → fault_of b u ≡ Some kind → FaultAt (us ++ u ∷ rest) u.start kind
-fault_here us rest u b kind s e =
-    let nests = (path_is us b s).0 in
-    let history = history_of us (map name_of (view.tags_of b.frames.items)) (is_seen (view.tags_of b.frames.items) (map view.node_of b.nodes.items)) in
-    let first : first_fault history u.kind ≡ Some kind = sym (fault_is us u b s) ∙ e in
-    record {
-      before = us;
-      element = u;
-      after = rest;
-      whole = refl;
-      none_before = s.lawful;
-      broken = (_, _, nests, has_fault history u.kind kind first);
-      least = λ other o. is_least history u.kind kind other first (fault_by us u _ _ nests other o);
-      place_is = refl;
-    }
+fault_here us rest u b kind s e = fault_at us u _ _ (path_is us b s) rest kind (sym (fault_is us u b s) ∙ e)
 
 -- ---- the builder at the end
 

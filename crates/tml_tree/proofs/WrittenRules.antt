@@ -7,7 +7,6 @@ use Rattle.std.proofs.lemmas.Bool.Decides.{nat_tests}
 use Rattle.std.proofs.Math.Bool.{or-false}
 use Rattle.named.proofs.Tables.{any_more}
 use Rattle.faults.specs.First.{NoneBreaks}
-use Rattle.faults.proofs.First.{none_breaks_more}
 use Rattle.tml_span.proofs.Runs.{both}
 use Rattle.tml_span.specs.Bytes.{is_white}
 use Rattle.tml_span.specs.Units.{Attribute, text, comment, start_tag, end_tag, empty_tag, PlainUnit}
@@ -20,8 +19,8 @@ use Rattle.tml_tree.specs.Stage.{Stage, step}
 use Rattle.tml_tree.specs.Taking.{first_fault}
 use Rattle.tml_tree.specs.Trees.{Breaks}
 use Rattle.tml_tree.specs.Written.{kinds_of, all_kinds, size_of, node_at, nodes_at, may_be_in_link, all_may_be_in_link, MayStand, AllMayStand}
-use Rattle.tml_tree.proofs.FirstFaults.{first_of, no_fault}
-use Rattle.tml_tree.proofs.Paths.{breaks_none}
+use Rattle.tml_tree.proofs.FirstFaults.{first_of}
+use Rattle.tml_tree.proofs.Paths.{lawful_more}
 use Rattle.tml_tree.proofs.Running.{list_of, nodes_list, same_name, opens_step}
 use Rattle.tml_tree.proofs.WrittenPlaces.{units_append, empty_end, inside_at, turn_at, element_end}
 
@@ -36,7 +35,7 @@ pub reaches_first : (us : List PlainUnit) (u : PlainUnit) (tags : List OpenTag) 
     → step tags nodes u ≡ Some s → first_fault (history_of us (map name_of tags) (is_seen tags nodes)) u.kind ≡ None → Reaches (us ++ u ∷ []) s.tags s.nodes
 reaches_first us u tags nodes s o l t e f = record {
   opens = opens_step us u tags nodes s o e;
-  lawful = none_breaks_more Breaks us u l (breaks_none us u (map name_of tags) (is_seen tags nodes) (tags, nodes, o, refl, refl) (no_fault (history_of us (map name_of tags) (is_seen tags nodes)) u.kind f));
+  lawful = lawful_more us u (map name_of tags) (is_seen tags nodes) ((tags, nodes, o, refl, refl), l) f;
   tagged = any_more is_tag us u ∙ t;
 }
 

@@ -60,3 +60,11 @@ pub record OneSourceAnswer (source : List ℕ) : Type 0 where
 
 abbrev pub OneSourceAnswers : Type 0
 OneSourceAnswers = (source : List ℕ) → OneSourceAnswer source
+
+-- units whose source has this length make a tree, or have a fault
+abbrev pub AreJudged : ℕ → List PlainUnit → Type 0
+AreJudged end us = ((root : PlainNode) × Document root us) ⊎ ((place : ℕ) × (kind : FaultKind) × FaultOf end us place kind)
+
+-- a source has a tree, or a fault
+abbrev pub TreeOrFault : List ℕ → Type 0
+TreeOrFault source = ((root : PlainNode) × IsTreeOf source root) ⊎ ((place : ℕ) × (kind : FaultKind) × SourceFaultAt source place kind)

@@ -1,7 +1,9 @@
 //! Laws of trees: public functions that do nothing, each with the law as its contract.
+ghost use Rattle.std.specs.Prelude.{List, ℕ};
+ghost use Rattle.tml_span.specs.Units.{PlainUnit};
 ghost use Rattle.tml_tree.specs.Places.{TreeIsLaidOut};
 ghost use Rattle.tml_tree.specs.Trees.{LastUnit, OneAnswers, OnePath, OneTree, PathEnds};
-ghost use Rattle.tml_tree.specs.Whole.{OneSourceAnswers, OneTreeOfSource};
+ghost use Rattle.tml_tree.specs.Whole.{AreJudged, OneSourceAnswers, OneTreeOfSource, TreeOrFault};
 ghost use Rattle.tml_tree.specs.Written.{WrittenIsRead};
 
 /// Units have one path.
@@ -38,6 +40,16 @@ pub fn one_answer()
 /// A tree and a fault of a source exclude each other, and a source has one fault at most.
 pub fn one_source_answer()
     ensures { OneSourceAnswers }
+{}
+
+/// Whatever units they are, and however long their source is, they make a tree or have a fault.
+pub fn units_are_judged()
+    ensures { (end : ℕ) (us : List PlainUnit) → AreJudged end us }
+{}
+
+/// Every source has a tree or a fault.
+pub fn tree_or_fault()
+    ensures { (source : List ℕ) → TreeOrFault source }
 {}
 
 /// Each slice of the tree of a source is the source at its place, siblings follow each other inside their parent, and

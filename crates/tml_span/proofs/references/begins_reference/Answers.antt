@@ -1,5 +1,5 @@
 use Rattle.std.proofs.Common.{inl, inr, sym, ◌∙◌}
-use Rattle.tml_span.proofs.Referring.{named_begins, reference_begins, hex_is_left}
+use Rattle.tml_span.proofs.Referring.{named_begins, reference_begins, one_form}
 use Rattle.tml_span.proofs.references.begins_reference.Goals.{then-begins_named, else-begins_named}
 use Rattle.tml_span.proofs.references.begins_reference.Goals as goal
 
@@ -17,9 +17,10 @@ returns-else-begins_decimal c = (
   λ t. reference_begins _ (inr (inr (c.begins_hex.ensures.0 t))),
   λ h. elim c.if-begins_named.branch [
     | then-begins_named w ↦ absurd cc
-    | else-begins_named w ↦ c.begins_hex.ensures.1 (hex_is_left _
-        (λ n. let e = (named_begins _ _ c.begins_named.ensures).1 n in cc)
-        (λ d. let e = w.begins_decimal.ensures.1 d in cc)
-        h)
+    | else-begins_named w ↦ elim (one_form _ h) [
+      | inl named ↦ let e = (named_begins _ _ c.begins_named.ensures).1 named in absurd cc
+      | inr (inl decimal) ↦ let e = w.begins_decimal.ensures.1 decimal in absurd cc
+      | inr (inr hex) ↦ c.begins_hex.ensures.1 hex
+    ]
   ],
 )
