@@ -1,5 +1,5 @@
 -- A value with a valid filling has a known part that the calendar has.
-use Rattle.std.proofs.Common.{◌≡◌, ℕ, ◌<◌, ◌≤◌, inl, inr, arith, subst}
+use Rattle.std.proofs.Common.{◌≡◌, ℕ, ◌≤◌, arith, subst}
 use Rattle.std.specs.Int.{IsInRange}
 use Rattle.timex_value.specs.declared.shape.Year.{Year}
 use Rattle.timex_value.specs.declared.shape.Year.TheVariants as YearOf
@@ -9,8 +9,9 @@ use Rattle.timex_value.specs.declared.shape.Shape.{Shape}
 use Rattle.timex_value.specs.declared.shape.Shape.TheVariants as ShapeOf
 use Rattle.timex_value.specs.declared.value.Calendar.{Calendar}
 use Rattle.timex_value.specs.Text.{IsWritten, IsYearWritten, IsShapeWritten}
-use Rattle.timex_value.specs.Filling.{CanBe, DigitCanBe, YearCanBe, HasDate, HasClock, IsClock, IsValidIn, HasFilling, HasYear}
+use Rattle.timex_value.specs.Filling.{CanBe, DigitCanBe, YearCanBe, HasDate, HasClock, IsValidIn, HasFilling, HasYear}
 use Rattle.timex_value.specs.Values.{year_of, shape_of}
+use Rattle.timex_value.proofs.Filled.{clock_limits}
 use Rattle.timex_dates.specs.Valid.{IfKnown, HasClockParts, HasDateParts, HasShapeParts, HasParts}
 use Rattle.std.proofs.Math.Logic.{∥∥₁_elim}
 use Rattle.std.proofs.Props.{props}
@@ -34,22 +35,17 @@ filled_digit : (p : Part) (P : ℕ → Type 0) (n : ℕ) → IsWritten 9 p → D
 filled_digit (Known k) P n w c h = subst P (digit_is k n w c) h
 filled_digit Unknown P n w c h = tt
 
--- a clock goes up to 24 hours, 59 minutes and 59 seconds
-clock_bounds : (h i s : ℕ) → IsClock h i s → (h ≤ 24) × (i < 60) × (s < 60)
-clock_bounds h i s (inl k) = (omega arith, omega arith, omega arith)
-clock_bounds h i s (inr k) = (omega arith, omega arith, omega arith)
-
 hour_filled : (h i s : Part) → IsWritten 99 h → HasClock h i s → HasClockParts h Unknown Unknown
-hour_filled h i s w f = filled h _ f.0 w f.3 ((clock_bounds f.0 f.1 f.2 f.6).0, tt)
+hour_filled h i s w f = filled h _ f.0 w f.3 ((clock_limits f.0 f.1 f.2 f.6).0, tt)
 
 minute_filled : (h i s : Part) → IsWritten 99 h → IsWritten 99 i → HasClock h i s → HasClockParts h i Unknown
 minute_filled h i s w v f =
-    let b = clock_bounds f.0 f.1 f.2 f.6 in
+    let b = clock_limits f.0 f.1 f.2 f.6 in
     filled h _ f.0 w f.3 (b.0, filled i _ f.1 v f.4 (b.1, tt))
 
 second_filled : (h i s : Part) → IsWritten 99 h → IsWritten 99 i → IsWritten 99 s → HasClock h i s → HasClockParts h i s
 second_filled h i s w v u f =
-    let b = clock_bounds f.0 f.1 f.2 f.6 in
+    let b = clock_limits f.0 f.1 f.2 f.6 in
     filled h _ f.0 w f.3 (b.0, filled i _ f.1 v f.4 (b.1, filled s _ f.2 u f.5 b.2))
 
 date_filled : (y : ℕ) (m d h i s : Part) → IsWritten 99 m → IsWritten 99 d → HasDate y m d → HasClockParts h i s → HasDateParts y m d h i s

@@ -3,7 +3,7 @@ use Rattle.std.proofs.Common.{◌≡◌, ℕ, zero, suc, ◌+◌, ◌-◌, ◌*�
 use Rattle.std.proofs.lemmas.Bool.{cases_lt}
 use Rattle.std.specs.Int.{IsInRange}
 use Rattle.timex_value.specs.Civil.{total, year_length, month_length, year_start, month_start, day_index, IsInYear, IsInMonth, IsInWeek, weekday, thursday_of, weeks_of}
-use Rattle.timex_value.proofs.Days.{total-zero, total-suc, thursdays_closed, weeks_closed, year_length_bounds, year_start_closed}
+use Rattle.timex_value.proofs.Days.{total-zero, total-suc, thursdays_closed, weeks_closed, year_start_closed}
 use Rattle.timex_dates.specs.Seconds.{monday_of}
 use Rattle.timex_dates.proofs.Totals.{total_grows, located}
 
@@ -107,7 +107,11 @@ weekday_days n y w d year week day =
     let is = week_days n y w year week in
     (λ h. let at = is.0 h.0 in (omega arith, omega arith), λ h. (is.1 (omega arith, omega arith), omega arith))
 
+-- the years up to 9999 end before 10000-01-01
+pub year_end : (y : ℕ) → IsInRange 1 9999 y → year_start y + year_length y ≤ 3_652_059
+year_end y year = omega (arith, next_year y year.0, year_start_grows (suc y) 10_000 (omega arith) (omega arith), year_start_closed 10_000 (omega arith))
+
 -- the weeks of 9999 end before 10000-01-03
 pub week_end : (y w : ℕ) → IsInRange 1 9999 y → IsInRange 1 (weeks_of y) w → monday_of (day_index y 1 4) + 7 * (w - 1) + 7 ≤ 3_652_061
 week_end y w year week =
-    omega (arith, january y, weeks_closed y, year_start_closed y year.0, year_length_bounds y, year_start_grows (suc y) 10_000 (omega arith) (omega arith), next_year y year.0, year_start_closed 10_000 (omega arith))
+    omega (arith, january y, weeks_closed y, year_end y year)

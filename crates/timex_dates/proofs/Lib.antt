@@ -5,3 +5,5 @@ pub mod Jiff
 pub mod Fillings
 pub mod OneAnswers
 pub mod OneDates
+pub mod EveryText
+pub mod EveryTime

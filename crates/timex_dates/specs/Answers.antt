@@ -1,5 +1,6 @@
 -- Bounds of a time: of its kind, its modifier and its value.
 use Rattle.std.specs.Prelude.{ℕ, ◌≡◌, Bool, true, false, Option, Some, None, ℤ}
+use Rattle.net_core.specs.Bounds.{AreOrdered}
 use Rattle.net_core.specs.declared.bounds.Bounds.{Bounds}
 use Rattle.net_core.specs.declared.bounds.Bounds.TheVariants.{Exact, Within, Free}
 use Rattle.timex_value.specs.declared.shape.Year.{Year}
@@ -71,3 +72,7 @@ abbrev pub OneBounds : Type 0
 OneBounds =
     (kind : TimexKind) (modifier : Option Modifier) (value : Option Value) (a b : Bounds)
     → BoundsOf kind modifier value a → BoundsOf kind modifier value b → a ≡ b
+
+-- a time has an answer: bounds in order, whose numbers have civil texts
+abbrev pub EveryBounds : Type 0
+EveryBounds = (kind : TimexKind) (modifier : Option Modifier) (value : Option Value) → (b : Bounds) × BoundsOf kind modifier value b × AreOrdered b × IsCivil b

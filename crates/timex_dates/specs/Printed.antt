@@ -2,7 +2,7 @@
 use Rattle.std.specs.Prelude.{◌≡◌, ℕ, ℤ, ◌-◌, ◌/◌, ◌%◌, List, ◌++◌, codes, drop, nat_lt, if◌then◌else◌}
 use Rattle.timex_value.specs.Civil.{IsDateOf}
 use Rattle.timex_value.specs.Text.{digits2, digits4}
-use Rattle.timex_dates.specs.Seconds.{day_of, clock_of, HasSecond}
+use Rattle.timex_dates.specs.Seconds.{day_of, clock_of, HasSecond, IsCivilSecond}
 use Rattle.timex_dates.specs.declared.civil.CivilText.{CivilText}
 
 -- four digits, and for 10000 a `1` before four of them
@@ -32,3 +32,7 @@ bytes_of c = if c.wide then c.bytes else drop 1 c.bytes
 -- a second has one civil text
 abbrev pub OneText : Type 0
 OneText = (second : ℤ) (a b : List ℕ) → IsCivilText second a → IsCivilText second b → a ≡ b
+
+-- a second of the civil calendar has a civil text
+abbrev pub EveryText : Type 0
+EveryText = (second : ℤ) → IsCivilSecond second → (text : List ℕ) × IsCivilText second text

@@ -1,6 +1,6 @@
 //! Laws of extents, bounds and texts: public functions that do nothing, each with the law as its contract.
-ghost use Rattle.timex_dates.specs.Answers.{OneBounds, OneExtent};
-ghost use Rattle.timex_dates.specs.Printed.{OneText};
+ghost use Rattle.timex_dates.specs.Answers.{EveryBounds, OneBounds, OneExtent};
+ghost use Rattle.timex_dates.specs.Printed.{EveryText, OneText};
 
 /// The seconds that belong to a value have one extent.
 pub fn one_extent()
@@ -15,4 +15,14 @@ pub fn one_bounds()
 /// A second has one civil text.
 pub fn one_text()
     ensures { OneText }
+{}
+
+/// Every time has an answer: bounds in order, whose numbers have civil texts.
+pub fn every_time()
+    ensures { EveryBounds }
+{}
+
+/// Every second of the civil calendar has a civil text.
+pub fn every_text()
+    ensures { EveryText }
 {}

@@ -13,5 +13,5 @@ mod tests;
 
 pub use bounds::bounds_of;
 pub use civil::CivilText;
-pub use laws::{one_bounds, one_extent, one_text};
+pub use laws::{every_text, every_time, one_bounds, one_extent, one_text};
 pub use print::civil_text;

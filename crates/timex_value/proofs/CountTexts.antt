@@ -77,7 +77,7 @@ unit_past_x text = refl
 absent_then : (u : ℕ) (text rest : List ℕ) → CountThen u Absent text rest → text ≡ rest
 absent_then u text rest h = h.2 ∙ ap (λ (x : List ℕ). x ++ rest) h.1
 
-x_then : (u : ℕ) (text rest : List ℕ) → CountThen u Unknown text rest → text ≡ byte "X" ∷ u ∷ rest
+pub x_then : (u : ℕ) (text rest : List ℕ) → CountThen u Unknown text rest → text ≡ byte "X" ∷ u ∷ rest
 x_then u text rest h = h.2 ∙ ap (λ (x : List ℕ). x ++ rest) h.1
 
 -- a number or an X is known by its unit
