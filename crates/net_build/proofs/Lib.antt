@@ -1,3 +1,4 @@
 pub mod Pairing
 pub mod DocumentNets
 pub mod OneNet
+pub mod EveryNet

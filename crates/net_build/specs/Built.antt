@@ -1,13 +1,13 @@
 -- The net of a document.
 use Rattle.std.specs.Prelude.{◌≡◌, map}
-use Rattle.std.specs.List.{AllZip}
-use Rattle.net_core.specs.Nets.{PlainNet}
+use Rattle.std.specs.List.{All, AllZip}
+use Rattle.net_core.specs.Nets.{IsNet, PlainNet}
 use Rattle.net_core.specs.declared.bounds.Bounds.{Bounds}
 use Rattle.net_core.specs.declared.bounds.Bounds.TheVariants.{Free}
 use Rattle.net_core.specs.declared.net.NetLink.{NetLink}
-use Rattle.timex_dates.specs.Answers.{BoundsOf}
+use Rattle.timex_dates.specs.Answers.{BoundsOf, IsCivil}
 use Rattle.tml_refs.specs.declared.document.DocLink.{DocLink}
-use Rattle.tml_refs.specs.Documents.{PlainDocument, PlainInterval, instance, time}
+use Rattle.tml_refs.specs.Documents.{IsDocument, PlainDocument, PlainInterval, instance, time}
 
 -- what the calendar says of an interval: nothing of an instance, and of a time the bounds of its value
 abbrev pub IntervalBounds : PlainInterval → Bounds → Type 0
@@ -25,3 +25,7 @@ pub record IsNetOf (doc : PlainDocument) (net : PlainNet) : Type 0 where
 -- the law: a document has one net
 abbrev pub OneNet : Type 0
 OneNet = (doc : PlainDocument) (net other : PlainNet) → IsNetOf doc net → IsNetOf doc other → net ≡ other
+
+-- a document has a net, whose numbers have civil texts
+abbrev pub EveryNet : Type 0
+EveryNet = (doc : PlainDocument) → IsDocument doc → (net : PlainNet) × IsNetOf doc net × IsNet net × All IsCivil net.bounds

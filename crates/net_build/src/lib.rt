@@ -7,4 +7,4 @@ mod laws;
 mod tests;
 
 pub use build::net_of;
-pub use laws::one_net;
+pub use laws::{every_document_has_a_net, one_net};

@@ -1,8 +1,8 @@
 -- A document without fault.
-use Rattle.std.proofs.Common.{◌≡◌, ◌≤◌, ◌<◌, ◌==◌, cond, ◌+◌, List, [], ◌∷◌, length, refl, sym, ◌∙◌, arith, eq-eqb}
+use Rattle.std.proofs.Common.{◌≡◌, ◌≤◌, ◌<◌, ◌==◌, cond, ◌+◌, List, length, refl, sym, subst, ◌∙◌, arith, eq-eqb}
 use Rattle.std.specs.List.{All, AllZip, count_by, cons_option, filter}
 use Rattle.std.proofs.lemmas.Bool.{and_from}
-use Rattle.std.proofs.lemmas.List.Elements.{All-nil, All-cons}
+use Rattle.std.proofs.lemmas.List.Elements.{All-weaker}
 use Rattle.std.proofs.lemmas.List.Recursion.{is_count_by}
 use Rattle.std.proofs.lemmas.List.Sums.{length-filter}
 use Rattle.std.proofs.lemmas.Option.{slice_get_within}
@@ -15,7 +15,7 @@ use Rattle.tml_refs.specs.declared.document.DocLink.{DocLink}
 use Rattle.tml_refs.specs.Documents.{IsDocument, IsLinkOf, PlainDocument, PlainInterval, Resolved, interval_of, intervals_of}
 use Rattle.tml_refs.specs.Gathering.{Gathers}
 use Rattle.tml_refs.specs.Rules.{Breaks, is_interval, is_tlink}
-use Rattle.tml_refs.proofs.Lists.{few, zip_length}
+use Rattle.tml_refs.proofs.Lists.{all_paired, few, zip_length}
 use Rattle.tml_refs.proofs.Locating.{distinct_names, with_content}
 
 -- ---- limits
@@ -47,10 +47,7 @@ ends_in intervals tag link = elim tag.content as (λ c. IsLinkOf intervals (with
 ]
 
 all_end : (intervals : List PlainInterval) (tags : List PlainTyped) (links : List DocLink) → AllZip (IsLinkOf intervals) tags links → All (EndsIn intervals) links
-all_end intervals [] [] h = All-nil (EndsIn intervals)
-all_end intervals [] (l ∷ links) h = absurd h
-all_end intervals (t ∷ tags) [] h = absurd h
-all_end intervals (t ∷ tags) (l ∷ links) h = All-cons (EndsIn intervals) l links (ends_in intervals t l h.0) (all_end intervals tags links h.1)
+all_end intervals tags links h = All-weaker (λ (l : DocLink). (t : PlainTyped) × IsLinkOf intervals t l) (EndsIn intervals) (λ l of. ends_in intervals of.0 l of.1) links (all_paired (IsLinkOf intervals) tags links h)
 
 -- ---- the document
 
@@ -69,3 +66,11 @@ resolved_is all doc sound g = record {
   links = rw g.intervals_are g.links_are;
   counts = g.counts_are;
 }
+
+-- what typed tags say is a document
+pub resolved_document : (all : List PlainTyped) (doc : PlainDocument) → Resolved all doc → IsDocument doc
+resolved_document all doc r = document_is all doc r.sound (record {
+  intervals_are = r.intervals;
+  links_are = subst (λ (intervals : List PlainInterval). AllZip (IsLinkOf intervals) (filter is_tlink all) doc.links) r.intervals r.links;
+  counts_are = r.counts;
+})

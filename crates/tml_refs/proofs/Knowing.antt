@@ -1,5 +1,5 @@
 -- What the names of a document say of its tags.
-use Rattle.std.proofs.Common.{◌≡◌, ◌==◌, ℕ, Bool, true, false, not, List, ◌∷◌, ◌++◌, refl, sym, ap, subst, ◌∙◌, Option, Some, IsSome, eq-eqb, eqb-true}
+use Rattle.std.proofs.Common.{◌≡◌, ◌==◌, ℕ, Bool, true, false, not, List, ◌∷◌, ◌++◌, length, refl, sym, ap, subst, ◌∙◌, Option, Some, IsSome, eq-eqb, eqb-true}
 use Rattle.std.specs.List.{list_any, slice_get}
 use Rattle.std.proofs.lemmas.Bool.{and_from}
 use Rattle.std.proofs.lemmas.List.Elements.{All-contains}
@@ -40,6 +40,18 @@ interval_kind : (k : TagKind) (tag : PlainTyped) → IsOfIntervals k → is_of_k
 interval_kind kind.Instance tag of = elim tag.content as (λ c. is_of_kind kind.Instance c ≡ true → IntervalOf kind.Instance (with_content tag c)) [ content.instance x ↦ λ h. (instance x.eiid, refl, refl) | _ ↦ λ h. absurd cc ]
 interval_kind kind.Timex tag of = elim tag.content as (λ c. is_of_kind kind.Timex c ≡ true → IntervalOf kind.Timex (with_content tag c)) [ content.timex x ↦ λ h. (time _, refl, refl) | _ ↦ λ h. absurd cc ]
 interval_kind k tag of = absurd of
+
+-- what a reference asks for is the interval of this number
+pub refers_at : (all : List PlainTyped) (r : Reference) (before after : List PlainTyped) (tag : PlainTyped) → all ≡ before ++ tag ∷ after → IsOfIntervals r.asked → is_target r tag ≡ true → RefersTo (intervals_of all) r (length (intervals_of before))
+refers_at all r before after tag whole of target =
+    let both = both_true (is_of_kind r.asked tag.content) (has_id r.name tag) target in
+    let v = interval_kind r.asked tag of both.0 in
+    record {
+      interval = v.0;
+      at = ap (λ (ts : List PlainTyped). slice_get (intervals_of ts) (length (intervals_of before))) whole ∙ filter_map_at interval_of before after tag v.0 v.1;
+      kind = v.2;
+      name = same_Some (name_of v.0) r.name (sym (its_id tag v.0 v.1) ∙ its_own_id tag r.name both.1);
+    }
 
 -- ---- one entry
 
@@ -91,15 +103,7 @@ module _ (all : List PlainTyped) (names : List Entry) (known : AreEntriesOf all 
   -- ---- numbers of intervals
 
   refers_by : (r : Reference) (i : ℕ) (before after : List PlainTyped) (tag : PlainTyped) (e : Entry) → all ≡ before ++ tag ∷ after → IsEntryOf before tag e → IsOfIntervals r.asked → is_for r e ≡ true → e.number ≡ i → RefersTo (intervals_of all) r i
-  refers_by r i before after tag e whole its of h number =
-      let both = both_true (is_of_kind r.asked tag.content) (has_id r.name tag) (target_by before tag e r its h) in
-      let v = interval_kind r.asked tag of both.0 in
-      record {
-        interval = v.0;
-        at = ap (λ (p : List PlainTyped × ℕ). slice_get (intervals_of p.0) p.1) (λ k. (whole k, (sym number ∙ its.number) k)) ∙ filter_map_at interval_of before after tag v.0 v.1;
-        kind = v.2;
-        name = same_Some (name_of v.0) r.name (sym (its_id tag v.0 v.1) ∙ its_own_id tag r.name both.1);
-      }
+  refers_by r i before after tag e whole its of h number = subst (RefersTo (intervals_of all) r) (sym its.number ∙ number) (refers_at all r before after tag whole of (target_by before tag e r its h))
 
   pub finds_refers : (r : Reference) (i : ℕ) → HasIntervalNumber names r i → RefersTo (intervals_of all) r i
   finds_refers r i h =

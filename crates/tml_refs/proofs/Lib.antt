@@ -15,3 +15,4 @@ pub mod Lists
 pub mod Locating
 pub mod Documents
 pub mod OneAnswer
+pub mod DocumentOrFault

@@ -1,9 +1,9 @@
 -- Lists: what agrees pair by pair, what passes a test, and how many pass it.
 use Rattle.std.proofs.Common.{◌≡◌, ℕ, suc, ◌+◌, ◌≤◌, Bool, true, false, cond, ◌||◌, List, [], ◌∷◌, ◌++◌, length, refl, sym, ap, subst, ◌∙◌, append_assoc, arith, Option, Some, None}
-use Rattle.std.specs.List.{AllZip, list_any, count_by, cons_option, filter_map, slice_get}
+use Rattle.std.specs.List.{All, AllZip, list_any, count_by, cons_option, filter_map, slice_get}
 use Rattle.std.specs.Option.{option_to_list}
 use Rattle.std.proofs.lemmas.List.{append-nil}
-use Rattle.std.proofs.lemmas.List.Elements.{filter_map-append}
+use Rattle.std.proofs.lemmas.List.Elements.{All-cons, All-nil, filter_map-append}
 use Rattle.std.proofs.lemmas.List.Sums.{sum_by-append}
 
 -- ---- pairs
@@ -19,6 +19,13 @@ zip_length R [] [] h = refl
 zip_length R [] (y ∷ ys) h = absurd h
 zip_length R (x ∷ xs) [] h = absurd h
 zip_length R (x ∷ xs) (y ∷ ys) h = ap suc (zip_length R xs ys h.1)
+
+-- each element of the second list has one of the first
+pub all_paired : {A B : Type 0} (R : A → B → Type 0) (xs : List A) (ys : List B) → AllZip R xs ys → All (λ y. (x : A) × R x y) ys
+all_paired R [] [] h = All-nil _
+all_paired R [] (y ∷ ys) h = absurd h
+all_paired R (x ∷ xs) [] h = All-nil _
+all_paired {A} R (x ∷ xs) (y ∷ ys) h = All-cons (λ y. (x : A) × R x y) y ys (x, h.0) (all_paired R xs ys h.1)
 
 -- two lists whose elements agree with the same elements are one list, where each agrees with one element at most
 pub zip_one : {A B : Type 0} (R : A → B → Type 0) → ((x : A) (y z : B) → R x y → R x z → y ≡ z) → (xs : List A) (ys zs : List B) → AllZip R xs ys → AllZip R xs zs → ys ≡ zs

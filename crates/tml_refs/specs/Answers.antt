@@ -1,7 +1,9 @@
 -- Typed tags have one answer.
-use Rattle.std.specs.Prelude.{◌≡◌, ℕ, List}
+use Rattle.std.specs.Prelude.{◌≡◌, ◌⊎◌, ℕ, List}
 use Rattle.faults.specs.declared.kind.FaultKind.{FaultKind}
+use Rattle.tml_tree.specs.Walking.{PlainTag}
 use Rattle.tml_types.specs.Content.{PlainTyped}
+use Rattle.tml_types.specs.Whole.{Types}
 use Rattle.tml_refs.specs.Documents.{PlainDocument, Resolved}
 use Rattle.tml_refs.specs.Rules.{FaultAt}
 
@@ -13,3 +15,11 @@ pub record OneAnswer (all : List PlainTyped) : Type 0 where
 
 abbrev pub OneAnswers : Type 0
 OneAnswers = (all : List PlainTyped) → OneAnswer all
+
+-- typed tags make a document, or have a fault
+abbrev pub DocumentOrFault : List PlainTyped → Type 0
+DocumentOrFault all = ((doc : PlainDocument) × Resolved all doc) ⊎ ((place : ℕ) × (rule : FaultKind) × FaultAt all place rule)
+
+-- the typed tags of tags do: then each reference of a link asks for an interval
+abbrev pub AllAreResolved : Type 0
+AllAreResolved = (tags : List PlainTag) (all : List PlainTyped) → Types tags all → DocumentOrFault all

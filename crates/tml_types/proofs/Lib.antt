@@ -5,5 +5,6 @@ pub mod OneRule
 pub mod OneTag
 pub mod OneTyped
 pub mod OneAnswer
+pub mod TypedOrFault
 pub mod Walks
 pub mod Rising

@@ -4,7 +4,7 @@ use Rattle.std.specs.List.{list_any}
 use Rattle.faults.specs.declared.kind.FaultKind.TheVariants as kinds
 use Rattle.faults.specs.Kinds.{number_of}
 use Rattle.faults.proofs.First.{fault_of_one}
-use Rattle.named.specs.Texts.{AreApart}
+use Rattle.named.specs.Texts.{AreApart, named_of}
 use Rattle.timex_value.proofs.Valuing as valuing
 use Rattle.tml_span.specs.Units.{Attribute}
 use Rattle.tml_tree.specs.declared.tag_name.TagName.{TagName}
@@ -27,10 +27,14 @@ use Rattle.tml_types.specs.Whole.{FaultAt, HasFault, place_of}
 pub known : AreApart text_of all_tags
 known = search rules
 
+-- the rows of the tag that a text names
+pub rows_named : (text : List ℕ) (o : Option TagName) → named_of text_of all_tags text ≡ o → rows_at text ≡ (elim o [ None ↦ [] | Some t ↦ rows_of t ])
+unfolding rows_at
+rows_named text o e = ap (λ (o : Option TagName). elim o [ None ↦ [] | Some t ↦ rows_of t ]) e
+
 -- the rows of a known tag
 pub rows_known : (name : TagName) → rows_at (text_of name) ≡ rows_of name
-unfolding rows_at
-rows_known name = ap (λ (o : Option TagName). elim o [ None ↦ [] | Some t ↦ rows_of t ]) (known name)
+rows_known name = rows_named (text_of name) (Some name) (known name)
 
 -- ---- the first rule that is broken
 

@@ -23,7 +23,8 @@ use Rattle.tml_types.specs.Walking.{Adds, Reads, tag_at}
 use Rattle.tml_types.specs.Whole.{AreTyped, has_rows}
 use Rattle.tml_types.proofs.OneRule.{known, rows_known, sound_by, read_sound, read_typed}
 
-abbrev any_row : List Row → Bool
+-- there is a row
+abbrev pub any_row : List Row → Bool
 any_row rows = elim rows [ [] ↦ false | row ∷ more ↦ true ]
 
 -- each kind of typed tag has rows in the table

@@ -13,6 +13,7 @@ use Rattle.timex_value.specs.Kinds.{kind_text, all_kinds, modifier_text, all_mod
 use Rattle.tml_span.specs.Units.{Attribute}
 use Rattle.tml_tree.specs.declared.tag_name.TagName.TheVariants as tag
 use Rattle.tml_tree.specs.Walking.{PlainTag}
+use Rattle.net_core.proofs.RelLaws.{rels_apart}
 use Rattle.tml_types.specs.Content.{Content, PlainTyped, Reference, event, instance, timex, signal, tlink, alink, slink}
 use Rattle.tml_types.specs.Listed as listed
 use Rattle.tml_types.specs.References.{kind_of, tag_name}
@@ -52,9 +53,6 @@ timex_kinds = search rules
 
 modifiers : AreApart modifier_text all_modifiers
 modifiers = search rules
-
-rels : AreApart rel_text all_rels
-rels = search rules
 
 aspect_rels : AreApart listed.aspect_rel_text listed.all_aspect_rels
 aspect_rels = search rules
@@ -151,7 +149,7 @@ same_content t (tlink c) (tlink d) sound n m h k = let pairs = tlink_pairs t sou
   lid = (sym h.0 ∙ k.0) i;
   signal = (sym h.1 ∙ k.1) i;
   left = one_end t.attrs _ _ c.left d.left pairs.0 h.2 k.2 i;
-  rel = one_value rel_text all_rels rels _ c.rel d.rel h.3 k.3 i;
+  rel = one_value rel_text all_rels rels_apart _ c.rel d.rel h.3 k.3 i;
   right = one_end t.attrs _ _ c.right d.right pairs.1 h.4 k.4 i;
 })
 same_content t (alink c) (alink d) sound n m h k = λ i. alink (record {

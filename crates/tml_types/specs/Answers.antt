@@ -1,5 +1,5 @@
 -- Tags have one answer.
-use Rattle.std.specs.Prelude.{◌≡◌, ℕ, List}
+use Rattle.std.specs.Prelude.{◌≡◌, ◌⊎◌, ℕ, List}
 use Rattle.faults.specs.declared.kind.FaultKind.{FaultKind}
 use Rattle.tml_tree.specs.Walking.{PlainTag}
 use Rattle.tml_types.specs.Content.{PlainTyped}
@@ -13,3 +13,7 @@ pub record OneAnswer (tags : List PlainTag) : Type 0 where
 
 abbrev pub OneAnswers : Type 0
 OneAnswers = (tags : List PlainTag) → OneAnswer tags
+
+-- tags have typed tags, or a fault
+abbrev pub TypedOrFault : List PlainTag → Type 0
+TypedOrFault tags = ((typed : List PlainTyped) × Types tags typed) ⊎ ((place : ℕ) × (kind : FaultKind) × FaultAt tags place kind)
