@@ -1,7 +1,9 @@
 pub mod AtomLaws
+pub mod Deciding
 pub mod FirstLaws
 pub mod MarkLaws
 pub mod RankLaws
 pub mod PointLaws
 pub mod StepLaws
 pub mod WalkLaws
+pub mod RelLaws

@@ -17,6 +17,11 @@ pairs_length [] h = refl
 pairs_length (a ∷ []) h = absurd h
 pairs_length (a ∷ b ∷ ranks) h = omega (arith, pairs_length ranks h)
 
+-- there are two ranks for each pair
+pub ranks_length : (pairs : List (ℕ × ℕ)) → length (ranks_of pairs) ≡ 2 * length pairs
+ranks_length [] = refl
+ranks_length (pair ∷ pairs) = omega (arith, ranks_length pairs)
+
 -- the ranks of all intervals are those that they were taken from
 pub ranks_again : (ranks : List ℕ) → AreEven ranks → ranks_of (pairs_of ranks) ≡ ranks
 ranks_again [] h = refl

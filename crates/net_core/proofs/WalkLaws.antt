@@ -89,20 +89,21 @@ joined_more net Chosen Other [] x y more joined = joined
 joined_more net Chosen Other (step ∷ steps) x y more joined =
     (joined.0, (joined.1.0, uses_more Chosen Other step more joined.1.1), joined.2, joined_more net Chosen Other steps joined.0.to y more joined.3)
 
+-- a step uses the link that it goes over, and no other one
+pub uses_own : (Other : ℕ → Type 0) (step : Step) → ((k : ℕ) → link_of step ≡ Some k → Other k) → Uses Other step
+uses_own Other (Link k i) own = own k refl
+uses_own Other (Span i) own = tt
+uses_own Other (Calendar p q) own = tt
+
 -- steps are joined over the links that they go over
 pub joined_over : (net : PlainNet) (Chosen Other : ℕ → Type 0) (steps : List Step) (x y : ℕ) → IsJoined net Chosen steps x y → ((k : ℕ) → GoesOver steps k → Other k) → IsJoined net Other steps x y
 joined_over net Chosen Other [] x y joined over = joined
 joined_over net Chosen Other (step ∷ steps) x y joined over = (
   joined.0,
-  (joined.1.0, uses_own step (λ k e. over k (step, (zero, omega arith, refl), e))),
+  (joined.1.0, uses_own Other step (λ k e. over k (step, (zero, omega arith, refl), e))),
   joined.2,
   joined_over net Chosen Other steps joined.0.to y joined.3 (λ k goes. over k (goes.0, (suc goes.1.0, omega (arith, goes.1.1), goes.1.2), goes.2)),
 )
-  where
-    uses_own : (step : Step) → ((k : ℕ) → link_of step ≡ Some k → Other k) → Uses Other step
-    uses_own (Link k i) own = own k refl
-    uses_own (Span i) own = tt
-    uses_own (Calendar p q) own = tt
 
 -- where a walk goes round no timeline fits
 pub round_clashes : (net : PlainNet) (Chosen : ℕ → Type 0) (steps : List Step) → GoesRound net Chosen steps → Clashes net Chosen

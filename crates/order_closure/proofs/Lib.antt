@@ -2,6 +2,7 @@ pub mod Joining
 pub mod Raising
 pub mod Counting
 pub mod Ranking
+pub mod LeastRanks
 pub mod Central
 pub mod Tables
 pub mod Kept

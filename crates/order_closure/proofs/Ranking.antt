@@ -1,5 +1,6 @@
 -- Some timeline keeps a closed table, and ranks are the least that do.
-use Rattle.std.proofs.Common.{◌≡◌, ℕ, zero, suc, ◌<◌, ◌≤◌, Bool, true, false, not, refl, ap, arith}
+use Rattle.std.proofs.Common.{◌≡◌, ℕ, zero, suc, ◌<◌, ◌≤◌, Bool, true, false, not, refl, ap, arith, inl, inr}
+use Rattle.std.proofs.lemmas.Bool.{cases_lt}
 use Rattle.net_core.specs.Atoms.{IsInOrder}
 use Rattle.net_core.specs.Relations.{Timeline}
 use Rattle.order_closure.specs.declared.cell.Cell.{Cell}
@@ -104,3 +105,14 @@ opposite_fits Strict false h d = absurd (omega arith)
 pub not_both : (strict : Bool) (a b : ℕ) → IsInOrder (not strict) b a → ¬ IsInOrder strict a b
 not_both true a b h k = omega arith
 not_both false a b h k = omega arith
+
+-- where an order does not hold, the opposite one holds the other way round
+pub not_is : (strict : Bool) (a b : ℕ) → ¬ IsInOrder strict a b → IsInOrder (not strict) b a
+not_is true a b h = elim (cases_lt a b) [
+  | inl lt ↦ absurd (h lt)
+  | inr le ↦ le
+]
+not_is false a b h = elim (cases_lt b a) [
+  | inl lt ↦ lt
+  | inr le ↦ absurd (h le)
+]

@@ -1,6 +1,7 @@
 -- The timelines that keep a table.
-use Rattle.std.specs.Prelude.{ℕ, ◌<◌, ◌≤◌, not}
+use Rattle.std.specs.Prelude.{◌≡◌, ℕ, ◌<◌, ◌≤◌, not, List, length, slice_index}
 use Rattle.net_core.specs.Atoms.{Satisfies}
+use Rattle.net_core.specs.Ranks.{timeline_of}
 use Rattle.net_core.specs.Relations.{Timeline}
 use Rattle.net_core.specs.declared.atom.Atom.{Atom}
 use Rattle.order_closure.specs.Cells.{order, strength}
@@ -21,3 +22,9 @@ WeakerCellsCanFail =
 pub record IsLeast (n : ℕ) (P : Timeline → Type 0) (t : Timeline) : Type 0 where
   pub holds : P t
   pub least : (u : Timeline) → P u → (p : ℕ) → p < n → t p ≤ u p
+
+-- Ranks of n points that are the least timeline that has a property; each is below n.
+pub record AreLeast (n : ℕ) (P : Timeline → Type 0) (ranks : List ℕ) : Type 0 where
+  pub size : length ranks ≡ n
+  pub least : IsLeast n P (timeline_of ranks)
+  pub small : (p : ℕ) → p < n → slice_index ranks p < n

@@ -1,14 +1,14 @@
 -- The ranks of a table are its least timeline.
-use Rattle.std.proofs.Common.{◌≡◌, ◌↔◌, ℕ, ◌<◌, Bool, true, false, not, List, get_or, sym, subst, inl, inr}
-use Rattle.std.proofs.lemmas.Bool.{cases_lt}
-use Rattle.net_core.specs.Atoms.{IsInOrder, Satisfies}
+use Rattle.std.proofs.Common.{◌≡◌, ◌↔◌, ℕ, ◌<◌, List, get_or, sym, subst}
+use Rattle.net_core.specs.Atoms.{Satisfies}
 use Rattle.net_core.specs.Ranks.{timeline_of}
 use Rattle.net_core.specs.Relations.{Timeline}
 use Rattle.net_core.specs.declared.atom.Atom.{Atom}
 use Rattle.order_closure.specs.Tables.{Table, Keeps, AreClosed, AreKept}
 use Rattle.order_closure.specs.Timelines.{IsLeast, opposite}
 use Rattle.order_closure.specs.declared.cell.Cell.{Cell}
-use Rattle.order_closure.proofs.Ranking.{ranks_kept, ranks_least, ranks_small, not_both}
+use Rattle.order_closure.proofs.LeastRanks.{opposite_is, same_least}
+use Rattle.order_closure.proofs.Ranking.{ranks_kept, ranks_least, ranks_small}
 use Rattle.timeline.specs.Ranking.{AreRanks}
 
 module _ (n : ℕ) (cell : ℕ → ℕ → Cell) (t : List ℕ) (closed : AreClosed n cell) (ranks : AreRanks n cell t) where
@@ -20,28 +20,6 @@ module _ (n : ℕ) (cell : ℕ → ℕ → Cell) (t : List ℕ) (closed : AreClo
 
   pub small_ranks : (p : ℕ) → p < n → get_or t p 0 < n
   small_ranks = ranks_small n cell closed (timeline_of t) (λ r p lr lp. (ranks p lp).above r lr) (λ p m lp. (ranks p lp).least m)
-
--- the least timeline of two properties that say the same
-same_least : (n : ℕ) (P Q : Timeline → Type 0) (t : Timeline) → ((u : Timeline) → P u ↔ Q u) → IsLeast n P t → IsLeast n Q t
-same_least n P Q t same h = record {
-  holds = (same t).0 h.holds;
-  least = λ u q. h.least u ((same u).1 q);
-}
-
--- where an order does not hold, the opposite one holds the other way round
-not_is : (strict : Bool) (a b : ℕ) → ¬ IsInOrder strict a b → IsInOrder (not strict) b a
-not_is true a b h = elim (cases_lt a b) [
-  | inl lt ↦ absurd (h lt)
-  | inr le ↦ le
-]
-not_is false a b h = elim (cases_lt b a) [
-  | inl lt ↦ lt
-  | inr le ↦ absurd (h le)
-]
-
--- the opposite atom is true where the atom is false
-opposite_is : (atom : Atom) (t : Timeline) → Satisfies t (opposite atom) ↔ (Satisfies t atom → ⊥)
-opposite_is atom t = (not_both atom.strict _ _, not_is atom.strict _ _)
 
 -- the table with the opposite atom is kept by the timelines that keep the table and make the atom false
 pub counter_least : (old new : Table) (atom other : Atom) (t : Timeline) → other ≡ opposite atom → new.points ≡ old.points → ((u : Timeline) → Keeps new u ↔ (Keeps old u × Satisfies u other))
