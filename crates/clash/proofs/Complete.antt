@@ -4,9 +4,11 @@ use Rattle.std.specs.List.{AllByRecursion}
 use Rattle.std.proofs.lemmas.Bool.{cases_lt, cases_eq}
 use Rattle.std.proofs.lemmas.Bool.Decides.{nat_tests}
 use Rattle.std.proofs.lemmas.List.Folds.{list_any-append}
+use Rattle.net_core.specs.Atoms.{IsInOrder, IsInRange, Satisfies}
 use Rattle.net_core.specs.Clashes.{Clashes}
 use Rattle.net_core.specs.Fits.{FitsWith}
 use Rattle.net_core.specs.Nets.{IsNet, PlainNet, points}
+use Rattle.net_core.specs.Ranks.{timeline_of}
 use Rattle.net_core.specs.Relations.{Timeline}
 use Rattle.net_core.specs.Steps.{GoesBy, Uses, atom_of, has_strict, is_strict_order}
 use Rattle.net_core.specs.Walks.{GoesRound, HasWalk, Kept}
@@ -15,15 +17,16 @@ use Rattle.net_core.specs.declared.step.Step.{Step}
 use Rattle.net_core.specs.declared.step.Step.TheVariants.{Link, Span, Calendar}
 use Rattle.net_core.proofs.StepLaws.{fits_from_steps, step_in_range}
 use Rattle.net_core.proofs.WalkLaws.{joined_then, round_clashes, walk_kept}
-use Rattle.order_closure.specs.Cells.{joined, order, strength, stronger}
-use Rattle.order_closure.specs.Counting.{before_count, is_strict}
+use Rattle.order_closure.specs.Cells.{Says, joined, order, strength, stronger}
+use Rattle.order_closure.specs.Counting.{is_strict}
 use Rattle.order_closure.specs.Tables.{AreClosed, AreKept, Denies, new_cell, way}
+use Rattle.order_closure.specs.Timelines.{AreLeast}
 use Rattle.order_closure.specs.declared.cell.Cell.{Cell}
 use Rattle.order_closure.specs.declared.cell.Cell.TheVariants.{Free, Weak, Strict}
 use Rattle.order_closure.proofs.Adding.{new_closed}
 use Rattle.order_closure.proofs.Central.{always_stands, order_says}
 use Rattle.order_closure.proofs.Joining.{strength-stronger}
-use Rattle.order_closure.proofs.Ranking.{count_below_n, counts_kept}
+use Rattle.order_closure.proofs.LeastRanks.{counter_ranks, least_ranks, same_ranks}
 use Rattle.order_closure.proofs.Raising.{raised_closed, raised_kept}
 use Rattle.order_closure.proofs.Tables.{new_other}
 use Rattle.clash.specs.Walks.{AlwaysWith, ClashesGoRound, WalksSayAll}
@@ -81,6 +84,12 @@ denies_enough Strict false h = (omega arith, refl)
 denies_enough Weak true h = (omega arith, refl)
 denies_enough Weak false h = absurd h
 denies_enough Free o h = absurd h
+
+-- what a cell says, from the order that it is
+said_by : (x : Cell) (a b : ℕ) → (1 ≤ strength x → IsInOrder (is_strict x) a b) → Says x a b
+said_by Free a b h = tt
+said_by Weak a b h = h (omega arith)
+said_by Strict a b h = h (omega arith)
 
 -- a cell of a new table says nothing strictly
 not_strict : (i j : ℕ) → 2 ≤ strength (new_cell i j) → ⊥
@@ -230,14 +239,27 @@ module _ (net : PlainNet) (test : ℕ → Bool) (is : IsNet net) where
       let said = of_every_step (IsSaid cell) net step a is goes.0 has.said a goes in
       order_says (cell a.from a.to) a.strict (t a.from) (t a.to) said (kept a.from a.to range.0 range.1))
 
+  -- a timeline that fits keeps the cells
+  fits_kept : (cell : ℕ → ℕ → Cell) → HasCells (every_step net) cell → (t : Timeline) → FitsWith net (Passed test) t → AreKept (points net) cell t
+  fits_kept cell has t fits i j li lj = said_by (cell i j) (t i) (t j) (λ some.
+      let walk = has.walks i j (is_strict (cell i j)) li lj (own (cell i j) some) in
+      walk_kept net (Passed test) t walk.0 i j (is_strict (cell i j)) fits walk.1)
+
+  -- least ranks fit, or some walk goes round
+  pub least_or_goes_round : ((ranks : List ℕ) × AreLeast (points net) (FitsWith net (Passed test)) ranks) ⊎ ((steps : List Step) × GoesRound net (Passed test) steps)
+  unfolding Result
+  least_or_goes_round = elim (result (every_step net)) [
+    | inl good ↦
+        let found = least_ranks (points net) good.0 good.1.closed in
+        inl (found.0, same_ranks (points net) (AreKept (points net) good.0) (FitsWith net (Passed test)) found.0 (λ t. (kept_fits good.0 good.1 t, fits_kept good.0 good.1 t)) found.1)
+    | inr bad ↦ inr (bad.2.0, (bad.0, bad.2.1))
+  ]
+
   -- some timeline fits, and none of its ranks is above the number of points, or some walk goes round
   pub fits_or_goes_round : ((t : Timeline) × FitsWith net (Passed test) t × ((p : ℕ) → p < points net → t p < points net)) ⊎ ((steps : List Step) × GoesRound net (Passed test) steps)
-  unfolding Result
-  fits_or_goes_round = elim (result (every_step net)) [
-    | inl good ↦
-        let t = before_count (points net) good.0 in
-        inl (t, kept_fits good.0 good.1 t (counts_kept (points net) good.0 good.1.closed), count_below_n (points net) good.0 good.1.closed)
-    | inr bad ↦ inr (bad.2.0, (bad.0, bad.2.1))
+  fits_or_goes_round = elim least_or_goes_round [
+    | inl least ↦ inl (timeline_of least.0, least.1.least.holds, least.1.small)
+    | inr round ↦ inr round
   ]
 
   -- where none fits some walk goes round
@@ -254,12 +276,31 @@ module _ (net : PlainNet) (test : ℕ → Bool) (is : IsNet net) where
     | inr round ↦ absurd (round_clashes net (Passed test) round.0 round.1 u fits)
   ]
 
+  -- where some timeline fits an order has a walk, or there are least ranks that fit and in which it is false
+  pub walk_or_counter : (u : Timeline) (atom : Atom) → FitsWith net (Passed test) u → IsInRange (points net) atom
+      → Walk atom.from atom.to atom.strict ⊎ ((ranks : List ℕ) × AreLeast (points net) (λ t. FitsWith net (Passed test) t × (Satisfies t atom → ⊥)) ranks)
+  unfolding Result
+  walk_or_counter u atom fits range = elim (result (every_step net)) [
+    | inl good ↦ elim (cases_lt (strength (good.0 atom.from atom.to)) (strength (order atom.strict))) [
+      | inl weaker ↦
+          let found = counter_ranks (points net) good.0 atom good.1.closed range.0 range.1 weaker in
+          inr (
+            found.0,
+            same_ranks (points net) (λ t. AreKept (points net) good.0 t × (Satisfies t atom → ⊥)) (λ t. FitsWith net (Passed test) t × (Satisfies t atom → ⊥)) found.0 (λ t. (
+              λ h. (kept_fits good.0 good.1 t h.0, h.1),
+              λ h. (fits_kept good.0 good.1 t h.0, h.1),
+            )) found.1,
+          )
+      | inr enough ↦ inl (good.1.walks atom.from atom.to atom.strict range.0 range.1 enough)
+    ]
+    | inr bad ↦ absurd (let less : u bad.0 < u bad.0 = walk_kept net (Passed test) u bad.2.0 bad.0 bad.0 true fits bad.2.1 in omega arith)
+  ]
+
   -- what holds in all timelines that fit has a walk, where some timeline fits
   pub complete : (u : Timeline) (strict : Bool) (p q : ℕ) → FitsWith net (Passed test) u → p < points net → q < points net → AlwaysWith net (Passed test) strict p q → Walk p q strict
-  unfolding Result
-  complete u strict p q fits lp lq always = elim (result (every_step net)) [
-    | inl good ↦ good.1.walks p q strict lp lq (always_stands (points net) good.0 good.1.closed strict p q lp lq (λ t kept. always t (kept_fits good.0 good.1 t kept)))
-    | inr bad ↦ absurd (let less : u bad.0 < u bad.0 = walk_kept net (Passed test) u bad.2.0 bad.0 bad.0 true fits bad.2.1 in omega arith)
+  complete u strict p q fits lp lq always = elim (walk_or_counter u (record { from = p; to = q; strict = strict }) fits (lp, lq)) [
+    | inl walk ↦ walk
+    | inr counter ↦ let holds = counter.1.least.holds in absurd (holds.1 (always (timeline_of counter.0) holds.0))
   ]
 
 -- clashes go round

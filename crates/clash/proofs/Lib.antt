@@ -5,6 +5,7 @@ pub mod LinkAtoms
 pub mod Steps
 pub mod EveryStep
 pub mod Complete
+pub mod ShortWalks
 pub mod Unlinked
 pub mod Rounds
 pub mod Marked
@@ -15,3 +16,4 @@ pub mod Settled
 pub mod StepsBut
 pub mod RankSums
 pub mod Spared
+pub mod Answered

@@ -84,3 +84,21 @@ kept_within marks k kept = elim (cases_lt k (length marks)) [
   | inl lt ↦ lt
   | inr past ↦ absurd (let e = get_or_past marks k false past in let both : false ≡ true = sym e ∙ kept in cc)
 ]
+
+-- the marked numbers below any number stand in such a list
+pub every_marked : (marks : List Bool) (k : ℕ) → (links : List ℕ) × AreMarked marks k links
+every_marked marks zero = (
+  [],
+  record {
+    rising = λ i lt. absurd (omega arith);
+    below = λ i d lt. absurd (omega arith);
+    exact = λ j. (λ among. let lt = among.1 in absurd (omega arith), λ both. let lt = both.0 in absurd (omega arith));
+  },
+)
+every_marked marks (suc k) =
+    let so_far = every_marked marks k in
+    let same : k + 1 ≡ suc k = omega arith in
+    subst (λ (n : ℕ). (links : List ℕ) × AreMarked marks n links) same (elim (slice_index_or marks k false) as (λ b. slice_index_or marks k false ≡ b → (links : List ℕ) × AreMarked marks (k + 1) links) [
+      | true ↦ λ e. (so_far.0 ++ k ∷ [], marked_push marks k so_far.0 so_far.1 e)
+      | false ↦ λ e. (so_far.0, marked_skip marks k so_far.0 so_far.1 (λ kept. let both : false ≡ true = sym e ∙ kept in cc))
+    ] refl)

@@ -53,7 +53,7 @@ pub round_over : (net : PlainNet) (Chosen Other : ℕ → Type 0) (steps : List 
 round_over net Chosen Other steps over round = (round.0, (joined_over net Chosen Other steps round.0 round.0 round.1.0 over, round.1.1))
 
 -- a walk that goes round goes over a link where the others of its links do not clash
-goes_over : (net : PlainNet) (Chosen : ℕ → Type 0) (k : ℕ) (steps : List Step) → IsSpared net Chosen k → GoesRound net Chosen steps → GoesOver steps k
+pub goes_over : (net : PlainNet) (Chosen : ℕ → Type 0) (k : ℕ) (steps : List Step) → IsSpared net Chosen k → GoesRound net Chosen steps → GoesOver steps k
 goes_over net Chosen k steps spared round = elim (over_or_not steps k) [
   | inl over ↦ over
   | inr not ↦

@@ -1,14 +1,13 @@
 -- Minimal clashes, each with a walk and timelines that prove it.
-use Rattle.std.specs.Prelude.{◌≡◌, ◌↔◌, ℕ, ◌*◌, ◌<◌, ◌≤◌, List, [], length, slice_index, slice_index_or}
+use Rattle.std.specs.Prelude.{◌≡◌, ◌↔◌, ◌⊎◌, ℕ, ◌*◌, ◌<◌, ◌≤◌, List, [], length, slice_index, slice_index_or}
 use Rattle.std.specs.List.{Contains}
 use Rattle.std.specs.List.Sorted.{IsStrictlyIncreasing}
 use Rattle.net_core.specs.Clashes.{Clashes, GoesRoundOver, IsMinimalClash, Others}
-use Rattle.net_core.specs.Fits.{FitsWith}
+use Rattle.net_core.specs.Fits.{Fits, FitsWith}
 use Rattle.net_core.specs.Nets.{PlainNet, points}
-use Rattle.net_core.specs.Ranks.{timeline_of}
 use Rattle.net_core.specs.Relations.{Timeline}
 use Rattle.net_core.specs.Walks.{GoesOver, GoesRound, Kept}
-use Rattle.order_closure.specs.Timelines.{IsLeast}
+use Rattle.order_closure.specs.Timelines.{AreLeast}
 use Rattle.clash.specs.declared.minimal.Clash.{Clash}
 use Rattle.clash.specs.Orders.{AreOrdersOf}
 use Rattle.clash.specs.declared.round.Round.{Round}
@@ -42,11 +41,9 @@ pub record IsRound (net : PlainNet) (round : Round) : Type 0 where
 abbrev pub IsSpared : PlainNet → (ℕ → Type 0) → ℕ → Type 0
 IsSpared net Chosen k = HasTimeline net (Others Chosen k)
 
--- The ranks are the least with which the links of a set but one hold: there are two for each interval, and each is below the number of points.
-pub record IsSpare (net : PlainNet) (Chosen : ℕ → Type 0) (k : ℕ) (ranks : List ℕ) : Type 0 where
-  pub size : length ranks ≡ points net
-  pub least : IsLeast (points net) (FitsWith net (Others Chosen k)) (timeline_of ranks)
-  pub small : (p : ℕ) → p < points net → slice_index ranks p < points net
+-- ranks that are the least with which the links of a set but one hold
+abbrev pub IsSpare : PlainNet → (ℕ → Type 0) → ℕ → List ℕ → Type 0
+IsSpare net Chosen k ranks = AreLeast (points net) (FitsWith net (Others Chosen k)) ranks
 
 -- there is a spare for each cite, in order
 abbrev pub AreSpares : PlainNet → (ℕ → Type 0) → List ℕ → List (List ℕ) → Type 0
@@ -59,3 +56,7 @@ pub record IsProvedClash (net : PlainNet) (clash : Clash) : Type 0 where
   pub round : GoesRoundOver net clash.cites clash.walk
   pub short : length clash.walk ≤ 2 * points net
   pub spares : AreSpares net (Contains clash.cites) clash.cites clash.spares
+
+-- a net has least ranks that fit, or links that are proved to clash
+abbrev pub IsAnswered : PlainNet → Type 0
+IsAnswered net = ((ranks : List ℕ) × AreLeast (points net) (Fits net) ranks) ⊎ ((clash : Clash) × IsProvedClash net clash)

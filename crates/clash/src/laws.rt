@@ -1,5 +1,7 @@
 //! Laws of walks: public functions that do nothing, each with a law as its contract.
-ghost use Rattle.clash.specs.Walks.{ClashesGoRound, WalksSayAll};
+ghost use Rattle.clash.specs.Minimal.{IsAnswered};
+ghost use Rattle.clash.specs.Walks.{ClashesGoRound, OrdersAreAnswered, ShortWalks, WalksSayAll};
+ghost use Rattle.net_core.specs.Nets.{IsNet, PlainNet};
 
 /// Walks say all: where some timeline fits with a set of links, an order of two points holds in all that do exactly
 /// where a walk over spans, the calendar and these links gives it.
@@ -11,4 +13,20 @@ pub fn walks_say_all()
 /// leads from a point to itself with a strict step. In the literature: a negative cycle.
 pub fn clashes_go_round()
     ensures { ClashesGoRound }
+{}
+
+/// Walks can be short: where there is a walk there is one of at most twice as many steps as there are points.
+pub fn walks_can_be_short()
+    ensures { ShortWalks }
+{}
+
+/// Every net has least ranks that fit, or a minimal clash with a short walk and a spare for each of its links.
+pub fn net_is_answered()
+    ensures { (net : PlainNet) → IsNet net → IsAnswered net }
+{}
+
+/// Where some timeline fits a net, each order of two of its points has a short walk that proves it, or least ranks that
+/// fit and in which it is false.
+pub fn orders_are_answered()
+    ensures { OrdersAreAnswered }
 {}

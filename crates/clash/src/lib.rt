@@ -18,5 +18,7 @@ mod spares;
 mod tests;
 
 pub use closure::{CloseFault, close};
-pub use laws::{clashes_go_round, walks_say_all};
+pub use laws::{
+    clashes_go_round, net_is_answered, orders_are_answered, walks_can_be_short, walks_say_all,
+};
 pub use minimal::Clash;

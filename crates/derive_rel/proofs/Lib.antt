@@ -3,4 +3,5 @@ pub mod Given
 pub mod Joined
 pub mod Turns
 pub mod OneList
+pub mod AllThere
 pub mod WordBits

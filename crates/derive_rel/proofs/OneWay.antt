@@ -1,5 +1,5 @@
 -- Relations of two intervals whose points a table orders one way alone.
-use Rattle.std.proofs.Common.{◌≡◌, ◌↔◌, ◌||◌, ◌&&◌, ℕ, ◌+◌, ◌*◌, ◌<◌, ◌≤◌, Bool, true, false, List, [], ◌∷◌, ◌++◌, refl, sym, subst, ap, arith, append-nil}
+use Rattle.std.proofs.Common.{◌≡◌, ◌↔◌, ◌||◌, ◌&&◌, ℕ, ◌+◌, ◌*◌, ◌<◌, ◌≤◌, Bool, true, false, List, [], ◌∷◌, ◌++◌, refl, subst, ap}
 use Rattle.std.proofs.lemmas.List.Elements.{All-from_recursion, recursion_from_All}
 use Rattle.net_core.specs.Atoms.{atoms_of}
 use Rattle.net_core.specs.declared.rels.Rel.{Rel}
@@ -14,7 +14,7 @@ use Rattle.derive_rel.specs.Pushing.{ArePutLast, IsOf}
 use Rattle.derive_rel.specs.declared.all_rows.Row.{Row}
 use Rattle.derive_rel.specs.declared.pairs.RelSet.{RelSet}
 use Rattle.derive_rel.proofs.Given.{has_entails, set_of}
-use Rattle.derive_rel.proofs.Joined.{one_put, same_put}
+use Rattle.derive_rel.proofs.Joined.{none_put, one_put, same_put}
 
 -- a cell that gives no order is free
 free : (x : Cell) → gives x false ≡ false → x ≡ Free
@@ -136,24 +136,20 @@ module _ (table : Table) (a b : ℕ) where
     row = record { a = a; rel = alone; b = b }
 
     -- it is put last where it holds
-    pub one_alone : a < b → 2 * b + 1 < table.points → Entails table a alone b → ArePutLast table (IsOf a b) rows (rows ++ row ∷ [])
+    pub one_alone : a < b → 2 * b + 1 < table.points → Entails table a alone b → ArePutLast (IsRow table) (IsOf a b) rows (rows ++ row ∷ [])
     one_alone less within entails =
-        same_put table (λ (other : Row). other ≡ row) (IsOf a b) rows (rows ++ row ∷ [])
+        same_put (IsRow table) (λ (other : Row). other ≡ row) (IsOf a b) rows (rows ++ row ∷ [])
         (λ other is. (λ same. (ap (λ (x : Row). x.a) same, ap (λ (x : Row). x.b) same), λ of. λ i. record { a = of.0 i; rel = rel_is other is of i; b = of.1 i }))
-        (one_put table rows row (less, within, entails))
+        (one_put (IsRow table) rows row (less, within, entails))
       where
         rel_is : (other : Row) → IsRow table other → IsOf a b other → other.rel ≡ alone
         rel_is other is of = only other.rel (subst (λ (n : ℕ). Entails table n other.rel b) of.0 (subst (λ (n : ℕ). Entails table other.a other.rel n) of.1 is.2))
 
     -- and nothing where it does not
-    pub none_alone : (Entails table a alone b → ⊥) → ArePutLast table (IsOf a b) rows rows
-    none_alone not = (
-      [],
-      sym (append-nil rows),
-      record {
-        right = λ k d lt. absurd (omega arith);
-        whole = λ other is. absurd (not (let of = is.1 in let entails = subst (λ (n : ℕ). Entails table n other.rel b) of.0 (subst (λ (n : ℕ). Entails table other.a other.rel n) of.1 is.0.2) in
-            subst (λ (r : Rel). Entails table a r b) (only other.rel entails) entails));
-        sorted = λ k lt. absurd (omega arith);
-      },
-    )
+    pub none_alone : (Entails table a alone b → ⊥) → ArePutLast (IsRow table) (IsOf a b) rows rows
+    none_alone not = none_put (IsRow table) (IsOf a b) rows never
+      where
+        never : (other : Row) → IsRow table other → IsOf a b other → ⊥
+        never other is of =
+            let entails = subst (λ (n : ℕ). Entails table n other.rel b) of.0 (subst (λ (n : ℕ). Entails table other.a other.rel n) of.1 is.2) in
+            not (subst (λ (r : Rel). Entails table a r b) (only other.rel entails) entails)

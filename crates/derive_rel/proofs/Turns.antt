@@ -1,11 +1,10 @@
--- The rows of a table in the turns of the intervals and of the relations.
-use Rattle.std.proofs.Common.{◌≡◌, ◌⊎◌, inl, inr, ℕ, ◌+◌, ◌*◌, ◌/◌, ◌<◌, ◌≤◌, List, [], ◌∷◌, ◌++◌, slice_index_or, refl, sym, ap, subst, ◌∙◌, arith}
+-- The rows of a kind in the turns of the intervals and of the relations.
+use Rattle.std.proofs.Common.{◌≡◌, ◌⊎◌, inl, inr, ℕ, ◌+◌, ◌<◌, ◌≤◌, List, [], ◌∷◌, ◌++◌, slice_index_or, refl, sym, ap, subst, ◌∙◌, arith}
 use Rattle.std.proofs.lemmas.Bool.{cases_lt}
 use Rattle.net_core.specs.Rels.{all_rels}
 use Rattle.net_core.specs.declared.rels.Rel.{Rel}
 use Rattle.net_core.specs.declared.rels.Rel.TheVariants as rel
-use Rattle.order_closure.specs.Tables.{Table}
-use Rattle.derive_rel.specs.Entailed.{AreRows, Entails, IsRow}
+use Rattle.derive_rel.specs.Entailed.{AreAll}
 use Rattle.derive_rel.specs.Pushing.{ArePutLast, IsFrom, IsOf}
 use Rattle.derive_rel.specs.declared.all_rows.Row.{Row}
 use Rattle.derive_rel.proofs.Joined.{all_rows, one_put, put_last, same_put}
@@ -21,6 +20,10 @@ IsOfBelow a b row = (row.a ≡ a) × (row.b < b)
 -- the relation of this number
 abbrev pub rel_at : ℕ → Rel
 rel_at k = slice_index_or all_rels k rel.Before
+
+-- a row of two intervals and a relation
+abbrev pub row_of : ℕ → ℕ → Rel → Row
+row_of a b r = record { a = a; rel = r; b = b }
 
 -- the relation of a row is one of the first
 abbrev pub HasFirst : ℕ → Row → Type 0
@@ -47,18 +50,14 @@ numbered rel.BegunBy = (11, omega arith, refl)
 numbered rel.Ends = (12, omega arith, refl)
 numbered rel.EndedBy = (13, omega arith, refl)
 
-module _ (table : Table) where
+module _ (Kind : Row → Type 0) where
   module _ (a b : ℕ) where
-    -- a row of two intervals and a relation
-    abbrev row_of : Rel → Row
-    row_of r = record { a = a; rel = r; b = b }
-
-    -- one relation more, which is entailed
-    pub one_relation : (before rows : List Row) (k : ℕ) (r : Rel) → a < b → 2 * b + 1 < table.points → k < 14 → rel_at k ≡ r → Entails table a r b
-        → ArePutLast table (IsOfFirst a b k) before rows → ArePutLast table (IsOfFirst a b (k + 1)) before (rows ++ row_of r ∷ [])
-    one_relation before rows k r less within lt at entails put =
-        put_last table (IsOfFirst a b k) (λ (other : Row). other ≡ row_of r) (IsOfFirst a b (k + 1)) before rows (rows ++ row_of r ∷ [])
-        put (one_put table rows (row_of r) (less, within, entails))
+    -- one relation more, whose row is of the kind
+    pub one_relation : (before rows : List Row) (k : ℕ) (r : Rel) → k < 14 → rel_at k ≡ r → Kind (row_of a b r)
+        → ArePutLast Kind (IsOfFirst a b k) before rows → ArePutLast Kind (IsOfFirst a b (k + 1)) before (rows ++ row_of a b r ∷ [])
+    one_relation before rows k r lt at is put =
+        put_last Kind (IsOfFirst a b k) (λ (other : Row). other ≡ row_of a b r) (IsOfFirst a b (k + 1)) before rows (rows ++ row_of a b r ∷ [])
+        put (one_put Kind rows (row_of a b r) is)
         (λ x y is_x is_y meets same. inr (inr (
           meets.0 ∙ sym (ap (λ (row : Row). row.a) same),
           meets.1 ∙ sym (ap (λ (row : Row). row.b) same),
@@ -66,13 +65,13 @@ module _ (table : Table) where
         )))
         (λ row is. (λ either. there row either, λ meets. here row meets))
       where
-        there : (row : Row) → (IsOfFirst a b k row ⊎ (row ≡ row_of r)) → IsOfFirst a b (k + 1) row
+        there : (row : Row) → (IsOfFirst a b k row ⊎ (row ≡ row_of a b r)) → IsOfFirst a b (k + 1) row
         there row either = elim either [
           | inl old ↦ (old.0, old.1, (old.2.0, omega (arith, old.2.1), old.2.2))
           | inr same ↦ (ap (λ (x : Row). x.a) same, ap (λ (x : Row). x.b) same, (k, omega arith, at ∙ sym (ap (λ (x : Row). x.rel) same)))
         ]
 
-        here : (row : Row) → IsOfFirst a b (k + 1) row → IsOfFirst a b k row ⊎ (row ≡ row_of r)
+        here : (row : Row) → IsOfFirst a b (k + 1) row → IsOfFirst a b k row ⊎ (row ≡ row_of a b r)
         here row meets = elim (cases_lt meets.2.0 k) [
           | inl old ↦ inl (meets.0, meets.1, (meets.2.0, old, meets.2.2))
           | inr last ↦
@@ -81,34 +80,34 @@ module _ (table : Table) where
               inr (λ i. record { a = meets.0 i; rel = rels i; b = meets.1 i })
         ]
 
-    -- one relation more, which is not
-    pub no_relation : (before rows : List Row) (k : ℕ) (r : Rel) → rel_at k ≡ r → (Entails table a r b → ⊥)
-        → ArePutLast table (IsOfFirst a b k) before rows → ArePutLast table (IsOfFirst a b (k + 1)) before rows
+    -- one relation more, whose row is not
+    pub no_relation : (before rows : List Row) (k : ℕ) (r : Rel) → rel_at k ≡ r → (Kind (row_of a b r) → ⊥)
+        → ArePutLast Kind (IsOfFirst a b k) before rows → ArePutLast Kind (IsOfFirst a b (k + 1)) before rows
     no_relation before rows k r at not put =
-        same_put table (IsOfFirst a b k) (IsOfFirst a b (k + 1)) before rows
+        same_put Kind (IsOfFirst a b k) (IsOfFirst a b (k + 1)) before rows
         (λ row is. (λ old. (old.0, old.1, (old.2.0, omega (arith, old.2.1), old.2.2)), λ meets. here row is meets)) put
       where
-        here : (row : Row) → IsRow table row → IsOfFirst a b (k + 1) row → IsOfFirst a b k row
+        here : (row : Row) → Kind row → IsOfFirst a b (k + 1) row → IsOfFirst a b k row
         here row is meets = elim (cases_lt meets.2.0 k) [
           | inl old ↦ (meets.0, meets.1, (meets.2.0, old, meets.2.2))
           | inr last ↦
               let e : meets.2.0 ≡ k = omega (arith, last, meets.2.1) in
               let rels : row.rel ≡ r = sym meets.2.2 ∙ ap rel_at e ∙ at in
-              let same : row ≡ row_of r = λ i. record { a = meets.0 i; rel = rels i; b = meets.1 i } in
-              absurd (not (subst (λ (x : Row). Entails table x.a x.rel x.b) same is.2))
+              let same : row ≡ row_of a b r = λ i. record { a = meets.0 i; rel = rels i; b = meets.1 i } in
+              absurd (not (subst Kind same is))
         ]
 
     -- after the last relation
-    pub last_relation : (before rows : List Row) (k : ℕ) → 14 ≤ k → ArePutLast table (IsOfFirst a b k) before rows → ArePutLast table (IsOf a b) before rows
+    pub last_relation : (before rows : List Row) (k : ℕ) → 14 ≤ k → ArePutLast Kind (IsOfFirst a b k) before rows → ArePutLast Kind (IsOf a b) before rows
     last_relation before rows k all put =
-        same_put table (IsOfFirst a b k) (IsOf a b) before rows
+        same_put Kind (IsOfFirst a b k) (IsOf a b) before rows
         (λ row is. (λ h. (h.0, h.1), λ h. let at = numbered row.rel in (h.0, h.1, (at.0, omega (arith, at.1, all), at.2)))) put
 
   module _ (a : ℕ) where
     -- one interval more after it
-    pub one_after : (before old new : List Row) (b : ℕ) → ArePutLast table (IsOfBelow a b) before old → ArePutLast table (IsOf a b) old new → ArePutLast table (IsOfBelow a (b + 1)) before new
+    pub one_after : (before old new : List Row) (b : ℕ) → ArePutLast Kind (IsOfBelow a b) before old → ArePutLast Kind (IsOf a b) old new → ArePutLast Kind (IsOfBelow a (b + 1)) before new
     one_after before old new b first next =
-        put_last table (IsOfBelow a b) (IsOf a b) (IsOfBelow a (b + 1)) before old new first next
+        put_last Kind (IsOfBelow a b) (IsOf a b) (IsOfBelow a (b + 1)) before old new first next
         (λ x y is_x is_y earlier later. inr (inl (earlier.0 ∙ sym later.0, omega (arith, earlier.1, later.1))))
         (λ row is. (λ either. there row either, λ meets. here row meets))
       where
@@ -125,14 +124,14 @@ module _ (table : Table) where
         ]
 
     -- after the last interval
-    pub last_after : (before rows : List Row) (b : ℕ) → table.points / 2 ≤ b → ArePutLast table (IsOfBelow a b) before rows → ArePutLast table (IsFrom a) before rows
+    pub last_after : (before rows : List Row) (b : ℕ) → ((row : Row) → Kind row → row.b < b) → ArePutLast Kind (IsOfBelow a b) before rows → ArePutLast Kind (IsFrom a) before rows
     last_after before rows b all put =
-        same_put table (IsOfBelow a b) (IsFrom a) before rows (λ row is. (λ meets. meets.0, λ at. (at, omega (arith, is.1, all)))) put
+        same_put Kind (IsOfBelow a b) (IsFrom a) before rows (λ row is. (λ meets. meets.0, λ at. (at, all row is))) put
 
   -- one interval more
-  pub one_interval : (before old new : List Row) (a : ℕ) → ArePutLast table (IsFromBelow a) before old → ArePutLast table (IsFrom a) old new → ArePutLast table (IsFromBelow (a + 1)) before new
+  pub one_interval : (before old new : List Row) (a : ℕ) → ArePutLast Kind (IsFromBelow a) before old → ArePutLast Kind (IsFrom a) old new → ArePutLast Kind (IsFromBelow (a + 1)) before new
   one_interval before old new a first next =
-      put_last table (IsFromBelow a) (IsFrom a) (IsFromBelow (a + 1)) before old new first next
+      put_last Kind (IsFromBelow a) (IsFrom a) (IsFromBelow (a + 1)) before old new first next
       (λ x y is_x is_y earlier later. inl (omega (arith, earlier, later)))
       (λ row is. (λ either. there row either, λ meets. here row meets))
     where
@@ -149,5 +148,5 @@ module _ (table : Table) where
       ]
 
   -- after the last interval
-  pub last_interval : (rows : List Row) (a : ℕ) → table.points / 2 ≤ a → ArePutLast table (IsFromBelow a) [] rows → AreRows table rows
-  last_interval rows a all put = all_rows table (IsFromBelow a) rows (λ row is. omega (arith, is.0, is.1, all)) put
+  pub last_interval : (rows : List Row) (a : ℕ) → ((row : Row) → Kind row → row.a < a) → ArePutLast Kind (IsFromBelow a) [] rows → AreAll Kind rows
+  last_interval rows a all put = all_rows Kind (IsFromBelow a) rows all put

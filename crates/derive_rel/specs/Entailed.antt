@@ -1,5 +1,5 @@
 -- The relations that hold in all timelines of a table.
-use Rattle.std.specs.Prelude.{◌≡◌, ◌⊎◌, ℕ, ◌*◌, ◌+◌, ◌<◌, ◌≤◌, List, length, slice_index_or}
+use Rattle.std.specs.Prelude.{◌≡◌, ◌⊎◌, ℕ, ◌*◌, ◌+◌, ◌<◌, ◌≤◌, Bool, true, List, length, slice_index_or}
 use Rattle.std.specs.List.{All, Contains}
 use Rattle.net_core.specs.Atoms.{atoms_of}
 use Rattle.net_core.specs.Rels.{all_rels}
@@ -46,3 +46,7 @@ AreRows table rows = AreAll (IsRow table) rows
 -- the law: a table has one list of rows
 abbrev pub OneRowList : Type 0
 OneRowList = (table : Table) (rows others : List Row) → AreRows table rows → AreRows table others → rows ≡ others
+
+-- the law: where a test tells which rows meet a condition, and only rows of an interval and one after it, below a number, meet it, there is a list of all of them
+abbrev pub EveryConditionHasRows : Type 0
+EveryConditionHasRows = (meets : Row → Bool) (n : ℕ) → ((row : Row) → meets row ≡ true → (row.a < row.b) × (row.b < n)) → (rows : List Row) × AreAll (λ row. meets row ≡ true) rows

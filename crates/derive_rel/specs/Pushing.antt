@@ -1,18 +1,18 @@
--- Rows that are put last, those of a part of a table.
+-- Rows that are put last.
 use Rattle.std.specs.Prelude.{◌≡◌, ◌↔◌, ◌≤◌, ℕ, List, ◌++◌, true}
 use Rattle.net_core.specs.declared.rels.Rel.{Rel}
 use Rattle.order_closure.specs.Cells.{order, strength}
 use Rattle.order_closure.specs.Tables.{Table, cell_at}
-use Rattle.derive_rel.specs.Entailed.{AreAll, Entails, IsRow}
+use Rattle.derive_rel.specs.Entailed.{AreAll, Entails}
 use Rattle.derive_rel.specs.declared.all_rows.Row.{Row}
 
--- the rows of a table that meet a condition
-abbrev pub AreRowsWhere : Table → (Row → Type 0) → List Row → Type 0
-AreRowsWhere table Meets rows = AreAll (λ (row : Row). IsRow table row × Meets row) rows
+-- the rows of a kind that meet a condition
+abbrev pub AreRowsWhere : (Row → Type 0) → (Row → Type 0) → List Row → Type 0
+AreRowsWhere Kind Meets rows = AreAll (λ (row : Row). Kind row × Meets row) rows
 
--- these rows of a table are put last
-abbrev pub ArePutLast : Table → (Row → Type 0) → List Row → List Row → Type 0
-ArePutLast table Meets old new = (more : List Row) × (new ≡ old ++ more) × AreRowsWhere table Meets more
+-- these rows of a kind are put last
+abbrev pub ArePutLast : (Row → Type 0) → (Row → Type 0) → List Row → List Row → Type 0
+ArePutLast Kind Meets old new = (more : List Row) × (new ≡ old ++ more) × AreRowsWhere Kind Meets more
 
 -- a row of an interval and one after it
 abbrev pub IsFrom : ℕ → Row → Type 0

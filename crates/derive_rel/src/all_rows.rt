@@ -1,5 +1,5 @@
 //! All relations that hold in all timelines of a table.
-ghost use Rattle.derive_rel.specs.Entailed.{AreRows, OneRowList};
+ghost use Rattle.derive_rel.specs.Entailed.{AreRows, IsRow};
 ghost use Rattle.derive_rel.specs.Pushing.{ArePutLast, IsAlone, IsFrom, IsOf, IsOrder};
 ghost use Rattle.std.specs.Prelude.{IfOk, OnOk, ◌%◌, ◌*◌, ◌+◌, ◌<◌, ◌≡◌, ◌≤◌};
 
@@ -39,7 +39,7 @@ pub fn rows(alloc: Global, closed: &Closed) -> Result<List<Row>, Memory>
 fn push_from(rows: &mut List<Row>, closed: &Closed, a: u32) -> Result<(), Memory>
     requires few { closed.now.points ≤ 2048 }
     requires a { 2 * a + 1 < closed.now.points }
-    ensures { OnOk result (ArePutLast closed.now (IsFrom a) rows.old rows.new) }
+    ensures { OnOk result (ArePutLast (IsRow closed.now) (IsFrom a) rows.old rows.new) }
 {
     for b in a + 1..closed.points() / 2 {
         push_pair(rows, closed, a, b)?;
@@ -52,7 +52,7 @@ fn push_from(rows: &mut List<Row>, closed: &Closed, a: u32) -> Result<(), Memory
 fn push_pair(rows: &mut List<Row>, closed: &Closed, a: u32, b: u32) -> Result<(), Memory>
     requires a { a < b }
     requires b { 2 * b + 1 < closed.now.points }
-    ensures { OnOk result (ArePutLast closed.now (IsOf a b) rows.old rows.new) }
+    ensures { OnOk result (ArePutLast (IsRow closed.now) (IsOf a b) rows.old rows.new) }
 {
     // so few that the numbers of the points fit
     prove!(closed.points() <= 2048);
@@ -82,7 +82,7 @@ fn push_alone(
     requires to { to < closed.now.points }
     requires alone { IsAlone closed.now row }
     requires order { IsOrder closed.now row from to }
-    ensures { OnOk result (ArePutLast closed.now (IsOf row.a row.b) rows.old rows.new) }
+    ensures { OnOk result (ArePutLast (IsRow closed.now) (IsOf row.a row.b) rows.old rows.new) }
 {
     if closed.cell(from, to).gives(true) {
         return rows.push(row);
@@ -94,7 +94,7 @@ fn push_alone(
 fn push_all(rows: &mut List<Row>, closed: &Closed, a: u32, b: u32) -> Result<(), Memory>
     requires a { a < b }
     requires b { 2 * b + 1 < closed.now.points }
-    ensures { OnOk result (ArePutLast closed.now (IsOf a b) rows.old rows.new) }
+    ensures { OnOk result (ArePutLast (IsRow closed.now) (IsOf a b) rows.old rows.new) }
 {
     let set = entailed(closed, a, b);
     for rel in Rel::all() {
@@ -104,8 +104,3 @@ fn push_all(rows: &mut List<Row>, closed: &Closed, a: u32, b: u32) -> Result<(),
     }
     Ok(())
 }
-
-/// A table has one list of rows.
-pub fn one_row_list()
-    ensures { OneRowList }
-{}

@@ -1,4 +1,5 @@
 use Rattle.std.proofs.Common.{◌≡◌, ◌/◌}
+use Rattle.derive_rel.specs.Entailed.{IsRow}
 use Rattle.derive_rel.specs.Pushing.{ArePutLast}
 use Rattle.derive_rel.proofs.Turns.{IsOfBelow}
 use Rattle.derive_rel.proofs.all_rows.push_from.Given as goal
@@ -7,5 +8,5 @@ use Rattle.derive_rel.proofs.all_rows.push_from.Given as goal
 abbrev pub invariant-loop-b : goal.invariant-loop-b
 invariant-loop-b l = record {
   end : l.b-end ≡ l.closed.points / 2;
-  put : ArePutLast l.closed (IsOfBelow l.a l.b) l.initial.rows l.rows;
+  put : ArePutLast (IsRow l.closed) (IsOfBelow l.a l.b) l.initial.rows l.rows;
 }

@@ -1,4 +1,5 @@
 use Rattle.std.proofs.Common.{◌≡◌, ◌/◌, ◌≤◌, []}
+use Rattle.derive_rel.specs.Entailed.{IsRow}
 use Rattle.derive_rel.specs.Pushing.{ArePutLast}
 use Rattle.derive_rel.proofs.Turns.{IsFromBelow}
 use Rattle.derive_rel.proofs.all_rows.rows.Given as goal
@@ -8,5 +9,5 @@ abbrev pub invariant-loop-a : goal.invariant-loop-a
 invariant-loop-a l = record {
   end : l.a-end ≡ l.closed.points / 2;
   few : l.closed.points ≤ 2048;
-  put : ArePutLast l.closed (IsFromBelow l.a) [] l.rows;
+  put : ArePutLast (IsRow l.closed) (IsFromBelow l.a) [] l.rows;
 }
