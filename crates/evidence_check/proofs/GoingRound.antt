@@ -21,7 +21,7 @@ use Rattle.evidence_check.proofs.Proving.{goes_less}
 
 module _ (net : PlainNet) where
   -- joined steps begin where their first order does
-  start_is : (step : StepOf) (steps : List StepOf) (x y : ℕ) (a : Atom) → IsJoined net EveryLink (step ∷ steps) x y → atom_of net step ≡ Some a → a.from ≡ x
+  pub start_is : (step : StepOf) (steps : List StepOf) (x y : ℕ) (a : Atom) → IsJoined net EveryLink (step ∷ steps) x y → atom_of net step ≡ Some a → a.from ≡ x
   start_is step steps x y a joined e =
       let same : joined.0 ≡ a = let f = joined.1.0 in cc in
       ap (λ (b : Atom). b.from) (sym same) ∙ joined.2

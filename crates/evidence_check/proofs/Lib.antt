@@ -5,3 +5,8 @@ pub mod Soundness
 pub mod Verdicts
 pub mod Spares
 pub mod Cites
+pub mod Deciding
+pub mod Reasons
+pub mod RanksJudged
+pub mod WalksJudged
+pub mod Judged

@@ -122,3 +122,7 @@ pub record Verdicts (net : PlainNet) (e : PlainEvidence) : Type 0 where
 
 abbrev pub OneVerdict : Type 0
 OneVerdict = (net : PlainNet) (e : PlainEvidence) → Verdicts net e
+
+-- evidence is supported, or refused
+abbrev pub SupportedOrRefused : PlainNet → PlainEvidence → Type 0
+SupportedOrRefused net e = IsSupported net e ⊎ ((refused : Refused) × IsRefused net e refused)

@@ -1,6 +1,6 @@
 //! Laws of the checker: public functions that do nothing, each with the law as its contract.
 ghost use Rattle.evidence_check.specs.Claims.{IsTrue};
-ghost use Rattle.evidence_check.specs.Refusals.{OneVerdict};
+ghost use Rattle.evidence_check.specs.Refusals.{OneVerdict, SupportedOrRefused};
 ghost use Rattle.evidence_check.specs.Supported.{IsSupported};
 ghost use Rattle.evidence_format.specs.Evidence.{PlainEvidence};
 ghost use Rattle.net_core.specs.Nets.{PlainNet};
@@ -13,4 +13,9 @@ pub fn one_verdict()
 /// What supported evidence shows is true, whoever made it.
 pub fn supported_is_true()
     ensures { (net : PlainNet) (e : PlainEvidence) → IsSupported net e → IsTrue net e }
+{}
+
+/// Whatever the net and the evidence are, the evidence is supported or refused.
+pub fn supported_or_refused()
+    ensures { (net : PlainNet) (e : PlainEvidence) → SupportedOrRefused net e }
 {}

@@ -11,6 +11,7 @@ pub mod CiteLaws
 pub mod BodyLaws
 pub mod LineLaws
 pub mod Reading
+pub mod EveryText
 pub mod Writing
 pub mod PartLaws
 pub mod SmallRanks

@@ -3,6 +3,7 @@ use Rattle.std.proofs.Common.{◌≡◌, ℕ, ◌+◌, ◌-◌, ◌≤◌, List,
 use Rattle.std.specs.List.{count_by, concat, AllByRecursion}
 use Rattle.evidence_format.specs.Lines.{Lines, is_lf, lines_of}
 use Rattle.evidence_format.specs.Evidence.{PlainEvidence, IsText, text_lines}
+use Rattle.evidence_format.specs.Grammar.{Stuck}
 use Rattle.evidence_format.specs.Begun.{HasLines, IsBegun, IsBadLine}
 use Rattle.evidence_format.specs.Readers.{text_at, evidence_at}
 use Rattle.evidence_format.proofs.Exact.{all_again, all_found, all_bad, one_place}
@@ -27,11 +28,15 @@ is_read e text h =
 begun_lines : (ls : Lines) → IsBegun ls → AllByRecursion IsLine ls
 begun_lines ls b = prefix_lines ls b.1 (subst (AllByRecursion IsLine) (sym b.2.1) (text_is b.0 b.2.0))
 
--- where reading stops, the line is bad
-pub is_bad : (text rest : List ℕ) → evidence_at (lines_of text) ≡ Err (lines_of rest) → (length rest ≤ length text) × IsBadLine text (count_by is_lf (take (length text - length rest) text) + 1)
+-- where reading stops, the lines are stuck
+pub is_stuck : (text : List ℕ) (rest : Lines) → evidence_at (lines_of text) ≡ Err rest → Stuck HasLines (lines_of text) rest
 unfolding evidence_at
+is_stuck text rest read = all_bad HasLines text_at exact_text (lines_of text) rest read
+
+-- there the line is bad
+pub is_bad : (text rest : List ℕ) → evidence_at (lines_of text) ≡ Err (lines_of rest) → (length rest ≤ length text) × IsBadLine text (count_by is_lf (take (length text - length rest) text) + 1)
 is_bad text rest read =
-    let s = all_bad HasLines text_at exact_text (lines_of text) (lines_of rest) read in
+    let s = is_stuck text (lines_of rest) read in
     let n = line_number text rest s.0 (begun_lines s.0 s.2) s.1 in
     (n.0, (s.0, lines_of rest, s.1, ap (λ k. k + 1) n.1, s.2, s.3))
 

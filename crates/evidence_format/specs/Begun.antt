@@ -1,8 +1,8 @@
 -- The bad line of a text.
-use Rattle.std.specs.Prelude.{◌≡◌, ℕ, ◌+◌, List, ◌∷◌, [], ◌++◌, length, ⊤, Result, Ok, Err}
+use Rattle.std.specs.Prelude.{◌≡◌, ◌⊎◌, ℕ, ◌+◌, List, ◌∷◌, [], ◌++◌, length, ⊤, Result, Ok, Err}
 use Rattle.evidence_format.specs.Lines.{Lines, lines_of}
 use Rattle.evidence_format.specs.Grammar.{Begins}
-use Rattle.evidence_format.specs.Evidence.{PlainEvidence, IsWellFormed, text_lines}
+use Rattle.evidence_format.specs.Evidence.{PlainEvidence, IsText, IsWellFormed, text_lines}
 use Rattle.evidence_format.specs.View.{plain}
 use Rattle.evidence_format.specs.declared.evidence.Evidence.{Evidence}
 use Rattle.evidence_format.specs.declared.read.ReadEvidence.{ReadEvidence}
@@ -29,3 +29,7 @@ Reads e (Err (BadLine line)) = ⊥
 abbrev pub TellsBadLine : List ℕ → ReadEvidence → Type 0
 TellsBadLine text Memory = ⊤
 TellsBadLine text (BadLine line) = IsBadLine text line
+
+-- a text is that of some evidence, or is that of none and has a bad line
+abbrev pub TextOrBadLine : List ℕ → Type 0
+TextOrBadLine text = ((e : PlainEvidence) × IsText e text) ⊎ (((e : PlainEvidence) → IsText e text → ⊥) × (line : ℕ) × IsBadLine text line)

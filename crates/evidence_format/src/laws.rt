@@ -1,5 +1,5 @@
 //! Laws of the text of evidence: public functions that do nothing, each with the law as its contract.
-ghost use Rattle.evidence_format.specs.Begun.{IsBadLine};
+ghost use Rattle.evidence_format.specs.Begun.{IsBadLine, TextOrBadLine};
 ghost use Rattle.evidence_format.specs.Evidence.{IsText, PlainEvidence};
 ghost use Rattle.evidence_format.specs.Parts.{SameBegun};
 ghost use Rattle.std.specs.Prelude.{List, ℕ, ◌≡◌};
@@ -18,4 +18,9 @@ pub fn one_bad_line()
 /// Lines are begun by their parts exactly where they are the first lines of the text of some evidence.
 pub fn same_begun()
     ensures { SameBegun }
+{}
+
+/// Every text is that of evidence, or is that of none and has a bad line.
+pub fn text_or_bad_line()
+    ensures { (text : List ℕ) → TextOrBadLine text }
 {}
