@@ -21,8 +21,9 @@ use Rattle.clash.specs.Closures.{Always, IsClosureOf}
 use Rattle.derive_rel.specs.Entailed.{Gives}
 use Rattle.evidence_check.specs.Supported.{AreIntervals, IsFalse, IsSupported, atom_at}
 use Rattle.evidence_check.proofs.Soundness.{supported_is_true}
-use Rattle.evidence_format.specs.Evidence.{counter}
+use Rattle.evidence_format.specs.Evidence.{IsText, counter}
 use Rattle.tml_tool.specs.Asking.{AlwaysHolds, IsFirstOpen, TellsCounterexample}
+use Rattle.tml_tool.specs.Showing.{printed_limit}
 use Rattle.tml_tool.specs.Solving.{IsCounterText, IsFirstNotGiven}
 
 -- a cell that is Strict or Weak is at least Weak
@@ -87,13 +88,10 @@ false_by ranks a r b k lt fails = λ holds.
     fails (All-get_or (Satisfies t) (atoms_of r a b) k (record { from = 0; to = 0; strict = false }) lt
     (All-from_recursion (Satisfies t) (atoms_of r a b) ((atoms_say_the_relation t r a b).0 holds)))
 
--- the text of the least timeline that keeps the closure and makes the first open order false tells a counterexample
-pub tells_counterexample : (net : PlainNet) (table : Table) (a : ℕ) (r : Rel) (b : ℕ) (atom : Atom) (text : List ℕ) → IsClosureOf net table → AreIntervals net a b
-    → IsFirstOpen net (atoms_of r a b) atom → IsCounterText table a r b atom text → TellsCounterexample net a r b text
-tells_counterexample net table a r b atom text closure both first told =
-    let ranks = told.0 in
-    let size = told.1 ∙ closure.size in
-    let least = least_counter net table closure atom (timeline_of ranks) told.2 in
+-- the text of the least timeline that fits and makes the first open order false tells a counterexample
+pub counter_tells : (net : PlainNet) (a : ℕ) (r : Rel) (b : ℕ) (atom : Atom) (ranks text : List ℕ) → AreIntervals net a b → IsFirstOpen net (atoms_of r a b) atom → length ranks ≡ points net
+    → IsLeast (points net) (λ u. Fits net u × (Satisfies u atom → ⊥)) (timeline_of ranks) → IsText (counter a r b (pairs_of ranks)) text → length text ≤ printed_limit → TellsCounterexample net a r b text
+counter_tells net a r b atom ranks text both first size least is_text short =
     let again : ranks_of (pairs_of ranks) ≡ ranks = ranks_again ranks (even_length (length net.bounds) ranks size) in
     let fails = subst (λ (x : Atom). Satisfies (timeline_of ranks) x → ⊥) first.2 least.holds.1 in
     let supported : IsSupported net (counter a r b (pairs_of ranks)) = (
@@ -101,4 +99,10 @@ tells_counterexample net table a r b atom text closure both first told =
       subst (λ (rs : List ℕ). (length rs ≡ points net) × Fits net (timeline_of rs)) (sym again) (size, least.holds.0),
       subst (λ (rs : List ℕ). IsFalse rs a r b) (sym again) (false_by ranks a r b first.0 first.1.0 fails),
     ) in
-    (atom, ranks, first, size, least, (told.3, supported, supported_is_true net (counter a r b (pairs_of ranks)) supported, told.4))
+    (atom, ranks, first, size, least, (is_text, supported, supported_is_true net (counter a r b (pairs_of ranks)) supported, short))
+
+-- and so does that of the least timeline that keeps the closure
+pub tells_counterexample : (net : PlainNet) (table : Table) (a : ℕ) (r : Rel) (b : ℕ) (atom : Atom) (text : List ℕ) → IsClosureOf net table → AreIntervals net a b
+    → IsFirstOpen net (atoms_of r a b) atom → IsCounterText table a r b atom text → TellsCounterexample net a r b text
+tells_counterexample net table a r b atom text closure both first told =
+    counter_tells net a r b atom told.0 text both first (told.1 ∙ closure.size) (least_counter net table closure atom (timeline_of told.0) told.2) told.3 told.4

@@ -39,3 +39,16 @@ drill_found n word drill is = ap (named_of decimal (range_with_len 1 512)) is �
 pub no_drill_found : (word : List ℕ) → ((n : ℕ) → IsDrill n → word ≡ decimal n → ⊥) → drill_number word ≡ None
 unfolding drill_number
 no_drill_found word none = none_found 1 512 word (λ n low high. none n (low, omega (arith, high)))
+
+-- a number that is found in a range is of it
+found_within : (a k : ℕ) (word : List ℕ) (n : ℕ) → named_of decimal (range_with_len a k) word ≡ Some n → (a ≤ n) × (n < a + k)
+found_within a zero word n is = absurd cc
+found_within a (suc k) word n is = elim (bytes_eq (decimal a) word) as (λ b. (if b then Some a else named_of decimal (range_with_len (a + 1) k) word) ≡ Some n → (a ≤ n) × (n < a + suc k)) [
+  | true ↦ λ here. let same : a ≡ n = cc in (omega arith, omega arith)
+  | false ↦ λ later. let rest = found_within (a + 1) k word n later in (let low = rest.0 in omega arith, let high = rest.1 in omega arith)
+] is
+
+-- the number of a drill that is found is one that drills have
+pub drill_in_range : (word : List ℕ) (n : ℕ) → drill_number word ≡ Some n → IsDrill n
+unfolding drill_number
+drill_in_range word n is = let range = found_within 1 512 word n is in (range.0, let high = range.1 in omega arith)

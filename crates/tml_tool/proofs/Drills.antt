@@ -7,14 +7,12 @@ use Rattle.faults.specs.declared.kind.FaultKind.{FaultKind}
 use Rattle.net_core.specs.Fits.{RanksFit}
 use Rattle.net_core.specs.Nets.{PlainNet, points}
 use Rattle.net_core.specs.Ranks.{pairs_of}
-use Rattle.net_core.proofs.RankLaws.{even_length, ranks_again}
 use Rattle.net_build.specs.Built.{IsNetOf}
 use Rattle.net_build.proofs.OneNet.{one_net}
 use Rattle.derive_rel.specs.declared.all_rows.Row.{Row}
 use Rattle.drill.specs.Laws.{IsDrill}
 use Rattle.drill.specs.Texts.{drill_contents, drill_document, instance_name}
 use Rattle.drill.proofs.Accepted.{drill_is_accepted}
-use Rattle.evidence_check.specs.Supported.{IsSupported}
 use Rattle.evidence_check.proofs.Soundness.{supported_is_true}
 use Rattle.evidence_format.specs.Evidence.{IsText, timeline}
 use Rattle.tml_refs.specs.Documents.{PlainDocument, instance}
@@ -33,7 +31,7 @@ use Rattle.tml_tool.proofs.Naming.{as_many}
 use Rattle.tml_tool.proofs.OneNet.{one_net_of}
 use Rattle.tml_tool.proofs.OneVerdicts.{same_status, same_text}
 use Rattle.tml_tool.proofs.Phases.{accepted_or_fault, one_document}
-use Rattle.tml_tool.proofs.Timelines.{one_least, one_number}
+use Rattle.tml_tool.proofs.Timelines.{one_least, one_number, timeline_supported}
 
 -- the document of a drill says what was drawn
 pub says_drawn : (n : ℕ) → IsDrill n → Says (drill_document n) (drill_contents n)
@@ -60,17 +58,13 @@ finding_done : (finding : Finding) → finding_status finding ≡ Done → findi
 finding_done findings.Done e = refl
 finding_done finding e = absurd cc
 
--- evidence of a timeline that fits the net
-supported : (net : PlainNet) (ranks : List ℕ) → RanksFit net ranks → IsSupported net (timeline (pairs_of ranks))
-supported net ranks fit = subst (RanksFit net) (sym (ranks_again ranks (even_length (length net.bounds) ranks fit.0))) fit
-
 -- the verdict on the text of a timeline that fits the net of a document
 pub timeline_verdict : (contents : PlainDocument) (net : PlainNet) (ranks text : List ℕ) (finding : Finding) (line : List ℕ) → IsNetOf contents net → RanksFit net ranks → IsText (timeline (pairs_of ranks)) text
     → OfContents contents text (finding_status finding) line → (finding ≡ findings.Done) × (line ≡ codes "verified timeline\n")
 timeline_verdict contents net ranks text finding line built fit is (other, is_net, told) =
     let verdict = subst (λ (n : PlainNet). OfEvidence contents n text (finding_status finding) line) (one_net contents other net is_net built) told in
     let e = timeline (pairs_of ranks) in
-    let shows = supported net ranks fit in
+    let shows = timeline_supported net ranks fit in
     let done : OfEvidence contents net text Done (codes "verified timeline\n") = (e, is, shows, supported_is_true net e shows, refl) in
     let status = same_status contents net text (finding_status finding) Done line (codes "verified timeline\n") verdict done in
     (finding_done finding status, same_text contents net text Done line (codes "verified timeline\n") (subst (λ (s : Status). OfEvidence contents net text s line) status verdict) done)

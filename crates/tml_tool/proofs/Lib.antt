@@ -27,3 +27,8 @@ pub mod Sizes
 pub mod ClashProofs
 pub mod LineSizes
 pub mod FewCites
+pub mod Judged
+pub mod NetAnswers
+pub mod EveryAnswer
+pub mod EveryVerdict
+pub mod EveryReply

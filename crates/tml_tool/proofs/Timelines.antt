@@ -2,7 +2,7 @@
 use Rattle.std.proofs.Common.{◌≡◌, ℕ, suc, ◌<◌, ◌≤◌, List, [], ◌∷◌, length, get_or, refl, sym, subst, ◌∙◌, arith}
 use Rattle.net_core.specs.Fits.{Fits, RanksFit}
 use Rattle.net_core.specs.Nets.{PlainNet, points}
-use Rattle.net_core.specs.Ranks.{pairs_of, ranks_of, timeline_of}
+use Rattle.net_core.specs.Ranks.{pairs_of, timeline_of}
 use Rattle.net_core.specs.Relations.{Timeline}
 use Rattle.net_core.proofs.RankLaws.{even_length, ranks_again}
 use Rattle.clash.specs.Closures.{IsClosureOf}
@@ -21,15 +21,17 @@ least_fits net table t c l = record {
   least = λ u fits p less. l.least u ((c.keeps u).1 fits) p (omega (arith, less, c.size));
 }
 
+-- ranks that fit are supported as evidence
+pub timeline_supported : (net : PlainNet) (ranks : List ℕ) → RanksFit net ranks → IsSupported net (timeline (pairs_of ranks))
+timeline_supported net ranks fit = subst (RanksFit net) (sym (ranks_again ranks (even_length (length net.bounds) ranks fit.0))) fit
+
 -- the text of the least timeline of the closure tells the least timeline of the document
 pub tells_timeline : (doc text : List ℕ) (net : PlainNet) (table : Table) → HasNet doc net → IsClosureOf net table → IsLeastText table text → TellsTimeline doc text
 tells_timeline doc text net table h c l =
     let ranks = l.0 in
     let size = l.1 ∙ c.size in
     let least = least_fits net table (timeline_of ranks) c l.2 in
-    let again : ranks_of (pairs_of ranks) ≡ ranks = ranks_again ranks (even_length (length net.bounds) ranks size) in
-    let supported : IsSupported net (timeline (pairs_of ranks)) = subst (RanksFit net) (sym again) (size, least.holds) in
-    (net, ranks, h, (size, least), (l.3, supported, (timeline_of ranks, least.holds), l.4))
+    (net, ranks, h, (size, least), (l.3, timeline_supported net ranks (size, least.holds), (timeline_of ranks, least.holds), l.4))
 
 -- two lists of the same items are one
 same_items : (a b : List ℕ) → length a ≡ length b → ((p : ℕ) → p < length a → get_or a p 0 ≡ get_or b p 0) → a ≡ b

@@ -91,6 +91,7 @@ accepted files name other text (doc, holds, short, has) held_text =
     } in
     record {
       short = few;
+      done = (line, total (doc ∷ text ∷ []) + 0, reply);
       reply = λ status text taken e h. (one_reply (verify_rows name other) (one_next (Some (verify name other))) files status Done text line taken (total (doc ∷ _ ∷ []) + 0) e refl h reply).one_status;
     }
 

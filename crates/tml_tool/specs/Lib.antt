@@ -6,6 +6,7 @@ pub mod DateTexts
 pub mod Drilling
 pub mod EvidenceTexts
 pub mod OneReply
+pub mod EveryReply
 pub mod Outcome
 pub mod Queries
 pub mod Questions

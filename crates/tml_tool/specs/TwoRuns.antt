@@ -19,9 +19,10 @@ prints_evidence (by_word Solve) Done = true
 prints_evidence (by_relation x rel y) Done = true
 prints_evidence query status = false
 
--- `verify` reads a text whole as evidence, and its reply is Done, but for one that is broken off
+-- `verify` reads a text whole as evidence, Done is a reply, and every other one is broken off
 pub record IsVerified (files : Files) (name other text : List ℕ) : Type 0 where
   pub short : length text ≤ limit_of Evidence
+  pub done : (line : List ℕ) × (taken : ℕ) × Replies (Some files) (verify_rows name other) Done line taken
   pub reply : (status : Status) (line : List ℕ) (taken : ℕ) → is_broken_off status ≡ false → Replies (Some files) (verify_rows name other) status line taken → status ≡ Done
 
 -- where a run printed evidence of the document in one file, and another file holds what it printed
