@@ -24,7 +24,7 @@ use Rattle.order_closure.specs.Timelines.{AreLeast}
 use Rattle.order_closure.specs.declared.cell.Cell.{Cell}
 use Rattle.order_closure.specs.declared.cell.Cell.TheVariants.{Free, Weak, Strict}
 use Rattle.order_closure.proofs.Adding.{new_closed}
-use Rattle.order_closure.proofs.Central.{always_stands, order_says}
+use Rattle.order_closure.proofs.Central.{always_stands, denies_or_not, order_says}
 use Rattle.order_closure.proofs.Joining.{strength-stronger}
 use Rattle.order_closure.proofs.LeastRanks.{counter_ranks, least_ranks, same_ranks}
 use Rattle.order_closure.proofs.Raising.{raised_closed, raised_kept}
@@ -71,12 +71,6 @@ stronger_parts x y m h =
       | inl lt ↦ inr (omega arith)
       | inr here ↦ inl here
     ]
-
-denies_cases : (x : Cell) (o : Bool) → Denies x o ⊎ ¬ Denies x o
-denies_cases Strict o = inl tt
-denies_cases Weak true = inl tt
-denies_cases Weak false = inr (λ h. h)
-denies_cases Free o = inr (λ h. h)
 
 denies_enough : (x : Cell) (o : Bool) → Denies x o → (1 ≤ strength x) × ((o || is_strict x) ≡ true)
 denies_enough Strict true h = (omega arith, refl)
@@ -180,8 +174,8 @@ module _ (net : PlainNet) (test : ℕ → Bool) (is : IsNet net) where
       let n = points net in
       let range = step_in_range net step a is goes.0 in
       let back = cell a.to a.from in
-      elim (denies_cases back a.strict) [
-        | inl deny ↦
+      elim (denies_or_not back a.strict) [
+        | yes deny ↦
             let enough = denies_enough back a.strict deny in
             inr (
               a.from,
@@ -189,7 +183,7 @@ module _ (net : PlainNet) (test : ℕ → Bool) (is : IsNet net) where
               walk_through step a a.from a.from false (is_strict back) true goes ([], (refl, λ e. cc))
                   (has.walks a.to a.from (is_strict back) range.1 range.0 (own back enough.0)) (λ e. enough.1),
             )
-        | inr fits ↦
+        | no fits ↦
             let new = λ (i j : ℕ). stronger (cell i j) (way cell a i j) in
             let still = raised_closed n cell a has.closed range.0 range.1 fits new (λ i j li lj. refl) in
             inl (

@@ -11,9 +11,9 @@ use Rattle.order_closure.specs.declared.cell.Cell.TheVariants.{Free, Weak, Stric
 use Rattle.net_core.specs.Atoms.{IsInOrder, Satisfies}
 use Rattle.net_core.specs.Relations.{Timeline}
 use Rattle.order_closure.specs.Cells.{strength, order, stronger, Says}
-use Rattle.order_closure.specs.Tables.{Table, cell_at, IsClosed, Keeps, SatisfiesAll, AreInRange, Entails, Stands, AreClosed, AreKept, way}
+use Rattle.order_closure.specs.Tables.{Table, cell_at, Denies, IsClosed, Keeps, SatisfiesAll, AreInRange, Entails, Stands, AreClosed, AreKept, way}
 use Rattle.order_closure.specs.Counting.{before_count}
-use Rattle.order_closure.specs.Timelines.{opposite, WeakerCellsCanFail}
+use Rattle.order_closure.specs.Timelines.{ClosedTablesHaveTimelines, opposite, WeakerCellsCanFail}
 use Rattle.order_closure.proofs.Raising.{raised_closed, raised_kept}
 use Rattle.order_closure.proofs.Ranking.{counts_kept, opposite_fits, not_both, strict_from, strict_says}
 
@@ -38,6 +38,41 @@ module _ (n : ℕ) (cell : ℕ → ℕ → Cell) (closed : AreClosed n cell) whe
 -- the same, of a table
 pub weaker_cells_can_fail : WeakerCellsCanFail
 weaker_cells_can_fail table atom closed f t weak = counter_time table.points (cell_at table) closed atom f t weak
+
+-- a denied atom is false where the cell is kept
+denied_false : (x : Cell) (strict : Bool) (a b : ℕ) → Denies x strict → Says x b a → IsInOrder strict a b → ⊥
+denied_false Free strict a b d said holds = d
+denied_false Weak true a b d said holds = omega arith
+denied_false Weak false a b d said holds = d
+denied_false Strict true a b d said holds = omega arith
+denied_false Strict false a b d said holds = omega arith
+
+-- a cell denies an atom or not
+pub denies_or_not : (x : Cell) (strict : Bool) → Dec (Denies x strict)
+denies_or_not Strict strict = yes tt
+denies_or_not Weak true = yes tt
+denies_or_not Weak false = no (λ d. d)
+denies_or_not Free strict = no (λ d. d)
+
+-- some timeline keeps a closed table, and some makes an atom true that is not denied
+pub closed_tables_have_timelines : ClosedTablesHaveTimelines
+closed_tables_have_timelines = λ table closed.
+    let n = table.points in
+    let cell = cell_at table in
+    record {
+      some = (before_count n cell, counts_kept n cell closed);
+      denies = λ atom lf lt. (
+        λ denied t kept holds. denied_false (cell atom.to atom.from) atom.strict (t atom.from) (t atom.to) denied (kept atom.to atom.from lt lf) holds,
+        λ never. elim (denies_or_not (cell atom.to atom.from) atom.strict) [
+          | yes denied ↦ denied
+          | no fits ↦
+              let raised = λ (i j : ℕ). stronger (cell i j) (way cell atom i j) in
+              let still = raised_closed n cell atom closed lf lt fits raised (λ i j li lj. refl) in
+              let both = (raised_kept n cell atom closed lf lt fits raised (λ i j li lj. refl) (before_count n raised)).0 (counts_kept n raised still) in
+              absurd (never (before_count n raised) both.0 both.1)
+        ],
+      );
+    }
 
 -- a cell that says something and is not Strict
 weak_is : (x : Cell) → 1 ≤ strength x → ¬ (x ≡ Strict) → x ≡ Weak

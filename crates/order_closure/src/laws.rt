@@ -1,8 +1,14 @@
-//! A law of tables: a public function that does nothing, with the law as its contract.
-ghost use Rattle.order_closure.specs.Timelines.{WeakerCellsCanFail};
+//! Laws of tables: public functions that do nothing, each with the law as its contract.
+ghost use Rattle.order_closure.specs.Timelines.{ClosedTablesHaveTimelines, WeakerCellsCanFail};
 
 /// The central law: where a cell of a closed table is weaker than an atom, some timeline keeps every cell and makes the
 /// atom false. So a table says exactly what its atoms entail.
 pub fn weaker_cells_can_fail()
     ensures { WeakerCellsCanFail }
+{}
+
+/// Some timeline keeps a closed table. A cell denies an atom exactly where no timeline that keeps the table has it: so
+/// `Closed::add` answers `WouldClash` exactly where no timeline satisfies the atoms so far and this one.
+pub fn closed_tables_have_timelines()
+    ensures { ClosedTablesHaveTimelines }
 {}

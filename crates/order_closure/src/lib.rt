@@ -10,5 +10,5 @@ mod table;
 mod tests;
 
 pub use cell::Cell;
-pub use laws::weaker_cells_can_fail;
+pub use laws::{closed_tables_have_timelines, weaker_cells_can_fail};
 pub use table::{Closed, WouldClash};
