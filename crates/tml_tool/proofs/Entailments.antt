@@ -17,7 +17,7 @@ use Rattle.evidence_check.specs.Claims.{Follows, SomeFits}
 use Rattle.tml_refs.specs.Documents.{PlainDocument}
 use Rattle.net_build.specs.Built.{IsNetOf}
 use Rattle.tml_tool.specs.Acceptance.{Says}
-use Rattle.tml_tool.specs.Relating.{AreRelations, FollowsBetween, TellsRelations, row_line}
+use Rattle.tml_tool.specs.Relating.{AreRelations, ClosuresEntailWhatFollows, FollowsBetween, TellsRelations, row_line}
 use Rattle.tml_tool.proofs.Counterexamples.{given_holds, held_given}
 
 module _ (net : PlainNet) (table : Table) (closure : IsClosureOf net table) where
@@ -47,14 +47,25 @@ module _ (net : PlainNet) (table : Table) (closure : IsClosureOf net table) wher
   )
 
   -- the rows of the closure are the relations that follow
-  pub rows_follow : (rows : List Row) → AreRows table rows → AreRelations net rows
-  rows_follow rows are = record {
-    right = All-weaker (IsRow table) (FollowsBetween net) (λ row. (row_follows row).0) rows are.right;
-    whole = λ row follows. are.whole row ((row_follows row).1 follows);
-    sorted = are.sorted;
-  }
+  pub rows_follow : (rows : List Row) → AreRows table rows ↔ AreRelations net rows
+  rows_follow rows = (
+    λ are. record {
+      right = All-weaker (IsRow table) (FollowsBetween net) (λ row. (row_follows row).0) rows are.right;
+      whole = λ row follows. are.whole row ((row_follows row).1 follows);
+      sorted = are.sorted;
+    },
+    λ are. record {
+      right = All-weaker (FollowsBetween net) (IsRow table) (λ row. (row_follows row).1) rows are.right;
+      whole = λ row is. are.whole row ((row_follows row).0 is);
+      sorted = are.sorted;
+    },
+  )
+
+-- so it entails what follows
+pub closures_entail_what_follows : ClosuresEntailWhatFollows
+closures_entail_what_follows = λ net table closure. record { relations = entails_follows net table closure; rows = rows_follow net table closure }
 
 -- a document with a line for each row of its closure tells the relations that follow
 pub tells_relations : (doc text : List ℕ) (contents : PlainDocument) (net : PlainNet) (table : Table) (rows : List Row) → Says doc contents → IsNetOf contents net → IsClosureOf net table → SomeFits net → AreRows table rows
     → text ≡ flat_map (row_line contents) rows → TellsRelations doc text
-tells_relations doc text contents net table rows says built closure fits are is = (contents, net, rows, says, built, fits, rows_follow net table closure rows are, is)
+tells_relations doc text contents net table rows says built closure fits are is = (contents, net, rows, says, built, fits, (rows_follow net table closure rows).0 are, is)

@@ -11,18 +11,21 @@ use Rattle.tml_tool.specs.declared.role.Role.TheVariants.{Doc, Evidence}
 use Rattle.tml_tool.specs.declared.status.Status.{Status}
 use Rattle.tml_tool.specs.declared.status.Status.TheVariants.{Done, DocFault, Clash, Usage, UnknownName, EvidenceFault, TooLong}
 use Rattle.tml_tool.specs.Commands.{rows_of}
-use Rattle.tml_tool.specs.EveryReply.{HasNext, HasReplies, HasReply}
+use Rattle.tml_tool.specs.EveryReply.{HasExactlyOneReply, HasNext}
 use Rattle.tml_tool.specs.OneReply.{is_broken_off}
 use Rattle.tml_tool.specs.Reading.{AllThere, ReadsWhole}
-use Rattle.tml_tool.specs.Replies.{too_long}
+use Rattle.tml_tool.specs.Replies.{Replies, too_long}
 use Rattle.tml_tool.specs.Roles.{file_of}
 use Rattle.tml_tool.specs.Rows.{File, Next, Rows, answers, once_read, reads}
 use Rattle.tml_tool.specs.Texts.{fault_line}
 use Rattle.tml_tool.specs.Words.{CommandForm, all_questions, ask_text, by_relation, by_word, drill, drill_number, drill_text, form_of, of_document, question_text, usage, verify, verify_text}
 use Rattle.tml_tool.proofs.DrillNumbers.{drill_in_range}
 use Rattle.tml_tool.proofs.EveryAnswer.{every_query}
-use Rattle.tml_tool.proofs.EveryVerdict.{every_drill, every_verdict}
+use Rattle.tml_tool.proofs.EveryDrill.{every_drill}
+use Rattle.tml_tool.proofs.EveryVerdict.{every_verdict}
 use Rattle.tml_tool.proofs.Judged.{every_document}
+use Rattle.tml_tool.proofs.OneNext.{one_next}
+use Rattle.tml_tool.proofs.OneReply.{one_reply}
 
 -- ---- something comes next
 
@@ -83,6 +86,10 @@ few_files (Some (verify name evidence)) (doc ∷ bytes ∷ []) file row = absurd
 few_files (Some (verify name evidence)) (doc ∷ bytes ∷ more ∷ rest) file row = absurd row
 few_files (Some (drill n)) [] file row = absurd row
 few_files (Some (drill n)) (bytes ∷ rest) file row = absurd row
+
+-- over these files there is a reply that is not broken off
+abbrev HasReply : Files → Rows → Type 0
+HasReply files rows = (status : Status) × (text : List ℕ) × (taken : ℕ) × (is_broken_off status ≡ false) × Replies (Some files) rows status text taken
 
 -- rows after which something comes next, which read no more than so many files, and whose answers are not broken off
 record AreWhole (most : ℕ) (rows : Rows) : Type 0 where
@@ -177,5 +184,16 @@ in_range (command ∷ name ∷ x ∷ rel ∷ y ∷ more ∷ words) = tt
 pub all_next : (words : List (List ℕ)) → HasNext (rows_of (form_of words))
 all_next words = every_next (form_of words) (in_range words)
 
-pub all_replies : (words : List (List ℕ)) → HasReplies (rows_of (form_of words))
-all_replies words = every_reply 2 (rows_of (form_of words)) (record { next = all_next words; few = few_files (form_of words); whole = answered_whole (form_of words) })
+pub all_replies : (words : List (List ℕ)) → HasExactlyOneReply (rows_of (form_of words))
+all_replies words = λ files there.
+    let form = form_of words in
+    let rows = rows_of form in
+    let found = every_reply 2 rows (record { next = all_next words; few = few_files form; whole = answered_whole form }) files there in
+    record {
+      status = found.0;
+      text = found.1;
+      taken = found.2;
+      whole = found.3;
+      replies = found.4;
+      only = λ other line count whole replies. one_reply rows (one_next form) files found.0 other found.1 line found.2 count found.3 whole found.4 replies;
+    }

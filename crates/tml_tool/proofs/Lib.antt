@@ -31,4 +31,6 @@ pub mod Judged
 pub mod NetAnswers
 pub mod EveryAnswer
 pub mod EveryVerdict
+pub mod EveryDrill
 pub mod EveryReply
+pub mod OneCounterexample

@@ -48,6 +48,7 @@ text_of e = concat (text_lines e)
 module _ (net : PlainNet) (is : IsNet net) where
   -- ---- a timeline, or a clash
 
+  -- a net has no more points than two for each interval
   few_points : points net ≤ 1024
   few_points = let few = is.few_intervals in omega arith
 
@@ -86,6 +87,7 @@ module _ (net : PlainNet) (is : IsNet net) where
   -- ---- orders that always hold
 
   module _ (fits : SomeFits net) where
+    -- whether an order always holds
     always_or_not : (atom : Atom) → IsInRange (points net) atom → Dec (AlwaysHolds net atom)
     always_or_not atom range = elim (orders_are_answered net fits.0 atom is fits.1 range) [
       | inl walk ↦ yes (λ t other. walk_kept net EveryLink t walk.0 atom.from atom.to atom.strict other walk.1)

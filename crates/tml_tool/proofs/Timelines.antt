@@ -47,10 +47,14 @@ same_items (x ∷ a) (y ∷ b) e same =
 pub one_number : (m n : ℕ) → m ≤ n → n ≤ m → m ≡ n
 one_number m n le ge = omega arith
 
+-- of ranks of n points there is one list that is the least timeline of a property
+pub one_least_of : (n : ℕ) (P : Timeline → Type 0) (a b : List ℕ) → length a ≡ n → length b ≡ n → IsLeast n P (timeline_of a) → IsLeast n P (timeline_of b) → a ≡ b
+one_least_of n P a b la lb h k = same_items a b (la ∙ sym lb) (λ p less.
+    one_number (get_or a p 0) (get_or b p 0) (h.least (timeline_of b) k.holds p (omega (arith, less, la))) (k.least (timeline_of a) h.holds p (omega (arith, less, la))))
+
 -- a net has one least timeline
 pub one_least : (net : PlainNet) (a b : List ℕ) → AreLeastRanks net a → AreLeastRanks net b → a ≡ b
-one_least net a b (la, h) (lb, k) = same_items a b (la ∙ sym lb) (λ p less.
-    one_number (get_or a p 0) (get_or b p 0) (h.least (timeline_of b) k.holds p (omega (arith, less, la))) (k.least (timeline_of a) h.holds p (omega (arith, less, la))))
+one_least net a b (la, h) (lb, k) = one_least_of (points net) (Fits net) a b la lb h k
 
 -- a document has one text of its least timeline
 pub one_timeline : (doc text other : List ℕ) → TellsTimeline doc text → TellsTimeline doc other → text ≡ other

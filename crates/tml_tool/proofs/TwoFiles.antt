@@ -1,25 +1,22 @@
 -- Rows that read two files: which of them are started.
-use Rattle.std.proofs.Common.{◌≡◌, ◌⊎◌, ℕ, ◌≤◌, IsSome, List, [], ◌∷◌, length, refl, sym, Bool, subst, ◌∙◌, Option, Some, None, inl, inr}
+use Rattle.std.proofs.Common.{◌≡◌, ℕ, ◌≤◌, IsSome, List, [], ◌∷◌, length, refl, sym, subst, Option, Some, None, inl, inr}
 use Rattle.faults.specs.declared.kind.FaultKind.{FaultKind}
 use Rattle.tml_io.specs.Files.{Files, IsThere, held}
 use Rattle.tml_tool.specs.declared.role.Role.TheVariants.{Doc}
 use Rattle.tml_tool.specs.declared.status.Status.{Status}
-use Rattle.tml_tool.specs.declared.status.Status.TheVariants.{DocFault, ReadFault, NoMemory, TooLong}
+use Rattle.tml_tool.specs.declared.status.Status.TheVariants.{DocFault}
 use Rattle.tml_tool.specs.Acceptance.{Accepted, FirstFault}
 use Rattle.tml_tool.specs.Questions.{HasFaultLine, doc_limit}
 use Rattle.tml_tool.specs.Reading.{ReadsWhole, Reached, Reading}
-use Rattle.tml_tool.specs.Replies.{RepliesAfter, IsTooLong, CannotRead}
 use Rattle.tml_tool.specs.Roles.{file_of}
 use Rattle.tml_tool.specs.Rows.{File, answers, reads}
-use Rattle.tml_tool.specs.TwoFiles.{ScoreReadsFirst, VerifyJudgesFirst, score, second_file, verify_rows}
+use Rattle.tml_tool.specs.TwoFiles.{VerifyJudgesFirst, verify_rows}
 use Rattle.tml_tool.proofs.OneReply.{EndsWhole, ends_whole, not_both, one_held}
 use Rattle.tml_tool.proofs.Phases.{accepted_or_fault}
 
 -- a file that was read is the known one
 the_first : (files : Files) (name doc bytes : List ℕ) (file : File) → held files name ≡ Some doc → file ≡ file_of Doc name → ReadsWhole (Some files) file bytes → bytes ≡ doc
 the_first files name doc bytes file known e gives = one_held (held files name) bytes doc (subst (λ (f : File). held files f.name ≡ Some bytes) e gives.0) known
-
--- ---- verify
 
 module _ (files : Files) (name other doc : List ℕ) (kind : FaultKind) (place : ℕ) (known : held files name ≡ Some doc) (fits : length doc ≤ doc_limit) (fault : FirstFault doc kind place) where
   not_in_order : (bytes : List ℕ) → bytes ≡ doc → Accepted bytes → ⊥
@@ -54,40 +51,3 @@ verify_judges_first = λ files name other doc kind place known fits fault.
       reached = reached;
       no_fault = λ file r. subst (λ (f : File). IsThere (Some files) f.name) (sym (reached file r)) (is_there (held files name) doc known);
     }
-
--- ---- score
-
--- a file that is not too long ends a command by a fault of reading, or out of memory
-abbrev IsReading : Status → Type 0
-IsReading status = (status ≡ ReadFault) ⊎ (status ≡ NoMemory)
-
-stops_reading : (known : Option Files) (file : File) (status : Status) (text : List ℕ) (part : ℕ) → (IsTooLong known file → ⊥) → CannotRead known file status text part → IsReading status
-stops_reading known file ReadFault text part short h = inl refl
-stops_reading known file NoMemory text part short h = inr refl
-stops_reading known file TooLong text part short h = absurd (short h.1)
-stops_reading known file status text part short h = absurd h
-
-module _ (clashes : List ℕ → Bool) (files : Files) (name other doc : List ℕ) (known : held files name ≡ Some doc) (fits : length doc ≤ doc_limit) (accepted : Accepted doc) (missing : held files other ≡ None) where
-  never_given : (file : File) (bytes : List ℕ) → file ≡ second_file other → ReadsWhole (Some files) file bytes → ⊥
-  never_given file bytes e gives = cc (sym missing ∙ subst (λ (f : File). held files f.name ≡ Some bytes) e gives.0)
-
-  never_long : (file : File) → file ≡ second_file other → IsTooLong (Some files) file → ⊥
-  never_long file e long = cc (sym missing ∙ subst (λ (f : File). held files f.name ≡ Some long.0) e long.1)
-
-  score_answers : (bytes : List ℕ) (status : Status) (text : List ℕ) → bytes ≡ doc → score clashes name other (bytes ∷ []) (answers status text) → ⊥
-  score_answers bytes DocFault text e h = accepted_or_fault doc h.0 h.1 accepted (subst (λ (b : List ℕ). FirstFault b h.0 h.1) e h.2)
-  score_answers bytes status text e h = absurd h
-
-  score_reply : (contents : List (List ℕ)) (status : Status) (text : List ℕ) (part : ℕ) → Reading (Some files) (score clashes name other) contents → RepliesAfter (Some files) (score clashes name other) contents status text part → IsReading status
-  score_reply contents status text part r (inr (inr h)) = inr h.0
-  score_reply [] status text part r (inl h) = absurd h.0
-  score_reply [] status text part r (inr (inl h)) = stops_reading (Some files) h.0 status text part (λ long. not_both files (file_of Doc name) h.0 doc (sym h.1) (known, fits) long) h.2
-  score_reply (c ∷ []) status text part r (inl h) = absurd (score_answers c status text (the_first files name doc c r.0 known r.1 r.2) h.0)
-  score_reply (c ∷ []) status text part r (inr (inl h)) = stops_reading (Some files) h.0 status text part (never_long h.0 h.1.1) h.2
-  score_reply (c ∷ d ∷ rest) status text part r h = absurd (never_given r.3.0 d r.3.1.1 r.3.2)
-
-pub score_reads_first : ScoreReadsFirst
-score_reads_first = λ clashes files name other doc known fits accepted clash missing. record {
-  reply = λ status text taken r. score_reply clashes files name other doc known fits accepted missing r.contents status text r.part r.reading r.ends;
-  reached = (doc ∷ [], (file_of Doc name, refl, (known, fits), tt), (accepted, refl));
-}

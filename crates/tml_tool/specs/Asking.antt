@@ -76,6 +76,10 @@ OfNet net a r b Done text = SomeFits net × (TellsProof net a r b text ⊎ Tells
 OfNet net a r b Clash text = TellsClash net text
 OfNet net a r b other text = ⊥
 
+-- the law: where a counterexample is an answer, it is the only one of its status
+abbrev pub OneCounterexample : Type 0
+OneCounterexample = (net : PlainNet) (a : ℕ) (r : Rel) (b : ℕ) (text line : List ℕ) → OfNet net a r b Done text → TellsCounterexample net a r b line → text ≡ line
+
 -- the answer where all words name something
 abbrev pub OfAsked : List ℕ → List ℕ → List ℕ → List ℕ → Status → List ℕ → Type 0
 OfAsked doc x rel y status text = (net : PlainNet) × (a : ℕ) × (r : Rel) × (b : ℕ) × Asks doc x rel y net a r b × OfNet net a r b status text

@@ -1,9 +1,9 @@
--- Laws of rows: where something comes next there is a reply.
+-- Laws of rows: where something comes next there is a reply, and only one.
 use Rattle.std.specs.Prelude.{◌≡◌, false, ℕ, List, None, Some}
 use Rattle.tml_io.specs.Files.{Files}
 use Rattle.tml_tool.specs.declared.status.Status.{Status}
 use Rattle.tml_tool.specs.Rows.{Next, Rows}
-use Rattle.tml_tool.specs.OneReply.{is_broken_off}
+use Rattle.tml_tool.specs.OneReply.{OneReply, is_broken_off}
 use Rattle.tml_tool.specs.Reading.{AllThere, Reading}
 use Rattle.tml_tool.specs.Replies.{Replies}
 
@@ -11,10 +11,15 @@ use Rattle.tml_tool.specs.Replies.{Replies}
 abbrev pub HasNext : Rows → Type 0
 HasNext rows = (contents : List (List ℕ)) → Reading None rows contents → (next : Next) × rows contents next
 
--- over these files there is a reply that is not broken off
-abbrev pub HasReply : Files → Rows → Type 0
-HasReply files rows = (status : Status) × (text : List ℕ) × (taken : ℕ) × (is_broken_off status ≡ false) × Replies (Some files) rows status text taken
+-- Over these files there is exactly one reply that is not broken off: each other one has its status and its number of bytes, and its text where the contents determine it.
+pub record ExactlyOneReply (files : Files) (rows : Rows) : Type 0 where
+  pub status : Status
+  pub text : List ℕ
+  pub taken : ℕ
+  pub whole : is_broken_off status ≡ false
+  pub replies : Replies (Some files) rows status text taken
+  pub only : (other : Status) (line : List ℕ) (count : ℕ) → is_broken_off other ≡ false → Replies (Some files) rows other line count → OneReply rows status other text line taken count
 
 -- so it is wherever all files that are reached are there
-abbrev pub HasReplies : Rows → Type 0
-HasReplies rows = (files : Files) → AllThere (Some files) rows → HasReply files rows
+abbrev pub HasExactlyOneReply : Rows → Type 0
+HasExactlyOneReply rows = (files : Files) → AllThere (Some files) rows → ExactlyOneReply files rows

@@ -1,9 +1,12 @@
 -- The relations that follow from a document.
-use Rattle.std.specs.Prelude.{◌≡◌, ℕ, ◌<◌, List, ◌++◌, codes}
+use Rattle.std.specs.Prelude.{◌≡◌, ◌↔◌, ℕ, ◌<◌, List, ◌++◌, codes}
 use Rattle.std.specs.List.{flat_map}
 use Rattle.net_core.specs.Nets.{PlainNet, intervals}
 use Rattle.net_build.specs.Built.{IsNetOf}
-use Rattle.derive_rel.specs.Entailed.{AreAll}
+use Rattle.net_core.specs.declared.rels.Rel.{Rel}
+use Rattle.order_closure.specs.Tables.{Table}
+use Rattle.clash.specs.Closures.{IsClosureOf}
+use Rattle.derive_rel.specs.Entailed.{AreAll, AreRows, Entails}
 use Rattle.derive_rel.specs.declared.all_rows.Row.{Row}
 use Rattle.evidence_check.specs.Claims.{Follows, SomeFits}
 use Rattle.tml_refs.specs.Documents.{PlainDocument}
@@ -27,3 +30,12 @@ abbrev pub TellsRelations : List ℕ → List ℕ → Type 0
 TellsRelations doc text =
     (contents : PlainDocument) × (net : PlainNet) × (rows : List Row) × Says doc contents × IsNetOf contents net × SomeFits net × AreRelations net rows
     × (text ≡ flat_map (row_line contents) rows)
+
+-- a table entails a relation exactly where it follows, and its rows are the relations that follow
+pub record EntailsWhatFollows (net : PlainNet) (table : Table) : Type 0 where
+  pub relations : (a : ℕ) (r : Rel) (b : ℕ) → a < intervals net → b < intervals net → Entails table a r b ↔ Follows net a r b
+  pub rows : (rows : List Row) → AreRows table rows ↔ AreRelations net rows
+
+-- the law: so does the closure of a net
+abbrev pub ClosuresEntailWhatFollows : Type 0
+ClosuresEntailWhatFollows = (net : PlainNet) (table : Table) → IsClosureOf net table → EntailsWhatFollows net table

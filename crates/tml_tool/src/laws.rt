@@ -3,10 +3,12 @@ ghost use Rattle.std.specs.Prelude.{List, true, ◌≡◌, ℕ};
 ghost use Rattle.std.specs.declared.option.Option.{Option};
 ghost use Rattle.tml_tool.specs.Acceptance.{AcceptedOrFault, OneAcceptances};
 ghost use Rattle.tml_tool.specs.Alike.{CanonicalIsAlike};
+ghost use Rattle.tml_tool.specs.Asking.{OneCounterexample};
 ghost use Rattle.tml_tool.specs.Commands.{rows_of, is_determined};
-ghost use Rattle.tml_tool.specs.EveryReply.{HasNext, HasReplies};
+ghost use Rattle.tml_tool.specs.EveryReply.{HasExactlyOneReply, HasNext};
 ghost use Rattle.tml_tool.specs.OneReply.{HasOneNext, HasOneText, HasOneReply};
-ghost use Rattle.tml_tool.specs.TwoFiles.{VerifyJudgesFirst, ScoreReadsFirst};
+ghost use Rattle.tml_tool.specs.Relating.{ClosuresEntailWhatFollows};
+ghost use Rattle.tml_tool.specs.TwoFiles.{VerifyJudgesFirst};
 ghost use Rattle.tml_tool.specs.TwoRuns.{EvidenceIsVerified};
 ghost use Rattle.tml_tool.specs.Words.{CommandForm, form_of};
 
@@ -33,16 +35,22 @@ pub fn one_text()
         → HasOneText (rows_of form) status }
 {}
 
+/// Where a counterexample is an answer to what is asked of a net, it is the only one: so of Done of `ask` only which walks
+/// prove a relation is free.
+pub fn one_counterexample()
+    ensures { OneCounterexample }
+{}
+
 /// Over known files a command has one reply that is neither a fault of a device nor out of memory.
 pub fn one_reply()
     ensures { (form : Option CommandForm) → HasOneReply (rows_of form) }
 {}
 
-/// Whatever the words are: after what can be read, something comes next, and so there is a reply over all files that
-/// hold what is reached. With `one_status` and `one_reply` there is exactly one.
+/// Whatever the words are: after what can be read, something comes next; and so over all files that hold what is reached
+/// there is exactly one reply that is neither a fault of a device nor out of memory.
 pub fn every_question_is_answered()
     ensures next { (words : List (List ℕ)) → HasNext (rows_of (form_of words)) }
-    ensures reply { (words : List (List ℕ)) → HasReplies (rows_of (form_of words)) }
+    ensures reply { (words : List (List ℕ)) → HasExactlyOneReply (rows_of (form_of words)) }
 {}
 
 /// `verify` judges the document first: where it is at fault, the evidence is not started.
@@ -50,16 +58,16 @@ pub fn verify_judges_first()
     ensures { VerifyJudgesFirst }
 {}
 
-/// An example of rows that read two files, where the first one has no fault: a missing second one is the reply, also
-/// where the links of the first one clash.
-pub fn score_reads_first()
-    ensures { ScoreReadsFirst }
-{}
-
 /// What `solve`, `ask` and `relations` print as evidence of a document, `verify` accepts over the same document: Done is
 /// a reply, and but for one that is broken off the only one.
 pub fn evidence_is_verified()
     ensures { EvidenceIsVerified }
+{}
+
+/// The closure of a net entails a relation exactly where it holds in every timeline that fits, and its rows are all of
+/// these: so `entailed` and `rows` of `derive_rel` answer what follows.
+pub fn closures_entail_what_follows()
+    ensures { ClosuresEntailWhatFollows }
 {}
 
 /// A canonical text is accepted, and is its own canonical text. What is asked of it, but its units and itself, has the answer

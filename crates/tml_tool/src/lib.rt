@@ -30,10 +30,10 @@ mod tests;
 mod top;
 mod usage;
 
-pub use drill::drill_text;
 pub use laws::{
-    canonical_is_alike, every_document_is_judged, every_question_is_answered, evidence_is_verified,
-    one_acceptance, one_reply, one_status, one_text, score_reads_first, verify_judges_first,
+    canonical_is_alike, closures_entail_what_follows, every_document_is_judged,
+    every_question_is_answered, evidence_is_verified, one_acceptance, one_counterexample,
+    one_reply, one_status, one_text, verify_judges_first,
 };
 pub use status::Status;
 pub use top::run;
