@@ -1,6 +1,9 @@
 //! `tml`: answers questions about TimeML documents.
 #![tactic(auto)]
 
+#[cfg(test)]
+mod tests;
+
 use std::alloc::AllocError;
 use std::env;
 use std::io::ErrorKind;

@@ -25,8 +25,6 @@ mod spans;
 mod status;
 mod summary;
 mod table;
-#[cfg(test)]
-mod tests;
 mod top;
 mod usage;
 

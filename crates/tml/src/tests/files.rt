@@ -1,10 +1,9 @@
 //! What one command prints is evidence for another, over real files.
-use super::checks::RATES;
-use super::words_of;
-use crate::{Status, run};
+use super::{RATES, words_of};
 use std::fs;
 use std::test::Fail;
 use tml_io::{FileInputs, MemorySink};
+use tml_tool::{Status, run};
 
 #[test]
 fn what_is_printed_to_a_file_is_verified(rt: HostRuntime) -> Result<(), Fail> {

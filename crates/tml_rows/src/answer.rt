@@ -1,0 +1,48 @@
+//! What `tml` answers, and whether it is what is wanted.
+ghost use Rattle.std.specs.Prelude.{◌≡◌, ◌↔◌, IsTrue, IfOk};
+ghost use Rattle.tml_io.specs.InMemory.{entries};
+ghost use Rattle.tml_rows.specs.Answers.{Answers};
+ghost use Rattle.tml_tool.specs.Status.{number_of};
+
+use crate::devices::Devices;
+use std::alloc::{AllocError, Global};
+use tml_io::{Memory, MemoryInputs, MemorySink};
+use tml_tool::{Status, run};
+
+/// A status, and what was written.
+#[derive(Drop)]
+pub struct Answer {
+    pub status: Status,
+    pub text: Vec<u8>,
+}
+
+impl Answer {
+    /// Whether this is what is wanted.
+    pub fn is(&self, text: &[u8], status: u8) -> bool
+        ensures { IsTrue result ↔ ((number_of self.now.status ≡ status) × (self.now.text.items ≡ text.now)) }
+    {
+        self.status.number() == status && self.text.as_slice() == text
+    }
+}
+
+/// What `tml` answers to these words over these files, of which the first of a name counts.
+pub fn run_words(
+    alloc: Global,
+    words: &[String],
+    files: Vec<(String, Vec<u8>)>,
+    devices: &Devices,
+) -> Result<Answer, AllocError>
+    ensures { IfOk result (λ a. Answers (entries files.items) words.now a.status a.text.items) }
+{
+    let failing_reads = devices.failing_reads.clone()?;
+    let failing_writes = devices.failing_writes.clone()?;
+    let mut inputs = MemoryInputs::new(files, devices.reads_of, failing_reads);
+    let made = MemorySink::new(alloc, devices.room, devices.writes_of, failing_writes);
+    let mut sink = match made {
+        Ok(sink) => sink,
+        Err(Memory) => return Err(AllocError),
+    };
+    let status = run(alloc, words, &mut inputs, &mut sink);
+    let text = Vec::from_slice(alloc, sink.written())?;
+    Ok(Answer { status, text })
+}
