@@ -44,3 +44,13 @@ fn answer(
     let status = run(alloc, words.as_slice(), &mut inputs, &mut sink);
     Ok((status, sink))
 }
+
+/// What `verify` answers of a document and evidence.
+fn verdict<'b>(
+    alloc: Global,
+    doc: &'b [u8],
+    evidence: &'b [u8],
+) -> Result<(Status, MemorySink), Fail> {
+    let files = [("d", doc), ("e", evidence)];
+    answer(alloc, &["verify", "d", "e"], &files)
+}

@@ -1,5 +1,5 @@
 //! Each answer of `ask` over small documents is verified.
-use super::{RATES, answer};
+use super::{RATES, answer, verdict};
 use std::alloc::{AllocError, Global};
 use std::process::Abort;
 use std::test::Fail;
@@ -113,8 +113,7 @@ fn is_proved(
     let (status, asked) = answer(alloc, &["ask", "d", x, rel, y], &[("d", doc)])?;
     assert_eq!(rt; status, Status::Done);
     let line = claim(alloc, asked.written(), x, rel, y)?;
-    let files = [("d", doc), ("e", asked.written())];
-    let (status, verified) = answer(alloc, &["verify", "d", "e"], &files)?;
+    let (status, verified) = verdict(alloc, doc, asked.written())?;
     assert_eq!(rt; verified.written(), line.as_slice());
     assert_eq!(rt; status, Status::Done);
     Ok(line.starts_with(b"verified entails "))

@@ -1,5 +1,5 @@
-//! Of several minimal clashes one is told, and it is verified.
-use super::answer;
+//! Of several minimal clashes one is shown, and it is verified.
+use super::{answer, verdict};
 use std::test::Fail;
 use tml_tool::Status;
 
@@ -35,8 +35,7 @@ fn each_clash_is_minimal_and_verified(rt: HostRuntime) -> Result<(), Fail> {
     for (doc, lines) in CASES {
         let (status, solved) = answer(alloc, &["solve", "d"], &[("d", doc)])?;
         assert_eq!(&rt; status, Status::Clash);
-        let files = [("d", doc), ("e", solved.written())];
-        let (_, verified) = answer(alloc, &["verify", "d", "e"], &files)?;
+        let (_, verified) = verdict(alloc, doc, solved.written())?;
         assert!(&rt; lines.contains(&verified.written()));
     }
     Ok(())
