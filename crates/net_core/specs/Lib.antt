@@ -11,3 +11,5 @@ pub mod Ranks
 pub mod Steps
 pub mod Walks
 pub mod Clashes
+pub mod Entailment
+pub mod Least

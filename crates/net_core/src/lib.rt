@@ -17,7 +17,9 @@ mod walk;
 
 pub use atom::{Atom, Atoms, atoms_of, atoms_say_the_relation};
 pub use bounds::Bounds;
-pub use limits::{MAX_INTERVALS, MAX_LINKS, limits_are_exact};
+pub use limits::{
+    MAX_DOCUMENT, MAX_EVIDENCE, MAX_INTERVALS, MAX_LINKS, MAX_POINTS, limits_are_exact,
+};
 pub use list::{List, Memory};
 pub use marks::{mark_link, mark_steps};
 pub use net::{Ends, Net, NetLink, holds};
