@@ -1,0 +1,9 @@
+pub mod CanonAnswered
+pub mod CheckAnswered
+pub mod CheckLines
+pub mod DatesAnswered
+pub mod Digits
+pub mod OneDateLines
+pub mod SpansAnswered
+pub mod Times
+pub mod UnitTables

@@ -1,0 +1,22 @@
+-- The command `canon`: the canonical text of a document.
+use Rattle.std.specs.Prelude.{◌≡◌, ◌⊎◌, ℕ, List}
+use Rattle.answers.specs.Documents.{IsRefused, doc_file}
+use Rattle.tml_accept.specs.Acceptance.{IsAccepted}
+use Rattle.tml_canon.specs.Canonical.{canonical_text}
+use Rattle.tml_refs.specs.Documents.{PlainDocument}
+use Rattle.tml_run.specs.OneFile.{Answers, of_one_file}
+use Rattle.tml_run.specs.Rows.{Rows}
+use Rattle.tml_run.specs.declared.status.Status.TheVariants.{Done}
+use Rattle.tml_tree.specs.Plain.{PlainNode}
+
+-- the document is accepted, and the text is that of its tree
+abbrev pub HasCanonicalText : List ℕ → List ℕ → Type 0
+HasCanonicalText doc text = (root : PlainNode) × (contents : PlainDocument) × IsAccepted doc root contents × (text ≡ canonical_text root)
+
+-- `canon` prints the canonical text, or the first fault
+abbrev pub OfCanon : Answers
+OfCanon doc status text = IsRefused doc status text ⊎ ((status ≡ Done) × HasCanonicalText doc text)
+
+-- the rows of `canon NAME`
+abbrev pub canon_rows : List ℕ → Rows
+canon_rows name = of_one_file (doc_file name) OfCanon

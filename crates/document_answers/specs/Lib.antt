@@ -1,0 +1,4 @@
+pub mod Canon
+pub mod Check
+pub mod Dates
+pub mod Spans

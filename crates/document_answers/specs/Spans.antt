@@ -1,0 +1,54 @@
+-- The command `spans`: the units of a document.
+use Rattle.std.specs.Prelude.{◌≡◌, ℕ, List, ◌++◌, codes, decimal}
+use Rattle.std.specs.List.{flat_map}
+use Rattle.answers.specs.Documents.{doc_file}
+use Rattle.answers.specs.Lines.{HasFaultLine}
+use Rattle.tml_run.specs.OneFile.{Answers, of_one_file}
+use Rattle.tml_run.specs.Rows.{Rows}
+use Rattle.tml_run.specs.declared.status.Status.TheVariants.{Done, DocFault}
+use Rattle.tml_span.specs.Faults.{CutFault}
+use Rattle.tml_span.specs.Units.{Attribute, Kind, PlainUnit, bom, comment, declaration, doctype, empty_tag, end_tag, start_tag, text}
+use Rattle.tml_span.specs.Whole.{IsWhole}
+
+-- the start and the end of a span, each followed by a space
+abbrev pub span_prefix : ℕ → ℕ → List ℕ
+span_prefix start end = decimal start ++ codes " " ++ decimal end ++ codes " "
+
+abbrev pub attribute_line : Attribute → List ℕ
+attribute_line a = span_prefix a.start a.end ++ codes "attribute " ++ a.name ++ codes "\n"
+
+-- the kind, for tags the name, and then a line for each attribute
+abbrev pub kind_text : Kind → List ℕ
+kind_text bom = codes "bom\n"
+kind_text (declaration bytes) = codes "declaration\n"
+kind_text (doctype bytes) = codes "doctype\n"
+kind_text (comment bytes) = codes "comment\n"
+kind_text (text bytes) = codes "text\n"
+kind_text (start_tag name attrs) = codes "start " ++ name ++ codes "\n" ++ flat_map attribute_line attrs
+kind_text (end_tag name) = codes "end " ++ name ++ codes "\n"
+kind_text (empty_tag name attrs) = codes "empty " ++ name ++ codes "\n" ++ flat_map attribute_line attrs
+
+-- the line of a tag: its span, its kind and its name
+abbrev pub tag_line : ℕ → ℕ → List ℕ → List ℕ → List ℕ
+tag_line start end kind name = span_prefix start end ++ kind ++ name ++ codes "\n"
+
+abbrev pub unit_lines : PlainUnit → List ℕ
+unit_lines u = span_prefix u.start u.end ++ kind_text u.kind
+
+-- a line for each unit, and after that of a start tag one for each attribute
+abbrev pub unit_table : List PlainUnit → List ℕ
+unit_table units = flat_map unit_lines units
+
+-- the document is cut into units, and this is their table
+abbrev pub HasTable : List ℕ → List ℕ → Type 0
+HasTable doc table = (units : List PlainUnit) × IsWhole (record { source = doc; units = units }) × (table ≡ unit_table units)
+
+-- `spans` prints the table of the units, or the fault of the cut
+abbrev pub OfSpans : Answers
+OfSpans doc Done text = HasTable doc text
+OfSpans doc DocFault text = HasFaultLine (λ kind place. CutFault doc place kind) text
+OfSpans doc other text = ⊥
+
+-- the rows of `spans NAME`
+abbrev pub spans_rows : List ℕ → Rows
+spans_rows name = of_one_file (doc_file name) OfSpans

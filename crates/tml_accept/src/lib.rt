@@ -1,0 +1,8 @@
+//! Whether a document is well annotated: what it says, or its first fault.
+#![tactic(auto)]
+
+mod accepting;
+mod laws;
+
+pub use accepting::{Fault, accept, accepted_tree};
+pub use laws::{every_document_is_judged, one_acceptance};

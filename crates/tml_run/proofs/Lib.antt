@@ -1,0 +1,4 @@
+pub mod EveryReply
+pub mod HowItEnds
+pub mod OneFile
+pub mod OneReply

@@ -1,0 +1,12 @@
+pub mod Answered
+pub mod EveryReply
+pub mod OneFile
+pub mod OneReply
+pub mod Outcome
+pub mod Reading
+pub mod Replied
+pub mod Replies
+pub mod Roles
+pub mod Rows
+pub mod Status
+pub mod View
