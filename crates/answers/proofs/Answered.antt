@@ -51,13 +51,14 @@ module _ (Of : Contents) (IsFree : PlainDocument → Status → Type 0) (are : A
   pub contents_answered : IsAnswered max_document (of_contents Of) (of_its_contents IsFree)
   contents_answered = record { some = λ doc short. some doc; one_status = one_status; whole = whole; one_text = one_text }
 
+-- no contents leave a text open
+abbrev Never : List ℕ → Status → Type 0
+Never = of_its_contents (λ contents status. ⊥)
+
 -- the rows of a command that is asked of a document, of which every text is determined
 pub document_answered : (Of : Contents) → AreAnswered Of (λ contents status. ⊥) → (name : List ℕ) → RowsAreAnswered (document_rows Of name) NeverFree
 document_answered Of are name = freer (document_rows Of name) (of_its_bytes Never) NeverFree none (answered (doc_file name) (of_contents Of) Never (contents_answered Of (λ contents status. ⊥) are))
   where
-    abbrev Never : List ℕ → Status → Type 0
-    Never = of_its_contents (λ contents status. ⊥)
-
     none : (contents : List (List ℕ)) (status : Status) → of_its_bytes Never contents status → ⊥
     none (doc ∷ []) status free = free.2
     none contents status free = free

@@ -45,9 +45,9 @@ HasTable doc table = (units : List PlainUnit) × IsWhole (record { source = doc;
 
 -- `spans` prints the table of the units, or the fault of the cut
 abbrev pub OfSpans : Answers
-OfSpans doc Done text = HasTable doc text
-OfSpans doc DocFault text = HasFaultLine (λ kind place. CutFault doc place kind) text
-OfSpans doc other text = ⊥
+OfSpans doc Done out = HasTable doc out
+OfSpans doc DocFault out = HasFaultLine (λ kind place. CutFault doc place kind) out
+OfSpans doc other out = ⊥
 
 -- the rows of `spans NAME`
 abbrev pub spans_rows : List ℕ → Rows

@@ -1,11 +1,16 @@
 -- What the rows of one file have, by what its contents are answered.
-use Rattle.std.proofs.Common.{◌≡◌, ◌<◌, ◌≤◌, ℕ, List, [], ◌∷◌, false, length, refl, sym, subst, ◌∙◌, arith}
+use Rattle.std.proofs.Common.{◌≡◌, ◌⊎◌, ◌<◌, ◌≤◌, ℕ, ◌+◌, List, [], ◌∷◌, false, length, refl, sym, subst, ◌∙◌, inl, inr, arith, Some}
+use Rattle.tml_io.specs.Files.{Files, held}
 use Rattle.tml_run.specs.declared.status.Status.{Status}
+use Rattle.tml_run.specs.declared.status.Status.TheVariants.{TooLong}
 use Rattle.tml_run.specs.Answered.{AreAnswered, Freedom, NeverFree}
 use Rattle.tml_run.specs.EveryReply.{HasNext}
 use Rattle.tml_run.specs.OneFile.{Answers, IsAnswered, of_its_bytes, of_one_file}
 use Rattle.tml_run.specs.OneReply.{Agree, HasOneText, is_broken_off}
+use Rattle.tml_run.specs.Reading.{ReadsWhole, Reading, total}
+use Rattle.tml_run.specs.Replies.{Replies}
 use Rattle.tml_run.specs.Rows.{File, Next, Rows, answers, reads}
+use Rattle.tml_run.proofs.OneReply.{EndsWhole, ends_whole, not_both, one_held}
 
 module _ (file : File) (Of : Answers) (IsFree : List ℕ → Status → Type 0) (are : IsAnswered file.limit Of IsFree) where
   agree : (contents : List (List ℕ)) (next other : Next) → of_one_file file Of contents next → of_one_file file Of contents other → Agree next other
@@ -57,3 +62,39 @@ answered_once file Of are = freer (of_one_file file Of) (of_its_bytes (λ bytes 
     none : (contents : List (List ℕ)) (status : Status) → of_its_bytes (λ bytes status. ⊥) contents status → ⊥
     none (bytes ∷ []) status free = free
     none contents status free = free
+
+-- ---- replies by a file that is there
+
+-- a file that was read is the one that a name holds
+the_one : (files : Files) (file other : File) (bytes found : List ℕ) → held files file.name ≡ Some bytes → other ≡ file → ReadsWhole (Some files) other found → found ≡ bytes
+the_one files file other bytes found known same gives = one_held (held files file.name) found bytes (subst (λ (f : File). held files f.name ≡ Some found) same gives.0) known
+
+module _ (files : Files) (file : File) (Of : Answers) (bytes : List ℕ) (known : held files file.name ≡ Some bytes) (short : length bytes ≤ file.limit) where
+  answer_after : (contents : List (List ℕ)) (status : Status) (text : List ℕ) (part : ℕ) → Reading (Some files) (of_one_file file Of) contents → EndsWhole (Some files) (of_one_file file Of) contents status text part → Of bytes status text
+  answer_after [] status text part reading (inl h) = absurd h.0
+  answer_after [] status text part reading (inr h) = absurd (not_both files file h.0 bytes (sym h.1) (known, short) h.2.0)
+  answer_after (found ∷ []) status text part reading (inl h) = subst (λ (b : List ℕ). Of b status text) (the_one files file reading.0 bytes found known reading.1 reading.2) h.0
+  answer_after (found ∷ []) status text part reading (inr h) = absurd h.1
+  answer_after (found ∷ more ∷ rest) status text part reading h = absurd reading.3.1
+
+  -- a reply that is not broken off answers what the file holds
+  pub replied : (status : Status) (text : List ℕ) (taken : ℕ) → is_broken_off status ≡ false → Replies (Some files) (of_one_file file Of) status text taken → Of bytes status text
+  replied status text taken whole h = answer_after h.contents status text h.part h.reading (ends_whole (Some files) (of_one_file file Of) h.contents status text h.part whole h.ends)
+
+  -- and each answer to that is a reply
+  pub replies : (status : Status) (text : List ℕ) → Of bytes status text → Replies (Some files) (of_one_file file Of) status text (total (bytes ∷ []) + 0)
+  replies status text h = record { contents = bytes ∷ []; reading = (file, refl, (known, short), tt); part = 0; ends = inl (h, refl); bytes = refl }
+
+-- a reply that is not broken off is an answer to what the file holds, where that is short enough, or the file is too long
+pub answered_or_long : (files : Files) (file : File) (Of : Answers) (status : Status) (text : List ℕ) (taken : ℕ) → is_broken_off status ≡ false → Replies (Some files) (of_one_file file Of) status text taken
+    → ((bytes : List ℕ) × (held files file.name ≡ Some bytes) × (length bytes ≤ file.limit) × Of bytes status text) ⊎ (status ≡ TooLong)
+answered_or_long files file Of status text taken whole h = after h.contents h.reading (ends_whole (Some files) (of_one_file file Of) h.contents status text h.part whole h.ends)
+  where
+    after : (contents : List (List ℕ)) → Reading (Some files) (of_one_file file Of) contents → EndsWhole (Some files) (of_one_file file Of) contents status text h.part
+        → ((bytes : List ℕ) × (held files file.name ≡ Some bytes) × (length bytes ≤ file.limit) × Of bytes status text) ⊎ (status ≡ TooLong)
+    after [] reading (inl row) = absurd row.0
+    after (bytes ∷ []) reading (inl row) =
+        let gives = subst (λ (f : File). (held files f.name ≡ Some bytes) × (length bytes ≤ f.limit)) reading.1 reading.2 in
+        inl (bytes, gives.0, gives.1, row.0)
+    after (bytes ∷ more ∷ rest) reading (inl row) = absurd row.0
+    after contents reading (inr long) = inr long.2.1

@@ -1,21 +1,38 @@
--- A document and its canonical text: what is asked of both has one answer, but for places.
-use Rattle.std.specs.Prelude.{◌≡◌, ◌↔◌, Bool, true, false, ℕ, List}
-use Rattle.tml_tool.specs.declared.command.Question.TheVariants.{Spans, Canon}
-use Rattle.tml_tool.specs.declared.status.Status.{Status}
-use Rattle.tml_tool.specs.Queries.{OfDocument}
-use Rattle.tml_tool.specs.Rewriting.{TellsCanonical}
-use Rattle.tml_tool.specs.Words.{QueryForm, by_word}
+-- A document and its canonical text: what is asked of what they say has one answer.
+use Rattle.std.specs.Prelude.{◌≡◌, ◌↔◌, ◌≤◌, Bool, true, false, ℕ, List, ◌∷◌, length, Some}
+use Rattle.document_answers.specs.Canon.{HasCanonicalText}
+use Rattle.net_core.specs.Limits.{max_document}
+use Rattle.tml_io.specs.Files.{Files, held}
+use Rattle.tml_run.specs.OneReply.{is_broken_off}
+use Rattle.tml_run.specs.Replies.{Replies}
+use Rattle.tml_run.specs.declared.status.Status.{Status}
+use Rattle.tml_tool.specs.Commands.{rows_with}
+use Rattle.tml_tool.specs.declared.commands.Form.{Form}
+use Rattle.tml_tool.specs.declared.commands.Form.TheVariants.{Check, Dates, Solve, Ask, Relations}
 
 -- what is asked is answered by what the document says, and not by how it is written
-abbrev pub is_of_contents : QueryForm → Bool
-is_of_contents (by_word Spans) = false
-is_of_contents (by_word Canon) = false
-is_of_contents query = true
+abbrev pub is_of_contents : Form → Bool
+is_of_contents Check = true
+is_of_contents Dates = true
+is_of_contents Solve = true
+is_of_contents Ask = true
+is_of_contents Relations = true
+is_of_contents form = false
 
--- A canonical text is accepted and is its own canonical text; and what a document says decides, it decides alike.
+-- a file holds a document that is short enough to be read
+abbrev pub HoldsDocument : Files → List ℕ → List ℕ → Type 0
+HoldsDocument files name doc = (held files name ≡ Some doc) × (length doc ≤ max_document)
+
+-- so many bytes after which there is this reply
+abbrev pub HasReply : Files → Form → List ℕ → List (List ℕ) → Status → List ℕ → Type 0
+HasReply files form name arguments status line = (taken : ℕ) × Replies (Some files) (rows_with form (name ∷ arguments)) status line taken
+
+-- A canonical text is its own canonical text; and where a file holds the document and another one its canonical text, what the document says decides alike: each reply over the one that is not broken off is one over the other. A canonical text can be longer than its document, and is not read where it is too long.
 pub record IsAlike (doc text : List ℕ) : Type 0 where
-  pub itself : TellsCanonical text text
-  pub alike : (query : QueryForm) (status : Status) (line : List ℕ) → is_of_contents query ≡ true → OfDocument query doc status line ↔ OfDocument query text status line
+  pub itself : HasCanonicalText text text
+  pub alike : (files : Files) (form : Form) (name other : List ℕ) (arguments : List (List ℕ)) (status : Status) (line : List ℕ)
+      → is_of_contents form ≡ true → HoldsDocument files name doc → HoldsDocument files other text → is_broken_off status ≡ false
+      → HasReply files form name arguments status line ↔ HasReply files form other arguments status line
 
 abbrev pub CanonicalIsAlike : Type 0
-CanonicalIsAlike = (doc text : List ℕ) → TellsCanonical doc text → IsAlike doc text
+CanonicalIsAlike = (doc text : List ℕ) → HasCanonicalText doc text → IsAlike doc text

@@ -1,36 +1,99 @@
--- The table of answers: the rows of each form of words.
-use Rattle.std.specs.Prelude.{◌≡◌, Bool, true, false, List, [], ◌∷◌, None, Some, String}
+-- The table of commands: of each form its word, its arguments and its rows. A further command adds a line to each.
+use Rattle.std.specs.Prelude.{◌≡◌, Bool, true, ℕ, List, [], ◌∷◌, codes, String, None, Some, is_some}
 use Rattle.std.specs.declared.alloc.Global.{Global}
 use Rattle.std.specs.declared.option.Option.{Option}
-use Rattle.tml_tool.specs.declared.role.Role.TheVariants.{Doc, Evidence}
-use Rattle.tml_tool.specs.declared.status.Status.{Status}
-use Rattle.tml_tool.specs.declared.status.Status.TheVariants.{Done, DocFault, Clash, Usage}
-use Rattle.tml_tool.specs.Words.{CommandForm, by_relation, drill, of_document, form_of, texts_of, usage, verify}
-use Rattle.tml_tool.specs.Acceptance.{Accepted, FirstFault}
-use Rattle.tml_tool.specs.Drilling.{OfDrill}
-use Rattle.tml_tool.specs.Questions.{HasFaultLine}
-use Rattle.tml_tool.specs.Queries.{OfDocument}
-use Rattle.tml_tool.specs.Verdicts.{OfVerify}
-use Rattle.tml_tool.specs.Roles.{file_of}
-use Rattle.tml_tool.specs.Rows.{Rows, reads, answers}
+use Rattle.named.specs.Texts.{named_of}
+use Rattle.document_answers.specs.Canon.{canon_rows}
+use Rattle.document_answers.specs.Check.{check_rows}
+use Rattle.document_answers.specs.Dates.{dates_rows}
+use Rattle.document_answers.specs.Spans.{spans_rows}
+use Rattle.evidence_answers.specs.Verify.{verify_rows}
+use Rattle.net_answers.specs.Nets.{ClashIsFree}
+use Rattle.order_answers.specs.Ask.{AskIsFree, ask_rows}
+use Rattle.order_answers.specs.Drill.{drill_number, drill_rows}
+use Rattle.order_answers.specs.Relations.{relations_rows}
+use Rattle.order_answers.specs.Solve.{solve_rows}
+use Rattle.tml_run.specs.Answered.{Freedom, NeverFree}
+use Rattle.tml_run.specs.Rows.{Rows, answers}
+use Rattle.tml_run.specs.declared.status.Status.TheVariants.{Usage}
+use Rattle.tml_tool.specs.Forms.{argument, taken_by, texts_of, usage_of, with_arguments}
+use Rattle.tml_tool.specs.declared.commands.Form.{Form}
+use Rattle.tml_tool.specs.declared.commands.Form.TheVariants.{Spans, Check, Dates, Solve, Ask, Relations, Canon, Verify, Drill}
 
--- One line for each form and each number of files that were read. A further command adds lines.
-abbrev pub rows_of : Option CommandForm → Rows
-rows_of None [] (answers Usage text) = text ≡ usage
-rows_of (Some (of_document query name)) [] (reads file) = file ≡ file_of Doc name
-rows_of (Some (of_document query name)) (doc ∷ []) (answers status text) = OfDocument query doc status text
-rows_of (Some (verify name evidence)) [] (reads file) = file ≡ file_of Doc name
-rows_of (Some (verify name evidence)) (doc ∷ []) (answers DocFault text) = HasFaultLine (FirstFault doc) text
-rows_of (Some (verify name evidence)) (doc ∷ []) (reads file) = Accepted doc × (file ≡ file_of Evidence evidence)
-rows_of (Some (verify name evidence)) (doc ∷ bytes ∷ []) (answers status text) = OfVerify doc bytes status text
-rows_of (Some (drill n)) [] (answers status text) = OfDrill n status text
-rows_of form contents next = ⊥
+-- ---- the table
 
--- whether the contents determine the text that is answered with a status: which walks prove a relation, and which minimal clash is told, is free, and all else is determined
-abbrev pub is_determined : Option CommandForm → Status → Bool
-is_determined (Some (of_document query name)) Clash = false
-is_determined (Some (of_document (by_relation x rel y) name)) Done = false
-is_determined form status = true
+abbrev pub all_forms : List Form
+all_forms = Spans ∷ Check ∷ Dates ∷ Solve ∷ Ask ∷ Relations ∷ Canon ∷ Verify ∷ Drill ∷ []
+
+abbrev pub word_of : Form → List ℕ
+word_of Spans = codes "spans"
+word_of Check = codes "check"
+word_of Dates = codes "dates"
+word_of Solve = codes "solve"
+word_of Ask = codes "ask"
+word_of Relations = codes "relations"
+word_of Canon = codes "canon"
+word_of Verify = codes "verify"
+word_of Drill = codes "drill"
+
+-- the names of the arguments, of most forms that of a document alone
+abbrev pub arguments_of : Form → List (List ℕ)
+arguments_of Ask = codes "DOC" ∷ codes "X" ∷ codes "REL" ∷ codes "Y" ∷ []
+arguments_of Verify = codes "DOC" ∷ codes "EVIDENCE" ∷ []
+arguments_of Drill = codes "N" ∷ []
+arguments_of form = codes "DOC" ∷ []
+
+-- whether a form takes so many arguments with these texts: a drill has a number
+abbrev pub takes : Form → List (List ℕ) → Bool
+takes Drill arguments = is_some (drill_number (argument arguments 0))
+takes form arguments = true
+
+-- what comes next, by the arguments of a form
+abbrev pub rows_with : Form → List (List ℕ) → Rows
+rows_with Spans arguments = spans_rows (argument arguments 0)
+rows_with Check arguments = check_rows (argument arguments 0)
+rows_with Dates arguments = dates_rows (argument arguments 0)
+rows_with Solve arguments = solve_rows (argument arguments 0)
+rows_with Ask arguments = ask_rows (argument arguments 0) (argument arguments 1) (argument arguments 2) (argument arguments 3)
+rows_with Relations arguments = relations_rows (argument arguments 0)
+rows_with Canon arguments = canon_rows (argument arguments 0)
+rows_with Verify arguments = verify_rows (argument arguments 0) (argument arguments 1)
+rows_with Drill arguments = drill_rows (argument arguments 0)
+
+-- after which contents the text of an answer is free: which clash is printed, and which walks prove a relation
+abbrev pub is_free_with : Form → List (List ℕ) → Freedom
+is_free_with Solve arguments = ClashIsFree
+is_free_with Ask arguments = AskIsFree (argument arguments 1) (argument arguments 2) (argument arguments 3)
+is_free_with Relations arguments = ClashIsFree
+is_free_with form arguments = NeverFree
+
+-- ---- words
+
+abbrev pub usage : List ℕ
+usage = usage_of word_of all_forms arguments_of
+
+-- a form with so many arguments, if it takes them
+abbrev pub taken : Form → List (List ℕ) → Option (Form × List (List ℕ))
+taken form arguments = taken_by takes form arguments
+
+-- The form of some words, with its arguments: no words stand for `spans -`.
+abbrev pub form_of : List (List ℕ) → Option (Form × List (List ℕ))
+form_of [] = Some (Spans, codes "-" ∷ [])
+form_of (word ∷ arguments) = with_arguments arguments_of takes arguments (named_of word_of all_forms word)
+
+-- words that have no form are answered by the usage text
+abbrev pub usage_rows : Rows
+usage_rows [] (answers Usage text) = text ≡ usage
+usage_rows contents next = ⊥
+
+-- the rows of a form with its arguments, or of words that have no form
+abbrev pub rows_of : Option (Form × List (List ℕ)) → Rows
+rows_of None = usage_rows
+rows_of (Some asked) = rows_with asked.0 asked.1
+
+abbrev pub is_free : Option (Form × List (List ℕ)) → Freedom
+is_free None = NeverFree
+is_free (Some asked) = is_free_with asked.0 asked.1
 
 -- the rows of the words of a run
 abbrev pub rows_of_words : List (String Global) → Rows

@@ -2,17 +2,44 @@
 ghost use Rattle.std.specs.Prelude.{true, ◌≡◌, ◌≤◌, ◌↔◌, None};
 ghost use Rattle.tml_io.specs.Faults.{HasRisen};
 ghost use Rattle.tml_io.specs.Room.{FaultsOnlyWhenFull};
-ghost use Rattle.tml_tool.specs.Commands.{rows_of_words};
-ghost use Rattle.tml_tool.specs.Outcome.{Outcome};
-ghost use Rattle.tml_tool.specs.Reading.{AllThere, NoneReached};
-ghost use Rattle.tml_tool.specs.Words.{texts_of, form_of};
+ghost use Rattle.tml_run.specs.Outcome.{Outcome};
+ghost use Rattle.tml_run.specs.Reading.{AllThere, NoneReached};
+ghost use Rattle.tml_run.specs.Replied.{IsReplyTo};
+ghost use Rattle.tml_run.specs.View.{status_of, text_of};
+ghost use Rattle.tml_tool.specs.Commands.{form_of, rows_of_words};
+ghost use Rattle.tml_tool.specs.Forms.{texts_of};
 
-use crate::Status;
-use crate::command::command_of;
-use crate::reply::deliver;
-use crate::replying::reply_to;
+use crate::commands::{Form, reply_with, usage_text};
+use answers::DOC;
+use document_answers::Spans;
+use named::named_by;
 use std::alloc::Global;
 use tml_io::{Inputs, Sink};
+use tml_run::{Reply, Status, deliver, reply_of_file};
+
+/// The reply to some words. With no words it is that to `spans` of standard input.
+fn reply_to<I: Inputs>(alloc: Global, words: &[String], inputs: &mut I) -> Reply
+    ensures reply { IsReplyTo (rows_of_words words.now) (I.files inputs.old) (I.sound inputs.old)
+        (I.given inputs.old) (I.given inputs.new) (I.faults inputs.old) (I.faults inputs.new)
+        (inputs.new ≡ inputs.old) (status_of result) (text_of result) }
+    ensures usage { (status_of result ≡ Status.Usage) ↔ (form_of (texts_of words.now) ≡ None) }
+    ensures fault { status_of result ≡ Status.ReadFault → HasRisen (I.faults inputs.old) (I.faults inputs.new) }
+    ensures files { I.files inputs.new ≡ I.files inputs.old }
+    ensures stays_sound { I.sound inputs.new ≡ I.sound inputs.old }
+    ensures never_falls { I.faults inputs.old ≤ I.faults inputs.new }
+{
+    let Some((word, arguments)) = words.split_first() else {
+        return reply_of_file(alloc, &Spans, DOC, "-", inputs);
+    };
+    let Some(form) = named_by::<Form>(word.as_bytes()) else {
+        return Reply::Usage(usage_text());
+    };
+    if arguments.len() == form.arguments() {
+        reply_with(alloc, form, arguments, inputs)
+    } else {
+        Reply::Usage(usage_text())
+    }
+}
 
 /// Does what the words ask for: reads the files that they name from `inputs`, and writes the answer, or the text of a
 /// refusal, to `sink`. The reply is made whole before its first byte is written.
@@ -50,5 +77,5 @@ pub fn run<I: Inputs, S: Sink>(
     ensures reading_never_falls { I.faults inputs.old ≤ I.faults inputs.new }
     ensures writing_never_falls { S.faults sink.old ≤ S.faults sink.new }
 {
-    deliver(sink, reply_to(alloc, command_of(words), inputs))
+    deliver(sink, reply_to(alloc, words, inputs))
 }

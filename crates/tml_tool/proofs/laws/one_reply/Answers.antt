@@ -1,7 +1,7 @@
-use Rattle.tml_tool.proofs.OneNext.{one_next}
-use Rattle.tml_tool.proofs.OneReply as law
-use Rattle.tml_tool.specs.Commands.{rows_of}
+use Rattle.tml_run.proofs.OneReply as runs
+use Rattle.tml_tool.proofs.Tables.{words_answered}
+use Rattle.tml_tool.specs.Commands.{form_of, rows_of}
 use Rattle.tml_tool.proofs.laws.one_reply.Goals as goal
 
 pub returns : goal.returns
-returns c = λ form. law.one_reply (rows_of form) (one_next form)
+returns c = λ words. runs.one_reply (rows_of (form_of words)) (words_answered words).one_next

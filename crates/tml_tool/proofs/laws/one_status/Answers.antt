@@ -1,5 +1,5 @@
-use Rattle.tml_tool.proofs.OneNext as law
+use Rattle.tml_tool.proofs.Tables.{words_answered}
 use Rattle.tml_tool.proofs.laws.one_status.Goals as goal
 
 pub returns : goal.returns
-returns c = law.one_next
+returns c = λ words. (words_answered words).one_next

@@ -1,0 +1,3 @@
+pub mod JudgesFirst
+pub mod Naming
+pub mod VerifyAnswered

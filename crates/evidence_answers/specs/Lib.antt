@@ -1,0 +1,3 @@
+pub mod JudgesFirst
+pub mod Texts
+pub mod Verify

@@ -1,0 +1,6 @@
+pub mod ClashProofs
+pub mod FewCites
+pub mod LineSizes
+pub mod Nets
+pub mod Sizes
+pub mod StepNumbers

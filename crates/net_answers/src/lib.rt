@@ -1,0 +1,8 @@
+//! What the answers about nets share: a minimal clash as evidence, and the closure of the net of a document.
+#![tactic(auto)]
+
+mod clashing;
+mod closing;
+
+pub use clashing::clash_answer;
+pub use closing::{OfNet, answer_of_net};

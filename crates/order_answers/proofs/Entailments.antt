@@ -1,0 +1,69 @@
+-- What the closure of a net entails is what follows from the net.
+use Rattle.std.proofs.Common.{◌≡◌, ◌↔◌, ℕ, ◌<◌, List, [], ◌∷◌, arith}
+use Rattle.std.specs.List.{AllByRecursion, flat_map}
+use Rattle.std.proofs.lemmas.List.Elements.{All-from_recursion, All-weaker, recursion_from_All}
+use Rattle.net_core.specs.Atoms.{IsInRange, Satisfies, atoms_of}
+use Rattle.net_core.specs.Fits.{Fits}
+use Rattle.net_core.specs.Nets.{PlainNet, intervals, points}
+use Rattle.net_core.specs.Relations.{Timeline}
+use Rattle.net_core.specs.declared.atom.Atom.{Atom}
+use Rattle.net_core.specs.declared.rels.Rel.{Rel}
+use Rattle.net_core.proofs.AtomLaws.{atoms_in_range, atoms_say_the_relation}
+use Rattle.order_closure.specs.Tables.{Table}
+use Rattle.clash.specs.Closures.{IsClosureOf}
+use Rattle.derive_rel.specs.Entailed.{AreRows, Entails, Gives, IsRow}
+use Rattle.derive_rel.specs.declared.all_rows.Row.{Row}
+use Rattle.net_core.specs.Entailment.{Follows}
+use Rattle.tml_refs.specs.Documents.{PlainDocument}
+use Rattle.order_answers.specs.Relations.{AreRelations, ClosuresEntailWhatFollows, FollowsBetween, OfRelations, row_line}
+use Rattle.tml_run.specs.declared.status.Status.TheVariants.{Done}
+use Rattle.order_answers.proofs.Counterexamples.{given_holds, held_given}
+
+module _ (net : PlainNet) (table : Table) (closure : IsClosureOf net table) where
+  -- orders that the table gives are kept by every timeline that fits
+  kept : (t : Timeline) → Fits net t → (atoms : List Atom) → AllByRecursion (IsInRange (points net)) atoms → AllByRecursion (Gives table) atoms → AllByRecursion (Satisfies t) atoms
+  kept t fits [] range gives = tt
+  kept t fits (atom ∷ atoms) range gives = (given_holds net table closure atom range.0 gives.0 t fits, kept t fits atoms range.1 gives.1)
+
+  -- orders that every timeline that fits keeps the table gives
+  given : (atoms : List Atom) → AllByRecursion (IsInRange (points net)) atoms → ((t : Timeline) → Fits net t → AllByRecursion (Satisfies t) atoms) → AllByRecursion (Gives table) atoms
+  given [] range always = tt
+  given (atom ∷ atoms) range always = (held_given net table closure atom range.0 (λ t fits. (always t fits).0), given atoms range.1 (λ t fits. (always t fits).1))
+
+  -- the closure entails a relation exactly where it follows
+  pub entails_follows : (a : ℕ) (r : Rel) (b : ℕ) → a < intervals net → b < intervals net → Entails table a r b ↔ Follows net a r b
+  entails_follows a r b la lb =
+      let range = atoms_in_range (intervals net) r a b la lb in (
+        λ entails t fits. (atoms_say_the_relation t r a b).1 (kept t fits (atoms_of r a b) range (recursion_from_All (Gives table) (atoms_of r a b) entails)),
+        λ follows. All-from_recursion (Gives table) (atoms_of r a b) (given (atoms_of r a b) range (λ t fits. (atoms_say_the_relation t r a b).0 (follows t fits))),
+      )
+
+  -- a row of the closure is a relation that follows
+  row_follows : (row : Row) → IsRow table row ↔ FollowsBetween net row
+  row_follows row = (
+    λ is. let within : row.b < intervals net = omega (arith, is.1, closure.size) in (is.0, within, (entails_follows row.a row.rel row.b (omega (arith, is.0, within)) within).0 is.2),
+    λ follows. (follows.0, omega (arith, follows.1, closure.size), (entails_follows row.a row.rel row.b (omega (arith, follows.0, follows.1)) follows.1).1 follows.2),
+  )
+
+  -- the rows of the closure are the relations that follow
+  pub rows_follow : (rows : List Row) → AreRows table rows ↔ AreRelations net rows
+  rows_follow rows = (
+    λ are. record {
+      right = All-weaker (IsRow table) (FollowsBetween net) (λ row. (row_follows row).0) rows are.right;
+      whole = λ row follows. are.whole row ((row_follows row).1 follows);
+      sorted = are.sorted;
+    },
+    λ are. record {
+      right = All-weaker (FollowsBetween net) (IsRow table) (λ row. (row_follows row).1) rows are.right;
+      whole = λ row is. are.whole row ((row_follows row).0 is);
+      sorted = are.sorted;
+    },
+  )
+
+-- so it entails what follows
+pub closures_entail_what_follows : ClosuresEntailWhatFollows
+closures_entail_what_follows = λ net table closure. record { relations = entails_follows net table closure; rows = rows_follow net table closure }
+
+-- a line for each row of the closure is what `relations` prints
+pub shows_relations : (contents : PlainDocument) (net : PlainNet) (table : Table) (rows : List Row) (text : List ℕ) → IsClosureOf net table → AreRows table rows → text ≡ flat_map (row_line contents) rows → OfRelations contents net Done text
+shows_relations contents net table rows text closure are is = (rows, (rows_follow net table closure rows).0 are, is)

@@ -1,0 +1,14 @@
+pub mod AskAnswered
+pub mod Counterexamples
+pub mod DrillAnswered
+pub mod DrillNumbers
+pub mod Drills
+pub mod Entailments
+pub mod EveryDrill
+pub mod Fitting
+pub mod OneCounterexample
+pub mod RelationsAnswered
+pub mod Reporting
+pub mod SolveAnswered
+pub mod Timelines
+pub mod WalkProofs

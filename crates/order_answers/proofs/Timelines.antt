@@ -1,0 +1,62 @@
+-- The least timeline of a document, and its text.
+use Rattle.std.proofs.Common.{◌≡◌, ℕ, suc, ◌<◌, ◌≤◌, List, [], ◌∷◌, length, get_or, refl, sym, subst, ◌∙◌, arith}
+use Rattle.net_core.specs.Fits.{Fits, RanksFit}
+use Rattle.net_core.specs.Nets.{PlainNet, points}
+use Rattle.net_core.specs.Ranks.{pairs_of, timeline_of}
+use Rattle.net_core.specs.Relations.{Timeline}
+use Rattle.net_core.proofs.RankLaws.{even_length, ranks_again}
+use Rattle.clash.specs.Closures.{IsClosureOf}
+use Rattle.evidence_check.specs.Supported.{IsSupported}
+use Rattle.evidence_format.specs.Evidence.{IsText, timeline}
+use Rattle.order_closure.specs.Tables.{Keeps, Table}
+use Rattle.order_closure.specs.Timelines.{IsLeast}
+use Rattle.order_answers.specs.Solve.{AreLeastRanks, IsLeastText, ShowsTimeline}
+
+-- the least timeline that keeps the closure of a net is the least one that fits the net
+pub least_fits : (net : PlainNet) (table : Table) (t : Timeline) → IsClosureOf net table → IsLeast table.points (Keeps table) t → IsLeast (points net) (Fits net) t
+least_fits net table t c l = record {
+  holds = (c.keeps t).0 l.holds;
+  least = λ u fits p less. l.least u ((c.keeps u).1 fits) p (omega (arith, less, c.size));
+}
+
+-- ranks that fit are supported as evidence
+pub timeline_supported : (net : PlainNet) (ranks : List ℕ) → RanksFit net ranks → IsSupported net (timeline (pairs_of ranks))
+timeline_supported net ranks fit = subst (RanksFit net) (sym (ranks_again ranks (even_length (length net.bounds) ranks fit.0))) fit
+
+-- the text of the least timeline of the closure is that of the net
+pub shows_timeline : (net : PlainNet) (table : Table) (text : List ℕ) → IsClosureOf net table → IsLeastText table text → ShowsTimeline net text
+shows_timeline net table text c l =
+    let ranks = l.0 in
+    let size = l.1 ∙ c.size in
+    let least = least_fits net table (timeline_of ranks) c l.2 in
+    (ranks, (size, least), (l.3, timeline_supported net ranks (size, least.holds), (timeline_of ranks, least.holds), l.4))
+
+-- two lists of the same items are one
+same_items : (a b : List ℕ) → length a ≡ length b → ((p : ℕ) → p < length a → get_or a p 0 ≡ get_or b p 0) → a ≡ b
+same_items [] [] e same = refl
+same_items [] (y ∷ b) e same = absurd (omega (arith, e))
+same_items (x ∷ a) [] e same = absurd (omega (arith, e))
+same_items (x ∷ a) (y ∷ b) e same =
+    let first = same 0 (omega arith) in
+    let others = same_items a b (omega (arith, e)) (λ p less. same (suc p) (omega arith)) in
+    λ i. first i ∷ others i
+
+-- two numbers of which neither is more are one
+pub one_number : (m n : ℕ) → m ≤ n → n ≤ m → m ≡ n
+one_number m n le ge = omega arith
+
+-- of ranks of n points there is one list that is the least timeline of a property
+pub one_least_of : (n : ℕ) (P : Timeline → Type 0) (a b : List ℕ) → length a ≡ n → length b ≡ n → IsLeast n P (timeline_of a) → IsLeast n P (timeline_of b) → a ≡ b
+one_least_of n P a b la lb h k = same_items a b (la ∙ sym lb) (λ p less.
+    one_number (get_or a p 0) (get_or b p 0) (h.least (timeline_of b) k.holds p (omega (arith, less, la))) (k.least (timeline_of a) h.holds p (omega (arith, less, la))))
+
+-- a net has one least timeline
+pub one_least : (net : PlainNet) (a b : List ℕ) → AreLeastRanks net a → AreLeastRanks net b → a ≡ b
+one_least net a b (la, h) (lb, k) = one_least_of (points net) (Fits net) a b la lb h k
+
+-- and one text of it
+pub one_timeline : (net : PlainNet) (text other : List ℕ) → ShowsTimeline net text → ShowsTimeline net other → text ≡ other
+one_timeline net text other h k =
+    let ranks = one_least net h.0 k.0 h.1 k.1 in
+    let same = subst (λ (rs : List ℕ). IsText (timeline (pairs_of rs)) text) ranks h.2.0 in
+    same.1 ∙ sym k.2.0.1

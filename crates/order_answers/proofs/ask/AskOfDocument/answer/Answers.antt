@@ -1,0 +1,13 @@
+use Rattle.std.proofs.Common.{codes, inl, inr, refl}
+use Rattle.std.proofs.lemmas.Result.{IfOk-weaker}
+use Rattle.std.proofs.lemmas.Option.{slice_get_within}
+use Rattle.order_answers.specs.Ask.{Name, OfAsk}
+use Rattle.order_answers.proofs.Reporting.{is_none, reported}
+use Rattle.tml_run.specs.View.{finding_status}
+use Rattle.tml_run.specs.declared.answer.Finding.TheVariants as findings
+use Rattle.order_answers.proofs.ask.AskOfDocument.answer.Goals as goal
+
+pub returns-in_default : goal.returns-in_default
+returns-in_default c =
+    reported (OfAsk c.args.self.now.x.now c.args.self.now.rel.now c.args.self.now.y.now c.args.document.now) c.unknown.result findings.UnknownName (codes "unknown X\n") c.unknown.ensures.finding c.unknown.ensures.text
+    (inl (refl, inl (c.index_of.ensures.none (is_none c.index_of.result c.in_default.not-Some), refl)))

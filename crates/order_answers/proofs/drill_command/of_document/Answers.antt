@@ -1,0 +1,49 @@
+use Rattle.std.proofs.Common.{◌≡◌, ◌*◌, length, List, ℕ, refl, ap, subst, ◌∙◌, arith}
+use Rattle.clash.specs.Closures.{TellsClash}
+use Rattle.drill.specs.Numbers.{hidden_timeline}
+use Rattle.drill.proofs.Fitting.{hidden_intervals_fit}
+use Rattle.net_build.specs.Built.{IsNetOf}
+use Rattle.net_core.specs.Nets.{points}
+use Rattle.net_core.specs.Ranks.{timeline_of}
+use Rattle.tml_refs.specs.Documents.{PlainDocument}
+use Rattle.order_answers.specs.Drill.{AreFigures, IsGreatest, OfDrill}
+use Rattle.tml_run.specs.declared.answer.Finding.TheVariants as findings
+use Rattle.order_answers.proofs.Drills.{as_many_points}
+use Rattle.order_answers.proofs.Entailments.{rows_follow}
+use Rattle.order_answers.proofs.Reporting.{reported}
+use Rattle.order_answers.proofs.Timelines.{least_fits}
+use Rattle.order_answers.proofs.drill_command.of_document.Goals as goal
+
+pub unreachable-requires : goal.unreachable-requires
+unreachable-requires c =
+    let built = subst (λ (contents : PlainDocument). IsNetOf contents c.in-Ok.net) c.requires.contents c.in-Ok.ensures.net in
+    let tells = subst (TellsClash c.in-Ok.net) c.in-Err-Clash.field-0-is c.in-Err-Clash.ensures.err in
+    tells.0 (hidden_timeline c.args.n) (hidden_intervals_fit c.args.n c.in-Ok.net c.requires.drill built)
+
+pub greatest-requires : goal.greatest-requires
+greatest-requires c =
+    let built = subst (λ (contents : PlainDocument). IsNetOf contents c.in-Ok.net) c.requires.contents c.in-Ok.ensures.net in
+    let many : points c.in-Ok.net ≡ 2 * c.args.n = as_many_points c.args.n c.in-Ok.net built in
+    rw c.as_slice.ensures.value (omega (arith, c.in-Ok-least.ensures.size, c.in-Ok-close.ensures.ok.size, many, c.requires.drill.0))
+
+pub returns : goal.returns
+returns c =
+    let net = c.in-Ok.net in
+    let table = c.in-Ok-close.table in
+    let closure = c.in-Ok-close.ensures.ok in
+    let ranks = c.in-Ok-least.ranks in
+    let rows = c.in-Ok-rows.rows in
+    let are : AreFigures c.args.n _ = record {
+      net = net;
+      ranks = ranks;
+      rows = rows;
+      has_net = (c.args.document.now, c.requires.says, c.in-Ok.ensures.net);
+      least = (c.in-Ok-least.ensures.size ∙ closure.size, least_fits net table (timeline_of ranks) closure c.in-Ok-least.ensures.least);
+      follow = (rows_follow net table closure rows).0 c.in-Ok-rows.ensures;
+      drill = refl;
+      bytes = c.requires.bytes;
+      links = c.links.ensures.count;
+      greatest = subst (λ (numbers : List ℕ). IsGreatest numbers c.greatest.result) c.as_slice.ensures.value c.greatest.ensures;
+      relations = ap length c.as_slice-2.ensures;
+    } in
+    reported (OfDrill c.args.n) c.with_verdict.result findings.Done _ c.with_verdict.ensures.finding c.with_verdict.ensures.text (_, are, refl)

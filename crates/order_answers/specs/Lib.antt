@@ -1,0 +1,4 @@
+pub mod Ask
+pub mod Drill
+pub mod Relations
+pub mod Solve

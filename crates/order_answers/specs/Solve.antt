@@ -1,0 +1,35 @@
+-- The command `solve`: in what order the intervals of a document can lie.
+use Rattle.std.specs.Prelude.{◌≡◌, ◌≤◌, ℕ, List, length}
+use Rattle.answers.specs.Documents.{document_rows}
+use Rattle.evidence_format.specs.Evidence.{IsText, timeline}
+use Rattle.net_answers.specs.Nets.{NetAnswers, of_net}
+use Rattle.net_answers.specs.Showing.{ShowsEvidence}
+use Rattle.net_core.specs.Fits.{Fits}
+use Rattle.net_core.specs.Limits.{max_printed}
+use Rattle.net_core.specs.Nets.{PlainNet, points}
+use Rattle.net_core.specs.Ranks.{pairs_of, timeline_of}
+use Rattle.order_closure.specs.Tables.{Keeps, Table}
+use Rattle.order_closure.specs.Timelines.{IsLeast}
+use Rattle.tml_run.specs.Rows.{Rows}
+use Rattle.tml_run.specs.declared.status.Status.TheVariants.{Done}
+
+-- two ranks for each interval, which are those of the least timeline that fits
+abbrev pub AreLeastRanks : PlainNet → List ℕ → Type 0
+AreLeastRanks net ranks = (length ranks ≡ points net) × IsLeast (points net) (Fits net) (timeline_of ranks)
+
+-- the text is that of the least timeline that fits the net
+abbrev pub ShowsTimeline : PlainNet → List ℕ → Type 0
+ShowsTimeline net text = (ranks : List ℕ) × AreLeastRanks net ranks × ShowsEvidence net (timeline (pairs_of ranks)) text
+
+-- `solve` prints that
+abbrev pub OfSolve : NetAnswers
+OfSolve contents net Done text = ShowsTimeline net text
+OfSolve contents net other text = ⊥
+
+-- the rows of `solve NAME`
+abbrev pub solve_rows : List ℕ → Rows
+solve_rows name = document_rows (of_net OfSolve) name
+
+-- the text is that of the least ranks that keep the table
+abbrev pub IsLeastText : Table → List ℕ → Type 0
+IsLeastText table text = (ranks : List ℕ) × (length ranks ≡ table.points) × IsLeast table.points (Keeps table) (timeline_of ranks) × IsText (timeline (pairs_of ranks)) text × (length text ≤ max_printed)

@@ -1,0 +1,93 @@
+//! Whether a relation holds between two intervals in every timeline that fits a net.
+ghost use Rattle.net_core.specs.Atoms.{atoms_in};
+ghost use Rattle.net_core.specs.Limits.{max_points};
+ghost use Rattle.order_answers.specs.Ask.{IsCounterText, IsFirstNotGiven};
+ghost use Rattle.order_closure.specs.Cells.{order, strength};
+ghost use Rattle.order_closure.specs.Tables.{AreInRange, cell_at};
+ghost use Rattle.std.specs.Prelude.{◌%◌, ◌<◌, ◌≡◌, ◌≤◌, IfOk};
+
+use crate::ask::proving::proof_text;
+use evidence_format::{Evidence, write_evidence};
+use net_answers::OfNet;
+use net_core::{Atom, Atoms, MAX_INTERVALS, Memory, Net, Rel, atoms_of};
+use order_closure::Closed;
+use std::alloc::{AllocError, Global};
+use timeline::counter;
+use tml_refs::Document;
+use tml_run::Answer;
+
+/// A relation between two intervals by their numbers.
+#[derive(Clone, Copy)]
+pub struct Numbers {
+    pub a: u32,
+    pub rel: Rel,
+    pub b: u32,
+}
+
+impl OfNet for Numbers {
+    ghost use Rattle.order_answers.specs.Ask.{AreOf, of_numbers};
+
+    ghost is_of = { λ numbers contents. AreOf contents numbers.a numbers.b };
+
+    ghost says = { λ numbers. of_numbers numbers.a numbers.rel numbers.b };
+
+    /// A proof that the relation holds in every timeline that fits the net, or a counterexample, as evidence.
+    fn answer(
+        &self,
+        alloc: Global,
+        _document: &Document<'_>,
+        net: &Net,
+        closure: &Closed,
+    ) -> Result<Answer, AllocError> {
+        let Numbers { a, rel, b } = *self;
+        prove!(net.intervals() <= MAX_INTERVALS);
+        let text = match first_not_given(closure, atoms_of(rel, a, b)) {
+            None => proof_text(alloc, net, a, rel, b)?,
+            Some(atom) => counterexample_text(alloc, closure, a, rel, b, atom)?,
+        };
+        Ok(Answer::done(text))
+    }
+}
+
+/// The first of some orders that the table does not give.
+fn first_not_given(table: &Closed, atoms: Atoms) -> Option<Atom>
+    requires { AreInRange table.now.points (atoms_in atoms) }
+    ensures { IsFirstNotGiven table.now (atoms_in atoms) result }
+{
+    for k in 0..atoms.count() {
+        let Some(atom) = atoms.atom(k) else {
+            unreachable!()
+        };
+        if !table.cell(atom.from, atom.to).gives(atom.strict) {
+            return Some(atom);
+        }
+    }
+    None
+}
+
+/// The text of the least timeline that keeps a table and makes an order false that the table does not give.
+fn counterexample_text(
+    alloc: Global,
+    table: &Closed,
+    a: u32,
+    rel: Rel,
+    b: u32,
+    atom: Atom,
+) -> Result<Vec<u8>, AllocError>
+    requires even { table.now.points % 2 ≡ 0 }
+    requires few { table.now.points ≤ max_points }
+    requires from { atom.from < table.now.points }
+    requires to { atom.to < table.now.points }
+    requires a { a < table.now.points }
+    requires b { b < table.now.points }
+    requires weaker { strength (cell_at table.now atom.from atom.to) < strength (order atom.strict) }
+    ensures { IfOk result (λ text. IsCounterText table.now a rel b atom text.items) }
+{
+    let Ok(ranks) = counter(alloc, table, atom) else {
+        return Err(AllocError);
+    };
+    match write_evidence(alloc, &Evidence::Counter { a, rel, b, ranks }) {
+        Ok(text) => Ok(text.into_vec()),
+        Err(Memory) => Err(AllocError),
+    }
+}

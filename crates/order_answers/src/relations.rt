@@ -1,0 +1,82 @@
+//! The command `relations`: which relations follow from the links and times of a document.
+ghost use Rattle.derive_rel.specs.Entailed.{AreRows};
+ghost use Rattle.derive_rel.specs.declared.all_rows.Row.{Row as RowOf};
+ghost use Rattle.order_answers.specs.Relations.{row_line};
+ghost use Rattle.std.specs.List.{flat_map};
+ghost use Rattle.std.specs.Prelude.{◌*◌, ◌++◌, ◌≡◌, ◌<◌, IfOk, List as ListOf, OnOk, length};
+
+use answers::{OfDocument, push_related};
+use derive_rel::{Row, rows};
+use net_answers::{OfNet, answer_of_net};
+use net_core::Net;
+use order_closure::Closed;
+use std::alloc::{AllocError, Global};
+use tml_refs::Document;
+use tml_run::Answer;
+
+/// The command `relations`.
+#[derive(Clone, Copy)]
+pub struct Relations;
+
+impl OfDocument for Relations {
+    ghost use Rattle.net_answers.specs.Nets.{of_net};
+    ghost use Rattle.order_answers.specs.Relations.{OfRelations};
+
+    ghost says = { λ _. of_net OfRelations };
+
+    /// The relations that hold in every timeline that fits the document, or a minimal clash where none fits, as evidence.
+    fn answer(&self, alloc: Global, document: &Document<'_>) -> Result<Answer, AllocError> {
+        answer_of_net(alloc, self, document)
+    }
+}
+
+impl OfNet for Relations {
+    ghost use Rattle.order_answers.specs.Relations.{OfRelations};
+    ghost use Rattle.std.specs.Prelude.{⊤};
+
+    ghost is_of = { λ _ _. ⊤ };
+
+    ghost says = { λ _. OfRelations };
+
+    /// A line for each relation that holds in every timeline that fits the net.
+    fn answer(
+        &self,
+        alloc: Global,
+        document: &Document<'_>,
+        _net: &Net,
+        closure: &Closed,
+    ) -> Result<Answer, AllocError> {
+        Ok(Answer::done(relations_text(alloc, document, closure)?))
+    }
+}
+
+/// A line for each relation that a table entails, by the names of the intervals of a document.
+fn relations_text(
+    alloc: Global,
+    document: &Document<'_>,
+    table: &Closed,
+) -> Result<Vec<u8>, AllocError>
+    requires { table.now.points ≡ 2 * length document.now.intervals }
+    ensures { IfOk result (λ text. (all : ListOf RowOf) × AreRows table.now all × (text.items ≡ flat_map (row_line document.now) all)) }
+{
+    let Ok(rows) = rows(alloc, table) else {
+        return Err(AllocError);
+    };
+    let mut text = Vec::new(alloc);
+    for row in rows.as_slice() {
+        push_row(&mut text, document, row)?;
+    }
+    Ok(text)
+}
+
+/// Appends the line of a relation.
+fn push_row(out: &mut Vec<u8>, document: &Document<'_>, row: &Row) -> Result<(), AllocError>
+    requires a { row.now.a < length document.now.intervals }
+    requires b { row.now.b < length document.now.intervals }
+    ensures { OnOk result (out.new.items ≡ out.old.items ++ row_line document.now row.now) }
+{
+    let a = document.interval(row.a).name();
+    let b = document.interval(row.b).name();
+    push_related(out, a, row.rel, b)?;
+    out.extend_from_slice(b"\n")
+}

@@ -1,0 +1,78 @@
+//! The command `solve`: in what order the intervals of a document can lie.
+ghost use Rattle.evidence_format.specs.Evidence.{IsText, timeline};
+ghost use Rattle.net_core.specs.Limits.{max_points, max_printed};
+ghost use Rattle.net_core.specs.Ranks.{pairs_of};
+ghost use Rattle.order_answers.specs.Solve.{IsLeastText};
+ghost use Rattle.std.specs.Prelude.{◌≡◌, ◌<◌, ◌≤◌, ◌%◌, length, slice_index, IfOk, ℕ};
+
+use answers::OfDocument;
+use evidence_format::{Evidence, write_evidence};
+use net_answers::{OfNet, answer_of_net};
+use net_core::{MAX_INTERVALS, Memory, Net, Ranks};
+use order_closure::Closed;
+use std::alloc::{AllocError, Global};
+use timeline::least;
+use tml_refs::Document;
+use tml_run::Answer;
+
+/// The command `solve`.
+#[derive(Clone, Copy)]
+pub struct Solve;
+
+impl OfDocument for Solve {
+    ghost use Rattle.net_answers.specs.Nets.{of_net};
+    ghost use Rattle.order_answers.specs.Solve.{OfSolve};
+
+    ghost says = { λ _. of_net OfSolve };
+
+    /// The least timeline that fits the document, or a minimal clash where none does, as evidence.
+    fn answer(&self, alloc: Global, document: &Document<'_>) -> Result<Answer, AllocError> {
+        answer_of_net(alloc, self, document)
+    }
+}
+
+impl OfNet for Solve {
+    ghost use Rattle.order_answers.specs.Solve.{OfSolve};
+    ghost use Rattle.std.specs.Prelude.{⊤};
+
+    ghost is_of = { λ _ _. ⊤ };
+
+    ghost says = { λ _. OfSolve };
+
+    /// The least timeline that fits the net, as evidence.
+    fn answer(
+        &self,
+        alloc: Global,
+        _document: &Document<'_>,
+        net: &Net,
+        closure: &Closed,
+    ) -> Result<Answer, AllocError> {
+        prove!(net.intervals() <= MAX_INTERVALS);
+        Ok(Answer::done(least_text(alloc, closure)?))
+    }
+}
+
+/// The text of the least timeline that keeps a table.
+fn least_text(alloc: Global, table: &Closed) -> Result<Vec<u8>, AllocError>
+    requires even { table.now.points % 2 ≡ 0 }
+    requires few { table.now.points ≤ max_points }
+    ensures { IfOk result (λ text. IsLeastText table.now text.items) }
+{
+    match least(alloc, table) {
+        Ok(ranks) => timeline_text(alloc, ranks),
+        Err(Memory) => Err(AllocError),
+    }
+}
+
+/// The text of a timeline of so few and so small ranks.
+pub fn timeline_text(alloc: Global, ranks: Ranks) -> Result<Vec<u8>, AllocError>
+    requires few { length ranks ≤ max_points }
+    requires small { (p : ℕ) → p < length ranks → slice_index ranks p < length ranks }
+    ensures text { IfOk result (λ text. IsText (timeline (pairs_of ranks)) text.items) }
+    ensures short { IfOk result (λ text. length text.items ≤ max_printed) }
+{
+    match write_evidence(alloc, &Evidence::Timeline { ranks }) {
+        Ok(text) => Ok(text.into_vec()),
+        Err(Memory) => Err(AllocError),
+    }
+}

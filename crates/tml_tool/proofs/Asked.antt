@@ -1,0 +1,62 @@
+-- The form that some words have, by its word and by how many arguments there are.
+use Rattle.std.proofs.Common.{◌≡◌, ◌≢◌, ◌↔◌, inl, inr, ℕ, ◌==◌, List, [], ◌∷◌, length, map, true, false, refl, sym, ap, subst, ◌∙◌, Option, Some, None, Bool, String, Global, string_bytes, arith}
+use Rattle.std.specs.Prelude.{codes, if◌then◌else◌}
+use Rattle.std.proofs.lemmas.Bool.{eq-eqb}
+use Rattle.std.proofs.lemmas.Bool.Decides.{eqb_tells}
+use Rattle.std.proofs.lemmas.List.{length-map}
+use Rattle.named.specs.Texts.{named_of}
+use Rattle.tml_io.specs.Files.{Files}
+use Rattle.tml_run.specs.declared.status.Status.{Status}
+use Rattle.tml_run.specs.declared.status.Status.TheVariants.{Usage}
+use Rattle.tml_run.specs.Replied.{IsReplyTo}
+use Rattle.tml_run.proofs.HowItEnds.{answered}
+use Rattle.tml_tool.specs.declared.commands.Form.{Form}
+use Rattle.tml_tool.specs.declared.commands.Form.TheVariants.{Spans}
+use Rattle.tml_tool.specs.Commands.{all_forms, arguments_of, form_of, rows_of, taken, takes, usage, word_of}
+use Rattle.tml_tool.specs.Forms.{texts_of, with_arguments}
+
+by_test : (b : Bool) (asked : Option (Form × List (List ℕ))) → b ≡ true → (if b then asked else None) ≡ asked
+by_test b asked e = ap (λ (t : Bool). if t then asked else None) e
+
+by_no_test : (b : Bool) (asked : Option (Form × List (List ℕ))) → b ≢ true → (if b then asked else None) ≡ None
+by_no_test true asked n = absurd (n refl)
+by_no_test false asked n = refl
+
+no_true : (a b : ℕ) → a ≢ b → a == b ≢ true
+no_true a b n = elim (eqb_tells a b) [ inl h ↦ absurd (n h.1) | inr h ↦ λ e. cc (sym e ∙ h.0) ]
+
+pub no_words : (words : List (String Global)) → length words ≡ 0 → form_of (texts_of words) ≡ Some (Spans, codes "-" ∷ [])
+no_words [] e = refl
+no_words (w ∷ ws) e = absurd (omega (arith, e))
+
+module _ (words arguments : List (String Global)) (word : String Global) (bytes : List ℕ) (are : words ≡ word ∷ arguments) (is : bytes ≡ string_bytes word) where
+  is_form : (found : Option Form) → found ≡ named_of word_of all_forms bytes → form_of (texts_of words) ≡ with_arguments arguments_of takes (texts_of arguments) found
+  is_form found e = ap (λ (w : List (String Global)). form_of (texts_of w)) are ∙ ap (λ (b : List ℕ). form_of (b ∷ texts_of arguments)) (sym is) ∙ ap (with_arguments arguments_of takes (texts_of arguments)) (sym e)
+
+  pub no_word : None ≡ named_of word_of all_forms bytes → form_of (texts_of words) ≡ None
+  no_word e = is_form None e
+
+  count : length (texts_of arguments) ≡ length arguments
+  count = length-map arguments (λ (w : String Global). string_bytes w)
+
+  pub is_asked : (form : Form) → Some form ≡ named_of word_of all_forms bytes → length arguments ≡ length (arguments_of form) → form_of (texts_of words) ≡ taken form (texts_of arguments)
+  is_asked form e n = is_form (Some form) e ∙ by_test (length (texts_of arguments) == length (arguments_of form)) (taken form (texts_of arguments)) (eq-eqb _ _ (count ∙ n))
+
+  pub no_count : (form : Form) → Some form ≡ named_of word_of all_forms bytes → length arguments ≢ length (arguments_of form) → form_of (texts_of words) ≡ None
+  no_count form e n = is_form (Some form) e ∙ by_no_test (length (texts_of arguments) == length (arguments_of form)) (taken form (texts_of arguments)) (no_true _ _ (λ same. n (sym count ∙ same)))
+
+-- a reply belongs to the rows of the form that some words have
+pub along : (known : Option Files) (sound : Bool) (given now faults risen : ℕ) (same : Type 0) (form other : Option (Form × List (List ℕ))) (status : Status) (text : List ℕ) → form ≡ other → IsReplyTo (rows_of other) known sound given now faults risen same status text
+    → IsReplyTo (rows_of form) known sound given now faults risen same status text
+along known sound given now faults risen same form other status text e h = subst (λ (f : Option (Form × List (List ℕ))). IsReplyTo (rows_of f) known sound given now faults risen same status text) (sym e) h
+
+pub usage_replied : (known : Option Files) (sound : Bool) (given faults : ℕ) (same : Type 0) (form : Option (Form × List (List ℕ))) (text : List ℕ) → form ≡ None → text ≡ usage → same → IsReplyTo (rows_of form) known sound given given faults faults same Usage text
+usage_replied known sound given faults same form text e is unchanged = along known sound given given faults faults same form None Usage text e (record {
+  replies = (0, answered known (rows_of None) [] Usage text 0 tt is (omega arith), omega arith);
+  no_fault = λ sound there. refl;
+  untouched = λ none. unchanged;
+})
+
+-- the usage text is the reply to words that have no form
+pub usage_along : (form other : Option (Form × List (List ℕ))) (status : Status) → form ≡ other → (status ≡ Usage) ↔ (other ≡ None) → (status ≡ Usage) ↔ (form ≡ None)
+usage_along form other status e both = (λ is. e ∙ both.0 is, λ none. both.1 (sym e ∙ none))

@@ -1,8 +1,0 @@
-use Rattle.std.proofs.Common.{◌≡◌, ◌++◌, drop}
-use Rattle.std.specs.List.{flat_map}
-use Rattle.tml_tool.specs.EvidenceTexts as texts
-use Rattle.tml_tool.proofs.evidence.push_cited.Given as goal
-
--- the numbers so far, and those of what is left
-abbrev pub invariant-loop-link : goal.invariant-loop-link
-invariant-loop-link l = l.out.items ++ flat_map texts.cited (drop l.link-index l.cites) ≡ l.fn.out.items ++ flat_map texts.cited l.cites

@@ -1,0 +1,160 @@
+//! The table of commands: of each form of words its word, its arguments and its reply. A further command adds a line to
+//! each.
+ghost use Rattle.std.proofs.Common.{rules};
+ghost use Rattle.std.specs.Prelude.{true, ◌≡◌, ◌≤◌, ◌<◌, ◌↔◌, length, None};
+ghost use Rattle.tml_io.specs.Faults.{HasRisen};
+ghost use Rattle.tml_run.specs.Replied.{IsReplyTo};
+ghost use Rattle.tml_run.specs.View.{status_of, text_of};
+ghost use Rattle.tml_tool.specs.Commands.{arguments_of, rows_of, taken, usage};
+ghost use Rattle.tml_tool.specs.Forms.{argument, texts_of};
+
+use answers::{DOC, reply_of_document, reply_of_judged};
+use document_answers::{Canon, Check, Dates, Spans};
+use evidence_answers::{EVIDENCE, Verify};
+use named::Named;
+use order_answers::{Ask, Relations, Solve, drill_number, drill_summary};
+use std::alloc::Global;
+use tml_io::Inputs;
+use tml_run::{Reply, Status, reply_of_file};
+
+/// A form of words.
+#[derive(Clone, Copy, Debug, PartialEq, Eq)]
+pub enum Form {
+    /// The units of a document.
+    Spans,
+    /// Whether a document is well annotated, and how many tags of each kind it has.
+    Check,
+    /// When the times of a document are by the calendar.
+    Dates,
+    /// In what order the intervals of a document can lie.
+    Solve,
+    /// Whether a relation holds between two intervals of a document.
+    Ask,
+    /// Which relations follow from the links and times of a document.
+    Relations,
+    /// The canonical text of a document.
+    Canon,
+    /// What evidence of a document shows.
+    Verify,
+    /// The summary of a drill.
+    Drill,
+}
+
+impl Named for Form {
+    ghost use Rattle.tml_tool.specs.Commands.{all_forms, word_of};
+
+    ghost text_of = { word_of };
+
+    ghost all_of = { all_forms };
+
+    ghost apart = { Prim.search rules };
+
+    fn all() -> &'static [Form] {
+        &[
+            Form::Spans,
+            Form::Check,
+            Form::Dates,
+            Form::Solve,
+            Form::Ask,
+            Form::Relations,
+            Form::Canon,
+            Form::Verify,
+            Form::Drill,
+        ]
+    }
+
+    fn text(self) -> &'static [u8] {
+        match self {
+            Form::Spans => b"spans",
+            Form::Check => b"check",
+            Form::Dates => b"dates",
+            Form::Solve => b"solve",
+            Form::Ask => b"ask",
+            Form::Relations => b"relations",
+            Form::Canon => b"canon",
+            Form::Verify => b"verify",
+            Form::Drill => b"drill",
+        }
+    }
+}
+
+impl Form {
+    /// How many arguments the form has.
+    pub fn arguments(self) -> usize
+        ensures { result ≡ length (arguments_of self) }
+    {
+        match self {
+            Form::Ask => 4,
+            Form::Verify => 2,
+            _ => 1,
+        }
+    }
+}
+
+/// The usage text: a line for each form.
+pub fn usage_text() -> &'static [u8]
+    ensures { result.now ≡ usage }
+{
+    b"usage:
+tml spans DOC
+tml check DOC
+tml dates DOC
+tml solve DOC
+tml ask DOC X REL Y
+tml relations DOC
+tml canon DOC
+tml verify DOC EVIDENCE
+tml drill N
+"
+}
+
+/// The reply to a form with so many arguments: the answer, or the usage text where the form does not take them.
+pub fn reply_with<I: Inputs>(
+    alloc: Global,
+    form: Form,
+    arguments: &[String],
+    inputs: &mut I,
+) -> Reply
+    requires { length arguments.now ≡ length (arguments_of form) }
+    ensures reply { IsReplyTo (rows_of (taken form (texts_of arguments.now))) (I.files inputs.old) (I.sound inputs.old)
+        (I.given inputs.old) (I.given inputs.new) (I.faults inputs.old) (I.faults inputs.new)
+        (inputs.new ≡ inputs.old) (status_of result) (text_of result) }
+    ensures usage { (status_of result ≡ Status.Usage) ↔ (taken form (texts_of arguments.now) ≡ None) }
+    ensures fault { status_of result ≡ Status.ReadFault → HasRisen (I.faults inputs.old) (I.faults inputs.new) }
+    ensures files { I.files inputs.new ≡ I.files inputs.old }
+    ensures stays_sound { I.sound inputs.new ≡ I.sound inputs.old }
+    ensures never_falls { I.faults inputs.old ≤ I.faults inputs.new }
+{
+    let first = word(arguments, 0);
+    match form {
+        Form::Spans => reply_of_file(alloc, &Spans, DOC, first, inputs),
+        Form::Check => reply_of_document(alloc, &Check, first, inputs),
+        Form::Dates => reply_of_document(alloc, &Dates, first, inputs),
+        Form::Solve => reply_of_document(alloc, &Solve, first, inputs),
+        Form::Ask => {
+            let asked = Ask {
+                x: word(arguments, 1).as_bytes(),
+                rel: word(arguments, 2).as_bytes(),
+                y: word(arguments, 3).as_bytes(),
+            };
+            reply_of_document(alloc, &asked, first, inputs)
+        }
+        Form::Relations => reply_of_document(alloc, &Relations, first, inputs),
+        Form::Canon => reply_of_file(alloc, &Canon, DOC, first, inputs),
+        Form::Verify => {
+            reply_of_judged(alloc, &Verify, first, EVIDENCE, word(arguments, 1), inputs)
+        }
+        Form::Drill => match drill_number(first) {
+            Some(n) => Reply::from_answer(drill_summary(alloc, n)),
+            None => Reply::Usage(usage_text()),
+        },
+    }
+}
+
+/// The argument of this number.
+fn word(arguments: &[String], k: usize) -> &str
+    requires { k < length arguments.now }
+    ensures { result.now ≡ argument (texts_of arguments.now) k }
+{
+    arguments[k].as_str()
+}
