@@ -12,7 +12,8 @@ use Rattle.tml_tree.proofs.Paths.{one_tree_of_source}
 use Rattle.tml_types.specs.Rules.{IsSound, is_repeated}
 use Rattle.tml_refs.specs.Documents.{PlainDocument}
 use Rattle.tml_canon.specs.Canonical.{canonical, canonical_nodes, canonical_text}
-use Rattle.tml_canon.specs.Laws.{OneCanonicalText, SaysOf, canonical_tree}
+use Rattle.tml_accept.specs.Acceptance.{TreeSays}
+use Rattle.tml_canon.specs.Laws.{OneCanonicalText, canonical_tree}
 use Rattle.tml_canon.specs.Same.{AllSame, Same}
 use Rattle.tml_canon.proofs.Alike.{canonical_is_same, same_back, same_on}
 use Rattle.tml_canon.proofs.UnlikeNames.{same_attributes}
@@ -65,7 +66,7 @@ mutual
       (all_same_canonical ns ms (last_part (elements n) (all_elements ns) left) (last_part (elements m) (all_elements ms) right) h.1)
 
 -- a tree that says something has no repeated attribute
-of_tree : (root : PlainNode) (contents : PlainDocument) → SaysOf root contents → NoneRepeated (elements root)
+of_tree : (root : PlainNode) (contents : PlainDocument) → TreeSays root contents → NoneRepeated (elements root)
 of_tree root contents says = none_repeated (elements root) (recursion_from_All IsSound (elements root) says.1.sound)
 
 -- ---- and the other way round

@@ -1,12 +1,10 @@
 -- What is true of canonical texts.
 use Rattle.std.specs.Prelude.{◌≡◌, ◌↔◌, List, ℕ}
-use Rattle.tml_refs.specs.Documents.{PlainDocument, Resolved}
+use Rattle.tml_accept.specs.Acceptance.{TreeSays}
+use Rattle.tml_refs.specs.Documents.{PlainDocument}
 use Rattle.tml_tree.specs.Plain.{PlainNode}
-use Rattle.tml_tree.specs.Walking.{elements}
 use Rattle.tml_tree.specs.Whole.{IsTreeOf}
 use Rattle.tml_tree.specs.Written.{node_at}
-use Rattle.tml_types.specs.Content.{PlainTyped}
-use Rattle.tml_types.specs.Whole.{Types}
 use Rattle.tml_canon.specs.Canonical.{canonical, canonical_text}
 use Rattle.tml_canon.specs.Same.{Same}
 
@@ -26,16 +24,12 @@ CanonicalIsSame = (root : PlainNode) → Same root (canonical_tree root)
 abbrev pub CanonicalIsItself : Type 0
 CanonicalIsItself = (root : PlainNode) → canonical_text (canonical_tree root) ≡ canonical_text root
 
--- the attributes and references of a tree break no rule, and this is what it says
-abbrev pub SaysOf : PlainNode → PlainDocument → Type 0
-SaysOf root contents = (tags : List PlainTyped) × Types (elements root) tags × Resolved tags contents
-
 -- where those of a tree break no rule, those of its canonical text break none, and say the same
 abbrev pub CanonicalSaysTheSame : Type 0
-CanonicalSaysTheSame = (root : PlainNode) (contents : PlainDocument) → SaysOf root contents → SaysOf (canonical_tree root) contents
+CanonicalSaysTheSame = (root : PlainNode) (contents : PlainDocument) → TreeSays root contents → TreeSays (canonical_tree root) contents
 
 -- two trees whose attributes and references break no rule have one canonical text exactly where they are the same
 abbrev pub OneCanonicalText : Type 0
 OneCanonicalText = (source other : List ℕ) (root tree : PlainNode) (contents says : PlainDocument)
-    → IsTreeOf source root → IsTreeOf other tree → SaysOf root contents → SaysOf tree says
+    → IsTreeOf source root → IsTreeOf other tree → TreeSays root contents → TreeSays tree says
     → (canonical_text root ≡ canonical_text tree) ↔ Same root tree

@@ -1,0 +1,4 @@
+pub mod Alike
+pub mod Asked
+pub mod Tables
+pub mod TwoRuns

@@ -1,0 +1,106 @@
+-- What is printed as evidence, `verify` accepts.
+use Rattle.std.proofs.Common.{◌≡◌, ◌≤◌, ◌+◌, true, false, ℕ, List, map, [], ◌∷◌, length, refl, sym, ap, subst, ◌∙◌, Some, inl, inr, arith}
+use Rattle.answers.specs.Documents.{Contents, doc_file, document_rows, of_contents}
+use Rattle.evidence_answers.specs.Texts.{claim_line}
+use Rattle.evidence_answers.specs.Verify.{evidence_file, verify_rows}
+use Rattle.evidence_answers.proofs.VerifyAnswered.{verify_answered}
+use Rattle.evidence_format.specs.Evidence.{clash, counter, entails, timeline}
+use Rattle.net_answers.specs.Nets.{HasEvidence, NetAnswers, of_net}
+use Rattle.net_build.specs.Built.{IsNetOf}
+use Rattle.net_core.specs.Nets.{PlainNet}
+use Rattle.net_core.specs.Ranks.{pairs_of}
+use Rattle.order_answers.specs.Ask.{OfAsk, OfRelation, of_numbers}
+use Rattle.order_answers.specs.Relations.{OfRelations}
+use Rattle.order_answers.specs.Solve.{OfSolve}
+use Rattle.tml_accept.specs.Acceptance.{Says}
+use Rattle.tml_io.specs.Files.{Files, held}
+use Rattle.tml_refs.specs.Documents.{PlainDocument}
+use Rattle.tml_run.specs.OneReply.{is_broken_off}
+use Rattle.tml_run.specs.Reading.{total}
+use Rattle.tml_run.specs.Replies.{Replies}
+use Rattle.tml_run.specs.declared.status.Status.{Status}
+use Rattle.tml_run.specs.declared.status.Status.TheVariants.{Done, Clash, DocFault, TooLong, UnknownName}
+use Rattle.tml_run.proofs.OneFile.{answered_or_long}
+use Rattle.tml_run.proofs.OneReply.{one_reply}
+use Rattle.tml_tool.specs.Commands.{rows_with}
+use Rattle.tml_tool.specs.Forms.{argument}
+use Rattle.tml_tool.specs.TwoRuns.{EvidenceIsVerified, IsVerified, prints_evidence}
+use Rattle.tml_tool.specs.declared.commands.Form.{Form}
+use Rattle.tml_tool.specs.declared.commands.Form.TheVariants.{Solve, Ask, Relations}
+
+-- ---- what is printed is evidence
+
+-- answers of a status to an accepted document that are evidence of its net
+abbrev AreEvidence : Contents → Status → Type 0
+AreEvidence Of status = (doc : List ℕ) (contents : PlainDocument) → Says doc contents → (text : List ℕ) → Of contents status text → HasEvidence doc text
+
+-- a clash is
+of_clash : (Of : NetAnswers) → ((contents : PlainDocument) (net : PlainNet) (text : List ℕ) → Of contents net Clash text → ⊥) → AreEvidence (of_net Of) Clash
+of_clash Of none doc contents says text (net, built, inl (is, shown)) = record { contents = contents; net = net; evidence = clash shown.cites shown.walk (map pairs_of shown.spares); says = says; built = built; shows = shown.evidence }
+of_clash Of none doc contents says text (net, built, inr (fits, h)) = absurd (none contents net text h)
+
+-- a timeline is
+of_timeline : AreEvidence (of_net OfSolve) Done
+of_timeline doc contents says text (net, built, inl (is, shown)) = absurd (cc is)
+of_timeline doc contents says text (net, built, inr (fits, shown)) = record { contents = contents; net = net; evidence = timeline (pairs_of shown.0); says = says; built = built; shows = shown.2 }
+
+-- a proof is, and so is a counterexample
+of_relation : (x rel y : List ℕ) → AreEvidence (OfAsk x rel y) Done
+of_relation x rel y doc contents says text (inl (is, unknown)) = absurd (cc is)
+of_relation x rel y doc contents says text (inr (a, r, b, name, (net, built, inl (is, shown)))) = absurd (cc is)
+of_relation x rel y doc contents says text (inr (a, r, b, name, (net, built, inr (fits, inl proof)))) = record { contents = contents; net = net; evidence = entails a r b proof.0; says = says; built = built; shows = proof.2 }
+of_relation x rel y doc contents says text (inr (a, r, b, name, (net, built, inr (fits, inr example)))) = record { contents = contents; net = net; evidence = counter a r b (pairs_of example.1); says = says; built = built; shows = example.5 }
+
+of_asked_clash : (x rel y : List ℕ) → AreEvidence (OfAsk x rel y) Clash
+of_asked_clash x rel y doc contents says text (inl (is, unknown)) = absurd (cc is)
+of_asked_clash x rel y doc contents says text (inr (a, r, b, name, asked)) = of_clash (of_numbers a r b) (λ contents net text none. none) doc contents says text asked
+
+-- ---- and it is verified
+
+-- a document in a file, with evidence of it
+abbrev HasShown : Files → List ℕ → List ℕ → Type 0
+HasShown files name text = (doc : List ℕ) × (held files name ≡ Some doc) × (length doc ≤ (doc_file name).limit) × HasEvidence doc text
+
+-- an answer that is not the refusal of a document, nor that of a file
+abbrev IsAnswer : Status → Type 0
+IsAnswer status = (is_broken_off status ≡ false) × (status ≡ DocFault → ⊥) × (status ≡ TooLong → ⊥)
+
+shown : (files : Files) (Of : Contents) (name : List ℕ) (status : Status) (text : List ℕ) (taken : ℕ) → IsAnswer status → AreEvidence Of status → Replies (Some files) (document_rows Of name) status text taken → HasShown files name text
+shown files Of name status text taken answer are h = elim (answered_or_long files (doc_file name) (of_contents Of) status text taken answer.0 h) [
+  | inr long ↦ absurd (answer.2 long)
+  | inl (doc, holds, short, inl refused) ↦ absurd (answer.1 refused.0)
+  | inl (doc, holds, short, inr (contents, says, asked)) ↦ (doc, holds, short, are doc contents says text asked)
+]
+
+printed : (files : Files) (form : Form) (name : List ℕ) (given : List (List ℕ)) (status : Status) (text : List ℕ) (taken : ℕ) → prints_evidence form status ≡ true
+    → Replies (Some files) (rows_with form (name ∷ given)) status text taken → HasShown files name text
+printed files Solve name given Done text taken e h = shown files (of_net OfSolve) name Done text taken (refl, λ is. cc, λ is. cc) of_timeline h
+printed files Solve name given Clash text taken e h = shown files (of_net OfSolve) name Clash text taken (refl, λ is. cc, λ is. cc) (of_clash OfSolve (λ contents net text none. none)) h
+printed files Relations name given Clash text taken e h = shown files (of_net OfRelations) name Clash text taken (refl, λ is. cc, λ is. cc) (of_clash OfRelations (λ contents net text none. none)) h
+printed files Ask name given Done text taken e h =
+    shown files (OfAsk (argument given 0) (argument given 1) (argument given 2)) name Done text taken (refl, λ is. cc, λ is. cc) (of_relation (argument given 0) (argument given 1) (argument given 2)) h
+printed files Ask name given Clash text taken e h =
+    shown files (OfAsk (argument given 0) (argument given 1) (argument given 2)) name Clash text taken (refl, λ is. cc, λ is. cc) (of_asked_clash (argument given 0) (argument given 1) (argument given 2)) h
+printed files form name given status text taken e h = absurd cc
+
+-- the reply to `verify`
+accepted : (files : Files) (name other text : List ℕ) → HasShown files name text → held files other ≡ Some text → IsVerified files name other text
+accepted files name other text (doc, holds, short, has) held_text =
+    let shows = has.shows in
+    let few : length text ≤ (evidence_file other).limit = omega (arith, shows.3) in
+    let line = claim_line has.contents has.evidence in
+    let reply : Replies (Some files) (verify_rows name other) Done line (total (doc ∷ text ∷ []) + 0) = record {
+      contents = doc ∷ text ∷ [];
+      reading = (doc_file name, refl, (holds, short), (evidence_file other, ((has.contents, has.says), refl), (held_text, few), tt));
+      part = 0;
+      ends = inl ((has.contents, has.says, (has.net, has.built, (has.evidence, shows.0, shows.1, shows.2, refl))), refl);
+      bytes = refl;
+    } in
+    record {
+      short = few;
+      done = (line, total (doc ∷ text ∷ []) + 0, reply);
+      reply = λ status found taken e h. (one_reply (verify_rows name other) (verify_answered name other).one_next files status Done found line taken (total (doc ∷ text ∷ []) + 0) e refl h reply).one_status;
+    }
+
+pub evidence_is_verified : EvidenceIsVerified
+evidence_is_verified = λ files form name arguments other text status taken e h held_text. accepted files name other text (printed files form name arguments status text taken e h) held_text
