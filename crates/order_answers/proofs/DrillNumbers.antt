@@ -7,6 +7,7 @@ use Rattle.std.proofs.lemmas.Bool.{cases_lt, false_from_ne_true}
 use Rattle.std.proofs.lemmas.Fmt.{decimal_injective}
 use Rattle.std.proofs.lemmas.Slice.Eq.{bytes_eq-Decides}
 use Rattle.drill.specs.Laws.{IsDrill}
+use Rattle.net_core.specs.Limits.{max_intervals}
 use Rattle.named.specs.Texts.{named_of}
 use Rattle.order_answers.specs.Drill.{drill_number}
 
@@ -33,12 +34,12 @@ none_found a (suc k) word none =
 -- the number of a drill is found by its text
 pub drill_found : (n : ℕ) (word : List ℕ) → IsDrill n → word ≡ decimal n → drill_number word ≡ Some n
 unfolding drill_number
-drill_found n word drill is = ap (named_of decimal (range_with_len 1 512)) is ∙ found 1 512 n drill.0 (omega (arith, drill.1)) (omega arith)
+drill_found n word drill is = ap (named_of decimal (range_with_len 1 max_intervals)) is ∙ found 1 max_intervals n drill.0 (omega (arith, drill.1)) (omega arith)
 
 -- a word that is the text of the number of no drill finds none
 pub no_drill_found : (word : List ℕ) → ((n : ℕ) → IsDrill n → word ≡ decimal n → ⊥) → drill_number word ≡ None
 unfolding drill_number
-no_drill_found word none = none_found 1 512 word (λ n low high. none n (low, omega (arith, high)))
+no_drill_found word none = none_found 1 max_intervals word (λ n low high. none n (low, omega (arith, high)))
 
 -- a number that is found in a range is of it
 found_within : (a k : ℕ) (word : List ℕ) (n : ℕ) → named_of decimal (range_with_len a k) word ≡ Some n → (a ≤ n) × (n < a + k)
@@ -51,4 +52,4 @@ found_within a (suc k) word n is = elim (bytes_eq (decimal a) word) as (λ b. (i
 -- the number of a drill that is found is one that drills have
 pub drill_in_range : (word : List ℕ) (n : ℕ) → drill_number word ≡ Some n → IsDrill n
 unfolding drill_number
-drill_in_range word n is = let range = found_within 1 512 word n is in (range.0, let high = range.1 in omega arith)
+drill_in_range word n is = let range = found_within 1 max_intervals word n is in (range.0, let high = range.1 in omega arith)

@@ -18,7 +18,7 @@ use tml_io::Inputs;
 use tml_run::{Reply, Status, reply_of_file};
 
 /// A form of words.
-#[derive(Clone, Copy, Debug, PartialEq, Eq)]
+#[derive(Clone, Copy)]
 pub enum Form {
     /// The units of a document.
     Spans,
