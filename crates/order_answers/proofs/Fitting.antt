@@ -159,7 +159,7 @@ module _ (net : PlainNet) (is : IsNet net) where
 
       pub some_answer : (text : List ℕ) × OfRelation a r b net Done text
       some_answer = elim (first_open_or_none (atoms_of r a b) (All-from_recursion (IsInRange (points net)) (atoms_of r a b) orders_in_range)) [
-        | inl all ↦ let told = proof_of (all_always all) in (told.0, (fits, inl told.1))
+        | inl all ↦ let shown = proof_of (all_always all) in (shown.0, inl shown.1)
         | inr first ↦ let shown = counter_of first.0 first.1 in (shown.0, inr shown.1)
       ]
 

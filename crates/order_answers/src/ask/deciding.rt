@@ -1,7 +1,9 @@
 //! Whether a relation holds between two intervals in every timeline that fits a net.
+ghost use Rattle.clash.specs.Closures.{IsClosureOf};
 ghost use Rattle.net_core.specs.Atoms.{atoms_in};
+ghost use Rattle.net_core.specs.Entailment.{AreIntervals, HasTimeline};
 ghost use Rattle.net_core.specs.Limits.{max_points};
-ghost use Rattle.order_answers.specs.Ask.{IsCounterText, IsFirstNotGiven};
+ghost use Rattle.order_answers.specs.Ask.{IsCounterText, IsFirstNotGiven, OfRelation};
 ghost use Rattle.order_closure.specs.Cells.{order, strength};
 ghost use Rattle.order_closure.specs.Tables.{AreInRange, cell_at};
 ghost use Rattle.std.specs.Prelude.{◌%◌, ◌<◌, ◌≡◌, ◌≤◌, IfOk};
@@ -14,7 +16,7 @@ use order_closure::Closed;
 use std::alloc::{AllocError, Global};
 use timeline::counter;
 use tml_refs::Document;
-use tml_run::Answer;
+use tml_run::{Answer, Status};
 
 /// A relation between two intervals by their numbers.
 #[derive(Clone, Copy)]
@@ -39,13 +41,27 @@ impl OfNet for Numbers {
         net: &Net,
         closure: &Closed,
     ) -> Result<Answer, AllocError> {
-        let Numbers { a, rel, b } = *self;
-        prove!(net.intervals() <= MAX_INTERVALS);
-        let text = match first_not_given(closure, atoms_of(rel, a, b)) {
-            None => proof_text(alloc, net, a, rel, b)?,
-            Some(atom) => counterexample_text(alloc, closure, a, rel, b, atom)?,
-        };
-        Ok(Answer::done(text))
+        Ok(Answer::done(decide(alloc, net, closure, *self)?))
+    }
+}
+
+/// The text of a proof that a relation holds in every timeline that fits the net, or of a counterexample.
+fn decide(
+    alloc: Global,
+    net: &Net,
+    closure: &Closed,
+    numbers: Numbers,
+) -> Result<Vec<u8>, AllocError>
+    requires intervals { AreIntervals net.now numbers.a numbers.b }
+    requires closure { IsClosureOf net.now closure.now }
+    requires fits { HasTimeline net.now }
+    ensures { IfOk result (λ text. OfRelation numbers.a numbers.rel numbers.b net.now Status.Done text.items) }
+{
+    let Numbers { a, rel, b } = numbers;
+    prove!(net.intervals() <= MAX_INTERVALS);
+    match first_not_given(closure, atoms_of(rel, a, b)) {
+        None => proof_text(alloc, net, a, rel, b),
+        Some(atom) => counterexample_text(alloc, closure, a, rel, b, atom),
     }
 }
 

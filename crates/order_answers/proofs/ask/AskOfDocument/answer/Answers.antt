@@ -11,3 +11,20 @@ pub returns-in_default : goal.returns-in_default
 returns-in_default c =
     reported (OfAsk c.args.self.now.x.now c.args.self.now.rel.now c.args.self.now.y.now c.args.document.now) c.unknown.result findings.UnknownName (codes "unknown X\n") c.unknown.ensures.finding c.unknown.ensures.text
     (inl (refl, inl (c.index_of.ensures.none (is_none c.index_of.result c.in_default.not-Some), refl)))
+
+pub returns-in_default-index_of : goal.returns-in_default-index_of
+returns-in_default-index_of c =
+    reported (OfAsk c.args.self.now.x.now c.args.self.now.rel.now c.args.self.now.y.now c.args.document.now) c.unknown-in_default-index_of.result findings.UnknownName (codes "unknown Y\n")
+    c.unknown-in_default-index_of.ensures.finding c.unknown-in_default-index_of.ensures.text
+    (inl (refl, inr (inr (
+      (c.in-Some.a, c.in-Some.ensures.some),
+      (c.in-Some-rel_of.rel, c.in-Some-rel_of.ensures.some),
+      c.index_of-2.ensures.none (is_none c.index_of-2.result c.in_default-index_of.not-Some),
+      refl,
+    ))))
+
+pub answer_of_net-requires : goal.answer_of_net-requires
+answer_of_net-requires c = (
+  slice_get_within c.args.document.now.intervals c.in-Some.a c.in-Some.ensures.some.0 c.in-Some.ensures.some.1,
+  slice_get_within c.args.document.now.intervals c.in-Some-index_of.b c.in-Some-index_of.ensures.some.0 c.in-Some-index_of.ensures.some.1,
+)

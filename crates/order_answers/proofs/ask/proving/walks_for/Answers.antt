@@ -6,7 +6,7 @@ use Rattle.net_core.specs.Atoms.{atoms_in}
 use Rattle.net_core.specs.Nets.{points}
 use Rattle.net_core.specs.declared.atom.Atom.{Atom}
 use Rattle.net_core.specs.declared.step.Step.{Step}
-use Rattle.order_answers.specs.Ask.{AlwaysHolds}
+use Rattle.net_core.specs.Entailment.{AlwaysHolds}
 use Rattle.order_answers.proofs.WalkProofs.{proofs_push}
 use Rattle.order_answers.proofs.ask.proving.walks_for.Goals as goal
 
