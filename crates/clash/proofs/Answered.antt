@@ -9,8 +9,9 @@ use Rattle.net_core.specs.Fits.{EveryLink, Fits, FitsWith}
 use Rattle.net_core.specs.Nets.{IsNet, PlainNet, points}
 use Rattle.net_core.specs.Walks.{GoesRound, Kept}
 use Rattle.net_core.proofs.WalkLaws.{joined_more, over_chosen, round_clashes}
+use Rattle.net_core.specs.Least.{AreSpares, IsSpare}
 use Rattle.order_closure.proofs.LeastRanks.{same_ranks}
-use Rattle.clash.specs.Minimal.{AreSpares, IsAnswered, IsProvedClash, IsSpare, IsSpared}
+use Rattle.clash.specs.Minimal.{IsAnswered, IsProvedClash, IsSpared}
 use Rattle.clash.specs.Walks.{OrdersAreAnswered}
 use Rattle.clash.specs.declared.minimal.Clash.{Clash}
 use Rattle.clash.proofs.Complete.{fits_or_goes_round, least_or_goes_round, walk_or_counter}

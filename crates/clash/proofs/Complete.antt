@@ -17,10 +17,10 @@ use Rattle.net_core.specs.declared.step.Step.{Step}
 use Rattle.net_core.specs.declared.step.Step.TheVariants.{Link, Span, Calendar}
 use Rattle.net_core.proofs.StepLaws.{fits_from_steps, step_in_range}
 use Rattle.net_core.proofs.WalkLaws.{joined_then, round_clashes, walk_kept}
+use Rattle.net_core.specs.Least.{AreLeast}
 use Rattle.order_closure.specs.Cells.{Says, joined, order, strength, stronger}
 use Rattle.order_closure.specs.Counting.{is_strict}
 use Rattle.order_closure.specs.Tables.{AreClosed, AreKept, Denies, new_cell, way}
-use Rattle.order_closure.specs.Timelines.{AreLeast}
 use Rattle.order_closure.specs.declared.cell.Cell.{Cell}
 use Rattle.order_closure.specs.declared.cell.Cell.TheVariants.{Free, Weak, Strict}
 use Rattle.order_closure.proofs.Adding.{new_closed}

@@ -9,8 +9,9 @@ use Rattle.net_core.specs.Nets.{PlainNet, points}
 use Rattle.net_core.specs.Walks.{GoesOver, GoesRound, Kept}
 use Rattle.net_core.specs.declared.step.Step.{Step}
 use Rattle.net_core.proofs.WalkLaws.{round_clashes}
+use Rattle.net_core.specs.Least.{AreSpares, IsSpare}
 use Rattle.order_closure.proofs.LeastRanks.{same_ranks}
-use Rattle.clash.specs.Minimal.{AreSpares, IsProvedClash, IsRound, IsSpare, IsSpared}
+use Rattle.clash.specs.Minimal.{IsProvedClash, IsRound, IsSpared}
 use Rattle.clash.specs.declared.round.Round.{Round}
 use Rattle.clash.proofs.Rounds.{fits_fewer, goes_over, over_links, round_more, spared_fewer}
 

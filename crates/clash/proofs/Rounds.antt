@@ -16,7 +16,8 @@ use Rattle.net_core.specs.declared.rels.Rel.TheVariants as rel
 use Rattle.net_core.specs.declared.step.Step.{Step}
 use Rattle.net_core.specs.declared.step.Step.TheVariants.{Link, Span, Calendar}
 use Rattle.net_core.proofs.WalkLaws.{joined_more, joined_over, over_chosen, over_or_not, round_clashes, round_from}
-use Rattle.clash.specs.Minimal.{Before, HasTimeline, IsFirstClash, IsRound, IsSpared, UpTo}
+use Rattle.net_core.specs.Entailment.{HasTimelineWith}
+use Rattle.clash.specs.Minimal.{Before, IsFirstClash, IsRound, IsSpared, UpTo}
 use Rattle.clash.specs.declared.round.Round.{Round}
 use Rattle.clash.proofs.Complete.{fits_or_goes_round}
 use Rattle.clash.proofs.Marked.{kept_within}
@@ -63,7 +64,7 @@ goes_over net Chosen k steps spared round = elim (over_or_not steps k) [
 
 -- where no walk goes round over a link that is needed some timeline fits
 pub none_round : (net : PlainNet) (keep : List Bool) (needed : ℕ) → IsNet net → IsSpared net (Kept keep) needed
-    → ((steps : List Step) → GoesRound net (Kept keep) steps → GoesOver steps needed → ⊥) → HasTimeline net (Kept keep)
+    → ((steps : List Step) → GoesRound net (Kept keep) steps → GoesOver steps needed → ⊥) → HasTimelineWith net (Kept keep)
 none_round net keep needed is spared none = elim (fits_or_goes_round net (λ k. slice_index_or keep k false) is) [
   | inl fits ↦ (fits.0, fits.1)
   | inr round ↦ absurd (none round.0 round.1 (goes_over net (Kept keep) needed round.0 spared round.1))

@@ -3,12 +3,12 @@ use Rattle.std.specs.Prelude.{◌⊎◌, ℕ, ◌*◌, ◌<◌, ◌≤◌, ◌�
 use Rattle.net_core.specs.Atoms.{IsInOrder, IsInRange, Satisfies}
 use Rattle.net_core.specs.Clashes.{Clashes}
 use Rattle.net_core.specs.Fits.{EveryLink, Fits, FitsWith}
+use Rattle.net_core.specs.Least.{AreLeast}
 use Rattle.net_core.specs.Nets.{IsNet, PlainNet, points}
 use Rattle.net_core.specs.Relations.{Timeline}
 use Rattle.net_core.specs.Walks.{GoesRound, HasWalk, IsWalk, Kept}
 use Rattle.net_core.specs.declared.atom.Atom.{Atom}
 use Rattle.net_core.specs.declared.step.Step.{Step}
-use Rattle.order_closure.specs.Timelines.{AreLeast}
 
 -- point p is before point q in every timeline that fits with a set of links
 abbrev pub AlwaysWith : PlainNet → (ℕ → Type 0) → Bool → ℕ → ℕ → Type 0

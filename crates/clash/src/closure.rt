@@ -1,8 +1,9 @@
 //! The closure of a net.
-ghost use Rattle.clash.specs.Closures.{IsClosureOf, IsTableOf, IsUnlinked, TellsClash};
+ghost use Rattle.clash.specs.Closures.{IsClosureOf, IsTableOf, IsUnlinked, ReportsClash};
 ghost use Rattle.clash.specs.Orders.{AreFixed};
 ghost use Rattle.clash.specs.declared.closure.CloseFault.TheVariants as faults;
 ghost use Rattle.net_core.specs.Fits.{Fits};
+ghost use Rattle.net_core.specs.Limits.{max_points};
 ghost use Rattle.net_core.specs.Nets.{points};
 ghost use Rattle.net_core.specs.Relations.{Timeline};
 ghost use Rattle.order_closure.specs.Tables.{AreInRange, SatisfiesAll};
@@ -43,9 +44,9 @@ impl From<Memory> for CloseFault {
 /// `Clash` comes exactly where no timeline fits. It is minimal, and proves itself.
 pub fn close(alloc: Global, net: &Net) -> Result<Closed, CloseFault>
     ensures ok { IfOk result (IsClosureOf net.now) }
-    ensures few { IfOk result (λ table. table.points ≤ 1024) }
+    ensures few { IfOk result (λ table. table.points ≤ max_points) }
     ensures fits { IfOk result (λ table. (t : Timeline) × Fits net.now t) }
-    ensures err { IfErr result (TellsClash net.now) }
+    ensures err { IfErr result (ReportsClash net.now) }
 {
     match table_of(alloc, net) {
         Ok(table) => {
@@ -60,7 +61,7 @@ pub fn close(alloc: Global, net: &Net) -> Result<Closed, CloseFault>
 /// The table that is kept by exactly the timelines that fit the net, or a clash.
 fn table_of(alloc: Global, net: &Net) -> Result<Closed, CloseFault>
     ensures ok { IfOk result (IsTableOf (points net.now) (Fits net.now)) }
-    ensures err { IfErr result (TellsClash net.now) }
+    ensures err { IfErr result (ReportsClash net.now) }
 {
     let fixed = fixed_orders(alloc, net)?;
     if let Some(table) = in_sequence(alloc, net, &fixed)? {
@@ -91,7 +92,7 @@ fn closure_of(
     orders: &[Atom],
     sequence: &[usize],
 ) -> Result<Option<Closed>, Memory>
-    requires few { points ≤ 2048 }
+    requires few { points ≤ max_points }
     requires in_range { AreInRange points orders.now }
     requires sequence { All (λ k. k < length orders.now) sequence.now }
     ensures { IfOk result (λ found. IfSome found (IsTableOf points (SatisfiesAll orders.now))) }
@@ -111,7 +112,7 @@ fn closure_of(
 fn by_links(alloc: Global, net: &Net, fixed: &[Atom]) -> Result<Closed, CloseFault>
     requires { AreFixed net.now fixed.now }
     ensures ok { IfOk result (IsTableOf (points net.now) (Fits net.now)) }
-    ensures err { IfErr result (TellsClash net.now) }
+    ensures err { IfErr result (ReportsClash net.now) }
 {
     let mut table = without_links(alloc, net, fixed)?;
     match add_links(&mut table, net) {

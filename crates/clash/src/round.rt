@@ -1,11 +1,12 @@
 //! Walks that go round, and the links that they go over.
-ghost use Rattle.clash.specs.Minimal.{IsRound, IsSpare, IsSpared};
+ghost use Rattle.clash.specs.Minimal.{IsRound, IsSpared};
 ghost use Rattle.clash.specs.Orders.{AreFixed};
 ghost use Rattle.net_core.specs.Fits.{EveryLink};
+ghost use Rattle.net_core.specs.Least.{IsSpare};
 ghost use Rattle.net_core.specs.Nets.{points};
 ghost use Rattle.net_core.specs.Walks.{GoesOver, GoesRound, Kept};
 ghost use Rattle.net_core.specs.declared.step.Step.{Step as StepOf};
-ghost use Rattle.std.specs.Prelude.{IfNone, IfOk, IfSome, IsTrue, List as ListOf, OnOk, false, length, ℕ, ◌*◌, ◌<◌, ◌≡◌, ◌≢◌, ◌≤◌};
+ghost use Rattle.std.specs.Prelude.{IfNone, IfOk, IfSome, List as ListOf, OnOk, false, length, ℕ, ◌*◌, ◌<◌, ◌≡◌, ◌≢◌, ◌≤◌};
 
 use crate::links::{atoms_of_link, nth};
 use crate::orders::{Order, orders_of};
