@@ -1,3 +1,5 @@
+pub mod Checks
+pub mod Zipped
 pub mod Proving
 pub mod GoingRound
 pub mod Marks

@@ -1,19 +1,19 @@
 //! Checking evidence.
-ghost use Rattle.evidence_check.specs.Claims.{CanFail, Follows, IsTrue, claim_of};
+ghost use Rattle.evidence_check.specs.Claims.{ShowsTruth, claim_of};
 ghost use Rattle.evidence_check.specs.Asked.{AreRisingLinks};
-ghost use Rattle.evidence_check.specs.Refusals.{IsCiteRefused, IsNumberRefused, IsRefused, IsSpareRefused};
-ghost use Rattle.evidence_check.specs.Supported.{AreIntervals, AreLinks, FitsOthers, IsSupported};
+ghost use Rattle.evidence_check.specs.Refusals.{AreSparesRefused, IsCiteRefused, IsNumberRefused, IsRefused};
+ghost use Rattle.evidence_check.specs.Supported.{AllFitOthers, AreLinks, IsSupported};
 ghost use Rattle.evidence_format.specs.Evidence.{AreRanks, IsWellFormed, clash, counter, entails, timeline};
 ghost use Rattle.evidence_format.specs.View.{plain};
 ghost use Rattle.net_core.specs.Clashes.{IsMinimalClash};
-ghost use Rattle.net_core.specs.Firsts.{IsFirst};
+ghost use Rattle.net_core.specs.Entailment.{AreIntervals, CanFail, Follows};
 ghost use Rattle.net_core.specs.Limits.{max_intervals, max_links};
 ghost use Rattle.net_core.specs.Nets.{intervals};
 ghost use Rattle.net_core.specs.Ranks.{pairs_of};
 ghost use Rattle.net_core.specs.declared.rels.Rel.{Rel as RelOf};
 ghost use Rattle.net_core.specs.declared.step.Step.{Step as StepOf};
 ghost use Rattle.std.specs.List.{All};
-ghost use Rattle.std.specs.Prelude.{IfErr, IfOk, IsOk, List, None, OnOk, length, map, ℕ, ◌≡◌, ◌≤◌, ◌↔◌};
+ghost use Rattle.std.specs.Prelude.{IfErr, IfOk, IsOk, List, OnOk, length, map, ℕ, ◌≡◌, ◌≤◌, ◌↔◌};
 
 use crate::refusal::{Claim, Reason, Refused};
 use crate::rounds::go_round;
@@ -33,7 +33,7 @@ pub fn verify(net: &Net, evidence: &Evidence) -> Result<Claim, Refused>
     ensures ok { IfOk result (λ claim. claim ≡ claim_of (plain evidence.now)) }
     ensures err { IfErr result (IsRefused net.now (plain evidence.now)) }
     // What supported evidence shows is true.
-    ensures sound { IfOk result (λ claim. IsTrue net.now (plain evidence.now)) }
+    ensures sound { IfOk result (λ claim. ShowsTruth net.now (plain evidence.now)) }
     // An entailment: the relation holds in every timeline that fits, whether or not there is one.
     ensures follows { (a b : ℕ) (r : RelOf) (walks : List (List StepOf)) → plain evidence.now ≡ entails a r b walks → IfOk result (λ claim. Follows net.now a r b) }
     // A counterexample: the relation is false in some timeline that fits.
@@ -146,7 +146,7 @@ fn check_clash(net: &Net, cites: &[u32], walk: &[Step], spares: &[Ranks]) -> Res
 
 /// Ok where all cites are numbers of links of the net.
 fn check_cites(net: &Net, cites: &[u32]) -> Result<(), Refused>
-    ensures ok { OnOk result (AreLinks net.now cites.now None) }
+    ensures ok { OnOk result (AreLinks net.now cites.now) }
     ensures few { OnOk result (length net.now.links ≤ max_links) }
     ensures err { IfErr result (IsCiteRefused net.now cites.now) }
 {
@@ -168,8 +168,8 @@ fn check_spares(net: &Net, cites: &[u32], spares: &[Ranks]) -> Result<(), Refuse
     requires few { length cites.now ≤ max_links }
     requires one_each { length spares.now ≡ length cites.now }
     requires ranks { All AreRanks (map pairs_of spares.now) }
-    ensures ok { OnOk result (IsFirst (length cites.now) (FitsOthers net.now cites.now (map pairs_of spares.now)) None) }
-    ensures err { IfErr result (IsSpareRefused net.now cites.now (map pairs_of spares.now)) }
+    ensures ok { OnOk result (AllFitOthers net.now cites.now (map pairs_of spares.now)) }
+    ensures err { IfErr result (AreSparesRefused net.now cites.now (map pairs_of spares.now)) }
 {
     for i in 0..cites.len() {
         let own = cites[i];
