@@ -35,8 +35,7 @@ pub fn go_round(
 }
 
 /// For each point that an order leaves the strong component that it is in, by the first of its points that was met. In the
-/// sequence the orders of one point of a component, the one that is left last, come after those of all points that it leads
-/// to; so this point is met first, and from none of another component that was not met yet.
+/// sequence the orders of one point of a component, the one that is left last, come after those of all that it leads to.
 fn components_of(
     alloc: Global,
     points: usize,
