@@ -14,7 +14,7 @@ use crate::insert::{add_in_sequence, add_orders};
 use crate::links::add_links;
 use crate::minimal::{Clash, clash_up_to};
 use crate::orders::{all_orders, fixed_orders};
-use crate::rings::go_round;
+use crate::rings::has_strict_cycle;
 use crate::sequence::sequence_of;
 use net_core::{Atom, Memory, Net};
 use order_closure::Closed;
@@ -78,7 +78,7 @@ fn in_sequence(alloc: Global, net: &Net, fixed: &[Atom]) -> Result<Option<Closed
     let points = 2 * net.intervals();
     let orders = all_orders(alloc, net, fixed)?;
     let sequence = sequence_of(alloc, points, &orders)?;
-    if go_round(alloc, points, &orders, &sequence)? {
+    if has_strict_cycle(alloc, points, &orders, &sequence)? {
         return Ok(None);
     }
     closure_of(alloc, points, &orders, &sequence)

@@ -70,7 +70,7 @@ fn thinned_clash(
     })
 }
 
-/// A walk that goes round over links up to this one.
+/// A closed walk over links up to this one.
 fn first_round(alloc: Global, net: &Net, link: u32) -> Result<Round, Memory>
     requires { IsFirstClash net.now link }
     ensures round { IfOk result (IsRound net.now) }

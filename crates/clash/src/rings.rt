@@ -15,7 +15,7 @@ use std::alloc::Global;
 /// # Errors
 ///
 /// Out of memory.
-pub fn go_round(
+pub fn has_strict_cycle(
     alloc: Global,
     points: u32,
     orders: &[Atom],

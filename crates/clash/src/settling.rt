@@ -38,7 +38,7 @@ pub fn settle(orders: &[Order], fixed: &[Atom], but: u32, ranks: &mut [u32], tur
 }
 
 /// Raises ranks once by each order but those of one link: forward from a place on and then round to it, or the same way
-/// back. So the orders of a walk that goes round are raised at once, from where it is cut.
+/// back. So the orders of a closed walk are raised at once, from where it is cut.
 fn raise_turn(
     orders: &[Order],
     fixed: &[Atom],

@@ -10,7 +10,7 @@ use crate::round::{Round, TURNS};
 use net_core::{Atom, List, Memory, Net, Ranks};
 use std::alloc::Global;
 
-/// For each link that a walk goes round over, in order, the least ranks that fit with the others.
+/// For each link of a closed walk, in order, the least ranks that fit with the others.
 ///
 /// # Errors
 ///

@@ -4,7 +4,7 @@ use Rattle.std.specs.List.{Contains}
 use Rattle.std.proofs.lemmas.List.Elements.{All-get_or}
 use Rattle.std.proofs.lemmas.Slice.Zip.{AllZip-long}
 use Rattle.net_core.specs.Atoms.{atoms_of}
-use Rattle.net_core.specs.Clashes.{GoesRoundOver, Others}
+use Rattle.net_core.specs.Clashes.{IsClosedOver, Others}
 use Rattle.net_core.specs.Fits.{EveryLink, KeepsCalendar, KeepsLink, RanksFit, RanksFitWith, StartsFirst}
 use Rattle.net_core.specs.Nets.{PlainNet, intervals, points}
 use Rattle.net_core.specs.Ranks.{ranks_of, timeline_of}
@@ -22,7 +22,7 @@ use Rattle.evidence_check.specs.Supported.{AllFitOthers, AreLinks, FitsOthers, I
 use Rattle.evidence_check.proofs.Checks.{IsCheck, by_check, three_checks, two_checks}
 use Rattle.evidence_check.proofs.Proving.{one_reason}
 use Rattle.evidence_check.proofs.Zipped.{zip_at}
-use Rattle.evidence_check.proofs.GoingRound.{one_round, round_not_both}
+use Rattle.evidence_check.proofs.ClosedWalks.{one_round, round_not_both}
 
 -- numbers that are found alike are one
 some_is : (m n : ℕ) → Some m ≡ Some n → m ≡ n
@@ -154,7 +154,7 @@ module _ (net : PlainNet) where
         one_refused r s (h.0 ∙ sym k.0) (h.3 ∙ ap (λ (i : ℕ). Number (cite_at cites i)) same ∙ sym k.3);
   }
 
-  round_check : (cites : List ℕ) (walk : List StepOf) → IsCheck (GoesRoundOver net cites walk) (IsRoundRefused net cites walk)
+  round_check : (cites : List ℕ) (walk : List StepOf) → IsCheck (IsClosedOver net cites walk) (IsRoundRefused net cites walk)
   round_check cites walk = record {
     not_both = λ r round h. round_not_both net cites walk r.reason round h.1;
     once = λ r s h k. one_refused r s (h.0 ∙ sym k.0) (one_round net cites walk r.reason s.reason h.1 k.1);

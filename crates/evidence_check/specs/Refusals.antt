@@ -2,7 +2,7 @@
 use Rattle.std.specs.Prelude.{◌≡◌, ◌≢◌, ◌⊎◌, ℕ, ◌+◌, ◌*◌, ◌<◌, ◌≤◌, true, false, List, [], length, take, Option, None, Some, slice_index, slice_index_or}
 use Rattle.std.specs.List.{Contains}
 use Rattle.net_core.specs.Atoms.{atoms_of}
-use Rattle.net_core.specs.Clashes.{Agrees, GoesRoundOver, Others}
+use Rattle.net_core.specs.Clashes.{Agrees, IsClosedOver, Others}
 use Rattle.net_core.specs.Entailment.{AreIntervals}
 use Rattle.net_core.specs.Firsts.{IsFirst, IsFirstPair}
 use Rattle.net_core.specs.Fits.{EveryLink, KeepsCalendar, KeepsLink, RanksFit, StartsFirst}
@@ -10,7 +10,7 @@ use Rattle.net_core.specs.Nets.{PlainNet, intervals, points}
 use Rattle.net_core.specs.Ranks.{ranks_of, timeline_of}
 use Rattle.net_core.specs.Relations.{Relates}
 use Rattle.net_core.specs.Steps.{has_strict}
-use Rattle.net_core.specs.Walks.{GoesRound, IsJoined}
+use Rattle.net_core.specs.Walks.{IsClosedWalk, IsJoined}
 use Rattle.net_core.specs.declared.atom.Atom.{Atom}
 use Rattle.net_core.specs.declared.rels.Rel.{Rel}
 use Rattle.net_core.specs.declared.step.Step.{Step as StepOf}
@@ -117,12 +117,12 @@ IsRelationRefused ranks a r b refused = (refused.part ≡ 2) × (refused.reason 
 abbrev pub GoOn : PlainNet → List StepOf → Type 0
 GoOn net steps = (x : ℕ) × GoFrom net x steps
 
--- The steps do not go round over exactly the cited links, for this reason and for none before it: step k is the first that does not go on; they do not end where they begin; none of them is strict; or a link is the first that is cited and not gone over, or gone over and not cited.
+-- The steps are no closed walk over exactly the cited links, for this reason and for none before it: step k is the first that does not go on; they do not end where they begin; none of them is strict; or a link is the first that is cited and not gone over, or gone over and not cited.
 abbrev pub IsNoRound : PlainNet → List ℕ → List StepOf → Reason → Type 0
 IsNoRound net cites steps (Step k) = (k < length steps) × GoOn net (take k steps) × (GoOn net (take (k + 1) steps) → ⊥)
 IsNoRound net cites steps End = (x : ℕ) × (y : ℕ) × IsJoined net EveryLink steps x y × (x ≢ y)
 IsNoRound net cites steps Weak = (x : ℕ) × IsJoined net EveryLink steps x x × (has_strict net steps ≡ false)
-IsNoRound net cites steps (Cited link) = GoesRound net EveryLink steps × IsFirst (length net.links) (Agrees cites steps) (Some link)
+IsNoRound net cites steps (Cited link) = IsClosedWalk net EveryLink steps × IsFirst (length net.links) (Agrees cites steps) (Some link)
 IsNoRound net cites steps other = ⊥
 
 -- a cite that is none of a link, which is part 0
@@ -158,7 +158,7 @@ IsRefused net (counter a r b ranks) refused =
 IsRefused net (clash cites walk spares) refused =
     IsCiteRefused net cites refused
     ⊎ (AreLinks net cites × IsRoundRefused net cites walk refused)
-    ⊎ (AreLinks net cites × GoesRoundOver net cites walk × AreSparesRefused net cites spares refused)
+    ⊎ (AreLinks net cites × IsClosedOver net cites walk × AreSparesRefused net cites spares refused)
 
 -- the law: evidence is not both supported and refused, and is refused for one reason at most
 pub record Verdicts (net : PlainNet) (e : PlainEvidence) : Type 0 where

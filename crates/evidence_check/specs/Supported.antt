@@ -2,7 +2,7 @@
 use Rattle.std.specs.Prelude.{ℕ, ◌<◌, List, length}
 use Rattle.std.specs.List.{All, AllZip, Contains}
 use Rattle.net_core.specs.Atoms.{atoms_of}
-use Rattle.net_core.specs.Clashes.{GoesRoundOver, Others}
+use Rattle.net_core.specs.Clashes.{IsClosedOver, Others}
 use Rattle.net_core.specs.Entailment.{AreIntervals}
 use Rattle.net_core.specs.Fits.{EveryLink, RanksFit, RanksFitWith}
 use Rattle.net_core.specs.Nets.{PlainNet}
@@ -38,9 +38,9 @@ FitsOthers net cites own ranks = RanksFitWith net (Others (Contains cites) own) 
 abbrev pub AllFitOthers : PlainNet → List ℕ → List (List (ℕ × ℕ)) → Type 0
 AllFitOthers net cites spares = AllZip (FitsOthers net cites) cites spares
 
--- A timeline is supported where its ranks fit the net. An entailment is where its walks prove all orders that its relation is. A counterexample is where its ranks fit the net and its relation is false by them. A clash is where its walk goes round over exactly the links that it cites, and each of its timelines fits with all of them but its own.
+-- A timeline is supported where its ranks fit the net. An entailment is where its walks prove all orders that its relation is. A counterexample is where its ranks fit the net and its relation is false by them. A clash is where its walk is closed and goes over exactly the links that it cites, and each of its timelines fits with all of them but its own.
 abbrev pub IsSupported : PlainNet → PlainEvidence → Type 0
 IsSupported net (timeline ranks) = RanksFit net (ranks_of ranks)
 IsSupported net (entails a r b walks) = AreIntervals net a b × ProveAll net (atoms_of r a b) walks
 IsSupported net (counter a r b ranks) = AreIntervals net a b × RanksFit net (ranks_of ranks) × IsFalse (ranks_of ranks) a r b
-IsSupported net (clash cites walk spares) = AreLinks net cites × GoesRoundOver net cites walk × AllFitOthers net cites spares
+IsSupported net (clash cites walk spares) = AreLinks net cites × IsClosedOver net cites walk × AllFitOthers net cites spares

@@ -16,7 +16,7 @@ ghost use Rattle.std.specs.List.{All};
 ghost use Rattle.std.specs.Prelude.{IfErr, IfOk, IsOk, List, OnOk, length, map, ℕ, ◌≡◌, ◌≤◌, ◌↔◌};
 
 use crate::refusal::{Claim, Reason, Refused};
-use crate::rounds::go_round;
+use crate::rounds::check_closed;
 use crate::timeline::{Asked, fit};
 use crate::walks::prove_all;
 use evidence_format::Evidence;
@@ -129,7 +129,8 @@ fn check_numbers(net: &Net, a: u32, b: u32) -> Result<(), Refused>
     })
 }
 
-/// Links that are to clash, a walk that is to go round over exactly these, and timelines that are to fit with all but one.
+/// Links that are to clash, a walk that is to be closed and to go over exactly these, and timelines that are to fit with
+/// all but one.
 fn check_clash(net: &Net, cites: &[u32], walk: &[Step], spares: &[Ranks]) -> Result<Claim, Refused>
     requires { IsWellFormed (clash cites.now walk.now (map pairs_of spares.now)) }
     ensures claim { IfOk result (λ claim. claim ≡ Claim.Clashes) }
@@ -137,7 +138,7 @@ fn check_clash(net: &Net, cites: &[u32], walk: &[Step], spares: &[Ranks]) -> Res
     ensures err { IfErr result (IsRefused net.now (clash cites.now walk.now (map pairs_of spares.now))) }
 {
     check_cites(net, cites)?;
-    if let Err(reason) = go_round(net, cites, walk) {
+    if let Err(reason) = check_closed(net, cites, walk) {
         return Err(Refused { part: 1, reason });
     }
     check_spares(net, cites, spares)?;

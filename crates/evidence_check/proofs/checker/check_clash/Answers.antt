@@ -3,8 +3,8 @@ use Rattle.net_core.specs.Limits.{max_links}
 use Rattle.evidence_check.proofs.Cites.{by_place, no_more, rising_links}
 use Rattle.evidence_check.proofs.checker.check_clash.Goals as goal
 
-pub go_round-requires-clause-cites : goal.go_round-requires-clause-cites
-go_round-requires-clause-cites c = rising_links c.args.net.now c.args.cites.now c.requires.0.0 (by_place c.args.net.now c.args.cites.now (rw c.in_ok-check_cites.was at c.check_cites.ensures.ok))
+pub check_closed-requires-clause-cites : goal.check_closed-requires-clause-cites
+check_closed-requires-clause-cites c = rising_links c.args.net.now c.args.cites.now c.requires.0.0 (by_place c.args.net.now c.args.cites.now (rw c.in_ok-check_cites.was at c.check_cites.ensures.ok))
 
 pub check_spares-requires-clause-cites : goal.check_spares-requires-clause-cites
 check_spares-requires-clause-cites c = rising_links c.args.net.now c.args.cites.now c.requires.0.0 (by_place c.args.net.now c.args.cites.now (rw c.in_ok-check_cites.was at c.check_cites.ensures.ok))
