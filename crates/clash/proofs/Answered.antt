@@ -7,13 +7,14 @@ use Rattle.net_core.specs.Atoms.{Satisfies}
 use Rattle.net_core.specs.Clashes.{Clashes, Others}
 use Rattle.net_core.specs.Fits.{EveryLink, Fits, FitsWith}
 use Rattle.net_core.specs.Nets.{IsNet, PlainNet, points}
-use Rattle.net_core.specs.Walks.{GoesRound, Kept}
+use Rattle.net_core.specs.Walks.{IsClosedWalk, Kept}
 use Rattle.net_core.proofs.WalkLaws.{joined_more, over_chosen, round_clashes}
+use Rattle.net_core.specs.Least.{AreSpares, IsSpare}
 use Rattle.order_closure.proofs.LeastRanks.{same_ranks}
-use Rattle.clash.specs.Minimal.{AreSpares, IsAnswered, IsProvedClash, IsSpare, IsSpared}
+use Rattle.clash.specs.Minimal.{IsAnswered, IsProvedClash, IsSpared}
 use Rattle.clash.specs.Walks.{OrdersAreAnswered}
 use Rattle.clash.specs.declared.minimal.Clash.{Clash}
-use Rattle.clash.proofs.Complete.{fits_or_goes_round, least_or_goes_round, walk_or_counter}
+use Rattle.clash.proofs.Complete.{fits_or_closed_walk, least_or_closed_walk, walk_or_counter}
 use Rattle.clash.proofs.Marked.{every_marked, kept_within}
 use Rattle.clash.proofs.Proved.{proved_links}
 use Rattle.clash.proofs.Rounds.{fits_fewer, goes_over, others_set, set_others, spared_fewer}
@@ -40,7 +41,7 @@ module _ (net : PlainNet) (is : IsNet net) where
   thinner : (k : ℕ) (keep : List Bool) → AreThinned (suc k) keep → (now : List Bool) × AreThinned k now
   thinner k keep has =
       let without = slice_set keep k false in
-      elim (fits_or_goes_round net (λ j. slice_index_or without j false) is) [
+      elim (fits_or_closed_walk net (λ j. slice_index_or without j false) is) [
         | inl fits ↦ (
           keep,
           record {
@@ -81,7 +82,7 @@ module _ (net : PlainNet) (is : IsNet net) where
     spare_of k kept =
         let without = slice_set keep k false in
         let spared = has.needed k (omega arith) kept in
-        elim (least_or_goes_round net (λ j. slice_index_or without j false) is) [
+        elim (least_or_closed_walk net (λ j. slice_index_or without j false) is) [
           | inl found ↦ (
             found.0,
             same_ranks (points net) (FitsWith net (Kept without)) (FitsWith net (Others (Kept keep) k)) found.0 (λ t. (
@@ -106,11 +107,11 @@ module _ (net : PlainNet) (is : IsNet net) where
         each spare own spares are (suc i) below = are.1 i (omega arith)
 
     clash_of : (clash : Clash) × IsProvedClash net clash
-    clash_of = elim (fits_or_goes_round net (λ j. slice_index_or keep j false) is) [
+    clash_of = elim (fits_or_closed_walk net (λ j. slice_index_or keep j false) is) [
       | inl fits ↦ absurd (has.clashes fits.0 fits.1)
       | inr round ↦
           let short = short_walk net (Kept keep) round.1.0 round.1.0 true is (round.0, round.1.1) in
-          let goes : GoesRound net (Kept keep) short.0 = (round.1.0, short.1) in
+          let goes : IsClosedWalk net (Kept keep) short.0 = (round.1.0, short.1) in
           let marked = every_marked keep (length keep) in
           let kept = λ (k : ℕ) (among : Contains marked.0 k). ((marked.1.exact k).0 among).1 in
           let spares = spares_of marked.0 kept in (
@@ -128,7 +129,7 @@ module _ (net : PlainNet) (is : IsNet net) where
   answered =
       let keep = all_kept net in
       let whole = length-replicate (length net.links) true in
-      elim (least_or_goes_round net (λ j. slice_index_or keep j false) is) [
+      elim (least_or_closed_walk net (λ j. slice_index_or keep j false) is) [
         | inl found ↦ inl (
           found.0,
           same_ranks (points net) (FitsWith net (Kept keep)) (Fits net) found.0 (λ t. (

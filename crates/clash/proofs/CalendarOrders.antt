@@ -13,7 +13,7 @@ use Rattle.order_closure.specs.Tables.{SatisfiesAll}
 use Rattle.walks.specs.Dates.{AreAscending, AreDates, AreDescending, AreFrom, IsDate}
 use Rattle.walks.specs.declared.dates.Date.{Date}
 use Rattle.walks.proofs.DateLaws.{ascending, descending, no_date}
-use Rattle.clash.specs.Dates.{Extends, Follows, FollowsAll, IsFixed, PutsBefore, PutsFixedBefore, PutsLastBefore}
+use Rattle.clash.specs.Dates.{Extends, FollowsDate, FollowsAll, IsFixed, PutsBefore, PutsFixedBefore, PutsLastBefore}
 use Rattle.clash.specs.Steps.{KeepsDates}
 use Rattle.clash.proofs.DateOrders.{dates_said}
 use Rattle.clash.proofs.Steps.{Below, all_below}
@@ -36,45 +36,45 @@ through : (x y z : ℤ) (l m n : ℕ) → x ≤ℤ y → y ≤ℤ z → FollowsN
 through x y z l m n le lt first second = (λ less. grind (arith, ints), λ e. grind (arith, ints))
 
 -- where a point has the number of another and is not after it, all points with lower numbers that follow the other follow it too
-all_through : (first mid : Date) (lowers : List Date) (t : Timeline) → first.number ≡ mid.number → Follows first mid t → FollowsAll lowers mid t → FollowsAll lowers first t
+all_through : (first mid : Date) (lowers : List Date) (t : Timeline) → first.number ≡ mid.number → FollowsDate first mid t → FollowsAll lowers mid t → FollowsAll lowers first t
 all_through first mid lowers t same one all =
-    All-weaker (λ (l : Date). Follows mid l t) (λ (l : Date). Follows first l t) (λ l h. elim (by_number mid.number l.number) [
+    All-weaker (λ (l : Date). FollowsDate mid l t) (λ (l : Date). FollowsDate first l t) (λ l h. elim (by_number mid.number l.number) [
       | inl le ↦ through first.number mid.number l.number (t first.point) (t mid.point) (t l.point) (omega (arith, ints)) le one h
       | inr lt ↦ not_after first.number l.number (t first.point) (t l.point) (subst (λ (x : ℤ). l.number <ℤ x) (sym same) lt)
     ]) lowers all
 
 -- All points with lower numbers follow a point, where those before place k of the dates from its number on do, and so the rest.
 all_from : (upper : Date) (lowers later : List Date) (k : ℕ) (t : Timeline) → AreFrom upper.number lowers later → k ≤ length later
-    → (Below (λ i. Follows upper (get_or later i no_date)) k t → (i : ℕ) → k ≤ i → i < length later → Follows upper (get_or later i no_date) t)
-    → Below (λ i. Follows upper (get_or later i no_date)) k t ↔ FollowsAll lowers upper t
+    → (Below (λ i. FollowsDate upper (get_or later i no_date)) k t → (i : ℕ) → k ≤ i → i < length later → FollowsDate upper (get_or later i no_date) t)
+    → Below (λ i. FollowsDate upper (get_or later i no_date)) k t ↔ FollowsAll lowers upper t
 all_from upper lowers later k t are le rest = (
   λ below.
-      let every : All (λ (l : Date). Follows upper l t) later = All-from_get_or (λ (l : Date). Follows upper l t) later no_date (λ i lt. elim (cases_lt i k) [
+      let every : All (λ (l : Date). FollowsDate upper l t) later = All-from_get_or (λ (l : Date). FollowsDate upper l t) later no_date (λ i lt. elim (cases_lt i k) [
         | inl less ↦ below i less
         | inr ge ↦ rest below i ge lt
       ]) in
-      All-weaker (Contains lowers) (λ (l : Date). Follows upper l t) (λ l stands. elim (by_number upper.number l.number) [
-        | inl from ↦ All-contains (λ (l : Date). Follows upper l t) later l every ((are l).1 (stands, from))
+      All-weaker (Contains lowers) (λ (l : Date). FollowsDate upper l t) (λ l stands. elim (by_number upper.number l.number) [
+        | inl from ↦ All-contains (λ (l : Date). FollowsDate upper l t) later l every ((are l).1 (stands, from))
         | inr before ↦ not_after upper.number l.number (t upper.point) (t l.point) before
       ]) lowers (All-contains_itself lowers),
-  λ all. λ i lt. All-contains (λ (l : Date). Follows upper l t) lowers (get_or later i no_date) all
+  λ all. λ i lt. All-contains (λ (l : Date). FollowsDate upper l t) lowers (get_or later i no_date) all
       ((are (get_or later i no_date)).0 (Contains-get_or later i no_date (omega arith))).0,
 )
 
 -- that is so with all dates from its number on
 pub all_later : (upper : Date) (lowers later : List Date) (t : Timeline) → AreFrom upper.number lowers later
-    → Below (λ i. Follows upper (get_or later i no_date)) (length later) t ↔ FollowsAll lowers upper t
+    → Below (λ i. FollowsDate upper (get_or later i no_date)) (length later) t ↔ FollowsAll lowers upper t
 all_later upper lowers later t are = all_from upper lowers later (length later) t are (omega arith) (λ below i ge lt. absurd (omega arith))
 
 -- and with those up to one that all points with lower numbers follow
 pub up_to_fixed : (upper : Date) (lowers later : List Date) (k : ℕ) (t : Timeline) → AreFrom upper.number lowers later → AreAscending later
     → k < length later → upper.number <ℤ (get_or later k no_date).number → FollowsAll lowers (get_or later k no_date) t
-    → Below (λ i. Follows upper (get_or later i no_date)) (k + 1) t ↔ FollowsAll lowers upper t
+    → Below (λ i. FollowsDate upper (get_or later i no_date)) (k + 1) t ↔ FollowsAll lowers upper t
 up_to_fixed upper lowers later k t are sorted lt less fixed = all_from upper lowers later (k + 1) t are (omega arith) (λ below i ge li.
     let mid = get_or later k no_date in
     let last = get_or later i no_date in
     through upper.number mid.number last.number (t upper.point) (t mid.point) (t last.point) (omega (arith, ints)) (ascending later k i no_date sorted (omega arith) li)
-    (below k (omega arith)) (All-contains (λ (l : Date). Follows mid l t) lowers last fixed ((are last).0 (Contains-get_or later i no_date li)).0))
+    (below k (omega arith)) (All-contains (λ (l : Date). FollowsDate mid l t) lowers last fixed ((are last).0 (Contains-get_or later i no_date li)).0))
 
 -- the dates from a number on are of points of the net
 pub later_within : (net : PlainNet) (lowers later : List Date) (number : ℤ) (k : ℕ) → AreDates (lower net) (points net) lowers → AreFrom number lowers later
@@ -107,10 +107,10 @@ extends_same n P Q old new same h = record {
 
 -- where the order to the last fixed point with the same number is pushed, all points with lower numbers follow
 pub same_as_last : (n : ℕ) (upper fixed : Date) (lowers : List Date) (old new : List Atom) → fixed.number ≡ upper.number → Contains lowers fixed → PutsBefore lowers old fixed
-    → Extends n (Follows upper fixed) old new → Extends n (FollowsAll lowers upper) old new
-same_as_last n upper fixed lowers old new same stands puts h = extends_same n (Follows upper fixed) (FollowsAll lowers upper) old new (λ t all. (
+    → Extends n (FollowsDate upper fixed) old new → Extends n (FollowsAll lowers upper) old new
+same_as_last n upper fixed lowers old new same stands puts h = extends_same n (FollowsDate upper fixed) (FollowsAll lowers upper) old new (λ t all. (
   λ one. all_through upper fixed lowers t (sym same) one (puts t all),
-  λ every. All-contains (λ (l : Date). Follows upper l t) lowers fixed every stands,
+  λ every. All-contains (λ (l : Date). FollowsDate upper l t) lowers fixed every stands,
 )) h
 
 -- a number that is not above another

@@ -1,4 +1,4 @@
--- Each order that always holds has a walk: the steps of a net have a closed table whose cells all have walks, or some walk goes round with a strict step.
+-- Each order that always holds has a walk: the steps of a net have a closed table whose cells all have walks, or there is a closed walk.
 use Rattle.std.proofs.Common.{◌≡◌, ℕ, ◌<◌, ◌≤◌, max, Bool, true, false, ◌||◌, List, [], ◌∷◌, ◌++◌, slice_index_or, Option, Some, None, refl, sym, ap, subst, ◌∙◌, arith, ◌⊎◌, inl, inr}
 use Rattle.std.specs.List.{AllByRecursion}
 use Rattle.std.proofs.lemmas.Bool.{cases_lt, cases_eq}
@@ -11,16 +11,16 @@ use Rattle.net_core.specs.Nets.{IsNet, PlainNet, points}
 use Rattle.net_core.specs.Ranks.{timeline_of}
 use Rattle.net_core.specs.Relations.{Timeline}
 use Rattle.net_core.specs.Steps.{GoesBy, Uses, atom_of, has_strict, is_strict_order}
-use Rattle.net_core.specs.Walks.{GoesRound, HasWalk, Kept}
+use Rattle.net_core.specs.Walks.{IsClosedWalk, HasWalk, Kept}
 use Rattle.net_core.specs.declared.atom.Atom.{Atom}
 use Rattle.net_core.specs.declared.step.Step.{Step}
 use Rattle.net_core.specs.declared.step.Step.TheVariants.{Link, Span, Calendar}
 use Rattle.net_core.proofs.StepLaws.{fits_from_steps, step_in_range}
 use Rattle.net_core.proofs.WalkLaws.{joined_then, round_clashes, walk_kept}
+use Rattle.net_core.specs.Least.{AreLeast}
 use Rattle.order_closure.specs.Cells.{Says, joined, order, strength, stronger}
 use Rattle.order_closure.specs.Counting.{is_strict}
 use Rattle.order_closure.specs.Tables.{AreClosed, AreKept, Denies, new_cell, way}
-use Rattle.order_closure.specs.Timelines.{AreLeast}
 use Rattle.order_closure.specs.declared.cell.Cell.{Cell}
 use Rattle.order_closure.specs.declared.cell.Cell.TheVariants.{Free, Weak, Strict}
 use Rattle.order_closure.proofs.Adding.{new_closed}
@@ -29,7 +29,7 @@ use Rattle.order_closure.proofs.Joining.{strength-stronger}
 use Rattle.order_closure.proofs.LeastRanks.{counter_ranks, least_ranks, same_ranks}
 use Rattle.order_closure.proofs.Raising.{raised_closed, raised_kept}
 use Rattle.order_closure.proofs.Tables.{new_other}
-use Rattle.clash.specs.Walks.{AlwaysWith, ClashesGoRound, WalksSayAll}
+use Rattle.clash.specs.Walks.{AlwaysWith, ClashesHaveClosedWalks, WalksSayAll}
 use Rattle.clash.proofs.EveryStep.{every_step, of_every_step}
 
 -- ---- cells
@@ -149,7 +149,7 @@ module _ (net : PlainNet) (test : ℕ → Bool) (is : IsNet net) where
     said : AllByRecursion (IsSaid cell) steps
     walks : (i j : ℕ) (strict : Bool) → i < points net → j < points net → strength (order strict) ≤ strength (cell i j) → Walk i j strict
 
-  -- there is such a table, or some walk goes round with a strict step
+  -- there is such a table, or a closed walk
   Result : List Step → Type 0
   Result steps = ((cell : ℕ → ℕ → Cell) × HasCells steps cell) ⊎ ((x : ℕ) × (x < points net) × Walk x x true)
 
@@ -239,33 +239,33 @@ module _ (net : PlainNet) (test : ℕ → Bool) (is : IsNet net) where
       let walk = has.walks i j (is_strict (cell i j)) li lj (own (cell i j) some) in
       walk_kept net (Passed test) t walk.0 i j (is_strict (cell i j)) fits walk.1)
 
-  -- least ranks fit, or some walk goes round
-  pub least_or_goes_round : ((ranks : List ℕ) × AreLeast (points net) (FitsWith net (Passed test)) ranks) ⊎ ((steps : List Step) × GoesRound net (Passed test) steps)
+  -- least ranks fit, or some walk is closed
+  pub least_or_closed_walk : ((ranks : List ℕ) × AreLeast (points net) (FitsWith net (Passed test)) ranks) ⊎ ((steps : List Step) × IsClosedWalk net (Passed test) steps)
   unfolding Result
-  least_or_goes_round = elim (result (every_step net)) [
+  least_or_closed_walk = elim (result (every_step net)) [
     | inl good ↦
         let found = least_ranks (points net) good.0 good.1.closed in
         inl (found.0, same_ranks (points net) (AreKept (points net) good.0) (FitsWith net (Passed test)) found.0 (λ t. (kept_fits good.0 good.1 t, fits_kept good.0 good.1 t)) found.1)
     | inr bad ↦ inr (bad.2.0, (bad.0, bad.2.1))
   ]
 
-  -- some timeline fits, and none of its ranks is above the number of points, or some walk goes round
-  pub fits_or_goes_round : ((t : Timeline) × FitsWith net (Passed test) t × ((p : ℕ) → p < points net → t p < points net)) ⊎ ((steps : List Step) × GoesRound net (Passed test) steps)
-  fits_or_goes_round = elim least_or_goes_round [
+  -- some timeline fits, and none of its ranks is above the number of points, or some walk is closed
+  pub fits_or_closed_walk : ((t : Timeline) × FitsWith net (Passed test) t × ((p : ℕ) → p < points net → t p < points net)) ⊎ ((steps : List Step) × IsClosedWalk net (Passed test) steps)
+  fits_or_closed_walk = elim least_or_closed_walk [
     | inl least ↦ inl (timeline_of least.0, least.1.least.holds, least.1.small)
     | inr round ↦ inr round
   ]
 
-  -- where none fits some walk goes round
-  pub goes_round : Clashes net (Passed test) → (steps : List Step) × GoesRound net (Passed test) steps
-  goes_round none = elim fits_or_goes_round [
+  -- where none fits some walk is closed
+  pub some_closed_walk : Clashes net (Passed test) → (steps : List Step) × IsClosedWalk net (Passed test) steps
+  some_closed_walk none = elim fits_or_closed_walk [
     | inl fits ↦ absurd (none fits.0 fits.1)
     | inr round ↦ round
   ]
 
   -- where some timeline fits, one does with ranks below the number of points
   pub small_timeline : (u : Timeline) → FitsWith net (Passed test) u → (t : Timeline) × FitsWith net (Passed test) t × ((p : ℕ) → p < points net → t p < points net)
-  small_timeline u fits = elim fits_or_goes_round [
+  small_timeline u fits = elim fits_or_closed_walk [
     | inl small ↦ small
     | inr round ↦ absurd (round_clashes net (Passed test) round.0 round.1 u fits)
   ]
@@ -297,9 +297,9 @@ module _ (net : PlainNet) (test : ℕ → Bool) (is : IsNet net) where
     | inr counter ↦ let holds = counter.1.least.holds in absurd (holds.1 (always (timeline_of counter.0) holds.0))
   ]
 
--- clashes go round
-pub clashes_go_round : ClashesGoRound
-clashes_go_round net keep is = (goes_round net (λ k. slice_index_or keep k false) is, λ walk. round_clashes net (Kept keep) walk.0 walk.1)
+-- clashes have closed walks
+pub clashes_have_closed_walks : ClashesHaveClosedWalks
+clashes_have_closed_walks net keep is = (some_closed_walk net (λ k. slice_index_or keep k false) is, λ walk. round_clashes net (Kept keep) walk.0 walk.1)
 
 -- walks say all
 pub walks_say_all : WalksSayAll

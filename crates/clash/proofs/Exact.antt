@@ -1,5 +1,6 @@
 -- A closed table that is kept by the timelines that fit a net.
 use Rattle.std.proofs.Common.{◌≡◌, ◌↔◌, ℕ, ◌<◌, ◌≤◌, Bool, true, false, List, refl, arith}
+use Rattle.net_core.specs.Entailment.{Always, HasNoTimeline}
 use Rattle.net_core.specs.Fits.{Fits, FitsWith}
 use Rattle.net_core.specs.Nets.{PlainNet, points}
 use Rattle.net_core.specs.Relations.{Timeline}
@@ -11,7 +12,7 @@ use Rattle.order_closure.specs.declared.cell.Cell.{Cell}
 use Rattle.order_closure.specs.declared.cell.Cell.TheVariants.{Free, Strict, Weak}
 use Rattle.order_closure.proofs.Central.{always_stands, order_says}
 use Rattle.order_closure.proofs.Ranking.{counts_kept, strict_from, strict_says}
-use Rattle.clash.specs.Closures.{Always, HasNoTimeline, IsClosureOf, NoLink}
+use Rattle.clash.specs.Closures.{IsClosureOf, NoLink}
 use Rattle.clash.specs.Minimal.{IsFirstClash}
 use Rattle.clash.specs.Orders.{AreFixed}
 use Rattle.clash.specs.Steps.{Adds, IsFirstExcluded, KeepsLinks}

@@ -9,6 +9,7 @@ pub mod ShortWalks
 pub mod Unlinked
 pub mod Rounds
 pub mod Marked
+pub mod Measures
 pub mod Proved
 pub mod Ordered
 pub mod Rising

@@ -1,4 +1,4 @@
--- A walk that goes round over links that are all needed, with a spare for each, is a minimal clash that proves itself.
+-- A closed walk over links that are all needed, with a spare for each, is a minimal clash that proves itself.
 use Rattle.std.proofs.Common.{◌↔◌, ℕ, ◌*◌, ◌<◌, ◌≤◌, List, [], slice_index, slice_index_or, length}
 use Rattle.std.specs.List.{Contains}
 use Rattle.std.specs.List.Sorted.{IsStrictlyIncreasing}
@@ -6,15 +6,16 @@ use Rattle.std.proofs.lemmas.List.Elements.{All-contains_itself, All-weaker}
 use Rattle.net_core.specs.Clashes.{Others}
 use Rattle.net_core.specs.Fits.{EveryLink, FitsWith}
 use Rattle.net_core.specs.Nets.{PlainNet, points}
-use Rattle.net_core.specs.Walks.{GoesOver, GoesRound, Kept}
+use Rattle.net_core.specs.Walks.{GoesOver, IsClosedWalk, Kept}
 use Rattle.net_core.specs.declared.step.Step.{Step}
 use Rattle.net_core.proofs.WalkLaws.{round_clashes}
+use Rattle.net_core.specs.Least.{AreSpares, IsSpare}
 use Rattle.order_closure.proofs.LeastRanks.{same_ranks}
-use Rattle.clash.specs.Minimal.{AreSpares, IsProvedClash, IsRound, IsSpare, IsSpared}
+use Rattle.clash.specs.Minimal.{IsProvedClash, IsRound, IsSpared}
 use Rattle.clash.specs.declared.round.Round.{Round}
 use Rattle.clash.proofs.Rounds.{fits_fewer, goes_over, over_links, round_more, spared_fewer}
 
-module _ (net : PlainNet) (cites : List ℕ) (Over : ℕ → Type 0) (walk : List Step) (goes : GoesRound net Over walk) (over : (k : ℕ) → k < length net.links → Over k ↔ GoesOver walk k) (short : length walk ≤ 2 * points net)
+module _ (net : PlainNet) (cites : List ℕ) (Over : ℕ → Type 0) (walk : List Step) (goes : IsClosedWalk net Over walk) (over : (k : ℕ) → k < length net.links → Over k ↔ GoesOver walk k) (short : length walk ≤ 2 * points net)
     (exact : (k : ℕ) → Contains cites k ↔ Over k) (needed : (k : ℕ) → Over k → IsSpared net Over k) where
   cited : (k : ℕ) → Over k → Contains cites k
   cited k = (exact k).1

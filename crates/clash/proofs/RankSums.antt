@@ -3,6 +3,7 @@ use Rattle.std.proofs.Common.{◌≡◌, ◌∷◌, ◌≤◌, ◌*◌, ℕ, zer
 use Rattle.std.specs.List.{All, sum_by}
 use Rattle.std.proofs.lemmas.List.Elements.{All-from_get_or}
 use Rattle.std.proofs.lemmas.List.Sums.{sum_by-cons, sum_by-le}
+use Rattle.net_core.specs.Limits.{max_points}
 use Rattle.clash.specs.Raising.{AreWithin}
 
 -- the sum of ranks
@@ -33,7 +34,7 @@ same_sum (x ∷ old) (y ∷ new) size up less =
     cc
 
 -- ranks that are not past the highest have a bounded sum
-pub sum_bounded : (ranks : List ℕ) → AreWithin ranks → sum_of ranks ≤ length ranks * 1024
+pub sum_bounded : (ranks : List ℕ) → AreWithin ranks → sum_of ranks ≤ length ranks * max_points
 sum_bounded ranks within =
-    let small : All (λ (rank : ℕ). rank ≤ 1024) ranks = All-from_get_or (λ (rank : ℕ). rank ≤ 1024) ranks 0 (λ p lt. within p) in
-    omega (arith, sum_by-le (λ (rank : ℕ). rank) 1024 ranks small)
+    let small : All (λ (rank : ℕ). rank ≤ max_points) ranks = All-from_get_or (λ (rank : ℕ). rank ≤ max_points) ranks 0 (λ p lt. within p) in
+    omega (arith, sum_by-le (λ (rank : ℕ). rank) max_points ranks small)

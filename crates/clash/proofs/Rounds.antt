@@ -1,4 +1,4 @@
--- Walks that go round, and sets of links that they clash by.
+-- Closed walks, and sets of links that they clash by.
 use Rattle.std.proofs.Common.{◌≡◌, ◌↔◌, inl, inr, ℕ, zero, suc, ◌<◌, ◌≤◌, Bool, true, false, List, [], ◌∷◌, length, Some, slice_index_or, slice_set, refl, sym, ap, subst, ◌∙◌, arith}
 use Rattle.std.specs.List.{Contains, slice_get}
 use Rattle.std.proofs.lemmas.Bool.{cases_lt}
@@ -9,16 +9,17 @@ use Rattle.net_core.specs.Fits.{EveryLink, FitsWith}
 use Rattle.net_core.specs.Nets.{IsNet, PlainNet, link_at}
 use Rattle.net_core.specs.Relations.{Timeline}
 use Rattle.net_core.specs.Steps.{atom_of, link_of}
-use Rattle.net_core.specs.Walks.{GoesOver, GoesRound, HasWalk, IsJoined, Kept}
+use Rattle.net_core.specs.Walks.{GoesOver, IsClosedWalk, HasWalk, IsJoined, Kept}
 use Rattle.net_core.specs.declared.atom.Atom.{Atom}
 use Rattle.net_core.specs.declared.net.NetLink.{NetLink}
 use Rattle.net_core.specs.declared.rels.Rel.TheVariants as rel
 use Rattle.net_core.specs.declared.step.Step.{Step}
 use Rattle.net_core.specs.declared.step.Step.TheVariants.{Link, Span, Calendar}
 use Rattle.net_core.proofs.WalkLaws.{joined_more, joined_over, over_chosen, over_or_not, round_clashes, round_from}
-use Rattle.clash.specs.Minimal.{Before, HasTimeline, IsFirstClash, IsRound, IsSpared, UpTo}
+use Rattle.net_core.specs.Entailment.{HasTimelineWith}
+use Rattle.clash.specs.Minimal.{Before, IsFirstClash, IsRound, IsSpared, UpTo}
 use Rattle.clash.specs.declared.round.Round.{Round}
-use Rattle.clash.proofs.Complete.{fits_or_goes_round}
+use Rattle.clash.proofs.Complete.{fits_or_closed_walk}
 use Rattle.clash.proofs.Marked.{kept_within}
 
 -- ---- sets of links
@@ -30,7 +31,7 @@ fits_fewer net Chosen Fewer t fewer fits = record { order = fits.order; links = 
 pub spared_fewer : (net : PlainNet) (Chosen Fewer : ℕ → Type 0) (k : ℕ) → ((j : ℕ) → Fewer j → Chosen j) → IsSpared net Chosen k → IsSpared net Fewer k
 spared_fewer net Chosen Fewer k fewer spared = (spared.0, fits_fewer net (Others Chosen k) (Others Fewer k) spared.0 (λ j lt other. (fewer j other.0, other.1)) spared.1)
 
--- ---- walks that go round
+-- ---- closed walks
 
 -- joined steps go over links of the net only
 pub over_links : (net : PlainNet) (Chosen : ℕ → Type 0) (steps : List Step) (x y k : ℕ) → IsJoined net Chosen steps x y → GoesOver steps k → k < length net.links
@@ -46,14 +47,14 @@ over_links net Chosen (step ∷ steps) x y k joined (other, (zero, lt, e), is) =
     in_range (Calendar p q) a at link = absurd cc
 over_links net Chosen (step ∷ steps) x y k joined (other, (suc j, lt, e), is) = over_links net Chosen steps joined.0.to y k joined.3 (other, (j, omega (arith, lt), e), is)
 
-pub round_more : (net : PlainNet) (Chosen Other : ℕ → Type 0) (steps : List Step) → ((k : ℕ) → Chosen k → Other k) → GoesRound net Chosen steps → GoesRound net Other steps
+pub round_more : (net : PlainNet) (Chosen Other : ℕ → Type 0) (steps : List Step) → ((k : ℕ) → Chosen k → Other k) → IsClosedWalk net Chosen steps → IsClosedWalk net Other steps
 round_more net Chosen Other steps more round = (round.0, (joined_more net Chosen Other steps round.0 round.0 more round.1.0, round.1.1))
 
-pub round_over : (net : PlainNet) (Chosen Other : ℕ → Type 0) (steps : List Step) → ((k : ℕ) → GoesOver steps k → Other k) → GoesRound net Chosen steps → GoesRound net Other steps
+pub round_over : (net : PlainNet) (Chosen Other : ℕ → Type 0) (steps : List Step) → ((k : ℕ) → GoesOver steps k → Other k) → IsClosedWalk net Chosen steps → IsClosedWalk net Other steps
 round_over net Chosen Other steps over round = (round.0, (joined_over net Chosen Other steps round.0 round.0 round.1.0 over, round.1.1))
 
--- a walk that goes round goes over a link where the others of its links do not clash
-pub goes_over : (net : PlainNet) (Chosen : ℕ → Type 0) (k : ℕ) (steps : List Step) → IsSpared net Chosen k → GoesRound net Chosen steps → GoesOver steps k
+-- a closed walk goes over a link where the others of its links do not clash
+pub goes_over : (net : PlainNet) (Chosen : ℕ → Type 0) (k : ℕ) (steps : List Step) → IsSpared net Chosen k → IsClosedWalk net Chosen steps → GoesOver steps k
 goes_over net Chosen k steps spared round = elim (over_or_not steps k) [
   | inl over ↦ over
   | inr not ↦
@@ -61,17 +62,17 @@ goes_over net Chosen k steps spared round = elim (over_or_not steps k) [
       absurd (round_clashes net (Others Chosen k) steps others spared.0 spared.1)
 ]
 
--- where no walk goes round over a link that is needed some timeline fits
+-- where no walk is closed over a link that is needed some timeline fits
 pub none_round : (net : PlainNet) (keep : List Bool) (needed : ℕ) → IsNet net → IsSpared net (Kept keep) needed
-    → ((steps : List Step) → GoesRound net (Kept keep) steps → GoesOver steps needed → ⊥) → HasTimeline net (Kept keep)
-none_round net keep needed is spared none = elim (fits_or_goes_round net (λ k. slice_index_or keep k false) is) [
+    → ((steps : List Step) → IsClosedWalk net (Kept keep) steps → GoesOver steps needed → ⊥) → HasTimelineWith net (Kept keep)
+none_round net keep needed is spared none = elim (fits_or_closed_walk net (λ k. slice_index_or keep k false) is) [
   | inl fits ↦ (fits.0, fits.1)
   | inr round ↦ absurd (none round.0 round.1 (goes_over net (Kept keep) needed round.0 spared round.1))
 ]
 
--- where links clash, some walk goes round over one that is needed
+-- where links clash, some walk is closed over one that is needed
 pub some_round : (net : PlainNet) (keep : List Bool) (needed : ℕ) → IsNet net → IsSpared net (Kept keep) needed → Clashes net (Kept keep)
-    → ((steps : List Step) → GoesRound net (Kept keep) steps → GoesOver steps needed → ⊥) → ⊥
+    → ((steps : List Step) → IsClosedWalk net (Kept keep) steps → GoesOver steps needed → ⊥) → ⊥
 some_round net keep needed is spared clashes none = let fits = none_round net keep needed is spared none in clashes fits.0 fits.1
 
 -- each of joined steps goes by an order
@@ -84,8 +85,8 @@ step_goes net Chosen (first ∷ steps) x y step joined (suc i, lt, e) = step_goe
 abbrev pub orders_of : PlainNet → ℕ → List Atom
 orders_of net k = let link = link_at net k in atoms_of link.rel link.a link.b
 
--- a walk that goes round over a link can begin with one of its orders
-pub round_through : (net : PlainNet) (Chosen : ℕ → Type 0) (k : ℕ) (steps : List Step) → GoesRound net Chosen steps → GoesOver steps k
+-- a closed walk over a link can begin with one of its orders
+pub round_through : (net : PlainNet) (Chosen : ℕ → Type 0) (k : ℕ) (steps : List Step) → IsClosedWalk net Chosen steps → GoesOver steps k
     → (i : ℕ) × (a : Atom) × (slice_get (orders_of net k) i ≡ Some a) × HasWalk net Chosen a.from a.from true
 round_through net Chosen k steps round (step, has, is) =
     let goes = step_goes net Chosen steps round.0 round.0 step round.1.0 has in
@@ -105,8 +106,8 @@ round_through net Chosen k steps round (step, has, is) =
 -- ---- rounds with marks
 
 module _ (net : PlainNet) where
-  -- a walk goes round over the links that are marked, where those are the links that it goes over
-  pub goes_from_marks : (walk : List Step) (marks : List Bool) → GoesRound net EveryLink walk → ((k : ℕ) → k < length net.links → Kept marks k ↔ GoesOver walk k) → GoesRound net (Kept marks) walk
+  -- a walk is closed over the links that are marked, where those are the links that it goes over
+  pub goes_from_marks : (walk : List Step) (marks : List Bool) → IsClosedWalk net EveryLink walk → ((k : ℕ) → k < length net.links → Kept marks k ↔ GoesOver walk k) → IsClosedWalk net (Kept marks) walk
   goes_from_marks walk marks goes over =
       round_over net EveryLink (Kept marks) walk (λ k gone. (over k (over_links net EveryLink walk goes.0 goes.0 k goes.1.0 gone)).1 gone) goes
 
@@ -115,7 +116,7 @@ module _ (net : PlainNet) where
   kept_below round whole k kept = omega (arith, kept_within round.over.items k kept, whole.size)
 
   -- a marked link is one that the walk goes over, and so one of any set that the walk goes over
-  pub marked_chosen : (Chosen : ℕ → Type 0) (round : Round) → IsRound net round → GoesRound net Chosen round.walk → (k : ℕ) → Kept round.over.items k → Chosen k
+  pub marked_chosen : (Chosen : ℕ → Type 0) (round : Round) → IsRound net round → IsClosedWalk net Chosen round.walk → (k : ℕ) → Kept round.over.items k → Chosen k
   marked_chosen Chosen round whole goes k kept = over_chosen net Chosen round.walk goes.0 goes.0 k goes.1.0 ((whole.over k (kept_below round whole k kept)).0 kept)
 
 -- a mark that is taken away and set again is as it was
@@ -152,6 +153,6 @@ module _ (net : PlainNet) (link : ℕ) (keep : List Bool) (size : length keep �
         | inr not ↦ absurd (other (omega (arith, le, not)))
       ]
 
-  -- and some walk goes round over it
+  -- and some walk is closed over it
   pub first_clashes : Clashes net (Kept keep)
   first_clashes t fits = first.clashes t (fits_fewer net (Kept keep) (UpTo link) t (λ k below up_to. (kept k below).1 up_to) fits)

@@ -8,13 +8,15 @@ use Rattle.std.proofs.lemmas.Bool.Decides.{nat_tests}
 use Rattle.std.proofs.lemmas.List.{get_or-replicate, get_or_default, get_or_past, length-replicate, take_more}
 use Rattle.net_core.specs.Clashes.{Others}
 use Rattle.net_core.specs.Fits.{FitsWith}
+use Rattle.net_core.specs.Least.{AreSpares, IsSpare}
+use Rattle.net_core.specs.Limits.{max_points}
 use Rattle.net_core.specs.Nets.{IsNet, PlainNet, points}
 use Rattle.net_core.specs.Ranks.{timeline_of}
 use Rattle.net_core.specs.Relations.{Timeline}
 use Rattle.net_core.specs.Walks.{Kept}
 use Rattle.net_core.specs.declared.atom.Atom.{Atom}
 use Rattle.order_closure.specs.Tables.{AreInRange}
-use Rattle.clash.specs.Minimal.{AreSpares, IsRound, IsSpare, IsSpared}
+use Rattle.clash.specs.Minimal.{IsRound, IsSpared}
 use Rattle.clash.specs.Orders.{AreBelow, AreFixed, FitsBut}
 use Rattle.clash.specs.Raising.{AreLow, AreUnder, AreWithin, Rises}
 use Rattle.clash.specs.declared.orders.Order.{Order}
@@ -56,7 +58,7 @@ zeros_under net zeros t e p lt = omega (arith, zero_at net zeros e p)
 -- zeros can be raised by the orders of a round and by those that are fixed
 pub zeros_ready : (net : PlainNet) (round : Round) (fixed : List Atom) (orders : List Order) (zeros : List ℕ) → IsNet net → IsRound net round → AreFixed net fixed
     → orders ≡ round.orders → zeros ≡ replicate (points net) 0
-    → AreBelow (length zeros) orders × AreInRange (length zeros) fixed × (length zeros ≤ 1024) × AreWithin zeros
+    → AreBelow (length zeros) orders × AreInRange (length zeros) fixed × (length zeros ≤ max_points) × AreWithin zeros
 zeros_ready net round fixed orders zeros net_is is are same e =
     let size = sym (zeros_size net zeros e) in
     let few = net_is.few_intervals in (

@@ -1,5 +1,5 @@
 -- What steps are over holds, but for one link.
-use Rattle.std.proofs.Common.{◌≡◌, ◌≢◌, ◌↔◌, ℕ, ◌<◌, ◌≤◌, List, length, get_or, Some, None, refl, sym, subst, arith}
+use Rattle.std.proofs.Common.{◌≡◌, ◌≢◌, ◌↔◌, ℕ, ◌<◌, List, length, get_or, Some, None, refl, sym, subst}
 use Rattle.std.specs.List.{Contains}
 use Rattle.std.proofs.lemmas.List.Elements.{All-contains, All-from_get_or, Contains-get_or}
 use Rattle.net_core.specs.Clashes.{Others}
@@ -29,23 +29,11 @@ over_link net but k (Link j i) e within t =
 over_link net but k (Span i) e within t = absurd cc
 over_link net but k (Calendar p q) e within t = absurd cc
 
--- a step over a link that is not there asks for nothing
-pub over_no_link : (net : PlainNet) (but k : ℕ) (step : Step) → Some k ≡ link_of step → length net.links ≤ k → (t : Timeline) → HoldsBut net but step t
-over_no_link net but k (Link j i) e past t = λ other lt. let same : k ≡ j = cc in absurd (omega arith)
-over_no_link net but k (Span i) e past t = absurd cc
-over_no_link net but k (Calendar p q) e past t = absurd cc
-
 -- what another step is over holds where its order is true
 pub over_order : (net : PlainNet) (but : ℕ) (step : Step) (a : Atom) → None ≡ link_of step → Some a ≡ atom_of net step → (t : Timeline) → Satisfies t a ↔ HoldsBut net but step t
 over_order net but (Link j i) a none is t = absurd cc
 over_order net but (Span i) a none is t = (λ holds. λ b e. subst (Satisfies t) (let same : a ≡ b = cc in same) holds, λ holds. holds a (sym is))
 over_order net but (Calendar p q) a none is t = (λ holds. λ b e. subst (Satisfies t) (let same : a ≡ b = cc in same) holds, λ holds. holds a (sym is))
-
--- another step that goes by no order asks for nothing
-pub over_nothing : (net : PlainNet) (but : ℕ) (step : Step) → None ≡ link_of step → None ≡ atom_of net step → (t : Timeline) → HoldsBut net but step t
-over_nothing net but (Link j i) none is t = absurd cc
-over_nothing net but (Span i) none is t = λ a e. absurd cc
-over_nothing net but (Calendar p q) none is t = λ a e. absurd cc
 
 module _ (net : PlainNet) (round : Round) (fixed : List Atom) (but : ℕ) (is : IsRound net round) (are : AreFixed net fixed) where
   -- what a step of the walk is over holds where the other links do

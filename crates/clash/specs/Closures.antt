@@ -1,6 +1,6 @@
 -- The closure of a net.
-use Rattle.std.specs.Prelude.{◌≡◌, ℕ, ◌<◌, ◌↔◌, ⊤, Bool, true, false}
-use Rattle.net_core.specs.Atoms.{IsInOrder}
+use Rattle.std.specs.Prelude.{◌≡◌, ℕ, ◌<◌, ◌↔◌, ⊤, true, false}
+use Rattle.net_core.specs.Entailment.{Always, HasNoTimeline}
 use Rattle.net_core.specs.Fits.{Fits, FitsWith}
 use Rattle.net_core.specs.Nets.{PlainNet, points}
 use Rattle.net_core.specs.Relations.{Timeline}
@@ -10,17 +10,9 @@ use Rattle.clash.specs.Minimal.{IsProvedClash}
 use Rattle.clash.specs.declared.closure.CloseFault.{CloseFault}
 use Rattle.clash.specs.declared.closure.CloseFault.TheVariants as faults
 
--- point p is before point q in every timeline that fits the net
-abbrev pub Always : PlainNet → Bool → ℕ → ℕ → Type 0
-Always net strict p q = (t : Timeline) → Fits net t → IsInOrder strict (t p) (t q)
-
 -- none of the links
 abbrev pub NoLink : ℕ → Type 0
 NoLink k = ⊥
-
--- no timeline fits the net
-abbrev pub HasNoTimeline : PlainNet → Type 0
-HasNoTimeline net = (t : Timeline) → Fits net t → ⊥
 
 -- The timelines that keep the table are those that fit the net, and its cells say exactly what they all have.
 pub record IsClosureOf (net : PlainNet) (table : Table) : Type 0 where
@@ -40,7 +32,7 @@ pub record IsUnlinked (net : PlainNet) (table : Table) : Type 0 where
   pub size : table.points ≡ points net
   pub keeps : (t : Timeline) → Keeps table t ↔ FitsWith net NoLink t
 
--- a clash is told only where no timeline fits, and it is a minimal one
-abbrev pub TellsClash : PlainNet → CloseFault → Type 0
-TellsClash net (faults.Clash clash) = HasNoTimeline net × IsProvedClash net clash
-TellsClash net faults.Memory = ⊤
+-- a clash is reported only where no timeline fits, and it is a minimal one that proves itself
+abbrev pub ReportsClash : PlainNet → CloseFault → Type 0
+ReportsClash net (faults.Clash clash) = HasNoTimeline net × IsProvedClash net clash
+ReportsClash net faults.Memory = ⊤

@@ -1,20 +1,16 @@
 -- Minimal clashes, each with a walk and timelines that prove it.
-use Rattle.std.specs.Prelude.{◌≡◌, ◌↔◌, ◌⊎◌, ℕ, ◌*◌, ◌<◌, ◌≤◌, List, [], length, slice_index, slice_index_or}
+use Rattle.std.specs.Prelude.{◌≡◌, ◌↔◌, ◌⊎◌, ℕ, ◌*◌, ◌<◌, ◌≤◌, List, length}
 use Rattle.std.specs.List.{Contains}
 use Rattle.std.specs.List.Sorted.{IsStrictlyIncreasing}
-use Rattle.net_core.specs.Clashes.{Clashes, GoesRoundOver, IsMinimalClash, Others}
-use Rattle.net_core.specs.Fits.{Fits, FitsWith}
+use Rattle.net_core.specs.Clashes.{Clashes, IsClosedOver, IsMinimalClash, Others}
+use Rattle.net_core.specs.Entailment.{HasTimelineWith}
+use Rattle.net_core.specs.Fits.{Fits}
+use Rattle.net_core.specs.Least.{AreLeast, AreSpares}
 use Rattle.net_core.specs.Nets.{PlainNet, points}
-use Rattle.net_core.specs.Relations.{Timeline}
-use Rattle.net_core.specs.Walks.{GoesOver, GoesRound, Kept}
-use Rattle.order_closure.specs.Timelines.{AreLeast}
+use Rattle.net_core.specs.Walks.{GoesOver, IsClosedWalk, Kept}
 use Rattle.clash.specs.declared.minimal.Clash.{Clash}
 use Rattle.clash.specs.Orders.{AreOrdersOf}
 use Rattle.clash.specs.declared.round.Round.{Round}
-
--- some timeline fits with the links of a set
-abbrev pub HasTimeline : PlainNet → (ℕ → Type 0) → Type 0
-HasTimeline net Chosen = (t : Timeline) × FitsWith net Chosen t
 
 -- the links before link k, and those up to it
 abbrev pub Before : ℕ → ℕ → Type 0
@@ -26,34 +22,26 @@ UpTo k j = j ≤ k
 -- some timeline fits with the links before link k, and none with these and link k
 pub record IsFirstClash (net : PlainNet) (k : ℕ) : Type 0 where
   pub link : k < length net.links
-  pub before : HasTimeline net (Before k)
+  pub before : HasTimelineWith net (Before k)
   pub clashes : Clashes net (UpTo k)
 
--- A walk goes round over exactly the links that are marked, in at most twice as many steps as there are points, and the orders are those that its steps are over.
+-- A closed walk over exactly the links that are marked, in at most twice as many steps as there are points, and the orders that its steps are over.
 pub record IsRound (net : PlainNet) (round : Round) : Type 0 where
   pub size : length round.over.items ≡ length net.links
-  pub goes : GoesRound net (Kept round.over.items) round.walk
+  pub goes : IsClosedWalk net (Kept round.over.items) round.walk
   pub over : (k : ℕ) → k < length net.links → Kept round.over.items k ↔ GoesOver round.walk k
   pub short : length round.walk ≤ 2 * points net
   pub orders : AreOrdersOf net round.walk round.orders
 
 -- a timeline fits with the links of a set but one
 abbrev pub IsSpared : PlainNet → (ℕ → Type 0) → ℕ → Type 0
-IsSpared net Chosen k = HasTimeline net (Others Chosen k)
+IsSpared net Chosen k = HasTimelineWith net (Others Chosen k)
 
--- ranks that are the least with which the links of a set but one hold
-abbrev pub IsSpare : PlainNet → (ℕ → Type 0) → ℕ → List ℕ → Type 0
-IsSpare net Chosen k ranks = AreLeast (points net) (FitsWith net (Others Chosen k)) ranks
-
--- there is a spare for each cite, in order
-abbrev pub AreSpares : PlainNet → (ℕ → Type 0) → List ℕ → List (List ℕ) → Type 0
-AreSpares net Chosen cites spares = (length spares ≡ length cites) × ((i : ℕ) → i < length cites → IsSpare net Chosen (slice_index cites i) (slice_index_or spares i []))
-
--- Links that rise and are a minimal clash, a walk that goes round over exactly these, in at most twice as many steps as there are points, and for each of them the least ranks that fit with the others.
+-- Links that rise and are a minimal clash, a closed walk over exactly these, in at most twice as many steps as there are points, and for each of them the least ranks that fit with the others.
 pub record IsProvedClash (net : PlainNet) (clash : Clash) : Type 0 where
   pub rising : IsStrictlyIncreasing clash.cites
   pub minimal : IsMinimalClash net clash.cites
-  pub round : GoesRoundOver net clash.cites clash.walk
+  pub round : IsClosedOver net clash.cites clash.walk
   pub short : length clash.walk ≤ 2 * points net
   pub spares : AreSpares net (Contains clash.cites) clash.cites clash.spares
 

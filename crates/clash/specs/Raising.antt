@@ -1,5 +1,6 @@
 -- Ranks that are raised until they fit.
 use Rattle.std.specs.Prelude.{◌≡◌, ℕ, ◌<◌, ◌≤◌, List, length, slice_index}
+use Rattle.net_core.specs.Limits.{max_points}
 use Rattle.net_core.specs.Ranks.{timeline_of}
 use Rattle.net_core.specs.Relations.{Timeline}
 
@@ -9,11 +10,11 @@ AreUnder ranks t = (p : ℕ) → p < length ranks → slice_index ranks p ≤ t 
 
 -- no rank is above the highest that is given, which is as many as there can be points
 abbrev pub AreWithin : List ℕ → Type 0
-AreWithin ranks = (p : ℕ) → slice_index ranks p ≤ 1024
+AreWithin ranks = (p : ℕ) → slice_index ranks p ≤ max_points
 
 -- each rank is below the highest
 abbrev pub AreLow : List ℕ → Type 0
-AreLow ranks = (p : ℕ) → slice_index ranks p < 1024
+AreLow ranks = (p : ℕ) → slice_index ranks p < max_points
 
 -- Ranks rose, but not past any timeline of which something is true, nor past the highest.
 pub record Rises (IsTrue : Timeline → Type 0) (old new : List ℕ) : Type 0 where

@@ -1,6 +1,8 @@
 -- Numbers of orders, by the points that the orders leave.
-use Rattle.std.specs.Prelude.{ℕ, ◌<◌, length, List, None, Option, IfSome, slice_index_or}
+use Rattle.std.specs.Prelude.{◌≡◌, ℕ, ◌<◌, length, List, None, Option, IfSome, slice_index_or}
 use Rattle.std.specs.List.{All}
+use Rattle.net_core.specs.declared.atom.Atom.{Atom}
+use Rattle.order_closure.specs.Tables.{AreInRange}
 use Rattle.clash.specs.declared.sequence.Leaving.{Leaving}
 use Rattle.clash.specs.declared.sequence.Visit.{Visit}
 
@@ -20,3 +22,11 @@ IsVisit leaving visit = (visit.point < length leaving.last.items) × IsNumber (l
 -- numbers of n points
 abbrev pub ArePoints : ℕ → List ℕ → Type 0
 ArePoints n met = All (λ (point : ℕ). point < n) met
+
+-- Points are met along orders of n points: the lists by the points that the orders leave are those of the orders, and what was met are such points.
+pub record AreMet (n : ℕ) (leaving : Leaving) (orders : List Atom) (met : List ℕ) : Type 0 where
+  pub lists : AreLeaving leaving
+  pub of_points : length leaving.last.items ≡ n
+  pub of_orders : length leaving.before.items ≡ length orders
+  pub in_range : AreInRange n orders
+  pub points : ArePoints n met

@@ -35,10 +35,6 @@ AddsOrClashes IsTrue old new (Err fault) = Excludes IsTrue old
 abbrev pub AddsPart : (Timeline → Type 0) → Table → Table → Type 0
 AddsPart IsTrue old new = (new.points ≡ old.points) × ((t : Timeline) → (Keeps new t → Keeps old t) × (Keeps old t → IsTrue t → Keeps new t))
 
-abbrev pub AddsPartOrClashes : (Timeline → Type 0) → Table → Table → Result Unit WouldClash → Type 0
-AddsPartOrClashes IsTrue old new (Ok done) = AddsPart IsTrue old new
-AddsPartOrClashes IsTrue old new (Err fault) = Excludes IsTrue old
-
 -- each link before link k holds
 abbrev pub KeepsLinksBefore : PlainNet → ℕ → Timeline → Type 0
 KeepsLinksBefore net k t = (j : ℕ) → j < k → KeepsLink net t j

@@ -3,12 +3,12 @@ use Rattle.std.specs.Prelude.{◌⊎◌, ℕ, ◌*◌, ◌<◌, ◌≤◌, ◌�
 use Rattle.net_core.specs.Atoms.{IsInOrder, IsInRange, Satisfies}
 use Rattle.net_core.specs.Clashes.{Clashes}
 use Rattle.net_core.specs.Fits.{EveryLink, Fits, FitsWith}
+use Rattle.net_core.specs.Least.{AreLeast}
 use Rattle.net_core.specs.Nets.{IsNet, PlainNet, points}
 use Rattle.net_core.specs.Relations.{Timeline}
-use Rattle.net_core.specs.Walks.{GoesRound, HasWalk, IsWalk, Kept}
+use Rattle.net_core.specs.Walks.{IsClosedWalk, HasWalk, IsWalk, Kept}
 use Rattle.net_core.specs.declared.atom.Atom.{Atom}
 use Rattle.net_core.specs.declared.step.Step.{Step}
-use Rattle.order_closure.specs.Timelines.{AreLeast}
 
 -- point p is before point q in every timeline that fits with a set of links
 abbrev pub AlwaysWith : PlainNet → (ℕ → Type 0) → Bool → ℕ → ℕ → Type 0
@@ -21,9 +21,9 @@ WalksSayAll =
     → IsNet net → FitsWith net (Kept keep) u → p < points net → q < points net
     → AlwaysWith net (Kept keep) strict p q ↔ HasWalk net (Kept keep) p q strict
 
--- The law: links clash exactly where a walk over spans, the calendar and these links goes round.
-abbrev pub ClashesGoRound : Type 0
-ClashesGoRound = (net : PlainNet) (keep : List Bool) → IsNet net → Clashes net (Kept keep) ↔ ((steps : List Step) × GoesRound net (Kept keep) steps)
+-- The law: links clash exactly where there is a closed walk over spans, the calendar and these links.
+abbrev pub ClashesHaveClosedWalks : Type 0
+ClashesHaveClosedWalks = (net : PlainNet) (keep : List Bool) → IsNet net → Clashes net (Kept keep) ↔ ((steps : List Step) × IsClosedWalk net (Kept keep) steps)
 
 -- a walk of at most twice as many steps as there are points
 abbrev pub HasShortWalk : PlainNet → (ℕ → Type 0) → ℕ → ℕ → Bool → Type 0

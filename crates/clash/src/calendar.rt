@@ -1,13 +1,11 @@
 //! The orders of the calendar.
-ghost use Rattle.clash.specs.Dates.{Extends, Follows, FollowsAll, IsFixed, PutsFixedBefore, PutsLastBefore};
+ghost use Rattle.clash.specs.Dates.{Extends, FollowsAll, FollowsDate, IsFixed, IsNextUpper, PutsLastBefore};
 ghost use Rattle.clash.specs.Steps.{KeepsDates};
-ghost use Rattle.net_core.specs.Nets as nets;
 ghost use Rattle.net_core.specs.Nets.{points};
 ghost use Rattle.net_core.specs.Relations.{Timeline};
 ghost use Rattle.net_core.specs.Steps.{calendar_order};
 ghost use Rattle.order_closure.specs.Tables.{AreInRange, SatisfiesAll};
 ghost use Rattle.std.specs.Prelude.{IfOk, IsTrue, OnOk, Some, ℕ, ◌<◌, ◌≡◌, ◌↔◌};
-ghost use Rattle.walks.specs.Dates.{AreAscending, AreDates};
 
 use net_core::{Atom, Memory, Net};
 use std::alloc::Global;
@@ -44,12 +42,8 @@ fn push_orders(
     lowers: &[Date],
     orders: &mut Vec<Atom>,
 ) -> Result<(), Memory>
-    requires upper { upper.point < points net.now }
-    requires lowers { AreDates (nets.lower net.now) (points net.now) lowers.now }
-    requires sorted { AreAscending lowers.now }
-    requires in_range { AreInRange (points net.now) orders.old.items }
+    requires next { IsNextUpper net.now lowers.now orders.old.items upper }
     requires last { PutsLastBefore lowers.now orders.old.items last }
-    requires above { PutsFixedBefore net.now lowers.now orders.old.items upper.number }
     ensures { OnOk result (Extends (points net.now) (FollowsAll lowers.now upper) orders.old.items orders.new.items) }
 {
     match last {
@@ -66,11 +60,7 @@ fn push_orders_from(
     lowers: &[Date],
     orders: &mut Vec<Atom>,
 ) -> Result<(), Memory>
-    requires upper { upper.point < points net.now }
-    requires lowers { AreDates (nets.lower net.now) (points net.now) lowers.now }
-    requires sorted { AreAscending lowers.now }
-    requires in_range { AreInRange (points net.now) orders.old.items }
-    requires above { PutsFixedBefore net.now lowers.now orders.old.items upper.number }
+    requires { IsNextUpper net.now lowers.now orders.old.items upper }
     ensures { OnOk result (Extends (points net.now) (FollowsAll lowers.now upper) orders.old.items orders.new.items) }
 {
     let later = dates_from(lowers, upper.number);
@@ -87,7 +77,7 @@ fn push_orders_from(
 /// are not the same.
 fn push_order(upper: Date, lower: Date, orders: &mut Vec<Atom>) -> Result<(), Memory>
     ensures { OnOk result ((n : ℕ) → AreInRange n orders.old.items → upper.point < n → lower.point < n
-        → Extends n (Follows upper lower) orders.old.items orders.new.items) }
+        → Extends n (FollowsDate upper lower) orders.old.items orders.new.items) }
 {
     if upper == lower {
         return Ok(());

@@ -1,8 +1,9 @@
 //! The closure of a net.
-ghost use Rattle.clash.specs.Closures.{IsClosureOf, IsTableOf, IsUnlinked, TellsClash};
+ghost use Rattle.clash.specs.Closures.{IsClosureOf, IsTableOf, IsUnlinked, ReportsClash};
 ghost use Rattle.clash.specs.Orders.{AreFixed};
 ghost use Rattle.clash.specs.declared.closure.CloseFault.TheVariants as faults;
 ghost use Rattle.net_core.specs.Fits.{Fits};
+ghost use Rattle.net_core.specs.Limits.{max_points};
 ghost use Rattle.net_core.specs.Nets.{points};
 ghost use Rattle.net_core.specs.Relations.{Timeline};
 ghost use Rattle.order_closure.specs.Tables.{AreInRange, SatisfiesAll};
@@ -13,7 +14,7 @@ use crate::insert::{add_in_sequence, add_orders};
 use crate::links::add_links;
 use crate::minimal::{Clash, clash_up_to};
 use crate::orders::{all_orders, fixed_orders};
-use crate::rings::go_round;
+use crate::rings::has_strict_cycle;
 use crate::sequence::sequence_of;
 use net_core::{Atom, Memory, Net};
 use order_closure::Closed;
@@ -43,9 +44,9 @@ impl From<Memory> for CloseFault {
 /// `Clash` comes exactly where no timeline fits. It is minimal, and proves itself.
 pub fn close(alloc: Global, net: &Net) -> Result<Closed, CloseFault>
     ensures ok { IfOk result (IsClosureOf net.now) }
-    ensures few { IfOk result (λ table. table.points ≤ 1024) }
+    ensures few { IfOk result (λ table. table.points ≤ max_points) }
     ensures fits { IfOk result (λ table. (t : Timeline) × Fits net.now t) }
-    ensures err { IfErr result (TellsClash net.now) }
+    ensures err { IfErr result (ReportsClash net.now) }
 {
     match table_of(alloc, net) {
         Ok(table) => {
@@ -60,7 +61,7 @@ pub fn close(alloc: Global, net: &Net) -> Result<Closed, CloseFault>
 /// The table that is kept by exactly the timelines that fit the net, or a clash.
 fn table_of(alloc: Global, net: &Net) -> Result<Closed, CloseFault>
     ensures ok { IfOk result (IsTableOf (points net.now) (Fits net.now)) }
-    ensures err { IfErr result (TellsClash net.now) }
+    ensures err { IfErr result (ReportsClash net.now) }
 {
     let fixed = fixed_orders(alloc, net)?;
     if let Some(table) = in_sequence(alloc, net, &fixed)? {
@@ -77,7 +78,7 @@ fn in_sequence(alloc: Global, net: &Net, fixed: &[Atom]) -> Result<Option<Closed
     let points = 2 * net.intervals();
     let orders = all_orders(alloc, net, fixed)?;
     let sequence = sequence_of(alloc, points, &orders)?;
-    if go_round(alloc, points, &orders, &sequence)? {
+    if has_strict_cycle(alloc, points, &orders, &sequence)? {
         return Ok(None);
     }
     closure_of(alloc, points, &orders, &sequence)
@@ -91,7 +92,7 @@ fn closure_of(
     orders: &[Atom],
     sequence: &[usize],
 ) -> Result<Option<Closed>, Memory>
-    requires few { points ≤ 2048 }
+    requires few { points ≤ max_points }
     requires in_range { AreInRange points orders.now }
     requires sequence { All (λ k. k < length orders.now) sequence.now }
     ensures { IfOk result (λ found. IfSome found (IsTableOf points (SatisfiesAll orders.now))) }
@@ -111,7 +112,7 @@ fn closure_of(
 fn by_links(alloc: Global, net: &Net, fixed: &[Atom]) -> Result<Closed, CloseFault>
     requires { AreFixed net.now fixed.now }
     ensures ok { IfOk result (IsTableOf (points net.now) (Fits net.now)) }
-    ensures err { IfErr result (TellsClash net.now) }
+    ensures err { IfErr result (ReportsClash net.now) }
 {
     let mut table = without_links(alloc, net, fixed)?;
     match add_links(&mut table, net) {

@@ -1,9 +1,9 @@
 //! Adding orders that a table does not give yet.
-ghost use Rattle.clash.specs.Steps.{AddsOrClashes, AddsPartOrClashes};
+ghost use Rattle.clash.specs.Steps.{AddsOrClashes, AddsPart};
 ghost use Rattle.net_core.specs.Atoms.{Satisfies};
 ghost use Rattle.order_closure.specs.Tables.{AreInRange, SatisfiesAll};
 ghost use Rattle.std.specs.List.{All};
-ghost use Rattle.std.specs.Prelude.{length, ◌<◌};
+ghost use Rattle.std.specs.Prelude.{OnOk, length, ◌<◌};
 
 use net_core::Atom;
 use order_closure::{Closed, WouldClash};
@@ -39,7 +39,7 @@ pub fn add_in_sequence(
 ) -> Result<(), WouldClash>
     requires in_range { AreInRange table.old.points orders.now }
     requires sequence { All (λ k. k < length orders.now) sequence.now }
-    ensures { AddsPartOrClashes (SatisfiesAll orders.now) table.old table.new result }
+    ensures { OnOk result (AddsPart (SatisfiesAll orders.now) table.old table.new) }
 {
     for number in sequence {
         insert(table, orders[*number])?;

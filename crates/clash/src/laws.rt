@@ -1,6 +1,6 @@
 //! Laws of walks: public functions that do nothing, each with a law as its contract.
 ghost use Rattle.clash.specs.Minimal.{IsAnswered};
-ghost use Rattle.clash.specs.Walks.{ClashesGoRound, OrdersAreAnswered, ShortWalks, WalksSayAll};
+ghost use Rattle.clash.specs.Walks.{ClashesHaveClosedWalks, OrdersAreAnswered, ShortWalks, WalksSayAll};
 ghost use Rattle.net_core.specs.Nets.{IsNet, PlainNet};
 
 /// Walks say all: where some timeline fits with a set of links, an order of two points holds in all that do exactly
@@ -9,10 +9,10 @@ pub fn walks_say_all()
     ensures { WalksSayAll }
 {}
 
-/// Clashes go round: no timeline fits with a set of links exactly where a walk over spans, the calendar and these links
-/// leads from a point to itself with a strict step. In the literature: a negative cycle.
-pub fn clashes_go_round()
-    ensures { ClashesGoRound }
+/// Clashes have closed walks: no timeline fits with a set of links exactly where a walk over spans, the calendar and
+/// these links leads from a point to itself with a strict step. In the literature: a negative cycle.
+pub fn clashes_have_closed_walks()
+    ensures { ClashesHaveClosedWalks }
 {}
 
 /// Walks can be short: where there is a walk there is one of at most twice as many steps as there are points.

@@ -19,6 +19,7 @@ mod tests;
 
 pub use closure::{CloseFault, close};
 pub use laws::{
-    clashes_go_round, net_is_answered, orders_are_answered, walks_can_be_short, walks_say_all,
+    clashes_have_closed_walks, net_is_answered, orders_are_answered, walks_can_be_short,
+    walks_say_all,
 };
 pub use minimal::Clash;

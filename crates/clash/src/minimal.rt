@@ -4,7 +4,7 @@ ghost use Rattle.clash.specs.Orders.{AreFixed};
 ghost use Rattle.net_core.specs.Walks.{Kept};
 ghost use Rattle.std.specs.List.{Contains};
 ghost use Rattle.std.specs.List.Sorted.{IsStrictlyIncreasing};
-ghost use Rattle.std.specs.Prelude.{IfOk, length, ℕ, ◌<◌, ◌≡◌, ◌≤◌, ◌↔◌};
+ghost use Rattle.std.specs.Prelude.{IfOk, length, ℕ, ◌<◌, ◌≡◌, ◌↔◌};
 
 use crate::round::{Round, round_over, thin};
 use crate::spares::{spares_of, spares_soon};
@@ -70,7 +70,7 @@ fn thinned_clash(
     })
 }
 
-/// A walk that goes round over links up to this one.
+/// A closed walk over links up to this one.
 fn first_round(alloc: Global, net: &Net, link: u32) -> Result<Round, Memory>
     requires { IsFirstClash net.now link }
     ensures round { IfOk result (IsRound net.now) }

@@ -1,25 +1,23 @@
 //! Raising the ranks of points until each order holds.
 ghost use Rattle.clash.specs.Orders as spec;
 ghost use Rattle.clash.specs.Orders.{AllAreTrueBut, IsTrueBut};
-ghost use Rattle.clash.specs.Raising.{AreWithin, Rises, RisesUntil};
+ghost use Rattle.clash.specs.Raising.{AreWithin, RisesUntil};
 ghost use Rattle.net_core.specs.Atoms.{IsInRange, Satisfies};
 ghost use Rattle.order_closure.specs.Tables.{AreInRange, SatisfiesAll};
 ghost use Rattle.std.specs.Prelude.{length, ◌<◌};
 
 use crate::orders::Order;
-use net_core::{Atom, MAX_INTERVALS};
+use net_core::{Atom, MAX_POINTS};
 
-/// The highest rank that is given: as many as there can be points. Ranks that fit are below it, if any do.
-pub const HIGHEST: u32 = 2 * MAX_INTERVALS;
-
-/// Raises the rank of the second point of an order, where it is too low.
+/// Raises the rank of the second point of an order, where it is too low. The highest rank that is given is the number of
+/// points that there can be: ranks that fit are below it, if any do.
 fn raise(ranks: &mut [u32], atom: Atom)
     requires in_range { IsInRange (length ranks.old) atom }
     requires within { AreWithin ranks.old }
     ensures { RisesUntil (λ t. Satisfies t atom) ranks.old ranks.new }
 {
     let least = ranks[atom.from as usize] + u32::from(atom.strict);
-    if ranks[atom.to as usize] < least && least <= HIGHEST {
+    if ranks[atom.to as usize] < least && least <= MAX_POINTS {
         ranks[atom.to as usize] = least;
     }
 }

@@ -1,5 +1,5 @@
 //! Whether orders lead round.
-ghost use Rattle.clash.specs.Sequence.{AreLeaving, ArePoints};
+ghost use Rattle.clash.specs.Sequence.{AreMet, ArePoints};
 ghost use Rattle.order_closure.specs.Tables.{AreInRange};
 ghost use Rattle.std.specs.List.{All};
 ghost use Rattle.std.specs.Prelude.{IfOk, OnOk, length, ◌<◌, ◌≡◌};
@@ -15,7 +15,7 @@ use std::alloc::Global;
 /// # Errors
 ///
 /// Out of memory.
-pub fn go_round(
+pub fn has_strict_cycle(
     alloc: Global,
     points: u32,
     orders: &[Atom],
@@ -35,7 +35,7 @@ pub fn go_round(
 }
 
 /// For each point that an order leaves the strong component that it is in, by the first of its points that was met. In the
-/// sequence the orders that leave a point of one component come after those of all that it leads to.
+/// sequence the orders of one point of a component, the one that is left last, come after those of all that it leads to.
 fn components_of(
     alloc: Global,
     points: usize,
@@ -110,11 +110,7 @@ fn flood(
     components: &mut [Option<usize>],
     met: &mut Vec<usize>,
 ) -> Result<(), Memory>
-    requires entering { AreLeaving entering.now }
-    requires points { length entering.now.last.items ≡ length components.old }
-    requires orders { length entering.now.before.items ≡ length turned.now }
-    requires in_range { AreInRange (length components.old) turned.now }
-    requires met { ArePoints (length components.old) met.old.items }
+    requires { AreMet (length components.old) entering.now turned.now met.old.items }
     ensures { OnOk result (ArePoints (length components.old) met.new.items) }
 {
     'flood: for _ in 0..components.len() {
@@ -135,12 +131,8 @@ fn spread(
     components: &mut [Option<usize>],
     met: &mut Vec<usize>,
 ) -> Result<(), Memory>
-    requires entering { AreLeaving entering.now }
-    requires points { length entering.now.last.items ≡ length components.old }
-    requires orders { length entering.now.before.items ≡ length turned.now }
-    requires in_range { AreInRange (length components.old) turned.now }
+    requires met { AreMet (length components.old) entering.now turned.now met.old.items }
     requires point { point < length components.old }
-    requires met { ArePoints (length components.old) met.old.items }
     ensures { OnOk result (ArePoints (length components.old) met.new.items) }
 {
     let mut next = entering.last[point];

@@ -1,11 +1,12 @@
-//! Walks that go round, and the links that they go over.
-ghost use Rattle.clash.specs.Minimal.{IsRound, IsSpare, IsSpared};
+//! Closed walks, and the links that they go over.
+ghost use Rattle.clash.specs.Minimal.{IsRound, IsSpared};
 ghost use Rattle.clash.specs.Orders.{AreFixed};
 ghost use Rattle.net_core.specs.Fits.{EveryLink};
+ghost use Rattle.net_core.specs.Least.{IsSpare};
 ghost use Rattle.net_core.specs.Nets.{points};
-ghost use Rattle.net_core.specs.Walks.{GoesOver, GoesRound, Kept};
+ghost use Rattle.net_core.specs.Walks.{GoesOver, IsClosedWalk, Kept};
 ghost use Rattle.net_core.specs.declared.step.Step.{Step as StepOf};
-ghost use Rattle.std.specs.Prelude.{IfNone, IfOk, IfSome, IsTrue, List as ListOf, OnOk, false, length, ℕ, ◌*◌, ◌<◌, ◌≡◌, ◌≢◌, ◌≤◌};
+ghost use Rattle.std.specs.Prelude.{IfNone, IfOk, IfSome, List as ListOf, OnOk, false, length, ℕ, ◌*◌, ◌<◌, ◌≡◌, ◌≢◌, ◌≤◌};
 
 use crate::links::{atoms_of_link, nth};
 use crate::orders::{Order, orders_of};
@@ -29,7 +30,7 @@ pub struct Round {
 impl Round {
     /// A walk with the marks of the links that it goes over.
     pub fn new(alloc: Global, net: &Net, walk: Walk) -> Result<Round, Memory>
-        requires goes { GoesRound net.now EveryLink walk }
+        requires goes { IsClosedWalk net.now EveryLink walk }
         requires short { length walk ≤ 2 * points net.now }
         ensures round { IfOk result (IsRound net.now) }
         ensures walk { IfOk result (λ round. round.walk ≡ walk) }
@@ -100,7 +101,7 @@ impl Round {
     }
 }
 
-/// Leaves out each link without which some walk still goes round. One of them is needed: without it some timeline fits.
+/// Leaves out each link without which there is still a closed walk. One of them is needed: without it some timeline fits.
 ///
 /// # Errors
 ///
@@ -128,7 +129,7 @@ pub fn thin(
     Ok(round)
 }
 
-/// A walk that goes round over links that are kept. None comes only where no such walk goes over the link of this number.
+/// A closed walk over links that are kept. None comes only where no such walk goes over the link of this number.
 ///
 /// # Errors
 ///
@@ -141,8 +142,8 @@ pub fn round_over(
 ) -> Result<Option<Walk>, Memory>
     requires keep { length keep.now ≡ length net.now.links }
     requires link { link < length net.now.links }
-    ensures some { IfOk result (λ found. IfSome found (λ steps. GoesRound net.now (Kept keep.now) steps × (length steps ≤ 2 * points net.now))) }
-    ensures none { IfOk result (λ found. IfNone found ((steps : ListOf StepOf) → GoesRound net.now (Kept keep.now) steps → GoesOver steps link → ⊥)) }
+    ensures some { IfOk result (λ found. IfSome found (λ steps. IsClosedWalk net.now (Kept keep.now) steps × (length steps ≤ 2 * points net.now))) }
+    ensures none { IfOk result (λ found. IfNone found ((steps : ListOf StepOf) → IsClosedWalk net.now (Kept keep.now) steps → GoesOver steps link → ⊥)) }
 {
     let atoms = atoms_of_link(net, link);
     for number in 0..atoms.count() {

@@ -2,21 +2,22 @@
 ghost use Rattle.clash.specs.Orders as spec;
 ghost use Rattle.clash.specs.Orders.{FitsBut, is_of};
 ghost use Rattle.clash.specs.Raising.{AreLow, AreWithin, Rises, RisesUntil};
+ghost use Rattle.net_core.specs.Limits.{max_points};
 ghost use Rattle.net_core.specs.Ranks.{timeline_of};
 ghost use Rattle.order_closure.specs.Tables.{AreInRange};
 ghost use Rattle.std.specs.List.{All, position, sum_by};
 ghost use Rattle.std.specs.Prelude.{IfSome, IsTrue, length, unwrap_or, ◌<◌, ◌↔◌, ◌≡◌, ◌≤◌};
 
 use crate::orders::Order;
-use crate::raising::{HIGHEST, raise_all, raise_orders, raise_orders_back};
-use net_core::Atom;
+use crate::raising::{raise_all, raise_orders, raise_orders_back};
+use net_core::{Atom, MAX_POINTS};
 
 /// Raises ranks until all orders hold but those of one link, in so many turns at most. Whether they do: else some rank
 /// reached the highest, or the ranks still rose in each turn.
 pub fn settle(orders: &[Order], fixed: &[Atom], but: u32, ranks: &mut [u32], turns: u32) -> bool
     requires orders { spec.AreBelow (length ranks.old) orders.now }
     requires fixed { AreInRange (length ranks.old) fixed.now }
-    requires few { length ranks.old ≤ 1024 }
+    requires few { length ranks.old ≤ max_points }
     requires within { AreWithin ranks.old }
     ensures rises { Rises (FitsBut orders.now fixed.now but) ranks.old ranks.new }
     ensures fits { IsTrue result → FitsBut orders.now fixed.now but (timeline_of ranks.new) }
@@ -37,7 +38,7 @@ pub fn settle(orders: &[Order], fixed: &[Atom], but: u32, ranks: &mut [u32], tur
 }
 
 /// Raises ranks once by each order but those of one link: forward from a place on and then round to it, or the same way
-/// back. So the orders of a walk that goes round are raised at once, from where it is cut.
+/// back. So the orders of a closed walk are raised at once, from where it is cut.
 fn raise_turn(
     orders: &[Order],
     fixed: &[Atom],
@@ -84,7 +85,7 @@ fn first_of(orders: &[Order], link: u32) -> Option<usize>
 
 /// The sum of ranks.
 fn total(ranks: &[u32]) -> u64
-    requires { length ranks.now ≤ 1024 }
+    requires { length ranks.now ≤ max_points }
     ensures { result ≡ sum_by (λ rank. rank) ranks.now }
 {
     ranks.iter().map(|rank| u64::from(*rank)).sum()
@@ -92,7 +93,7 @@ fn total(ranks: &[u32]) -> u64
 
 /// Whether each rank is below the highest.
 fn are_low(ranks: &[u32]) -> bool
-    ensures { IsTrue result ↔ All (λ rank. rank < 1024) ranks.now }
+    ensures { IsTrue result ↔ All (λ rank. rank < max_points) ranks.now }
 {
-    ranks.iter().all(|rank| *rank < HIGHEST)
+    ranks.iter().all(|rank| *rank < MAX_POINTS)
 }

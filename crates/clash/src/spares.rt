@@ -1,5 +1,6 @@
 //! The least timelines that fit with all links of a clash but one.
-ghost use Rattle.clash.specs.Minimal.{AreSpares, IsRound, IsSpare, IsSpared};
+ghost use Rattle.net_core.specs.Least.{AreSpares, IsSpare};
+ghost use Rattle.clash.specs.Minimal.{IsRound, IsSpared};
 ghost use Rattle.clash.specs.Orders.{AreFixed};
 ghost use Rattle.net_core.specs.Walks.{Kept};
 ghost use Rattle.std.specs.List.{All};
@@ -9,7 +10,7 @@ use crate::round::{Round, TURNS};
 use net_core::{Atom, List, Memory, Net, Ranks};
 use std::alloc::Global;
 
-/// For each link that a walk goes round over, in order, the least ranks that fit with the others.
+/// For each link of a closed walk, in order, the least ranks that fit with the others.
 ///
 /// # Errors
 ///

@@ -7,7 +7,9 @@ use Rattle.net_core.specs.Ranks.{pairs_of}
 use Rattle.net_core.specs.declared.step.Step.{Step}
 use Rattle.evidence_format.specs.Evidence.{clash}
 use Rattle.evidence_check.specs.Asked.{AreRisingLinks}
-use Rattle.evidence_check.specs.Supported.{cite_at}
+use Rattle.evidence_check.specs.Refusals.{cite_at}
+use Rattle.evidence_check.specs.Supported.{AreLinks}
+use Rattle.std.proofs.lemmas.List.Elements.{All-get_or}
 
 -- each of the numbers that rise is at least its place
 at_least : (cites : List ℕ) → IsStrictlyIncreasing cites → (i : ℕ) → i < length cites → i ≤ cite_at cites i
@@ -23,6 +25,10 @@ no_more cites n rise links = last (length cites) refl
     last : (m : ℕ) → m ≡ length cites → m ≤ n
     last zero e = omega arith
     last (suc m) e = omega (arith, at_least cites rise m (omega (arith, e)), links m (omega (arith, e)))
+
+-- what is true of all cites is true at each place
+pub by_place : (net : PlainNet) (cites : List ℕ) → AreLinks net cites → (i : ℕ) → i < length cites → cite_at cites i < length net.links
+by_place net cites all i below = All-get_or (λ (k : ℕ). k < length net.links) cites i 0 below all
 
 pub rising_links : (net : PlainNet) (cites : List ℕ) → IsStrictlyIncreasing cites → ((i : ℕ) → i < length cites → cite_at cites i < length net.links) → AreRisingLinks net cites
 rising_links net cites rise links = record {

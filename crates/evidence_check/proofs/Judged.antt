@@ -1,8 +1,9 @@
 -- Evidence is supported, or refused.
-use Rattle.std.proofs.Common.{◌⊎◌, inl, inr, ℕ, ◌+◌, ◌<◌, List, [], length, slice_index_or, refl}
+use Rattle.std.proofs.Common.{false, ◌⊎◌, inl, inr, ℕ, ◌+◌, ◌<◌, List, [], length, refl}
 use Rattle.std.specs.List.{Contains}
+use Rattle.std.proofs.lemmas.List.Elements.{All-from_get_or}
 use Rattle.std.proofs.lemmas.Bool.{cases_lt}
-use native.Mathlib.Decide.{dec_lt}
+use native.Mathlib.Decide.{dec_lt, ℕ_discrete}
 use Rattle.net_core.specs.Atoms.{atoms_of}
 use Rattle.net_core.specs.Clashes.{Others}
 use Rattle.net_core.specs.Fits.{EveryLink, RanksFit}
@@ -12,18 +13,20 @@ use Rattle.net_core.specs.declared.rels.Rel.{Rel}
 use Rattle.net_core.specs.declared.step.Step.{Step as StepOf}
 use Rattle.net_core.proofs.Deciding.{relates}
 use Rattle.net_core.proofs.FirstLaws.{first_or_none}
+use Rattle.net_core.specs.Entailment.{AreIntervals}
 use Rattle.evidence_format.specs.Evidence.{PlainEvidence, timeline, entails, counter, clash}
 use Rattle.evidence_check.specs.declared.refusal.Reason.{Reason}
-use Rattle.evidence_check.specs.declared.refusal.Reason.TheVariants.{Number, Holds}
+use Rattle.evidence_check.specs.declared.refusal.Reason.TheVariants.{Number, Size, Holds}
 use Rattle.evidence_check.specs.declared.refusal.Refused.{Refused}
-use Rattle.evidence_check.specs.Refusals.{IsBadNumber, IsMisfit, IsNoProof, SupportedOrRefused}
-use Rattle.evidence_check.specs.Supported.{AreIntervals, FitsOthers, Proves, atom_at, cite_at, ranks_at, walk_at}
+use Rattle.evidence_check.specs.Refusals.{AreSparesRefused, IsBadNumber, IsMisfit, IsNoProof, IsOfLink, IsSpareAt, Proves, SupportedOrRefused, atom_at, cite_at, ranks_at, walk_at}
+use Rattle.evidence_check.specs.Supported.{AllFitOthers, FitsOthers, IsProof}
 use Rattle.evidence_check.proofs.Deciding.{others}
 use Rattle.evidence_check.proofs.Proving.{not_both}
 use Rattle.evidence_check.proofs.RanksJudged.{fit_or_misfit}
 use Rattle.evidence_check.proofs.Reasons.{OrReason, first_bad}
 use Rattle.evidence_check.proofs.Verdicts.{no_misfit}
 use Rattle.evidence_check.proofs.WalksJudged.{proof_or_none, round_or_none}
+use Rattle.evidence_check.proofs.Zipped.{zip_from}
 
 abbrev refusal : ℕ → Reason → Refused
 refusal part reason = record { part = part; reason = reason }
@@ -48,10 +51,13 @@ module _ (net : PlainNet) where
     | inr bad ↦ inr (refusal 0 (Number bad.0), inl (refl, bad.0, refl, bad.1))
     | inl good ↦
         let atoms = atoms_of r a b in
-        elim (first_bad (Proves net atoms walks) (λ k. IsNoProof net (atom_at atoms k) (walk_at walks k)) (λ k. not_both net (atom_at atoms k) (walk_at walks k))
-        (λ k. proof_or_none net (atom_at atoms k) (walk_at walks k)) (length atoms)) [
-          | inr first ↦ inr (refusal (first.0 + 1) first.1, inr (good, (first.0, first.2, refl, first.3)))
-          | inl all ↦ inl (good, all)
+        elim (ℕ_discrete (length walks) (length atoms)) [
+          | no other ↦ inr (refusal 0 (Size (length walks)), inr (good, inl (refl, refl, other)))
+          | yes size ↦ elim (first_bad (Proves net atoms walks) (λ k. IsNoProof net (atom_at atoms k) (walk_at walks k)) (λ k. not_both net (atom_at atoms k) (walk_at walks k))
+              (λ k. proof_or_none net (atom_at atoms k) (walk_at walks k)) (length atoms)) [
+                | inr first ↦ inr (refusal (first.0 + 1) first.1, inr (good, inr (size, (first.0, first.2, refl, first.3))))
+                | inl all ↦ inl (good, zip_from (IsProof net) (record { from = 0; to = 0; strict = false }) [] atoms walks size all)
+              ]
         ]
   ]
 
@@ -61,21 +67,19 @@ module _ (net : PlainNet) where
     | inl good ↦ elim (fit ranks) [
       | inr misfit ↦ inr (refusal 1 misfit.0, inr (inl (good, (refl, misfit.1))))
       | inl fits ↦ elim (relates (timeline_of (ranks_of ranks)) r a b) [
-        | yes holds ↦ inr (refusal 2 Holds, inr (inr (good, (refl, refl, fits, holds))))
+        | yes holds ↦ inr (refusal 2 Holds, inr (inr (good, fits, (refl, refl, holds))))
         | no fails ↦ inl (good, fits, fails)
       ]
     ]
   ]
 
-  judged_clash : (cites : List ℕ) (walk : List StepOf) (spares : List (List (ℕ × ℕ))) → SupportedOrRefused net (clash cites walk spares)
-  judged_clash cites walk spares = elim (first_or_none (length cites) (λ i. cite_at cites i < length net.links) (λ i. dec_lt (cite_at cites i) (length net.links))) [
-    | inr first ↦ inr (refusal 0 (Number (cite_at cites first.0)), inl (refl, first.0, first.1, refl))
-    | inl links ↦ elim (round_or_none net cites walk) [
-      | inr none ↦ inr (refusal 1 none.0, inr (inl (links, (refl, none.1))))
-      | inl round ↦ elim (first_bad (FitsOthers net cites spares) (λ i. IsMisfit net (Rest i) (ranks_at spares i)) (λ i. no_misfit net (Rest i) (ranks_at spares i)) spare (length cites)) [
-        | inr first ↦ inr (refusal (first.0 + 2) first.1, inr (inr (links, round, (first.0, first.2, refl, first.3))))
-        | inl all ↦ inl (links, round, all)
-      ]
+  -- timelines fit with all cited links but one each, or they are refused
+  judged_spares : (cites : List ℕ) (spares : List (List (ℕ × ℕ))) → AllFitOthers net cites spares ⊎ ((refused : Refused) × AreSparesRefused net cites spares refused)
+  judged_spares cites spares = elim (ℕ_discrete (length spares) (length cites)) [
+    | no other ↦ inr (refusal 0 (Size (length spares)), inl (refl, refl, other))
+    | yes size ↦ elim (first_bad (IsSpareAt net cites spares) (λ i. IsMisfit net (Rest i) (ranks_of (ranks_at spares i))) (λ i. no_misfit net (Rest i) (ranks_of (ranks_at spares i))) spare (length cites)) [
+      | inr first ↦ inr (refusal (first.0 + 2) first.1, inr (size, (first.0, first.2, refl, first.3)))
+      | inl all ↦ inl (zip_from (FitsOthers net cites) 0 [] cites spares size all)
     ]
   ]
     where
@@ -83,8 +87,22 @@ module _ (net : PlainNet) where
       Rest : ℕ → ℕ → Type 0
       Rest i = Others (Contains cites) (cite_at cites i)
 
-      spare : (i : ℕ) → OrReason (FitsOthers net cites spares i) (IsMisfit net (Rest i) (ranks_at spares i))
-      spare i = fit_or_misfit net (Rest i) (others cites (cite_at cites i)) (slice_index_or spares i [])
+      spare : (i : ℕ) → OrReason (IsSpareAt net cites spares i) (IsMisfit net (Rest i) (ranks_of (ranks_at spares i)))
+      spare i = fit_or_misfit net (Rest i) (others cites (cite_at cites i)) (ranks_at spares i)
+
+  judged_clash : (cites : List ℕ) (walk : List StepOf) (spares : List (List (ℕ × ℕ))) → SupportedOrRefused net (clash cites walk spares)
+  judged_clash cites walk spares = elim (first_or_none (length cites) (IsOfLink net cites) (λ i. dec_lt (cite_at cites i) (length net.links))) [
+    | inr first ↦ inr (refusal 0 (Number (cite_at cites first.0)), inl (refl, first.0, first.1, refl))
+    | inl each ↦
+        let links = All-from_get_or (λ (k : ℕ). k < length net.links) cites 0 each in
+        elim (round_or_none net cites walk) [
+          | inr none ↦ inr (refusal 1 none.0, inr (inl (links, (refl, none.1))))
+          | inl round ↦ elim (judged_spares cites spares) [
+            | inr refused ↦ inr (refused.0, inr (inr (links, round, refused.1)))
+            | inl all ↦ inl (links, round, all)
+          ]
+        ]
+  ]
 
   pub supported_or_refused : (e : PlainEvidence) → SupportedOrRefused net e
   supported_or_refused (timeline ranks) = elim (fit ranks) [

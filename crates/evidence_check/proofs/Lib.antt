@@ -1,5 +1,7 @@
+pub mod Checks
+pub mod Zipped
 pub mod Proving
-pub mod GoingRound
+pub mod ClosedWalks
 pub mod Marks
 pub mod Soundness
 pub mod Verdicts

@@ -14,8 +14,8 @@ use Rattle.net_core.specs.declared.step.Step.TheVariants as steps
 use Rattle.net_core.proofs.WalkLaws.{joined_push, joined_split, joined_take, one_end}
 use Rattle.evidence_check.specs.declared.refusal.Reason.{Reason}
 use Rattle.evidence_check.specs.declared.refusal.Reason.TheVariants.{Number, Size, Order, Link, Calendar, Step, End, Weak, Cited, Holds}
-use Rattle.evidence_check.specs.Refusals.{GoFrom, IsNoProof}
-use Rattle.evidence_check.specs.Supported.{IsProof, atom_at, walk_at}
+use Rattle.evidence_check.specs.Refusals.{GoFrom, IsNoProof, atom_at, walk_at}
+use Rattle.evidence_check.specs.Supported.{IsProof}
 
 -- what is read past the end of a list of steps
 abbrev pub no_step : StepOf

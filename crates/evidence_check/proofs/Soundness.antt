@@ -1,7 +1,7 @@
 -- What supported evidence shows is true.
-use Rattle.std.proofs.Common.{◌≡◌, ℕ, zero, suc, ◌<◌, List, [], ◌∷◌, length, false, Some, Result, Ok, Err, OnOk, IfOk, arith, subst}
-use Rattle.std.specs.List.{Contains, slice_get}
-use Rattle.std.proofs.lemmas.List.Elements.{All-from_get_or, recursion_from_All}
+use Rattle.std.proofs.Common.{◌≡◌, ℕ, zero, suc, ◌<◌, List, [], ◌∷◌, length, Some, Result, Ok, Err, OnOk, IfOk, arith, subst}
+use Rattle.std.specs.List.{AllByRecursion, Contains, slice_get}
+use Rattle.std.proofs.lemmas.List.Elements.{All-from_get_or}
 use Rattle.std.proofs.lemmas.Option.{option_and_then_some, slice_get_within}
 use Rattle.net_core.specs.Atoms.{Satisfies, atoms_of}
 use Rattle.net_core.specs.Relations.{Timeline}
@@ -11,16 +11,19 @@ use Rattle.net_core.specs.declared.atom.Atom.{Atom}
 use Rattle.net_core.specs.declared.net.NetLink.{NetLink}
 use Rattle.net_core.specs.declared.step.Step.TheVariants.{Link, Span, Calendar}
 use Rattle.net_core.specs.Clashes.{IsMinimalClash, Others}
-use Rattle.net_core.specs.Fits.{EveryLink, FitsWith}
+use Rattle.net_core.specs.Fits.{EveryLink, Fits, FitsWith}
 use Rattle.net_core.specs.Nets.{PlainNet}
 use Rattle.net_core.specs.Ranks.{ranks_of, timeline_of}
 use Rattle.net_core.specs.declared.rels.Rel.{Rel}
 use Rattle.net_core.specs.declared.step.Step.{Step as StepOf}
 use Rattle.net_core.proofs.AtomLaws.{atoms_say_the_relation}
 use Rattle.net_core.proofs.WalkLaws.{joined_over, round_clashes, walk_kept}
+use Rattle.net_core.specs.Entailment.{Follows}
 use Rattle.evidence_format.specs.Evidence.{PlainEvidence, timeline, entails, counter, clash}
-use Rattle.evidence_check.specs.Claims.{Follows, IsTrue}
-use Rattle.evidence_check.specs.Supported.{IsSupported, atom_at, ranks_at, walk_at}
+use Rattle.evidence_check.specs.Claims.{ShowsTruth}
+use Rattle.evidence_check.specs.Refusals.{ranks_at}
+use Rattle.evidence_check.specs.Supported.{FitsOthers, IsSupported, ProveAll}
+use Rattle.evidence_check.proofs.Zipped.{zip_at}
 
 -- the link of a step that goes by an order is one of the net
 link_within : (net : PlainNet) (step : StepOf) (a : Atom) (k : ℕ) → atom_of net step ≡ Some a → link_of step ≡ Some k → k < length net.links
@@ -37,35 +40,38 @@ over_links net [] x y k joined over = absurd (omega (arith, over.1.1))
 over_links net (step ∷ steps) x y k joined (s, (zero, lt, is), of_link) = link_within net s joined.0 k (subst (λ (r : StepOf). atom_of net r ≡ Some joined.0) is joined.1.0) of_link
 over_links net (step ∷ steps) x y k joined (s, (suc i, lt, is), of_link) = over_links net steps joined.0.to y k joined.3 (s, (i, omega (arith, lt), is), of_link)
 
-pub supported_is_true : (net : PlainNet) (e : PlainEvidence) → IsSupported net e → IsTrue net e
+-- a timeline that fits is in the order of each atom that is proved
+all_kept : (net : PlainNet) (t : Timeline) (atoms : List Atom) (walks : List (List StepOf)) → Fits net t → ProveAll net atoms walks → AllByRecursion (Satisfies t) atoms
+all_kept net t [] walks fits proofs = tt
+all_kept net t (atom ∷ atoms) [] fits proofs = absurd proofs
+all_kept net t (atom ∷ atoms) (walk ∷ walks) fits proofs = (walk_kept net EveryLink t walk atom.from atom.to atom.strict fits proofs.0, all_kept net t atoms walks fits proofs.1)
+
+pub supported_is_true : (net : PlainNet) (e : PlainEvidence) → IsSupported net e → ShowsTruth net e
 supported_is_true net (timeline ranks) fit = (timeline_of (ranks_of ranks), fit.1)
-supported_is_true net (entails a r b walks) proofs = λ t fits.
-    let atoms = atoms_of r a b in
-    (atoms_say_the_relation t r a b).1 (recursion_from_All (Satisfies t) atoms (All-from_get_or (Satisfies t) atoms (record { from = 0; to = 0; strict = false }) (λ k lt.
-    walk_kept net EveryLink t (walk_at walks k) (atom_at atoms k).from (atom_at atoms k).to (atom_at atoms k).strict fits (proofs.1 k lt))))
+supported_is_true net (entails a r b walks) proofs = λ t fits. let atoms = atoms_of r a b in (atoms_say_the_relation t r a b).1 (all_kept net t atoms walks fits proofs.1)
 supported_is_true net (counter a r b ranks) fails = (timeline_of (ranks_of ranks), fails.1.1, fails.2)
 supported_is_true net (clash cites walk spares) shown =
     let round = shown.1.0 in
     record {
-      links = All-from_get_or (λ (k : ℕ). k < length net.links) cites 0 shown.0;
+      links = shown.0;
       clashes = round_clashes net (Contains cites) walk
           (round.0, (joined_over net EveryLink (Contains cites) walk round.0 round.0 round.1.0 (λ k over. (shown.1.1 k (over_links net walk round.0 round.0 k round.1.0 over)).0 over), round.1.1));
       needed = All-from_get_or (λ (k : ℕ). (t : Timeline) × FitsWith net (Others (Contains cites) k) t) cites 0
-          (λ i lt. (timeline_of (ranks_at spares i), (shown.2 i lt).1));
+          (λ i lt. (timeline_of (ranks_of (ranks_at spares i)), (zip_at (FitsOthers net cites) 0 [] cites spares shown.2 i lt).1));
     }
 
 -- the same, of what a function answers
-pub true_where_ok : {C E : Type 0} (result : Result C E) (net : PlainNet) (e : PlainEvidence) → OnOk result (IsSupported net e) → IfOk result (λ claim. IsTrue net e)
+pub true_where_ok : {C E : Type 0} (result : Result C E) (net : PlainNet) (e : PlainEvidence) → OnOk result (IsSupported net e) → IfOk result (λ claim. ShowsTruth net e)
 true_where_ok (Ok claim) net e supported = supported_is_true net e supported
 true_where_ok (Err refused) net e supported = tt
 
 -- of evidence that is told twice
-pub follows_where_ok : {C E : Type 0} (result : Result C E) (net : PlainNet) (e : PlainEvidence) → IfOk result (λ claim. IsTrue net e)
+pub follows_where_ok : {C E : Type 0} (result : Result C E) (net : PlainNet) (e : PlainEvidence) → IfOk result (λ claim. ShowsTruth net e)
     → (a b : ℕ) (r : Rel) (walks : List (List StepOf)) → e ≡ entails a r b walks → IfOk result (λ claim. Follows net a r b)
-follows_where_ok (Ok claim) net e holds a b r walks same = subst (IsTrue net) same holds
+follows_where_ok (Ok claim) net e holds a b r walks same = subst (ShowsTruth net) same holds
 follows_where_ok (Err refused) net e holds a b r walks same = tt
 
-pub clashes_where_ok : {C E : Type 0} (result : Result C E) (net : PlainNet) (e : PlainEvidence) → IfOk result (λ claim. IsTrue net e)
+pub clashes_where_ok : {C E : Type 0} (result : Result C E) (net : PlainNet) (e : PlainEvidence) → IfOk result (λ claim. ShowsTruth net e)
     → (cites : List ℕ) (walk : List StepOf) (spares : List (List (ℕ × ℕ))) → e ≡ clash cites walk spares → IfOk result (λ claim. IsMinimalClash net cites)
-clashes_where_ok (Ok claim) net e holds cites walk spares same = subst (IsTrue net) same holds
+clashes_where_ok (Ok claim) net e holds cites walk spares same = subst (ShowsTruth net) same holds
 clashes_where_ok (Err refused) net e holds cites walk spares same = tt

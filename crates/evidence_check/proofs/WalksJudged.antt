@@ -1,10 +1,10 @@
--- Steps prove an order and go round over the cited links, or they do not for a reason.
+-- Steps prove an order and are a closed walk over the cited links, or they do not for a reason.
 use Rattle.std.proofs.Common.{◌≡◌, ◌↔◌, ◌⊎◌, inl, inr, ℕ, zero, suc, ◌+◌, ◌<◌, Bool, true, false, List, [], ◌∷◌, length, take, Option, Some, None, refl, sym, subst, ◌∙◌, add-one, arith}
 use Rattle.std.proofs.Math.Seq.{take-length}
 use Rattle.std.proofs.lemmas.Option.{same_Some}
 use mathlib.Core.Logic.Dec
 use native.Mathlib.Decide.{ℕ_discrete}
-use Rattle.net_core.specs.Clashes.{Agrees, GoesRoundOver}
+use Rattle.net_core.specs.Clashes.{Agrees, IsClosedOver}
 use Rattle.net_core.specs.Fits.{EveryLink}
 use Rattle.net_core.specs.Nets.{PlainNet}
 use Rattle.net_core.specs.Steps.{atom_of, has_strict}
@@ -17,7 +17,7 @@ use Rattle.evidence_check.specs.declared.refusal.Reason.TheVariants.{Step, End, 
 use Rattle.evidence_check.specs.Refusals.{GoFrom, GoOn, IsNoProof, IsNoRound}
 use Rattle.evidence_check.specs.Supported.{IsProof}
 use Rattle.evidence_check.proofs.Deciding.{agrees}
-use Rattle.evidence_check.proofs.GoingRound.{start_is}
+use Rattle.evidence_check.proofs.ClosedWalks.{start_is}
 use Rattle.evidence_check.proofs.Reasons.{OrReason}
 
 -- ---- the first step with which something no longer holds
@@ -88,7 +88,7 @@ module _ (net : PlainNet) where
       by_strict joined asked true e f = inl (joined, λ strict. f)
       by_strict joined false some e f = inl (joined, λ strict. absurd cc)
 
-  pub round_or_none : (cites : List ℕ) (all : List StepOf) → OrReason (GoesRoundOver net cites all) (IsNoRound net cites all)
+  pub round_or_none : (cites : List ℕ) (all : List StepOf) → OrReason (IsClosedOver net cites all) (IsNoRound net cites all)
   round_or_none cites all = elim (all_or_stop (GoOn net) go_on (0, (0, refl)) all) [
     | inr stop ↦ inr (Step stop.0, stop.1)
     | inl on ↦ elim (ℕ_discrete on.0 on.1.0) [
@@ -97,7 +97,7 @@ module _ (net : PlainNet) where
     ]
   ]
     where
-      by_strict : (x : ℕ) → IsJoined net EveryLink all x x → (some : Bool) → has_strict net all ≡ some → OrReason (GoesRoundOver net cites all) (IsNoRound net cites all)
+      by_strict : (x : ℕ) → IsJoined net EveryLink all x x → (some : Bool) → has_strict net all ≡ some → OrReason (IsClosedOver net cites all) (IsNoRound net cites all)
       by_strict x joined false e = inr (Weak, (x, joined, e))
       by_strict x joined true e = elim (first_or_none (length net.links) (Agrees cites all) (agrees cites all)) [
         | inr first ↦ inr (Cited first.0, ((x, (joined, λ asked. e)), first.1))

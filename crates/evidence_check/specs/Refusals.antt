@@ -1,15 +1,16 @@
 -- Why evidence is refused: the first part that is not as it should be, and the first reason there.
-use Rattle.std.specs.Prelude.{◌≡◌, ◌≢◌, ◌⊎◌, ℕ, ◌+◌, ◌*◌, ◌<◌, ◌≤◌, true, false, List, length, take, Option, None, Some}
+use Rattle.std.specs.Prelude.{◌≡◌, ◌≢◌, ◌⊎◌, ℕ, ◌+◌, ◌*◌, ◌<◌, ◌≤◌, true, false, List, [], length, take, Option, None, Some, slice_index, slice_index_or}
 use Rattle.std.specs.List.{Contains}
 use Rattle.net_core.specs.Atoms.{atoms_of}
-use Rattle.net_core.specs.Clashes.{Agrees, GoesRoundOver, Others}
+use Rattle.net_core.specs.Clashes.{Agrees, IsClosedOver, Others}
+use Rattle.net_core.specs.Entailment.{AreIntervals}
 use Rattle.net_core.specs.Firsts.{IsFirst, IsFirstPair}
 use Rattle.net_core.specs.Fits.{EveryLink, KeepsCalendar, KeepsLink, RanksFit, StartsFirst}
 use Rattle.net_core.specs.Nets.{PlainNet, intervals, points}
 use Rattle.net_core.specs.Ranks.{ranks_of, timeline_of}
 use Rattle.net_core.specs.Relations.{Relates}
 use Rattle.net_core.specs.Steps.{has_strict}
-use Rattle.net_core.specs.Walks.{GoesRound, IsJoined}
+use Rattle.net_core.specs.Walks.{IsClosedWalk, IsJoined}
 use Rattle.net_core.specs.declared.atom.Atom.{Atom}
 use Rattle.net_core.specs.declared.rels.Rel.{Rel}
 use Rattle.net_core.specs.declared.step.Step.{Step as StepOf}
@@ -17,7 +18,35 @@ use Rattle.evidence_format.specs.Evidence.{PlainEvidence, timeline, entails, cou
 use Rattle.evidence_check.specs.declared.refusal.Reason.{Reason}
 use Rattle.evidence_check.specs.declared.refusal.Reason.TheVariants.{Number, Size, Order, Link, Calendar, Step, End, Weak, Cited, Holds}
 use Rattle.evidence_check.specs.declared.refusal.Refused.{Refused}
-use Rattle.evidence_check.specs.Supported.{AreIntervals, AreLinks, FitsOthers, IsSupported, Proves, atom_at, cite_at, ranks_at, walk_at}
+use Rattle.evidence_check.specs.Supported.{AreLinks, FitsOthers, IsProof, IsSupported}
+
+-- ---- what stands at a place
+
+abbrev pub atom_at : List Atom → ℕ → Atom
+atom_at atoms k = slice_index_or atoms k (record { from = 0; to = 0; strict = false })
+
+abbrev pub walk_at : List (List StepOf) → ℕ → List StepOf
+walk_at walks k = slice_index_or walks k []
+
+abbrev pub cite_at : List ℕ → ℕ → ℕ
+cite_at cites i = slice_index cites i
+
+abbrev pub ranks_at : List (List (ℕ × ℕ)) → ℕ → List (ℕ × ℕ)
+ranks_at spares i = slice_index_or spares i []
+
+-- the walk of a number proves the atom of that number
+abbrev pub Proves : PlainNet → List Atom → List (List StepOf) → ℕ → Type 0
+Proves net atoms walks k = IsProof net (atom_at atoms k) (walk_at walks k)
+
+-- the cite of a number is that of a link of the net
+abbrev pub IsOfLink : PlainNet → List ℕ → ℕ → Type 0
+IsOfLink net cites i = cite_at cites i < length net.links
+
+-- the timeline of a number fits with all cited links but the one of that number
+abbrev pub IsSpareAt : PlainNet → List ℕ → List (List (ℕ × ℕ)) → ℕ → Type 0
+IsSpareAt net cites spares i = FitsOthers net cites (cite_at cites i) (ranks_at spares i)
+
+-- ---- why it is refused
 
 -- there are two ranks for each interval
 abbrev pub HasSize : PlainNet → List ℕ → Type 0
@@ -62,33 +91,43 @@ IsNoProof net atom steps other = ⊥
 abbrev pub IsNumberRefused : PlainNet → ℕ → ℕ → Refused → Type 0
 IsNumberRefused net a b refused = (refused.part ≡ 0) × (n : ℕ) × (refused.reason ≡ Number n) × IsBadNumber net a b n
 
+-- so many walks or timelines where there should be another number of them, which no text has
+abbrev pub IsCountRefused : ℕ → ℕ → Refused → Type 0
+IsCountRefused count due refused = (refused.part ≡ 0) × (refused.reason ≡ Size count) × (count ≢ due)
+
 -- the first walk that does not prove its atom: walk k is part k + 1
 abbrev pub IsWalkRefused : PlainNet → List Atom → List (List StepOf) → Refused → Type 0
 IsWalkRefused net atoms walks refused = (k : ℕ) × IsFirst (length atoms) (Proves net atoms walks) (Some k) × (refused.part ≡ k + 1) × IsNoProof net (atom_at atoms k) (walk_at walks k) refused.reason
+
+-- how many walks there are, or the first that does not prove its atom
+abbrev pub AreWalksRefused : PlainNet → List Atom → List (List StepOf) → Refused → Type 0
+AreWalksRefused net atoms walks refused =
+    IsCountRefused (length walks) (length atoms) refused
+    ⊎ ((length walks ≡ length atoms) × IsWalkRefused net atoms walks refused)
 
 -- the timeline, which is part 1
 abbrev pub IsTimelineRefused : PlainNet → List ℕ → Refused → Type 0
 IsTimelineRefused net ranks refused = (refused.part ≡ 1) × IsMisfit net EveryLink ranks refused.reason
 
--- a relation that is true by ranks that fit, which is part 2
-abbrev pub IsRelationRefused : PlainNet → List ℕ → ℕ → Rel → ℕ → Refused → Type 0
-IsRelationRefused net ranks a r b refused = (refused.part ≡ 2) × (refused.reason ≡ Holds) × RanksFit net ranks × Relates (timeline_of ranks) r a b
+-- a relation that is true by the ranks, which is part 2
+abbrev pub IsRelationRefused : List ℕ → ℕ → Rel → ℕ → Refused → Type 0
+IsRelationRefused ranks a r b refused = (refused.part ≡ 2) × (refused.reason ≡ Holds) × Relates (timeline_of ranks) r a b
 
 -- the steps are joined from some point to some point
 abbrev pub GoOn : PlainNet → List StepOf → Type 0
 GoOn net steps = (x : ℕ) × GoFrom net x steps
 
--- The steps do not go round over exactly the cited links, for this reason and for none before it: step k is the first that does not go on; they do not end where they begin; none of them is strict; or a link is the first that is cited and not gone over, or gone over and not cited.
+-- The steps are no closed walk over exactly the cited links, for this reason and for none before it: step k is the first that does not go on; they do not end where they begin; none of them is strict; or a link is the first that is cited and not gone over, or gone over and not cited.
 abbrev pub IsNoRound : PlainNet → List ℕ → List StepOf → Reason → Type 0
 IsNoRound net cites steps (Step k) = (k < length steps) × GoOn net (take k steps) × (GoOn net (take (k + 1) steps) → ⊥)
 IsNoRound net cites steps End = (x : ℕ) × (y : ℕ) × IsJoined net EveryLink steps x y × (x ≢ y)
 IsNoRound net cites steps Weak = (x : ℕ) × IsJoined net EveryLink steps x x × (has_strict net steps ≡ false)
-IsNoRound net cites steps (Cited link) = GoesRound net EveryLink steps × IsFirst (length net.links) (Agrees cites steps) (Some link)
+IsNoRound net cites steps (Cited link) = IsClosedWalk net EveryLink steps × IsFirst (length net.links) (Agrees cites steps) (Some link)
 IsNoRound net cites steps other = ⊥
 
 -- a cite that is none of a link, which is part 0
 abbrev pub IsCiteRefused : PlainNet → List ℕ → Refused → Type 0
-IsCiteRefused net cites refused = (refused.part ≡ 0) × (i : ℕ) × AreLinks net cites (Some i) × (refused.reason ≡ Number (cite_at cites i))
+IsCiteRefused net cites refused = (refused.part ≡ 0) × (i : ℕ) × IsFirst (length cites) (IsOfLink net cites) (Some i) × (refused.reason ≡ Number (cite_at cites i))
 
 -- the walk, which is part 1
 abbrev pub IsRoundRefused : PlainNet → List ℕ → List StepOf → Refused → Type 0
@@ -97,23 +136,29 @@ IsRoundRefused net cites walk refused = (refused.part ≡ 1) × IsNoRound net ci
 -- the first timeline that does not fit with the other cited links: timeline i is part i + 2
 abbrev pub IsSpareRefused : PlainNet → List ℕ → List (List (ℕ × ℕ)) → Refused → Type 0
 IsSpareRefused net cites spares refused =
-    (i : ℕ) × IsFirst (length cites) (FitsOthers net cites spares) (Some i) × (refused.part ≡ i + 2)
-    × IsMisfit net (Others (Contains cites) (cite_at cites i)) (ranks_at spares i) refused.reason
+    (i : ℕ) × IsFirst (length cites) (IsSpareAt net cites spares) (Some i) × (refused.part ≡ i + 2)
+    × IsMisfit net (Others (Contains cites) (cite_at cites i)) (ranks_of (ranks_at spares i)) refused.reason
+
+-- how many timelines there are, or the first that does not fit with the other cited links
+abbrev pub AreSparesRefused : PlainNet → List ℕ → List (List (ℕ × ℕ)) → Refused → Type 0
+AreSparesRefused net cites spares refused =
+    IsCountRefused (length spares) (length cites) refused
+    ⊎ ((length spares ≡ length cites) × IsSpareRefused net cites spares refused)
 
 -- the first part that is refused, and the first reason there
 abbrev pub IsRefused : PlainNet → PlainEvidence → Refused → Type 0
 IsRefused net (timeline ranks) refused = IsTimelineRefused net (ranks_of ranks) refused
 IsRefused net (entails a r b walks) refused =
     IsNumberRefused net a b refused
-    ⊎ (AreIntervals net a b × IsWalkRefused net (atoms_of r a b) walks refused)
+    ⊎ (AreIntervals net a b × AreWalksRefused net (atoms_of r a b) walks refused)
 IsRefused net (counter a r b ranks) refused =
     IsNumberRefused net a b refused
     ⊎ (AreIntervals net a b × IsTimelineRefused net (ranks_of ranks) refused)
-    ⊎ (AreIntervals net a b × IsRelationRefused net (ranks_of ranks) a r b refused)
+    ⊎ (AreIntervals net a b × RanksFit net (ranks_of ranks) × IsRelationRefused (ranks_of ranks) a r b refused)
 IsRefused net (clash cites walk spares) refused =
     IsCiteRefused net cites refused
-    ⊎ (AreLinks net cites None × IsRoundRefused net cites walk refused)
-    ⊎ (AreLinks net cites None × GoesRoundOver net cites walk × IsSpareRefused net cites spares refused)
+    ⊎ (AreLinks net cites × IsRoundRefused net cites walk refused)
+    ⊎ (AreLinks net cites × IsClosedOver net cites walk × AreSparesRefused net cites spares refused)
 
 -- the law: evidence is not both supported and refused, and is refused for one reason at most
 pub record Verdicts (net : PlainNet) (e : PlainEvidence) : Type 0 where

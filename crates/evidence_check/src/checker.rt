@@ -1,22 +1,22 @@
 //! Checking evidence.
-ghost use Rattle.evidence_check.specs.Claims.{CanFail, Follows, IsTrue, claim_of};
+ghost use Rattle.evidence_check.specs.Claims.{ShowsTruth, claim_of};
 ghost use Rattle.evidence_check.specs.Asked.{AreRisingLinks};
-ghost use Rattle.evidence_check.specs.Refusals.{IsCiteRefused, IsNumberRefused, IsRefused, IsSpareRefused};
-ghost use Rattle.evidence_check.specs.Supported.{AreIntervals, AreLinks, FitsOthers, IsSupported};
+ghost use Rattle.evidence_check.specs.Refusals.{AreSparesRefused, IsCiteRefused, IsNumberRefused, IsRefused};
+ghost use Rattle.evidence_check.specs.Supported.{AllFitOthers, AreLinks, IsSupported};
 ghost use Rattle.evidence_format.specs.Evidence.{AreRanks, IsWellFormed, clash, counter, entails, timeline};
 ghost use Rattle.evidence_format.specs.View.{plain};
 ghost use Rattle.net_core.specs.Clashes.{IsMinimalClash};
-ghost use Rattle.net_core.specs.Firsts.{IsFirst};
+ghost use Rattle.net_core.specs.Entailment.{AreIntervals, CanFail, Follows};
 ghost use Rattle.net_core.specs.Limits.{max_intervals, max_links};
 ghost use Rattle.net_core.specs.Nets.{intervals};
 ghost use Rattle.net_core.specs.Ranks.{pairs_of};
 ghost use Rattle.net_core.specs.declared.rels.Rel.{Rel as RelOf};
 ghost use Rattle.net_core.specs.declared.step.Step.{Step as StepOf};
 ghost use Rattle.std.specs.List.{All};
-ghost use Rattle.std.specs.Prelude.{IfErr, IfOk, IsOk, List, None, OnOk, length, map, ℕ, ◌≡◌, ◌≤◌, ◌↔◌};
+ghost use Rattle.std.specs.Prelude.{IfErr, IfOk, IsOk, List, OnOk, length, map, ℕ, ◌≡◌, ◌≤◌, ◌↔◌};
 
 use crate::refusal::{Claim, Reason, Refused};
-use crate::rounds::go_round;
+use crate::rounds::check_closed;
 use crate::timeline::{Asked, fit};
 use crate::walks::prove_all;
 use evidence_format::Evidence;
@@ -33,7 +33,7 @@ pub fn verify(net: &Net, evidence: &Evidence) -> Result<Claim, Refused>
     ensures ok { IfOk result (λ claim. claim ≡ claim_of (plain evidence.now)) }
     ensures err { IfErr result (IsRefused net.now (plain evidence.now)) }
     // What supported evidence shows is true.
-    ensures sound { IfOk result (λ claim. IsTrue net.now (plain evidence.now)) }
+    ensures sound { IfOk result (λ claim. ShowsTruth net.now (plain evidence.now)) }
     // An entailment: the relation holds in every timeline that fits, whether or not there is one.
     ensures follows { (a b : ℕ) (r : RelOf) (walks : List (List StepOf)) → plain evidence.now ≡ entails a r b walks → IfOk result (λ claim. Follows net.now a r b) }
     // A counterexample: the relation is false in some timeline that fits.
@@ -129,7 +129,8 @@ fn check_numbers(net: &Net, a: u32, b: u32) -> Result<(), Refused>
     })
 }
 
-/// Links that are to clash, a walk that is to go round over exactly these, and timelines that are to fit with all but one.
+/// Links that are to clash, a walk that is to be closed and to go over exactly these, and timelines that are to fit with
+/// all but one.
 fn check_clash(net: &Net, cites: &[u32], walk: &[Step], spares: &[Ranks]) -> Result<Claim, Refused>
     requires { IsWellFormed (clash cites.now walk.now (map pairs_of spares.now)) }
     ensures claim { IfOk result (λ claim. claim ≡ Claim.Clashes) }
@@ -137,7 +138,7 @@ fn check_clash(net: &Net, cites: &[u32], walk: &[Step], spares: &[Ranks]) -> Res
     ensures err { IfErr result (IsRefused net.now (clash cites.now walk.now (map pairs_of spares.now))) }
 {
     check_cites(net, cites)?;
-    if let Err(reason) = go_round(net, cites, walk) {
+    if let Err(reason) = check_closed(net, cites, walk) {
         return Err(Refused { part: 1, reason });
     }
     check_spares(net, cites, spares)?;
@@ -146,7 +147,7 @@ fn check_clash(net: &Net, cites: &[u32], walk: &[Step], spares: &[Ranks]) -> Res
 
 /// Ok where all cites are numbers of links of the net.
 fn check_cites(net: &Net, cites: &[u32]) -> Result<(), Refused>
-    ensures ok { OnOk result (AreLinks net.now cites.now None) }
+    ensures ok { OnOk result (AreLinks net.now cites.now) }
     ensures few { OnOk result (length net.now.links ≤ max_links) }
     ensures err { IfErr result (IsCiteRefused net.now cites.now) }
 {
@@ -168,8 +169,8 @@ fn check_spares(net: &Net, cites: &[u32], spares: &[Ranks]) -> Result<(), Refuse
     requires few { length cites.now ≤ max_links }
     requires one_each { length spares.now ≡ length cites.now }
     requires ranks { All AreRanks (map pairs_of spares.now) }
-    ensures ok { OnOk result (IsFirst (length cites.now) (FitsOthers net.now cites.now (map pairs_of spares.now)) None) }
-    ensures err { IfErr result (IsSpareRefused net.now cites.now (map pairs_of spares.now)) }
+    ensures ok { OnOk result (AllFitOthers net.now cites.now (map pairs_of spares.now)) }
+    ensures err { IfErr result (AreSparesRefused net.now cites.now (map pairs_of spares.now)) }
 {
     for i in 0..cites.len() {
         let own = cites[i];

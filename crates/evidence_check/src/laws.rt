@@ -1,5 +1,5 @@
 //! Laws of the checker: public functions that do nothing, each with the law as its contract.
-ghost use Rattle.evidence_check.specs.Claims.{IsTrue};
+ghost use Rattle.evidence_check.specs.Claims.{ShowsTruth};
 ghost use Rattle.evidence_check.specs.Refusals.{OneVerdict, SupportedOrRefused};
 ghost use Rattle.evidence_check.specs.Supported.{IsSupported};
 ghost use Rattle.evidence_format.specs.Evidence.{PlainEvidence};
@@ -12,7 +12,7 @@ pub fn one_verdict()
 
 /// What supported evidence shows is true, whoever made it.
 pub fn supported_is_true()
-    ensures { (net : PlainNet) (e : PlainEvidence) → IsSupported net e → IsTrue net e }
+    ensures { (net : PlainNet) (e : PlainEvidence) → IsSupported net e → ShowsTruth net e }
 {}
 
 /// Whatever the net and the evidence are, the evidence is supported or refused.

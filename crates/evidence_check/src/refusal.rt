@@ -27,11 +27,11 @@ pub enum Reason {
     /// The first pair of points, by `from` and then by `to`, that are not in the order of the calendar.
     Calendar { from: u32, to: u32 },
     /// The first step, counted from 0, that goes by no order, or does not begin where the one before it ended. Step 0
-    /// begins at the first point of the order that the walk is to prove, or anywhere where it is to go round.
+    /// begins at the first point of the order that the walk is to prove, or anywhere where it is to be closed.
     Step { step: u32 },
     /// The walk does not end at the other point, or where it began.
     End,
-    /// No step is strict, and the order is, or the walk is to go round.
+    /// No step is strict, and the order is, or the walk is to be closed.
     Weak,
     /// The first link that is cited and not gone over by the walk, or gone over and not cited.
     Cited { link: u32 },

@@ -1,8 +1,8 @@
-//! Whether a walk goes round over exactly the cited links.
+//! Whether a walk is closed and goes over exactly the cited links.
 ghost use Rattle.evidence_check.specs.Asked.{AreRisingLinks};
 ghost use Rattle.evidence_check.specs.Refusals.{IsNoRound};
 ghost use Rattle.evidence_format.specs.Evidence.{IsNumber};
-ghost use Rattle.net_core.specs.Clashes.{Agrees, GoesRoundOver};
+ghost use Rattle.net_core.specs.Clashes.{Agrees, IsClosedOver};
 ghost use Rattle.net_core.specs.Firsts.{IsFirst};
 ghost use Rattle.net_core.specs.Limits.{max_links};
 ghost use Rattle.net_core.specs.Walks.{GoesOver};
@@ -16,11 +16,11 @@ use net_core::{MAX_LINKS, Net, Step, mark_link, mark_steps, step_atom};
 /// A mark for each link that a net can have.
 type Marks = [bool; MAX_LINKS as usize];
 
-/// Ok where the steps go round over exactly the cited links, else the first reason why they do not.
-pub fn go_round(net: &Net, cites: &[u32], steps: &[Step]) -> Result<(), Reason>
+/// Ok where the steps are a closed walk over exactly the cited links, else the first reason why they do not.
+pub fn check_closed(net: &Net, cites: &[u32], steps: &[Step]) -> Result<(), Reason>
     requires few { IsNumber (length steps.now) }
     requires cites { AreRisingLinks net.now cites.now }
-    ensures ok { OnOk result (GoesRoundOver net.now cites.now steps.now) }
+    ensures ok { OnOk result (IsClosedOver net.now cites.now steps.now) }
     ensures err { IfErr result (IsNoRound net.now cites.now steps.now) }
 {
     let Some(first) = steps.first() else {

@@ -1,15 +1,14 @@
 //! Whether walks prove the orders that a relation is.
 ghost use Rattle.evidence_check.specs.Following.{LeadsTo, StopsAt};
-ghost use Rattle.evidence_check.specs.Refusals.{IsNoProof, IsWalkRefused};
-ghost use Rattle.evidence_check.specs.Supported.{IsProof, Proves};
+ghost use Rattle.evidence_check.specs.Refusals.{AreWalksRefused, IsNoProof};
+ghost use Rattle.evidence_check.specs.Supported.{IsProof, ProveAll};
 ghost use Rattle.evidence_format.specs.Evidence.{AreSteps, IsNumber};
 ghost use Rattle.net_core.specs.Atoms.{atoms_in};
-ghost use Rattle.net_core.specs.Firsts.{IsFirst};
 ghost use Rattle.net_core.specs.Fits.{EveryLink};
 ghost use Rattle.net_core.specs.Steps.{GoesBy, atom_of};
 ghost use Rattle.net_core.specs.declared.atom.Atom.{Atom as AtomOf};
 ghost use Rattle.std.specs.List.{All};
-ghost use Rattle.std.specs.Prelude.{IfErr, IfNone, IfOk, IfSome, None, OnOk, Some, length, ◌≡◌, ◌||◌};
+ghost use Rattle.std.specs.Prelude.{IfErr, IfNone, IfOk, IfSome, OnOk, Some, length, ◌≡◌, ◌||◌};
 
 use crate::refusal::{Reason, Refused};
 use net_core::{Atom, Atoms, Net, Step, Walk, step_atom};
@@ -18,8 +17,8 @@ use net_core::{Atom, Atoms, Net, Step, Walk, step_atom};
 pub fn prove_all(net: &Net, atoms: Atoms, walks: &[Walk]) -> Result<(), Refused>
     requires one_each { length walks.now ≡ length (atoms_in atoms) }
     requires few { All AreSteps walks.now }
-    ensures ok { OnOk result (IsFirst (length (atoms_in atoms)) (Proves net.now (atoms_in atoms) walks.now) None) }
-    ensures err { IfErr result (IsWalkRefused net.now (atoms_in atoms) walks.now) }
+    ensures ok { OnOk result (ProveAll net.now (atoms_in atoms) walks.now) }
+    ensures err { IfErr result (AreWalksRefused net.now (atoms_in atoms) walks.now) }
 {
     for k in 0..atoms.count() {
         let Some(atom) = atoms.atom(k) else {

@@ -9,7 +9,7 @@ use Rattle.net_core.specs.Nets.{PlainNet}
 use Rattle.net_core.specs.Relations.{Timeline}
 use Rattle.net_core.specs.Steps.{GoesBy, Uses, atom_of, has_strict, is_strict_order, link_of}
 use Rattle.net_core.specs.Clashes.{Clashes}
-use Rattle.net_core.specs.Walks.{GoesOver, GoesRound, HasWalk, IsJoined, IsWalk}
+use Rattle.net_core.specs.Walks.{GoesOver, IsClosedWalk, HasWalk, IsJoined, IsWalk}
 use Rattle.net_core.specs.declared.atom.Atom.{Atom}
 use Rattle.net_core.specs.declared.step.Step.{Step}
 use Rattle.net_core.specs.declared.step.Step.TheVariants.{Link, Span, Calendar}
@@ -105,8 +105,8 @@ joined_over net Chosen Other (step ∷ steps) x y joined over = (
   joined_over net Chosen Other steps joined.0.to y joined.3 (λ k goes. over k (goes.0, (suc goes.1.0, omega (arith, goes.1.1), goes.1.2), goes.2)),
 )
 
--- where a walk goes round no timeline fits
-pub round_clashes : (net : PlainNet) (Chosen : ℕ → Type 0) (steps : List Step) → GoesRound net Chosen steps → Clashes net Chosen
+-- where a walk is closed no timeline fits
+pub round_clashes : (net : PlainNet) (Chosen : ℕ → Type 0) (steps : List Step) → IsClosedWalk net Chosen steps → Clashes net Chosen
 round_clashes net Chosen steps round t fits =
     let less : t round.0 < t round.0 = walk_kept net Chosen t steps round.0 round.0 true fits round.1 in omega arith
 
@@ -160,8 +160,8 @@ or_swap true true e = refl
 or_swap true false e = refl
 or_swap false b e = rw e refl
 
--- a walk that goes round can begin with each of its steps
-pub round_from : (net : PlainNet) (Chosen : ℕ → Type 0) (steps : List Step) (step : Step) (a : Atom) → GoesRound net Chosen steps → Contains steps step → atom_of net step ≡ Some a
+-- a closed walk can begin with each of its steps
+pub round_from : (net : PlainNet) (Chosen : ℕ → Type 0) (steps : List Step) (step : Step) (a : Atom) → IsClosedWalk net Chosen steps → Contains steps step → atom_of net step ≡ Some a
     → HasWalk net Chosen a.from a.from true
 round_from net Chosen steps step a round has is =
     let cut = contains_split steps step has in

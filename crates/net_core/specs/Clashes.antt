@@ -4,7 +4,7 @@ use Rattle.std.specs.List.{All, Contains}
 use Rattle.net_core.specs.Fits.{EveryLink, FitsWith}
 use Rattle.net_core.specs.Nets.{PlainNet}
 use Rattle.net_core.specs.Relations.{Timeline}
-use Rattle.net_core.specs.Walks.{GoesOver, GoesRound}
+use Rattle.net_core.specs.Walks.{GoesOver, IsClosedWalk}
 use Rattle.net_core.specs.declared.step.Step.{Step}
 
 -- no timeline fits with the links of a set
@@ -25,6 +25,6 @@ pub record IsMinimalClash (net : PlainNet) (cites : List ℕ) : Type 0 where
 abbrev pub Agrees : List ℕ → List Step → ℕ → Type 0
 Agrees cites walk k = GoesOver walk k ↔ Contains cites k
 
--- the walk goes round over exactly the cited links
-abbrev pub GoesRoundOver : PlainNet → List ℕ → List Step → Type 0
-GoesRoundOver net cites walk = GoesRound net EveryLink walk × ((k : ℕ) → k < length net.links → Agrees cites walk k)
+-- the walk is closed, and goes over exactly the cited links
+abbrev pub IsClosedOver : PlainNet → List ℕ → List Step → Type 0
+IsClosedOver net cites walk = IsClosedWalk net EveryLink walk × ((k : ℕ) → k < length net.links → Agrees cites walk k)

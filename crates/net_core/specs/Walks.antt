@@ -21,9 +21,9 @@ IsWalk net Chosen x y strict steps = IsJoined net Chosen steps x y × (strict �
 abbrev pub HasWalk : PlainNet → (ℕ → Type 0) → ℕ → ℕ → Bool → Type 0
 HasWalk net Chosen x y strict = (steps : List Step) × IsWalk net Chosen x y strict steps
 
--- a walk that goes round: from a point to itself, with a strict step
-abbrev pub GoesRound : PlainNet → (ℕ → Type 0) → List Step → Type 0
-GoesRound net Chosen steps = (x : ℕ) × IsWalk net Chosen x x true steps
+-- a closed walk: from a point to itself, with a strict step
+abbrev pub IsClosedWalk : PlainNet → (ℕ → Type 0) → List Step → Type 0
+IsClosedWalk net Chosen steps = (x : ℕ) × IsWalk net Chosen x x true steps
 
 -- one of the steps goes over this link
 abbrev pub GoesOver : List Step → ℕ → Type 0

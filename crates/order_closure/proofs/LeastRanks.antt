@@ -4,13 +4,14 @@ use Rattle.std.specs.List.{range_with_len}
 use Rattle.std.proofs.lemmas.Bool.{cases_lt}
 use Rattle.std.proofs.lemmas.List.FromFn.{get_or-map-range_with_len, length-map-range_with_len}
 use Rattle.net_core.specs.Atoms.{Satisfies}
+use Rattle.net_core.specs.Least.{AreLeast, IsLeast}
 use Rattle.net_core.specs.Ranks.{timeline_of}
 use Rattle.net_core.specs.Relations.{Timeline}
 use Rattle.net_core.specs.declared.atom.Atom.{Atom}
 use Rattle.order_closure.specs.Cells.{order, strength, stronger}
 use Rattle.order_closure.specs.Counting.{before_count, is_strict}
 use Rattle.order_closure.specs.Tables.{AreClosed, AreKept, way}
-use Rattle.order_closure.specs.Timelines.{AreLeast, IsLeast, opposite}
+use Rattle.order_closure.specs.Timelines.{opposite}
 use Rattle.order_closure.specs.declared.cell.Cell.{Cell}
 use Rattle.order_closure.specs.declared.cell.Cell.TheVariants.{Strict}
 use Rattle.order_closure.proofs.Raising.{raised_closed, raised_kept}

@@ -1,7 +1,6 @@
 -- The timelines that keep a table.
-use Rattle.std.specs.Prelude.{◌≡◌, ◌↔◌, ℕ, ◌<◌, ◌≤◌, not, List, length, slice_index}
+use Rattle.std.specs.Prelude.{◌↔◌, ◌<◌, not}
 use Rattle.net_core.specs.Atoms.{Satisfies}
-use Rattle.net_core.specs.Ranks.{timeline_of}
 use Rattle.net_core.specs.Relations.{Timeline}
 use Rattle.net_core.specs.declared.atom.Atom.{Atom}
 use Rattle.order_closure.specs.Cells.{order, strength}
@@ -26,14 +25,3 @@ pub record HasTimelines (table : Table) : Type 0 where
 
 abbrev pub ClosedTablesHaveTimelines : Type 0
 ClosedTablesHaveTimelines = (table : Table) → IsClosed table → HasTimelines table
-
--- a timeline has a property, and at each point below n it is at most every timeline that has it
-pub record IsLeast (n : ℕ) (P : Timeline → Type 0) (t : Timeline) : Type 0 where
-  pub holds : P t
-  pub least : (u : Timeline) → P u → (p : ℕ) → p < n → t p ≤ u p
-
--- Ranks of n points that are the least timeline that has a property; each is below n.
-pub record AreLeast (n : ℕ) (P : Timeline → Type 0) (ranks : List ℕ) : Type 0 where
-  pub size : length ranks ≡ n
-  pub least : IsLeast n P (timeline_of ranks)
-  pub small : (p : ℕ) → p < n → slice_index ranks p < n

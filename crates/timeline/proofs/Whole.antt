@@ -1,11 +1,12 @@
 -- The ranks of a table are its least timeline.
 use Rattle.std.proofs.Common.{◌≡◌, ◌↔◌, ℕ, ◌<◌, List, get_or, sym, subst}
 use Rattle.net_core.specs.Atoms.{Satisfies}
+use Rattle.net_core.specs.Least.{IsLeast}
 use Rattle.net_core.specs.Ranks.{timeline_of}
 use Rattle.net_core.specs.Relations.{Timeline}
 use Rattle.net_core.specs.declared.atom.Atom.{Atom}
 use Rattle.order_closure.specs.Tables.{Table, Keeps, AreClosed, AreKept}
-use Rattle.order_closure.specs.Timelines.{IsLeast, opposite}
+use Rattle.order_closure.specs.Timelines.{opposite}
 use Rattle.order_closure.specs.declared.cell.Cell.{Cell}
 use Rattle.order_closure.proofs.LeastRanks.{opposite_is, same_least}
 use Rattle.order_closure.proofs.Ranking.{ranks_kept, ranks_least, ranks_small}

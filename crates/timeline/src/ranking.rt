@@ -1,8 +1,8 @@
 //! The ranks of points, from those with the most points after them on.
+ghost use Rattle.net_core.specs.Least.{IsLeast};
 ghost use Rattle.net_core.specs.Ranks.{timeline_of};
 ghost use Rattle.order_closure.specs.Bits.{bit_of};
 ghost use Rattle.order_closure.specs.Tables.{IsClosed, Keeps, cell_at};
-ghost use Rattle.order_closure.specs.Timelines.{IsLeast};
 ghost use Rattle.std.specs.Int.{bit_at};
 ghost use Rattle.std.specs.Prelude.{IfOk, length, slice_index, ℕ, ◌*◌, ◌+◌, ◌/◌, ◌<◌, ◌≡◌, ◌≤◌};
 ghost use Rattle.timeline.specs.Ranking.{AreCounted, AreInTurn, AreRanks, after_count, raised};

@@ -1,10 +1,10 @@
 //! The least timeline that keeps a table, and the least one that keeps it and makes an atom false.
 ghost use Rattle.net_core.specs.Atoms.{Satisfies};
+ghost use Rattle.net_core.specs.Least.{IsLeast};
 ghost use Rattle.net_core.specs.Ranks.{timeline_of};
 ghost use Rattle.order_closure.specs.Cells.{order, strength};
 ghost use Rattle.order_closure.specs.Tables.{Keeps, cell_at};
 ghost use Rattle.order_closure.specs.Timelines as spec;
-ghost use Rattle.order_closure.specs.Timelines.{IsLeast};
 ghost use Rattle.std.specs.Prelude.{IfOk, length, slice_index, ℕ, ◌%◌, ◌<◌, ◌≡◌};
 
 use crate::ranking::ranked;

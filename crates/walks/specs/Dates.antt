@@ -1,6 +1,6 @@
 -- Points with the numbers that the calendar gives them.
-use Rattle.std.specs.Prelude.{◌≡◌, ◌↔◌, ℕ, ◌<◌, ℤ, ◌≤ℤ◌, List, Option, Some}
-use Rattle.std.specs.List.{All, Contains}
+use Rattle.std.specs.Prelude.{◌≡◌, ◌↔◌, ℕ, ◌<◌, ◌==◌, ℤ, ◌≤ℤ◌, List, Option, Some}
+use Rattle.std.specs.List.{All, Contains, IsDistinct}
 use Rattle.std.specs.List.Sorted.{IsSortedByKey}
 use Rattle.std.specs.Ordering.{int_cmp}
 use Rattle.net_core.specs.Nets.{PlainNet, lower, upper}
@@ -17,10 +17,15 @@ number_at Upper net p = upper net p
 abbrev pub IsDate : (ℕ → Option ℤ) → ℕ → Date → Type 0
 IsDate number n date = (date.point < n) × (number date.point ≡ Some date.number)
 
--- the points below n that have a number, each with its number, in any order
+-- no point stands twice
+abbrev pub AreOfDistinctPoints : List Date → Type 0
+AreOfDistinctPoints dates = IsDistinct (λ (x y : Date). x.point == y.point) dates
+
+-- the points below n that have a number, each once and with its number, in any order
 pub record AreDates (number : ℕ → Option ℤ) (n : ℕ) (dates : List Date) : Type 0 where
   pub right : All (IsDate number n) dates
   pub whole : (p : ℕ) (x : ℤ) → p < n → number p ≡ Some x → Contains dates (record { number = x; point = p })
+  pub once : AreOfDistinctPoints dates
 
 -- all dates are of points below n
 abbrev pub AreBelow : ℕ → List Date → Type 0

@@ -1,7 +1,7 @@
 //! The points that the calendar gives numbers.
 ghost use Rattle.net_core.specs.Nets.{lower, points, upper};
 ghost use Rattle.std.specs.Prelude.{IfOk, ◌<◌, ◌≡◌};
-ghost use Rattle.walks.specs.Dates.{AreAscending, AreDates, AreDescending, AreFrom, number_at};
+ghost use Rattle.walks.specs.Dates.{AreAscending, AreDates, AreDescending, AreFrom, AreOfDistinctPoints, number_at};
 
 use net_core::{Memory, Net};
 use std::alloc::Global;
@@ -54,6 +54,7 @@ pub fn dates_from(dates: &[Date], number: i64) -> &[Date]
     requires { AreAscending dates.now }
     ensures dates { AreFrom number dates.now result.now }
     ensures sorted { AreAscending result.now }
+    ensures once { AreOfDistinctPoints dates.now → AreOfDistinctPoints result.now }
 {
     let first = dates.partition_point(|date| date.number < number);
     &dates[first..]

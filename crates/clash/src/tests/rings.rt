@@ -4,7 +4,7 @@ ghost use Rattle.order_closure.specs.Tables.{AreInRange};
 ghost use Rattle.std.specs.Prelude.{IsTrue, ◌↔◌};
 
 use crate::insert::add_orders;
-use crate::rings::go_round;
+use crate::rings::has_strict_cycle;
 use crate::sequence::sequence_of;
 use net_core::{Atom, Memory};
 use order_closure::Closed;
@@ -25,7 +25,7 @@ fn is_right(alloc: Global, orders: &[Atom]) -> Result<bool, Memory>
     requires { AreInRange 3 orders.now }
 {
     let sequence = sequence_of(alloc, 3, orders)?;
-    let round = go_round(alloc, 3, orders, &sequence)?;
+    let round = has_strict_cycle(alloc, 3, orders, &sequence)?;
     let mut table = Closed::new(alloc, 3)?;
     Ok(round == add_orders(&mut table, orders).is_err())
 }

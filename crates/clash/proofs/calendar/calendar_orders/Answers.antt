@@ -1,9 +1,10 @@
 use Rattle.std.proofs.Common.{◌<◌, List, length, get_or, sym, subst, arith}
+use Rattle.std.proofs.lemmas.List.Elements.{All-get_or}
 use Rattle.net_core.specs.Nets.{points, upper}
-use Rattle.walks.specs.Dates.{AreDates, AreDescending}
+use Rattle.walks.specs.Dates.{AreDates, AreDescending, IsDate}
 use Rattle.walks.specs.declared.dates.Date.{Date}
 use Rattle.walks.proofs.DateLaws.{no_date}
-use Rattle.clash.specs.Dates.{Extends, FollowsAll, PutsFixedBefore, PutsLastBefore}
+use Rattle.clash.specs.Dates.{Extends, FollowsAll, IsNextUpper, PutsLastBefore}
 use Rattle.clash.proofs.CalendarOrders.{calendar_said, greater_said, last_kept, last_said, said_more}
 use Rattle.clash.proofs.calendar.calendar_orders.Goals as goal
 use Rattle.clash.proofs.calendar.calendar_orders.Goals.{After-deref-upper-items, else-is_fixed, then-is_fixed}
@@ -16,15 +17,22 @@ pub push_orders-requires-clause-last : goal.push_orders-requires-clause-last
 push_orders-requires-clause-last c =
     subst (λ (lowers : List Date). PutsLastBefore lowers c.loop-upper.orders.items c.loop-upper.last) (sym c.deref.ensures.value) c.loop-upper.invariant.last
 
-pub push_orders-requires-clause-above : goal.push_orders-requires-clause-above
-push_orders-requires-clause-above c =
+pub push_orders-requires-clause-next : goal.push_orders-requires-clause-next
+push_orders-requires-clause-next c =
     let net = c.args.net.now in
     let uppers = c.deref-upper-items.result.now in
     let orders = c.loop-upper.orders.items in
     let k = c.loop-upper.upper-index in
-    subst (λ (lowers : List Date). PutsFixedBefore net lowers orders (get_or uppers k no_date).number) (sym c.deref.ensures.value)
-    (greater_said net uppers c.in_ok-lowers.lowers.items (up (goal.at.push_orders-requires-clause-above c).After-deref-upper-items) c.in_ok-lowers.ensures.dates orders k c.loop-upper.invariant.said
-    (subst AreDescending (sym c.deref-upper-items.ensures.value) c.in_ok-uppers.ensures.sorted) (omega (arith, c.loop-upper-test.true)))
+    let all_up = up (goal.at.push_orders-requires-clause-next c).After-deref-upper-items in
+    let lt : k < length uppers = omega (arith, c.loop-upper-test.true) in
+    subst (λ (lowers : List Date). IsNextUpper net lowers orders (get_or uppers k no_date)) (sym c.deref.ensures.value) record {
+      point = (All-get_or (IsDate (upper net) (points net)) uppers k no_date lt all_up.right).0;
+      dates = c.in_ok-lowers.ensures.dates;
+      sorted = c.in_ok-lowers.ensures.sorted;
+      in_range = c.loop-upper.invariant.in_range;
+      above = greater_said net uppers c.in_ok-lowers.lowers.items all_up c.in_ok-lowers.ensures.dates orders k c.loop-upper.invariant.said
+          (subst AreDescending (sym c.deref-upper-items.ensures.value) c.in_ok-uppers.ensures.sorted) lt;
+    }
 
 pub loop-upper-preserved : goal.loop-upper-preserved
 loop-upper-preserved c =

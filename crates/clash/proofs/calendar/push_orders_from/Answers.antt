@@ -6,7 +6,7 @@ use Rattle.net_core.specs.Relations.{Timeline}
 use Rattle.walks.specs.Dates.{AreFrom}
 use Rattle.walks.specs.declared.dates.Date.{Date}
 use Rattle.walks.proofs.DateLaws.{no_date}
-use Rattle.clash.specs.Dates.{Extends, Follows, FollowsAll}
+use Rattle.clash.specs.Dates.{Extends, FollowsDate, FollowsAll}
 use Rattle.clash.proofs.CalendarOrders.{all_later, extends_more, extends_same, later_within, up_to_fixed}
 use Rattle.clash.proofs.Steps.{Below}
 use Rattle.clash.proofs.calendar.push_orders_from.Goals as goal
@@ -14,7 +14,7 @@ use Rattle.clash.proofs.calendar.push_orders_from.Goals.{After-push_order, In_ok
 
 -- a date follows
 abbrev each : Date → List Date → ℕ → Timeline → Type 0
-each upper later k t = Follows upper (get_or later k no_date) t
+each upper later k t = FollowsDate upper (get_or later k no_date) t
 
 -- the dates are those of the list from the number on
 from_upper : (lowers later : List Date) (number : ℤ) → FitsSigned w64 number → AreFrom (to_z w64 (of_z w64 number)) lowers later → AreFrom number lowers later
@@ -23,7 +23,7 @@ from_upper lowers later number fits are = subst (λ (x : ℤ). AreFrom x lowers 
 -- the date of this turn is one of the list, and of a point of the net
 listed : (c : After-push_order) → let date = get_or c.dates_from-later.result.now c.loop-lower.lower-index no_date in Contains c.args.lowers.now date × (date.point < points c.args.net.now)
 listed c =
-    later_within c.args.net.now c.args.lowers.now c.dates_from-later.result.now c.args.upper.number c.loop-lower.lower-index c.requires.lowers
+    later_within c.args.net.now c.args.lowers.now c.dates_from-later.result.now c.args.upper.number c.loop-lower.lower-index c.requires.dates
     (from_upper c.args.lowers.now c.dates_from-later.result.now c.args.upper.number (search rules) c.dates_from-later.ensures.dates) (omega (arith, c.loop-lower-test.true))
 
 -- the orders with that of this date
@@ -31,7 +31,7 @@ so_far : (c : In_ok-push_order) → (get_or c.dates_from-later.result.now c.loop
     → Extends (points c.args.net.now) (Below (each c.args.upper c.dates_from-later.result.now) (c.loop-lower.lower-index + 1)) c.args.orders.now.items c.push_order.new.orders.items
 so_far c within =
     extends_more (points c.args.net.now) (each c.args.upper c.dates_from-later.result.now) c.loop-lower.lower-index c.args.orders.now.items c.loop-lower.orders.items c.push_order.new.orders.items
-    c.loop-lower.invariant (c.in_ok-push_order.ensures (points c.args.net.now) c.loop-lower.invariant.in_range c.requires.upper within)
+    c.loop-lower.invariant (c.in_ok-push_order.ensures (points c.args.net.now) c.loop-lower.invariant.in_range c.requires.point within)
 
 pub is_fixed-requires : goal.is_fixed-requires
 is_fixed-requires c = (listed (goal.at.is_fixed-requires c).After-push_order).1

@@ -1,9 +1,9 @@
 use Rattle.std.proofs.Common.{◌↔◌, ℕ, Bool, List, Option, subst}
 use Rattle.std.specs.List.{Contains}
 use Rattle.std.specs.Option.{IfSome}
+use Rattle.net_core.specs.Least.{AreSpares}
 use Rattle.net_core.specs.Walks.{Kept}
 use Rattle.net_core.specs.declared.ranks.Ranks.{Ranks}
-use Rattle.clash.specs.Minimal.{AreSpares}
 use Rattle.clash.proofs.Proved.{proved_clash}
 use Rattle.clash.proofs.Spared.{spares_needed}
 use Rattle.clash.proofs.minimal.clash_up_to.Goals as goal

@@ -3,7 +3,7 @@ use Rattle.std.specs.Option.{IfNone, IfSome}
 use Rattle.std.specs.Result.{IfOk}
 use Rattle.net_core.specs.Fits.{EveryLink}
 use Rattle.net_core.specs.Nets.{PlainNet, points}
-use Rattle.net_core.specs.Walks.{GoesOver, GoesRound, Kept}
+use Rattle.net_core.specs.Walks.{GoesOver, IsClosedWalk, Kept}
 use Rattle.net_core.specs.declared.list.Memory.{Memory}
 use Rattle.net_core.specs.declared.step.Step.{Step}
 use Rattle.net_core.specs.declared.walk.Walk.{Walk}
@@ -19,8 +19,8 @@ kept c = subst (λ (marks : List Bool). (k : ℕ) → k < length c.args.net.now.
 size : (c : After-round_over) → length c.deref.result.now ≡ length c.args.net.now.links
 size c = subst (λ (marks : List Bool). length marks ≡ length c.args.net.now.links) (sym c.deref.ensures.value) c.in_ok-keep.ensures.size
 
-goes : (c : In-Some) → GoesRound c.args.net.now (Kept c.deref.result.now) c.in-Some.walk
-goes c = (subst (λ (o : Option Walk). IfSome o (λ steps. GoesRound c.args.net.now (Kept c.deref.result.now) steps × (length steps ≤ 2 * points c.args.net.now))) c.in-Some.is c.in_ok-walk.ensures.some).0
+goes : (c : In-Some) → IsClosedWalk c.args.net.now (Kept c.deref.result.now) c.in-Some.walk
+goes c = (subst (λ (o : Option Walk). IfSome o (λ steps. IsClosedWalk c.args.net.now (Kept c.deref.result.now) steps × (length steps ≤ 2 * points c.args.net.now))) c.in-Some.is c.in_ok-walk.ensures.some).0
 
 pub new-requires-clause-goes : goal.new-requires-clause-goes
 new-requires-clause-goes c = round_more c.args.net.now (Kept c.deref.result.now) EveryLink c.in-Some.walk (λ k kept. tt) (goes c)
@@ -30,14 +30,14 @@ unreachable-requires c =
     let here = (goal.at.unreachable-requires c).After-round_over in
     let net = c.args.net.now in
     let keep = c.deref.result.now in
-    let none = subst (λ (o : Option Walk). IfNone o ((steps : List Step) → GoesRound net (Kept keep) steps → GoesOver steps c.args.link → ⊥)) c.in-None.is c.in_ok-walk.ensures.none in
+    let none = subst (λ (o : Option Walk). IfNone o ((steps : List Step) → IsClosedWalk net (Kept keep) steps → GoesOver steps c.args.link → ⊥)) c.in-None.is c.in_ok-walk.ensures.none in
     some_round net keep c.args.link c.links.ensures.net (first_spared net c.args.link keep (size here) (kept here) c.requires) (first_clashes net c.args.link keep (size here) (kept here) c.requires) none
 
 -- the links that the walk goes over are among those up to the first that clashes
-spared : (net : PlainNet) (keep : List Bool) (link : ℕ) (walk : Walk) (result : Result Round Memory) → IsSpared net (Kept keep) link → GoesRound net (Kept keep) walk
+spared : (net : PlainNet) (keep : List Bool) (link : ℕ) (walk : Walk) (result : Result Round Memory) → IsSpared net (Kept keep) link → IsClosedWalk net (Kept keep) walk
     → IfOk result (IsRound net) → IfOk result (λ round. round.walk ≡ walk) → IfOk result (λ round. IsSpared net (Kept round.over.items) link)
 spared net keep link walk (Ok round) first goes is same =
-    spared_fewer net (Kept keep) (Kept round.over.items) link (marked_chosen net (Kept keep) round is (subst (GoesRound net (Kept keep)) (sym same) goes)) first
+    spared_fewer net (Kept keep) (Kept round.over.items) link (marked_chosen net (Kept keep) round is (subst (IsClosedWalk net (Kept keep)) (sym same) goes)) first
 spared net keep link walk (Err e) first goes is same = tt
 
 pub returns-clause-spared : goal.returns-clause-spared

@@ -1,8 +1,9 @@
 use Rattle.std.proofs.Common.{◌↔◌, ℕ, Bool, List, subst, sym}
 use Rattle.std.specs.List.{All, Contains}
 use Rattle.std.proofs.lemmas.List.Elements.{All-contains_itself, All-weaker}
+use Rattle.net_core.specs.Least.{AreSpares}
 use Rattle.net_core.specs.Walks.{Kept}
-use Rattle.clash.specs.Minimal.{AreSpares, IsSpared}
+use Rattle.clash.specs.Minimal.{IsSpared}
 use Rattle.clash.proofs.Proved.{proved_clash}
 use Rattle.clash.proofs.minimal.thinned_clash.Goals as goal
 use Rattle.clash.proofs.minimal.thinned_clash.Goals.{After-as_slice}

@@ -9,7 +9,6 @@ use Rattle.clash.proofs.LinkAtoms.{link_said, no_atom}
 use Rattle.clash.proofs.Ordered.{link_orders, order_at, puts_more, puts_none, puts_one, puts_same}
 use Rattle.clash.proofs.Steps.{Below}
 use Rattle.clash.proofs.orders.push_link.Goals as goal
-use Rattle.clash.proofs.orders.push_link.Goals.{After-nth-atom}
 
 pub loop-number-init : goal.loop-number-init
 loop-number-init c = record { end = c.count-number-end.ensures.count; so_far = puts_none (points c.args.net.now) (λ k but u. IsTrueBut but (order_at (atoms_in c.atoms_of_link-atoms.result) c.args.link k) u) c.args.orders.now }

@@ -1,6 +1,7 @@
-use Rattle.std.proofs.Common.{◌<◌, ◌+◌, ℕ, length, Option, Some, None}
+use Rattle.std.proofs.Common.{◌<◌, length}
 use Rattle.std.specs.List.{All}
 use Rattle.clash.specs.Sequence.{IsNumber}
+use Rattle.clash.proofs.Measures.{numbers_left}
 use Rattle.clash.proofs.sequence.push_leaving.Given as goal
 
 abbrev pub invariant-loop-next : goal.invariant-loop-next
@@ -9,11 +10,6 @@ invariant-loop-next l = record {
   sequence : All (λ k. k < length l.leaving.before.items) l.sequence.items;
 }
 
--- how far down a list may go on
-abbrev far : Option ℕ → ℕ
-far (Some k) = k + 1
-far None = 0
-
 -- the numbers of a list fall
 abbrev pub decreases-loop-next : goal.decreases-loop-next
-decreases-loop-next l = far l.next
+decreases-loop-next l = numbers_left l.next

@@ -1,8 +1,8 @@
 use Rattle.std.proofs.Common.{Option, slice_index, subst, arith}
 use Rattle.std.specs.Option.{IfSome}
+use Rattle.net_core.specs.Least.{IsSpare}
 use Rattle.net_core.specs.Walks.{Kept}
 use Rattle.net_core.specs.declared.ranks.Ranks.{Ranks}
-use Rattle.clash.specs.Minimal.{IsSpare}
 use Rattle.clash.proofs.Spared.{spares_more}
 use Rattle.clash.proofs.spares.spares_soon.Goals as goal
 

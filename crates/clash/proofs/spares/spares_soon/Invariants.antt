@@ -1,6 +1,6 @@
 use Rattle.std.proofs.Common.{take}
+use Rattle.net_core.specs.Least.{AreSpares}
 use Rattle.net_core.specs.Walks.{Kept}
-use Rattle.clash.specs.Minimal.{AreSpares}
 use Rattle.clash.proofs.spares.spares_soon.Given as goal
 
 -- there is a spare for each cite so far

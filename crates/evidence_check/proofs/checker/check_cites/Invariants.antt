@@ -1,5 +1,5 @@
 use Rattle.std.proofs.Common.{ℕ, ◌<◌, length}
-use Rattle.evidence_check.specs.Supported.{cite_at}
+use Rattle.evidence_check.specs.Refusals.{cite_at}
 use Rattle.evidence_check.proofs.checker.check_cites.Given as goal
 
 -- the cites so far are numbers of links

@@ -1,6 +1,9 @@
-use Rattle.std.proofs.Common.{map, below_more, arith}
+use Rattle.std.proofs.Common.{map, below_more, [], inr, ◌∙◌, arith}
+use Rattle.std.proofs.lemmas.List.{length-map}
 use Rattle.net_core.specs.Ranks.{pairs_of}
+use Rattle.evidence_check.specs.Refusals.{IsSpareAt}
 use Rattle.evidence_check.specs.Supported.{FitsOthers}
+use Rattle.evidence_check.proofs.Zipped.{zip_from}
 use Rattle.evidence_check.proofs.Spares.{fits_others, spare_is, spare_is_short, spare_refused}
 use Rattle.evidence_check.proofs.checker.check_spares.Goals as goal
 
@@ -14,7 +17,7 @@ returns-in-Err-clause-err c =
     let i = c.loop-i.i in
     let is = spare_is c.args.spares.now i c.index-spares-i.result c.as_slice.result.now (omega (arith, c.loop-i-test.true, c.requires.one_each))
     c.index-spares-i.is c.as_slice.ensures.value c.as_slice.ensures.even in
-    spare_refused c.args.net.now c.args.cites.now (map pairs_of c.args.spares.now) i c.as_slice.result.now is c.in-Err.reason (omega (arith, c.loop-i-test.true)) c.loop-i.invariant.so_far c.in-Err.ensures.err
+    inr (length-map c.args.spares.now pairs_of ∙ c.requires.one_each, spare_refused c.args.net.now c.args.cites.now (map pairs_of c.args.spares.now) i c.as_slice.result.now is c.in-Err.reason (omega (arith, c.loop-i-test.true)) c.loop-i.invariant.so_far c.in-Err.ensures.err)
 
 pub loop-i-preserved : goal.loop-i-preserved
 loop-i-preserved c =
@@ -26,5 +29,12 @@ loop-i-preserved c =
     c.index-spares-i.is c.as_slice.ensures.value c.as_slice.ensures.even in
     record {
       end = c.loop-i.invariant.end;
-      so_far = below_more (FitsOthers net cites spares) i c.loop-i.invariant.so_far (fits_others net cites spares i c.as_slice.result.now is (rw c.in_default.is at c.fit.ensures.ok));
+      so_far = below_more (IsSpareAt net cites spares) i c.loop-i.invariant.so_far (fits_others net cites spares i c.as_slice.result.now is (rw c.in_default.is at c.fit.ensures.ok));
     }
+
+pub returns-clause-ok : goal.returns-clause-ok
+returns-clause-ok c =
+    let cites = c.args.cites.now in
+    let spares = map pairs_of c.args.spares.now in
+    zip_from (FitsOthers c.args.net.now cites) 0 [] cites spares (length-map c.args.spares.now pairs_of ∙ c.requires.one_each)
+    (λ i below. c.loop-i.invariant.so_far i (omega (arith, below, c.loop-i.invariant.end, c.loop-i-test.false)))

@@ -9,11 +9,19 @@ use Rattle.evidence_check.proofs.Soundness.{clashes_where_ok, follows_where_ok, 
 use Rattle.evidence_check.proofs.Verdicts.{ok_exactly}
 use Rattle.evidence_check.proofs.checker.verify.Goals as goal
 
+-- the entailment that was checked is that of the evidence
+same_entailment : (c : goal.After-check_entailment) → entails c.in-Entails.a c.in-Entails.rel c.in-Entails.b c.as_slice.result.now ≡ plain c.args.evidence.now
+same_entailment c = ap (λ (walks : List (List Step)). entails c.in-Entails.a c.in-Entails.rel c.in-Entails.b walks) c.as_slice.ensures ∙ sym (ap plain c.in-Entails.is)
+
+pub returns-in-Entails-clause-supported : goal.returns-in-Entails-clause-supported
+returns-in-Entails-clause-supported c =
+    subst (λ (e : PlainEvidence). IsOk c.check_entailment.result ↔ IsSupported c.args.net.now e) (same_entailment c)
+    (ok_exactly c.check_entailment.result c.args.net.now (entails c.in-Entails.a c.in-Entails.rel c.in-Entails.b c.as_slice.result.now) c.check_entailment.ensures.ok c.check_entailment.ensures.err)
+
 pub returns-in-Entails-clause-sound : goal.returns-in-Entails-clause-sound
 returns-in-Entails-clause-sound c =
-    let same = ap plain c.in-Entails.is ∙ ap (λ (walks : List (List Step)). entails c.in-Entails.a c.in-Entails.rel c.in-Entails.b walks) (sym c.as_slice.ensures) in
     true_where_ok c.check_entailment.result c.args.net.now (plain c.args.evidence.now)
-    (subst (λ (e : PlainEvidence). OnOk c.check_entailment.result (IsSupported c.args.net.now e)) (sym same) c.check_entailment.ensures.ok)
+    (subst (λ (e : PlainEvidence). OnOk c.check_entailment.result (IsSupported c.args.net.now e)) (same_entailment c) c.check_entailment.ensures.ok)
 
 pub returns-in-Entails-clause-follows : goal.returns-in-Entails-clause-follows
 returns-in-Entails-clause-follows c =

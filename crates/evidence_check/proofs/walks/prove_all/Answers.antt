@@ -1,8 +1,9 @@
-use Rattle.std.proofs.Common.{◌<◌, length, refl, ◌∙◌, arith, below_more}
+use Rattle.std.proofs.Common.{◌<◌, false, [], inr, length, refl, ◌∙◌, arith, below_more}
 use Rattle.net_core.specs.Atoms.{atoms_in}
-use Rattle.evidence_check.specs.Refusals.{IsNoProof}
-use Rattle.evidence_check.specs.Supported.{IsProof, Proves, atom_at, walk_at}
+use Rattle.evidence_check.specs.Refusals.{IsNoProof, Proves, atom_at, walk_at}
+use Rattle.evidence_check.specs.Supported.{IsProof}
 use Rattle.evidence_check.proofs.Proving.{at_number, atom_is, not_both, walk_is}
+use Rattle.evidence_check.proofs.Zipped.{zip_from}
 use Rattle.evidence_check.proofs.walks.prove_all.Goals as goal
 
 pub returns-in-Err-clause-err : goal.returns-in-Err-clause-err
@@ -15,7 +16,7 @@ returns-in-Err-clause-err c =
     let refusal = at_number (λ a w. IsNoProof net a w c.in-Err.reason) atoms walks k c.in-Some.atom c.as_slice.result.now
     (atom_is atoms k c.in-Some.atom c.in-Some.ensures)
     (c.as_slice.ensures ∙ walk_is walks k c.index-walks-k.result (omega (arith, below, c.requires.one_each)) c.index-walks-k.is) c.in-Err.ensures.err in
-    (k, (below, (λ proof. not_both net (atom_at atoms k) (walk_at walks k) c.in-Err.reason proof refusal), c.loop-k.invariant.so_far), refl, refusal)
+    inr (c.requires.one_each, (k, (below, (λ proof. not_both net (atom_at atoms k) (walk_at walks k) c.in-Err.reason proof refusal), c.loop-k.invariant.so_far), refl, refusal))
 
 pub loop-k-preserved : goal.loop-k-preserved
 loop-k-preserved c =
@@ -31,3 +32,8 @@ loop-k-preserved c =
           (at_number (IsProof net) atoms walks k c.in-Some.atom c.as_slice.result.now (atom_is atoms k c.in-Some.atom c.in-Some.ensures)
           (c.as_slice.ensures ∙ walk_is walks k c.index-walks-k.result (omega (arith, below, c.requires.one_each)) c.index-walks-k.is) proof);
     }
+
+pub returns-clause-ok : goal.returns-clause-ok
+returns-clause-ok c =
+    zip_from (IsProof c.args.net.now) (record { from = 0; to = 0; strict = false }) [] (atoms_in c.args.atoms) c.args.walks.now c.requires.one_each
+    (λ k below. c.loop-k.invariant.so_far k (omega (arith, below, c.loop-k.invariant.end, c.loop-k-test.false)))

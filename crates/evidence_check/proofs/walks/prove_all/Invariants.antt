@@ -1,6 +1,6 @@
 use Rattle.std.proofs.Common.{◌≡◌, ℕ, ◌<◌, length}
 use Rattle.net_core.specs.Atoms.{atoms_in}
-use Rattle.evidence_check.specs.Supported.{Proves}
+use Rattle.evidence_check.specs.Refusals.{Proves}
 use Rattle.evidence_check.proofs.walks.prove_all.Given as goal
 
 -- the walks so far prove their atoms

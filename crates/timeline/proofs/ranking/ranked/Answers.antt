@@ -1,9 +1,9 @@
 use Rattle.std.proofs.Common.{◌≡◌, ℕ, ◌<◌, List, get_or, length, sym, subst, arith}
 use Rattle.std.specs.Vec.{with_items}
 use Rattle.std.proofs.lemmas.List.{with_items_is}
+use Rattle.net_core.specs.Least.{IsLeast}
 use Rattle.net_core.specs.Ranks.{timeline_of}
 use Rattle.order_closure.specs.Tables.{Keeps, cell_at}
-use Rattle.order_closure.specs.Timelines.{IsLeast}
 use Rattle.timeline.proofs.Whole.{least_ranks, small_ranks}
 use Rattle.timeline.proofs.ranking.ranked.Goals as goal
 use Rattle.timeline.proofs.ranking.ranked.Goals.{After-rank_all}

@@ -1,10 +1,10 @@
 use Rattle.std.proofs.Common.{◌≡◌, ◌↔◌, subst}
 use Rattle.std.proofs.lemmas.Result.{IfOk-weaker}
 use Rattle.net_core.specs.Atoms.{Satisfies}
+use Rattle.net_core.specs.Least.{IsLeast}
 use Rattle.net_core.specs.Ranks.{timeline_of}
 use Rattle.net_core.specs.Relations.{Timeline}
 use Rattle.order_closure.specs.Tables.{Table, Keeps}
-use Rattle.order_closure.specs.Timelines.{IsLeast}
 use Rattle.timeline.proofs.Whole.{counter_least}
 use Rattle.timeline.proofs.timelines.counter.Goals as goal
 

@@ -1,9 +1,15 @@
-use Rattle.std.proofs.Common.{◌≡◌, ◌+◌, [], ◌∷◌, ◌++◌, sym, subst, ◌∙◌, rules}
+use Rattle.std.proofs.Common.{◌≡◌, ◌+◌, ◌*◌, ℕ, ap, [], ◌∷◌, ◌++◌, sym, subst, ◌∙◌, rules}
 use Rattle.walks.specs.Dates.{AreDates, number_at}
 use Rattle.walks.specs.declared.dates.Date.{Date}
-use Rattle.walks.proofs.DateLaws.{dates_with, dates_without}
+use Rattle.walks.proofs.DateLaws.{dates_none, dates_with, dates_without}
 use Rattle.walks.proofs.dates.dates_of.Goals as goal
 use Rattle.walks.proofs.dates.dates_of.Goals.{in-Some+else-is_err, in_default}
+
+pub loop-point-init : goal.loop-point-init
+loop-point-init c = record {
+  end = ap (λ (n : ℕ). 2 * n) c.intervals-point-end.ensures.count;
+  so_far = subst (AreDates (number_at c.args.side c.args.net.now) 0) (sym c.new-dates.ensures.items) (dates_none (number_at c.args.side c.args.net.now));
+}
 
 pub loop-point-preserved : goal.loop-point-preserved
 loop-point-preserved c =

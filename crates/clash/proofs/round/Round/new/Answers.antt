@@ -1,7 +1,7 @@
 use Rattle.std.proofs.Common.{◌≡◌, ◌↔◌, ℕ, ◌<◌, Bool, true, false, List, inl, inr, length, replicate, ap, subst, sym, ◌∙◌, arith}
 use Rattle.std.specs.Vec.{with_items}
 use Rattle.std.proofs.lemmas.List.{get_or-replicate, length-replicate, with_items_is}
-use Rattle.net_core.specs.Walks.{GoesOver, GoesRound, Kept}
+use Rattle.net_core.specs.Walks.{GoesOver, IsClosedWalk, Kept}
 use Rattle.net_core.specs.declared.step.Step.{Step}
 use Rattle.clash.specs.Orders.{AreOrdersOf}
 use Rattle.clash.proofs.Rounds.{goes_from_marks}
@@ -32,7 +32,7 @@ over c k below =
 -- what the marks are
 abbrev AreMarks : After-mark_steps → List Bool → Type 0
 AreMarks c marks =
-    (length marks ≡ length c.args.net.now.links) × GoesRound c.args.net.now (Kept marks) c.args.walk × ((k : ℕ) → k < length c.args.net.now.links → Kept marks k ↔ GoesOver c.args.walk k)
+    (length marks ≡ length c.args.net.now.links) × IsClosedWalk c.args.net.now (Kept marks) c.args.walk × ((k : ℕ) → k < length c.args.net.now.links → Kept marks k ↔ GoesOver c.args.walk k)
 
 pub returns-clause-round : goal.returns-clause-round
 returns-clause-round c =

@@ -1,9 +1,9 @@
 use Rattle.std.proofs.Common.{◌≡◌, ◌*◌, ◌∙◌, ℕ, List, drop, length, replicate, false, true, sym, ap, subst, arith}
 use Rattle.std.proofs.lemmas.List.{take_at}
+use Rattle.net_core.specs.Least.{IsSpare}
 use Rattle.net_core.specs.Nets.{points}
 use Rattle.net_core.specs.Ranks.{timeline_of}
 use Rattle.net_core.specs.Walks.{Kept}
-use Rattle.clash.specs.Minimal.{IsSpare}
 use Rattle.clash.specs.Orders.{FitsBut}
 use Rattle.clash.specs.Raising.{Rises}
 use Rattle.clash.specs.declared.orders.Order.{Order}

@@ -1,5 +1,5 @@
-use Rattle.evidence_check.proofs.GoingRound.{leads_round}
-use Rattle.evidence_check.proofs.rounds.go_round.Goals as goal
+use Rattle.evidence_check.proofs.ClosedWalks.{leads_round}
+use Rattle.evidence_check.proofs.rounds.check_closed.Goals as goal
 
 pub returns-in-None-clause-ok : goal.returns-in-None-clause-ok
 returns-in-None-clause-ok c =

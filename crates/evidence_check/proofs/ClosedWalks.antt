@@ -1,8 +1,8 @@
--- Walks that go round over the cited links, and why steps do not.
+-- Closed walks over the cited links, and why steps do not.
 use Rattle.std.proofs.Common.{◌≡◌, inl, inr, ℕ, ◌+◌, ◌≤◌, Bool, true, false, List, [], ◌∷◌, length, take, Some, None, refl, sym, ap, subst, ◌∙◌, arith}
 use Rattle.std.proofs.Math.Bool.{not}
 use Rattle.std.proofs.lemmas.Bool.{cases_lt}
-use Rattle.net_core.specs.Clashes.{Agrees, GoesRoundOver}
+use Rattle.net_core.specs.Clashes.{Agrees, IsClosedOver}
 use Rattle.net_core.specs.Firsts.{IsFirst}
 use Rattle.net_core.specs.Fits.{EveryLink}
 use Rattle.net_core.specs.Nets.{PlainNet}
@@ -34,9 +34,9 @@ module _ (net : PlainNet) where
       let same : y ≡ x = sym k.2 ∙ begins in
       same ∙ one_end net EveryLink (step ∷ steps) x x z h (subst (λ (w : ℕ). IsJoined net EveryLink (step ∷ steps) w z) same k)
 
-  -- steps that lead back, one of them strict, go round
+  -- steps that lead back, one of them strict, are a closed walk
   pub leads_round : (cites : List ℕ) (steps : List StepOf) (x : ℕ) (reached : Reached) → LeadsTo net x steps reached → reached.at ≡ x → not reached.strict ≡ false
-      → IsFirst (length net.links) (Agrees cites steps) None → GoesRoundOver net cites steps
+      → IsFirst (length net.links) (Agrees cites steps) None → IsClosedOver net cites steps
   leads_round cites steps x reached leads back strict agree =
       ((x, (subst (λ (y : ℕ). IsJoined net EveryLink steps x y) back leads.0, λ asked. sym leads.1 ∙ is_set reached.strict strict)), agree)
     where
@@ -48,8 +48,8 @@ module _ (net : PlainNet) where
   on_whole : (x y k : ℕ) (all : List StepOf) → IsJoined net EveryLink all x y → GoOn net (take k all)
   on_whole x y k all joined = let part = joined_take net EveryLink all x y k joined in (x, (part.0, part.1))
 
-  -- steps that go round over the cited links are refused for no reason
-  pub round_not_both : (cites : List ℕ) (all : List StepOf) (reason : Reason) → GoesRoundOver net cites all → IsNoRound net cites all reason → ⊥
+  -- steps that are a closed walk over the cited links are refused for no reason
+  pub round_not_both : (cites : List ℕ) (all : List StepOf) (reason : Reason) → IsClosedOver net cites all → IsNoRound net cites all reason → ⊥
   round_not_both cites all (Step k) round h = h.2 (on_whole round.0.0 round.0.0 (k + 1) all round.0.1.0)
   round_not_both cites all End round h = h.3 (ends_alike all round.0.0 h.0 h.1 round.0.1.0 h.2)
   round_not_both cites all Weak round h = let e = round.0.1.1 refl in let f = h.2 in cc
@@ -68,7 +68,7 @@ module _ (net : PlainNet) where
     | inr le ↦ le
   ]
 
-  -- steps do not go round for one reason
+  -- steps are no closed walk for one reason
   pub one_round : (cites : List ℕ) (all : List StepOf) (r s : Reason) → IsNoRound net cites all r → IsNoRound net cites all s → r ≡ s
   one_round cites all (Step j) (Step k) h g =
       let le = one_stop j k all g.1 h.2 in

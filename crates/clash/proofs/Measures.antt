@@ -1,0 +1,7 @@
+-- How far a list of orders may go on.
+use Rattle.std.proofs.Common.{◌+◌, ℕ, Option, Some, None}
+
+-- the numbers of such a list fall
+abbrev pub numbers_left : Option ℕ → ℕ
+numbers_left (Some k) = k + 1
+numbers_left None = 0
