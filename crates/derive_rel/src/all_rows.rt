@@ -1,13 +1,14 @@
 //! All relations that hold in all timelines of a table.
 ghost use Rattle.derive_rel.specs.Entailed.{AreRows, IsRow};
 ghost use Rattle.derive_rel.specs.Pushing.{ArePutLast, IsAlone, IsFrom, IsOf, IsOrder};
+ghost use Rattle.order_closure.specs.Tables.{max_table_points};
 ghost use Rattle.std.specs.Prelude.{IfOk, OnOk, ◌%◌, ◌*◌, ◌+◌, ◌<◌, ◌≡◌, ◌≤◌};
 
 use crate::pairs::entailed;
 use crate::ways::gives_some;
 use named::Named;
 use net_core::{List, Memory, Rel};
-use order_closure::Closed;
+use order_closure::{Closed, MAX_TABLE_POINTS};
 use std::alloc::Global;
 
 /// A relation between two intervals, by their numbers.
@@ -37,7 +38,7 @@ pub fn rows(alloc: Global, closed: &Closed) -> Result<List<Row>, Memory>
 
 /// Puts the relations of an interval and each one after it last.
 fn push_from(rows: &mut List<Row>, closed: &Closed, a: u32) -> Result<(), Memory>
-    requires few { closed.now.points ≤ 2048 }
+    requires few { closed.now.points ≤ max_table_points }
     requires a { 2 * a + 1 < closed.now.points }
     ensures { OnOk result (ArePutLast (IsRow closed.now) (IsFrom a) rows.old rows.new) }
 {
@@ -55,7 +56,7 @@ fn push_pair(rows: &mut List<Row>, closed: &Closed, a: u32, b: u32) -> Result<()
     ensures { OnOk result (ArePutLast (IsRow closed.now) (IsOf a b) rows.old rows.new) }
 {
     // so few that the numbers of the points fit
-    prove!(closed.points() <= 2048);
+    prove!(closed.points() <= MAX_TABLE_POINTS);
     if !gives_some(closed, b, a) {
         let rel = Rel::Before;
         return push_alone(rows, closed, Row { a, rel, b }, 2 * a + 1, 2 * b);

@@ -6,7 +6,7 @@ ghost use Rattle.order_closure.specs.Tables.{cell_at};
 ghost use Rattle.std.specs.Prelude.{false, true, ◌&&◌, ◌*◌, ◌+◌, ◌<◌, ◌≡◌, ◌↔◌};
 
 use net_core::Rel;
-use order_closure::{Cell, Closed};
+use order_closure::{Cell, Closed, MAX_TABLE_POINTS};
 
 /// What a table says of the order of two points, both ways.
 #[derive(Clone, Copy)]
@@ -98,7 +98,7 @@ pub fn entailed(closed: &Closed, a: u32, b: u32) -> RelSet
     ensures { (r : RelOf) → (spec.has result r ≡ true) ↔ Entails closed.now a r b }
 {
     // so few that the numbers of the points fit
-    prove!(closed.points() <= 2048);
+    prove!(closed.points() <= MAX_TABLE_POINTS);
     RelSet {
         starts: order_of(closed, 2 * a, 2 * b),
         start_and_end: order_of(closed, 2 * a, 2 * b + 1),
