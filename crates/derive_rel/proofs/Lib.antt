@@ -1,7 +1,6 @@
-pub mod OneWay
 pub mod Given
+pub mod Masks
 pub mod Joined
 pub mod Turns
 pub mod OneList
 pub mod AllThere
-pub mod WordBits
