@@ -5,13 +5,14 @@ use Rattle.std.specs.List.{list_all}
 use Rattle.std.specs.Str.{bytes_eq}
 use Rattle.std.proofs.lemmas.Bool.{and_from, false_from_ne_true}
 use Rattle.std.proofs.lemmas.Bool.Decides.{nat_tests}
-use Rattle.std.proofs.lemmas.Fmt.{decimal_injective, length-decimal-le}
+use Rattle.std.proofs.lemmas.Fmt.{decimal_injective}
 use Rattle.std.proofs.lemmas.Slice.Eq.{bytes_eq-Decides}
 use Rattle.net_core.specs.Limits.{max_intervals}
 use Rattle.tml_span.specs.Bytes.{is_digit}
 use Rattle.tml_types.specs.Values.{is_id_byte, is_id_len, is_identifier}
 use Rattle.drill.specs.Texts.{event_name, instance_name}
 use Rattle.drill.proofs.AcceptedBytes.{all_append, all_weaker, decimal_digits, none_fails}
+use Rattle.drill.proofs.Short.{number_short}
 
 -- a digit may stand in an identifier
 digit_is_id : (b : ℕ) → is_digit b ≡ true → is_id_byte b ≡ true
@@ -25,7 +26,7 @@ fits n low high = grind (arith, nat_tests)
 id_of_number : (text : List ℕ) (i : ℕ) → 1 ≤ length text → length text ≤ 10 → list_all is_id_byte text ≡ true → i < max_intervals → is_identifier (text ++ decimal i) ≡ true
 id_of_number text i low high t small =
     let digits = all_weaker is_digit is_id_byte digit_is_id (decimal i) (decimal_digits i (omega arith)) in
-    let few = length-decimal-le 9 i (omega arith) (omega arith) (omega arith) in
+    let few = number_short i small in
     and_from (is_id_len (length (text ++ decimal i))) (list_all is_id_byte (text ++ decimal i)) (fits (length (text ++ decimal i)) (omega (arith, length-append text (decimal i))) (omega (arith, length-append text (decimal i), few))) (all_append is_id_byte text (decimal i) t digits)
 
 -- the name of an event is an identifier
