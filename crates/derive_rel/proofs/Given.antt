@@ -1,21 +1,19 @@
 -- The bits of two intervals are those of the orders that a table gives.
-use Rattle.std.proofs.Common.{◌≡◌, ◌≢◌, ◌↔◌, ℕ, zero, suc, ◌+◌, ◌*◌, ◌/◌, ◌%◌, ◌-◌, ◌^◌, ◌<◌, ◌≤◌, true, false, List, get_or, refl, sym, ap, ◌∙◌, arith}
+use Rattle.std.proofs.Common.{◌≡◌, ◌≢◌, ◌↔◌, ℕ, zero, suc, ◌+◌, ◌*◌, ◌/◌, ◌%◌, ◌^◌, ◌<◌, ◌≤◌, true, false, List, get_or, refl, sym, ap, ◌∙◌, arith}
 use Rattle.std.specs.Prelude.{bit_and}
 use Rattle.std.specs.Int.{bit_at}
 use Rattle.std.proofs.lemmas.Nat.{shr-shr}
 use Rattle.std.proofs.lemmas.Nat.Bits.{bit_at-lt, bit_at_and, bit_at_cat_high, bit_at_cat_low}
-use Rattle.net_core.specs.Atoms.{atom_between, point_in, points_of}
+use Rattle.net_core.specs.Atoms.{point_in, points_of}
 use Rattle.net_core.specs.declared.atom.End.{End}
 use Rattle.net_core.specs.declared.atom.End.TheVariants.{Start, Finish}
-use Rattle.net_core.specs.declared.atom.PairOrder.{PairOrder}
 use Rattle.net_core.specs.declared.atom.PairOrder.TheVariants.{ABefore, ANoLater, BBefore, BNoLater}
 use Rattle.order_closure.specs.Bits.{AreBitsOf, bit_of}
 use Rattle.order_closure.specs.Cells.{order, strength}
 use Rattle.order_closure.specs.Tables.{Table, cell_at}
 use Rattle.order_closure.specs.declared.cell.Cell.{Cell}
 use Rattle.order_closure.specs.declared.cell.Cell.TheVariants.{Free, Weak, Strict}
-use Rattle.derive_rel.specs.Entailed.{Gives}
-use Rattle.derive_rel.specs.Pairs.{AreGiven, bit_number, end_number}
+use Rattle.derive_rel.specs.Pairs.{AreGiven, end_number}
 
 -- ---- two bits of a word
 

@@ -1,5 +1,5 @@
--- Orders between two intervals as bits.
-use Rattle.std.specs.Prelude.{◌≡◌, ◌↔◌, ℕ, ◌+◌, ◌*◌, ◌^◌, List, [], ◌∷◌, bit_or}
+-- Orders between two intervals: those of a table, and those of a relation, as bits.
+use Rattle.std.specs.Prelude.{◌≡◌, ◌↔◌, ℕ, ◌+◌, ◌*◌, ◌^◌, ◌||◌, Bool, true, false, List, [], ◌∷◌, bit_or}
 use Rattle.std.specs.Int.{bit_at}
 use Rattle.net_core.specs.Atoms.{atom_between, orders_of, points_of}
 use Rattle.net_core.specs.declared.atom.End.{End}
@@ -8,6 +8,8 @@ use Rattle.net_core.specs.declared.atom.PairOrder.{PairOrder}
 use Rattle.net_core.specs.declared.atom.PairOrder.TheVariants.{ABefore, ANoLater, BBefore, BNoLater}
 use Rattle.net_core.specs.declared.rels.Rel.{Rel}
 use Rattle.order_closure.specs.Tables.{Table}
+use Rattle.order_closure.specs.declared.cell.Cell.{Cell}
+use Rattle.order_closure.specs.declared.cell.Cell.TheVariants.{Free, Weak, Strict}
 use Rattle.derive_rel.specs.Entailed.{Gives}
 use Rattle.derive_rel.specs.declared.pairs.Mask.{Mask}
 
@@ -35,3 +37,14 @@ mask_for r = record { rel = r; bits = mask_of (orders_of r) }
 -- the bits of the orders that a table gives between intervals a and b
 abbrev pub AreGiven : Table → ℕ → ℕ → ℕ → Type 0
 AreGiven table a b set = (order : PairOrder) → (bit_at set (bit_number order) ≡ 1) ↔ Gives table (atom_between (points_of a) (points_of b) order)
+
+-- whether a cell gives an order of its points
+abbrev pub gives : Cell → Bool → Bool
+gives Strict strict = true
+gives Weak true = false
+gives Weak false = true
+gives Free strict = false
+
+-- whether some cell from a point of the first interval to one of the second gives an order
+abbrev pub says_some : (ℕ → ℕ → Cell) → ℕ → ℕ → Bool
+says_some cell a b = gives (cell (2 * a) (2 * b)) false || gives (cell (2 * a) (2 * b + 1)) false || gives (cell (2 * a + 1) (2 * b)) false || gives (cell (2 * a + 1) (2 * b + 1)) false

@@ -4,6 +4,7 @@
 mod all_rows;
 mod laws;
 mod pairs;
+mod ways;
 
 pub use all_rows::{Row, rows};
 pub use laws::{every_condition_has_rows, one_row_list};
