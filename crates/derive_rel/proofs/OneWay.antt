@@ -1,5 +1,5 @@
 -- Relations of two intervals whose points a table orders one way alone.
-use Rattle.std.proofs.Common.{◌≡◌, ◌↔◌, ◌||◌, ℕ, ◌+◌, ◌*◌, ◌<◌, ◌≤◌, Bool, true, false, List, [], ◌∷◌, ◌++◌, refl, sym, subst, ap, ◌∙◌, arith, rules}
+use Rattle.std.proofs.Common.{◌≡◌, ◌↔◌, ◌||◌, ℕ, ◌+◌, ◌*◌, ◌<◌, ◌≤◌, Bool, true, false, not, List, [], ◌∷◌, ◌++◌, refl, sym, subst, ap, ◌∙◌, arith, rules}
 use Rattle.std.specs.List.{AllByRecursion, list_all}
 use Rattle.std.specs.Str.{bytes_eq}
 use Rattle.std.proofs.lemmas.Bool.{and_from}
@@ -41,15 +41,11 @@ is_forth (ANoLater p q) = true
 is_forth (BBefore p q) = false
 is_forth (BNoLater p q) = false
 
-abbrev turned : Bool → Bool
-turned true = false
-turned false = true
-
 -- only BEFORE has such orders alone, and only AFTER has none
 forth_test : (r : Rel) → list_all is_forth (orders_of r) ≡ bytes_eq (rel_text rel.Before) (rel_text r)
 forth_test r = search rules
 
-back_test : (r : Rel) → list_all (λ o. turned (is_forth o)) (orders_of r) ≡ bytes_eq (rel_text rel.After) (rel_text r)
+back_test : (r : Rel) → list_all (λ o. not (is_forth o)) (orders_of r) ≡ bytes_eq (rel_text rel.After) (rel_text r)
 back_test r = search rules
 
 -- relations with one text are one
@@ -92,9 +88,9 @@ module _ (table : Table) (a b : ℕ) where
 
   -- where some cells are free no order of theirs is given
   free_cells : (x y : ℕ) → says_some (cell_at table) x y ≡ false → (p q : End) (strict : Bool) → strength (order strict) ≤ strength (cell_at table (point_in (points_of x) p) (point_in (points_of y) q)) → ⊥
-  free_cells x y not p q strict h =
+  free_cells x y free p q strict h =
       let cell = cell_at table in
-      let cells = none (gives (cell (2 * x) (2 * y)) false) (gives (cell (2 * x) (2 * y + 1)) false) (gives (cell (2 * x + 1) (2 * y)) false) (gives (cell (2 * x + 1) (2 * y + 1)) false) not in
+      let cells = none (gives (cell (2 * x) (2 * y)) false) (gives (cell (2 * x) (2 * y + 1)) false) (gives (cell (2 * x + 1) (2 * y)) false) (gives (cell (2 * x + 1) (2 * y + 1)) false) free in
       by_cells cells p q h
     where
       by_cells : ((gives (cell_at table (2 * x) (2 * y)) false ≡ false) × (gives (cell_at table (2 * x) (2 * y + 1)) false ≡ false) × (gives (cell_at table (2 * x + 1) (2 * y)) false ≡ false) × (gives (cell_at table (2 * x + 1) (2 * y + 1)) false ≡ false))
@@ -106,21 +102,21 @@ module _ (table : Table) (a b : ℕ) where
 
   -- where no order is given back, only BEFORE is entailed
   pub only_before : says_some (cell_at table) b a ≡ false → (r : Rel) → Entails table a r b → r ≡ rel.Before
-  only_before not r entails = same_relation r rel.Before (sym (forth_test r) ∙ all_pass GivesOrder is_forth (orders_of r) forth (orders_given r entails))
+  only_before free r entails = same_relation r rel.Before (sym (forth_test r) ∙ all_pass GivesOrder is_forth (orders_of r) forth (orders_given r entails))
     where
       forth : (o : PairOrder) → GivesOrder o → is_forth o ≡ true
       forth (ABefore p q) h = refl
       forth (ANoLater p q) h = refl
-      forth (BBefore p q) h = absurd (free_cells b a not p q true h)
-      forth (BNoLater p q) h = absurd (free_cells b a not p q false h)
+      forth (BBefore p q) h = absurd (free_cells b a free p q true h)
+      forth (BNoLater p q) h = absurd (free_cells b a free p q false h)
 
   -- where none is given forth, only AFTER is
   pub only_after : says_some (cell_at table) a b ≡ false → (r : Rel) → Entails table a r b → r ≡ rel.After
-  only_after not r entails = same_relation r rel.After (sym (back_test r) ∙ all_pass GivesOrder (λ o. turned (is_forth o)) (orders_of r) back (orders_given r entails))
+  only_after free r entails = same_relation r rel.After (sym (back_test r) ∙ all_pass GivesOrder (λ o. not (is_forth o)) (orders_of r) back (orders_given r entails))
     where
-      back : (o : PairOrder) → GivesOrder o → turned (is_forth o) ≡ true
-      back (ABefore p q) h = absurd (free_cells a b not p q true h)
-      back (ANoLater p q) h = absurd (free_cells a b not p q false h)
+      back : (o : PairOrder) → GivesOrder o → not (is_forth o) ≡ true
+      back (ABefore p q) h = absurd (free_cells a b free p q true h)
+      back (ANoLater p q) h = absurd (free_cells a b free p q false h)
       back (BBefore p q) h = refl
       back (BNoLater p q) h = refl
 

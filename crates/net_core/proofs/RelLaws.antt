@@ -1,5 +1,5 @@
 -- The texts of the relations of TLINK tell them apart, and are short.
-use Rattle.std.proofs.Common.{◌≡◌, ℕ, suc, ◌<◌, ◌≤◌, nat_le, true, false, cond, List, [], ◌∷◌, length, Some, arith, rules}
+use Rattle.std.proofs.Common.{◌≡◌, ℕ, suc, ◌≤◌, nat_le, true, false, cond, List, [], ◌∷◌, length, Some, arith, rules}
 use Rattle.std.specs.List.{Contains}
 use Rattle.std.specs.Str.{bytes_eq}
 use Rattle.std.proofs.lemmas.Bool.{leb-true}
