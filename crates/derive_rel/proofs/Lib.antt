@@ -1,7 +1,8 @@
 pub mod OneWay
+pub mod WordBits
 pub mod Given
+pub mod Masks
 pub mod Joined
 pub mod Turns
 pub mod OneList
 pub mod AllThere
-pub mod WordBits

@@ -1,8 +1,11 @@
 -- The rows that meet a condition make one list.
-use Rattle.std.proofs.Common.{◌≡◌, ◌⊎◌, inl, inr, ℕ, zero, suc, ◌+◌, ◌<◌, List, [], ◌∷◌, length, refl, sym, ap, subst, ◌∙◌, arith, slice_index_or}
+use Rattle.std.proofs.Common.{◌≡◌, ◌⊎◌, inl, inr, ℕ, zero, suc, ◌+◌, ◌<◌, ◌==◌, ◌&&◌, Bool, true, List, [], ◌∷◌, length, refl, sym, ap, subst, ◌∙◌, arith, slice_index_or}
 use Rattle.std.specs.List.{AllByRecursion, Contains}
+use Rattle.std.specs.Prelude.{if◌then◌else◌}
+use Rattle.std.specs.Str.{bytes_eq}
+use Rattle.std.proofs.lemmas.Bool.{and_parts, eqb-true}
 use Rattle.std.proofs.lemmas.List.Elements.{All-get_or}
-use Rattle.net_core.specs.Rels.{all_rels}
+use Rattle.net_core.specs.Rels.{all_rels, rel_text}
 use Rattle.net_core.specs.declared.rels.Rel.{Rel}
 use Rattle.net_core.specs.declared.rels.Rel.TheVariants as rel
 use Rattle.derive_rel.specs.Entailed.{AreAll, ComesBefore, StandsBefore, row_at}
@@ -10,22 +13,14 @@ use Rattle.derive_rel.specs.declared.all_rows.Row.{Row}
 
 -- ---- the order of rows
 
+-- the number of the first relation of a list with this text
+abbrev place_of : List Rel → List ℕ → ℕ
+place_of [] text = 0
+place_of (r ∷ rels) text = if bytes_eq (rel_text r) text then 0 else suc (place_of rels text)
+
 -- the number of a relation in the table of relations
 abbrev number_of : Rel → ℕ
-number_of rel.Before = 0
-number_of rel.After = 1
-number_of rel.Includes = 2
-number_of rel.IsIncluded = 3
-number_of rel.During = 4
-number_of rel.DuringInv = 5
-number_of rel.Simultaneous = 6
-number_of rel.Identity = 7
-number_of rel.Ibefore = 8
-number_of rel.Iafter = 9
-number_of rel.Begins = 10
-number_of rel.BegunBy = 11
-number_of rel.Ends = 12
-number_of rel.EndedBy = 13
+number_of r = place_of all_rels (rel_text r)
 
 -- relations are numbered one after another
 abbrev AreNumbered : ℕ → List Rel → Type 0
@@ -37,9 +32,18 @@ numbered_at n [] k are lt = absurd (omega (arith, lt))
 numbered_at n (r ∷ rels) zero are lt = omega (arith, are.0)
 numbered_at n (r ∷ rels) (suc k) are lt = let later = numbered_at (n + 1) rels k are.1 (omega (arith, lt)) in omega (arith, later)
 
+-- a test of that
+abbrev are_numbered : ℕ → List Rel → Bool
+are_numbered n [] = true
+are_numbered n (r ∷ rels) = number_of r == n && are_numbered (n + 1) rels
+
+by_test : (n : ℕ) (rels : List Rel) → are_numbered n rels ≡ true → AreNumbered n rels
+by_test n [] e = tt
+by_test n (r ∷ rels) e = let both = and_parts (number_of r == n) (are_numbered (n + 1) rels) e in (eqb-true (number_of r) n both.0, by_test (n + 1) rels both.1)
+
 -- the relations of the table are
 all_numbered : AreNumbered 0 all_rels
-all_numbered = (refl, (refl, (refl, (refl, (refl, (refl, (refl, (refl, (refl, (refl, (refl, (refl, (refl, (refl, tt))))))))))))))
+all_numbered = by_test 0 all_rels refl
 
 -- a relation that stands before another one has a smaller number
 smaller : (r s : Rel) → StandsBefore r s → number_of r < number_of s

@@ -1,26 +1,30 @@
 -- Relations of two intervals whose points a table orders one way alone.
-use Rattle.std.proofs.Common.{◌≡◌, ◌↔◌, ◌||◌, ◌&&◌, ℕ, ◌+◌, ◌*◌, ◌<◌, ◌≤◌, Bool, true, false, List, [], ◌∷◌, ◌++◌, refl, subst, ap}
+use Rattle.std.proofs.Common.{◌≡◌, ◌↔◌, ◌||◌, ℕ, ◌+◌, ◌*◌, ◌<◌, ◌≤◌, Bool, true, false, not, List, [], ◌∷◌, ◌++◌, refl, sym, subst, ap, ◌∙◌, arith, rules}
+use Rattle.std.specs.List.{AllByRecursion, list_all}
+use Rattle.std.specs.Str.{bytes_eq}
+use Rattle.std.proofs.lemmas.Bool.{and_from}
 use Rattle.std.proofs.lemmas.List.Elements.{All-from_recursion, recursion_from_All}
-use Rattle.net_core.specs.Atoms.{atoms_of}
+use Rattle.std.proofs.lemmas.Slice.Eq.{bytes_eq-Decides}
+use Rattle.named.proofs.Tables.{texts_tell}
+use Rattle.net_core.specs.Atoms.{atom_between, atoms_of, orders_of, point_in, points_of}
+use Rattle.net_core.specs.Rels.{all_rels, rel_text}
+use Rattle.net_core.specs.declared.atom.End.{End}
+use Rattle.net_core.specs.declared.atom.End.TheVariants.{Start, Finish}
+use Rattle.net_core.specs.declared.atom.PairOrder.{PairOrder}
+use Rattle.net_core.specs.declared.atom.PairOrder.TheVariants.{ABefore, ANoLater, BBefore, BNoLater}
 use Rattle.net_core.specs.declared.rels.Rel.{Rel}
 use Rattle.net_core.specs.declared.rels.Rel.TheVariants as rel
+use Rattle.net_core.proofs.AtomLaws.{all_mapped}
+use Rattle.net_core.proofs.RelLaws.{rels_apart}
 use Rattle.order_closure.specs.Cells.{order, strength}
 use Rattle.order_closure.specs.Tables.{Table, cell_at}
 use Rattle.order_closure.specs.declared.cell.Cell.{Cell}
 use Rattle.order_closure.specs.declared.cell.Cell.TheVariants.{Free, Weak, Strict}
 use Rattle.derive_rel.specs.Entailed.{Entails, Gives, IsRow}
-use Rattle.derive_rel.specs.Pairs.{gives, has, says_some}
+use Rattle.derive_rel.specs.Pairs.{gives, says_some}
 use Rattle.derive_rel.specs.Pushing.{ArePutLast, IsOf}
 use Rattle.derive_rel.specs.declared.all_rows.Row.{Row}
-use Rattle.derive_rel.specs.declared.pairs.RelSet.{RelSet}
-use Rattle.derive_rel.proofs.Given.{has_entails, set_of}
 use Rattle.derive_rel.proofs.Joined.{none_put, one_put, same_put}
-
--- a cell that gives no order is free
-free : (x : Cell) → gives x false ≡ false → x ≡ Free
-free Free e = refl
-free Weak e = absurd (cc)
-free Strict e = absurd (cc)
 
 -- of four tests none holds
 none : (p q r s : Bool) → (p || q || r || s) ≡ false → (p ≡ false) × (q ≡ false) × (r ≡ false) × (s ≡ false)
@@ -30,64 +34,35 @@ none false true r s e = absurd (cc)
 none false false true s e = absurd (cc)
 none false false false true e = absurd (cc)
 
--- two tests, of which the second fails
-never : (x : Cell) (strict : Bool) → (gives x strict && false) ≡ true → ⊥
-never Free strict e = cc
-never Weak true e = cc
-never Weak false e = cc
-never Strict strict e = cc
+-- an order from the first interval to the second
+abbrev is_forth : PairOrder → Bool
+is_forth (ABefore p q) = true
+is_forth (ANoLater p q) = true
+is_forth (BBefore p q) = false
+is_forth (BNoLater p q) = false
 
--- cells that give orders from the first interval to the second alone
-abbrev forth : Cell → Cell → Cell → Cell → RelSet
-forth s se es e = record {
-  starts = record { forth = s; back = Free };
-  start_and_end = record { forth = se; back = Free };
-  end_and_start = record { forth = es; back = Free };
-  ends = record { forth = e; back = Free };
-}
+-- only BEFORE has such orders alone, and only AFTER has none
+forth_test : (r : Rel) → list_all is_forth (orders_of r) ≡ bytes_eq (rel_text rel.Before) (rel_text r)
+forth_test r = search rules
 
--- cells that give orders the other way round alone
-abbrev back : Cell → Cell → Cell → Cell → RelSet
-back s se es e = record {
-  starts = record { forth = Free; back = s };
-  start_and_end = record { forth = Free; back = se };
-  end_and_start = record { forth = Free; back = es };
-  ends = record { forth = Free; back = e };
-}
+back_test : (r : Rel) → list_all (λ o. not (is_forth o)) (orders_of r) ≡ bytes_eq (rel_text rel.After) (rel_text r)
+back_test r = search rules
 
--- from the first to the second alone only BEFORE is said
-before_alone : (s se es e : Cell) (r : Rel) → has (forth s se es e) r ≡ true → r ≡ rel.Before
-before_alone s se es e rel.Before h = refl
-before_alone s se es e rel.After h = absurd (cc)
-before_alone s se es e rel.Includes h = absurd (never s true h)
-before_alone s se es e rel.IsIncluded h = absurd (cc)
-before_alone s se es e rel.During h = absurd (cc)
-before_alone s se es e rel.DuringInv h = absurd (never s false h)
-before_alone s se es e rel.Simultaneous h = absurd (never s false h)
-before_alone s se es e rel.Identity h = absurd (never s false h)
-before_alone s se es e rel.Ibefore h = absurd (never es false h)
-before_alone s se es e rel.Iafter h = absurd (cc)
-before_alone s se es e rel.Begins h = absurd (never s false h)
-before_alone s se es e rel.BegunBy h = absurd (never s false h)
-before_alone s se es e rel.Ends h = absurd (never e false h)
-before_alone s se es e rel.EndedBy h = absurd (never e false h)
+-- relations with one text are one
+same_relation : (r s : Rel) → bytes_eq (rel_text s) (rel_text r) ≡ true → r ≡ s
+same_relation r s e = sym (texts_tell rel_text all_rels s r rels_apart ((bytes_eq-Decides (rel_text s) (rel_text r)).0 e))
 
--- the other way round only AFTER is
-after_alone : (s se es e : Cell) (r : Rel) → has (back s se es e) r ≡ true → r ≡ rel.After
-after_alone s se es e rel.Before h = absurd (cc)
-after_alone s se es e rel.After h = refl
-after_alone s se es e rel.Includes h = absurd (cc)
-after_alone s se es e rel.IsIncluded h = absurd (never s true h)
-after_alone s se es e rel.During h = absurd (never s false h)
-after_alone s se es e rel.DuringInv h = absurd (cc)
-after_alone s se es e rel.Simultaneous h = absurd (cc)
-after_alone s se es e rel.Identity h = absurd (cc)
-after_alone s se es e rel.Ibefore h = absurd (cc)
-after_alone s se es e rel.Iafter h = absurd (never se false h)
-after_alone s se es e rel.Begins h = absurd (cc)
-after_alone s se es e rel.BegunBy h = absurd (cc)
-after_alone s se es e rel.Ends h = absurd (cc)
-after_alone s se es e rel.EndedBy h = absurd (cc)
+-- a test that all orders pass which are given
+all_pass : (P : PairOrder → Type 0) (test : PairOrder → Bool) (orders : List PairOrder) → ((o : PairOrder) → P o → test o ≡ true) → AllByRecursion P orders → list_all test orders ≡ true
+all_pass P test [] passes all = refl
+all_pass P test (o ∷ orders) passes all = and_from (test o) (list_all test orders) (passes o all.0) (all_pass P test orders passes all.1)
+
+-- an order of a free cell is not given
+not_given : (x : Cell) (strict : Bool) → gives x false ≡ false → strength (order strict) ≤ strength x → ⊥
+not_given Free true e h = omega (arith, h)
+not_given Free false e h = omega (arith, h)
+not_given Weak strict e h = absurd (cc)
+not_given Strict strict e h = absurd (cc)
 
 module _ (table : Table) (a b : ℕ) where
   -- BEFORE is entailed where the end of the first is before the start of the second
@@ -104,31 +79,46 @@ module _ (table : Table) (a b : ℕ) where
     λ entails. (recursion_from_All (Gives table) (atoms_of rel.After a b) entails).0,
   )
 
+  -- the orders that a relation is are given where it is entailed
+  abbrev GivesOrder : PairOrder → Type 0
+  GivesOrder o = Gives table (atom_between (points_of a) (points_of b) o)
+
+  orders_given : (r : Rel) → Entails table a r b → AllByRecursion GivesOrder (orders_of r)
+  orders_given r entails = (all_mapped (Gives table) (atom_between (points_of a) (points_of b)) (orders_of r)).1 (recursion_from_All (Gives table) (atoms_of r a b) entails)
+
+  -- where some cells are free no order of theirs is given
+  free_cells : (x y : ℕ) → says_some (cell_at table) x y ≡ false → (p q : End) (strict : Bool) → strength (order strict) ≤ strength (cell_at table (point_in (points_of x) p) (point_in (points_of y) q)) → ⊥
+  free_cells x y free p q strict h =
+      let cell = cell_at table in
+      let cells = none (gives (cell (2 * x) (2 * y)) false) (gives (cell (2 * x) (2 * y + 1)) false) (gives (cell (2 * x + 1) (2 * y)) false) (gives (cell (2 * x + 1) (2 * y + 1)) false) free in
+      by_cells cells p q h
+    where
+      by_cells : ((gives (cell_at table (2 * x) (2 * y)) false ≡ false) × (gives (cell_at table (2 * x) (2 * y + 1)) false ≡ false) × (gives (cell_at table (2 * x + 1) (2 * y)) false ≡ false) × (gives (cell_at table (2 * x + 1) (2 * y + 1)) false ≡ false))
+          → (p q : End) → strength (order strict) ≤ strength (cell_at table (point_in (points_of x) p) (point_in (points_of y) q)) → ⊥
+      by_cells cells Start Start h = not_given (cell_at table (2 * x) (2 * y)) strict cells.0 h
+      by_cells cells Start Finish h = not_given (cell_at table (2 * x) (2 * y + 1)) strict cells.1 h
+      by_cells cells Finish Start h = not_given (cell_at table (2 * x + 1) (2 * y)) strict cells.2 h
+      by_cells cells Finish Finish h = not_given (cell_at table (2 * x + 1) (2 * y + 1)) strict cells.3 h
+
   -- where no order is given back, only BEFORE is entailed
   pub only_before : says_some (cell_at table) b a ≡ false → (r : Rel) → Entails table a r b → r ≡ rel.Before
-  only_before not r entails =
-      let set = set_of table a b in
-      let cells = none (gives set.starts.back false) (gives set.end_and_start.back false) (gives set.start_and_end.back false) (gives set.ends.back false) not in
-      let is : set ≡ forth set.starts.forth set.start_and_end.forth set.end_and_start.forth set.ends.forth = λ i. record {
-        starts = record { forth = set.starts.forth; back = free set.starts.back cells.0 i };
-        start_and_end = record { forth = set.start_and_end.forth; back = free set.start_and_end.back cells.2 i };
-        end_and_start = record { forth = set.end_and_start.forth; back = free set.end_and_start.back cells.1 i };
-        ends = record { forth = set.ends.forth; back = free set.ends.back cells.3 i };
-      } in
-      before_alone set.starts.forth set.start_and_end.forth set.end_and_start.forth set.ends.forth r (subst (λ (s : RelSet). has s r ≡ true) is ((has_entails table a b r).1 entails))
+  only_before free r entails = same_relation r rel.Before (sym (forth_test r) ∙ all_pass GivesOrder is_forth (orders_of r) forth (orders_given r entails))
+    where
+      forth : (o : PairOrder) → GivesOrder o → is_forth o ≡ true
+      forth (ABefore p q) h = refl
+      forth (ANoLater p q) h = refl
+      forth (BBefore p q) h = absurd (free_cells b a free p q true h)
+      forth (BNoLater p q) h = absurd (free_cells b a free p q false h)
 
   -- where none is given forth, only AFTER is
   pub only_after : says_some (cell_at table) a b ≡ false → (r : Rel) → Entails table a r b → r ≡ rel.After
-  only_after not r entails =
-      let set = set_of table a b in
-      let cells = none (gives set.starts.forth false) (gives set.start_and_end.forth false) (gives set.end_and_start.forth false) (gives set.ends.forth false) not in
-      let is : set ≡ back set.starts.back set.start_and_end.back set.end_and_start.back set.ends.back = λ i. record {
-        starts = record { forth = free set.starts.forth cells.0 i; back = set.starts.back };
-        start_and_end = record { forth = free set.start_and_end.forth cells.1 i; back = set.start_and_end.back };
-        end_and_start = record { forth = free set.end_and_start.forth cells.2 i; back = set.end_and_start.back };
-        ends = record { forth = free set.ends.forth cells.3 i; back = set.ends.back };
-      } in
-      after_alone set.starts.back set.start_and_end.back set.end_and_start.back set.ends.back r (subst (λ (s : RelSet). has s r ≡ true) is ((has_entails table a b r).1 entails))
+  only_after free r entails = same_relation r rel.After (sym (back_test r) ∙ all_pass GivesOrder (λ o. not (is_forth o)) (orders_of r) back (orders_given r entails))
+    where
+      back : (o : PairOrder) → GivesOrder o → not (is_forth o) ≡ true
+      back (ABefore p q) h = absurd (free_cells a b free p q true h)
+      back (ANoLater p q) h = absurd (free_cells a b free p q false h)
+      back (BBefore p q) h = refl
+      back (BNoLater p q) h = refl
 
   module _ (alone : Rel) (only : (r : Rel) → Entails table a r b → r ≡ alone) (rows : List Row) where
     -- the row of the one relation that can hold

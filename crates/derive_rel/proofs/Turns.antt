@@ -1,9 +1,11 @@
 -- The rows of a kind in the turns of the intervals and of the relations.
-use Rattle.std.proofs.Common.{◌≡◌, ◌⊎◌, inl, inr, ℕ, ◌+◌, ◌<◌, ◌≤◌, List, [], ◌∷◌, ◌++◌, slice_index_or, refl, sym, ap, subst, ◌∙◌, arith}
+use Rattle.std.proofs.Common.{◌≡◌, ◌⊎◌, inl, inr, ℕ, ◌+◌, ◌<◌, ◌≤◌, List, [], ◌∷◌, ◌++◌, length, slice_index_or, sym, ap, subst, ◌∙◌, arith}
 use Rattle.std.proofs.lemmas.Bool.{cases_lt}
+use Rattle.std.proofs.lemmas.List.{get_or_default}
 use Rattle.net_core.specs.Rels.{all_rels}
 use Rattle.net_core.specs.declared.rels.Rel.{Rel}
 use Rattle.net_core.specs.declared.rels.Rel.TheVariants as rel
+use Rattle.net_core.proofs.RelLaws.{in_table}
 use Rattle.derive_rel.specs.Entailed.{AreAll}
 use Rattle.derive_rel.specs.Pushing.{ArePutLast, IsFrom, IsOf}
 use Rattle.derive_rel.specs.declared.all_rows.Row.{Row}
@@ -34,26 +36,13 @@ abbrev pub IsOfFirst : ℕ → ℕ → ℕ → Row → Type 0
 IsOfFirst a b k row = (row.a ≡ a) × (row.b ≡ b) × HasFirst k row
 
 -- each relation has a number
-numbered : (r : Rel) → (i : ℕ) × (i < 14) × (rel_at i ≡ r)
-numbered rel.Before = (0, omega arith, refl)
-numbered rel.After = (1, omega arith, refl)
-numbered rel.Includes = (2, omega arith, refl)
-numbered rel.IsIncluded = (3, omega arith, refl)
-numbered rel.During = (4, omega arith, refl)
-numbered rel.DuringInv = (5, omega arith, refl)
-numbered rel.Simultaneous = (6, omega arith, refl)
-numbered rel.Identity = (7, omega arith, refl)
-numbered rel.Ibefore = (8, omega arith, refl)
-numbered rel.Iafter = (9, omega arith, refl)
-numbered rel.Begins = (10, omega arith, refl)
-numbered rel.BegunBy = (11, omega arith, refl)
-numbered rel.Ends = (12, omega arith, refl)
-numbered rel.EndedBy = (13, omega arith, refl)
+numbered : (r : Rel) → (i : ℕ) × (i < length all_rels) × (rel_at i ≡ r)
+numbered r = let at = in_table r in (at.0, at.1, get_or_default all_rels at.0 rel.Before r at.1 ∙ at.2)
 
 module _ (Kind : Row → Type 0) where
   module _ (a b : ℕ) where
     -- one relation more, whose row is of the kind
-    pub one_relation : (before rows : List Row) (k : ℕ) (r : Rel) → k < 14 → rel_at k ≡ r → Kind (row_of a b r)
+    pub one_relation : (before rows : List Row) (k : ℕ) (r : Rel) → k < length all_rels → rel_at k ≡ r → Kind (row_of a b r)
         → ArePutLast Kind (IsOfFirst a b k) before rows → ArePutLast Kind (IsOfFirst a b (k + 1)) before (rows ++ row_of a b r ∷ [])
     one_relation before rows k r lt at is put =
         put_last Kind (IsOfFirst a b k) (λ (other : Row). other ≡ row_of a b r) (IsOfFirst a b (k + 1)) before rows (rows ++ row_of a b r ∷ [])
@@ -98,7 +87,7 @@ module _ (Kind : Row → Type 0) where
         ]
 
     -- after the last relation
-    pub last_relation : (before rows : List Row) (k : ℕ) → 14 ≤ k → ArePutLast Kind (IsOfFirst a b k) before rows → ArePutLast Kind (IsOf a b) before rows
+    pub last_relation : (before rows : List Row) (k : ℕ) → length all_rels ≤ k → ArePutLast Kind (IsOfFirst a b k) before rows → ArePutLast Kind (IsOf a b) before rows
     last_relation before rows k all put =
         same_put Kind (IsOfFirst a b k) (IsOf a b) before rows
         (λ row is. (λ h. (h.0, h.1), λ h. let at = numbered row.rel in (h.0, h.1, (at.0, omega (arith, at.1, all), at.2)))) put

@@ -1,13 +1,15 @@
 //! All relations that hold in all timelines of a table.
 ghost use Rattle.derive_rel.specs.Entailed.{AreRows, IsRow};
+ghost use Rattle.derive_rel.specs.Pairs.{mask_for};
 ghost use Rattle.derive_rel.specs.Pushing.{ArePutLast, IsAlone, IsFrom, IsOf, IsOrder};
-ghost use Rattle.std.specs.Prelude.{IfOk, OnOk, ◌%◌, ◌*◌, ◌+◌, ◌<◌, ◌≡◌, ◌≤◌};
+ghost use Rattle.net_core.specs.Rels.{all_rels};
+ghost use Rattle.order_closure.specs.Tables.{max_table_points};
+ghost use Rattle.std.specs.Prelude.{IfOk, OnOk, map, ◌%◌, ◌*◌, ◌+◌, ◌<◌, ◌≡◌, ◌≤◌};
 
-use crate::pairs::entailed;
+use crate::pairs::{Mask, given, masks};
 use crate::ways::gives_some;
-use named::Named;
 use net_core::{List, Memory, Rel};
-use order_closure::Closed;
+use order_closure::{Closed, MAX_TABLE_POINTS};
 use std::alloc::Global;
 
 /// A relation between two intervals, by their numbers.
@@ -28,34 +30,43 @@ pub fn rows(alloc: Global, closed: &Closed) -> Result<List<Row>, Memory>
     requires { closed.now.points % 2 ≡ 0 }
     ensures { IfOk result (AreRows closed.now) }
 {
+    let masks = masks(alloc)?;
     let mut rows = List::new(alloc);
     for a in 0..closed.points() / 2 {
-        push_from(&mut rows, closed, a)?;
+        push_from(&mut rows, closed, &masks, a)?;
     }
     Ok(rows)
 }
 
 /// Puts the relations of an interval and each one after it last.
-fn push_from(rows: &mut List<Row>, closed: &Closed, a: u32) -> Result<(), Memory>
-    requires few { closed.now.points ≤ 2048 }
+fn push_from(rows: &mut List<Row>, closed: &Closed, masks: &[Mask], a: u32) -> Result<(), Memory>
+    requires few { closed.now.points ≤ max_table_points }
     requires a { 2 * a + 1 < closed.now.points }
+    requires masks { masks.now ≡ map mask_for all_rels }
     ensures { OnOk result (ArePutLast (IsRow closed.now) (IsFrom a) rows.old rows.new) }
 {
     for b in a + 1..closed.points() / 2 {
-        push_pair(rows, closed, a, b)?;
+        push_pair(rows, closed, masks, a, b)?;
     }
     Ok(())
 }
 
 /// Puts the relations of two intervals last. Where the table orders their points one way alone, only BEFORE or only AFTER
 /// can be one: so it is for most intervals of most documents.
-fn push_pair(rows: &mut List<Row>, closed: &Closed, a: u32, b: u32) -> Result<(), Memory>
+fn push_pair(
+    rows: &mut List<Row>,
+    closed: &Closed,
+    masks: &[Mask],
+    a: u32,
+    b: u32,
+) -> Result<(), Memory>
     requires a { a < b }
     requires b { 2 * b + 1 < closed.now.points }
+    requires masks { masks.now ≡ map mask_for all_rels }
     ensures { OnOk result (ArePutLast (IsRow closed.now) (IsOf a b) rows.old rows.new) }
 {
     // so few that the numbers of the points fit
-    prove!(closed.points() <= 2048);
+    prove!(closed.points() <= MAX_TABLE_POINTS);
     if !gives_some(closed, b, a) {
         let rel = Rel::Before;
         return push_alone(rows, closed, Row { a, rel, b }, 2 * a + 1, 2 * b);
@@ -64,7 +75,7 @@ fn push_pair(rows: &mut List<Row>, closed: &Closed, a: u32, b: u32) -> Result<()
         let rel = Rel::After;
         return push_alone(rows, closed, Row { a, rel, b }, 2 * b + 1, 2 * a);
     }
-    push_all(rows, closed, a, b)
+    push_all(rows, closed, masks, a, b)
 }
 
 /// Puts a row last, where the first of two points is before the second: that is its relation, and no other one can hold
@@ -90,16 +101,24 @@ fn push_alone(
     Ok(())
 }
 
-/// Puts the relations of two intervals last, each that holds between them.
-fn push_all(rows: &mut List<Row>, closed: &Closed, a: u32, b: u32) -> Result<(), Memory>
+/// Puts the relations of two intervals last, each all of whose orders the table gives.
+fn push_all(
+    rows: &mut List<Row>,
+    closed: &Closed,
+    masks: &[Mask],
+    a: u32,
+    b: u32,
+) -> Result<(), Memory>
     requires a { a < b }
     requires b { 2 * b + 1 < closed.now.points }
+    requires masks { masks.now ≡ map mask_for all_rels }
     ensures { OnOk result (ArePutLast (IsRow closed.now) (IsOf a b) rows.old rows.new) }
 {
-    let set = entailed(closed, a, b);
-    for rel in Rel::all() {
-        if set.has(*rel) {
-            rows.push(Row { a, rel: *rel, b })?;
+    let given = given(closed, a, b);
+    for mask in masks {
+        if mask.is_in(given) {
+            let rel = mask.rel;
+            rows.push(Row { a, rel, b })?;
         }
     }
     Ok(())

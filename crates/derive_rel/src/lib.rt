@@ -4,10 +4,7 @@
 mod all_rows;
 mod laws;
 mod pairs;
-#[cfg(test)]
-mod tests;
 mod ways;
 
 pub use all_rows::{Row, rows};
 pub use laws::{every_condition_has_rows, one_row_list};
-pub use pairs::{RelSet, entailed};

@@ -1,121 +1,124 @@
-//! The relations of two intervals, by one look at what a table says of their points.
-ghost use Rattle.derive_rel.specs.Entailed.{Entails};
+//! The orders that a table gives between two intervals, and those that each relation is, as bits.
 ghost use Rattle.derive_rel.specs.Pairs as spec;
-ghost use Rattle.net_core.specs.declared.rels.Rel.{Rel as RelOf};
+ghost use Rattle.derive_rel.specs.Pairs.{AreGiven, end_number, mask_for};
+ghost use Rattle.net_core.specs.Atoms.{point_in, points_of};
+ghost use Rattle.net_core.specs.Rels.{all_rels};
+ghost use Rattle.net_core.specs.declared.atom.End.{End as EndOf};
+ghost use Rattle.order_closure.specs.Bits.{bit_of};
 ghost use Rattle.order_closure.specs.Tables.{cell_at};
-ghost use Rattle.std.specs.Prelude.{false, true, ◌&&◌, ◌*◌, ◌+◌, ◌<◌, ◌≡◌, ◌↔◌};
+ghost use Rattle.order_closure.specs.declared.cell.Cell.TheVariants as cells;
+ghost use Rattle.std.specs.Int.{bit_at};
+ghost use Rattle.std.specs.Prelude.{IfOk, bit_and, length, map, ◌*◌, ◌+◌, ◌/◌, ◌<◌, ◌==◌, ◌^◌, ◌≡◌, ◌≢◌, ◌↔◌};
 
-use net_core::Rel;
-use order_closure::{Cell, Closed};
+use named::Named;
+use net_core::{End, Memory, PairOrder, Rel, orders_of};
+use order_closure::{Closed, MAX_TABLE_POINTS};
+use std::alloc::Global;
 
-/// What a table says of the order of two points, both ways.
+/// A relation, with the bits of the orders that it is.
 #[derive(Clone, Copy)]
-struct Order {
-    forth: Cell,
-    back: Cell,
+pub struct Mask {
+    pub rel: Rel,
+    bits: u32,
 }
 
-impl Order {
-    /// The first point is before the second.
-    fn is_before(self) -> bool
-        ensures { result ≡ spec.gives self.forth true }
+impl Mask {
+    /// Whether all orders of the relation are among these.
+    pub fn is_in(self, given: u32) -> bool
+        ensures { result ≡ (bit_and given self.bits == self.bits) }
     {
-        self.forth.gives(true)
-    }
-
-    /// The first point is not after the second.
-    fn is_no_later(self) -> bool
-        ensures { result ≡ spec.gives self.forth false }
-    {
-        self.forth.gives(false)
-    }
-
-    /// The first point is after the second.
-    fn is_after(self) -> bool
-        ensures { result ≡ spec.gives self.back true }
-    {
-        self.back.gives(true)
-    }
-
-    /// The first point is not before the second.
-    fn is_no_earlier(self) -> bool
-        ensures { result ≡ spec.gives self.back false }
-    {
-        self.back.gives(false)
-    }
-
-    /// Both points are at one place.
-    fn is_together(self) -> bool
-        ensures { result ≡ (spec.gives self.forth false && spec.gives self.back false) }
-    {
-        self.is_no_later() && self.is_no_earlier()
+        given & self.bits == self.bits
     }
 }
 
-/// The relations of TLINK that hold between two intervals in all timelines that keep a table.
-#[derive(Clone, Copy)]
-pub struct RelSet {
-    /// The start of the first interval, and that of the second.
-    starts: Order,
-    /// The start of the first, and the end of the second.
-    start_and_end: Order,
-    /// The end of the first, and the start of the second.
-    end_and_start: Order,
-    /// The end of the first, and that of the second.
-    ends: Order,
-}
-
-impl RelSet {
-    /// Whether the relation is one of them.
-    pub fn has(&self, rel: Rel) -> bool
-        ensures { result ≡ spec.has self.now rel }
-    {
-        match rel {
-            Rel::Before => self.end_and_start.is_before(),
-            Rel::After => self.start_and_end.is_after(),
-            Rel::Includes => self.starts.is_before() && self.ends.is_after(),
-            Rel::IsIncluded => self.starts.is_after() && self.ends.is_before(),
-            Rel::During => self.starts.is_no_earlier() && self.ends.is_no_later(),
-            Rel::DuringInv => self.starts.is_no_later() && self.ends.is_no_earlier(),
-            Rel::Simultaneous | Rel::Identity => {
-                self.starts.is_together() && self.ends.is_together()
-            }
-            Rel::Ibefore => self.end_and_start.is_together(),
-            Rel::Iafter => self.start_and_end.is_together(),
-            Rel::Begins => self.starts.is_together() && self.ends.is_before(),
-            Rel::BegunBy => self.starts.is_together() && self.ends.is_after(),
-            Rel::Ends => self.ends.is_together() && self.starts.is_after(),
-            Rel::EndedBy => self.ends.is_together() && self.starts.is_before(),
+/// All relations with the bits of their orders, in the order of the table of relations.
+///
+/// # Errors
+///
+/// Out of memory.
+pub fn masks(alloc: Global) -> Result<Vec<Mask>, Memory>
+    ensures { IfOk result (λ masks. masks.items ≡ map mask_for all_rels) }
+{
+    let mut masks = Vec::new(alloc);
+    for rel in Rel::all() {
+        let bits = mask_of(orders_of(*rel));
+        if masks.push(Mask { rel: *rel, bits }).is_err() {
+            return Err(Memory);
         }
     }
+    Ok(masks)
 }
 
-/// The relations that hold between two intervals in all timelines that keep a table: those all of whose orders its cells
-/// give.
-pub fn entailed(closed: &Closed, a: u32, b: u32) -> RelSet
+/// The bits of some orders.
+fn mask_of(orders: &[PairOrder]) -> u32
+    ensures { result ≡ spec.mask_of orders.now }
+{
+    match orders.split_first() {
+        Some((first, rest)) => 1 << bit_number(*first) | mask_of(rest),
+        None => 0,
+    }
+}
+
+/// The bit of an order, of 0 to 15.
+fn bit_number(order: PairOrder) -> u32
+    ensures number { result ≡ spec.bit_number order }
+    ensures small { result < 16 }
+{
+    match order {
+        PairOrder::ANoLater(p, q) => 4 * number_of(p) + number_of(q),
+        PairOrder::ABefore(p, q) => 4 * number_of(p) + 2 + number_of(q),
+        PairOrder::BNoLater(p, q) => 8 + (4 * number_of(p) + number_of(q)),
+        PairOrder::BBefore(p, q) => 8 + (4 * number_of(p) + 2 + number_of(q)),
+    }
+}
+
+/// The number of a point of an interval, 0 or 1.
+fn number_of(end: End) -> u32
+    ensures number { result ≡ end_number end }
+    ensures small { result < 2 }
+{
+    match end {
+        End::Start => 0,
+        End::Finish => 1,
+    }
+}
+
+/// The orders that a table gives between two intervals, as bits.
+pub fn given(closed: &Closed, a: u32, b: u32) -> u32
     requires a { 2 * a + 1 < closed.now.points }
     requires b { 2 * b + 1 < closed.now.points }
-    ensures { (r : RelOf) → (spec.has result r ≡ true) ↔ Entails closed.now a r b }
+    ensures { AreGiven closed.now a b result }
 {
-    // so few that the numbers of the points fit
-    prove!(closed.points() <= 2048);
-    RelSet {
-        starts: order_of(closed, 2 * a, 2 * b),
-        start_and_end: order_of(closed, 2 * a, 2 * b + 1),
-        end_and_start: order_of(closed, 2 * a + 1, 2 * b),
-        ends: order_of(closed, 2 * a + 1, 2 * b + 1),
-    }
+    256 * one_way(closed, b, a) + one_way(closed, a, b)
 }
 
-/// What a table says of the order of two points, both ways.
-fn order_of(closed: &Closed, p: u32, q: u32) -> Order
-    requires p { p < closed.now.points }
-    requires q { q < closed.now.points }
-    ensures forth { result.forth ≡ cell_at closed.now p q }
-    ensures back { result.back ≡ cell_at closed.now q p }
+/// The orders from a point of the first interval to one of the second that a table gives, as the bits of `ANoLater` and
+/// `ABefore`.
+fn one_way(closed: &Closed, a: u32, b: u32) -> u32
+    requires a { 2 * a + 1 < closed.now.points }
+    requires b { 2 * b + 1 < closed.now.points }
+    ensures small { result < 256 }
+    ensures weak { (p q : EndOf) → (bit_at result (4 * end_number p + end_number q) ≡ 1)
+        ↔ (cell_at closed.now (point_in (points_of a) p) (point_in (points_of b) q) ≢ cells.Free) }
+    ensures strict { (p q : EndOf) → (bit_at result (4 * end_number p + 2 + end_number q) ≡ 1)
+        ↔ (cell_at closed.now (point_in (points_of a) p) (point_in (points_of b) q) ≡ cells.Strict) }
 {
-    Order {
-        forth: closed.cell(p, q),
-        back: closed.cell(q, p),
-    }
+    // so few that the numbers of the points fit
+    prove!(closed.points() <= MAX_TABLE_POINTS);
+    let weak_start = two_bits(closed.weak_row(2 * a), b);
+    let strict_start = two_bits(closed.strict_row(2 * a), b);
+    let weak_finish = two_bits(closed.weak_row(2 * a + 1), b);
+    let strict_finish = two_bits(closed.strict_row(2 * a + 1), b);
+    4 * (4 * (4 * strict_finish + weak_finish) + strict_start) + weak_start
+}
+
+/// The bits of the start and of the end of an interval, which are in one word.
+fn two_bits(row: &[u64], interval: u32) -> u32
+    requires few { interval < 2147483648 }
+    requires within { 2 * interval / 64 < length row.now }
+    ensures small { result < 4 }
+    ensures bits { (q : EndOf) → bit_at result (end_number q) ≡ bit_of row.now (point_in (points_of interval) q) }
+{
+    let word = row[2 * interval as usize / 64] >> (2 * interval % 64);
+    (word & 3) as u32
 }

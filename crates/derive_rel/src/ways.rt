@@ -4,7 +4,7 @@ ghost use Rattle.order_closure.specs.Tables.{cell_at};
 ghost use Rattle.std.specs.Int.{bit_at};
 ghost use Rattle.std.specs.Prelude.{◌*◌, ◌+◌, ◌<◌, ◌==◌, ◌≡◌, ◌||◌};
 
-use order_closure::Closed;
+use order_closure::{Closed, MAX_TABLE_POINTS};
 
 /// Whether a table gives some order of a point of the first interval and one of the second, that way round.
 pub fn gives_some(closed: &Closed, a: u32, b: u32) -> bool
@@ -12,7 +12,7 @@ pub fn gives_some(closed: &Closed, a: u32, b: u32) -> bool
     requires b { 2 * b + 1 < closed.now.points }
     ensures { result ≡ says_some (cell_at closed.now) a b }
 {
-    prove!(closed.points() <= 2048);
+    prove!(closed.points() <= MAX_TABLE_POINTS);
     let start = closed.weak_row(2 * a);
     let finish = closed.weak_row(2 * a + 1);
     // both points of an interval have their bits in one word

@@ -1,6 +1,7 @@
 -- The document of a drill is accepted.
 use Rattle.std.proofs.Common.{ℕ, List, subst, arith}
 use Rattle.std.specs.List.{range_with_len}
+use Rattle.net_core.specs.Limits.{max_intervals}
 use Rattle.tml_tree.specs.Whole.{IsTreeOf}
 use Rattle.tml_tree.specs.Written.{node_at}
 use Rattle.tml_tree.proofs.WrittenTrees.{written_is_read}
@@ -20,7 +21,7 @@ accepted n drill =
     let numbers = range_with_len 0 n in
     let links = links_of n in
     let ends = links_end n drill.0 in
-    let small = range_below 0 n 512 (omega arith) in
+    let small = range_below 0 n max_intervals (omega arith) in
     let small_ends = recursion_weaker (HasEnds n) HasSmallEnds (λ l h. (omega arith, omega arith)) links ends in
     let says = tree_says numbers links small small_ends in
     record {

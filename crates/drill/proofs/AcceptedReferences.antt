@@ -6,6 +6,7 @@ use Rattle.std.proofs.lemmas.Bool.{or_from, or_left}
 use Rattle.std.proofs.lemmas.List.{append-nil}
 use Rattle.std.proofs.lemmas.List.Folds.{list_any-append}
 use Rattle.std.proofs.lemmas.Slice.Eq.{bytes_eq-Decides}
+use Rattle.net_core.specs.Limits.{max_intervals}
 use Rattle.tml_refs.specs.declared.document.DocLink.{DocLink}
 use Rattle.tml_types.specs.declared.typed.TagKind.TheVariants as kind
 use Rattle.tml_types.specs.Content.{Content, Reference}
@@ -47,14 +48,14 @@ links_new seen (link ∷ links) = (refl, links_new (seen ++ link_content link �
 
 -- from a number on the names of events and instances are free
 abbrev AreFree : ℕ → List Content → Type 0
-AreFree low seen = (i : ℕ) → low ≤ i → i < 512 → (list_any (is_called (event_name i)) seen ≡ false) × (list_any (is_called (instance_name i)) seen ≡ false)
+AreFree low seen = (i : ℕ) → low ≤ i → i < max_intervals → (list_any (is_called (event_name i)) seen ≡ false) × (list_any (is_called (instance_name i)) seen ≡ false)
 
 -- a name that differs from that of one tag more is still free
 still_free : (name : List ℕ) (seen : List Content) (c : Content) → list_any (is_called name) seen ≡ false → is_called name c ≡ false → list_any (is_called name) (seen ++ c ∷ []) ≡ false
 still_free name seen c h k = list_any-append (is_called name) seen (c ∷ []) ∙ or_from (list_any (is_called name) seen) (is_called name c || false) h (ap (λ (b : Bool). b || false) k)
 
 -- after an interval the names from the next number on are free
-free_later : (k : ℕ) (seen : List Content) → k < 512 → AreFree k seen → AreFree (k + 1) (seen ++ event_content k ∷ [] ++ instance_content k ∷ [])
+free_later : (k : ℕ) (seen : List Content) → k < max_intervals → AreFree k seen → AreFree (k + 1) (seen ++ event_content k ∷ [] ++ instance_content k ∷ [])
 free_later k seen small free = λ i low high.
     let before = free i (omega arith) high in
     let event = seen ++ event_content k ∷ [] in (
@@ -63,7 +64,7 @@ free_later k seen small free = λ i low high.
     )
 
 -- the identifiers of intervals one after another are new
-intervals_new : (k len : ℕ) (seen rest : List Content) → k + len ≤ 512 → AreFree k seen → ((all : List Content) → AreNew all rest) → AreNew seen (flat_map interval_contents (range_with_len k len) ++ rest)
+intervals_new : (k len : ℕ) (seen rest : List Content) → k + len ≤ max_intervals → AreFree k seen → ((all : List Content) → AreNew all rest) → AreNew seen (flat_map interval_contents (range_with_len k len) ++ rest)
 intervals_new k zero seen rest low free h = h seen
 intervals_new k (suc len) seen rest low free h =
     let first = (free k (omega arith) (omega arith)).0 in
@@ -71,7 +72,7 @@ intervals_new k (suc len) seen rest low free h =
     (first, (second, intervals_new (k + 1) len (seen ++ event_content k ∷ [] ++ instance_content k ∷ []) rest (omega arith) (free_later k seen (omega arith) free) h))
 
 -- no identifier of a drill stands twice
-pub identifiers_new : (n : ℕ) (links : List DocLink) → n ≤ 512 → AreNew [] (contents_of (range_with_len 0 n) links)
+pub identifiers_new : (n : ℕ) (links : List DocLink) → n ≤ max_intervals → AreNew [] (contents_of (range_with_len 0 n) links)
 identifiers_new n links few = intervals_new 0 n [] (flat_map link_contents links) (omega arith) (λ i low high. (refl, refl)) (λ all. links_new all links)
 
 -- ---- each reference is to a tag

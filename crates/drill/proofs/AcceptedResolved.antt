@@ -12,6 +12,7 @@ use Rattle.faults.specs.declared.kind.FaultKind.{FaultKind}
 use Rattle.faults.specs.declared.kind.FaultKind.TheVariants as kinds
 use Rattle.faults.proofs.Cuts.{inside}
 use Rattle.named.proofs.Tables.{any_map}
+use Rattle.net_core.specs.Limits.{max_intervals, max_links}
 use Rattle.tml_refs.specs.declared.document.DocLink.{DocLink}
 use Rattle.tml_refs.specs.Documents.{IsLinkOf, PlainInterval, RefersTo, Resolved, counts_of, instance, intervals_of, time}
 use Rattle.tml_refs.specs.Rules.{Breaks, has_id, is_interval, is_tlink, is_unknown}
@@ -150,7 +151,7 @@ module _ (n : ℕ) (links : List DocLink) (tags : List PlainTyped) (says : map c
     taken_by (Some id) = sym (any_map content_of (is_called id) before)
 
     -- its identifier is that of no tag before it
-    no_duplicate : n ≤ 512 → Breaks tags kinds.DuplicateId before tag → ⊥
+    no_duplicate : n ≤ max_intervals → Breaks tags kinds.DuplicateId before tag → ⊥
     no_duplicate few b =
         let new = new_at [] (map content_of before) (map content_of after) tag.content (subst (AreNew []) cut (identifiers_new n links few)) in
         both_ways (is_taken (map content_of before) tag.content) new (sym (taken_by (id_of tag.content)) ∙ b)
@@ -172,20 +173,20 @@ module _ (n : ℕ) (links : List DocLink) (tags : List PlainTyped) (says : map c
         absurd (omega (arith, fewer_before p before after tag parts.0, ap (count_by p) whole, few, eqb-true (count_by p before) most parts.1))
 
     -- it breaks no rule
-    breaks_none : n ≤ 512 → length links ≤ 4096 → AllByRecursion (HasEnds n) links → (rule : FaultKind) → Breaks tags rule before tag → ⊥
+    breaks_none : n ≤ max_intervals → length links ≤ max_links → AllByRecursion (HasEnds n) links → (rule : FaultKind) → Breaks tags rule before tag → ⊥
     breaks_none few short ends rule =
-        let intervals : count_by is_interval tags ≤ 512 = omega (arith, tags_counted is_interval_content 1 0 (λ x. refl) (λ x. refl)) in
-        let tlinks : count_by is_tlink tags ≤ 4096 = omega (arith, tags_counted is_link_content 0 1 (λ x. refl) (λ x. refl)) in
+        let intervals : count_by is_interval tags ≤ max_intervals = omega (arith, tags_counted is_interval_content 1 0 (λ x. refl) (λ x. refl)) in
+        let tlinks : count_by is_tlink tags ≤ max_links = omega (arith, tags_counted is_link_content 0 1 (λ x. refl) (λ x. refl)) in
         elim rule as (λ r. Breaks tags r before tag → ⊥) [
           | kinds.DuplicateId ↦ no_duplicate few
           | kinds.UnknownReference ↦ no_unknown ends
-          | kinds.TooManyIntervals ↦ few_before is_interval 512 intervals
-          | kinds.TooManyLinks ↦ few_before is_tlink 4096 tlinks
+          | kinds.TooManyIntervals ↦ few_before is_interval max_intervals intervals
+          | kinds.TooManyLinks ↦ few_before is_tlink max_links tlinks
           | _ ↦ λ b. absurd cc
         ]
 
   -- the tags resolve to what was drawn
-  pub resolved : n ≤ 512 → length links ≤ 4096 → AllByRecursion (HasEnds n) links
+  pub resolved : n ≤ max_intervals → length links ≤ max_links → AllByRecursion (HasEnds n) links
       → Resolved tags (record { counts = record { events = n; instances = n; timex = 0; signals = 0; tlinks = length links; alinks = 0; slinks = 0 }; intervals = drill_intervals n; links = links })
   resolved few short ends = record {
     sound = λ before after tag rule whole b. breaks_none before after tag whole few short ends rule b;

@@ -5,6 +5,7 @@ use Rattle.std.specs.List.{All, AllByRecursion, flat_map, list_all}
 use Rattle.std.proofs.lemmas.List.{append-nil}
 use Rattle.std.proofs.lemmas.List.Concat.{flat_map-append}
 use Rattle.std.proofs.lemmas.List.Elements.{All-nil, All-cons}
+use Rattle.net_core.specs.Limits.{max_intervals}
 use Rattle.tml_refs.specs.declared.document.DocLink.{DocLink}
 use Rattle.tml_span.specs.Bytes.{is_name, is_text_byte}
 use Rattle.tml_span.specs.Units.{Attribute, Kind, text, start_tag, end_tag, empty_tag}
@@ -73,13 +74,13 @@ interval_kinds i = flat_map kinds_of (interval_nodes i)
 abbrev pub link_kinds : DocLink → List Kind
 link_kinds link = flat_map kinds_of (link_nodes link)
 
--- a number below 512, as each interval has
+-- a number that an interval may have
 abbrev pub IsSmall : ℕ → Type 0
-IsSmall i = i < 512
+IsSmall i = i < max_intervals
 
--- the ends of a link are small numbers
+-- the ends of a link have such numbers
 abbrev pub HasSmallEnds : DocLink → Type 0
-HasSmallEnds link = (link.a < 512) × (link.b < 512)
+HasSmallEnds link = (link.a < max_intervals) × (link.b < max_intervals)
 
 -- the LF of each line
 line_safe : IsSafe (text (codes "\n"))

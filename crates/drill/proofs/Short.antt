@@ -4,9 +4,8 @@ use Rattle.std.specs.Prelude.{decimal}
 use Rattle.std.specs.List.{flat_map, range_with_len}
 use Rattle.std.proofs.lemmas.Fmt.{length-decimal-le}
 use Rattle.std.proofs.lemmas.List.FromFn.{length-range_with_len}
-use Rattle.net_core.specs.Rels.{rel_text}
-use Rattle.net_core.specs.declared.rels.Rel.{Rel}
-use Rattle.net_core.specs.declared.rels.Rel.TheVariants as rel
+use Rattle.net_core.specs.Limits.{max_intervals}
+use Rattle.net_core.proofs.RelLaws.{text_short}
 use Rattle.tml_refs.specs.declared.document.DocLink.{DocLink}
 use Rattle.drill.specs.Laws.{DrillIsShort}
 use Rattle.drill.specs.Numbers.{links_of}
@@ -14,34 +13,17 @@ use Rattle.drill.specs.Texts.{interval_lines, link_line}
 use Rattle.drill.proofs.Links.{IsTrueLink, few_links, true_links}
 use Rattle.drill.proofs.Lists.{all_each, all_range, flat_map_length}
 
--- a number below 512 has at most three digits
-number_short : (i : ℕ) → i < 512 → length (decimal i) ≤ 3
-number_short i lt = length-decimal-le 3 i (omega arith) (omega arith) (omega arith)
-
--- the text of a relation has at most twelve bytes
-relation_short : (r : Rel) → length (rel_text r) ≤ 12
-relation_short rel.Before = omega arith
-relation_short rel.After = omega arith
-relation_short rel.Includes = omega arith
-relation_short rel.IsIncluded = omega arith
-relation_short rel.During = omega arith
-relation_short rel.DuringInv = omega arith
-relation_short rel.Simultaneous = omega arith
-relation_short rel.Identity = omega arith
-relation_short rel.Ibefore = omega arith
-relation_short rel.Iafter = omega arith
-relation_short rel.Begins = omega arith
-relation_short rel.BegunBy = omega arith
-relation_short rel.Ends = omega arith
-relation_short rel.EndedBy = omega arith
+-- the number of an interval has at most nine digits, whatever the limit
+pub number_short : (i : ℕ) → i < max_intervals → length (decimal i) ≤ 9
+number_short i lt = length-decimal-le 9 i (omega arith) (omega arith) (omega arith)
 
 -- the lines of an interval have at most 150 bytes
-interval_short : (i : ℕ) → i < 512 → length (interval_lines i) ≤ 150
+interval_short : (i : ℕ) → i < max_intervals → length (interval_lines i) ≤ 150
 interval_short i lt = let number = number_short i lt in simp length-append (omega arith)
 
 -- and so has the line of a link
-link_short : (link : DocLink) → link.a < 512 → link.b < 512 → length (link_line link) ≤ 150
-link_short link a b = let left = number_short link.a a in let right = number_short link.b b in let relation = relation_short link.rel in simp length-append (omega arith)
+link_short : (link : DocLink) → link.a < max_intervals → link.b < max_intervals → length (link_line link) ≤ 150
+link_short link a b = let left = number_short link.a a in let right = number_short link.b b in let relation = text_short link.rel in simp length-append (omega arith)
 
 -- so the document of a drill has at most 150 bytes for each interval and each link, and its first and last line
 pub drill_is_short : DrillIsShort

@@ -2,7 +2,7 @@
 use Rattle.std.specs.Prelude.{ℕ, ◌≤◌, List, length}
 use Rattle.std.specs.List.{range_with_len}
 use Rattle.net_core.specs.Fits.{Fits}
-use Rattle.net_core.specs.Limits.{max_intervals}
+use Rattle.net_core.specs.Limits.{max_document, max_intervals}
 use Rattle.net_core.specs.Nets.{PlainNet}
 use Rattle.net_build.specs.Built.{IsNetOf}
 use Rattle.tml_refs.specs.Documents.{PlainDocument, Resolved}
@@ -14,7 +14,7 @@ use Rattle.tml_types.specs.Whole.{Types}
 use Rattle.drill.specs.Numbers.{hidden_timeline}
 use Rattle.drill.specs.Texts.{drill_contents, drill_document}
 
--- there are drills of 1 to 512 intervals
+-- there are drills of one interval to the most that a document may have
 abbrev pub IsDrill : ℕ → Type 0
 IsDrill n = (1 ≤ n) × (n ≤ max_intervals)
 
@@ -36,7 +36,7 @@ DrillIsAccepted = (n : ℕ) → IsDrill n → IsAcceptedAs (drill_document n) (d
 
 -- it has no more bytes than a document may have
 abbrev pub DrillIsShort : Type 0
-DrillIsShort = (n : ℕ) → IsDrill n → length (drill_document n) ≤ 4194304
+DrillIsShort = (n : ℕ) → IsDrill n → length (drill_document n) ≤ max_document
 
 -- the hidden intervals fit: so some timeline always does
 abbrev pub HiddenIntervalsFit : Type 0

@@ -1,5 +1,6 @@
 //! The numbers of a drill, drawn one after another.
 ghost use Rattle.drill.specs.Numbers as spec;
+ghost use Rattle.net_core.specs.Limits.{max_intervals};
 ghost use Rattle.std.specs.Prelude.{IfOk, length, ◌*◌, ◌+◌, ◌<◌, ◌≡◌, ◌≤◌};
 
 use named::Named;
@@ -39,7 +40,7 @@ impl Draws {
 
 /// The hidden intervals of drill `n`.
 pub fn hidden_intervals(alloc: Global, n: u32, draws: &mut Draws) -> Result<Vec<Ends>, AllocError>
-    requires few { n ≤ 512 }
+    requires few { n ≤ max_intervals }
     requires first { draws.old.last ≡ n }
     ensures intervals { IfOk result (λ hidden. hidden.items ≡ spec.hidden_intervals n) }
     ensures draws { IfOk result (λ hidden. draws.new.last ≡ spec.drawn n (2 * n)) }

@@ -2,6 +2,7 @@
 ghost use Rattle.drill.specs.Numbers as spec;
 ghost use Rattle.drill.specs.Numbers.{drawn, hidden_intervals, links_from, links_of};
 ghost use Rattle.drill.specs.Texts as texts;
+ghost use Rattle.net_core.specs.Limits.{max_intervals};
 ghost use Rattle.std.specs.List.{flat_map};
 ghost use Rattle.std.specs.Option.{option_to_list};
 ghost use Rattle.std.specs.Prelude.{IfOk, OnOk, decimal, length, ◌*◌, ◌++◌, ◌+◌, ◌-◌, ◌<◌, ◌≡◌, ◌≤◌};
@@ -13,7 +14,7 @@ use std::alloc::{AllocError, Global};
 use tml_io::{List, Memory};
 use tml_refs::DocLink;
 
-/// The document of drill `n`: an event with an instance for each of `n` intervals, of 1 to 512, and from each but the
+/// The document of drill `n`: an event with an instance for each of `n` intervals, of 1 to `net_core::MAX_INTERVALS`, and from each but the
 /// first up to three TLINKs to some before it. The intervals have hidden starts and ends that are drawn from `n`, and
 /// the relation of each link holds of these, so the links can all be true.
 ///
@@ -22,7 +23,7 @@ use tml_refs::DocLink;
 /// Out of memory.
 pub fn drill_text(alloc: Global, n: u32) -> Result<List<u8>, Memory>
     requires some { 1 ≤ n }
-    requires few { n ≤ 512 }
+    requires few { n ≤ max_intervals }
     ensures { IfOk result (λ text. text ≡ texts.drill_document n) }
 {
     match document(alloc, n) {
@@ -34,7 +35,7 @@ pub fn drill_text(alloc: Global, n: u32) -> Result<List<u8>, Memory>
 /// The text of the document of drill `n`.
 fn document(alloc: Global, n: u32) -> Result<Vec<u8>, AllocError>
     requires some { 1 ≤ n }
-    requires few { n ≤ 512 }
+    requires few { n ≤ max_intervals }
     ensures { IfOk result (λ text. text.items ≡ texts.drill_document n) }
 {
     let mut draws = Draws::new(n);
@@ -62,7 +63,7 @@ fn push_interval(out: &mut Vec<u8>, i: u32) -> Result<(), AllocError>
 /// Puts the links of a drill last, after the numbers for its intervals were drawn.
 fn push_links(out: &mut Vec<u8>, hidden: &[Ends], mut draws: Draws) -> Result<(), AllocError>
     requires some { 1 ≤ length hidden.now }
-    requires few { length hidden.now ≤ 512 }
+    requires few { length hidden.now ≤ max_intervals }
     requires hidden { hidden.now ≡ hidden_intervals (length hidden.now) }
     requires draws { draws.last ≡ drawn (length hidden.now) (2 * length hidden.now) }
     requires within { draws.last < 65537 }
@@ -83,7 +84,7 @@ fn push_links_from(
 ) -> Result<(), AllocError>
     requires some { 1 ≤ i }
     requires below { i < length hidden.now }
-    requires few { length hidden.now ≤ 512 }
+    requires few { length hidden.now ≤ max_intervals }
     requires hidden { hidden.now ≡ hidden_intervals (length hidden.now) }
     requires draws { draws.old.last ≡ drawn (length hidden.now) (2 * length hidden.now + 3 * (i - 1)) }
     requires within { draws.old.last < 65537 }

@@ -1,8 +1,12 @@
 -- Orders of two points, and those that a relation is.
-use Rattle.std.specs.Prelude.{ℕ, ◌+◌, ◌*◌, ◌<◌, ◌≤◌, ◌↔◌, Bool, true, false, List, [], ◌∷◌, ◌++◌, length}
+use Rattle.std.specs.Prelude.{ℕ, ◌+◌, ◌*◌, ◌<◌, ◌≤◌, ◌↔◌, Bool, true, false, List, [], ◌∷◌, ◌++◌, length, map}
 use Rattle.std.specs.List.{AllByRecursion}
 use Rattle.net_core.specs.declared.atom.Atom.{Atom}
 use Rattle.net_core.specs.declared.atom.Atoms.{Atoms}
+use Rattle.net_core.specs.declared.atom.End.{End}
+use Rattle.net_core.specs.declared.atom.End.TheVariants.{Start, Finish}
+use Rattle.net_core.specs.declared.atom.PairOrder.{PairOrder}
+use Rattle.net_core.specs.declared.atom.PairOrder.TheVariants.{ABefore, ANoLater, BBefore, BNoLater}
 use Rattle.net_core.specs.declared.net.Ends.{Ends}
 use Rattle.net_core.specs.declared.rels.Rel.{Rel}
 use Rattle.net_core.specs.declared.rels.Rel.TheVariants as rel
@@ -16,26 +20,42 @@ before p q = record { from = p; to = q; strict = true }
 abbrev pub no_later : ℕ → ℕ → Atom
 no_later p q = record { from = p; to = q; strict = false }
 
--- both points are at one place
-abbrev pub together : ℕ → ℕ → List Atom
-together p q = no_later p q ∷ no_later q p ∷ []
+-- the start or the finish of an interval
+abbrev pub point_in : Ends → End → ℕ
+point_in ends Start = ends.start
+point_in ends Finish = ends.finish
 
--- The orders that a relation is, by the points of two intervals: the table of relations, in its order.
+-- an order between intervals a and b, by their points
+abbrev pub atom_between : Ends → Ends → PairOrder → Atom
+atom_between a b (ABefore p q) = before (point_in a p) (point_in b q)
+atom_between a b (ANoLater p q) = no_later (point_in a p) (point_in b q)
+atom_between a b (BBefore p q) = before (point_in b p) (point_in a q)
+atom_between a b (BNoLater p q) = no_later (point_in b p) (point_in a q)
+
+-- a point of a and one of b are at one place
+abbrev pub together : End → End → List PairOrder
+together p q = ANoLater p q ∷ BNoLater q p ∷ []
+
+-- The orders that a relation is between intervals a and b: the table of relations, in its order.
+abbrev pub orders_of : Rel → List PairOrder
+orders_of rel.Before = ABefore Finish Start ∷ []
+orders_of rel.After = BBefore Finish Start ∷ []
+orders_of rel.Includes = ABefore Start Start ∷ BBefore Finish Finish ∷ []
+orders_of rel.IsIncluded = BBefore Start Start ∷ ABefore Finish Finish ∷ []
+orders_of rel.During = BNoLater Start Start ∷ ANoLater Finish Finish ∷ []
+orders_of rel.DuringInv = ANoLater Start Start ∷ BNoLater Finish Finish ∷ []
+orders_of rel.Simultaneous = together Start Start ++ together Finish Finish
+orders_of rel.Identity = together Start Start ++ together Finish Finish
+orders_of rel.Ibefore = together Finish Start
+orders_of rel.Iafter = BNoLater Finish Start ∷ ANoLater Start Finish ∷ []
+orders_of rel.Begins = together Start Start ++ ABefore Finish Finish ∷ []
+orders_of rel.BegunBy = together Start Start ++ BBefore Finish Finish ∷ []
+orders_of rel.Ends = together Finish Finish ++ BBefore Start Start ∷ []
+orders_of rel.EndedBy = together Finish Finish ++ ABefore Start Start ∷ []
+
+-- the same by the points of two intervals
 abbrev pub atoms_between : Rel → Ends → Ends → List Atom
-atoms_between rel.Before a b = before a.finish b.start ∷ []
-atoms_between rel.After a b = before b.finish a.start ∷ []
-atoms_between rel.Includes a b = before a.start b.start ∷ before b.finish a.finish ∷ []
-atoms_between rel.IsIncluded a b = before b.start a.start ∷ before a.finish b.finish ∷ []
-atoms_between rel.During a b = no_later b.start a.start ∷ no_later a.finish b.finish ∷ []
-atoms_between rel.DuringInv a b = no_later a.start b.start ∷ no_later b.finish a.finish ∷ []
-atoms_between rel.Simultaneous a b = together a.start b.start ++ together a.finish b.finish
-atoms_between rel.Identity a b = together a.start b.start ++ together a.finish b.finish
-atoms_between rel.Ibefore a b = together a.finish b.start
-atoms_between rel.Iafter a b = together b.finish a.start
-atoms_between rel.Begins a b = together a.start b.start ++ before a.finish b.finish ∷ []
-atoms_between rel.BegunBy a b = together a.start b.start ++ before b.finish a.finish ∷ []
-atoms_between rel.Ends a b = together a.finish b.finish ++ before b.start a.start ∷ []
-atoms_between rel.EndedBy a b = together a.finish b.finish ++ before a.start b.start ∷ []
+atoms_between r a b = map (atom_between a b) (orders_of r)
 
 -- the points of an interval: its start and its end
 abbrev pub points_of : ℕ → Ends
@@ -47,7 +67,7 @@ atoms_of r a b = atoms_between r (points_of a) (points_of b)
 
 -- how many orders a relation is
 abbrev pub atom_count : Rel → ℕ
-atom_count r = length (atoms_of r 0 0)
+atom_count r = length (orders_of r)
 
 -- the orders that a value of the program stands for
 abbrev pub atoms_in : Atoms → List Atom
@@ -57,6 +77,10 @@ atoms_in x = atoms_between x.rel x.a x.b
 abbrev pub IsInOrder : Bool → ℕ → ℕ → Type 0
 IsInOrder true m n = m < n
 IsInOrder false m n = m ≤ n
+
+-- an order between two intervals is true of their starts and ends
+abbrev pub IsTrueOf : Ends → Ends → PairOrder → Type 0
+IsTrueOf a b order = let atom = atom_between a b order in IsInOrder atom.strict atom.from atom.to
 
 -- both points of an atom are below n
 abbrev pub IsInRange : ℕ → Atom → Type 0

@@ -1,8 +1,9 @@
 //! Orders of two points, and the orders that a relation is.
 ghost use Rattle.net_core.specs.Atoms as spec;
 ghost use Rattle.net_core.specs.Atoms.{AtomsSayTheRelation};
+ghost use Rattle.net_core.specs.Relations.{Holds};
 ghost use Rattle.std.specs.List.{slice_get};
-ghost use Rattle.std.specs.Prelude.{◌≡◌, ◌<◌, ◌≤◌, [], ◌∷◌, ◌++◌, length};
+ghost use Rattle.std.specs.Prelude.{IsTrue, ◌≡◌, ◌<◌, ◌≤◌, ◌↔◌, length};
 
 use crate::{Ends, Rel};
 
@@ -12,6 +13,111 @@ pub struct Atom {
     pub from: u32,
     pub to: u32,
     pub strict: bool,
+}
+
+/// A point of an interval.
+#[derive(Clone, Copy, Debug, PartialEq, Eq)]
+pub enum End {
+    Start,
+    Finish,
+}
+
+impl End {
+    fn of(self, ends: Ends) -> u32
+        ensures { result ≡ spec.point_in ends self }
+    {
+        match self {
+            End::Start => ends.start,
+            End::Finish => ends.finish,
+        }
+    }
+}
+
+/// An order of a point of an interval `a` and one of an interval `b`.
+#[derive(Clone, Copy, Debug, PartialEq, Eq)]
+pub enum PairOrder {
+    /// This point of `a` is before that one of `b`.
+    ABefore(End, End),
+    /// This point of `a` is before that one of `b`, or both are at one place.
+    ANoLater(End, End),
+    /// This point of `b` is before that one of `a`.
+    BBefore(End, End),
+    /// This point of `b` is before that one of `a`, or both are at one place.
+    BNoLater(End, End),
+}
+
+impl PairOrder {
+    /// The order by the points of two intervals.
+    pub fn between(self, a: Ends, b: Ends) -> Atom
+        ensures { result ≡ spec.atom_between a b self }
+    {
+        match self {
+            PairOrder::ABefore(p, q) => before(p.of(a), q.of(b)),
+            PairOrder::ANoLater(p, q) => no_later(p.of(a), q.of(b)),
+            PairOrder::BBefore(p, q) => before(p.of(b), q.of(a)),
+            PairOrder::BNoLater(p, q) => no_later(p.of(b), q.of(a)),
+        }
+    }
+
+    /// Whether the order is true of the starts and the ends of two intervals.
+    pub fn is_true(self, a: Ends, b: Ends) -> bool
+        ensures { IsTrue result ↔ spec.IsTrueOf a b self }
+    {
+        let Atom { from, to, strict } = self.between(a, b);
+        if strict { from < to } else { from <= to }
+    }
+}
+
+/// The orders that a relation between two intervals is, of one to four: the table of relations.
+pub fn orders_of(rel: Rel) -> &'static [PairOrder]
+    ensures orders { result.now ≡ spec.orders_of rel }
+{
+    use End::{Finish, Start};
+    use PairOrder::{ABefore, ANoLater, BBefore, BNoLater};
+    match rel {
+        Rel::Before => &[ABefore(Finish, Start)],
+        Rel::After => &[BBefore(Finish, Start)],
+        Rel::Includes => &[ABefore(Start, Start), BBefore(Finish, Finish)],
+        Rel::IsIncluded => &[BBefore(Start, Start), ABefore(Finish, Finish)],
+        Rel::During => &[BNoLater(Start, Start), ANoLater(Finish, Finish)],
+        Rel::DuringInv => &[ANoLater(Start, Start), BNoLater(Finish, Finish)],
+        Rel::Simultaneous | Rel::Identity => &[
+            ANoLater(Start, Start),
+            BNoLater(Start, Start),
+            ANoLater(Finish, Finish),
+            BNoLater(Finish, Finish),
+        ],
+        Rel::Ibefore => &[ANoLater(Finish, Start), BNoLater(Start, Finish)],
+        Rel::Iafter => &[BNoLater(Finish, Start), ANoLater(Start, Finish)],
+        Rel::Begins => &[
+            ANoLater(Start, Start),
+            BNoLater(Start, Start),
+            ABefore(Finish, Finish),
+        ],
+        Rel::BegunBy => &[
+            ANoLater(Start, Start),
+            BNoLater(Start, Start),
+            BBefore(Finish, Finish),
+        ],
+        Rel::Ends => &[
+            ANoLater(Finish, Finish),
+            BNoLater(Finish, Finish),
+            BBefore(Start, Start),
+        ],
+        Rel::EndedBy => &[
+            ANoLater(Finish, Finish),
+            BNoLater(Finish, Finish),
+            ABefore(Start, Start),
+        ],
+    }
+}
+
+/// Whether the relation holds of two intervals, by their starts and ends.
+#[tactic(auto, using(crate::proofs::AtomLaws::orders_say_the_relation))]
+pub fn holds(rel: Rel, a: Ends, b: Ends) -> bool
+    ensures { IsTrue result ↔ Holds rel a b }
+{
+    orders_of(rel).iter().all(|order| order.is_true(a, b))
 }
 
 /// The orders of points that a relation between two intervals is: one to four.
@@ -37,32 +143,8 @@ impl Atoms {
     pub fn atom(&self, k: u32) -> Option<Atom>
         ensures { result ≡ slice_get (spec.atoms_in self.now) k }
     {
-        let Atoms { rel, a, b } = *self;
-        match rel {
-            Rel::Before => nth(&[before(a.finish, b.start)], k),
-            Rel::After => nth(&[before(b.finish, a.start)], k),
-            Rel::Includes => nth(&[before(a.start, b.start), before(b.finish, a.finish)], k),
-            Rel::IsIncluded => nth(&[before(b.start, a.start), before(a.finish, b.finish)], k),
-            Rel::During => nth(
-                &[no_later(b.start, a.start), no_later(a.finish, b.finish)],
-                k,
-            ),
-            Rel::DuringInv => nth(
-                &[no_later(a.start, b.start), no_later(b.finish, a.finish)],
-                k,
-            ),
-            Rel::Simultaneous | Rel::Identity => {
-                let [first, second] = together(a.start, b.start);
-                let [third, fourth] = together(a.finish, b.finish);
-                nth(&[first, second, third, fourth], k)
-            }
-            Rel::Ibefore => nth(&together(a.finish, b.start), k),
-            Rel::Iafter => nth(&together(b.finish, a.start), k),
-            Rel::Begins => nth_of_three(a.start, b.start, before(a.finish, b.finish), k),
-            Rel::BegunBy => nth_of_three(a.start, b.start, before(b.finish, a.finish), k),
-            Rel::Ends => nth_of_three(a.finish, b.finish, before(b.start, a.start), k),
-            Rel::EndedBy => nth_of_three(a.finish, b.finish, before(a.start, b.start), k),
-        }
+        let order = orders_of(self.rel).get(k as usize)?;
+        Some(order.between(self.a, self.b))
     }
 }
 
@@ -108,26 +190,6 @@ fn no_later(from: u32, to: u32) -> Atom
         to,
         strict: false,
     }
-}
-
-/// Both points are at one place.
-fn together(p: u32, q: u32) -> [Atom; 2]
-    ensures { result ≡ spec.together p q }
-{
-    [no_later(p, q), no_later(q, p)]
-}
-
-fn nth(atoms: &[Atom], k: u32) -> Option<Atom>
-    ensures { result ≡ slice_get atoms.now k }
-{
-    atoms.get(k as usize).copied()
-}
-
-/// The order of this number, of those that both points are at one place, and of a last one.
-fn nth_of_three(p: u32, q: u32, last: Atom, k: u32) -> Option<Atom>
-    ensures { result ≡ slice_get (spec.together p q ++ last ∷ []) k }
-{
-    nth(&[no_later(p, q), no_later(q, p), last], k)
 }
 
 /// A law: a relation holds of two intervals of a timeline exactly where all its orders of points hold.

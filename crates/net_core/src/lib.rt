@@ -15,14 +15,14 @@ mod tests;
 mod timeline;
 mod walk;
 
-pub use atom::{Atom, Atoms, atoms_of, atoms_say_the_relation};
+pub use atom::{Atom, Atoms, End, PairOrder, atoms_of, atoms_say_the_relation, holds, orders_of};
 pub use bounds::Bounds;
 pub use limits::{
     MAX_DOCUMENT, MAX_EVIDENCE, MAX_INTERVALS, MAX_LINKS, MAX_POINTS, limits_are_exact,
 };
 pub use list::{List, Memory};
 pub use marks::{mark_link, mark_steps};
-pub use net::{Ends, Net, NetLink, holds};
+pub use net::{Ends, Net, NetLink};
 pub use ranks::Ranks;
 pub use rels::{Rel, rel_of, rels_are_apart};
 pub use step::{Step, step_atom, steps_say_what_fits};

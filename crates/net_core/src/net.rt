@@ -2,8 +2,7 @@
 ghost use Rattle.net_core.specs.Bounds as calendar;
 ghost use Rattle.net_core.specs.Limits.{max_intervals, max_links};
 ghost use Rattle.net_core.specs.Nets as nets;
-ghost use Rattle.net_core.specs.Relations.{Holds};
-ghost use Rattle.std.specs.Prelude.{◌≡◌, ◌<◌, ◌≤◌, ◌↔◌, IsTrue, length};
+ghost use Rattle.std.specs.Prelude.{◌≡◌, ◌<◌, ◌≤◌, length};
 
 use crate::{Bounds, List, Rel};
 use std::marker::Model;
@@ -99,27 +98,6 @@ impl Net {
         ensures { result ≡ nets.upper self.now point }
     {
         upper_of(self.bounds(point / 2), point % 2 == 1)
-    }
-}
-
-/// Whether the relation holds of two intervals, by their starts and ends.
-pub fn holds(rel: Rel, a: Ends, b: Ends) -> bool
-    ensures { IsTrue result ↔ Holds rel a b }
-{
-    match rel {
-        Rel::Before => a.finish < b.start,
-        Rel::After => b.finish < a.start,
-        Rel::Includes => a.start < b.start && b.finish < a.finish,
-        Rel::IsIncluded => b.start < a.start && a.finish < b.finish,
-        Rel::During => b.start <= a.start && a.finish <= b.finish,
-        Rel::DuringInv => a.start <= b.start && b.finish <= a.finish,
-        Rel::Simultaneous | Rel::Identity => a.start == b.start && a.finish == b.finish,
-        Rel::Ibefore => a.finish == b.start,
-        Rel::Iafter => b.finish == a.start,
-        Rel::Begins => a.start == b.start && a.finish < b.finish,
-        Rel::BegunBy => b.start == a.start && b.finish < a.finish,
-        Rel::Ends => a.finish == b.finish && b.start < a.start,
-        Rel::EndedBy => b.finish == a.finish && a.start < b.start,
     }
 }
 

@@ -5,6 +5,7 @@ ghost use Rattle.net_core.specs.Rels as names;
 ghost use Rattle.std.proofs.Common.{rules};
 ghost use Rattle.std.specs.Prelude.{IfSome, IsNone, ◌≡◌, ◌≤◌, ◌↔◌};
 
+use crate::orders_of;
 use named::{Named, named_by};
 
 /// How an interval of time `a` is related to an interval `b`: the values of `relType` of TLINK in TimeML 1.2.1. What
@@ -65,21 +66,12 @@ impl Rel {
     }
 
     /// How many orders of starts and ends the relation is.
+    #[tactic(auto, using(crate::proofs::AtomLaws::few_orders))]
     pub fn atom_count(self) -> u32
         ensures count { result ≡ atom_count self }
         ensures few { result ≤ 4 }
     {
-        match self {
-            Rel::Before | Rel::After => 1,
-            Rel::Includes
-            | Rel::IsIncluded
-            | Rel::During
-            | Rel::DuringInv
-            | Rel::Ibefore
-            | Rel::Iafter => 2,
-            Rel::Begins | Rel::BegunBy | Rel::Ends | Rel::EndedBy => 3,
-            Rel::Simultaneous | Rel::Identity => 4,
-        }
+        orders_of(self).len() as u32
     }
 }
 
@@ -114,7 +106,7 @@ impl Named for Rel {
     }
 }
 
-/// The relation that has this text, byte for byte. None comes exactly where none of the fourteen has it.
+/// The relation that has this text, byte for byte. None comes exactly where no relation has it.
 pub fn rel_of(text: &[u8]) -> Option<Rel>
     ensures exact { result ≡ named_of names.rel_text names.all_rels text.now }
     ensures some { IfSome result (λ rel. names.rel_text rel ≡ text.now) }

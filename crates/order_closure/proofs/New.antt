@@ -8,7 +8,7 @@ use Rattle.std.proofs.lemmas.Bool.{cases_lt, cases_eq}
 use Rattle.std.proofs.lemmas.Bool.Decides.{nat_tests}
 use Rattle.order_closure.specs.declared.cell.Cell.TheVariants.{Free, Weak}
 use Rattle.order_closure.specs.Planes.{AreClosedPlanes, cell_if, plane_bit, plane_cell}
-use Rattle.order_closure.specs.Tables.{new_cell}
+use Rattle.order_closure.specs.Tables.{max_table_points, new_cell}
 use Rattle.order_closure.proofs.Bits.{word_below}
 use Rattle.order_closure.proofs.Tables.{new_other, same_closed}
 use Rattle.order_closure.proofs.Adding.{new_closed}
@@ -78,7 +78,7 @@ module _ (n w : ℕ) (weak strict : List ℕ) (reflexive : (i j : ℕ) → i < n
   new_cells wide i j li lj = (λ k. cell_if (reflexive i j li (omega arith) k == 1) (no_strict i j k == 1)) ∙ cell_of_new (i == j)
 
   -- its planes
-  pub new_planes : (reached : List ℕ) → n ≤ 2048 → w ≡ (n + 63) / 64 → length weak ≡ n * w → length strict ≡ n * w → AreClosedPlanes n w weak strict reached
+  pub new_planes : (reached : List ℕ) → n ≤ max_table_points → w ≡ (n + 63) / 64 → length weak ≡ n * w → length strict ≡ n * w → AreClosedPlanes n w weak strict reached
   unfolding AreClosedPlanes
   new_planes reached small wide weak_long strict_long = record {
     planes = record {

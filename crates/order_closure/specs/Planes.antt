@@ -2,9 +2,13 @@
 use Rattle.std.specs.Prelude.{◌≡◌, ◌≢◌, ℕ, ◌+◌, ◌*◌, ◌/◌, ◌%◌, ◌<◌, ◌≤◌, ◌==◌, Bool, true, false, List, length, max, slice_index}
 use Rattle.std.specs.Int.{bit_at}
 use Rattle.order_closure.specs.Bits.{bit_of}
-use Rattle.order_closure.specs.Tables.{AreClosed}
+use Rattle.order_closure.specs.Tables.{AreClosed, max_table_points}
 use Rattle.order_closure.specs.declared.cell.Cell.{Cell}
 use Rattle.order_closure.specs.declared.cell.Cell.TheVariants.{Free, Weak, Strict}
+
+-- the most words of a row
+abbrev pub most_words : ℕ
+most_words = max_table_points / 64
 
 -- bit j of row i of a plane whose rows have w words
 abbrev pub plane_bit : ℕ → List ℕ → ℕ → ℕ → ℕ
@@ -22,7 +26,7 @@ plane_cell w weak strict i j = cell_if (plane_bit w weak i j == 1) (plane_bit w 
 
 -- two planes of n rows of w words: a strict bit is a weak bit too, and every bit from n on is 0
 pub record ArePlanes (n w : ℕ) (weak strict : List ℕ) : Type 0 where
-  pub small : n ≤ 2048
+  pub small : n ≤ max_table_points
   pub width : w ≡ (n + 63) / 64
   pub weak_long : length weak ≡ n * w
   pub strict_long : length strict ≡ n * w

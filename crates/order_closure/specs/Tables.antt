@@ -8,6 +8,10 @@ use Rattle.order_closure.specs.Cells.{Says, joined, order, strength}
 use Rattle.order_closure.specs.declared.cell.Cell.{Cell}
 use Rattle.order_closure.specs.declared.cell.Cell.TheVariants.{Free, Weak, Strict}
 
+-- the most points of a table
+abbrev pub max_table_points : ℕ
+max_table_points = 2048
+
 -- a number of points, and the rows of cells: the cell j of row i says how point i is before point j
 pub record Table : Type 0 where
   pub points : ℕ

@@ -11,4 +11,5 @@ mod tests;
 
 pub use cell::Cell;
 pub use laws::{closed_tables_have_timelines, weaker_cells_can_fail};
+pub use planes::MAX_TABLE_POINTS;
 pub use table::{Closed, WouldClash};

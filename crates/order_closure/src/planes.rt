@@ -1,13 +1,17 @@
 //! A plane of bits: rows of as many words of 64 bits each, one after another.
-ghost use Rattle.order_closure.specs.Planes.{BeginWithRow, plane_bit, plane_cell};
+ghost use Rattle.order_closure.specs.Planes.{BeginWithRow, most_words, plane_bit, plane_cell};
+ghost use Rattle.order_closure.specs.Tables.{max_table_points};
 ghost use Rattle.std.specs.Prelude.{IfOk, if◌then◌else◌, length, slice_index, vec_len, ℕ, ◌*◌, ◌+◌, ◌/◌, ◌<◌, ◌==◌, ◌≡◌, ◌≤◌};
 
 use crate::Cell;
 use net_core::Memory;
 use std::alloc::Global;
 
-/// How many words the longest row has: a table has at most 2,048 points.
-pub const MOST_WORDS: usize = 32;
+/// The most points of a table.
+pub const MAX_TABLE_POINTS: u32 = 2048;
+
+/// The most words of a row.
+pub const MOST_WORDS: usize = MAX_TABLE_POINTS as usize / 64;
 
 /// A plane of so many words, in which no bit is set.
 ///
@@ -26,7 +30,7 @@ pub fn clear(alloc: Global, words: usize) -> Result<Vec<u64>, Memory>
 
 /// Puts each point with itself.
 pub fn reflect(plane: &mut [u64], size: usize, width: usize)
-    requires small { size ≤ 2048 }
+    requires small { size ≤ max_table_points }
     requires words { width ≡ (size + 63) / 64 }
     requires long { length plane.old ≡ size * width }
     requires clear { (k : ℕ) → slice_index plane.old k ≡ 0 }
@@ -39,8 +43,8 @@ pub fn reflect(plane: &mut [u64], size: usize, width: usize)
 
 /// The words of row `i`.
 pub fn row(plane: &[u64], width: usize, i: usize) -> &[u64]
-    requires words { width ≤ 32 }
-    requires i { i ≤ 2048 }
+    requires words { width ≤ most_words }
+    requires i { i ≤ max_table_points }
     requires within { i * width + width ≤ length plane.now }
     ensures length { length result.now ≡ width }
     ensures words { BeginWithRow width i plane.now result.now }
@@ -51,8 +55,8 @@ pub fn row(plane: &[u64], width: usize, i: usize) -> &[u64]
 /// The words of row `i`, and words in which no bit is set. They stand apart from the plane, so that the compiler knows that
 /// no write to the plane changes them.
 pub fn copied_row(plane: &[u64], width: usize, i: usize) -> [u64; MOST_WORDS]
-    requires words { width ≤ 32 }
-    requires i { i ≤ 2048 }
+    requires words { width ≤ most_words }
+    requires i { i ≤ max_table_points }
     requires within { i * width + width ≤ length plane.now }
     ensures { BeginWithRow width i plane.now result }
 {
@@ -63,8 +67,8 @@ pub fn copied_row(plane: &[u64], width: usize, i: usize) -> [u64; MOST_WORDS]
 
 /// Whether bit `j` of row `i` is set.
 pub fn has_bit(plane: &[u64], width: usize, i: usize, j: usize) -> bool
-    requires words { width ≤ 32 }
-    requires i { i ≤ 2048 }
+    requires words { width ≤ most_words }
+    requires i { i ≤ max_table_points }
     requires within { i * width + j / 64 < length plane.now }
     ensures { result ≡ (plane_bit width plane.now i j == 1) }
 {
@@ -73,8 +77,8 @@ pub fn has_bit(plane: &[u64], width: usize, i: usize, j: usize) -> bool
 
 /// What two planes say of point `i` and point `j`.
 pub fn cell_at(weak: &[u64], strict: &[u64], width: usize, i: usize, j: usize) -> Cell
-    requires words { width ≤ 32 }
-    requires i { i ≤ 2048 }
+    requires words { width ≤ most_words }
+    requires i { i ≤ max_table_points }
     requires weak { i * width + j / 64 < length weak.now }
     requires strict { i * width + j / 64 < length strict.now }
     ensures { result ≡ plane_cell width weak.now strict.now i j }

@@ -1,7 +1,7 @@
 //! The rows of a table, joined with one of them.
 ghost use Rattle.order_closure.specs.Cells.{joined, order, strength, stronger};
-ghost use Rattle.order_closure.specs.Planes.{ArePlanes, IsRowJoined, MarksReached, plane_bit, plane_cell};
-ghost use Rattle.order_closure.specs.Tables.{AreClosed, way};
+ghost use Rattle.order_closure.specs.Planes.{ArePlanes, IsRowJoined, MarksReached, most_words, plane_bit, plane_cell};
+ghost use Rattle.order_closure.specs.Tables.{AreClosed, max_table_points, way};
 ghost use Rattle.std.specs.Prelude.{IsTrue, bit_or, length, slice_index, ℕ, ◌*◌, ◌+◌, ◌/◌, ◌<◌, ◌↔◌, ◌≡◌, ◌≢◌, ◌≤◌};
 
 use crate::Cell;
@@ -47,7 +47,7 @@ pub fn raise(
 
 /// The rows among which are those of all points before or with point `from`: its own alone where no other point reaches it.
 fn rows_before(reached: &[u64], size: usize, width: usize, from: usize) -> Range<usize>
-    requires words { width ≤ 32 }
+    requires words { width ≤ most_words }
     requires within { from / 64 < length reached.now }
     requires from { from < size }
     ensures from { (result.start ≤ from) × (from < result.end) }
@@ -65,8 +65,8 @@ fn rows_before(reached: &[u64], size: usize, width: usize, from: usize) -> Range
 /// Whether the way from point `i` over an atom to `atom.to` says more than their cell does. Of a point that is not before
 /// `atom.from` one bit is read.
 fn is_raised(weak: &[u64], strict: &[u64], width: usize, i: usize, atom: Atom) -> bool
-    requires words { width ≤ 32 }
-    requires i { i ≤ 2048 }
+    requires words { width ≤ most_words }
+    requires i { i ≤ max_table_points }
     requires weak_from { i * width + atom.from / 64 < length weak.now }
     requires weak_to { i * width + atom.to / 64 < length weak.now }
     requires strict_from { i * width + atom.from / 64 < length strict.now }
@@ -99,8 +99,8 @@ fn raise_row(
     over_strict: &[u64],
     way: Cell,
 )
-    requires words { width ≤ 32 }
-    requires i { i ≤ 2048 }
+    requires words { width ≤ most_words }
+    requires i { i ≤ max_table_points }
     requires weak { i * width + width ≤ length weak.old }
     requires strict { i * width + width ≤ length strict.old }
     requires over_weak { width ≤ length over_weak.now }
@@ -119,8 +119,8 @@ fn raise_row(
 
 /// Joins row `i` of a plane with other words.
 pub fn join_row(plane: &mut [u64], width: usize, i: usize, over: &[u64])
-    requires words { width ≤ 32 }
-    requires i { i ≤ 2048 }
+    requires words { width ≤ most_words }
+    requires i { i ≤ max_table_points }
     requires within { i * width + width ≤ length plane.old }
     requires over { width ≤ length over.now }
     ensures { IsRowJoined width i over.now plane.old plane.new }

@@ -3,7 +3,7 @@ ghost use Rattle.net_core.specs.Atoms.{Satisfies};
 ghost use Rattle.net_core.specs.Relations.{Timeline};
 ghost use Rattle.order_closure.specs.Bits.{AreBitsOf};
 ghost use Rattle.order_closure.specs.Cells.{stronger};
-ghost use Rattle.order_closure.specs.Tables.{AreInRange, Denies, IsClosed, Keeps, Stands, cell_at, new_cell, table_of, way};
+ghost use Rattle.order_closure.specs.Tables.{AreInRange, Denies, IsClosed, Keeps, Stands, cell_at, max_table_points, new_cell, table_of, way};
 ghost use Rattle.std.specs.Prelude.{IfOk, IsErr, List, OnErr, OnOk, [], ◌++◌, ◌<◌, ◌∷◌, ◌↔◌, ◌≡◌, ◌≢◌, ◌≤◌};
 
 use crate::Cell;
@@ -50,7 +50,7 @@ impl Closed {
     ///
     /// Out of memory.
     pub fn new(alloc: Global, points: u32) -> Result<Closed, Memory>
-        requires { points ≤ 2048 }
+        requires { points ≤ max_table_points }
         ensures ok { IfOk result (λ table. table ≡ table_of points new_cell) }
         ensures kept { IfOk result (λ table. (t : Timeline) → Keeps table t) }
         ensures stands { IfOk result (λ table. Stands table []) }
@@ -69,10 +69,10 @@ impl Closed {
         })
     }
 
-    /// How many points there are, at most 2,048.
+    /// How many points there are, at most `MAX_TABLE_POINTS`.
     pub fn points(&self) -> u32
         ensures points { result ≡ self.now.points }
-        ensures few { self.now.points ≤ 2048 }
+        ensures few { self.now.points ≤ max_table_points }
         ensures closed { IsClosed self.now }
     {
         self.size as u32

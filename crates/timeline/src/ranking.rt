@@ -2,7 +2,7 @@
 ghost use Rattle.net_core.specs.Least.{IsLeast};
 ghost use Rattle.net_core.specs.Ranks.{timeline_of};
 ghost use Rattle.order_closure.specs.Bits.{bit_of};
-ghost use Rattle.order_closure.specs.Tables.{IsClosed, Keeps, cell_at};
+ghost use Rattle.order_closure.specs.Tables.{IsClosed, Keeps, cell_at, max_table_points};
 ghost use Rattle.std.specs.Int.{bit_at};
 ghost use Rattle.std.specs.Prelude.{IfOk, length, slice_index, ℕ, ◌*◌, ◌+◌, ◌/◌, ◌<◌, ◌≡◌, ◌≤◌};
 ghost use Rattle.timeline.specs.Ranking.{AreCounted, AreInTurn, AreRanks, after_count, raised};
@@ -65,7 +65,7 @@ fn count_all(alloc: Global, closed: &Closed) -> Result<Vec<Counted>, Memory>
 
 /// How many points are after a point.
 fn count_after(closed: &Closed, point: u32) -> u32
-    requires few { closed.now.points ≤ 2048 }
+    requires few { closed.now.points ≤ max_table_points }
     requires point { point < closed.now.points }
     ensures { result ≡ after_count closed.now.points (cell_at closed.now) point }
 {
@@ -79,7 +79,7 @@ fn count_after(closed: &Closed, point: u32) -> u32
 
 /// Ranks the points: each in its turn raises the ranks of the points after it above its own, which no later turn changes.
 fn rank_all(closed: &Closed, turns: &[Counted], ranks: &mut [u32])
-    requires few { closed.now.points ≤ 2048 }
+    requires few { closed.now.points ≤ max_table_points }
     requires closed { IsClosed closed.now }
     requires counted { AreCounted closed.now.points (cell_at closed.now) turns.now }
     requires sorted { AreInTurn turns.now }
