@@ -11,7 +11,7 @@ use Rattle.net_core.specs.declared.atom.PairOrder.{PairOrder}
 use Rattle.net_core.specs.declared.rels.Rel.{Rel}
 use Rattle.net_core.proofs.AtomLaws.{all_mapped}
 use Rattle.order_closure.specs.Tables.{Table}
-use Rattle.derive_rel.specs.Entailed.{Entails, Gives}
+use Rattle.derive_rel.specs.Entailed.{TableEntails, Gives}
 use Rattle.derive_rel.specs.Pairs.{AreGiven, bit_number, mask_of}
 
 -- what is true of each element where another thing is
@@ -56,7 +56,7 @@ module _ (set : ℕ) where
   )
 
 -- the bits of a relation are among those that are given exactly where the table entails it
-pub mask_entails : (table : Table) (a b set : ℕ) (r : Rel) → AreGiven table a b set → ((bit_and set (mask_of (orders_of r)) == mask_of (orders_of r)) ≡ true) ↔ Entails table a r b
+pub mask_entails : (table : Table) (a b set : ℕ) (r : Rel) → AreGiven table a b set → ((bit_and set (mask_of (orders_of r)) == mask_of (orders_of r)) ≡ true) ↔ TableEntails table a r b
 mask_entails table a b set r given =
     let orders = orders_of r in
     let mask = mask_of orders in

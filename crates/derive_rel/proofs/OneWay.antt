@@ -20,7 +20,7 @@ use Rattle.order_closure.specs.Cells.{order, strength}
 use Rattle.order_closure.specs.Tables.{Table, cell_at}
 use Rattle.order_closure.specs.declared.cell.Cell.{Cell}
 use Rattle.order_closure.specs.declared.cell.Cell.TheVariants.{Free, Weak, Strict}
-use Rattle.derive_rel.specs.Entailed.{Entails, Gives, IsRow}
+use Rattle.derive_rel.specs.Entailed.{TableEntails, Gives, IsRow}
 use Rattle.derive_rel.specs.Pairs.{gives, says_some}
 use Rattle.derive_rel.specs.Pushing.{ArePutLast, IsOf}
 use Rattle.derive_rel.specs.declared.all_rows.Row.{Row}
@@ -66,14 +66,14 @@ not_given Strict strict e h = absurd (cc)
 
 module _ (table : Table) (a b : ℕ) where
   -- BEFORE is entailed where the end of the first is before the start of the second
-  pub before_given : (strength (order true) ≤ strength (cell_at table (2 * a + 1) (2 * b))) ↔ Entails table a rel.Before b
+  pub before_given : (strength (order true) ≤ strength (cell_at table (2 * a + 1) (2 * b))) ↔ TableEntails table a rel.Before b
   before_given = (
     λ given. All-from_recursion (Gives table) (atoms_of rel.Before a b) (given, tt),
     λ entails. (recursion_from_All (Gives table) (atoms_of rel.Before a b) entails).0,
   )
 
   -- and AFTER where the end of the second is before the start of the first
-  pub after_given : (strength (order true) ≤ strength (cell_at table (2 * b + 1) (2 * a))) ↔ Entails table a rel.After b
+  pub after_given : (strength (order true) ≤ strength (cell_at table (2 * b + 1) (2 * a))) ↔ TableEntails table a rel.After b
   after_given = (
     λ given. All-from_recursion (Gives table) (atoms_of rel.After a b) (given, tt),
     λ entails. (recursion_from_All (Gives table) (atoms_of rel.After a b) entails).0,
@@ -83,7 +83,7 @@ module _ (table : Table) (a b : ℕ) where
   abbrev GivesOrder : PairOrder → Type 0
   GivesOrder o = Gives table (atom_between (points_of a) (points_of b) o)
 
-  orders_given : (r : Rel) → Entails table a r b → AllByRecursion GivesOrder (orders_of r)
+  orders_given : (r : Rel) → TableEntails table a r b → AllByRecursion GivesOrder (orders_of r)
   orders_given r entails = (all_mapped (Gives table) (atom_between (points_of a) (points_of b)) (orders_of r)).1 (recursion_from_All (Gives table) (atoms_of r a b) entails)
 
   -- where some cells are free no order of theirs is given
@@ -101,7 +101,7 @@ module _ (table : Table) (a b : ℕ) where
       by_cells cells Finish Finish h = not_given (cell_at table (2 * x + 1) (2 * y + 1)) strict cells.3 h
 
   -- where no order is given back, only BEFORE is entailed
-  pub only_before : says_some (cell_at table) b a ≡ false → (r : Rel) → Entails table a r b → r ≡ rel.Before
+  pub only_before : says_some (cell_at table) b a ≡ false → (r : Rel) → TableEntails table a r b → r ≡ rel.Before
   only_before free r entails = same_relation r rel.Before (sym (forth_test r) ∙ all_pass GivesOrder is_forth (orders_of r) forth (orders_given r entails))
     where
       forth : (o : PairOrder) → GivesOrder o → is_forth o ≡ true
@@ -111,7 +111,7 @@ module _ (table : Table) (a b : ℕ) where
       forth (BNoLater p q) h = absurd (free_cells b a free p q false h)
 
   -- where none is given forth, only AFTER is
-  pub only_after : says_some (cell_at table) a b ≡ false → (r : Rel) → Entails table a r b → r ≡ rel.After
+  pub only_after : says_some (cell_at table) a b ≡ false → (r : Rel) → TableEntails table a r b → r ≡ rel.After
   only_after free r entails = same_relation r rel.After (sym (back_test r) ∙ all_pass GivesOrder (λ o. not (is_forth o)) (orders_of r) back (orders_given r entails))
     where
       back : (o : PairOrder) → GivesOrder o → not (is_forth o) ≡ true
@@ -120,26 +120,26 @@ module _ (table : Table) (a b : ℕ) where
       back (BBefore p q) h = refl
       back (BNoLater p q) h = refl
 
-  module _ (alone : Rel) (only : (r : Rel) → Entails table a r b → r ≡ alone) (rows : List Row) where
+  module _ (alone : Rel) (only : (r : Rel) → TableEntails table a r b → r ≡ alone) (rows : List Row) where
     -- the row of the one relation that can hold
     abbrev row : Row
     row = record { a = a; rel = alone; b = b }
 
     -- it is put last where it holds
-    pub one_alone : a < b → 2 * b + 1 < table.points → Entails table a alone b → ArePutLast (IsRow table) (IsOf a b) rows (rows ++ row ∷ [])
+    pub one_alone : a < b → 2 * b + 1 < table.points → TableEntails table a alone b → ArePutLast (IsRow table) (IsOf a b) rows (rows ++ row ∷ [])
     one_alone less within entails =
         same_put (IsRow table) (λ (other : Row). other ≡ row) (IsOf a b) rows (rows ++ row ∷ [])
         (λ other is. (λ same. (ap (λ (x : Row). x.a) same, ap (λ (x : Row). x.b) same), λ of. λ i. record { a = of.0 i; rel = rel_is other is of i; b = of.1 i }))
         (one_put (IsRow table) rows row (less, within, entails))
       where
         rel_is : (other : Row) → IsRow table other → IsOf a b other → other.rel ≡ alone
-        rel_is other is of = only other.rel (subst (λ (n : ℕ). Entails table n other.rel b) of.0 (subst (λ (n : ℕ). Entails table other.a other.rel n) of.1 is.2))
+        rel_is other is of = only other.rel (subst (λ (n : ℕ). TableEntails table n other.rel b) of.0 (subst (λ (n : ℕ). TableEntails table other.a other.rel n) of.1 is.2))
 
     -- and nothing where it does not
-    pub none_alone : (Entails table a alone b → ⊥) → ArePutLast (IsRow table) (IsOf a b) rows rows
+    pub none_alone : (TableEntails table a alone b → ⊥) → ArePutLast (IsRow table) (IsOf a b) rows rows
     none_alone not = none_put (IsRow table) (IsOf a b) rows never
       where
         never : (other : Row) → IsRow table other → IsOf a b other → ⊥
         never other is of =
-            let entails = subst (λ (n : ℕ). Entails table n other.rel b) of.0 (subst (λ (n : ℕ). Entails table other.a other.rel n) of.1 is.2) in
-            not (subst (λ (r : Rel). Entails table a r b) (only other.rel entails) entails)
+            let entails = subst (λ (n : ℕ). TableEntails table n other.rel b) of.0 (subst (λ (n : ℕ). TableEntails table other.a other.rel n) of.1 is.2) in
+            not (subst (λ (r : Rel). TableEntails table a r b) (only other.rel entails) entails)

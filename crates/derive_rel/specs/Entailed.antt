@@ -15,12 +15,12 @@ abbrev pub Gives : Table → Atom → Type 0
 Gives table atom = strength (order atom.strict) ≤ strength (cell_at table atom.from atom.to)
 
 -- the table gives all orders that a relation is between two intervals
-abbrev pub Entails : Table → ℕ → Rel → ℕ → Type 0
-Entails table a r b = All (Gives table) (atoms_of r a b)
+abbrev pub TableEntails : Table → ℕ → Rel → ℕ → Type 0
+TableEntails table a r b = All (Gives table) (atoms_of r a b)
 
 -- a row has an interval, a relation and an interval after it, between which the table entails the relation
 abbrev pub IsRow : Table → Row → Type 0
-IsRow table row = (row.a < row.b) × (2 * row.b + 1 < table.points) × Entails table row.a row.rel row.b
+IsRow table row = (row.a < row.b) × (2 * row.b + 1 < table.points) × TableEntails table row.a row.rel row.b
 
 -- a relation stands before another one in the table of relations
 abbrev pub StandsBefore : Rel → Rel → Type 0

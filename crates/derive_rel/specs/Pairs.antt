@@ -1,5 +1,5 @@
 -- Orders between two intervals: those of a table, and those of a relation, as bits.
-use Rattle.std.specs.Prelude.{◌≡◌, ◌↔◌, ℕ, ◌+◌, ◌*◌, ◌^◌, ◌||◌, Bool, true, false, List, [], ◌∷◌, bit_or}
+use Rattle.std.specs.Prelude.{◌≡◌, ◌↔◌, ℕ, ◌+◌, ◌*◌, ◌^◌, ◌||◌, ◌==◌, Bool, true, false, List, [], ◌∷◌, bit_and, bit_or}
 use Rattle.std.specs.Int.{bit_at}
 use Rattle.net_core.specs.Atoms.{atom_between, orders_of, points_of}
 use Rattle.net_core.specs.declared.atom.End.{End}
@@ -12,6 +12,7 @@ use Rattle.order_closure.specs.declared.cell.Cell.{Cell}
 use Rattle.order_closure.specs.declared.cell.Cell.TheVariants.{Free, Weak, Strict}
 use Rattle.derive_rel.specs.Entailed.{Gives}
 use Rattle.derive_rel.specs.declared.pairs.Mask.{Mask}
+use Rattle.derive_rel.specs.declared.pairs.RelSet.{RelSet}
 
 -- the number of a point of an interval
 abbrev pub end_number : End → ℕ
@@ -37,6 +38,10 @@ mask_for r = record { rel = r; bits = mask_of (orders_of r) }
 -- the bits of the orders that a table gives between intervals a and b
 abbrev pub AreGiven : Table → ℕ → ℕ → ℕ → Type 0
 AreGiven table a b set = (order : PairOrder) → (bit_at set (bit_number order) ≡ 1) ↔ Gives table (atom_between (points_of a) (points_of b) order)
+
+-- whether a relation is in a set: its orders are among those that are given
+abbrev pub has : RelSet → Rel → Bool
+has set r = bit_and set.given (mask_of (orders_of r)) == mask_of (orders_of r)
 
 -- whether a cell gives an order of its points
 abbrev pub gives : Cell → Bool → Bool

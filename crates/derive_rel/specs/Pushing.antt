@@ -3,7 +3,7 @@ use Rattle.std.specs.Prelude.{◌≡◌, ◌↔◌, ◌≤◌, ℕ, List, ◌++�
 use Rattle.net_core.specs.declared.rels.Rel.{Rel}
 use Rattle.order_closure.specs.Cells.{order, strength}
 use Rattle.order_closure.specs.Tables.{Table, cell_at}
-use Rattle.derive_rel.specs.Entailed.{AreAll, Entails}
+use Rattle.derive_rel.specs.Entailed.{AreAll, TableEntails}
 use Rattle.derive_rel.specs.declared.all_rows.Row.{Row}
 
 -- the rows of a kind that meet a condition
@@ -24,8 +24,8 @@ IsOf a b row = (row.a ≡ a) × (row.b ≡ b)
 
 -- no relation but that of a row can hold between its intervals
 abbrev pub IsAlone : Table → Row → Type 0
-IsAlone table row = (r : Rel) → Entails table row.a r row.b → r ≡ row.rel
+IsAlone table row = (r : Rel) → TableEntails table row.a r row.b → r ≡ row.rel
 
 -- the relation of a row is that one point is before another
 abbrev pub IsOrder : Table → Row → ℕ → ℕ → Type 0
-IsOrder table row from to = (strength (order true) ≤ strength (cell_at table from to)) ↔ Entails table row.a row.rel row.b
+IsOrder table row from to = (strength (order true) ≤ strength (cell_at table from to)) ↔ TableEntails table row.a row.rel row.b

@@ -8,3 +8,4 @@ mod ways;
 
 pub use all_rows::{Row, rows};
 pub use laws::{every_condition_has_rows, one_row_list};
+pub use pairs::{RelSet, entailed};

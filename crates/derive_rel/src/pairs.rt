@@ -1,14 +1,16 @@
 //! The orders that a table gives between two intervals, and those that each relation is, as bits.
+ghost use Rattle.derive_rel.specs.Entailed.{TableEntails};
 ghost use Rattle.derive_rel.specs.Pairs as spec;
 ghost use Rattle.derive_rel.specs.Pairs.{AreGiven, end_number, mask_for};
 ghost use Rattle.net_core.specs.Atoms.{point_in, points_of};
 ghost use Rattle.net_core.specs.Rels.{all_rels};
 ghost use Rattle.net_core.specs.declared.atom.End.{End as EndOf};
+ghost use Rattle.net_core.specs.declared.rels.Rel.{Rel as RelOf};
 ghost use Rattle.order_closure.specs.Bits.{bit_of};
 ghost use Rattle.order_closure.specs.Tables.{cell_at};
 ghost use Rattle.order_closure.specs.declared.cell.Cell.TheVariants as cells;
 ghost use Rattle.std.specs.Int.{bit_at};
-ghost use Rattle.std.specs.Prelude.{IfOk, bit_and, length, map, ◌*◌, ◌+◌, ◌/◌, ◌<◌, ◌==◌, ◌^◌, ◌≡◌, ◌≢◌, ◌↔◌};
+ghost use Rattle.std.specs.Prelude.{IfOk, bit_and, length, map, true, ◌*◌, ◌+◌, ◌/◌, ◌<◌, ◌==◌, ◌^◌, ◌≡◌, ◌≢◌, ◌↔◌};
 
 use named::Named;
 use net_core::{End, Memory, PairOrder, Rel, orders_of};
@@ -31,6 +33,41 @@ impl Mask {
     }
 }
 
+/// A relation, with the bits of its orders.
+fn mask(rel: Rel) -> Mask
+    ensures { result ≡ mask_for rel }
+{
+    let bits = mask_of(orders_of(rel));
+    Mask { rel, bits }
+}
+
+/// The relations of TLINK that hold between two intervals in all timelines that keep a table.
+#[derive(Clone, Copy)]
+pub struct RelSet {
+    /// The orders that the table gives between the intervals, as bits.
+    given: u32,
+}
+
+impl RelSet {
+    /// Whether the relation is one of them.
+    pub fn has(&self, rel: Rel) -> bool
+        ensures { result ≡ spec.has self.now rel }
+    {
+        mask(rel).is_in(self.given)
+    }
+}
+
+/// The relations that hold between two intervals in all timelines that keep a table: those all of whose orders its cells
+/// give.
+pub fn entailed(closed: &Closed, a: u32, b: u32) -> RelSet
+    requires a { 2 * a + 1 < closed.now.points }
+    requires b { 2 * b + 1 < closed.now.points }
+    ensures { (r : RelOf) → (spec.has result r ≡ true) ↔ TableEntails closed.now a r b }
+{
+    let given = given(closed, a, b);
+    RelSet { given }
+}
+
 /// All relations with the bits of their orders, in the order of the table of relations.
 ///
 /// # Errors
@@ -41,8 +78,7 @@ pub fn masks(alloc: Global) -> Result<Vec<Mask>, Memory>
 {
     let mut masks = Vec::new(alloc);
     for rel in Rel::all() {
-        let bits = mask_of(orders_of(*rel));
-        if masks.push(Mask { rel: *rel, bits }).is_err() {
+        if masks.push(mask(*rel)).is_err() {
             return Err(Memory);
         }
     }

@@ -1,7 +1,7 @@
 -- The command `verify`: what evidence of a document shows.
 use Rattle.std.specs.Prelude.{◌≡◌, ◌⊎◌, ℕ, List}
 use Rattle.answers.specs.Judged.{Judgements, judged_rows}
-use Rattle.evidence_check.specs.Claims.{IsTrue}
+use Rattle.evidence_check.specs.Claims.{ShowsTruth}
 use Rattle.evidence_check.specs.Refusals.{IsRefused}
 use Rattle.evidence_check.specs.Supported.{IsSupported}
 use Rattle.evidence_check.specs.declared.refusal.Refused.{Refused}
@@ -23,7 +23,7 @@ evidence_file name = record { name = name; word = EVIDENCE_WORD.now; limit = max
 
 -- the bytes are the text of evidence that the net supports, what it shows is true, and the text says what that is
 abbrev pub ReportsClaim : PlainDocument → PlainNet → List ℕ → List ℕ → Type 0
-ReportsClaim contents net evidence text = (e : PlainEvidence) × IsText e evidence × IsSupported net e × IsTrue net e × (text ≡ claim_line contents e)
+ReportsClaim contents net evidence text = (e : PlainEvidence) × IsText e evidence × IsSupported net e × ShowsTruth net e × (text ≡ claim_line contents e)
 
 -- the bytes are the text of no evidence, and the text reports the bad line
 abbrev pub ReportsLine : List ℕ → List ℕ → Type 0

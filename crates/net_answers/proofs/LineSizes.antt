@@ -5,7 +5,7 @@ use Rattle.std.proofs.lemmas.Bool.{ltb-true}
 use Rattle.std.proofs.lemmas.Fmt.{length-decimal-le}
 use Rattle.std.proofs.lemmas.List.{length-append}
 use Rattle.std.proofs.lemmas.Option.{option_and_then_some, slice_get_within}
-use Rattle.net_core.specs.Atoms.{atoms_of, before}
+use Rattle.net_core.specs.Atoms.{atoms_of, before, points_of}
 use Rattle.net_core.specs.Bounds.{lower_of, upper_of}
 use Rattle.net_core.specs.Limits.{max_points}
 use Rattle.net_core.specs.Nets.{IsNet, PlainNet, intervals, lower, upper}
@@ -14,9 +14,10 @@ use Rattle.net_core.specs.Steps.{atom_of}
 use Rattle.net_core.specs.declared.atom.Atom.{Atom}
 use Rattle.net_core.specs.declared.net.NetLink.{NetLink}
 use Rattle.net_core.specs.declared.rels.Rel.{Rel}
-use Rattle.net_core.specs.declared.rels.Rel.TheVariants as rel
 use Rattle.net_core.specs.declared.step.Step.{Step}
 use Rattle.net_core.specs.declared.step.Step.TheVariants.{Link, Span, Calendar}
+use Rattle.net_core.proofs.AtomLaws.{atoms_counted, few_orders as few_orders_of}
+use Rattle.net_core.proofs.RelLaws.{text_short}
 use Rattle.net_core.proofs.StepLaws.{number_within, ordered, tested}
 use Rattle.evidence_format.specs.Evidence.{at_line, one_number, relation_line, step_line, two_numbers}
 use Rattle.evidence_format.specs.Lines.{Lines}
@@ -58,23 +59,6 @@ two_size keyword m n lm ln =
     let spaced : length (first ++ codes " ") ≡ length first + 1 = length-append first (codes " ") in
     omega (arith, decimal_size m lm, all, spaced, length-append keyword (decimal m))
 
--- the name of a relation
-rel_size : (r : Rel) → length (rel_text r) ≤ 16
-rel_size rel.Before = omega arith
-rel_size rel.After = omega arith
-rel_size rel.Includes = omega arith
-rel_size rel.IsIncluded = omega arith
-rel_size rel.During = omega arith
-rel_size rel.DuringInv = omega arith
-rel_size rel.Simultaneous = omega arith
-rel_size rel.Identity = omega arith
-rel_size rel.Ibefore = omega arith
-rel_size rel.Iafter = omega arith
-rel_size rel.Begins = omega arith
-rel_size rel.BegunBy = omega arith
-rel_size rel.Ends = omega arith
-rel_size rel.EndedBy = omega arith
-
 -- a keyword and a relation between two intervals
 pub relation_size : (keyword : List ℕ) (a : ℕ) (r : Rel) (b : ℕ) → a < 10000 → b < 10000 → length (relation_line keyword a r b) ≤ length keyword + 27
 relation_size keyword a r b la lb =
@@ -84,7 +68,7 @@ relation_size keyword a r b la lb =
     let spaced : length (second ++ codes " ") ≡ length second + 1 = length-append second (codes " ") in
     let named : length second ≡ length (first ++ codes " ") + length (rel_text r) = length-append (first ++ codes " ") (rel_text r) in
     let before : length (first ++ codes " ") ≡ length first + 1 = length-append first (codes " ") in
-    omega (arith, decimal_size a la, rel_size r, all, spaced, named, before, length-append keyword (decimal a))
+    omega (arith, decimal_size a la, text_short r, all, spaced, named, before, length-append keyword (decimal a))
 
 -- the ranks of an interval
 pub at_size : (pair : ℕ × ℕ) → (pair.0 < max_points) × (pair.1 < max_points) → length (at_line pair) ≤ 13
@@ -94,20 +78,7 @@ at_size pair small = omega (arith, two_size (codes "at ") pair.0 pair.1 (omega (
 
 -- a relation is four orders at most
 pub few_orders : (r : Rel) (a b : ℕ) → length (atoms_of r a b) ≤ 4
-few_orders rel.Before a b = omega arith
-few_orders rel.After a b = omega arith
-few_orders rel.Includes a b = omega arith
-few_orders rel.IsIncluded a b = omega arith
-few_orders rel.During a b = omega arith
-few_orders rel.DuringInv a b = omega arith
-few_orders rel.Simultaneous a b = omega arith
-few_orders rel.Identity a b = omega arith
-few_orders rel.Ibefore a b = omega arith
-few_orders rel.Iafter a b = omega arith
-few_orders rel.Begins a b = omega arith
-few_orders rel.BegunBy a b = omega arith
-few_orders rel.Ends a b = omega arith
-few_orders rel.EndedBy a b = omega arith
+few_orders r a b = omega (arith, few_orders_of r, atoms_counted r (points_of a) (points_of b))
 
 -- the line of a step that goes by an order
 pub step_size : (net : PlainNet) (step : Step) (a : Atom) → IsNet net → atom_of net step ≡ Some a → length (step_line step) ≤ 19

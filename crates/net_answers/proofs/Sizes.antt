@@ -5,7 +5,7 @@ use Rattle.std.specs.List.Sorted.{IsStrictlyIncreasing}
 use Rattle.std.proofs.lemmas.List.{length-append, length-map}
 use Rattle.std.proofs.lemmas.List.Elements.{All-from_get_or, All-get_or, All-map, Contains-get_or, recursion_from_All}
 use Rattle.net_core.specs.Atoms.{atoms_of}
-use Rattle.net_core.specs.Clashes.{GoesRoundOver}
+use Rattle.net_core.specs.Clashes.{IsClosedOver}
 use Rattle.net_core.specs.Firsts.{IsFirst}
 use Rattle.net_core.specs.Fits.{EveryLink}
 use Rattle.net_core.specs.Nets.{IsNet, PlainNet, points}
@@ -13,10 +13,11 @@ use Rattle.net_core.specs.Ranks.{pairs_of}
 use Rattle.net_core.specs.Walks.{IsJoined}
 use Rattle.net_core.specs.declared.rels.Rel.{Rel}
 use Rattle.net_core.specs.declared.step.Step.{Step}
-use Rattle.clash.specs.Minimal.{AreSpares}
+use Rattle.net_core.specs.Least.{AreSpares}
 use Rattle.evidence_format.specs.Evidence.{PlainEvidence, IsText, at_line, body_lines, clash, cite_line, counter, entails, one_number, relation_line, step_line, text_lines, timeline, timeline_lines, walk_lines}
 use Rattle.evidence_format.specs.Lines.{Lines}
-use Rattle.evidence_check.specs.Supported.{AreIntervals, Proves, atom_at, walk_at}
+use Rattle.net_core.specs.Entailment.{AreIntervals}
+use Rattle.evidence_check.specs.Refusals.{Proves, atom_at, walk_at}
 use Rattle.net_core.specs.Limits.{max_intervals, max_points, max_printed}
 use Rattle.net_answers.proofs.FewCites.{few_cites}
 use Rattle.net_answers.proofs.LineSizes.{at_size, concat_append, concat_flat_map, concat_map, few_orders, one_size, relation_size, step_size}
@@ -142,7 +143,7 @@ module _ (net : PlainNet) (is : IsNet net) where
 
 -- the text of a clash: each link that it cites is gone over by a step, so there are no more spares than steps
 pub clash_size : (net : PlainNet) (cites : List ℕ) (walk : List Step) (spares : List (List ℕ)) (text : List ℕ) → IsNet net → IsStrictlyIncreasing cites → All (λ k. k < length net.links) cites
-    → GoesRoundOver net cites walk → length walk ≤ 2 * points net → AreSpares net (Contains cites) cites spares → IsText (clash cites walk (map pairs_of spares)) text → length text ≤ max_printed
+    → IsClosedOver net cites walk → length walk ≤ 2 * points net → AreSpares net (Contains cites) cites spares → IsText (clash cites walk (map pairs_of spares)) text → length text ≤ max_printed
 clash_size net cites walk spares text is rising links round short are text_is =
     let few = is.few_intervals in
     let cited = cites_size net is cites links in

@@ -13,7 +13,7 @@ use Rattle.net_core.proofs.AtomLaws.{atoms_say_the_relation}
 use Rattle.net_core.proofs.RankLaws.{even_length, ranks_again}
 use Rattle.order_closure.specs.Cells.{order, strength}
 use Rattle.order_closure.specs.Tables.{AreInRange, Keeps, Table, cell_at}
-use Rattle.order_closure.specs.Timelines.{IsLeast}
+use Rattle.net_core.specs.Least.{IsLeast}
 use Rattle.order_closure.specs.declared.cell.Cell.{Cell}
 use Rattle.order_closure.specs.declared.cell.Cell.TheVariants.{Free, Weak, Strict}
 use Rattle.order_closure.proofs.Central.{order_says}
@@ -21,7 +21,8 @@ use Rattle.clash.specs.Closures.{IsClosureOf}
 use Rattle.net_core.specs.Entailment.{Always, AlwaysHolds, AreIntervals}
 use Rattle.net_core.specs.Limits.{max_printed}
 use Rattle.derive_rel.specs.Entailed.{Gives}
-use Rattle.evidence_check.specs.Supported.{IsFalse, IsSupported, atom_at}
+use Rattle.evidence_check.specs.Refusals.{atom_at}
+use Rattle.evidence_check.specs.Supported.{IsFalse, IsSupported}
 use Rattle.evidence_check.proofs.Soundness.{supported_is_true}
 use Rattle.evidence_format.specs.Evidence.{IsText, counter}
 use Rattle.order_answers.specs.Ask.{IsCounterText, IsFirstNotGiven, IsFirstOpen, ShowsCounterexample}

@@ -11,7 +11,7 @@ use Rattle.net_core.specs.declared.rels.Rel.{Rel}
 use Rattle.net_core.proofs.AtomLaws.{atoms_in_range, atoms_say_the_relation}
 use Rattle.order_closure.specs.Tables.{Table}
 use Rattle.clash.specs.Closures.{IsClosureOf}
-use Rattle.derive_rel.specs.Entailed.{AreRows, Entails, Gives, IsRow}
+use Rattle.derive_rel.specs.Entailed.{AreRows, TableEntails, Gives, IsRow}
 use Rattle.derive_rel.specs.declared.all_rows.Row.{Row}
 use Rattle.net_core.specs.Entailment.{Follows}
 use Rattle.tml_refs.specs.Documents.{PlainDocument}
@@ -31,7 +31,7 @@ module _ (net : PlainNet) (table : Table) (closure : IsClosureOf net table) wher
   given (atom ∷ atoms) range always = (held_given net table closure atom range.0 (λ t fits. (always t fits).0), given atoms range.1 (λ t fits. (always t fits).1))
 
   -- the closure entails a relation exactly where it follows
-  pub entails_follows : (a : ℕ) (r : Rel) (b : ℕ) → a < intervals net → b < intervals net → Entails table a r b ↔ Follows net a r b
+  pub entails_follows : (a : ℕ) (r : Rel) (b : ℕ) → a < intervals net → b < intervals net → TableEntails table a r b ↔ Follows net a r b
   entails_follows a r b la lb =
       let range = atoms_in_range (intervals net) r a b la lb in (
         λ entails t fits. (atoms_say_the_relation t r a b).1 (kept t fits (atoms_of r a b) range (recursion_from_All (Gives table) (atoms_of r a b) entails)),

@@ -18,14 +18,14 @@ use Rattle.net_core.proofs.AtomLaws.{atoms_in_range, atoms_say_the_relation}
 use Rattle.net_core.proofs.FirstLaws.{first_or_none}
 use Rattle.net_core.proofs.WalkLaws.{walk_kept}
 use Rattle.order_closure.specs.Tables.{AreInRange}
-use Rattle.order_closure.specs.Timelines.{AreLeast}
+use Rattle.net_core.specs.Least.{AreLeast}
 use Rattle.clash.specs.Walks.{HasShortWalk}
 use Rattle.clash.proofs.Answered.{every_net, orders_are_answered}
 use Rattle.clash.proofs.Rounds.{fits_fewer}
 use Rattle.derive_rel.specs.declared.all_rows.Row.{Row}
 use Rattle.derive_rel.proofs.AllThere.{all_there}
 use Rattle.net_core.specs.Entailment.{AlwaysHolds, AreIntervals, Follows, HasTimeline}
-use Rattle.evidence_check.specs.Supported.{Proves, atom_at}
+use Rattle.evidence_check.specs.Refusals.{Proves, atom_at}
 use Rattle.evidence_format.specs.Evidence.{AreRanks, PlainEvidence, counter, entails, text_lines, timeline}
 use Rattle.evidence_format.proofs.SmallRanks.{small_ranks}
 use Rattle.tml_run.specs.declared.status.Status.TheVariants.{Done}

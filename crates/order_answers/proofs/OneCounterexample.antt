@@ -8,8 +8,8 @@ use Rattle.net_core.specs.Ranks.{pairs_of, timeline_of}
 use Rattle.net_core.specs.declared.atom.Atom.{Atom}
 use Rattle.net_core.specs.declared.rels.Rel.{Rel}
 use Rattle.net_core.proofs.FirstLaws.{one_first}
-use Rattle.order_closure.specs.Timelines.{IsLeast}
-use Rattle.evidence_check.specs.Supported.{atom_at}
+use Rattle.net_core.specs.Least.{IsLeast}
+use Rattle.evidence_check.specs.Refusals.{atom_at}
 use Rattle.evidence_format.specs.Evidence.{counter, text_lines}
 use Rattle.net_core.specs.Entailment.{AlwaysHolds}
 use Rattle.order_answers.specs.Ask.{IsFirstOpen, OneCounterexample, ShowsCounterexample}

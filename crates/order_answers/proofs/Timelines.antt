@@ -9,7 +9,7 @@ use Rattle.clash.specs.Closures.{IsClosureOf}
 use Rattle.evidence_check.specs.Supported.{IsSupported}
 use Rattle.evidence_format.specs.Evidence.{IsText, timeline}
 use Rattle.order_closure.specs.Tables.{Keeps, Table}
-use Rattle.order_closure.specs.Timelines.{IsLeast}
+use Rattle.net_core.specs.Least.{IsLeast}
 use Rattle.order_answers.specs.Solve.{AreLeastRanks, IsLeastText, ShowsTimeline}
 
 -- the least timeline that keeps the closure of a net is the least one that fits the net

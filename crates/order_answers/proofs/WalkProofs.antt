@@ -22,8 +22,10 @@ use Rattle.net_core.proofs.StepLaws.{number_within, ordered, tested}
 use Rattle.net_core.proofs.WalkLaws.{joined_more}
 use Rattle.clash.proofs.Complete.{walks_say_all}
 use Rattle.net_core.specs.Entailment.{AlwaysHolds, AreIntervals, HasTimeline}
-use Rattle.evidence_check.specs.Supported.{IsProof, IsSupported, Proves, atom_at, walk_at}
+use Rattle.evidence_check.specs.Refusals.{Proves, atom_at, walk_at}
+use Rattle.evidence_check.specs.Supported.{IsProof, IsSupported}
 use Rattle.evidence_check.proofs.Soundness.{supported_is_true}
+use Rattle.evidence_check.proofs.Zipped.{zip_from}
 use Rattle.evidence_format.specs.Evidence.{AreSteps, HasNumbers, IsText, IsWellFormed, entails}
 use Rattle.order_answers.specs.Ask.{AreWalks, ShowsProof}
 use Rattle.net_answers.proofs.StepNumbers.{walk_numbers}
@@ -84,7 +86,7 @@ module _ (net : PlainNet) (a : ℕ) (r : Rel) (b : ℕ) (is : IsNet net) (both :
   -- their text tells a proof
   pub shows_proof : (text : List ℕ) → IsText (entails a r b walks) text → ShowsProof net a r b text
   shows_proof text is_text =
-      let supported : IsSupported net (entails a r b walks) = (both, are.proofs) in (
+      let supported : IsSupported net (entails a r b walks) = (both, zip_from (IsProof net) (record { from = 0; to = 0; strict = false }) [] (atoms_of r a b) walks are.one_each are.proofs) in (
         walks,
         are.short,
         (is_text, supported, supported_is_true net (entails a r b walks) supported, entails_size net a b r walks text is both are.one_each are.proofs are.short is_text),

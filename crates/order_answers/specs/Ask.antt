@@ -3,7 +3,7 @@ use Rattle.std.specs.Prelude.{◌≡◌, ◌⊎◌, ℕ, ◌*◌, ◌<◌, ◌�
 use Rattle.std.specs.List.{All}
 use Rattle.std.specs.declared.option.Option.{Option}
 use Rattle.answers.specs.Documents.{Contents, document_rows, of_its_contents}
-use Rattle.evidence_check.specs.Supported.{Proves, atom_at}
+use Rattle.evidence_check.specs.Refusals.{Proves, atom_at}
 use Rattle.evidence_format.specs.Evidence.{IsText, entails, counter}
 use Rattle.named.specs.Texts.{NoneHas}
 use Rattle.net_answers.specs.Nets.{NetAnswers, of_net}
@@ -21,7 +21,7 @@ use Rattle.net_core.specs.declared.atom.Atom.{Atom}
 use Rattle.net_core.specs.declared.rels.Rel.{Rel}
 use Rattle.net_core.specs.declared.step.Step.{Step}
 use Rattle.order_closure.specs.Tables.{Keeps, Table}
-use Rattle.order_closure.specs.Timelines.{IsLeast}
+use Rattle.net_core.specs.Least.{IsLeast}
 use Rattle.derive_rel.specs.Entailed.{Gives}
 use Rattle.tml_refs.specs.Documents.{PlainDocument, IsNamed}
 use Rattle.tml_run.specs.Answered.{Freedom}

@@ -4,7 +4,7 @@ use Rattle.std.specs.List.{flat_map}
 use Rattle.answers.specs.Documents.{document_rows}
 use Rattle.answers.specs.Lines.{name_at, related}
 use Rattle.clash.specs.Closures.{IsClosureOf}
-use Rattle.derive_rel.specs.Entailed.{AreAll, AreRows, Entails}
+use Rattle.derive_rel.specs.Entailed.{AreAll, AreRows, TableEntails}
 use Rattle.derive_rel.specs.declared.all_rows.Row.{Row}
 use Rattle.net_answers.specs.Nets.{NetAnswers, of_net}
 use Rattle.net_core.specs.Entailment.{Follows}
@@ -38,7 +38,7 @@ relations_rows name = document_rows (of_net OfRelations) name
 
 -- a table entails a relation exactly where it follows, and its rows are the relations that follow
 pub record EntailsWhatFollows (net : PlainNet) (table : Table) : Type 0 where
-  pub relations : (a : ℕ) (r : Rel) (b : ℕ) → a < intervals net → b < intervals net → Entails table a r b ↔ Follows net a r b
+  pub relations : (a : ℕ) (r : Rel) (b : ℕ) → a < intervals net → b < intervals net → TableEntails table a r b ↔ Follows net a r b
   pub rows : (rows : List Row) → AreRows table rows ↔ AreRelations net rows
 
 -- the law: so does the closure of a net

@@ -9,7 +9,7 @@ use Rattle.net_core.specs.Limits.{max_printed}
 use Rattle.net_core.specs.Nets.{PlainNet, points}
 use Rattle.net_core.specs.Ranks.{pairs_of, timeline_of}
 use Rattle.order_closure.specs.Tables.{Keeps, Table}
-use Rattle.order_closure.specs.Timelines.{IsLeast}
+use Rattle.net_core.specs.Least.{IsLeast}
 use Rattle.tml_run.specs.Rows.{Rows}
 use Rattle.tml_run.specs.declared.status.Status.TheVariants.{Done}
 

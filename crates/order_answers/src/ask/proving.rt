@@ -1,6 +1,7 @@
 //! Proofs that a relation holds in every timeline that fits a net, by walks.
 ghost use Rattle.net_core.specs.Entailment.{AlwaysHolds, AreIntervals, HasTimeline};
-ghost use Rattle.evidence_check.specs.Supported.{IsProof, atom_at};
+ghost use Rattle.evidence_check.specs.Refusals.{atom_at};
+ghost use Rattle.evidence_check.specs.Supported.{IsProof};
 ghost use Rattle.net_core.specs.Atoms.{IsInRange, atoms_in, atoms_of as atoms_of_relation};
 ghost use Rattle.net_core.specs.Firsts.{IsFirst};
 ghost use Rattle.net_core.specs.Nets.{IsNet, points};

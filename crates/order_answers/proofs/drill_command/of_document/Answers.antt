@@ -1,5 +1,5 @@
 use Rattle.std.proofs.Common.{◌≡◌, ◌*◌, length, List, ℕ, refl, ap, subst, ◌∙◌, arith}
-use Rattle.clash.specs.Closures.{TellsClash}
+use Rattle.clash.specs.Closures.{ReportsClash}
 use Rattle.drill.specs.Numbers.{hidden_timeline}
 use Rattle.drill.proofs.Fitting.{hidden_intervals_fit}
 use Rattle.net_build.specs.Built.{IsNetOf}
@@ -17,8 +17,8 @@ use Rattle.order_answers.proofs.drill_command.of_document.Goals as goal
 pub unreachable-requires : goal.unreachable-requires
 unreachable-requires c =
     let built = subst (λ (contents : PlainDocument). IsNetOf contents c.in-Ok.net) c.requires.contents c.in-Ok.ensures.net in
-    let tells = subst (TellsClash c.in-Ok.net) c.in-Err-Clash.field-0-is c.in-Err-Clash.ensures.err in
-    tells.0 (hidden_timeline c.args.n) (hidden_intervals_fit c.args.n c.in-Ok.net c.requires.drill built)
+    let clash = subst (ReportsClash c.in-Ok.net) c.in-Err-Clash.field-0-is c.in-Err-Clash.ensures.err in
+    clash.0 (hidden_timeline c.args.n) (hidden_intervals_fit c.args.n c.in-Ok.net c.requires.drill built)
 
 pub greatest-requires : goal.greatest-requires
 greatest-requires c =

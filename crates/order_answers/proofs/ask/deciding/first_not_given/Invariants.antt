@@ -1,5 +1,5 @@
 use Rattle.std.proofs.Common.{◌≡◌, ◌<◌, ℕ, length}
-use Rattle.evidence_check.specs.Supported.{atom_at}
+use Rattle.evidence_check.specs.Refusals.{atom_at}
 use Rattle.net_core.specs.Atoms.{atoms_in}
 use Rattle.derive_rel.specs.Entailed.{Gives}
 use Rattle.order_answers.proofs.ask.deciding.first_not_given.Given as goal

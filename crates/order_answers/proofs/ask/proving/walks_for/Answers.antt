@@ -1,6 +1,7 @@
 use Rattle.std.proofs.Common.{◌≡◌, ◌*◌, ◌≤◌, ◌+◌, ◌<◌, ℕ, All, List, [], ◌∷◌, ◌++◌, length, length-append, ap, sym, subst, arith, rules}
 use Rattle.std.proofs.lemmas.List.Elements.{All-push}
-use Rattle.evidence_check.specs.Supported.{IsProof, Proves}
+use Rattle.evidence_check.specs.Refusals.{Proves}
+use Rattle.evidence_check.specs.Supported.{IsProof}
 use Rattle.evidence_check.proofs.Proving.{atom_is}
 use Rattle.net_core.specs.Atoms.{atoms_in}
 use Rattle.net_core.specs.Nets.{points}

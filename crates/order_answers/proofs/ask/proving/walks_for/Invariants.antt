@@ -1,5 +1,5 @@
 use Rattle.std.proofs.Common.{◌≡◌, ◌*◌, ◌≤◌, ◌<◌, ℕ, All, length}
-use Rattle.evidence_check.specs.Supported.{Proves}
+use Rattle.evidence_check.specs.Refusals.{Proves}
 use Rattle.net_core.specs.Atoms.{atoms_in}
 use Rattle.net_core.specs.Nets.{points}
 use Rattle.net_core.specs.declared.step.Step.{Step}
