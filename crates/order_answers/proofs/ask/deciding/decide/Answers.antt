@@ -1,7 +1,7 @@
-use Rattle.std.proofs.Common.{List, None, Some, inl, inr, sym, ap, subst, arith}
+use Rattle.std.proofs.Common.{ℕ, List, None, Some, inl, inr, sym, subst}
 use Rattle.std.proofs.lemmas.List.Elements.{All-from_recursion}
 use Rattle.std.proofs.lemmas.Result.{IfOk-weaker}
-use Rattle.net_core.specs.Atoms.{IsInRange, atoms_of}
+use Rattle.net_core.specs.Atoms.{IsInRange, atoms_in, atoms_of}
 use Rattle.net_core.specs.Nets.{intervals, points}
 use Rattle.net_core.specs.declared.atom.Atom.{Atom}
 use Rattle.net_core.proofs.AtomLaws.{atoms_in_range}
@@ -38,3 +38,12 @@ returns-in-Some c =
     (λ text is. inr (shows_counterexample net table numbers.a numbers.rel numbers.b c.in-Some.atom text.items c.requires.closure c.requires.intervals
     (first_open net table c.requires.closure atoms range c.in-Some.atom first) is))
     c.counterexample_text.ensures
+
+pub first_not_given-requires : goal.first_not_given-requires
+first_not_given-requires c =
+    let net = c.args.net.now in
+    let numbers = c.args.numbers in
+    let atoms = atoms_of numbers.rel numbers.a numbers.b in
+    let range : AreInRange (points net) atoms =
+    All-from_recursion (IsInRange (points net)) atoms (atoms_in_range (intervals net) numbers.rel numbers.a numbers.b c.requires.intervals.0 c.requires.intervals.1) in
+    subst (λ (n : ℕ). AreInRange n (atoms_in c.atoms_of.result)) (sym c.requires.closure.size) (subst (AreInRange (points net)) (sym c.atoms_of.ensures) range)
