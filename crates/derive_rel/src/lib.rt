@@ -4,8 +4,6 @@
 mod all_rows;
 mod laws;
 mod pairs;
-#[cfg(test)]
-mod tests;
 mod ways;
 
 pub use all_rows::{Row, rows};
