@@ -11,7 +11,7 @@ use order_closure::Closed;
 use std::alloc::Global;
 
 /// A relation between two intervals, by their numbers.
-#[derive(Clone, Copy, Debug, PartialEq, Eq)]
+#[derive(Clone, Copy)]
 pub struct Row {
     pub a: u32,
     pub rel: Rel,
