@@ -14,8 +14,6 @@ mod round;
 mod sequence;
 mod settling;
 mod spares;
-#[cfg(test)]
-mod tests;
 
 pub use closure::{CloseFault, close};
 pub use laws::{

@@ -13,7 +13,7 @@ use order_closure::{Closed, MAX_TABLE_POINTS};
 use std::alloc::Global;
 
 /// A relation between two intervals, by their numbers.
-#[derive(Clone, Copy, Debug, PartialEq, Eq)]
+#[derive(Clone, Copy)]
 pub struct Row {
     pub a: u32,
     pub rel: Rel,

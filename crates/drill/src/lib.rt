@@ -3,8 +3,6 @@
 
 mod drawing;
 mod laws;
-#[cfg(test)]
-mod tests;
 mod text;
 
 pub use laws::{drill_is_accepted, drill_is_short, hidden_intervals_fit};

@@ -1,7 +1,7 @@
 //! What supported evidence shows, and why evidence is refused.
 
 /// What supported evidence shows.
-#[derive(Clone, Copy, Debug, PartialEq, Eq)]
+#[derive(Clone, Copy)]
 pub enum Claim {
     /// Some timeline fits the net.
     Fits,
@@ -14,7 +14,7 @@ pub enum Claim {
 }
 
 /// Why a part of evidence is refused.
-#[derive(Clone, Copy, Debug, PartialEq, Eq)]
+#[derive(Clone, Copy)]
 pub enum Reason {
     /// The first number that is none of an interval, or of a link where links are cited.
     Number { number: u32 },
@@ -42,7 +42,7 @@ pub enum Reason {
 /// The first part of evidence that is refused, and the first reason there. The numbers of the intervals, or of the cited
 /// links, are part 0. A timeline is part 1, and so is the first of the walks. The relation of a counterexample is part 2,
 /// and so is the first timeline of a clash.
-#[derive(Clone, Copy, Debug, PartialEq, Eq)]
+#[derive(Clone, Copy)]
 pub struct Refused {
     pub part: u32,
     pub reason: Reason,

@@ -11,7 +11,7 @@ use crate::words::{one_of, relation_of};
 use net_core::Rel;
 
 /// The kind of evidence, with what its line says.
-#[derive(Clone, Copy, Debug, PartialEq, Eq)]
+#[derive(Clone, Copy)]
 pub enum Head {
     /// A timeline of so many intervals.
     Timeline { intervals: u32 },

@@ -18,7 +18,7 @@ use crate::walks::{walk_at, walks_at};
 use std::alloc::Global;
 
 /// Why no evidence was read.
-#[derive(Clone, Copy, Debug, PartialEq, Eq)]
+#[derive(Clone, Copy)]
 pub enum ReadEvidence {
     /// The number, counted from 1, of the first line with which the lines so far begin no text of evidence, or of the
     /// line that would come next where the text ends early. A line without LF is bad.

@@ -5,7 +5,7 @@ ghost use Rattle.std.specs.Prelude.{◌≡◌};
 use net_core::Memory;
 
 /// Why no value was read.
-#[derive(Clone, Copy, Debug)]
+#[derive(Clone, Copy)]
 pub enum Stop<'t> {
     /// The first line of this, which is the rest of the text, is bad, or is not there.
     BadLine(&'t [u8]),

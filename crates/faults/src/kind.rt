@@ -7,7 +7,7 @@ use named::Named;
 
 /// A kind of fault of a document. Where one place has several, the one with the least number counts, which is the first
 /// in this order. `docs/DEFINITIONS.md` says exactly when each is there.
-#[derive(Clone, Copy, Debug, PartialEq, Eq)]
+#[derive(Clone, Copy)]
 pub enum FaultKind {
     /// The bytes are not UTF-8.
     NotUtf8,

@@ -3,8 +3,6 @@
 
 mod build;
 mod laws;
-#[cfg(test)]
-mod tests;
 
 pub use build::net_of;
 pub use laws::{every_document_has_a_net, one_net};

@@ -8,7 +8,7 @@ ghost use Rattle.std.specs.Prelude.{IsTrue, ◌≡◌, ◌<◌, ◌≤◌, ◌�
 use crate::{Ends, Rel};
 
 /// Point `from` is before point `to`; where it is not strict, they may also be at one place.
-#[derive(Clone, Copy, Debug, PartialEq, Eq)]
+#[derive(Clone, Copy, PartialEq, Eq)]
 pub struct Atom {
     pub from: u32,
     pub to: u32,
@@ -121,7 +121,7 @@ pub fn holds(rel: Rel, a: Ends, b: Ends) -> bool
 }
 
 /// The orders of points that a relation between two intervals is: one to four.
-#[derive(Clone, Copy, Debug, PartialEq, Eq)]
+#[derive(Clone, Copy)]
 pub struct Atoms {
     rel: Rel,
     a: Ends,

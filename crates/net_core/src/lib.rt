@@ -10,8 +10,6 @@ mod net;
 mod ranks;
 mod rels;
 mod step;
-#[cfg(test)]
-mod tests;
 mod timeline;
 mod walk;
 

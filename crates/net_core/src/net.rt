@@ -8,14 +8,14 @@ use crate::{Bounds, List, Rel};
 use std::marker::Model;
 
 /// The ranks of the start and of the end of an interval.
-#[derive(Clone, Copy, Debug, PartialEq, Eq)]
+#[derive(Clone, Copy)]
 pub struct Ends {
     pub start: u32,
     pub finish: u32,
 }
 
 /// The relation of an interval `a` to an interval `b`, by their numbers.
-#[derive(Clone, Copy, Debug, PartialEq, Eq)]
+#[derive(Clone, Copy)]
 pub struct NetLink {
     pub a: u32,
     pub rel: Rel,

@@ -10,7 +10,7 @@ use named::{Named, named_by};
 
 /// How an interval of time `a` is related to an interval `b`: the values of `relType` of TLINK in TimeML 1.2.1. What
 /// they say of starts and ends is the reading of this project.
-#[derive(Clone, Copy, Debug, PartialEq, Eq)]
+#[derive(Clone, Copy, PartialEq, Eq)]
 pub enum Rel {
     /// `a` ends before `b` begins.
     Before,

@@ -10,7 +10,7 @@ use crate::atom::{before, points_of};
 use crate::{Atom, Net, atoms_of};
 
 /// A step from one point to another, by an order of these points.
-#[derive(Clone, Copy, Debug, PartialEq, Eq)]
+#[derive(Clone, Copy, PartialEq, Eq)]
 pub enum Step {
     /// By one of the orders that a link is, both counted from 0: the orders as in the table of relations.
     Link { link: u32, atom: u32 },

@@ -4,7 +4,7 @@ ghost use Rattle.order_closure.specs.Tables.{Denies};
 ghost use Rattle.std.specs.Prelude.{IsTrue, ◌≤◌, ◌≡◌, ◌↔◌};
 
 /// What is known of the order of a point and another one.
-#[derive(Clone, Copy, Debug, PartialEq, Eq)]
+#[derive(Clone, Copy, PartialEq, Eq)]
 pub enum Cell {
     /// Nothing.
     Free,

@@ -6,8 +6,6 @@ mod laws;
 mod planes;
 mod rows;
 mod table;
-#[cfg(test)]
-mod tests;
 
 pub use cell::Cell;
 pub use laws::{closed_tables_have_timelines, weaker_cells_can_fail};

@@ -14,7 +14,7 @@ use std::alloc::Global;
 use std::marker::Model;
 
 /// An atom that the table denies.
-#[derive(Clone, Copy, Debug, PartialEq, Eq)]
+#[derive(Clone, Copy)]
 pub struct WouldClash;
 
 /// What is known of the order of each two of some points. It is closed: each point is with itself, and what follows from

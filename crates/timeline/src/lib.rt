@@ -2,8 +2,6 @@
 #![tactic(auto)]
 
 mod ranking;
-#[cfg(test)]
-mod tests;
 mod timelines;
 
 pub use timelines::{counter, least};

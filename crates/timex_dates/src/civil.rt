@@ -4,7 +4,7 @@ ghost use Rattle.timex_dates.specs.Printed.{bytes_of, printed};
 ghost use Rattle.timex_value.specs.Text.{digit_byte};
 
 /// A civil date and time, `YYYY-MM-DDThh:mm:ss`. The year has four digits, or is 10000.
-#[derive(Clone, Copy, Debug, PartialEq, Eq)]
+#[derive(Clone, Copy)]
 pub struct CivilText {
     /// The text. Where the year has four digits, the first byte is not part of it.
     bytes: [u8; 20],

@@ -10,7 +10,7 @@ use crate::days::{day_number, last_of_month, monday_number};
 use timex_value::Year;
 
 /// From the first second up to the first second after it.
-#[derive(Clone, Copy, Debug, PartialEq, Eq)]
+#[derive(Clone, Copy)]
 pub(crate) struct Interval {
     pub lo: i64,
     pub hi: i64,

@@ -8,8 +8,6 @@ mod interval;
 mod known;
 mod laws;
 mod print;
-#[cfg(test)]
-mod tests;
 
 pub use bounds::bounds_of;
 pub use civil::CivilText;

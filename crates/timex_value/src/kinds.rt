@@ -6,7 +6,7 @@ ghost use Rattle.std.specs.Prelude.{◌≡◌};
 use named::Named;
 
 /// What a time is: the values of `type` of TIMEX3 in TimeML 1.2.1.
-#[derive(Clone, Copy, Debug, PartialEq, Eq)]
+#[derive(Clone, Copy)]
 pub enum TimexKind {
     /// A calendar time, of a day or more.
     Date,
@@ -55,7 +55,7 @@ impl Named for TimexKind {
 
 /// How the value of a time is to be read: the values of `mod` of TIMEX3 in TimeML 1.2.1. There the first four belong to
 /// points of time, the next four to durations, and the last four to both.
-#[derive(Clone, Copy, Debug, PartialEq, Eq)]
+#[derive(Clone, Copy)]
 pub enum Modifier {
     Before,
     After,

@@ -1,7 +1,7 @@
 //! Lengths of time.
 
 /// How many of a unit a duration has.
-#[derive(Clone, Copy, Debug, PartialEq, Eq)]
+#[derive(Clone, Copy)]
 pub enum Count {
     /// The unit is not written.
     Absent,
@@ -13,7 +13,7 @@ pub enum Count {
 
 /// A duration of ISO 8601, as it is written: how many of each unit. `P3D` has 3 days, `PXW` an unknown number of weeks,
 /// and `PT90M` 90 minutes, which are not made into hours.
-#[derive(Clone, Copy, Debug, PartialEq, Eq)]
+#[derive(Clone, Copy)]
 pub struct Length {
     pub years: Count,
     pub months: Count,

@@ -9,8 +9,6 @@ pub mod laws;
 mod length;
 mod read;
 mod shape;
-#[cfg(test)]
-mod tests;
 mod valid;
 mod value;
 

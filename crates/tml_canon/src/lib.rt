@@ -4,8 +4,6 @@
 
 mod canonical;
 mod laws;
-#[cfg(test)]
-mod tests;
 
 pub use canonical::canon;
 pub use laws::{

@@ -25,7 +25,7 @@ pub struct Contents<'s> {
 }
 
 /// What a tag adds to a document, besides being counted.
-#[derive(Clone, Copy, Debug, PartialEq, Eq)]
+#[derive(Clone, Copy)]
 pub enum Addition<'s> {
     Interval(Interval<'s>),
     Link(DocLink),

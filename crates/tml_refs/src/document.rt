@@ -13,7 +13,7 @@ use timex_value::{Modifier, TimexKind, Value};
 use tml_types::TagKind;
 
 /// How many tags of each kind a document has.
-#[derive(Clone, Copy, Debug, PartialEq, Eq)]
+#[derive(Clone, Copy)]
 pub struct Counts {
     pub events: u32,
     pub instances: u32,
@@ -54,7 +54,7 @@ impl Counts {
 
 /// An interval of time: an event instance or a time, with its identifier. A time has its `type`, and where they are
 /// there its `mod` and its `value`.
-#[derive(Clone, Copy, Debug, PartialEq, Eq)]
+#[derive(Clone, Copy)]
 pub enum Interval<'s> {
     Instance {
         name: &'s [u8],
@@ -80,7 +80,7 @@ impl<'s> Interval<'s> {
 
 /// A TLINK, with the numbers of its intervals: `a` is that of `eventInstanceID` or `timeID`, and `b` that of
 /// `relatedToEventInstance` or `relatedToTime`.
-#[derive(Clone, Copy, Debug, PartialEq, Eq)]
+#[derive(Clone, Copy)]
 pub struct DocLink {
     pub a: u32,
     pub rel: Rel,

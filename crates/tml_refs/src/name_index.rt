@@ -16,7 +16,7 @@ use tml_types::{LinkEnd, TagKind, TypedTag};
 
 /// A kind of tag and an identifier. The first bytes of the identifier are compared first, as a number, which is faster
 /// than to compare slices.
-#[derive(Clone, Copy, Debug, PartialEq, Eq, PartialOrd, Ord)]
+#[derive(Clone, Copy, PartialEq, Eq, PartialOrd, Ord)]
 pub struct Key<'s> {
     head: u64,
     name: &'s [u8],
@@ -54,7 +54,7 @@ fn rank_of(kind: TagKind) -> u8
 }
 
 /// A tag that has an identifier.
-#[derive(Clone, Copy, Debug, PartialEq, Eq, PartialOrd, Ord)]
+#[derive(Clone, Copy, PartialEq, Eq, PartialOrd, Ord)]
 pub struct Entry<'s> {
     key: Key<'s>,
     /// How many tags stand before it.

@@ -12,7 +12,7 @@ use std::alloc::Global;
 use tml_types::Typed;
 
 /// The first tag that is at fault, by the place where it begins, and its first fault.
-#[derive(Clone, Copy, Debug, PartialEq, Eq)]
+#[derive(Clone, Copy)]
 pub enum RefFault {
     /// The identifier of the tag is that of a tag before it, of whatever kind.
     DuplicateId { place: u32 },

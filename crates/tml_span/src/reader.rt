@@ -13,7 +13,7 @@ use std::alloc::Global;
 use std::marker::Model;
 
 /// Why a source is not cut into units whole.
-#[derive(Clone, Copy, Debug, PartialEq, Eq)]
+#[derive(Clone, Copy)]
 pub enum Cut {
     /// The source is not UTF-8: its longest valid prefix has `place` bytes.
     NotUtf8 { place: u32 },
@@ -40,13 +40,13 @@ impl Cut {
 }
 
 /// A source is not UTF-8: its longest valid prefix has `place` bytes.
-#[derive(Clone, Copy, Debug, PartialEq, Eq)]
+#[derive(Clone, Copy)]
 pub struct NotUtf8 {
     pub place: u32,
 }
 
 /// Why a source that is UTF-8 is not cut into units whole.
-#[derive(Clone, Copy, Debug, PartialEq, Eq)]
+#[derive(Clone, Copy)]
 pub enum MarkupFault {
     /// At that place is an `&` with which no reference begins.
     BadReference { place: u32 },

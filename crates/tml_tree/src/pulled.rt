@@ -12,7 +12,7 @@ use std::alloc::Global;
 use tml_span::{Cut, NotUtf8, UnitReader};
 
 /// Why a source has no tree.
-#[derive(Clone, Copy, Debug, PartialEq, Eq)]
+#[derive(Clone, Copy)]
 pub enum SourceFault {
     /// It is not cut into units whole.
     Cut(Cut),

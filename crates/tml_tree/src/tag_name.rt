@@ -9,7 +9,7 @@ use named::{Named, named_in};
 
 /// A known tag. The first eight are those of TimeML 1.2.1 that mean something here, and the others, which corpora
 /// wrap their texts in, are carried.
-#[derive(Clone, Copy, Debug, PartialEq, Eq)]
+#[derive(Clone, Copy, PartialEq, Eq)]
 pub enum TagName {
     TimeMl,
     Event,

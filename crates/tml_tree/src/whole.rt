@@ -14,7 +14,7 @@ use tml_span::Unit;
 
 /// Why units make no tree. A place is the first byte of the unit at fault, which is the first that breaks a rule. Of
 /// several rules that it breaks the first in this order counts.
-#[derive(Clone, Copy, Debug, PartialEq, Eq)]
+#[derive(Clone, Copy)]
 pub enum TreeFault {
     /// A start or empty tag whose name is not known.
     UnknownTag { place: u32 },

@@ -6,7 +6,7 @@ ghost use Rattle.std.specs.Prelude.{◌≡◌};
 use named::Named;
 
 /// What kind of happening an event is: the values of `class` of EVENT in TimeML 1.2.1.
-#[derive(Clone, Copy, Debug, PartialEq, Eq)]
+#[derive(Clone, Copy)]
 pub enum EventClass {
     Occurrence,
     Perception,
@@ -59,7 +59,7 @@ impl Named for EventClass {
 }
 
 /// The tense of an instance: the values of `tense` of MAKEINSTANCE in TimeML 1.2.1. The text NONE is `NoTense`.
-#[derive(Clone, Copy, Debug, PartialEq, Eq)]
+#[derive(Clone, Copy)]
 pub enum Tense {
     Past,
     Present,
@@ -113,7 +113,7 @@ impl Named for Tense {
 
 /// The grammatical aspect of an instance: the values of `aspect` of MAKEINSTANCE in TimeML 1.2.1. The text NONE
 /// is `NoAspect`.
-#[derive(Clone, Copy, Debug, PartialEq, Eq)]
+#[derive(Clone, Copy)]
 pub enum Aspect {
     Progressive,
     Perfective,
@@ -158,7 +158,7 @@ impl Named for Aspect {
 
 /// The part of speech of an instance: the values of `pos` of MAKEINSTANCE in TimeML 1.2.1, and PREP and UNKNOWN,
 /// which corpora use.
-#[derive(Clone, Copy, Debug, PartialEq, Eq)]
+#[derive(Clone, Copy)]
 pub enum Pos {
     Adjective,
     Noun,
@@ -211,7 +211,7 @@ impl Named for Pos {
 }
 
 /// Whether an instance is negated: the values of `polarity` of MAKEINSTANCE in TimeML 1.2.1.
-#[derive(Clone, Copy, Debug, PartialEq, Eq)]
+#[derive(Clone, Copy)]
 pub enum Polarity {
     Positive,
     Negative,
@@ -247,7 +247,7 @@ impl Named for Polarity {
 
 /// What a time is to its document: the values of `functionInDocument` of TIMEX3 in TimeML 1.2.1. The text NONE is
 /// `NoFunction`.
-#[derive(Clone, Copy, Debug, PartialEq, Eq)]
+#[derive(Clone, Copy)]
 pub enum DocFunction {
     CreationTime,
     ExpirationTime,
@@ -300,7 +300,7 @@ impl Named for DocFunction {
 }
 
 /// What an aspectual event does to another event: the values of `relType` of ALINK in TimeML 1.2.1.
-#[derive(Clone, Copy, Debug, PartialEq, Eq)]
+#[derive(Clone, Copy)]
 pub enum AspectRel {
     Initiates,
     Culminates,
@@ -348,7 +348,7 @@ impl Named for AspectRel {
 
 /// How an event is subordinated to another: the values of `relType` of SLINK in TimeML 1.2.1, and INTENSIONAL,
 /// which corpora use.
-#[derive(Clone, Copy, Debug, PartialEq, Eq)]
+#[derive(Clone, Copy)]
 pub enum SubRel {
     Modal,
     Evidential,

@@ -8,7 +8,7 @@ use net_core::Rel;
 use timex_value::{Modifier, TimexKind, Value};
 
 /// What kind of tag a typed tag is.
-#[derive(Clone, Copy, Debug, PartialEq, Eq)]
+#[derive(Clone, Copy)]
 pub enum TagKind {
     Event,
     Instance,
@@ -20,7 +20,7 @@ pub enum TagKind {
 }
 
 /// An end of a TLINK: an event instance or a time, by its identifier.
-#[derive(Clone, Copy, Debug, PartialEq, Eq)]
+#[derive(Clone, Copy)]
 pub enum LinkEnd<'s> {
     Instance(&'s [u8]),
     Time(&'s [u8]),
@@ -29,7 +29,7 @@ pub enum LinkEnd<'s> {
 /// A tag that means something, with the value of each attribute that does. `place` is where the tag begins, as a
 /// byte offset from 0. Identifiers and references are slices of the source, of 1 to 64 bytes. What the document
 /// may leave out, or leave empty, is None then.
-#[derive(Clone, Copy, Debug, PartialEq, Eq)]
+#[derive(Clone, Copy)]
 pub enum TypedTag<'s> {
     /// EVENT: `eid` and `class`.
     Event {

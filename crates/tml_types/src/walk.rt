@@ -50,7 +50,7 @@ impl<'s> Typed<'s> {
 }
 
 /// The first tag that is at fault, by the place where it begins, and its first fault.
-#[derive(Clone, Copy, Debug, PartialEq, Eq)]
+#[derive(Clone, Copy)]
 pub enum TypeFault {
     /// Two attributes of the tag have one name. Empty values count too.
     RepeatedAttribute { place: u32 },

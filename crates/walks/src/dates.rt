@@ -8,7 +8,7 @@ use std::alloc::Global;
 use std::cmp::Reverse;
 
 /// A point, and a number that the calendar gives it.
-#[derive(Clone, Copy, Debug, PartialEq, Eq)]
+#[derive(Clone, Copy, PartialEq, Eq)]
 pub struct Date {
     pub number: i64,
     pub point: u32,

@@ -6,8 +6,6 @@ mod edges;
 mod graph;
 mod search;
 mod states;
-#[cfg(test)]
-mod tests;
 
 pub use dates::{Date, dates_from, lowers_of, uppers_of};
 pub use search::walk;

@@ -2,26 +2,11 @@
 ghost use Rattle.order_closure.specs.Cells.{order, strength};
 ghost use Rattle.std.specs.Prelude.{IsTrue, ◌<◌};
 
-use crate::{counter, least};
+use super::relations::{before, no_later};
 use net_core::{Atom, Ranks};
 use order_closure::{Cell, Closed};
 use std::process::Abort;
-
-fn before(from: u32, to: u32) -> Atom {
-    Atom {
-        from,
-        to,
-        strict: true,
-    }
-}
-
-fn no_later(from: u32, to: u32) -> Atom {
-    Atom {
-        from,
-        to,
-        strict: false,
-    }
-}
+use timeline::{counter, least};
 
 fn closed(rt: &(impl Abort + AllocGlobal), points: u32, atoms: &[Atom]) -> Closed {
     assert!(rt; points <= 2048);

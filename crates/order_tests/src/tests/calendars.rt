@@ -1,11 +1,7 @@
-//! Nets of three intervals with dates, against all timelines of their six points, and how few orders say a calendar.
-ghost use Rattle.net_core.specs.Bounds.{AreOrdered};
-ghost use Rattle.std.specs.Prelude.{negsuc, pos, ◌<◌, ◌<ℤ◌, ◌≤ℤ◌};
-
-use super::by_definition::both;
-use super::net_of;
-use crate::calendar::calendar_orders;
-use crate::{CloseFault, close};
+//! Nets of three intervals with dates, against all timelines of their six points.
+use super::closures::both;
+use super::nets::net_of;
+use clash::close;
 use net_core::{Bounds, Net, satisfies};
 use order_closure::Cell;
 use std::alloc::AllocGlobal;
@@ -101,7 +97,7 @@ fn has_cells(rt: &(impl Abort + AllocGlobal), net: &Net, wanted: &[Option<Cell>;
     };
     assert!(rt; table.points() == 6);
     for k in 0..36u32 {
-        assert_eq!(rt; Some(table.cell(k / 6, k % 6)), wanted[k as usize]);
+        assert!(rt; Some(table.cell(k / 6, k % 6)) == wanted[k as usize]);
     }
 }
 
@@ -111,49 +107,5 @@ fn three_dates_close_as_defined(rt: HostRuntime) -> Result<(), Fail> {
         let net = net_of(&rt, dates, &[]);
         has_cells(&rt, &net, &cells_by_definition(&net));
     }
-    Ok(())
-}
-
-/// The day of a number.
-fn day(k: u32) -> Bounds
-    requires { k < 512 }
-    ensures { AreOrdered result }
-{
-    let lo = i64::from(k) * 86_400;
-    Bounds::Exact {
-        lo,
-        hi: lo + 86_400,
-    }
-}
-
-#[test]
-fn few_orders_say_the_calendar_of_many_days(rt: HostRuntime) -> Result<(), Fail> {
-    // at each of the 511 midnights between two days are two points, each ordered with the other, and one of them with the
-    // next midnight; and the first midnight is ordered with the next
-    let mut days = Vec::new(rt.alloc());
-    for k in 0..512u32 {
-        days.push(day(k))?;
-    }
-    let net = net_of(&rt, &days, &[]);
-    assert_eq!(rt;
-        calendar_orders(rt.alloc(), &net).map(|orders| orders.len()),
-        Ok(1534)
-    );
-    Ok(())
-}
-
-#[test]
-fn few_orders_say_that_days_are_the_same(rt: HostRuntime) -> Result<(), Fail> {
-    // one start is ordered with each of the 511 others, and each of them with it; so are the ends; and one start is
-    // ordered with one end
-    let mut days = Vec::new(rt.alloc());
-    for _ in 0..512u32 {
-        days.push(day(0))?;
-    }
-    let net = net_of(&rt, &days, &[]);
-    assert_eq!(rt;
-        calendar_orders(rt.alloc(), &net).map(|orders| orders.len()),
-        Ok(2045)
-    );
     Ok(())
 }

@@ -1,11 +1,12 @@
 //! Every net of two intervals and two links, and dates with a link, against all timelines of their four points.
-ghost use Rattle.net_core.specs.Bounds.{AreOrdered};
 ghost use Rattle.std.specs.Prelude.{◌<◌};
 
+use super::nets::{FREE, exact, link, net_of, within};
 use super::proving::proves_itself;
-use crate::{CloseFault, close};
-use net_core::{Bounds, List, Net, NetLink, Rel, satisfies};
+use clash::{CloseFault, close};
+use net_core::{Bounds, Net, NetLink, Rel, satisfies};
 use order_closure::Cell;
+use std::alloc::AllocGlobal;
 use std::process::Abort;
 use std::test::Fail;
 
@@ -58,7 +59,7 @@ fn agrees(rt: &(impl Abort + AllocGlobal), net: &Net) -> Result<(), Fail> {
             for p in 0..4u32 {
                 for q in 0..4u32 {
                     let wanted = cell_by_definition(net, p as usize, q as usize);
-                    assert_eq!(rt; Some(table.cell(p, q)), wanted);
+                    assert!(rt; Some(table.cell(p, q)) == wanted);
                 }
             }
         }
@@ -72,44 +73,31 @@ fn agrees(rt: &(impl Abort + AllocGlobal), net: &Net) -> Result<(), Fail> {
 }
 
 /// The link of a number below 56: its relation, and which of two intervals it is between.
-fn link(k: usize) -> NetLink
+fn link_of(k: usize) -> NetLink
     requires { k < 56 }
-    ensures a { result.a < 2 }
-    ensures b { result.b < 2 }
 {
-    NetLink {
-        a: (k % 2) as u32,
-        rel: RELATIONS[k / 4],
-        b: (k / 2 % 2) as u32,
-    }
+    link((k % 2) as u32, RELATIONS[k / 4], (k / 2 % 2) as u32)
 }
 
 #[test]
 fn two_links_between_two_intervals_close_as_defined(rt: HostRuntime) -> Result<(), Fail> {
     for first in 0..56usize {
         for second in 0..56usize {
-            let bounds = vec![in rt.alloc(); Bounds::Free, Bounds::Free]?;
-            let links = vec![in rt.alloc(); link(first), link(second)]?;
-            agrees(
-                &rt,
-                &Net::new(List::from_vec(bounds), List::from_vec(links)),
-            )?;
+            let links = [link_of(first), link_of(second)];
+            agrees(&rt, &net_of(&rt, &[FREE; 2], &links))?;
         }
     }
     Ok(())
 }
 
-/// What a calendar says of an interval, by a number below 5.
-pub fn bounds(k: usize) -> Bounds
-    requires { k < 5 }
-    ensures { AreOrdered result }
-{
+/// What a calendar says of an interval, by a number.
+pub fn bounds(k: usize) -> Bounds {
     match k {
-        0 => Bounds::Free,
-        1 => Bounds::Exact { lo: 0, hi: 10 },
-        2 => Bounds::Exact { lo: 10, hi: 20 },
-        3 => Bounds::Within { lo: 0, hi: 10 },
-        _ => Bounds::Within { lo: 5, hi: 10 },
+        0 => FREE,
+        1 => exact(0, 10),
+        2 => exact(10, 20),
+        3 => within(0, 10),
+        _ => within(5, 10),
     }
 }
 
@@ -118,9 +106,8 @@ fn a_link_between_dates_closes_as_defined(rt: HostRuntime) -> Result<(), Fail> {
     for first in 0..5usize {
         for second in 0..5usize {
             for number in 0..56usize {
-                let dates = vec![in rt.alloc(); bounds(first), bounds(second)]?;
-                let links = vec![in rt.alloc(); link(number)]?;
-                agrees(&rt, &Net::new(List::from_vec(dates), List::from_vec(links)))?;
+                let dates = [bounds(first), bounds(second)];
+                agrees(&rt, &net_of(&rt, &dates, &[link_of(number)]))?;
             }
         }
     }

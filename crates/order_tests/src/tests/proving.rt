@@ -2,14 +2,14 @@
 ghost use Rattle.net_core.specs.Nets.{points};
 ghost use Rattle.std.specs.Prelude.{length, ◌≡◌};
 
-use super::by_walks::joins;
-use crate::Clash;
+use super::walking::joins;
+use clash::Clash;
 use net_core::{Net, Ranks, Step, first_broken_pair, first_unordered, keeps_link, step_atom};
 use std::alloc::{AllocError, AllocGlobal, Global};
 use std::process::Abort;
 use std::test::Fail;
 
-/// The cited links of a net rise, the walk is closed, over exactly these, and the ranks are the least without each of
+/// The cited links of a net rise, the walk is closed and over exactly these, and the ranks are the least without each of
 /// them. So the clash proves that they cannot all be true, and that any one of them can be left out.
 pub fn proves_itself(
     rt: &(impl Abort + AllocGlobal),
@@ -18,7 +18,7 @@ pub fn proves_itself(
 ) -> Result<(), Fail> {
     let cites = clash.cites.as_slice();
     rise(rt, net, cites);
-    some_closed_walk(rt, net, cites, clash.walk.as_slice());
+    is_closed(rt, net, cites, clash.walk.as_slice());
     let spares = clash.spares.as_slice();
     assert_eq!(rt; spares.len(), cites.len());
     for (own, spare) in cites.iter().zip(spares) {
@@ -38,7 +38,7 @@ fn rise(rt: &impl Abort, net: &Net, cites: &[u32]) {
 
 /// The steps lead from a point to itself, one of them strictly, over exactly the cited links. There are at most two for
 /// each point.
-fn some_closed_walk(rt: &(impl Abort + AllocGlobal), net: &Net, cites: &[u32], steps: &[Step]) {
+fn is_closed(rt: &(impl Abort + AllocGlobal), net: &Net, cites: &[u32], steps: &[Step]) {
     let Some(first) = steps.first() else {
         panic!(rt; "no step");
     };

@@ -1,0 +1,12 @@
+//! One file a subject.
+mod calendars;
+mod closures;
+mod minimal;
+mod nets;
+mod proving;
+mod relations;
+mod rows;
+mod steps;
+mod tables;
+mod timelines;
+mod walking;
