@@ -5,12 +5,7 @@ use Rattle.net_core.specs.Fits.{Fits}
 use Rattle.net_core.specs.Limits.{max_document, max_intervals}
 use Rattle.net_core.specs.Nets.{PlainNet}
 use Rattle.net_build.specs.Built.{IsNetOf}
-use Rattle.tml_refs.specs.Documents.{PlainDocument, Resolved}
-use Rattle.tml_tree.specs.Plain.{PlainNode}
-use Rattle.tml_tree.specs.Walking.{elements}
-use Rattle.tml_tree.specs.Whole.{IsTreeOf}
-use Rattle.tml_types.specs.Content.{PlainTyped}
-use Rattle.tml_types.specs.Whole.{Types}
+use Rattle.tml_accept.specs.Acceptance.{Says}
 use Rattle.drill.specs.Numbers.{hidden_timeline}
 use Rattle.drill.specs.Texts.{drill_contents, drill_document}
 
@@ -22,17 +17,9 @@ IsDrill n = (1 ≤ n) × (n ≤ max_intervals)
 abbrev pub drill_numbers : List ℕ
 drill_numbers = range_with_len 1 max_intervals
 
--- a document has a tree, its tags break no rule, and this is what they say
-pub record IsAcceptedAs (document : List ℕ) (contents : PlainDocument) : Type 0 where
-  pub root : PlainNode
-  pub tags : List PlainTyped
-  pub tree : IsTreeOf document root
-  pub typed : Types (elements root) tags
-  pub resolved : Resolved tags contents
-
 -- the document of a drill breaks no rule, and says what was drawn
 abbrev pub DrillIsAccepted : Type 0
-DrillIsAccepted = (n : ℕ) → IsDrill n → IsAcceptedAs (drill_document n) (drill_contents n)
+DrillIsAccepted = (n : ℕ) → IsDrill n → Says (drill_document n) (drill_contents n)
 
 -- it has no more bytes than a document may have
 abbrev pub DrillIsShort : Type 0

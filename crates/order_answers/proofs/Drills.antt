@@ -34,7 +34,7 @@ use Rattle.order_answers.proofs.Timelines.{one_least, one_number, timeline_suppo
 
 -- the document of a drill says what was drawn
 pub says_drawn : (n : ℕ) → IsDrill n → Says (drill_document n) (drill_contents n)
-says_drawn n drill = let is = drill_is_accepted n drill in (is.root, (is.tree, (is.tags, is.typed, is.resolved)))
+says_drawn n drill = drill_is_accepted n drill
 
 -- it has no fault
 pub no_fault : (n : ℕ) (kind : FaultKind) (place : ℕ) → IsDrill n → FirstFault (drill_document n) kind place → ⊥
