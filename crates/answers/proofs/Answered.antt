@@ -13,7 +13,7 @@ use Rattle.tml_run.specs.OneFile.{IsAnswered, of_its_bytes}
 use Rattle.tml_run.proofs.OneFile.{answered, freer}
 use Rattle.tml_run.specs.OneReply.{Agree, HasOneText, is_broken_off}
 use Rattle.tml_run.specs.Rows.{File, Next, answers, reads}
-use Rattle.answers.specs.Documents.{AreAnswered, Contents, IsRefused, doc_file, document_rows, of_contents, of_its_contents}
+use Rattle.answers.specs.Documents.{AreAnswered, Contents, doc_file, document_rows, of_contents, of_its_contents}
 use Rattle.answers.specs.Judged.{AreJudged, Judgements, judged_rows}
 use Rattle.answers.specs.Lines.{fault_line}
 use Rattle.answers.proofs.Refusals.{one_refusal}

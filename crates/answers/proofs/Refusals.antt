@@ -5,7 +5,6 @@ use Rattle.tml_accept.specs.Acceptance.{FirstFault}
 use Rattle.tml_accept.proofs.Phases.{One, one_fault}
 use Rattle.tml_io.specs.Files.{Files}
 use Rattle.tml_run.specs.declared.status.Status.{Status}
-use Rattle.tml_run.specs.declared.status.Status.TheVariants.{NoMemory}
 use Rattle.tml_run.proofs.HowItEnds.{answered}
 use Rattle.tml_run.specs.Reading.{Reading, total}
 use Rattle.tml_run.specs.Replies.{Replies}

@@ -1,4 +1,4 @@
-//! Whether orders lead round.
+//! Whether orders have a closed walk.
 ghost use Rattle.clash.specs.Sequence.{AreMet, ArePoints};
 ghost use Rattle.order_closure.specs.Tables.{AreInRange};
 ghost use Rattle.std.specs.List.{All};

@@ -1,6 +1,5 @@
 -- What a document has is one text.
 use Rattle.std.proofs.Common.{◌≡◌, ℕ, List, false, refl, sym, ◌∙◌}
-use Rattle.answers.specs.Documents.{AreAnswered as ContentsAreAnswered}
 use Rattle.answers.proofs.Answered.{document_answered}
 use Rattle.tml_refs.specs.Documents.{PlainDocument}
 use Rattle.tml_run.specs.Answered.{AreAnswered, NeverFree}

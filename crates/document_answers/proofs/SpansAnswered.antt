@@ -3,11 +3,8 @@ use Rattle.std.proofs.Common.{◌≡◌, ℕ, List, [], false, refl, sym, ap, su
 use Rattle.answers.specs.Documents.{doc_file}
 use Rattle.answers.specs.Lines.{fault_line}
 use Rattle.answers.proofs.Refusals.{one_fault_line}
-use Rattle.faults.specs.declared.kind.FaultKind.{FaultKind}
-use Rattle.net_core.specs.Limits.{max_document}
 use Rattle.tml_accept.proofs.Phases.{One}
 use Rattle.tml_run.specs.Answered.{AreAnswered, NeverFree}
-use Rattle.tml_run.specs.OneFile.{IsAnswered}
 use Rattle.tml_run.specs.OneReply.{is_broken_off}
 use Rattle.tml_run.specs.declared.status.Status.{Status}
 use Rattle.tml_run.specs.declared.status.Status.TheVariants.{Done, DocFault}

@@ -4,7 +4,6 @@ ghost use Rattle.document_answers.specs.Spans.{HasTable, OfSpans};
 ghost use Rattle.net_core.specs.Limits.{max_document};
 ghost use Rattle.std.specs.List.{flat_map};
 ghost use Rattle.std.specs.Prelude.{◌≡◌, ◌≤◌, ◌++◌, length, map, IfOk, IfErr, OnOk};
-ghost use Rattle.tml_run.specs.View.{finding_status};
 ghost use Rattle.tml_span.specs.Faults.{HasFault};
 ghost use Rattle.tml_span.specs.View.{attribute_of, unit_of};
 

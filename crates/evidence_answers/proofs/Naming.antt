@@ -1,5 +1,5 @@
 -- The intervals that evidence names are those of the document.
-use Rattle.std.proofs.Common.{ℕ, List, length, arith}
+use Rattle.std.proofs.Common.{arith}
 use Rattle.evidence_check.specs.Supported.{IsSupported}
 use Rattle.evidence_format.specs.Evidence.{PlainEvidence, timeline, entails, counter, clash}
 use Rattle.net_answers.proofs.Nets.{as_many}

@@ -1,5 +1,5 @@
 -- Evidence of a document has one answer: one status, and one text.
-use Rattle.std.proofs.Common.{◌≡◌, ◌⊎◌, ◌≤◌, ℕ, List, false, length, refl, sym, ap, subst, ◌∙◌, inl, inr}
+use Rattle.std.proofs.Common.{◌≡◌, ◌⊎◌, ℕ, List, false, refl, sym, ap, subst, ◌∙◌, inl, inr}
 use Rattle.answers.specs.Judged.{AreJudged}
 use Rattle.answers.proofs.Answered.{judged_answered}
 use Rattle.evidence_check.specs.Refusals.{IsRefused}

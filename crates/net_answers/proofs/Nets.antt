@@ -26,7 +26,7 @@ use Rattle.tml_run.specs.OneReply.{is_broken_off}
 use Rattle.tml_run.proofs.OneFile.{answered, freer}
 use Rattle.tml_run.specs.declared.status.Status.{Status}
 use Rattle.tml_run.specs.declared.status.Status.TheVariants.{Clash}
-use Rattle.net_answers.specs.Nets.{ClashIsFree, HasNet, IsClash, NetAnswers, NetsAreAnswered, of_fitting, of_its_net, of_net}
+use Rattle.net_answers.specs.Nets.{ClashIsFree, HasNet, NetAnswers, NetsAreAnswered, of_fitting, of_its_net, of_net}
 use Rattle.net_answers.specs.Showing.{ShowsClash}
 use Rattle.net_answers.proofs.ClashProofs.{clash_well_formed, shows_clash}
 

@@ -1,5 +1,5 @@
 -- What printed evidence shows of a net.
-use Rattle.std.specs.Prelude.{◌≡◌, ℕ, ◌*◌, ◌≤◌, List, length, map}
+use Rattle.std.specs.Prelude.{ℕ, ◌*◌, ◌≤◌, List, length, map}
 use Rattle.std.specs.List.{Contains}
 use Rattle.net_core.specs.Least.{AreSpares}
 use Rattle.evidence_check.specs.Claims.{ShowsTruth}

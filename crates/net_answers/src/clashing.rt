@@ -4,11 +4,11 @@ ghost use Rattle.clash.specs.Minimal.{IsProvedClash};
 ghost use Rattle.std.specs.Prelude.{◌≡◌, IfOk};
 ghost use Rattle.net_answers.specs.Showing.{ShowsClash};
 
-use tml_run::{Answer, Finding};
 use clash::Clash;
 use evidence_format::{Evidence, write_evidence};
 use net_core::{MAX_INTERVALS, Memory, Net};
 use std::alloc::{AllocError, Global};
+use tml_run::{Answer, Finding};
 
 /// The answer that no timeline fits a net: a minimal clash.
 pub fn clash_answer(alloc: Global, net: &Net, clash: Clash) -> Result<Answer, AllocError>

@@ -1,5 +1,5 @@
 -- Whether a relation holds has one answer: one status, and one text, but for which walks prove a relation and which clash is printed.
-use Rattle.std.proofs.Common.{◌≡◌, ◌⊎◌, ◌<◌, ℕ, zero, suc, List, [], ◌∷◌, codes, false, length, refl, sym, ap, subst, ◌∙◌, inl, inr, arith, Option, Some, None}
+use Rattle.std.proofs.Common.{◌≡◌, ◌⊎◌, ◌<◌, ℕ, zero, suc, List, [], ◌∷◌, codes, false, refl, sym, ap, subst, ◌∙◌, inl, inr, arith, Option, Some, None}
 use Rattle.std.proofs.lemmas.Option.{slice_get_within}
 use mathlib.Core.List.{List-discrete}
 use native.Mathlib.Decide.{ℕ_discrete}
@@ -7,7 +7,7 @@ use Rattle.answers.proofs.Answered.{contents_answered}
 use Rattle.answers.specs.Documents.{AreAnswered as ContentsAreAnswered, doc_file, of_contents, of_its_contents}
 use Rattle.named.specs.Texts.{NoneHas, named_of}
 use Rattle.named.proofs.Tables.{found_has, none_has, texts_tell}
-use Rattle.net_answers.specs.Nets.{of_fitting, of_net}
+use Rattle.net_answers.specs.Nets.{of_fitting}
 use Rattle.net_answers.proofs.Nets.{as_many, fits_or_clash, fitting_text, its_net}
 use Rattle.net_build.specs.Built.{IsNetOf}
 use Rattle.net_build.proofs.OneNet.{one_net}
@@ -24,7 +24,7 @@ use Rattle.tml_run.specs.OneReply.{is_broken_off}
 use Rattle.tml_run.proofs.OneFile.{answered}
 use Rattle.tml_run.specs.declared.status.Status.{Status}
 use Rattle.tml_run.specs.declared.status.Status.TheVariants.{Clash, Done, UnknownName}
-use Rattle.order_answers.specs.Ask.{AskIsFree, AskedFollows, IsFreeAsk, IsRelation, Name, NamesNone, NamesOne, OfAsk, OfRelation, ReportsUnknown, ask_rows, of_numbers}
+use Rattle.order_answers.specs.Ask.{AskIsFree, IsFreeAsk, IsRelation, Name, OfAsk, OfRelation, ReportsUnknown, ask_rows, of_numbers}
 use Rattle.order_answers.proofs.Fitting.{some_answer}
 use Rattle.order_answers.proofs.OneCounterexample.{one_counterexample}
 

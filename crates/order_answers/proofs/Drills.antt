@@ -32,17 +32,13 @@ use Rattle.evidence_answers.proofs.VerifyAnswered.{same_status, same_text}
 use Rattle.tml_accept.proofs.Phases.{accepted_or_fault, one_document}
 use Rattle.order_answers.proofs.Timelines.{one_least, one_number, timeline_supported}
 
--- the document of a drill says what was drawn
-pub says_drawn : (n : ℕ) → IsDrill n → Says (drill_document n) (drill_contents n)
-says_drawn n drill = drill_is_accepted n drill
-
 -- it has no fault
 pub no_fault : (n : ℕ) (kind : FaultKind) (place : ℕ) → IsDrill n → FirstFault (drill_document n) kind place → ⊥
-no_fault n kind place drill fault = accepted_or_fault (drill_document n) kind place (drill_contents n, says_drawn n drill) fault
+no_fault n kind place drill fault = accepted_or_fault (drill_document n) kind place (drill_contents n, drill_is_accepted n drill) fault
 
 -- it says nothing else
 pub only_drawn : (n : ℕ) (contents : PlainDocument) → IsDrill n → Says (drill_document n) contents → contents ≡ drill_contents n
-only_drawn n contents drill says = one_document (drill_document n) contents (drill_contents n) says (says_drawn n drill)
+only_drawn n contents drill says = one_document (drill_document n) contents (drill_contents n) says (drill_is_accepted n drill)
 
 -- its net has as many intervals as its number says
 pub as_many_points : (n : ℕ) (net : PlainNet) → IsNetOf (drill_contents n) net → points net ≡ 2 * n

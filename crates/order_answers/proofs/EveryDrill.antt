@@ -5,10 +5,11 @@ use Rattle.std.proofs.lemmas.List.Elements.{All-cons, All-nil, All-weaker}
 use Rattle.drill.specs.Laws.{IsDrill}
 use Rattle.drill.specs.Numbers.{hidden_timeline}
 use Rattle.drill.specs.Texts.{drill_contents, drill_document}
+use Rattle.drill.proofs.Accepted.{drill_is_accepted}
 use Rattle.drill.proofs.Fitting.{hidden_intervals_fit}
 use Rattle.order_answers.specs.declared.drill_command.Figures.{Figures}
 use Rattle.order_answers.specs.Drill.{IsGreatest, IsSummary, figure_lines}
-use Rattle.order_answers.proofs.Drills.{as_many_points, says_drawn}
+use Rattle.order_answers.proofs.Drills.{as_many_points}
 use Rattle.net_answers.proofs.Nets.{its_net}
 use Rattle.net_core.specs.Entailment.{HasTimeline}
 use Rattle.order_answers.proofs.Fitting.{some_relations, some_timeline}
@@ -32,7 +33,7 @@ some_greatest (n ∷ numbers) some = every_greatest n numbers
 pub every_drill : (n : ℕ) → IsDrill n → (text : List ℕ) × IsSummary n text
 every_drill n drill =
     let contents = drill_contents n in
-    let says = says_drawn n drill in
+    let says = drill_is_accepted n drill in
     let has = its_net (drill_document n) contents says in
     let fits : HasTimeline has.net = (hidden_timeline n, hidden_intervals_fit n has.net drill has.built) in
     let shown = some_timeline has.net has.is fits in

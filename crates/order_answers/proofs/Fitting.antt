@@ -1,5 +1,5 @@
 -- Every net that some timeline fits has an answer to what is asked of it: the text of its least timeline, and of each relation a proof or a counterexample.
-use Rattle.std.proofs.Common.{◌⊎◌, inl, inr, ℕ, zero, suc, ◌*◌, ◌<◌, ◌≤◌, List, [], ◌∷◌, map, length, get_or, false, refl, ap, subst, sym, arith, None, Some}
+use Rattle.std.proofs.Common.{◌⊎◌, inl, inr, ℕ, zero, suc, ◌*◌, ◌<◌, ◌≤◌, List, [], ◌∷◌, length, get_or, false, refl, ap, subst, sym, arith, None, Some}
 use Rattle.std.specs.List.{AllByRecursion, Contains, concat}
 use Rattle.std.proofs.lemmas.Bool.{cases_lt}
 use Rattle.std.proofs.lemmas.List.{get_or_past}

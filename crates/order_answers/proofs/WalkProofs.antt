@@ -1,24 +1,16 @@
 -- Walks prove the orders that hold in every timeline that fits.
-use Rattle.std.proofs.Common.{◌≡◌, ◌==◌, ℕ, ◌+◌, ◌*◌, ◌%◌, ◌<◌, ◌≤◌, Bool, true, false, nat_lt, List, [], ◌∷◌, ◌++◌, length, get_or, replicate, below_more, Some, All, refl, sym, ap, subst, ◌∙◌, arith}
-use Rattle.std.specs.List.{slice_get}
-use Rattle.std.proofs.lemmas.Bool.{ltb-true}
+use Rattle.std.proofs.Common.{◌≡◌, ℕ, ◌+◌, ◌*◌, ◌<◌, ◌≤◌, Bool, true, false, List, [], ◌∷◌, ◌++◌, length, get_or, replicate, below_more, refl, sym, ap, subst, ◌∙◌, arith}
 use Rattle.std.proofs.lemmas.List.{get_or-replicate, get_or_append_left}
-use Rattle.std.proofs.lemmas.List.Elements.{All-cons, All-from_get_or, All-get_or, All-nil}
-use Rattle.std.proofs.lemmas.Option.{option_and_then_some, slice_get_within}
-use Rattle.net_core.specs.Atoms.{IsInRange, atoms_of, before, points_of}
-use Rattle.net_core.specs.Bounds.{lower_of, upper_of}
+use Rattle.std.proofs.lemmas.List.Elements.{All-from_get_or, All-get_or}
+use Rattle.net_core.specs.Atoms.{IsInRange, atoms_of, points_of}
 use Rattle.net_core.specs.Fits.{EveryLink, Fits, FitsWith}
-use Rattle.net_core.specs.Nets.{IsNet, PlainNet, intervals, lower, points, upper}
+use Rattle.net_core.specs.Nets.{IsNet, PlainNet, points}
 use Rattle.net_core.specs.Relations.{Timeline}
-use Rattle.net_core.specs.Steps.{atom_of}
-use Rattle.net_core.specs.Walks.{HasWalk, IsJoined, IsWalk, Kept}
+use Rattle.net_core.specs.Walks.{HasWalk, IsWalk, Kept}
 use Rattle.net_core.specs.declared.atom.Atom.{Atom}
-use Rattle.net_core.specs.declared.net.NetLink.{NetLink}
 use Rattle.net_core.specs.declared.rels.Rel.{Rel}
 use Rattle.net_core.specs.declared.step.Step.{Step}
-use Rattle.net_core.specs.declared.step.Step.TheVariants.{Link, Span, Calendar}
 use Rattle.net_core.proofs.AtomLaws.{atoms_counted}
-use Rattle.net_core.proofs.StepLaws.{number_within, ordered, tested}
 use Rattle.net_core.proofs.WalkLaws.{joined_more}
 use Rattle.clash.proofs.Complete.{walks_say_all}
 use Rattle.net_core.specs.Entailment.{AlwaysHolds, AreIntervals, HasTimeline}
@@ -26,7 +18,7 @@ use Rattle.evidence_check.specs.Refusals.{Proves, atom_at, walk_at}
 use Rattle.evidence_check.specs.Supported.{IsProof, IsSupported}
 use Rattle.evidence_check.proofs.Soundness.{supported_is_true}
 use Rattle.evidence_check.proofs.Zipped.{zip_from}
-use Rattle.evidence_format.specs.Evidence.{AreSteps, HasNumbers, IsText, IsWellFormed, entails}
+use Rattle.evidence_format.specs.Evidence.{AreSteps, IsText, IsWellFormed, entails}
 use Rattle.order_answers.specs.Ask.{AreWalks, ShowsProof}
 use Rattle.net_answers.proofs.StepNumbers.{walk_numbers}
 use Rattle.net_answers.proofs.Sizes.{entails_size}

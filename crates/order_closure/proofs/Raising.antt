@@ -31,7 +31,7 @@ joined_raised a p e q r ae aq pe pq = elim (either a p) [
   ]
 ]
 
--- what goes round over an order that is not denied is no stronger than Weak
+-- a closed way over an order that is not denied is no stronger than Weak
 round : (x y z : Cell) (o : Bool) → strength (joined y x) ≤ strength z → strength (joined z (order o)) ≤ 1 → strength (joined (joined x (order o)) y) ≤ 1
 round Free y z o h k = omega arith
 round Weak Free z true h k = omega arith

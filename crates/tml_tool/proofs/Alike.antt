@@ -1,7 +1,6 @@
 -- A document and its canonical text have one answer to what is asked of what they say.
-use Rattle.std.proofs.Common.{◌≡◌, ◌↔◌, true, false, ℕ, ◌+◌, List, [], ◌∷◌, length, sym, subst, ◌∙◌, inl, inr, Some}
+use Rattle.std.proofs.Common.{◌≡◌, true, false, ℕ, ◌+◌, List, [], ◌∷◌, sym, subst, ◌∙◌, inl, inr, Some}
 use Rattle.answers.specs.Documents.{Contents, doc_file, document_rows, of_contents}
-use Rattle.document_answers.specs.Canon.{HasCanonicalText}
 use Rattle.document_answers.specs.Check.{OfCheck}
 use Rattle.document_answers.specs.Dates.{OfDates}
 use Rattle.net_answers.specs.Nets.{of_net}
@@ -24,7 +23,6 @@ use Rattle.tml_run.specs.declared.status.Status.{Status}
 use Rattle.tml_run.proofs.OneFile.{replied, replies}
 use Rattle.tml_tree.specs.Plain.{PlainNode}
 use Rattle.tml_tool.specs.Alike.{CanonicalIsAlike, HasReply, HoldsDocument, is_of_contents}
-use Rattle.tml_tool.specs.Commands.{rows_with}
 use Rattle.tml_tool.specs.Forms.{argument}
 use Rattle.tml_tool.specs.declared.commands.Form.{Form}
 use Rattle.tml_tool.specs.declared.commands.Form.TheVariants.{Check, Dates, Solve, Ask, Relations}

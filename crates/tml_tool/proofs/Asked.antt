@@ -1,5 +1,5 @@
 -- The form that some words have, by its word and by how many arguments there are.
-use Rattle.std.proofs.Common.{◌≡◌, ◌≢◌, ◌↔◌, inl, inr, ℕ, ◌==◌, List, [], ◌∷◌, length, map, true, false, refl, sym, ap, subst, ◌∙◌, Option, Some, None, Bool, String, Global, string_bytes, arith}
+use Rattle.std.proofs.Common.{◌≡◌, ◌≢◌, ◌↔◌, inl, inr, ℕ, ◌==◌, List, [], ◌∷◌, length, true, false, refl, sym, ap, subst, ◌∙◌, Option, Some, None, Bool, String, Global, string_bytes, arith}
 use Rattle.std.specs.Prelude.{codes, if◌then◌else◌}
 use Rattle.std.proofs.lemmas.Bool.{eq-eqb}
 use Rattle.std.proofs.lemmas.Bool.Decides.{eqb_tells}

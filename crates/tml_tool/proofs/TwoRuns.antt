@@ -1,15 +1,14 @@
 -- What is printed as evidence, `verify` accepts.
-use Rattle.std.proofs.Common.{◌≡◌, ◌≤◌, ◌+◌, true, false, ℕ, List, map, [], ◌∷◌, length, refl, sym, ap, subst, ◌∙◌, Some, inl, inr, arith}
+use Rattle.std.proofs.Common.{◌≡◌, ◌≤◌, ◌+◌, true, false, ℕ, List, map, [], ◌∷◌, length, refl, Some, inl, inr, arith}
 use Rattle.answers.specs.Documents.{Contents, doc_file, document_rows, of_contents}
 use Rattle.evidence_answers.specs.Texts.{claim_line}
 use Rattle.evidence_answers.specs.Verify.{evidence_file, verify_rows}
 use Rattle.evidence_answers.proofs.VerifyAnswered.{verify_answered}
 use Rattle.evidence_format.specs.Evidence.{clash, counter, entails, timeline}
 use Rattle.net_answers.specs.Nets.{HasEvidence, NetAnswers, of_net}
-use Rattle.net_build.specs.Built.{IsNetOf}
 use Rattle.net_core.specs.Nets.{PlainNet}
 use Rattle.net_core.specs.Ranks.{pairs_of}
-use Rattle.order_answers.specs.Ask.{OfAsk, OfRelation, of_numbers}
+use Rattle.order_answers.specs.Ask.{OfAsk, of_numbers}
 use Rattle.order_answers.specs.Relations.{OfRelations}
 use Rattle.order_answers.specs.Solve.{OfSolve}
 use Rattle.tml_accept.specs.Acceptance.{Says}
@@ -19,7 +18,7 @@ use Rattle.tml_run.specs.OneReply.{is_broken_off}
 use Rattle.tml_run.specs.Reading.{total}
 use Rattle.tml_run.specs.Replies.{Replies}
 use Rattle.tml_run.specs.declared.status.Status.{Status}
-use Rattle.tml_run.specs.declared.status.Status.TheVariants.{Done, Clash, DocFault, TooLong, UnknownName}
+use Rattle.tml_run.specs.declared.status.Status.TheVariants.{Done, Clash, DocFault, TooLong}
 use Rattle.tml_run.proofs.OneFile.{answered_or_long}
 use Rattle.tml_run.proofs.OneReply.{one_reply}
 use Rattle.tml_tool.specs.Commands.{rows_with}

@@ -1,9 +1,8 @@
 -- Words, and the form that they have. Nothing here knows what forms there are.
-use Rattle.std.specs.Prelude.{ℕ, Bool, List, [], ◌∷◌, ◌++◌, codes, length, map, String, string_bytes, ◌==◌, None, Some, if◌then◌else◌}
+use Rattle.std.specs.Prelude.{ℕ, Bool, List, [], ◌++◌, codes, length, map, String, string_bytes, ◌==◌, None, Some, if◌then◌else◌}
 use Rattle.std.specs.List.{flat_map, slice_index_or}
 use Rattle.std.specs.declared.alloc.Global.{Global}
 use Rattle.std.specs.declared.option.Option.{Option}
-use Rattle.named.specs.Texts.{named_of}
 
 -- the words as bytes
 abbrev pub texts_of : List (String Global) → List (List ℕ)

@@ -1,7 +1,7 @@
 //! The table of commands: of each form of words its word, its arguments and its reply. A further command adds a line to
 //! each.
 ghost use Rattle.std.proofs.Common.{rules};
-ghost use Rattle.std.specs.Prelude.{true, ◌≡◌, ◌≤◌, ◌<◌, ◌↔◌, length, None};
+ghost use Rattle.std.specs.Prelude.{◌≡◌, ◌≤◌, ◌<◌, ◌↔◌, length, None};
 ghost use Rattle.tml_io.specs.Faults.{HasRisen};
 ghost use Rattle.tml_run.specs.Replied.{IsReplyTo};
 ghost use Rattle.tml_run.specs.View.{status_of, text_of};

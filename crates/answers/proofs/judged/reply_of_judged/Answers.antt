@@ -1,5 +1,5 @@
 use Rattle.answers.specs.Documents.{doc_file}
-use Rattle.std.proofs.Common.{[], ◌∷◌, ◌+◌, ◌∙◌, sym, subst, refl, arith, Option, Some}
+use Rattle.std.proofs.Common.{[], ◌∷◌, ◌+◌, ◌∙◌, sym, subst, refl, arith, Option}
 use Rattle.std.proofs.lemmas.Result.{IfOk-weaker}
 use Rattle.tml_io.specs.Files.{Files, IsThere}
 use Rattle.tml_accept.specs.Acceptance.{Accepted}

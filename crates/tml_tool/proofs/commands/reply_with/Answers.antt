@@ -1,8 +1,3 @@
-use Rattle.std.proofs.Common.{[], refl, sym, ap, ◌∙◌, arith, Some, None, inl}
-use Rattle.std.specs.Prelude.{is_some}
-use Rattle.order_answers.specs.Drill.{drill_number, drill_rows}
-use Rattle.tml_run.proofs.HowItEnds.{answered_or_not}
-use Rattle.tml_tool.specs.Commands.{rows_of}
 use Rattle.tml_tool.proofs.commands.reply_with.Goals as goal
 
 pub returns-in-Spans-clause-reply : goal.returns-in-Spans-clause-reply

@@ -1,9 +1,7 @@
 use Rattle.std.proofs.Common.{codes, inl, inr, refl}
-use Rattle.std.proofs.lemmas.Result.{IfOk-weaker}
 use Rattle.std.proofs.lemmas.Option.{slice_get_within}
-use Rattle.order_answers.specs.Ask.{Name, OfAsk}
+use Rattle.order_answers.specs.Ask.{OfAsk}
 use Rattle.order_answers.proofs.Reporting.{is_none, reported}
-use Rattle.tml_run.specs.View.{finding_status}
 use Rattle.tml_run.specs.declared.answer.Finding.TheVariants as findings
 use Rattle.order_answers.proofs.ask.AskOfDocument.answer.Goals as goal
 
@@ -16,12 +14,15 @@ pub returns-in_default-index_of : goal.returns-in_default-index_of
 returns-in_default-index_of c =
     reported (OfAsk c.args.self.now.x.now c.args.self.now.rel.now c.args.self.now.y.now c.args.document.now) c.unknown-in_default-index_of.result findings.UnknownName (codes "unknown Y\n")
     c.unknown-in_default-index_of.ensures.finding c.unknown-in_default-index_of.ensures.text
-    (inl (refl, inr (inr (
-      (c.in-Some.a, c.in-Some.ensures.some),
-      (c.in-Some-rel_of.rel, c.in-Some-rel_of.ensures.some),
-      c.index_of-2.ensures.none (is_none c.index_of-2.result c.in_default-index_of.not-Some),
+    (inl (
       refl,
-    ))))
+      inr (inr (
+        (c.in-Some.a, c.in-Some.ensures.some),
+        (c.in-Some-rel_of.rel, c.in-Some-rel_of.ensures.some),
+        c.index_of-2.ensures.none (is_none c.index_of-2.result c.in_default-index_of.not-Some),
+        refl,
+      )),
+    ))
 
 pub answer_of_net-requires : goal.answer_of_net-requires
 answer_of_net-requires c = (
