@@ -25,20 +25,20 @@ pub struct Mask {
 }
 
 impl Mask {
+    /// A relation, with the bits of its orders.
+    fn of(rel: Rel) -> Mask
+        ensures { result ≡ mask_for rel }
+    {
+        let bits = mask_of(orders_of(rel));
+        Mask { rel, bits }
+    }
+
     /// Whether all orders of the relation are among these.
     pub fn is_in(self, given: u32) -> bool
         ensures { result ≡ (bit_and given self.bits == self.bits) }
     {
         given & self.bits == self.bits
     }
-}
-
-/// A relation, with the bits of its orders.
-fn mask(rel: Rel) -> Mask
-    ensures { result ≡ mask_for rel }
-{
-    let bits = mask_of(orders_of(rel));
-    Mask { rel, bits }
 }
 
 /// The relations of TLINK that hold between two intervals in all timelines that keep a table.
@@ -53,7 +53,7 @@ impl RelSet {
     pub fn has(&self, rel: Rel) -> bool
         ensures { result ≡ spec.has self.now rel }
     {
-        mask(rel).is_in(self.given)
+        Mask::of(rel).is_in(self.given)
     }
 }
 
@@ -78,7 +78,7 @@ pub fn masks(alloc: Global) -> Result<Vec<Mask>, Memory>
 {
     let mut masks = Vec::new(alloc);
     for rel in Rel::all() {
-        if masks.push(mask(*rel)).is_err() {
+        if masks.push(Mask::of(*rel)).is_err() {
             return Err(Memory);
         }
     }
