@@ -86,14 +86,19 @@ fn a_closed_walk_with_a_strict_step_leads_to_its_start(rt: HostRuntime) {
     walks_are(&rt, &net, &[false], &[(0, 0, true, None)]);
 }
 
-#[test]
-fn a_strict_step_counts_wherever_it_is(rt: HostRuntime) {
+/// Interval 0 during 1, 2 included in 1, and 0 during 2.
+fn nested(rt: &(impl Abort + AllocGlobal)) -> Net {
     let links = [
         link(0, Rel::During, 1),
         link(2, Rel::IsIncluded, 1),
         link(0, Rel::During, 2),
     ];
-    let net = net_of(&rt, &[FREE; 3], &links);
+    net_of(rt, &[FREE; 3], &links)
+}
+
+#[test]
+fn a_strict_step_counts_wherever_it_is(rt: HostRuntime) {
+    let net = nested(&rt);
     walks_are(
         &rt,
         &net,
@@ -105,7 +110,11 @@ fn a_strict_step_counts_wherever_it_is(rt: HostRuntime) {
             (2, 1, true, Some(&[via(0, 0), span(0)])),
         ],
     );
-    // a longer walk is strict where the shortest is not
+}
+
+#[test]
+fn a_longer_walk_is_strict_where_the_shortest_is_not(rt: HostRuntime) {
+    let net = nested(&rt);
     walks_are(
         &rt,
         &net,
