@@ -2,7 +2,7 @@
 //! interval 1 has 2 and 3, and interval 2 has 4 and 5.
 use super::nets::{FREE, exact, link, net_of, within};
 use clash::close;
-use net_core::{Bounds, Net, NetLink, Rel, Step, step_atom};
+use net_core::{Bounds, Net, Rel, Step, step_atom};
 use order_closure::Closed;
 use std::alloc::AllocGlobal;
 use std::process::Abort;
@@ -11,43 +11,17 @@ use walks::walk;
 /// From, to, whether a strict step is asked for, and the steps of the walk, if there is one.
 type Case<'c> = (u32, u32, bool, Option<&'c [Step]>);
 
-const SPAN_0: Step = Step::Span { interval: 0 };
+fn via(link: u32, atom: u32) -> Step {
+    Step::Link { link, atom }
+}
 
-const SPAN_1: Step = Step::Span { interval: 1 };
+fn span(interval: u32) -> Step {
+    Step::Span { interval }
+}
 
-const SPAN_2: Step = Step::Span { interval: 2 };
-
-const VIA_0_0: Step = Step::Link { link: 0, atom: 0 };
-
-const VIA_0_1: Step = Step::Link { link: 0, atom: 1 };
-
-const VIA_0_2: Step = Step::Link { link: 0, atom: 2 };
-
-const VIA_0_3: Step = Step::Link { link: 0, atom: 3 };
-
-const VIA_1_0: Step = Step::Link { link: 1, atom: 0 };
-
-const VIA_1_1: Step = Step::Link { link: 1, atom: 1 };
-
-const VIA_1_2: Step = Step::Link { link: 1, atom: 2 };
-
-const VIA_2_0: Step = Step::Link { link: 2, atom: 0 };
-
-const VIA_2_1: Step = Step::Link { link: 2, atom: 1 };
-
-const CALENDAR_0_2: Step = Step::Calendar { from: 0, to: 2 };
-
-const CALENDAR_1_2: Step = Step::Calendar { from: 1, to: 2 };
-
-const CALENDAR_1_4: Step = Step::Calendar { from: 1, to: 4 };
-
-const CALENDAR_2_1: Step = Step::Calendar { from: 2, to: 1 };
-
-const CALENDAR_2_4: Step = Step::Calendar { from: 2, to: 4 };
-
-const CALENDAR_5_6: Step = Step::Calendar { from: 5, to: 6 };
-
-const CALENDAR_5_7: Step = Step::Calendar { from: 5, to: 7 };
+fn calendar(from: u32, to: u32) -> Step {
+    Step::Calendar { from, to }
+}
 
 fn walks_are(rt: &(impl Abort + AllocGlobal), net: &Net, keep: &[bool], cases: &[Case]) {
     for (from, to, strict, wanted) in cases {
@@ -65,170 +39,137 @@ fn walks_are(rt: &(impl Abort + AllocGlobal), net: &Net, keep: &[bool], cases: &
     }
 }
 
-/// What the calendar says, the links, those that are kept, and walks.
-type Walks<'c> = (&'c [Bounds], &'c [NetLink], &'c [bool], &'c [Case<'c>]);
-
-const CHAIN: [NetLink; 2] = [
-    NetLink {
-        a: 0,
-        rel: Rel::Before,
-        b: 1,
-    },
-    NetLink {
-        a: 1,
-        rel: Rel::Before,
-        b: 2,
-    },
-];
-
-const ITSELF: [NetLink; 1] = [NetLink {
-    a: 0,
-    rel: Rel::Before,
-    b: 0,
-}];
-
-/// Interval 0 during 1, 2 included in 1, and 0 during 2.
-const NESTED: [NetLink; 3] = [
-    NetLink {
-        a: 0,
-        rel: Rel::During,
-        b: 1,
-    },
-    NetLink {
-        a: 2,
-        rel: Rel::IsIncluded,
-        b: 1,
-    },
-    NetLink {
-        a: 0,
-        rel: Rel::During,
-        b: 2,
-    },
-];
-
-const ENDS: [NetLink; 2] = [
-    NetLink {
-        a: 0,
-        rel: Rel::Simultaneous,
-        b: 1,
-    },
-    NetLink {
-        a: 2,
-        rel: Rel::EndedBy,
-        b: 0,
-    },
-];
-
-const WALKS: [Walks<'static>; 7] = [
-    (
-        &[FREE; 3],
-        &CHAIN,
+#[test]
+fn walks_go_along_links_that_are_kept(rt: HostRuntime) {
+    let links = [link(0, Rel::Before, 1), link(1, Rel::Before, 2)];
+    let net = net_of(&rt, &[FREE; 3], &links);
+    walks_are(
+        &rt,
+        &net,
         &[true, true],
         &[
-            (1, 4, true, Some(&[VIA_0_0, SPAN_1, VIA_1_0])),
-            (1, 4, false, Some(&[VIA_0_0, SPAN_1, VIA_1_0])),
-            (0, 3, true, Some(&[SPAN_0, VIA_0_0, SPAN_1])),
+            (1, 4, true, Some(&[via(0, 0), span(1), via(1, 0)])),
+            (1, 4, false, Some(&[via(0, 0), span(1), via(1, 0)])),
+            (0, 3, true, Some(&[span(0), via(0, 0), span(1)])),
             (4, 1, false, None),
             (3, 2, true, None),
             // a point to itself
             (2, 2, false, Some(&[])),
             (2, 2, true, None),
         ],
-    ),
-    (
-        &[FREE; 3],
-        &CHAIN,
+    );
+    walks_are(
+        &rt,
+        &net,
         &[true, false],
         &[
             (1, 4, false, None),
-            (1, 3, true, Some(&[VIA_0_0, SPAN_1])),
-            (4, 5, true, Some(&[SPAN_2])),
+            (1, 3, true, Some(&[via(0, 0), span(1)])),
+            (4, 5, true, Some(&[span(2)])),
         ],
-    ),
-    // a closed walk with a strict step leads to its start
-    (
-        &[FREE],
-        &ITSELF,
+    );
+}
+
+#[test]
+fn a_closed_walk_with_a_strict_step_leads_to_its_start(rt: HostRuntime) {
+    let net = net_of(&rt, &[FREE], &[link(0, Rel::Before, 0)]);
+    walks_are(
+        &rt,
+        &net,
         &[true],
         &[
             (0, 0, false, Some(&[])),
-            (0, 0, true, Some(&[SPAN_0, VIA_0_0])),
-            (1, 1, true, Some(&[VIA_0_0, SPAN_0])),
+            (0, 0, true, Some(&[span(0), via(0, 0)])),
+            (1, 1, true, Some(&[via(0, 0), span(0)])),
         ],
-    ),
-    (&[FREE], &ITSELF, &[false], &[(0, 0, true, None)]),
-    // a strict step counts wherever it is
-    (
-        &[FREE; 3],
-        &NESTED,
-        &[true, false, false],
-        &[
-            (2, 0, false, Some(&[VIA_0_0])),
-            (2, 0, true, None),
-            (0, 3, true, Some(&[SPAN_0, VIA_0_1])),
-            (2, 1, true, Some(&[VIA_0_0, SPAN_0])),
-        ],
-    ),
-    // a longer walk is strict where the shortest is not
-    (
-        &[FREE; 3],
-        &NESTED,
-        &[true, true, true],
-        &[
-            (2, 0, false, Some(&[VIA_0_0])),
-            (2, 0, true, Some(&[VIA_1_0, VIA_2_0])),
-            (1, 3, false, Some(&[VIA_0_1])),
-            (1, 3, true, Some(&[VIA_2_1, VIA_1_1])),
-        ],
-    ),
-    // each order of a link is a step
-    (
-        &[FREE; 3],
-        &ENDS,
-        &[true, true],
-        &[
-            (0, 2, false, Some(&[VIA_0_0])),
-            (2, 0, false, Some(&[VIA_0_1])),
-            (1, 3, false, Some(&[VIA_0_2])),
-            (3, 1, false, Some(&[VIA_0_3])),
-            (1, 5, false, Some(&[VIA_1_1])),
-            (5, 1, false, Some(&[VIA_1_0])),
-            (4, 0, true, Some(&[VIA_1_2])),
-            (4, 2, true, Some(&[VIA_1_2, VIA_0_0])),
-            (5, 3, true, None),
-        ],
-    ),
-];
-
-#[test]
-fn walks_go_along_links_that_are_kept(rt: HostRuntime) {
-    for (bounds, links, keep, cases) in WALKS {
-        walks_are(&rt, &net_of(&rt, bounds, links), keep, cases);
-    }
+    );
+    walks_are(&rt, &net, &[false], &[(0, 0, true, None)]);
 }
 
-const DATE_WALKS: [Case<'static>; 12] = [
-    (0, 2, true, Some(&[CALENDAR_0_2])),
-    (2, 0, false, None),
-    // equal numbers
-    (1, 2, false, Some(&[CALENDAR_1_2])),
-    (2, 1, false, Some(&[CALENDAR_2_1])),
-    (1, 2, true, None),
-    // what is within numbers is after the lower one and before the higher one, and nothing more
-    (1, 4, true, Some(&[CALENDAR_1_4])),
-    (3, 4, false, None),
-    (5, 3, false, None),
-    (5, 6, false, Some(&[CALENDAR_5_6])),
-    (5, 6, true, None),
-    (5, 7, true, Some(&[CALENDAR_5_7])),
-    (2, 5, true, Some(&[CALENDAR_2_4, SPAN_2])),
-];
+/// Interval 0 during 1, 2 included in 1, and 0 during 2.
+fn nested(rt: &(impl Abort + AllocGlobal)) -> Net {
+    let links = [
+        link(0, Rel::During, 1),
+        link(2, Rel::IsIncluded, 1),
+        link(0, Rel::During, 2),
+    ];
+    net_of(rt, &[FREE; 3], &links)
+}
+
+#[test]
+fn a_strict_step_counts_wherever_it_is(rt: HostRuntime) {
+    let net = nested(&rt);
+    walks_are(
+        &rt,
+        &net,
+        &[true, false, false],
+        &[
+            (2, 0, false, Some(&[via(0, 0)])),
+            (2, 0, true, None),
+            (0, 3, true, Some(&[span(0), via(0, 1)])),
+            (2, 1, true, Some(&[via(0, 0), span(0)])),
+        ],
+    );
+}
+
+#[test]
+fn a_longer_walk_is_strict_where_the_shortest_is_not(rt: HostRuntime) {
+    let net = nested(&rt);
+    walks_are(
+        &rt,
+        &net,
+        &[true, true, true],
+        &[
+            (2, 0, false, Some(&[via(0, 0)])),
+            (2, 0, true, Some(&[via(1, 0), via(2, 0)])),
+            (1, 3, false, Some(&[via(0, 1)])),
+            (1, 3, true, Some(&[via(2, 1), via(1, 1)])),
+        ],
+    );
+}
+
+#[test]
+fn each_order_of_a_link_is_a_step(rt: HostRuntime) {
+    let links = [link(0, Rel::Simultaneous, 1), link(2, Rel::EndedBy, 0)];
+    walks_are(
+        &rt,
+        &net_of(&rt, &[FREE; 3], &links),
+        &[true, true],
+        &[
+            (0, 2, false, Some(&[via(0, 0)])),
+            (2, 0, false, Some(&[via(0, 1)])),
+            (1, 3, false, Some(&[via(0, 2)])),
+            (3, 1, false, Some(&[via(0, 3)])),
+            (1, 5, false, Some(&[via(1, 1)])),
+            (5, 1, false, Some(&[via(1, 0)])),
+            (4, 0, true, Some(&[via(1, 2)])),
+            (4, 2, true, Some(&[via(1, 2), via(0, 0)])),
+            (5, 3, true, None),
+        ],
+    );
+}
 
 #[test]
 fn dates_are_steps_where_their_numbers_do_not_fall(rt: HostRuntime) {
     // two days, some time from 12 to 30, and the days after it
     let bounds = [exact(-10, 10), exact(10, 20), within(12, 30), exact(30, 40)];
-    walks_are(&rt, &net_of(&rt, &bounds, &[]), &[], &DATE_WALKS);
+    let cases: [Case; 12] = [
+        (0, 2, true, Some(&[calendar(0, 2)])),
+        (2, 0, false, None),
+        // equal numbers
+        (1, 2, false, Some(&[calendar(1, 2)])),
+        (2, 1, false, Some(&[calendar(2, 1)])),
+        (1, 2, true, None),
+        // what is within numbers is after the lower one and before the higher one, and nothing more
+        (1, 4, true, Some(&[calendar(1, 4)])),
+        (3, 4, false, None),
+        (5, 3, false, None),
+        (5, 6, false, Some(&[calendar(5, 6)])),
+        (5, 6, true, None),
+        (5, 7, true, Some(&[calendar(5, 7)])),
+        (2, 5, true, Some(&[calendar(2, 4), span(2)])),
+    ];
+    walks_are(&rt, &net_of(&rt, &bounds, &[]), &[], &cases);
 }
 
 /// What the calendar says of three intervals, and the relations of the first to the second and of the second to the
