@@ -1,6 +1,6 @@
 -- What follows from a net: what is true of every timeline that fits it.
 use Rattle.std.specs.Prelude.{Bool, ℕ, ◌<◌}
-use Rattle.net_core.specs.Atoms.{IsInOrder, Satisfies}
+use Rattle.net_core.specs.Atoms.{IsInOrder}
 use Rattle.net_core.specs.Fits.{Fits, FitsWith}
 use Rattle.net_core.specs.Nets.{PlainNet, intervals}
 use Rattle.net_core.specs.Relations.{Relates, Timeline}

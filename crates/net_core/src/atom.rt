@@ -68,7 +68,7 @@ impl PairOrder {
     }
 }
 
-/// The orders that a relation between two intervals is, of one to four: the table of relations.
+/// The orders that a relation between two intervals is, one to four: the table of relations.
 pub fn orders_of(rel: Rel) -> &'static [PairOrder]
     ensures orders { result.now ≡ spec.orders_of rel }
 {
