@@ -18,7 +18,7 @@ use Rattle.evidence_format.specs.Evidence.{IsText, timeline}
 use Rattle.tml_refs.specs.Documents.{PlainDocument, instance}
 use Rattle.tml_accept.specs.Acceptance.{FirstFault, Says}
 use Rattle.order_answers.specs.Drill.{AreFigures, IsGreatest, IsSummary, figure_lines}
-use Rattle.order_answers.specs.Solve.{AreLeastRanks}
+use Rattle.net_core.specs.Least.{AreLeastRanks}
 use Rattle.evidence_answers.specs.Verify.{OfEvidence, OfVerify}
 use Rattle.tml_run.specs.View.{finding_status}
 use Rattle.tml_run.specs.declared.answer.Finding.{Finding}

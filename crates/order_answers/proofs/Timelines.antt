@@ -9,8 +9,8 @@ use Rattle.clash.specs.Closures.{IsClosureOf}
 use Rattle.evidence_check.specs.Supported.{IsSupported}
 use Rattle.evidence_format.specs.Evidence.{IsText, timeline}
 use Rattle.order_closure.specs.Tables.{Keeps, Table}
-use Rattle.net_core.specs.Least.{IsLeast}
-use Rattle.order_answers.specs.Solve.{AreLeastRanks, IsLeastText, ShowsTimeline}
+use Rattle.net_core.specs.Least.{AreLeastRanks, IsLeast}
+use Rattle.order_answers.specs.Solve.{IsLeastText, ShowsTimeline}
 
 -- the least timeline that keeps the closure of a net is the least one that fits the net
 pub least_fits : (net : PlainNet) (table : Table) (t : Timeline) → IsClosureOf net table → IsLeast table.points (Keeps table) t → IsLeast (points net) (Fits net) t

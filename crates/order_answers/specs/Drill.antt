@@ -13,7 +13,7 @@ use Rattle.tml_run.specs.Rows.{Rows, answers}
 use Rattle.tml_run.specs.declared.status.Status.{Status}
 use Rattle.tml_run.specs.declared.status.Status.TheVariants.{Done}
 use Rattle.order_answers.specs.Relations.{AreRelations}
-use Rattle.order_answers.specs.Solve.{AreLeastRanks}
+use Rattle.net_core.specs.Least.{AreLeastRanks}
 use Rattle.order_answers.specs.declared.drill_command.Figures.{Figures}
 
 -- the number of a drill by its word, in decimal

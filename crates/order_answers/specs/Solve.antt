@@ -4,18 +4,13 @@ use Rattle.answers.specs.Documents.{document_rows}
 use Rattle.evidence_format.specs.Evidence.{IsText, timeline}
 use Rattle.net_answers.specs.Nets.{NetAnswers, of_net}
 use Rattle.net_answers.specs.Showing.{ShowsEvidence}
-use Rattle.net_core.specs.Fits.{Fits}
 use Rattle.net_core.specs.Limits.{max_printed}
 use Rattle.net_core.specs.Nets.{PlainNet, points}
 use Rattle.net_core.specs.Ranks.{pairs_of, timeline_of}
 use Rattle.order_closure.specs.Tables.{Keeps, Table}
-use Rattle.net_core.specs.Least.{IsLeast}
+use Rattle.net_core.specs.Least.{AreLeastRanks, IsLeast}
 use Rattle.tml_run.specs.Rows.{Rows}
 use Rattle.tml_run.specs.declared.status.Status.TheVariants.{Done}
-
--- two ranks for each interval, which are those of the least timeline that fits
-abbrev pub AreLeastRanks : PlainNet → List ℕ → Type 0
-AreLeastRanks net ranks = (length ranks ≡ points net) × IsLeast (points net) (Fits net) (timeline_of ranks)
 
 -- the text is that of the least timeline that fits the net
 abbrev pub ShowsTimeline : PlainNet → List ℕ → Type 0
