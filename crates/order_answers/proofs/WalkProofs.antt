@@ -1,7 +1,8 @@
 -- Walks prove the orders that hold in every timeline that fits.
-use Rattle.std.proofs.Common.{◌≡◌, ℕ, ◌+◌, ◌*◌, ◌<◌, ◌≤◌, Bool, true, false, List, [], ◌∷◌, ◌++◌, length, get_or, replicate, below_more, refl, sym, ap, subst, ◌∙◌, arith}
+use Rattle.std.proofs.Common.{◌≡◌, ℕ, ◌+◌, ◌*◌, ◌<◌, ◌≤◌, All, Bool, true, false, List, [], ◌∷◌, ◌++◌, Some, length, get_or, slice_get, replicate, below_more, refl, sym, ap, subst, ◌∙◌, arith}
 use Rattle.std.proofs.lemmas.List.{get_or-replicate, get_or_append_left}
 use Rattle.std.proofs.lemmas.List.Elements.{All-from_get_or, All-get_or}
+use Rattle.std.proofs.lemmas.Option.{get_or_from_slice_get, slice_get_within}
 use Rattle.net_core.specs.Atoms.{IsInRange, atoms_of, points_of}
 use Rattle.net_core.specs.Fits.{EveryLink, Fits, FitsWith}
 use Rattle.net_core.specs.Nets.{IsNet, PlainNet, points}
@@ -22,6 +23,10 @@ use Rattle.evidence_format.specs.Evidence.{AreSteps, IsText, IsWellFormed, entai
 use Rattle.order_answers.specs.Ask.{AreWalks, ShowsProof}
 use Rattle.net_answers.proofs.StepNumbers.{walk_numbers}
 use Rattle.net_answers.proofs.Sizes.{entails_size}
+
+-- what is true of all of a list is true of the one at k
+pub one_of : {X : Type 0} (P : X → Type 0) (xs : List X) (k : ℕ) (x : X) → All P xs → Some x ≡ slice_get xs k → P x
+one_of P xs k x all is = subst P (get_or_from_slice_get xs k x x (sym is)) (All-get_or P xs k x (slice_get_within xs k x (sym is)) all)
 
 -- ---- with all links kept
 

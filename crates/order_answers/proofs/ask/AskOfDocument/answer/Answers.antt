@@ -1,7 +1,11 @@
 use Rattle.std.proofs.Common.{codes, inl, inr, refl}
 use Rattle.std.proofs.lemmas.Option.{slice_get_within}
-use Rattle.order_answers.specs.Ask.{OfAsk}
+use Rattle.std.proofs.lemmas.Result.{IfOk-weaker}
+use Rattle.net_answers.specs.Nets.{of_net}
+use Rattle.order_answers.specs.Ask.{Name, OfAsk, of_numbers}
 use Rattle.order_answers.proofs.Reporting.{is_none, reported}
+use Rattle.tml_run.specs.View.{finding_status}
+use Rattle.tml_run.specs.declared.answer.Answer.{Answer}
 use Rattle.tml_run.specs.declared.answer.Finding.TheVariants as findings
 use Rattle.order_answers.proofs.ask.AskOfDocument.answer.Goals as goal
 
@@ -29,3 +33,13 @@ answer_of_net-requires c = (
   slice_get_within c.args.document.now.intervals c.in-Some.a c.in-Some.ensures.some.0 c.in-Some.ensures.some.1,
   slice_get_within c.args.document.now.intervals c.in-Some-index_of.b c.in-Some-index_of.ensures.some.0 c.in-Some-index_of.ensures.some.1,
 )
+
+pub returns : goal.returns
+returns c =
+    let contents = c.args.document.now in
+    let named : Name contents c.args.self.now.x.now c.args.self.now.rel.now c.args.self.now.y.now c.in-Some.a c.in-Some-rel_of.rel c.in-Some-index_of.b = record { first = c.in-Some.ensures.some; relation = c.in-Some-rel_of.ensures.some; second = c.in-Some-index_of.ensures.some } in
+    IfOk-weaker c.answer_of_net.result
+        (λ (answer : Answer). of_net (of_numbers c.in-Some.a c.in-Some-rel_of.rel c.in-Some-index_of.b) contents (finding_status answer.finding) answer.text.items)
+        (λ (answer : Answer). OfAsk c.args.self.now.x.now c.args.self.now.rel.now c.args.self.now.y.now contents (finding_status answer.finding) answer.text.items)
+        (λ answer is. inr (c.in-Some.a, c.in-Some-rel_of.rel, c.in-Some-index_of.b, named, is))
+        c.answer_of_net.ensures

@@ -3,13 +3,16 @@ use Rattle.std.proofs.lemmas.List.Elements.{All-push}
 use Rattle.evidence_check.specs.Refusals.{Proves}
 use Rattle.evidence_check.specs.Supported.{IsProof}
 use Rattle.evidence_check.proofs.Proving.{atom_is}
-use Rattle.net_core.specs.Atoms.{atoms_in}
+use Rattle.net_core.specs.Atoms.{IsInRange, atoms_in}
 use Rattle.net_core.specs.Nets.{points}
 use Rattle.net_core.specs.declared.atom.Atom.{Atom}
 use Rattle.net_core.specs.declared.step.Step.{Step}
 use Rattle.net_core.specs.Entailment.{AlwaysHolds}
-use Rattle.order_answers.proofs.WalkProofs.{proofs_push}
+use Rattle.order_answers.proofs.WalkProofs.{one_of, proofs_push}
 use Rattle.order_answers.proofs.ask.proving.walks_for.Goals as goal
+
+pub walk_for-requires-clause-range : goal.walk_for-requires-clause-range
+walk_for-requires-clause-range c = one_of (IsInRange (points c.args.net.now)) (atoms_in c.args.atoms) c.loop-k.k c.in-Some.atom c.requires.range c.in-Some.ensures
 
 pub walk_for-requires-clause-always : goal.walk_for-requires-clause-always
 walk_for-requires-clause-always c =
