@@ -15,10 +15,10 @@ use Rattle.tml_tool.specs.declared.commands.Form.TheVariants.{Spans}
 use Rattle.tml_tool.specs.Commands.{all_forms, arguments_of, form_of, rows_of, taken, takes, usage, word_of}
 use Rattle.tml_tool.specs.Forms.{texts_of, with_arguments}
 
-by_test : (b : Bool) (asked : Option (Form × List (List ℕ))) → b ≡ true → (if b then asked else None) ≡ asked
+pub by_test : (b : Bool) (asked : Option (Form × List (List ℕ))) → b ≡ true → (if b then asked else None) ≡ asked
 by_test b asked e = ap (λ (t : Bool). if t then asked else None) e
 
-by_no_test : (b : Bool) (asked : Option (Form × List (List ℕ))) → b ≢ true → (if b then asked else None) ≡ None
+pub by_no_test : (b : Bool) (asked : Option (Form × List (List ℕ))) → b ≢ true → (if b then asked else None) ≡ None
 by_no_test true asked n = absurd (n refl)
 by_no_test false asked n = refl
 

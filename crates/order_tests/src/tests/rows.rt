@@ -84,15 +84,18 @@ fn agrees(rt: &(impl Abort + AllocGlobal), intervals: u32, links: &[NetLink]) ->
     assert!(rt; intervals == 2 || intervals == 3);
     let wanted = rows_by_definition(rt, intervals, links)?;
     let net = net_of(rt, &[FREE; 3][..intervals as usize], links);
-    match (close(rt.alloc(), &net), wanted) {
-        (Ok(table), Some(wanted)) => {
+    match close(rt.alloc(), &net) {
+        Ok(table) => {
             let Ok(rows) = rows(rt.alloc(), &table) else {
                 panic!(rt; "out of memory");
             };
+            let Some(wanted) = &wanted else {
+                panic!(rt; "a clash was missed");
+            };
             assert!(rt; are_same(rows.as_slice(), wanted.as_slice()));
         }
-        (Err(CloseFault::Clash(_)), None) => {}
-        _ => panic!(rt; "one of both clashes"),
+        Err(CloseFault::Clash(_clash)) => assert!(rt; wanted.is_none()),
+        Err(CloseFault::Memory) => panic!(rt; "out of memory"),
     }
     Ok(())
 }

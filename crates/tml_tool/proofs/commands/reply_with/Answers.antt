@@ -1,26 +1,41 @@
+use Rattle.std.proofs.Common.{refl, sym, ap, ◌∙◌}
+use Rattle.order_answers.specs.Drill.{drill_number}
+use Rattle.tml_tool.specs.Forms.{texts_of}
+use Rattle.tml_tool.proofs.Asked.{usage_replied}
+use Rattle.tml_tool.proofs.Drilled.{drill_replied, no_drill}
 use Rattle.tml_tool.proofs.commands.reply_with.Goals as goal
 
 pub returns-in-Spans-clause-reply : goal.returns-in-Spans-clause-reply
-returns-in-Spans-clause-reply g c = rw c.in-Spans.is (rw c.word.ensures at c.reply_of_file.ensures.reply)
+returns-in-Spans-clause-reply g c = rw c.in-Spans.is (rw c.word-first.ensures at c.reply_of_file.ensures.reply)
 
 pub returns-in-Check-clause-reply : goal.returns-in-Check-clause-reply
-returns-in-Check-clause-reply g c = rw c.in-Check.is (rw c.word.ensures at c.reply_of_document.ensures.reply)
+returns-in-Check-clause-reply g c = rw c.in-Check.is (rw c.word-first.ensures at c.reply_of_document.ensures.reply)
 
 pub returns-in-Dates-clause-reply : goal.returns-in-Dates-clause-reply
-returns-in-Dates-clause-reply g c = rw c.in-Dates.is (rw c.word.ensures at c.reply_of_document-in-Dates.ensures.reply)
+returns-in-Dates-clause-reply g c = rw c.in-Dates.is (rw c.word-first.ensures at c.reply_of_document-in-Dates.ensures.reply)
 
 pub returns-in-Solve-clause-reply : goal.returns-in-Solve-clause-reply
-returns-in-Solve-clause-reply g c = rw c.in-Solve.is (rw c.word.ensures at c.reply_of_document-in-Solve.ensures.reply)
+returns-in-Solve-clause-reply g c = rw c.in-Solve.is (rw c.word-first.ensures at c.reply_of_document-in-Solve.ensures.reply)
 
 pub returns-in-Ask-clause-reply : goal.returns-in-Ask-clause-reply
 returns-in-Ask-clause-reply g c =
-    rw c.in-Ask.is (rw (c.word.ensures, c.as_bytes.ensures.value, c.as_bytes-2.ensures.value, c.as_bytes-3.ensures.value, c.word-in-Ask.ensures, c.word-in-Ask-2.ensures, c.word-in-Ask-3.ensures) at c.reply_of_document-in-Ask.ensures.reply)
+    rw c.in-Ask.is (rw (c.word-first.ensures, c.as_bytes.ensures.value, c.as_bytes-in-Ask.ensures.value, c.as_bytes-in-Ask-2.ensures.value, c.word.ensures, c.word-in-Ask.ensures, c.word-in-Ask-2.ensures) at c.reply_of_document-in-Ask.ensures.reply)
 
 pub returns-in-Relations-clause-reply : goal.returns-in-Relations-clause-reply
-returns-in-Relations-clause-reply g c = rw c.in-Relations.is (rw c.word.ensures at c.reply_of_document-in-Relations.ensures.reply)
+returns-in-Relations-clause-reply g c = rw c.in-Relations.is (rw c.word-first.ensures at c.reply_of_document-in-Relations.ensures.reply)
 
 pub returns-in-Canon-clause-reply : goal.returns-in-Canon-clause-reply
-returns-in-Canon-clause-reply g c = rw c.in-Canon.is (rw c.word.ensures at c.reply_of_file-in-Canon.ensures.reply)
+returns-in-Canon-clause-reply g c = rw c.in-Canon.is (rw c.word-first.ensures at c.reply_of_file-in-Canon.ensures.reply)
 
 pub returns-in-Verify-clause-reply : goal.returns-in-Verify-clause-reply
-returns-in-Verify-clause-reply g c = rw c.in-Verify.is (rw (c.word.ensures, c.word-in-Verify.ensures) at c.reply_of_judged.ensures.reply)
+returns-in-Verify-clause-reply g c = rw c.in-Verify.is (rw (c.word-first.ensures, c.word-in-Verify.ensures) at c.reply_of_judged.ensures.reply)
+
+pub returns-in-Some-clause-reply : goal.returns-in-Some-clause-reply
+returns-in-Some-clause-reply g c =
+    let number = sym c.in-Some.is ∙ c.drill_number.ensures.number ∙ ap drill_number c.word-first.ensures in
+    rw (c.in-Drill.is, c.from_answer.ensures) (drill_replied _ _ _ _ _ (texts_of c.args.arguments.now) c.in-Some.n c.drill_summary.result number c.drill_summary.ensures refl)
+
+pub returns-in-None-clause-reply : goal.returns-in-None-clause-reply
+returns-in-None-clause-reply g c =
+    let none = no_drill (texts_of c.args.arguments.now) (sym c.in-None.is ∙ c.drill_number.ensures.number ∙ ap drill_number c.word-first.ensures) in
+    rw c.in-Drill.is (usage_replied _ _ _ _ _ _ _ none c.usage_text.ensures refl)
