@@ -39,7 +39,7 @@ returns c =
     let contents = c.args.document.now in
     let named : Name contents c.args.self.now.x.now c.args.self.now.rel.now c.args.self.now.y.now c.in-Some.a c.in-Some-rel_of.rel c.in-Some-index_of.b = record { first = c.in-Some.ensures.some; relation = c.in-Some-rel_of.ensures.some; second = c.in-Some-index_of.ensures.some } in
     IfOk-weaker c.answer_of_net.result
-        (λ (answer : Answer). of_net (of_numbers c.in-Some.a c.in-Some-rel_of.rel c.in-Some-index_of.b) contents (finding_status answer.finding) answer.text.items)
-        (λ (answer : Answer). OfAsk c.args.self.now.x.now c.args.self.now.rel.now c.args.self.now.y.now contents (finding_status answer.finding) answer.text.items)
-        (λ answer is. inr (c.in-Some.a, c.in-Some-rel_of.rel, c.in-Some-index_of.b, named, is))
-        c.answer_of_net.ensures
+    (λ (answer : Answer). of_net (of_numbers c.in-Some.a c.in-Some-rel_of.rel c.in-Some-index_of.b) contents (finding_status answer.finding) answer.text.items)
+    (λ (answer : Answer). OfAsk c.args.self.now.x.now c.args.self.now.rel.now c.args.self.now.y.now contents (finding_status answer.finding) answer.text.items)
+    (λ answer is. inr (c.in-Some.a, c.in-Some-rel_of.rel, c.in-Some-index_of.b, named, is))
+    c.answer_of_net.ensures
