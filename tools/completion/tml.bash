@@ -1,4 +1,4 @@
-# Completion for tml and tml-corpus in bash: `. tools/completion/tml.bash`, or let an installed package load it.
+# Completion for tml and its companions in bash: `. tools/completion/tml.bash`, or let an installed package load it.
 # Where a file is asked for, nothing is offered here, and readline offers the names of files.
 
 _tml_commands=(spans check dates solve ask relations canon verify drill)
@@ -77,5 +77,20 @@ _tml_corpus() {
     esac
 }
 
+# Completes the options of the small programs.
+_tml_tools() {
+    local options=(--help)
+    COMPREPLY=()
+    case ${COMP_WORDS[0]##*/} in
+        tml-edit) options+=(--rename --unwrap --value --iso --instances --links --name --drop-links --overlaps --tml) ;;
+        tml-redundant-links) options+=(--together --glob --tml --jobs) ;;
+    esac
+    case ${COMP_WORDS[COMP_CWORD - 1]}:${COMP_WORDS[COMP_CWORD]} in
+        --rename:* | --unwrap:* | --value:* | --name:* | --drop-links:* | --glob:* | --jobs:*) _tml_offer ;;
+        *:-*) _tml_offer "${options[@]}" ;;
+    esac
+}
+
 complete -o bashdefault -o default -F _tml tml
 complete -o bashdefault -o default -F _tml_corpus tml-corpus
+complete -o bashdefault -o default -F _tml_tools tml-edit tml-redundant-links tml-from-tempeval2 tml-html-entities

@@ -87,9 +87,17 @@ class Statuses(CorpusTest):
 
     def test_statuses_of_tml(self):
         self.write("a.xml", GOOD)
-        for status, words in ((4, "cannot read"), (6, "out of memory"), (9, "4,194,304"), (3, "status 3"), (137, "status 137")):
+        rows = [
+            (4, "echo read fault", "tml cannot read the file"),
+            (6, ":", "tml ran out of memory"),
+            (9, "echo too long DOC", "the file has more than 4,194,304 bytes"),
+            (3, "echo usage:", "tml answered status 3, which `check` should not"),
+            (5, "echo accepted", "tml answered status 5, which `check` should not"),
+            (137, ":", "tml answered status 137, which `check` should not"),
+        ]
+        for status, answer, words in rows:
             with self.subTest(status):
-                self.script(f"exit {status}")
+                self.script(f"{answer}; exit {status}")
                 told, lines, _ = self.run_it("check", "a.xml", tml=self.path("fake"))
                 self.assertEqual(told, 2)
                 self.assertIn(words, lines[0])

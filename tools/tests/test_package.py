@@ -33,7 +33,7 @@ def expected_names():
     names = {"usr/bin/tml", "usr/share/lintian/overrides/tml-timeml"}
     names |= {f"usr/bin/{called}" for called in SCRIPTS} | {f"{SHARE}/{name}" for name in SCRIPTS.values()}
     names |= {f"{SHARE}/tml_corpus/{name}" for name in files_in("tools/tml_corpus", ".py")}
-    names |= {f"usr/share/bash-completion/completions/{name}" for name in ("tml", "tml-corpus")}
+    names |= {f"usr/share/bash-completion/completions/{name}" for name in ("tml", *SCRIPTS)}
     names |= {f"usr/share/man/man1/{name}.1.gz" for name in ("tml", "tml-tools", *SCRIPTS)}
     names |= {f"{DOCS}/{name}" for name in ("README.md", "CHANGELOG.md", "changelog.gz", "copyright")}
     names |= {f"{DOCS}/docs/{name}" for name in files_in("docs", ".md")}
@@ -128,8 +128,7 @@ class Package(unittest.TestCase):
         self.assertEqual(sums, {name: hashlib.md5(self.content(name)).hexdigest() for name in files})
 
     def test_the_same_again(self):
-        again = os.path.join(self.folder, "again")
-        os.mkdir(again)
+        again = os.path.join(self.folder, "made", "again")
         done = self.package(TML, "--output", again, umask=0o077)
         self.assertEqual((done.returncode, done.stderr), (0, ""))
         with open(self.made, "rb") as one, open(done.stdout.rstrip("\n"), "rb") as other:

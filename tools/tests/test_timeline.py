@@ -200,7 +200,7 @@ class Strangers(TimelineTest):
                 picture = self.drawn(document(event(1, text) + event(2)))
                 label = next(label for _, label, _, _ in self.rows(picture) if "(i1)" in label)
                 self.assertRegex(label, r"^.{10,80}…\s\(i1\)$")
-                self.assertIn(" ".join(text.split()), self.titles(picture)[0])
+                self.assertIn(" ".join(text.split())[:77] + "... (i1)", self.titles(picture)[0])
 
     def test_names_of_files(self):
         name = 'a<&">é\udce9\n.xml'
@@ -229,7 +229,7 @@ class NotDrawn(TimelineTest):
         rows = [
             ("s/^at 0 1$/at 2 3/", "tml verify did not accept the timeline of tml solve: evidence part 1 Link 0"),
             ("s/^timeline 2$/timeline 1/", "tml verify did not accept the timeline of tml solve: evidence line 4"),
-            ("s/^timeline 2$/counter 1 BEFORE 0\\ntimeline 2/", "tml verify did not accept the timeline of tml solve: verified counter i2 BEFORE i1"),
+            ("s/^timeline 2$/counter 1 BEFORE 0\\ntimeline 2/", "tml answered status 0 to `solve`, and a text that does not go with it"),
             ("s/^at 2 3$/at 4 5/", "the timeline that tml solve printed is not the least one"),
             ("s/^at 2 3$/at 2 4294967295/", "the timeline that tml solve printed is not the least one"),
         ]
@@ -239,11 +239,17 @@ class NotDrawn(TimelineTest):
                 self.assertEqual(self.refused(2, content, tml=fake), [f"d.xml: not judged: {told}"])
 
     def test_verify_has_the_last_word(self):
-        for answer in ("echo verified clash 0", "echo verified timeline; exit 7", "printf 'verified timeline'", "true"):
+        refused = "tml verify did not accept the timeline of tml solve: verified clash 0"
+        rows = [("echo verified clash 0", refused)]
+        rows += [
+            (answer, f"tml answered status {status} to `verify`, and a text that does not go with it")
+            for answer, status in (("echo verified timeline; exit 7", 7), ("printf 'verified timeline'", 0), ("true", 0))
+        ]
+        for answer, said in rows:
             with self.subTest(answer):
                 fake = self.fake(f'if [ $1 = verify ]; then {answer}; exit; fi\nexec {TML} "$@"')
                 [line] = self.refused(2, document(event(1)), tml=fake)
-                self.assertTrue(line.startswith("d.xml: not judged: tml verify did not accept the timeline of tml solve: "), line)
+                self.assertEqual(line, f"d.xml: not judged: {said}")
 
     def test_answers_that_do_not_belong_together(self):
         for answer in ("solve ] && echo fault 10 MissingAttribute 9 && exit 1", "solve ] && exit 2", "solve ] && exit 6", "dates ] && exit 0", "check ] && exit 0"):

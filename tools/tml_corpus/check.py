@@ -10,7 +10,7 @@ from .faults import Fault, read_fault
 from .files import CannotRead, Found, opened, read_open
 from .further import blanked
 from .places import Place, Places
-from .program import ACCEPTED, FAULT, MEANINGS, CannotRun, Program, Reply
+from .program import ACCEPTED, FAULT, CannotRun, Program, Reply
 from .units import room_for
 
 
@@ -24,11 +24,12 @@ class PlacedNote:
 
 @dataclass(frozen=True)
 class PlacedFault:
-    """A fault with its line and column, the line of the source, and notes on it."""
+    """A fault with its line and column, the part of the source around it with the column there, and notes on it."""
 
     fault: Fault
     place: Place
     source: str
+    source_column: int
     notes: list[PlacedNote]
     perhaps_consequence: bool
 
@@ -66,9 +67,7 @@ def judge(program: Program, found: Found, explained: bool, more: int) -> Judgeme
 
 def problem_of(reply: Reply) -> str | None:
     """Why an answer is no judgement, or None where the document is accepted."""
-    if reply.status == ACCEPTED and reply.text.startswith(b"accepted\n"):
-        return None
-    return MEANINGS.get(reply.status, f"tml answered status {reply.status}, which `check` should not")
+    return None if reply.status == ACCEPTED else reply.problem()
 
 
 def judge_document(program: Program, path: str, document: bytes, explained: bool, more: int) -> Judgement:
@@ -114,4 +113,4 @@ def placed(places: Places, fault: Fault, told: Explanation, explained: bool, per
     """A fault with places in lines and columns."""
     place = places.place(fault.offset)
     notes = [PlacedNote(places.place(note.offset), note.text) for note in told.notes] if explained else []
-    return PlacedFault(fault, place, places.line_text(place.line), notes, perhaps)
+    return PlacedFault(fault, place, *places.excerpt(place), notes, perhaps)

@@ -12,7 +12,7 @@ from dataclasses import dataclass, field
 
 from .check import PlacedNote, problem_of
 from .faults import Fault, read_fault
-from .files import CannotRead, Found, counted, read_document, reason, shown
+from .files import CannotRead, Found, counted, read_document, reason, shown, written
 from .places import Place, Places
 from .program import ACCEPTED, CLASH, FAULT, CannotRun, Program
 from .units import room_for
@@ -100,7 +100,7 @@ def clash_of(program: Program, path: str, document: bytes, folder: str | None) -
         return ClashReport(path)
     if reply.status != CLASH:
         return ClashReport(path, problem=problem_of(reply))
-    with kept(path, reply.text, folder) as evidence:
+    with evidence_file(path, reply.text, folder) as evidence:
         judged = program.ask(["verify", "-", "./" + os.path.basename(evidence)], document, os.path.dirname(evidence))
         cites = re.fullmatch(rb"verified clash ([\d ]+)\n", judged.text)
         if judged.status != ACCEPTED or cites is None:
@@ -115,27 +115,17 @@ def clash_of(program: Program, path: str, document: bytes, folder: str | None) -
 
 
 @contextlib.contextmanager
-def kept(path: str, evidence: bytes, folder: str | None) -> Iterator[str]:
-    """A file with the evidence: in the folder, where it stays, or else one that goes again.
-
-    In the folder it is written under another name first, so that no file is left half written, and no symbolic link that
-    lies there is followed.
-    """
-    try:
-        handle, temporary = tempfile.mkstemp(prefix="tml-", dir=folder and os.path.abspath(folder))
-        with os.fdopen(handle, "wb") as file:
-            file.write(evidence)
-        name = temporary
-        if folder is not None:
-            name = os.path.join(os.path.dirname(temporary), evidence_name(path))
-            os.replace(temporary, name)
-    except OSError as error:
-        raise CannotRead(f"its evidence cannot be kept: {reason(error)}") from None
-    try:
+def evidence_file(path: str, evidence: bytes, folder: str | None) -> Iterator[str]:
+    """A file with the evidence: in the folder, where it stays, or else in one of its own that goes again."""
+    with contextlib.ExitStack() as stack:
+        try:
+            place = folder if folder is not None else stack.enter_context(tempfile.TemporaryDirectory(prefix="tml-"))
+            name = os.path.join(os.path.abspath(place), evidence_name(path))
+            with written(name) as file:
+                file.write(evidence)
+        except OSError as error:
+            raise CannotRead(f"its evidence cannot be kept: {reason(error)}") from None
         yield name
-    finally:
-        if folder is None:
-            os.unlink(name)
 
 
 def evidence_name(path: str) -> str:

@@ -170,14 +170,15 @@ class Cluster:
                 return True
             except TimeoutError:
                 self.look()
-        return future.status == "finished"
+        return bool(future.status == "finished")
 
     def results_of(self, future: Future) -> list[Result] | None:
         """The results of a task that is done, or None where worker after worker was lost with it."""
         from distributed import KilledWorker
 
         try:
-            return read(future.result())
+            results: list[Result] = read(future.result())
+            return results
         except KilledWorker:
             return None
         except (OSError, *CANCELLED):

@@ -7,7 +7,6 @@ be run or read, and 130 that the run was interrupted.
 from __future__ import annotations
 
 import argparse
-import io
 import os
 import sys
 from collections.abc import Callable, Iterator, Sequence
@@ -20,38 +19,31 @@ from .clashes import ClashReport, ClashSummary, find_clash
 from .cluster import connected
 from .files import PATTERNS, Found, counted, find_files, reason, shown
 from .formats import Summary, make_format
+from .output import Parser, run
 from .pool import Interruption, Progress, in_order, processors
 from .program import CannotRun, Program, find_program
+from .statuses import ENDED, Status
 from .tags import MOST_NAMES, Names, Table, is_known, names_in
-from .timeline import draw, form_of, written
+from .timeline import draw, form_of, write_picture
 
 Result = TypeVar("Result")
-INTERRUPTED = 130
 EXAMPLES = """Examples:
   tools/tml-corpus {0} samples
   tools/tml-corpus {0} --cluster tcp://head:8786 --tml /shared/bin/tml /shared/corpus"""
-ENDED = "a process of this program that looked at it was ended from outside, or had no memory"
 
 
-def main(arguments: list[str]) -> int:
+def main(words: Sequence[str] | None = None) -> int:
+    """Runs the program and answers its status."""
+    return run(command, words)
+
+
+def command(words: list[str]) -> int:
     """Runs one command and answers its status."""
-    for stream in (sys.stdout, sys.stderr):
-        if isinstance(stream, io.TextIOWrapper):
-            stream.reconfigure(encoding=stream.encoding, errors="backslashreplace")
-    options = parser().parse_args(arguments)
-    try:
-        with Interruption() as stop, prepared(options, stop):
-            status = options.command(options, stop)
-            sys.stdout.flush()
-            return INTERRUPTED if stop.happened.is_set() else status
-    except CannotRun as problem:
-        print(f"tml-corpus: {shown(str(problem))}", file=sys.stderr)
-        return 2
-    except KeyboardInterrupt:
-        return INTERRUPTED
-    except BrokenPipeError:
-        os.dup2(os.open(os.devnull, os.O_WRONLY), sys.stdout.fileno())
-        return 2
+    options = parser().parse_args(words)
+    with Interruption() as stop, prepared(options, stop):
+        status: int = options.command(options, stop)
+        sys.stdout.flush()
+        return Status.INTERRUPTED if stop.happened.is_set() else status
 
 
 @contextmanager
@@ -75,9 +67,9 @@ def number_from_zero(text: str) -> int:
     return number
 
 
-def parser() -> argparse.ArgumentParser:
+def parser() -> Parser:
     """The words that are understood."""
-    whole = argparse.ArgumentParser(prog="tml-corpus", description="Asks tml about all documents of a corpus.")
+    whole = Parser(prog="tml-corpus", description="Asks tml about all documents of a corpus.")
     commands = whole.add_subparsers(required=True, metavar="COMMAND")
     check = commands.add_parser(
         "check",
@@ -110,7 +102,7 @@ def parser() -> argparse.ArgumentParser:
     return whole
 
 
-def timeline_words(commands: argparse._SubParsersAction[argparse.ArgumentParser]) -> argparse.ArgumentParser:
+def timeline_words(commands: argparse._SubParsersAction[Parser]) -> Parser:
     """The words of `timeline`, which is about one document."""
     words = commands.add_parser(
         "timeline",
@@ -176,6 +168,7 @@ def check_command(options: argparse.Namespace, stop: Interruption) -> int:
     work = partial(judge, options.program, explained=explained, more=options.more)
     each(options, stop, found, work, lambda one: Judgement(one.path, problem=ENDED), tell)
     sys.stdout.write(form.end(summary))
+    sys.stdout.flush()
     apart = sys.stderr if form.summary_apart else sys.stdout
     apart.write(summary.text(stop.happened.is_set()))
     return summary.status()
@@ -201,7 +194,7 @@ def tags_command(options: argparse.Namespace, stop: Interruption) -> int:
     sys.stdout.write(f"{counted(len(found), 'file')}: {counted(len(table.counts), 'name')} of tags, {unknown} unknown to tml; {problems} not counted\n")
     if stop.happened.is_set():
         sys.stdout.write("interrupted: not all files were looked at\n")
-    return 2 if problems else 1 if unknown else 0
+    return Status.TROUBLE if problems else Status.FINDING if unknown else Status.SUCCESS
 
 
 def clashes_command(options: argparse.Namespace, stop: Interruption) -> int:
@@ -228,6 +221,6 @@ def timeline_command(options: argparse.Namespace, stop: Interruption) -> int:
     """`tml-corpus timeline`."""
     told = draw(options.program, options.document, options.output, sys.stdout.isatty())
     if told.picture is not None and not stop.happened.is_set():
-        written(options.output, told.picture)
+        write_picture(options.output, told.picture)
     sys.stdout.write(told.text)
     return told.status

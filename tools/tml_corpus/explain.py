@@ -6,6 +6,7 @@ questions, or none is found, nothing is said.
 
 from __future__ import annotations
 
+from collections.abc import Sequence
 from dataclasses import dataclass, field
 
 from . import faults
@@ -48,7 +49,7 @@ class Explanation:
 
     notes: list[Note] = field(default_factory=list)
     attributes: list[Attribute] = field(default_factory=list)
-    units: list[Unit] | None = None
+    units: Sequence[Unit] | None = None
 
 
 def explain(program: Program, document: bytes, fault: Fault) -> Explanation:
@@ -74,7 +75,7 @@ def nothing(prober: Prober, tag: Unit, told: Explanation) -> None:
     """Of faults 16 and 17 there is no more to say."""
 
 
-def nesting_notes(units: list[Unit], fault: Fault) -> list[Note]:
+def nesting_notes(units: Sequence[Unit], fault: Fault) -> list[Note]:
     """What stands at the place of a fault of nesting, and which tag is open there and from where."""
     notes = []
     unit = unit_at(units, fault.offset)
@@ -155,7 +156,7 @@ def duplicate(prober: Prober, tag: Unit, told: Explanation) -> None:
             told.notes.append(Note(first.start, f"{first.told()} has the same identifier"))
 
 
-def first_bearer(prober: Prober, tag: Unit, value: bytes, fresh: bytes, units: list[Unit]) -> Unit | None:
+def first_bearer(prober: Prober, tag: Unit, value: bytes, fresh: bytes, units: Sequence[Unit]) -> Unit | None:
     """The tag before that has the identifier already.
 
     With another identifier there the fault goes or moves, or some other tag refers to nothing now. Where a reference is

@@ -5,7 +5,7 @@ from __future__ import annotations
 import json
 from collections import Counter
 from dataclasses import dataclass, field
-from xml.sax.saxutils import escape, quoteattr
+from xml.etree import ElementTree
 
 from .check import Judgement, PlacedFault
 from .files import counted, shown
@@ -81,7 +81,7 @@ class Text:
         for fault in judgement.faults:
             lines.append(f"{located(judgement.path, fault)}: error: {message(fault)}")
             if self.with_source:
-                lines += caret_lines(fault.source, fault.place.column)
+                lines += caret_lines(fault.source, fault.source_column)
             for note in fault.notes:
                 lines.append(f"{shown(judgement.path)}:{note.place.line}:{note.place.column}: note: {shown(note.text)}")
         return "".join(line + "\n" for line in lines)
@@ -102,7 +102,12 @@ class Json(Text):
         if judgement.problem:
             told["problem"] = judgement.problem
         told["faults"] = [fault_object(fault) for fault in judgement.faults]
-        return json.dumps(told) + "\n"
+        return printable(json.dumps(told)) + "\n"
+
+
+def printable(text: str) -> str:
+    """JSON in a log that may take `##[` and `##vso[` for commands: these stand within strings alone, where escapes are."""
+    return text.replace("##", "\\u0023#")
 
 
 def fault_object(fault: PlacedFault) -> dict[str, object]:
@@ -122,33 +127,33 @@ def fault_object(fault: PlacedFault) -> dict[str, object]:
 
 
 class JUnit(Text):
-    """One test case for each file. The counts stand at the beginning, so all is printed at the end."""
+    """One test case for each file. The counts stand at the beginning, so all is printed at the end, in ASCII."""
 
     summary_apart = True
 
     def __init__(self) -> None:
         super().__init__(False)
-        self.cases: list[str] = []
+        self.suite = ElementTree.Element("testsuite", name="tml check")
 
     def file(self, judgement: Judgement) -> str:
-        name = quoteattr(shown(judgement.path))
-        if judgement.accepted():
-            self.cases.append(f'    <testcase classname="tml" name={name}/>\n')
-            return ""
+        case = ElementTree.SubElement(self.suite, "testcase", classname="tml", name=shown(judgement.path))
         if judgement.problem:
-            inner = f"<error message={quoteattr(shown(judgement.problem))}/>"
-        else:
+            ElementTree.SubElement(case, "error", message=shown(judgement.problem))
+        elif judgement.faults:
             first = judgement.faults[0]
-            said = f"{located(judgement.path, first)}: {message(first)}"
-            body = escape(super().file(judgement))
-            inner = f"<failure type={quoteattr(first.fault.title())} message={quoteattr(said)}>{body}</failure>"
-        self.cases.append(f'    <testcase classname="tml" name={name}>{inner}</testcase>\n')
+            said = shown(f"{located(judgement.path, first)}: {message(first)}")
+            failure = ElementTree.SubElement(case, "failure", type=first.fault.title(), message=said)
+            failure.text = super().file(judgement)
         return ""
 
     def end(self, summary: Summary) -> str:
-        counts = f'tests="{len(self.cases)}" failures="{summary.faulty()}" errors="{summary.problems}"'
-        suite = f'  <testsuite name="tml check" {counts}>\n{"".join(self.cases)}  </testsuite>\n'
-        return f'<?xml version="1.0" encoding="UTF-8"?>\n<testsuites {counts}>\n{suite}</testsuites>\n'
+        counts = {"tests": str(len(self.suite)), "failures": str(summary.faulty()), "errors": str(summary.problems)}
+        whole = ElementTree.Element("testsuites", counts)
+        self.suite.attrib.update(counts)
+        whole.append(self.suite)
+        ElementTree.indent(whole)
+        text = ElementTree.tostring(whole, encoding="us-ascii", xml_declaration=False).decode()
+        return f'<?xml version="1.0" encoding="UTF-8"?>\n{text}\n'
 
 
 class GitHub(Text):

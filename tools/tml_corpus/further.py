@@ -6,6 +6,8 @@ and 17, of which each further tag has the same, and where no root was opened.
 
 from __future__ import annotations
 
+from collections.abc import Sequence
+
 from . import faults
 from .explain import Explanation
 from .faults import Fault, read_fault
@@ -42,14 +44,14 @@ def replaced(document: bytes, start: int, end: int) -> bytes | None:
     return document[:start] + b" " * (end - start) + document[end:]
 
 
-def without(document: bytes, unit: Unit, units: list[Unit]) -> bytes | None:
+def without(document: bytes, unit: Unit, units: Sequence[Unit]) -> bytes | None:
     """Spaces in the place of a unit, and of its end tag."""
     end = end_of(units, unit) if unit.kind == "start" else None
     changed = applied(document, [blank(one) for one in (unit, end) if one is not None])
     return changed if changed != document else None
 
 
-def balanced(program: Program, document: bytes, unit: Unit, units: list[Unit]) -> bytes | None:
+def balanced(program: Program, document: bytes, unit: Unit, units: Sequence[Unit]) -> bytes | None:
     """The document without the end tag, or without the start tag that is open there: the one of which `tml` says more."""
     choices = [applied(document, [blank(one)]) for one in [*open_tags(units, unit.start)[-1:], unit]]
     best, furthest = None, (0, 0, 0)
@@ -62,7 +64,7 @@ def balanced(program: Program, document: bytes, unit: Unit, units: list[Unit]) -
     return best
 
 
-def closed(document: bytes, units: list[Unit]) -> bytes | None:
+def closed(document: bytes, units: Sequence[Unit]) -> bytes | None:
     """The document with the end tags that it lacks; they stand after all that has a place."""
     tags = open_tags(units, len(document) + 1)
     names = [tag.name.encode("utf-8", "surrogateescape") for tag in reversed(tags)]

@@ -4,12 +4,11 @@ from __future__ import annotations
 
 import os
 import re
-import secrets
 from dataclasses import dataclass
 
-from .check import judge_document, problem_of
-from .clashes import clash_of, kept
-from .files import CannotRead, counted, read_document, reason, shown
+from .check import judge_document
+from .clashes import clash_of, evidence_file
+from .files import CannotRead, counted, read_document, reason, shown, written
 from .formats import make_format
 from .page import page
 from .picture import svg
@@ -59,7 +58,7 @@ def draw_document(program: Program, path: str, document: bytes, target: str, ter
     if reply.status == CLASH:
         return links_of(program, path, document)
     if reply.status != ACCEPTED:
-        raise CannotRun(problem_of(reply) or "the answer of tml to `solve` cannot be read")
+        raise CannotRun(reply.problem())
     timeline = verified(program, path, document, reply)
     told = f"{counted(len(timeline.rows), 'interval')}, {counted(timeline.links, 'link')}, ranks 0 to {timeline.greatest()}"
     return Told(f"{shown(path)}: drawn in {shown(target)}: {told}\n", 0, FORMS[form_of(target)](timeline))
@@ -83,7 +82,7 @@ def links_of(program: Program, path: str, document: bytes) -> Told:
 
 def verified(program: Program, path: str, document: bytes, reply: Reply) -> Timeline:
     """The rows of what `tml solve` printed, once `tml verify` said that it is a timeline of the document."""
-    with kept(path, reply.text, None) as evidence:
+    with evidence_file(path, reply.text, None) as evidence:
         judged = program.ask(["verify", "-", "./" + os.path.basename(evidence)], document, os.path.dirname(evidence))
     if judged.status != ACCEPTED or judged.text != b"verified timeline\n":
         said = judged.text.decode("utf-8", "replace").strip()
@@ -127,14 +126,10 @@ def row_of(wording: Wording, number: int, ranks: tuple[int, int]) -> Row:
     return Row(name, wording.whole_text_of(name), kind, *ranks, civil=tuple(numbers[2:]))
 
 
-def written(target: str, text: str) -> None:
-    """Writes a picture: under another name first, so that no file is left half written."""
-    temporary = os.path.join(os.path.dirname(os.path.abspath(target)), f".tml-{secrets.token_hex(8)}")
+def write_picture(target: str, text: str) -> None:
+    """Writes a picture."""
     try:
-        with open(temporary, "x", encoding="utf-8", newline="\n") as file:
-            file.write(text)
-        os.replace(temporary, target)
+        with written(target) as file:
+            file.write(text.encode("utf-8"))
     except (OSError, ValueError) as error:
-        if os.path.lexists(temporary):
-            os.unlink(temporary)
         raise CannotRun(f"{target} cannot be written: {reason(error)}") from None
