@@ -61,18 +61,18 @@ _tml() {
 
 # Completes the words of tml-corpus: its commands, their options, and the values of these.
 _tml_corpus() {
-    local options=(--help)
+    local options=(--help) shared=(--format --more --touching --stdin-name --quiet --watch --glob --tml --jobs --cluster)
     COMPREPLY=()
     case ${COMP_WORDS[1]} in
-        check) options+=(--format --explain --no-explain --more --glob --tml --jobs --cluster) ;;
+        check) options+=(--explain --no-explain --clashes "${shared[@]}") ;;
         tags) options+=(--glob --tml --jobs) ;;
-        clashes) options+=(--evidence --glob --tml --jobs --cluster) ;;
-        timeline) options+=(--output -o --tml) ;;
+        clashes) options+=(--evidence --repair "${shared[@]}") ;;
+        timeline) options+=(--output -o --touching --tml) ;;
     esac
     case ${COMP_WORDS[COMP_CWORD - 1]}:$COMP_CWORD:${COMP_WORDS[COMP_CWORD]} in
         *:1:*) _tml_offer check tags clashes timeline --help ;;
         --format:*) _tml_offer text json junit github ;;
-        --more:* | --glob:* | --jobs:* | --cluster:*) _tml_offer ;;
+        --more:* | --stdin-name:* | --glob:* | --jobs:* | --cluster:*) _tml_offer ;;
         *:-*) _tml_offer "${options[@]}" ;;
     esac
 }
@@ -82,7 +82,7 @@ _tml_tools() {
     local options=(--help)
     COMPREPLY=()
     case ${COMP_WORDS[0]##*/} in
-        tml-edit) options+=(--rename --unwrap --value --iso --instances --links --name --drop-links --overlaps --tml) ;;
+        tml-edit) options+=(--rename --unwrap --value --iso --instances --links --name --drop-links --overlaps --touching-dates --tml) ;;
         tml-redundant-links) options+=(--together --glob --tml --jobs) ;;
     esac
     case ${COMP_WORDS[COMP_CWORD - 1]}:${COMP_WORDS[COMP_CWORD]} in

@@ -80,7 +80,7 @@ class Pages(unittest.TestCase):
         with tempfile.TemporaryDirectory() as top:
             folder, programs = os.path.join(top, "here"), os.path.join(top, "bin")
             shutil.copytree(os.path.join(TOP, "samples"), os.path.join(folder, "samples"))
-            shutil.copytree(os.path.join(TOP, "tools"), os.path.join(folder, "tools"), ignore=shutil.ignore_patterns("tests", "__pycache__"))
+            shutil.copytree(os.path.join(TOP, "tools"), os.path.join(folder, "tools"), ignore=shutil.ignore_patterns("test_*.py", "__pycache__"))
             os.mkdir(programs)
             os.symlink(os.path.abspath(TML), os.path.join(programs, "tml"))
             os.symlink(sys.executable, os.path.join(programs, "python3"))

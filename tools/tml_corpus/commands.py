@@ -14,22 +14,28 @@ from contextlib import contextmanager
 from functools import partial
 from typing import TypeVar
 
+from . import clash_formats
 from .check import Judgement, judge
-from .clashes import ClashReport, ClashSummary, find_clash
+from .clash_report import ClashReport, ClashSummary, Wanted
+from .clash_search import find_clashes
 from .cluster import connected
 from .files import PATTERNS, Found, counted, find_files, reason, shown
 from .formats import Summary, make_format
 from .output import Parser, run
 from .pool import Interruption, Progress, in_order, processors
 from .program import CannotRun, Program, find_program
+from .standard_input import STANDARD_INPUT, StandardInput, find_with
 from .statuses import ENDED, Status
 from .tags import MOST_NAMES, Names, Table, is_known, names_in
 from .timeline import draw, form_of, write_picture
+from .watch import watch
 
 Result = TypeVar("Result")
 EXAMPLES = """Examples:
   tools/tml-corpus {0} samples
   tools/tml-corpus {0} --cluster tcp://head:8786 --tml /shared/bin/tml /shared/corpus"""
+FORMS = ("text", "json", "junit", "github")
+TOUCHING = "read links between dates that touch as the relation that holds, as IBEFORE for BEFORE, and list them"
 
 
 def main(words: Sequence[str] | None = None) -> int:
@@ -41,9 +47,25 @@ def command(words: list[str]) -> int:
     """Runs one command and answers its status."""
     options = parser().parse_args(words)
     with Interruption() as stop, prepared(options, stop):
-        status: int = options.command(options, stop)
+        status = run_command(options, stop)
         sys.stdout.flush()
         return Status.INTERRUPTED if stop.happened.is_set() else status
+
+
+def run_command(options: argparse.Namespace, stop: Interruption) -> int:
+    """Runs one command, where it is wanted again and again on the files that change, and answers its status."""
+    command: Callable[[argparse.Namespace, Interruption], int] = options.command
+    if not getattr(options, "watch", False):
+        return command(options, stop)
+    if options.format == "junit" or options.cluster is not None or STANDARD_INPUT in options.paths:
+        raise CannotRun("--watch goes neither with --format junit, nor with --cluster, nor with -")
+
+    def look(found: list[Found]) -> None:
+        options.found = found
+        command(options, stop)
+
+    watch(lambda: find_files(options.paths, options.glob or list(PATTERNS)), look, stop)
+    return 0
 
 
 @contextmanager
@@ -77,9 +99,8 @@ def parser() -> Parser:
         epilog=EXAMPLES.format("check"),
         formatter_class=argparse.RawDescriptionHelpFormatter,
     )
-    check.add_argument("--format", choices=("text", "json", "junit", "github"), default="text", help="the form of the output")
     check.add_argument("--explain", action=argparse.BooleanOptionalAction, help="say what is at fault (default at a terminal)")
-    check.add_argument("--more", type=number_from_zero, default=0, metavar="N", help="go on to at most N further faults of each document")
+    check.add_argument("--clashes", action="store_true", help="show the links that contradict each other too")
     check.set_defaults(command=check_command)
     tags = commands.add_parser("tags", help="count the names of tags, and say which of them tml does not know")
     tags.set_defaults(command=tags_command)
@@ -90,7 +111,10 @@ def parser() -> Parser:
         formatter_class=argparse.RawDescriptionHelpFormatter,
     )
     clashes.add_argument("--evidence", metavar="FOLDER", help="keep the evidence of each clash in this folder")
+    clashes.add_argument("--repair", action="store_true", help="find a smallest set of links without which a timeline fits")
     clashes.set_defaults(command=clashes_command)
+    shared_words(check, "faults or clashes")
+    shared_words(clashes, "clashes")
     for command in (check, tags, clashes):
         command.add_argument("paths", nargs="+", metavar="PATH", help="a file, or a folder to search")
         command.add_argument("--glob", action="append", metavar="PATTERN", help=f"names to look for in folders (default {' '.join(PATTERNS)})")
@@ -100,6 +124,17 @@ def parser() -> Parser:
     for command in (check, tags, clashes, timeline_words(commands)):
         command.add_argument("--tml", metavar="PROGRAM", help="the program tml (default: that of this repository, else that on PATH)")
     return whole
+
+
+def shared_words(command: Parser, things: str) -> None:
+    """The words that `check` and `clashes` share."""
+    command.add_argument("--format", choices=FORMS, default="text", help="the form of the output")
+    command.add_argument("--more", type=number_from_zero, default=0, metavar="N", help=f"go on to at most N further {things} of each document")
+    command.add_argument("--touching", action="store_true", help=TOUCHING)
+    command.add_argument("--stdin-name", metavar="NAME", help="the name in the reports of the document of standard input, which is the path -")
+    command.add_argument("--quiet", action="store_true", help="print no summary, and no list of links that are read as touching")
+    command.add_argument("--watch", action="store_true", help="go on, and look again at files that change, until interrupted")
+    command.set_defaults(found=None)
 
 
 def timeline_words(commands: argparse._SubParsersAction[Parser]) -> Parser:
@@ -113,6 +148,7 @@ def timeline_words(commands: argparse._SubParsersAction[Parser]) -> Parser:
     )
     words.add_argument("document", metavar="DOC", help="a file")
     words.add_argument("-o", "--output", type=picture_name, required=True, metavar="FILE", help="the picture: FILE.svg, or FILE.html with the links of each row")
+    words.add_argument("--touching", action="store_true", help=TOUCHING)
     words.set_defaults(command=timeline_command)
     return words
 
@@ -127,8 +163,23 @@ def picture_name(text: str) -> str:
 
 
 def search(options: argparse.Namespace) -> list[Found]:
-    """The files that the command is about."""
-    return find_files(options.paths, options.glob or list(PATTERNS))
+    """The files that the command is about: where files are watched, those that have changed."""
+    found: list[Found] | None = getattr(options, "found", None)
+    patterns = options.glob or list(PATTERNS)
+    given = standard_input_of(options) if hasattr(options, "stdin_name") else None
+    return found if found is not None else find_with(given, options.paths, patterns) if given else find_files(options.paths, patterns)
+
+
+def standard_input_of(options: argparse.Namespace) -> StandardInput | None:
+    """Standard input, where it is among the paths; it is there as long as the options are."""
+    if STANDARD_INPUT not in options.paths:
+        if options.stdin_name is not None:
+            raise CannotRun("--stdin-name names the document of -, which is not among the paths")
+        return None
+    if options.cluster is not None:
+        raise CannotRun("- cannot be judged on a cluster, whose workers have another standard input")
+    options.standard_input = StandardInput(options.stdin_name)
+    return options.standard_input
 
 
 def each(
@@ -156,9 +207,13 @@ def each(
 
 def check_command(options: argparse.Namespace, stop: Interruption) -> int:
     """`tml-corpus check`."""
-    found = search(options)
     terminal = sys.stdout.isatty()
     explained = terminal if options.explain is None else options.explain
+    if options.clashes:
+        return show_clashes(options, stop, Wanted(touching=options.touching, more=options.more, explained=explained), True)
+    if options.touching:
+        raise CannotRun("--touching is about clashes: give --clashes too")
+    found = search(options)
     form, summary = make_format(options.format, terminal), Summary(len(found))
 
     def tell(judgement: Judgement) -> str:
@@ -168,10 +223,15 @@ def check_command(options: argparse.Namespace, stop: Interruption) -> int:
     work = partial(judge, options.program, explained=explained, more=options.more)
     each(options, stop, found, work, lambda one: Judgement(one.path, problem=ENDED), tell)
     sys.stdout.write(form.end(summary))
-    sys.stdout.flush()
-    apart = sys.stderr if form.summary_apart else sys.stdout
-    apart.write(summary.text(stop.happened.is_set()))
+    write_summary(options, form.summary_apart, summary.text(stop.happened.is_set()))
     return summary.status()
+
+
+def write_summary(options: argparse.Namespace, apart: bool, text: str) -> None:
+    """Prints a summary: on standard error where the output is for programs."""
+    sys.stdout.flush()
+    if not options.quiet:
+        (sys.stderr if apart else sys.stdout).write(text)
 
 
 def tags_command(options: argparse.Namespace, stop: Interruption) -> int:
@@ -204,22 +264,29 @@ def clashes_command(options: argparse.Namespace, stop: Interruption) -> int:
             os.makedirs(options.evidence, exist_ok=True)
         except (OSError, ValueError) as error:
             raise CannotRun(f"the folder {options.evidence} cannot be made: {reason(error)}") from None
+    return show_clashes(options, stop, Wanted(options.evidence, options.touching, options.more, options.repair), False)
+
+
+def show_clashes(options: argparse.Namespace, stop: Interruption, wanted: Wanted, checked: bool) -> int:
+    """`tml-corpus clashes`, and `tml-corpus check --clashes`."""
     found = search(options)
-    summary = ClashSummary(len(found))
+    form = clash_formats.make_format(options.format, sys.stdout.isatty(), options.quiet, checked)
+    summary = ClashSummary(len(found), checked, read_touching=wanted.touching)
 
     def tell(report: ClashReport) -> str:
         summary.add(report)
-        return report.text()
+        return form.file(report)
 
-    work = partial(find_clash, options.program, folder=options.evidence)
-    each(options, stop, found, work, lambda one: ClashReport(one.path, problem=ENDED), tell)
-    sys.stdout.write(summary.text(stop.happened.is_set()))
+    work = partial(find_clashes, options.program, wanted=wanted)
+    each(options, stop, found, work, lambda one: ClashReport(Judgement(one.path, problem=ENDED)), tell)
+    sys.stdout.write(form.end(summary))
+    write_summary(options, form.summary_apart, summary.text(stop.happened.is_set()))
     return summary.status()
 
 
 def timeline_command(options: argparse.Namespace, stop: Interruption) -> int:
     """`tml-corpus timeline`."""
-    told = draw(options.program, options.document, options.output, sys.stdout.isatty())
+    told = draw(options.program, options.document, options.output, sys.stdout.isatty(), options.touching)
     if told.picture is not None and not stop.happened.is_set():
         write_picture(options.output, told.picture)
     sys.stdout.write(told.text)

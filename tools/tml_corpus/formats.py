@@ -97,17 +97,22 @@ class Json(Text):
     summary_apart = True
 
     def file(self, judgement: Judgement) -> str:
-        verdict = "not judged" if judgement.problem else "fault" if judgement.faults else "accepted"
-        told: dict[str, object] = {"path": judgement.path, "verdict": verdict}
-        if judgement.problem:
-            told["problem"] = judgement.problem
-        told["faults"] = [fault_object(fault) for fault in judgement.faults]
-        return printable(json.dumps(told)) + "\n"
+        return printable(json.dumps(judgement_object(judgement))) + "\n"
 
 
 def printable(text: str) -> str:
     """JSON in a log that may take `##[` and `##vso[` for commands: these stand within strings alone, where escapes are."""
     return text.replace("##", "\\u0023#")
+
+
+def judgement_object(judgement: Judgement) -> dict[str, object]:
+    """A judgement as JSON has it."""
+    verdict = "not judged" if judgement.problem else "fault" if judgement.faults else "accepted"
+    told: dict[str, object] = {"path": judgement.path, "verdict": verdict}
+    if judgement.problem:
+        told["problem"] = judgement.problem
+    told["faults"] = [fault_object(fault) for fault in judgement.faults]
+    return told
 
 
 def fault_object(fault: PlacedFault) -> dict[str, object]:

@@ -69,12 +69,17 @@ class Places:
 
     def excerpt(self, place: Place) -> tuple[str, int]:
         """The part of the line around a place that is shown, and the column of the place in it."""
-        start = self.document.rfind(self.end, 0, place.offset) + 1 or self.begin
-        first = boundary(self.document, place.offset - FARTHEST) if place.offset - FARTHEST > start else start
+        farthest = max(place.offset - FARTHEST, 0)
+        first = self.document.rfind(self.end, farthest, place.offset) + 1 or (farthest and boundary(self.document, farthest)) or self.begin
         last = boundary(self.document, place.offset + FARTHEST)
         end = self.document.find(self.end, place.offset, last)
         part = characters(self.document[first : end if end >= 0 else last].rstrip(b"\r\n"))
         return part, 1 + len(characters(self.document[first : place.offset]))
+
+    def marked(self, start: Place, end: Place) -> list[str]:
+        """The line where a stretch begins, and below it a mark under as much of the stretch as lies there; of a long line the part around it."""
+        text, column = self.excerpt(start)
+        return caret_lines(text, column, end.column - start.column if end.line == start.line else len(text))
 
 
 def boundary(document: bytes, at: int) -> int:
@@ -90,13 +95,14 @@ def characters(text: bytes) -> str:
     return text.decode("utf-8", "surrogateescape")
 
 
-def caret_lines(text: str, column: int) -> list[str]:
-    """The line of the source and a caret below the column; of a long line the part around it."""
+def caret_lines(text: str, column: int, count: int = 1) -> list[str]:
+    """The line of the source, and below it a mark under so many characters from the column on; of a long line the part around it."""
     begin = max(0, column - 1 - SHOWN_WIDTH // 2) if len(text) > SHOWN_WIDTH else 0
     part = text[begin : begin + SHOWN_WIDTH]
     shown = no_command("".join(drawn(character) for character in part))
-    before = "".join(drawn(character) for character in part[: column - 1 - begin])
-    return ["    " + shown, "    " + " " * sum(width(character) for character in before) + "^"]
+    blanks = sum(width(drawn(character)) for character in part[: column - 1 - begin])
+    under = sum(width(drawn(character)) for character in part[column - 1 - begin :][:count])
+    return ["    " + shown.rstrip(), "    " + " " * blanks + "^" + "~" * (under - 1)]
 
 
 def no_command(line: str) -> str:

@@ -4,16 +4,20 @@ from __future__ import annotations
 
 import os
 import re
-from dataclasses import dataclass
+from dataclasses import dataclass, replace
 
+from . import clash_formats
 from .check import judge_document
-from .clashes import clash_of, evidence_file
-from .files import CannotRead, counted, read_document, reason, shown, written
+from .clash_report import Wanted
+from .clash_search import report_of
+from .clashes import verify_timeline
+from .files import CannotRead, Found, counted, read_document, reason, shown, written
 from .formats import make_format
 from .page import page
 from .picture import svg
 from .program import ACCEPTED, CLASH, FAULT, CannotRun, Program, Reply
 from .rows import Row, Timeline
+from .touching import touching_copy
 from .units import room_for
 from .words import Wording
 
@@ -38,25 +42,25 @@ def form_of(target: str) -> str:
     return end
 
 
-def draw(program: Program, path: str, target: str, terminal: bool) -> Told:
-    """The picture of the timeline of one file, or why there is none."""
+def draw(program: Program, path: str, target: str, terminal: bool, touching: bool) -> Told:
+    """The picture of the timeline of one file, or why there is none; links between dates that touch may be read so."""
     try:
         document = read_document(path)
         if os.path.exists(target) and os.path.samefile(path, target):
             raise CannotRead("the picture would be written over it")
         with room_for(document):
-            return draw_document(program, path, document, target, terminal)
+            return draw_document(program, path, document, target, terminal, touching)
     except (CannotRead, CannotRun) as problem:
         return Told(f"{shown(path)}: not judged: {shown(str(problem))}\n", 2)
 
 
-def draw_document(program: Program, path: str, document: bytes, target: str, terminal: bool) -> Told:
+def draw_document(program: Program, path: str, document: bytes, target: str, terminal: bool, touching: bool) -> Told:
     """The picture of a document in memory, or its fault, or the links that clash."""
     reply = program.ask(["solve", "-"], document)
     if reply.status == FAULT:
         return fault_of(program, path, document, terminal)
     if reply.status == CLASH:
-        return links_of(program, path, document)
+        return links_of(program, path, document, target, terminal, touching, reply)
     if reply.status != ACCEPTED:
         raise CannotRun(reply.problem())
     timeline = verified(program, path, document, reply)
@@ -72,21 +76,19 @@ def fault_of(program: Program, path: str, document: bytes, terminal: bool) -> To
     return Told(make_format("text", terminal).file(judgement), 2 if judgement.problem else 1)
 
 
-def links_of(program: Program, path: str, document: bytes) -> Told:
-    """The links that clash, as `tml-corpus clashes` tells them."""
-    report = clash_of(program, path, document, None)
-    if not report.links:
-        raise CannotRun(report.problem or "two answers of tml to `solve` do not belong together")
-    return Told(f"{report.text()}{shown(path)}: not drawn: no timeline fits, since these links clash\n", 1)
+def links_of(program: Program, path: str, document: bytes, target: str, terminal: bool, touching: bool, reply: Reply) -> Told:
+    """The links that clash, as `tml-corpus clashes` prints them; the picture where they clash only since dates touch, and may be read so."""
+    report = report_of(program, Found(path), document, Wanted(touching=touching), reply)
+    text = clash_formats.Text(terminal).file(report)
+    if report.clashes:
+        return Told(f"{text}{shown(path)}: not drawn: no timeline fits, since these links clash\n", 1)
+    drawn = draw_document(program, path, touching_copy(program, document), target, terminal, False)
+    return replace(drawn, text=text + drawn.text)
 
 
 def verified(program: Program, path: str, document: bytes, reply: Reply) -> Timeline:
     """The rows of what `tml solve` printed, once `tml verify` said that it is a timeline of the document."""
-    with evidence_file(path, reply.text, None) as evidence:
-        judged = program.ask(["verify", "-", "./" + os.path.basename(evidence)], document, os.path.dirname(evidence))
-    if judged.status != ACCEPTED or judged.text != b"verified timeline\n":
-        said = judged.text.decode("utf-8", "replace").strip()
-        raise CannotRun(f"tml verify did not accept the timeline of tml solve: {said}")
+    verify_timeline(program, path, document, reply)
     found = re.fullmatch(rb"tml-evidence 1\ntimeline \d+\n((?:at \d+ \d+\n)*)end\n", reply.text)
     if found is None:
         raise CannotRun("the answer of tml to `solve` cannot be read")

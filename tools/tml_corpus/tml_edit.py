@@ -1,12 +1,14 @@
 """Changes tags, attributes and links of one document, so that `tml` reads it. All other bytes stay as they are.
 
 The changes are made in the order of the options below, whatever their order on the command line: --rename, --unwrap,
---value, --iso, --instances, --links, --drop-links, --overlaps. The changed document goes to standard output; whether
-it is accepted is for `tml check` to say.
+--value, --iso, --instances, --links, --drop-links, --overlaps, --touching-dates. The changed document goes to standard
+output; whether it is accepted is for `tml check` to say. --touching-dates asks for a document that is accepted by then, and
+lists what it changes on standard error.
 
 Examples:
   tools/tml-edit --unwrap FILEID,DATELINE --rename HL=HEADLINE old.tml > new.tml
   tools/tml-edit --value MAKEINSTANCE pos NONE OTHER --drop-links VAGUE,NONE old.tml > new.tml
+  tools/tml-edit --touching-dates old.tml > new.tml
 
 Status 0 says that the document was written, 1 that it cannot be changed, with the reason on standard error, and 2 that
 the words are of no known form or that a file or `tml` could not be run or read.
@@ -22,14 +24,16 @@ from collections.abc import Sequence
 from itertools import count
 
 from .faults import read_fault
-from .files import CannotRead, read_document
+from .files import CannotRead, read_document, shown
 from .output import Parser, complain, run, standard_input
 from .places import Places
 from .probes import Edit, applied, with_value
-from .program import DOCUMENT_LIMIT, FAULT, CannotRun, Program, find_program
+from .program import ACCEPTED, DOCUMENT_LIMIT, FAULT, CannotRun, Program, Reply, find_program
 from .statuses import Status
 from .tables import BadTable, Word, rows
+from .touching import Change, asks, touching_changes
 from .units import Attribute, Unit, read_units
+from .words import Wording
 
 LINK_TAGS = ("TLINK", "ALINK", "SLINK")
 IDENTIFIERS = {"EVENT": "eid", "MAKEINSTANCE": "eiid", "TIMEX3": "tid", "SIGNAL": "sid", "TLINK": "lid", "ALINK": "lid", "SLINK": "lid"}
@@ -61,15 +65,18 @@ class Document:
 
     def cut(self) -> None:
         """Asks for the units."""
-        reply = self.program.spans(self.text)
+        self.units = read_units(self.without_fault(self.program.spans(self.text)))
+        self.ends: dict[int, int] | None = None
+
+    def without_fault(self, reply: Reply) -> Reply:
+        """A reply that has no fault."""
         fault = read_fault(reply.text) if reply.status == FAULT else None
         if fault is not None:
             place = Places(self.text).place(fault.offset)
             raise CannotEdit(f"fault {fault.title()} at {place.line}:{place.column}: mend it first")
-        if reply.status != 0:
+        if reply.status != ACCEPTED:
             raise CannotEdit(reply.problem())
-        self.units = read_units(reply)
-        self.ends: dict[int, int] | None = None
+        return reply
 
     def change(self, edits: list[Edit]) -> None:
         """Makes some edits."""
@@ -260,6 +267,24 @@ def interval_of(word: Word, instances: dict[str, str], events: set[str], interva
     return name
 
 
+def touch_dates(document: Document) -> list[Change]:
+    """Gives links between dates that touch the relation that holds, as IBEFORE for BEFORE, and answers what was changed."""
+    document.without_fault(document.program.check(document.text))
+    changes = touching_changes(Wording(document.program, document.text))
+    document.change([edit for change in changes if (edit := change.edit(document.text)) is not None])
+    return changes
+
+
+def listed(name: str, changes: list[Change]) -> str:
+    """A line for each link that was changed."""
+    lines = []
+    for change in changes:
+        place, relation = change.link.place, change.link.relation
+        text = f"{relation} is now {change.relation}: {change.reason}, and {asks(relation)}"
+        lines.append(f"{shown(name)}:{place.line}:{place.column}: {shown(text)}\n")
+    return "".join(lines)
+
+
 def names_of(text: str) -> list[str]:
     """Names with commas between them."""
     return [name for name in text.split(",") if name]
@@ -300,6 +325,7 @@ def parser() -> Parser:
         help="take links out by their relType; an empty name is that of links without one",
     )
     words.add_argument("--overlaps", action="store_true", help=f"say {', '.join(OVERLAPS)} by TIMEX3 tags that lie within")
+    words.add_argument("--touching-dates", action="store_true", help="give links between dates that touch the relation that holds, as IBEFORE for BEFORE")
     words.add_argument("--tml", metavar="PROGRAM", help="the program tml (default: that of this repository, else that on PATH)")
     return words
 
@@ -323,6 +349,8 @@ def edited(options: argparse.Namespace) -> bytes:
     drop_links(document, set(options.drop_links))
     if options.overlaps:
         say_overlaps(document)
+    if options.touching_dates:
+        sys.stderr.write(listed(options.document, touch_dates(document)))
     return document.text
 
 

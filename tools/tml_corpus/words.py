@@ -38,6 +38,7 @@ class Wording:
         self.texts: dict[str, str] = {}
         self.intervals: list[str] = []
         self.links: list[Link] = []
+        self.link_tags = self.units.opening("TLINK")
         try:
             self.read_check(program)
         except (ValueError, IndexError):
@@ -50,14 +51,13 @@ class Wording:
 
     def read_check(self, program: Program) -> None:
         """Reads the intervals and the links from `tml check`; the links stand there in the order of the TLINK tags."""
-        tags = self.units.opening("TLINK")
         for words in program.check(self.document).lines():
             if words[0] == "interval":
                 self.intervals.append(words[2])
             elif words[0] == "tlink":
-                tag = tags[int(words[1])]
+                tag = self.link_tags[int(words[1])]
                 self.links.append(Link(int(words[1]), self.places.place(tag.start), words[2], words[3], words[4]))
-        if len(tags) != len(self.links):
+        if len(self.link_tags) != len(self.links):
             raise CannotRun("the answers of tml to `check` and `spans` do not belong together")
 
     def text_of(self, name: str) -> str:
