@@ -59,19 +59,29 @@ _tml() {
     esac
 }
 
+_tml_warnings=(
+    misspelled-attribute unknown-attribute value-form free-date part-of-day event-without-instance empty-tag
+    self-link repeated-link date-with-points unlinked-instance no-creation-time
+)
+
 # Completes the words of tml-corpus: its commands, their options, and the values of these.
 _tml_corpus() {
-    local options=(--help) shared=(--format --more --touching --stdin-name --quiet --watch --glob --tml --jobs --cluster)
+    local options=(--help) shared=(--format --more --touching --stdin-name --quiet --watch --glob --config --tml --jobs --cluster)
     COMPREPLY=()
     case ${COMP_WORDS[1]} in
-        check) options+=(--explain --no-explain --clashes "${shared[@]}") ;;
-        tags) options+=(--glob --tml --jobs) ;;
+        check)
+            options+=(--explain --no-explain --clashes "${shared[@]}")
+            options+=(--lint --ignore --warn --strict --baseline --write-baseline)
+            ;;
+        fix) options+=(--diff --write --glob --config --tml --jobs) ;;
+        tags) options+=(--glob --config --tml --jobs) ;;
         clashes) options+=(--evidence --repair "${shared[@]}") ;;
-        timeline) options+=(--output -o --touching --tml) ;;
+        timeline) options+=(--output -o --touching --config --tml) ;;
     esac
     case ${COMP_WORDS[COMP_CWORD - 1]}:$COMP_CWORD:${COMP_WORDS[COMP_CWORD]} in
-        *:1:*) _tml_offer check tags clashes timeline --help ;;
+        *:1:*) _tml_offer check fix tags clashes timeline --help ;;
         --format:*) _tml_offer text json junit github ;;
+        --ignore:* | --warn:*) _tml_offer "${_tml_warnings[@]}" ;;
         --more:* | --stdin-name:* | --glob:* | --jobs:* | --cluster:*) _tml_offer ;;
         *:-*) _tml_offer "${options[@]}" ;;
     esac

@@ -30,6 +30,8 @@ COMMANDS = (
     "tml-corpus timeline --tml TML good.xml -o good.svg",
     "redundant-links --tml TML good.xml",
     "tml-edit --tml TML --unwrap P good.xml",
+    "tml-corpus check --lint --clashes --tml TML a.xml",
+    "tml-corpus fix --tml TML a.xml",
 )
 """Commands that ask `tml`; of a.xml each has something to tell."""
 
@@ -229,6 +231,16 @@ def nested(part):
     return filled(b"<TimeML>" + NESTED, part, b"</EVENT>" * 30 + INSTANCES + CIRCLE.replace(b"BEFORE", b"IDENTITY") + b"</TimeML>\n")
 
 
+def numbered(before, part, after):
+    """The same where each part has its number."""
+    parts, room = [], LIMIT - len(before) - len(after)
+    while room >= len(part) + 8:
+        parts.append(part % len(parts))
+        room -= len(parts[-1])
+    return before + b"".join(parts) + after
+
+
+CHECK, LINT, FIX = "tml-corpus check --tml TML d.xml", "tml-corpus check --lint --clashes --tml TML d.xml", "tml-corpus fix --tml TML d.xml"
 TIMELINE, TAGS = "tml-corpus timeline --tml TML d.xml -o d.svg", "tml-corpus tags --tml TML d.xml"
 DOCUMENTS = {
     "one long text of many instances": (TIMELINE, 0, lambda: one_event(LINKS)),
@@ -244,6 +256,10 @@ DOCUMENTS = {
         lambda: filled(b"<TimeML>", b'<TLINK relType="VAGUE"></TLINK>', b"</TimeML>\n"),
     ),
     "one long line with a fault": ("tml-corpus check --format json --tml TML d.xml", 1, lambda: filled(b"<TimeML>", "é".encode(), b"<EVENT/></TimeML>\n")),
+    "very many suspect events": (LINT, 0, lambda: numbered(b"<TimeML>", b'<EVENT eid="e%d" class="STATE"/>', b"</TimeML>\n")),
+    "very many attributes of a tag that lacks one": (CHECK, 1, lambda: numbered(b'<TimeML><EVENT eid="e"', b' a%d=""', b">x</EVENT></TimeML>\n")),
+    "a tag with a very long name": (CHECK, 1, lambda: filled(b"<TimeML><", b"a", b"/></TimeML>\n")),
+    "very many names in other letters": (FIX, 1, lambda: filled(b"<TimeML>", b"<Event/>", b"</TimeML>\n")),
     "very many lines": ("tml-corpus check --tml TML d.xml", 1, lambda: filled(b"<TimeML>", b"\n", b"<EVENT/></TimeML>\n")),
 }
 """Documents made to cost much: a command, its status, and the document."""
@@ -308,7 +324,7 @@ class Names(AttackTest):
             self.write(f"d/{name}.xml", document("<EVENT/>" if number % 2 else CLASH))
             self.write(f"{name}.xml", document(CLASH if number % 2 else "<EVENT/>"))
             os.symlink("nowhere", self.path(f"d/{name}.tml"))
-        for command in (*COMMANDS[:6], COMMANDS[7]):
+        for command in (*COMMANDS[:6], COMMANDS[7], *COMMANDS[9:]):
             with self.subTest(command):
                 self.harmless(command.rsplit(" ", 1)[0], "d", *(f"{name}.xml" for name in NAMES), *NAMES)
 
@@ -331,7 +347,7 @@ class Names(AttackTest):
             if "github" not in command:
                 self.assertNotRegex(line, r"^\s*::")
             elif line.startswith("::"):
-                self.assertRegex(line, r"^::error file=[^,:]*(,line=\d+,col=\d+,title=[^,:]*)?::")
+                self.assertRegex(line, r"^::error file=[^,:]*(,line=\d+,col=\d+(,endColumn=\d+)?,title=[^,:]*)?::")
 
 
 TABLES = (
@@ -398,7 +414,7 @@ class Tables(AttackTest):
 class WhereItLies(AttackTest):
     def test_the_sample_is_judged(self):
         """What the attacks are measured against: the real program, and all as it should be."""
-        for command, status in zip(COMMANDS, (1, 1, 1, 1, 1, 0, 0, 0, 0), strict=True):
+        for command, status in zip(COMMANDS, (1, 1, 1, 1, 1, 0, 0, 1, 0, 1, 1), strict=True):
             with self.subTest(command):
                 self.assertEqual(self.ended(command).status, status)
         self.assertTrue(os.path.exists(os.path.join(TOP, "samples", "port.xml")))

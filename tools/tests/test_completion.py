@@ -99,6 +99,7 @@ class Completion(CorpusTest):
 
     def test_the_companion(self):
         from tml_corpus.commands import parser
+        from tml_corpus.lint import KINDS
 
         [commands] = [action.choices for action in parser()._actions if isinstance(action.choices, dict)]
         first, files = self.offered("tml-corpus", "", function="_tml_corpus")
@@ -114,6 +115,10 @@ class Completion(CorpusTest):
             (["check", "--jobs", ""], [], False),
             (["check", ""], [], True),
             (["check", "--tml", ""], [], True),
+            (["check", "--baseline", ""], [], True),
+            (["check", "--config", ""], [], True),
+            (["check", "--warn", ""], list(KINDS), False),
+            (["check", "--ignore", "un"], ["unknown-attribute", "unlinked-instance"], False),
             (["clashes", "--evidence", ""], [], True),
             (["tags", "--f"], [], False),
         ]

@@ -60,14 +60,15 @@ class Both(InquiryTest):
 
     def test_explanations_and_further_faults(self):
         self.write("c.xml", document("<EVENT/><EVENT/>"))
-        _, lines, _ = self.run_it("check", "--clashes", "--explain", "--more", "5", "c.xml")
-        self.assertEqual(lines[1], "c.xml:2:1: note: <EVENT> lacks eid and class")
+        _, lines, _ = self.run_it("check", "--clashes", "--more", "5", "c.xml")
+        self.assertEqual(lines[2], "    ^~~~~~~~")
+        self.assertIn("this EVENT has no text", lines[0])
         self.assertIn("further faults", lines[-1])
 
     def test_each_file_is_read_once_and_asked_the_fewest_questions(self):
         self.write("fake", f'#!/bin/sh\necho "$1" >> "{self.path("asked")}"\nexec {TML} "$@"\n')
         os.chmod(self.path("fake"), stat.S_IRWXU)
-        rows = [("a.xml", ["solve"]), ("c.xml", ["solve", "check"]), ("b.xml", ["solve", "spans", "check", "dates", "verify"])]
+        rows = [("a.xml", ["solve"]), ("c.xml", ["solve", "check", "spans"]), ("b.xml", ["solve", "spans", "check", "dates", "verify"])]
         for name, asked in rows:
             for words in (("check", "--clashes"), ("clashes",)):
                 with self.subTest(name=name, words=words):
@@ -75,6 +76,21 @@ class Both(InquiryTest):
                     with open(self.path("asked"), encoding="utf-8") as file:
                         self.assertEqual(file.read().split(), asked)
                     os.unlink(self.path("asked"))
+
+    def test_warnings_in_the_same_run(self):
+        self.write("w.xml", document('<TIMEX3 tid="a" type="DATE" value="1998-1-7">x</TIMEX3>'))
+        words = ("check", "--clashes", "--lint", "--ignore", "no-creation-time", "--ignore", "empty-tag")
+        status, lines, _ = self.run_it(*words, "a.xml", "b.xml", "w.xml")
+        self.assertEqual((status, lines[:6]), (1, said("b.xml")))
+        self.assertTrue(lines[6].startswith('w.xml:2:29: warning: value="1998-1-7" has no form') and lines[6].endswith(" [value-form]"), lines)
+        self.assertEqual(lines[-3:], ["3 files: 2 accepted, 1 with a clash, 0 with a fault, 0 not judged", "1 warning in 1 file", "      1  value-form"])
+        for strict, form, status in (([], "text", 0), (["--strict"], "text", 1), (["--strict"], "junit", 1), ([], "json", 0)):
+            with self.subTest(strict=strict, form=form):
+                ended, lines, _ = self.run_it(*words, *strict, "--format", form, "w.xml")
+                self.assertEqual((ended, "value-form" in "".join(lines)), (status, True))
+        self.run_it(*words, "--baseline", "known", "--write-baseline", "w.xml")
+        status, lines, _ = self.run_it(*words, "--strict", "--baseline", "known", "w.xml")
+        self.assertEqual((status, lines[-1]), (0, "1 warning of the baseline not shown"))
 
     def test_answers_that_are_none(self):
         for body in ("exit 0", "exit 2", "echo tml-evidence 1; exit 0", "echo accepted; exit 0", "printf 'tml-evidence 1\\nclash 1\\n'; exit 2"):
@@ -161,9 +177,9 @@ class StandardInput(InquiryTest):
         ]
         for words, status, name in rows:
             with self.subTest(words):
-                told, lines, error = self.given(CLASH.encode(), *words)
-                self.assertEqual((told, lines[:6], error), (status, said(name), ""))
-        told, lines, _ = self.given(FAULT.encode(), "check", "--stdin-name", "x.xml", "-", "-")
+                printed, lines, error = self.given(CLASH.encode(), *words)
+                self.assertEqual((printed, lines[:6], error), (status, said(name), ""))
+        printed, lines, _ = self.given(FAULT.encode(), "check", "--stdin-name", "x.xml", "-", "-")
         self.assertTrue(lines[0].startswith("x.xml:2:1: error: 10 MissingAttribute: "), lines)
         self.assertTrue(lines[-2].startswith("1 file: "))
 

@@ -49,8 +49,8 @@ class Numbers(unittest.TestCase):
         limits = re.search(r"^\.Sh LIMITS\n(.*?)^\.Sh ", self.page("tml.1"), re.MULTILINE | re.DOTALL)[1]
         for limit in (statuses.DOCUMENT_LIMIT, statuses.EVIDENCE_LIMIT, statuses.INTERVAL_LIMIT, statuses.LINK_LIMIT):
             self.assertRegex(limits, rf"\b{limit:,}\b")
-        told = re.findall(r"^\.It (\d+)$", self.page("tml-corpus.1"), re.MULTILINE)
-        self.assertEqual([int(number) for number in told], list(statuses.Status))
+        printed = re.findall(r"^\.It (\d+)$", self.page("tml-corpus.1"), re.MULTILINE)
+        self.assertEqual([int(number) for number in printed], list(statuses.Status))
         self.assertEqual(set(re.findall(r"^\.Ql ([A-Z_]{4,})", self.page("tml.1"), re.MULTILINE)) & set(statuses.RELATIONS), set(statuses.RELATIONS))
 
 
@@ -170,10 +170,10 @@ class Replies(unittest.TestCase):
 class Names(unittest.TestCase):
     def test_are_shown_so_that_a_line_stays_a_line(self):
         rows_of_names = [("é b", "é b"), ("a\nb", "a\\x0ab"), ("\udce9", "\\xe9"), ("\u2028", "\\u2028"), ("::error::", "\\x3a:error::"), (" :", " \\x3a"), ("a::b", "a::b"), ("a##[x]##vso", "a\\x23#[x]\\x23#vso"), ("##a", "##a")]
-        for name, told in rows_of_names:
+        for name, printed in rows_of_names:
             with self.subTest(name):
-                self.assertEqual(shown(name), told)
-                self.assertEqual(shown(shown(name)), told)
+                self.assertEqual(shown(name), printed)
+                self.assertEqual(shown(shown(name)), printed)
 
 
 class Folders(unittest.TestCase):

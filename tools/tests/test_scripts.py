@@ -70,8 +70,8 @@ class RedundantLinks(ScriptTest):
                 self.write("d e.xml", document(times + links))
                 for words, places in (((), alone), (("--together",), together)):
                     status, out, error = self.run_script("redundant-links", *words, "d e.xml")
-                    told = [":".join(line.split(":")[1:3]) for line in out.splitlines() if ": follows: " in line]
-                    self.assertEqual((status, told, error), (2, [], "") if places is None else (1 if places else 0, places, ""))
+                    printed = [":".join(line.split(":")[1:3]) for line in out.splitlines() if ": follows: " in line]
+                    self.assertEqual((status, printed, error), (2, [], "") if places is None else (1 if places else 0, places, ""))
 
     def test_what_is_named_together_follows_from_the_rest(self):
         names = [f"t{number}" for number in range(5)]
@@ -151,8 +151,8 @@ class Edits(ScriptTest):
                     self.assertEqual(self.tml("solve", "-", given=made.encode())[0], 2 if relation in excluded else 0)
             # Nothing of the fourteen follows: what is left of Allen's thirteen has no relation in common.
             made = self.edit(document(A + B + link("a", overlap, "b", "> </TLINK>")), "--overlaps")
-            told = self.tml("relations", "-", given=made.encode())[1]
-            self.assertEqual([line for line in told.splitlines() if "o." not in line], [])
+            printed = self.tml("relations", "-", given=made.encode())[1]
+            self.assertEqual([line for line in printed.splitlines() if "o." not in line], [])
 
     def test_links_of_a_table(self):
         inner = EVENT + INSTANCE + '<MAKEINSTANCE eiid="i2" eventID="e1"/>' + A

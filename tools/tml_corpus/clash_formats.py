@@ -2,11 +2,9 @@
 
 from __future__ import annotations
 
-import json
-from xml.sax.saxutils import escape, quoteattr
+from collections.abc import Callable
 
 from . import formats
-from .check import PlacedNote
 from .clash_report import TOUCHING, ClashReport, ClashSummary, PlacedChange, PlacedClash, PlacedLink, PlacedRepair
 from .files import counted, shown
 from .formats import data_text, property_text
@@ -18,12 +16,12 @@ class Text:
 
     summary_apart = False
 
-    def __init__(self, terminal: bool, quiet: bool = False) -> None:
-        self.faults, self.quiet = formats.Text(terminal), quiet
+    def __init__(self, with_source: bool, quiet: bool = False) -> None:
+        self.judgements, self.quiet = formats.Text(with_source), quiet
 
     def file(self, report: ClashReport) -> str:
         """What is printed of one file."""
-        return self.faults.file(report.judgement) + "".join(line + "\n" for line in self.lines(report))
+        return self.judgements.file(report.judgement) + "".join(line + "\n" for line in self.lines(report))
 
     def lines(self, report: ClashReport) -> list[str]:
         """The lines of the clashes of one file."""
@@ -45,7 +43,7 @@ class Text:
 
 def located(path: str, place: Place, text: str) -> str:
     """A line of the form that editors take up."""
-    return f"{path}:{place.line}:{place.column}: {shown(text)}"
+    return f"{formats.located(path, place)}: {shown(text)}"
 
 
 def clash_lines(path: str, clash: PlacedClash, number: int) -> list[str]:
@@ -106,29 +104,19 @@ class Json(Text):
         printed["readTouching"] = report.read_touching
         if report.repair is not None:
             printed["repair"] = repair_object(report.repair)
-        return formats.printable(json.dumps(printed)) + "\n"
-
-
-def place_object(place: Place, text: str) -> dict[str, object]:
-    """A place and a text as JSON has them."""
-    return {"offset": place.offset, "line": place.line, "column": place.column, "message": text}
+        return formats.printable(printed)
 
 
 def link_object(link: PlacedLink) -> dict[str, object]:
     """A link as JSON has it."""
     names = {"number": link.link.number, "left": link.link.left, "relation": link.link.relation, "right": link.link.right}
-    return {**names, **place_object(link.place(), link.text)}
-
-
-def note_objects(notes: list[PlacedNote]) -> list[dict[str, object]]:
-    """Notes as JSON has them."""
-    return [place_object(note.place, note.text) for note in notes]
+    return {**names, **formats.place_object(link.place()), "message": link.text}
 
 
 def clash_object(clash: PlacedClash) -> dict[str, object]:
     """A clash as JSON has it."""
     printed: dict[str, object] = {"links": [link_object(link) for link in clash.links]}
-    printed.update(calendar=note_objects(clash.calendar), cures=note_objects(clash.cures))
+    printed.update(calendar=list(map(formats.note_object, clash.calendar)), cures=list(map(formats.note_object, clash.cures)))
     if clash.evidence is not None:
         printed["evidence"] = clash.evidence
     return printed
@@ -162,42 +150,30 @@ def first_line(report: ClashReport) -> str:
 
 
 class JUnit(Text):
-    """One test case for each file. The counts stand at the beginning, so all is printed at the end."""
+    """One test case for each file."""
 
     summary_apart = True
 
-    def __init__(self, name: str) -> None:
-        super().__init__(False)
-        self.name = name
-        self.cases: list[str] = []
+    def __init__(self, name: str, with_source: bool, strict: bool) -> None:
+        super().__init__(with_source)
+        self.suite, self.strict = formats.Suite(name), strict
 
     def file(self, report: ClashReport) -> str:
         judgement = report.judgement
+        failure = formats.first_failure(judgement, False)
+        if failure is None and report.clashes:
+            failure = report.verdict(), first_line(report)
+        failure = failure or formats.first_failure(judgement, self.strict)
         if judgement.problem is not None:
-            self.case(judgement.path, f"<error message={quoteattr(shown(judgement.problem))}/>")
-        elif judgement.faults:
-            first = judgement.faults[0]
-            self.failure(report, first.fault.title(), f"{formats.located(judgement.path, first)}: {formats.message(first)}")
-        elif report.clashes:
-            self.failure(report, report.verdict(), first_line(report))
+            self.suite.error(judgement.path, judgement.problem)
+        elif failure is not None:
+            self.suite.failure(judgement.path, *failure, super().file(report))
         else:
-            self.case(judgement.path, "")
+            self.suite.success(judgement.path, super().file(report))
         return ""
 
-    def failure(self, report: ClashReport, kind: str, said: str) -> None:
-        """Adds a test case that failed."""
-        self.case(report.judgement.path, f"<failure type={quoteattr(kind)} message={quoteattr(said)}>{escape(super().file(report))}</failure>")
-
-    def case(self, path: str, inner: str) -> None:
-        """Adds a test case."""
-        name = quoteattr(shown(path))
-        self.cases.append(f'    <testcase classname="tml" name={name}' + (f">{inner}</testcase>\n" if inner else "/>\n"))
-
     def end(self, summary: ClashSummary) -> str:
-        failures, errors = summary.count("fault", "clash", TOUCHING), summary.count("not judged")
-        counts = f'tests="{len(self.cases)}" failures="{failures}" errors="{errors}"'
-        suite = f'  <testsuite name="{self.name}" {counts}>\n{"".join(self.cases)}  </testsuite>\n'
-        return f'<?xml version="1.0" encoding="UTF-8"?>\n<testsuites {counts}>\n{suite}</testsuites>\n'
+        return self.suite.text()
 
 
 class GitHub(Text):
@@ -208,7 +184,7 @@ class GitHub(Text):
 
     def file(self, report: ClashReport) -> str:
         path = report.judgement.path
-        lines = [formats.GitHub().file(report.judgement)]
+        lines = [formats.GitHub(False).file(report.judgement)]
         for number, clash in enumerate(report.shown_clashes(), 1):
             title = f"clash of {counted(len(clash.links), 'link')}"
             lines.append(command(path, clash.links[0].place(), title, "\n".join(message_lines(clash) + (repair_message(report) if number == 1 else []))))
@@ -241,8 +217,12 @@ def repair_message(report: ClashReport) -> list[str]:
     return [shown(report.repair.text()), *(beside(link.place(), link.text) for links in report.repair.choices for link in links)]
 
 
-def make_format(name: str, terminal: bool, quiet: bool, checked: bool) -> Text:
+def make_format(name: str, with_source: bool, quiet: bool, checked: bool, strict: bool) -> Text:
     """The format of a name, for `check --clashes` or for `clashes`."""
-    suite = "tml check" if checked else "tml clashes"
-    makers = {"text": lambda: Text(terminal, quiet), "json": lambda: Json(checked), "junit": lambda: JUnit(suite), "github": GitHub}
+    makers: dict[str, Callable[[], Text]] = {
+        "text": lambda: Text(with_source, quiet),
+        "json": lambda: Json(checked),
+        "junit": lambda: JUnit("tml check" if checked else "tml clashes", with_source, strict),
+        "github": GitHub,
+    }
     return makers[name]()

@@ -6,6 +6,8 @@ from dataclasses import dataclass, field
 
 from .check import Judgement, PlacedNote
 from .files import counted
+from .formats import WarningCounts
+from .lint import Lint
 from .places import Place
 from .words import Link
 
@@ -21,7 +23,8 @@ class Wanted:
     touching: bool = False
     more: int = 0
     repair: bool = False
-    explained: bool = False
+    explained: bool = True
+    lint: Lint | None = None
 
 
 @dataclass(frozen=True)
@@ -146,6 +149,7 @@ class ClashSummary:
     changes: int = 0
     changed_files: int = 0
     read_touching: bool = False
+    warnings: WarningCounts = field(default_factory=WarningCounts)
 
     def add(self, report: ClashReport) -> None:
         """Counts one file."""
@@ -159,14 +163,17 @@ class ClashSummary:
         self.further_clashes += max(len(report.clashes) - 1, 0)
         self.changes += len(report.touching)
         self.changed_files += bool(report.touching)
+        self.warnings.add(report.judgement)
 
     def count(self, *verdicts: str) -> int:
         """How many files have one of some verdicts."""
         return sum(self.verdicts.get(verdict, 0) for verdict in verdicts)
 
-    def status(self) -> int:
-        """0 where a timeline fits each document, 2 where something could not be judged, else 1."""
-        return 2 if self.count("not judged") else 1 if self.count("fault", "clash", TOUCHING) else 0
+    def status(self, strict: bool = False) -> int:
+        """0 where a timeline fits each document, 2 where something could not be judged, else 1; a warning counts where this is strict."""
+        if self.count("not judged"):
+            return 2
+        return 1 if self.count("fault", "clash", TOUCHING) or (strict and self.warnings.files) else 0
 
     def text(self, interrupted: bool) -> str:
         """The summary in lines."""
@@ -180,6 +187,7 @@ class ClashSummary:
         parts += [f"{self.count('fault')} with a fault", f"{self.count('not judged')} not judged"]
         lines = [f"{counted(self.files, 'file')}: {', '.join(parts)}"]
         lines += [f"{number:7}  {what}" for number, what in self.counts()]
+        lines += self.warnings.lines()
         looked_at = sum(self.verdicts.values())
         if interrupted:
             lines.append(f"interrupted: {looked_at} of {self.files} files were looked at")

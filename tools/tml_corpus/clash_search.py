@@ -5,7 +5,7 @@ from __future__ import annotations
 import os
 from functools import cached_property
 
-from .check import Judgement, PlacedNote, judge_document
+from .check import Judgement, PlacedNote, judge_document, placed_warnings
 from .clash_report import ClashReport, PlacedChange, PlacedClash, PlacedLink, PlacedRepair, Wanted
 from .clashes import STRICT_ORDERS, Clash, is_timeline, read_clash, verify_clash
 from .files import CannotRead, Found, read_document
@@ -25,9 +25,11 @@ def find_clashes(program: Program, found: Found, wanted: Wanted) -> ClashReport:
     try:
         document = read_document(found.place())
         reply = program.ask(["solve", "-"], document)
-        if is_timeline(reply):
+        if is_timeline(reply) and wanted.lint is None:
             return ClashReport(Judgement(found.path))
         with room_for(document):
+            if is_timeline(reply) and wanted.lint is not None:
+                return ClashReport(Judgement(found.path, warnings=placed_warnings(program, document, wanted.lint)))
             return report_of(program, found, document, wanted, reply)
     except (CannotRead, CannotRun) as problem:
         return ClashReport(Judgement(found.path, problem=str(problem)))
@@ -65,7 +67,10 @@ class ClashSearch:
     def report(self, first: Clash) -> ClashReport:
         """All that was asked for."""
         left = self.left_by_touching(first)
-        report = ClashReport(Judgement(self.path), read_touching=self.wanted.touching, fits_touching=left is None)
+        judgement = Judgement(self.path)
+        if self.wanted.lint is not None:
+            judgement.warnings = placed_warnings(self.program, self.document, self.wanted.lint, self.wording.units)
+        report = ClashReport(judgement, read_touching=self.wanted.touching, fits_touching=left is None)
         report.touching = [self.placed_change(change) for change in self.changes]
         shown = left if left is not None or self.wanted.touching else first
         if shown is not None:
@@ -131,9 +136,9 @@ class ClashSearch:
         """A clash in words, once `tml verify` accepted it as one of the document."""
         folder = self.wanted.folder
         name = self.path if number == 1 else f"{self.path}.{number}"
-        kept = verify_clash(self.program, name, self.document, clash, folder and os.path.join(self.found.base, folder))
+        evidence = verify_clash(self.program, name, self.document, clash, folder and os.path.join(self.found.base, folder))
         links = [self.placed_link(link) for link in clash.links]
-        return PlacedClash(links, self.calendar_notes(clash), self.cures(clash), os.path.join(folder, kept) if folder is not None else None)
+        return PlacedClash(links, self.calendar_notes(clash), self.cures(clash), os.path.join(folder, evidence) if folder is not None else None)
 
     def calendar_notes(self, clash: Clash) -> list[PlacedNote]:
         """What the walk takes from the calendar; places are asked for in their order, since lines may be long."""

@@ -9,26 +9,32 @@ from __future__ import annotations
 import argparse
 import os
 import sys
+from collections import Counter
 from collections.abc import Callable, Iterator, Sequence
 from contextlib import contextmanager
 from functools import partial
 from typing import TypeVar
 
 from . import clash_formats
+from .baseline import Baseline, read_baseline, write_baseline
 from .check import Judgement, judge
 from .clash_report import ClashReport, ClashSummary, Wanted
 from .clash_search import find_clashes
 from .cluster import connected
 from .files import PATTERNS, Found, counted, find_files, reason, shown
+from .fix import FixReport, fix, not_mended
 from .formats import Summary, make_format
+from .lint import KINDS, Lint, chosen
 from .output import Parser, run
 from .pool import Interruption, Progress, in_order, processors
 from .program import CannotRun, Program, find_program
+from .settings import Settings, settings_for
 from .standard_input import STANDARD_INPUT, StandardInput, find_with
 from .statuses import ENDED, Status
 from .tags import MOST_NAMES, Names, Table, is_known, names_in
 from .timeline import draw, form_of, write_picture
 from .watch import watch
+from .wrappers import Unwrapping
 
 Result = TypeVar("Result")
 EXAMPLES = """Examples:
@@ -46,6 +52,7 @@ def main(words: Sequence[str] | None = None) -> int:
 def command(words: list[str]) -> int:
     """Runs one command and answers its status."""
     options = parser().parse_args(words)
+    options.settings = settings_of(options)
     with Interruption() as stop, prepared(options, stop):
         status = run_command(options, stop)
         sys.stdout.flush()
@@ -64,7 +71,7 @@ def run_command(options: argparse.Namespace, stop: Interruption) -> int:
         options.found = found
         command(options, stop)
 
-    watch(lambda: find_files(options.paths, options.glob or list(PATTERNS)), look, stop)
+    watch(lambda: find_files(options.paths, patterns_of(options)), look, stop)
     return 0
 
 
@@ -72,13 +79,26 @@ def run_command(options: argparse.Namespace, stop: Interruption) -> int:
 def prepared(options: argparse.Namespace, stop: Interruption) -> Iterator[None]:
     """Finds the program, and what does the work on files in their order: the processors here, or a cluster."""
     if getattr(options, "cluster", None) is None:
-        options.program = Program(find_program(options.tml))
-        options.in_order = partial(in_order, workers=max(getattr(options, "jobs", 1), 1))
+        options.program = with_wrappers(Program(find_program(options.tml)), options)
+        jobs = getattr(options, "jobs", 1) or options.settings.jobs or processors()
+        options.in_order = partial(in_order, workers=max(jobs, 1))
         yield
     else:
         with connected(options.cluster, stop) as cluster:
-            options.program, options.in_order = cluster.program(options.tml), cluster.in_order
+            options.program, options.in_order = with_wrappers(cluster.program(options.tml), options), cluster.in_order
             yield
+
+
+def settings_of(options: argparse.Namespace) -> Settings:
+    """What the file of settings says that lies where the paths are; standard input lies in the current folder."""
+    paths = getattr(options, "paths", None) or [options.document]
+    return settings_for(["." if path == STANDARD_INPUT else path for path in paths], options.config)
+
+
+def with_wrappers(program: Program, options: argparse.Namespace) -> Program:
+    """The program, asked without the tags of the corpus's own wrappers; `tags` counts these too."""
+    wrappers = options.settings.wrappers
+    return Unwrapping(program.path, wrappers) if wrappers and options.command is not tags_command else program
 
 
 def number_from_zero(text: str) -> int:
@@ -99,8 +119,11 @@ def parser() -> Parser:
         epilog=EXAMPLES.format("check"),
         formatter_class=argparse.RawDescriptionHelpFormatter,
     )
-    check.add_argument("--explain", action=argparse.BooleanOptionalAction, help="say what is at fault (default at a terminal)")
+    check.add_argument(
+        "--explain", action=argparse.BooleanOptionalAction, default=True, help="say what is at fault and how to mend it, and mark it (the default)"
+    )
     check.add_argument("--clashes", action="store_true", help="show the links that contradict each other too")
+    lint_words(check)
     check.set_defaults(command=check_command)
     tags = commands.add_parser("tags", help="count the names of tags, and say which of them tml does not know")
     tags.set_defaults(command=tags_command)
@@ -115,13 +138,15 @@ def parser() -> Parser:
     clashes.set_defaults(command=clashes_command)
     shared_words(check, "faults or clashes")
     shared_words(clashes, "clashes")
-    for command in (check, tags, clashes):
+    fixes = fix_words(commands)
+    for command in (check, tags, clashes, fixes):
         command.add_argument("paths", nargs="+", metavar="PATH", help="a file, or a folder to search")
         command.add_argument("--glob", action="append", metavar="PATTERN", help=f"names to look for in folders (default {' '.join(PATTERNS)})")
-        command.add_argument("--jobs", type=int, default=processors(), metavar="N", help="how many files at once (default: one a processor)")
+        command.add_argument("--jobs", type=int, metavar="N", help="how many files at once (default: one a processor)")
     for command in (check, clashes):
         command.add_argument("--cluster", metavar="ADDRESS", help="work on a Dask cluster, whose workers see the files and tml by the same paths; --jobs says nothing then")
-    for command in (check, tags, clashes, timeline_words(commands)):
+    for command in (check, tags, clashes, fixes, timeline_words(commands)):
+        command.add_argument("--config", metavar="FILE", help="the settings (default: tml-corpus.toml in the folder of the paths or nearest above)")
         command.add_argument("--tml", metavar="PROGRAM", help="the program tml (default: that of this repository, else that on PATH)")
     return whole
 
@@ -137,13 +162,41 @@ def shared_words(command: Parser, things: str) -> None:
     command.set_defaults(found=None)
 
 
+def lint_words(check: Parser) -> None:
+    """The words for what is accepted and suspect."""
+    names = f"one of {', '.join(KINDS)}"
+    check.add_argument("--lint", action="store_true", help="warn of what tml accepts and an annotator probably did not mean")
+    check.add_argument("--ignore", action="append", choices=KINDS, default=[], metavar="NAME", help=f"no warnings of this kind: {names}")
+    check.add_argument("--warn", action="append", choices=KINDS, default=[], metavar="NAME", help="warnings of this kind too, as unknown-attribute")
+    check.add_argument("--strict", action="store_true", help="status 1 where there is a warning")
+    check.add_argument("--baseline", metavar="FILE", help="no warnings that this file has, which were there before")
+    check.add_argument("--write-baseline", action="store_true", help="write the warnings that there are to the file of --baseline")
+
+
+def fix_words(commands: argparse._SubParsersAction[Parser]) -> Parser:
+    """The words of `fix`."""
+    words = commands.add_parser(
+        "fix",
+        help="mend what has one cure only",
+        description="Mends what has one cure only: & that begin no reference, curly quotes around values, CDATA, Latin-1, names and listed values in "
+        "other letters, and references to an event that has one instance. It prints the changes, and writes them where --write is given. "
+        "The status is 0 where tml accepts each file as it is then.",
+        epilog="Example: tools/tml-corpus fix samples",
+    )
+    what = words.add_mutually_exclusive_group()
+    what.add_argument("--diff", action="store_true", help="print the changes and write nothing (the default)")
+    what.add_argument("--write", action="store_true", help="write the mended documents in the place of the files")
+    words.set_defaults(command=fix_command)
+    return words
+
+
 def timeline_words(commands: argparse._SubParsersAction[Parser]) -> Parser:
     """The words of `timeline`, which is about one document."""
     words = commands.add_parser(
         "timeline",
         help="draw the least timeline of a document",
         description="Draws the least timeline of a document, once tml verify accepted it. Where links clash it says which ones, and where the "
-        "document has a fault it tells that; the status is 1 then, and no file is written.",
+        "document has a fault it names that; the status is 1 then, and no file is written.",
         epilog="Example: tools/tml-corpus timeline samples/rates.xml -o rates.html",
     )
     words.add_argument("document", metavar="DOC", help="a file")
@@ -165,9 +218,14 @@ def picture_name(text: str) -> str:
 def search(options: argparse.Namespace) -> list[Found]:
     """The files that the command is about: where files are watched, those that have changed."""
     found: list[Found] | None = getattr(options, "found", None)
-    patterns = options.glob or list(PATTERNS)
+    patterns = patterns_of(options)
     given = standard_input_of(options) if hasattr(options, "stdin_name") else None
     return found if found is not None else find_with(given, options.paths, patterns) if given else find_files(options.paths, patterns)
+
+
+def patterns_of(options: argparse.Namespace) -> list[str]:
+    """The names to look for in folders."""
+    return options.glob or list(options.settings.patterns or PATTERNS)
 
 
 def standard_input_of(options: argparse.Namespace) -> StandardInput | None:
@@ -188,13 +246,13 @@ def each(
     found: Sequence[Found],
     work: Callable[[Found], Result],
     lost: Callable[[Found], Result],
-    tell: Callable[[Result], str],
+    report: Callable[[Result], str],
 ) -> None:
-    """Does the work for each file on all processors or a cluster, and prints in the order of the files what there is to tell."""
+    """Does the work for each file on all processors or a cluster, and prints in the order of the files what there is to report."""
     progress = Progress(len(found), "files")
     try:
         for result in options.in_order(work, found, stop=stop, lost=lost):
-            text = tell(result)
+            text = report(result)
             if text:
                 progress.clear()
                 sys.stdout.write(text)
@@ -207,24 +265,74 @@ def each(
 
 def check_command(options: argparse.Namespace, stop: Interruption) -> int:
     """`tml-corpus check`."""
-    terminal = sys.stdout.isatty()
-    explained = terminal if options.explain is None else options.explain
+    lint = chosen((*options.settings.ignore, *options.ignore), (*options.settings.warn, *options.warn)) if options.lint else None
+    baseline = baseline_of(options)
     if options.clashes:
-        return show_clashes(options, stop, Wanted(touching=options.touching, more=options.more, explained=explained), True)
+        wanted = Wanted(touching=options.touching, more=options.more, explained=options.explain, lint=lint)
+        return show_clashes(options, stop, wanted, baseline)
     if options.touching:
         raise CannotRun("--touching is about clashes: give --clashes too")
     found = search(options)
-    form, summary = make_format(options.format, terminal), Summary(len(found))
+    form, summary = make_format(options.format, options.explain, options.strict), Summary(len(found))
 
-    def tell(judgement: Judgement) -> str:
+    def reported(judgement: Judgement) -> str:
+        use_baseline(options, baseline, judgement)
         summary.add(judgement)
         return form.file(judgement)
 
-    work = partial(judge, options.program, explained=explained, more=options.more)
-    each(options, stop, found, work, lambda one: Judgement(one.path, problem=ENDED), tell)
+    work = partial(judge, options.program, explained=options.explain, more=options.more, lint=lint)
+    each(options, stop, found, work, lambda one: Judgement(one.path, problem=ENDED), reported)
     sys.stdout.write(form.end(summary))
-    write_summary(options, form.summary_apart, summary.text(stop.happened.is_set()))
-    return summary.status()
+    write_summary(options, form.summary_apart, summary.text(stop.happened.is_set()) + baseline_text(options, baseline, stop))
+    return summary.status(options.strict)
+
+
+def baseline_of(options: argparse.Namespace) -> Baseline | None:
+    """The baseline that is read, or that is to be written."""
+    if options.baseline is None:
+        if options.write_baseline:
+            raise CannotRun("--write-baseline needs --baseline FILE")
+        return None
+    return Baseline(options.baseline) if options.write_baseline else read_baseline(options.baseline)
+
+
+def use_baseline(options: argparse.Namespace, baseline: Baseline | None, judgement: Judgement) -> None:
+    """Takes the warnings out of a judgement that the baseline has, or that it is to have."""
+    if baseline is not None and options.write_baseline:
+        baseline.take(judgement)
+    elif baseline is not None:
+        baseline.without_known(judgement)
+
+
+def baseline_text(options: argparse.Namespace, baseline: Baseline | None, stop: Interruption) -> str:
+    """Writes the baseline, where that is wanted and all files were looked at, and answers what there is to say of it."""
+    if baseline is not None and options.write_baseline and not stop.happened.is_set():
+        write_baseline(options.baseline, baseline)
+        return f"{counted(baseline.counts.total(), 'warning')} written to {shown(options.baseline)}\n"
+    if baseline is not None and baseline.hidden:
+        return f"{counted(baseline.hidden, 'warning')} of the baseline not shown\n"
+    return ""
+
+
+def fix_command(options: argparse.Namespace, stop: Interruption) -> int:
+    """`tml-corpus fix`."""
+    found = search(options)
+    reports: Counter[str] = Counter()
+
+    def reported(one: FixReport) -> str:
+        reports["changed"] += one.changed
+        reports["left"] += one.left
+        reports["problem"] += one.problem
+        return one.text
+
+    work = partial(fix, options.program, writes=options.write)
+    each(options, stop, found, work, lambda one: not_mended(one, ENDED), reported)
+    changed, left, problems = reports["changed"], reports["left"], reports["problem"]
+    done = "mended" if options.write else "can be mended (--write does it)"
+    sys.stdout.write(f"{counted(len(found), 'file')}: {changed} {done}, {left} with a fault that is left, {problems} not looked at\n")
+    if stop.happened.is_set():
+        sys.stdout.write("interrupted: not all files were looked at\n")
+    return Status.TROUBLE if problems else Status.FINDING if left or (changed and not options.write) else Status.SUCCESS
 
 
 def write_summary(options: argparse.Namespace, apart: bool, text: str) -> None:
@@ -239,14 +347,14 @@ def tags_command(options: argparse.Namespace, stop: Interruption) -> int:
     found = search(options)
     table, problems = Table(), 0
 
-    def tell(names: Names) -> str:
+    def reported(names: Names) -> str:
         nonlocal problems
         table.add(names)
         problems += names.problem is not None
-        said = f"not counted: {names.problem}" if names.problem else names.remark
-        return f"{shown(names.path)}: {shown(said)}\n" if said else ""
+        remark = f"not counted: {names.problem}" if names.problem else names.remark
+        return f"{shown(names.path)}: {shown(remark)}\n" if remark else ""
 
-    each(options, stop, found, partial(names_in, options.program), lambda one: Names(one.path, problem=ENDED), tell)
+    each(options, stop, found, partial(names_in, options.program), lambda one: Names(one.path, problem=ENDED), reported)
     asked = table.names()[:MOST_NAMES]
     known = dict(zip(asked, options.in_order(partial(is_known, options.program), asked, stop=stop, lost=lambda name: None), strict=False))
     sys.stdout.write(table.text(known))
@@ -264,30 +372,32 @@ def clashes_command(options: argparse.Namespace, stop: Interruption) -> int:
             os.makedirs(options.evidence, exist_ok=True)
         except (OSError, ValueError) as error:
             raise CannotRun(f"the folder {options.evidence} cannot be made: {reason(error)}") from None
-    return show_clashes(options, stop, Wanted(options.evidence, options.touching, options.more, options.repair), False)
+    return show_clashes(options, stop, Wanted(options.evidence, options.touching, options.more, options.repair), None)
 
 
-def show_clashes(options: argparse.Namespace, stop: Interruption, wanted: Wanted, checked: bool) -> int:
+def show_clashes(options: argparse.Namespace, stop: Interruption, wanted: Wanted, baseline: Baseline | None) -> int:
     """`tml-corpus clashes`, and `tml-corpus check --clashes`."""
-    found = search(options)
-    form = clash_formats.make_format(options.format, sys.stdout.isatty(), options.quiet, checked)
+    found, checked = search(options), options.command is check_command
+    strict = checked and options.strict
+    form = clash_formats.make_format(options.format, wanted.explained, options.quiet, checked, strict)
     summary = ClashSummary(len(found), checked, read_touching=wanted.touching)
 
-    def tell(report: ClashReport) -> str:
+    def reported(report: ClashReport) -> str:
+        use_baseline(options, baseline, report.judgement)
         summary.add(report)
         return form.file(report)
 
     work = partial(find_clashes, options.program, wanted=wanted)
-    each(options, stop, found, work, lambda one: ClashReport(Judgement(one.path, problem=ENDED)), tell)
+    each(options, stop, found, work, lambda one: ClashReport(Judgement(one.path, problem=ENDED)), reported)
     sys.stdout.write(form.end(summary))
-    write_summary(options, form.summary_apart, summary.text(stop.happened.is_set()))
-    return summary.status()
+    write_summary(options, form.summary_apart, summary.text(stop.happened.is_set()) + baseline_text(options, baseline, stop))
+    return summary.status(strict)
 
 
 def timeline_command(options: argparse.Namespace, stop: Interruption) -> int:
     """`tml-corpus timeline`."""
-    told = draw(options.program, options.document, options.output, sys.stdout.isatty(), options.touching)
-    if told.picture is not None and not stop.happened.is_set():
-        write_picture(options.output, told.picture)
-    sys.stdout.write(told.text)
-    return told.status
+    drawn = draw(options.program, options.document, options.output, options.touching)
+    if drawn.picture is not None and not stop.happened.is_set():
+        write_picture(options.output, drawn.picture)
+    sys.stdout.write(drawn.text)
+    return drawn.status

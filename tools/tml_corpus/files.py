@@ -28,7 +28,7 @@ class Found:
     base: str = ""
 
     def place(self) -> str:
-        """Where the file lies: its path is told as it was given, and is one of the base where another folder is the current one."""
+        """Where the file lies: its path is printed as it was given, and is one of the base where another folder is the current one."""
         return os.path.join(self.base, self.path)
 
 
@@ -134,7 +134,7 @@ def shown(text: str) -> str:
 
 
 def escaped(character: str) -> str:
-    """An escape for one character; a byte that is not UTF-8 is told as this byte."""
+    """An escape for one character; a byte that is not UTF-8 is printed as this byte."""
     code = ord(character)
     if 0xDC80 <= code <= 0xDCFF:
         return f"\\x{code - 0xDC00:02x}"

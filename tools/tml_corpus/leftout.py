@@ -10,7 +10,7 @@ from collections.abc import Collection, Mapping
 
 from .clashes import Clash, is_timeline, read_clash, verify_clash, verify_timeline
 from .hitting import TooMuch
-from .probes import with_value
+from .edits import with_value
 from .program import CLASH, CannotRun, Program
 from .touching import relation_of
 from .units import Unit, Units

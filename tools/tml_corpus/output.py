@@ -30,7 +30,7 @@ class CannotWrite(Exception):
 
 
 class StandardOutput(io.FileIO):
-    """Standard output, of which each failure is told from that of other files."""
+    """Standard output, of which each failure is known from that of other files."""
 
     def write(self, data: bytes) -> int:  # type: ignore[override]
         """Writes what there is room for."""
@@ -55,7 +55,7 @@ class StandardError(io.FileIO):
 
 
 class Parser(ArgumentParser):
-    """The words of a command line. What is wrong with them is told with names as they may be printed."""
+    """The words of a command line. What is wrong with them is said with names as they may be printed."""
 
     def error(self, message: str) -> NoReturn:
         """Says what is wrong, and ends the program."""

@@ -31,7 +31,7 @@ PATIENCE = 0.5
 
 
 class Interruption:
-    """Notes the first Ctrl-C, so that what was judged can still be told; a second one ends the program and its children at once."""
+    """Notes the first Ctrl-C, so that what was judged can still be reported; a second one ends the program and its children at once."""
 
     def __init__(self) -> None:
         self.happened = threading.Event()
@@ -60,10 +60,10 @@ def processors() -> int:
 def in_order(
     work: Callable[[Item], Result], items: Sequence[Item], workers: int, stop: Interruption, lost: Callable[[Item], Result]
 ) -> Iterator[Result]:
-    """The results of the items in their order. After an interruption no item is begun; what was begun is still told.
+    """The results of the items in their order. After an interruption no item is begun; what was begun is still reported.
 
     The work is done in processes of Python, since much of it is to start `tml` again and again, which threads would do
-    one after the other. Where such a process is ended from outside, as where it is out of memory, the items that were not told
+    one after the other. Where such a process is ended from outside, as where it is out of memory, the items that were not reported
     yet are begun again one at a time, until the one that ends its process again is met: its result is made by `lost`.
     """
     left = deque(items)

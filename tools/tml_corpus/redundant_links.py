@@ -134,12 +134,12 @@ def links_of(program: Program, document: bytes) -> tuple[list[Link], dict[int, b
     units = units_of(program, document)
     if units is None:
         raise CannotRun(APART)
-    told = [line for line in program.check(document).lines() if line[0] in ("interval", "tlink")]
-    words = [line[2:] for line in told if line[0] == "tlink"]
+    printed = [line for line in program.check(document).lines() if line[0] in ("interval", "tlink")]
+    words = [line[2:] for line in printed if line[0] == "tlink"]
     tags = units.opening("TLINK")
     copy = carried(document, units)
     whole = b"".join(copy.values())
-    same = told == [line for line in program.check(whole).lines() if line[0] in ("interval", "tlink")]
+    same = printed == [line for line in program.check(whole).lines() if line[0] in ("interval", "tlink")]
     if len(words) != len(tags) or not same or program.ask(["dates", "-"], document).text != program.ask(["dates", "-"], whole).text:
         raise CannotRun(APART)
     return [Link((a, relation, b), tag.start) for (a, relation, b), tag in zip(words, tags, strict=True)], copy

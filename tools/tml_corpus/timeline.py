@@ -26,7 +26,7 @@ FORMS = {".svg": svg, ".html": page, ".htm": page}
 
 
 @dataclass(frozen=True)
-class Told:
+class Drawn:
     """What is printed of a document, its status, and the picture where there is one."""
 
     text: str
@@ -42,48 +42,48 @@ def form_of(target: str) -> str:
     return end
 
 
-def draw(program: Program, path: str, target: str, terminal: bool, touching: bool) -> Told:
+def draw(program: Program, path: str, target: str, touching: bool) -> Drawn:
     """The picture of the timeline of one file, or why there is none; links between dates that touch may be read so."""
     try:
         document = read_document(path)
         if os.path.exists(target) and os.path.samefile(path, target):
             raise CannotRead("the picture would be written over it")
         with room_for(document):
-            return draw_document(program, path, document, target, terminal, touching)
+            return draw_document(program, path, document, target, touching)
     except (CannotRead, CannotRun) as problem:
-        return Told(f"{shown(path)}: not judged: {shown(str(problem))}\n", 2)
+        return Drawn(f"{shown(path)}: not judged: {shown(str(problem))}\n", 2)
 
 
-def draw_document(program: Program, path: str, document: bytes, target: str, terminal: bool, touching: bool) -> Told:
+def draw_document(program: Program, path: str, document: bytes, target: str, touching: bool) -> Drawn:
     """The picture of a document in memory, or its fault, or the links that clash."""
     reply = program.ask(["solve", "-"], document)
     if reply.status == FAULT:
-        return fault_of(program, path, document, terminal)
+        return fault_of(program, path, document)
     if reply.status == CLASH:
-        return links_of(program, path, document, target, terminal, touching, reply)
+        return links_of(program, path, document, target, touching, reply)
     if reply.status != ACCEPTED:
         raise CannotRun(reply.problem())
     timeline = verified(program, path, document, reply)
-    told = f"{counted(len(timeline.rows), 'interval')}, {counted(timeline.links, 'link')}, ranks 0 to {timeline.greatest()}"
-    return Told(f"{shown(path)}: drawn in {shown(target)}: {told}\n", 0, FORMS[form_of(target)](timeline))
+    counts = f"{counted(len(timeline.rows), 'interval')}, {counted(timeline.links, 'link')}, ranks 0 to {timeline.greatest()}"
+    return Drawn(f"{shown(path)}: drawn in {shown(target)}: {counts}\n", 0, FORMS[form_of(target)](timeline))
 
 
-def fault_of(program: Program, path: str, document: bytes, terminal: bool) -> Told:
-    """The fault of a document, as `tml-corpus check` tells it."""
-    judgement = judge_document(program, path, document, terminal, 0)
+def fault_of(program: Program, path: str, document: bytes) -> Drawn:
+    """The fault of a document, as `tml-corpus check` prints it."""
+    judgement = judge_document(program, path, document, True, 0)
     if judgement.accepted():
         raise CannotRun("the answers of tml to `solve` and `check` do not belong together")
-    return Told(make_format("text", terminal).file(judgement), 2 if judgement.problem else 1)
+    return Drawn(make_format("text", True).file(judgement), 2 if judgement.problem else 1)
 
 
-def links_of(program: Program, path: str, document: bytes, target: str, terminal: bool, touching: bool, reply: Reply) -> Told:
+def links_of(program: Program, path: str, document: bytes, target: str, touching: bool, reply: Reply) -> Drawn:
     """The links that clash, as `tml-corpus clashes` prints them; the picture where they clash only since dates touch, and may be read so."""
     report = report_of(program, Found(path), document, Wanted(touching=touching), reply)
-    text = clash_formats.Text(terminal).file(report)
+    text = clash_formats.Text(True).file(report)
     if report.clashes:
-        return Told(f"{text}{shown(path)}: not drawn: no timeline fits, since these links clash\n", 1)
-    drawn = draw_document(program, path, touching_copy(program, document), target, terminal, False)
-    return replace(drawn, text=text + drawn.text)
+        return Drawn(f"{text}{shown(path)}: not drawn: no timeline fits, since these links clash\n", 1)
+    picture = draw_document(program, path, touching_copy(program, document), target, False)
+    return replace(picture, text=text + picture.text)
 
 
 def verified(program: Program, path: str, document: bytes, reply: Reply) -> Timeline:

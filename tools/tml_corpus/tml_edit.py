@@ -27,7 +27,7 @@ from .faults import read_fault
 from .files import CannotRead, read_document, shown
 from .output import Parser, complain, run, standard_input
 from .places import Places
-from .probes import Edit, applied, with_value
+from .edits import Edit, applied, with_value
 from .program import ACCEPTED, DOCUMENT_LIMIT, FAULT, CannotRun, Program, Reply, find_program
 from .statuses import Status
 from .tables import BadTable, Word, rows
@@ -57,7 +57,7 @@ class CannotEdit(Exception):
 
 
 class Document:
-    """A document and its units, as `tml spans` tells them; they are told anew after each change."""
+    """A document and its units, as `tml spans` prints them; they are asked for anew after each change."""
 
     def __init__(self, program: Program, text: bytes) -> None:
         self.program, self.text = program, text
@@ -270,7 +270,7 @@ def interval_of(word: Word, instances: dict[str, str], events: set[str], interva
 def touch_dates(document: Document) -> list[Change]:
     """Gives links between dates that touch the relation that holds, as IBEFORE for BEFORE, and answers what was changed."""
     document.without_fault(document.program.check(document.text))
-    changes = touching_changes(Wording(document.program, document.text))
+    changes = touching_changes(Wording(document.program, document.text, document.units))
     document.change([edit for change in changes if (edit := change.edit(document.text)) is not None])
     return changes
 

@@ -9,7 +9,7 @@ from __future__ import annotations
 
 from dataclasses import dataclass
 
-from .probes import Edit, applied, with_value
+from .edits import Edit, applied, with_value
 from .program import Program
 from .units import Attribute, Unit
 from .words import Link, Wording

@@ -62,11 +62,6 @@ class Unit:
                 return attribute.value(document).decode("utf-8", "surrogateescape")
         return None
 
-    def told(self) -> str:
-        """What it is, in words."""
-        words = {"start": f"<{self.name}>", "end": f"</{self.name}>", "empty": f"<{self.name}/>"}
-        return words.get(self.kind, "a " + self.kind)
-
 
 class Numbers(dict[bytes, int]):
     """Numbers for words: from 0 on, in the order in which they are asked for."""
@@ -169,6 +164,25 @@ class Units(Sequence[Unit]):
                 firsts.setdefault(name, row)
         return {self.words[name]: (count, self.starts[firsts[name]]) for name, count in counts.items()}
 
+    def tag_names(self) -> set[str]:
+        """The names of the tags."""
+        return {self.words[name] for name in {name for name, kind in zip(self.names, self.kinds, strict=True) if kind <= END}}
+
+    def first_tag(self) -> Unit | None:
+        """The first start or empty tag."""
+        row = next((row for row, kind in enumerate(self.kinds) if kind <= EMPTY), None)
+        return None if row is None else self.unit(row)
+
+    def last_tag_before(self, offset: int) -> Unit | None:
+        """The last tag that begins before a place."""
+        rows = self.rows[: bisect_left(self.places, offset)]
+        row = next((row for row in reversed(rows) if self.kinds[row] <= END), None)
+        return None if row is None else self.unit(row)
+
+    def after(self, offset: int) -> Iterator[Unit]:
+        """The units that begin after a place."""
+        return map(self.unit, self.rows_from(offset + 1))
+
     def rows_from(self, offset: int) -> Sequence[int]:
         """The rows of the units that begin at a place or after it."""
         return self.rows[bisect_left(self.places, offset) :]
@@ -235,38 +249,38 @@ def read_units(reply: Reply) -> Units:
     return units
 
 
-def unit_at(units: Sequence[Unit], offset: int) -> Unit | None:
+def unit_at(units: Units, offset: int) -> Unit | None:
     """The unit that begins at a place."""
-    number = bisect_left(units.places, offset) if isinstance(units, Units) else bisect_left(units, offset, key=lambda unit: unit.start)
-    return units[number] if number < len(units) and units[number].start == offset else None
+    number = bisect_left(units.places, offset)
+    return units[number] if number < len(units) and units.places[number] == offset else None
 
 
-def open_tags(units: Sequence[Unit], offset: int) -> list[Unit]:
+def open_tags(units: Units, offset: int) -> list[Unit]:
     """The start tags that are open before a place, the innermost one last; up to there the tags have to nest."""
-    tags: list[Unit] = []
-    for unit in units:
-        if unit.start >= offset:
-            break
-        if unit.kind == "start":
-            tags.append(unit)
-        elif unit.kind == "end" and tags:
-            tags.pop()
-    return tags
+    rows: list[int] = []
+    for row in units.rows[: bisect_left(units.places, offset)]:
+        kind = units.kinds[row]
+        if kind == START:
+            rows.append(row)
+        elif kind == END and rows:
+            rows.pop()
+    return list(map(units.unit, rows))
 
 
-def end_of(units: Sequence[Unit], tag: Unit) -> Unit | None:
+def end_of(units: Units, tag: Unit) -> Unit | None:
     """The end tag that belongs to a start tag: the first one of its name that no start tag of this name between them takes.
 
     This looks at the units after the tag; for many tags there is `Units.end_tags`.
     """
     depth = 0
-    for unit in units:
-        if unit.start <= tag.start or unit.name != tag.name:
+    for row in units.rows_from(tag.start + 1):
+        kind = units.kinds[row]
+        if kind not in (START, END) or units.words[units.names[row]] != tag.name:
             continue
-        if unit.kind == "start":
+        if kind == START:
             depth += 1
-        elif unit.kind == "end":
-            if depth == 0:
-                return unit
+        elif depth == 0:
+            return units.unit(row)
+        else:
             depth -= 1
     return None

@@ -31,9 +31,9 @@ class Link:
 class Wording:
     """What can be said of the intervals and links of one accepted document."""
 
-    def __init__(self, program: Program, document: bytes) -> None:
+    def __init__(self, program: Program, document: bytes, units: Units | None = None) -> None:
         self.document, self.places = document, Places(document)
-        self.units = units_of(program, document) or Units()
+        self.units = units or units_of(program, document) or Units()
         self.tags = {kind: self.tags_by(kind, key) for kind, key in (("EVENT", "eid"), ("MAKEINSTANCE", "eiid"), ("TIMEX3", "tid"))}
         self.texts: dict[str, str] = {}
         self.intervals: list[str] = []
