@@ -1,4 +1,4 @@
-# Completion for tml and tml-corpus in bash: `. tools/completion/tml.bash`, or let an installed package load it.
+# Completion for tml and its companions in bash: `. tools/completion/tml.bash`, or let an installed package load it.
 # Where a file is asked for, nothing is offered here, and readline offers the names of files.
 
 _tml_commands=(spans check dates solve ask relations canon verify drill)
@@ -59,23 +59,48 @@ _tml() {
     esac
 }
 
+_tml_warnings=(
+    misspelled-attribute unknown-attribute value-form free-date part-of-day event-without-instance empty-tag
+    self-link repeated-link date-with-points unlinked-instance no-creation-time
+)
+
 # Completes the words of tml-corpus: its commands, their options, and the values of these.
 _tml_corpus() {
-    local options=(--help)
+    local options=(--help) shared=(--format --more --touching --stdin-name --quiet --watch --glob --config --tml --jobs --cluster)
     COMPREPLY=()
     case ${COMP_WORDS[1]} in
-        check) options+=(--format --explain --no-explain --more --glob --tml --jobs --cluster) ;;
-        tags) options+=(--glob --tml --jobs) ;;
-        clashes) options+=(--evidence --glob --tml --jobs --cluster) ;;
-        timeline) options+=(--output -o --tml) ;;
+        check)
+            options+=(--explain --no-explain --clashes "${shared[@]}")
+            options+=(--lint --ignore --warn --strict --baseline --write-baseline)
+            ;;
+        fix) options+=(--diff --write --glob --config --tml --jobs) ;;
+        tags) options+=(--glob --config --tml --jobs) ;;
+        clashes) options+=(--evidence --repair "${shared[@]}") ;;
+        timeline) options+=(--output -o --touching --config --tml) ;;
     esac
     case ${COMP_WORDS[COMP_CWORD - 1]}:$COMP_CWORD:${COMP_WORDS[COMP_CWORD]} in
-        *:1:*) _tml_offer check tags clashes timeline --help ;;
+        *:1:*) _tml_offer check fix tags clashes timeline --help ;;
         --format:*) _tml_offer text json junit github ;;
-        --more:* | --glob:* | --jobs:* | --cluster:*) _tml_offer ;;
+        --ignore:* | --warn:*) _tml_offer "${_tml_warnings[@]}" ;;
+        --more:* | --stdin-name:* | --glob:* | --jobs:* | --cluster:*) _tml_offer ;;
+        *:-*) _tml_offer "${options[@]}" ;;
+    esac
+}
+
+# Completes the options of the small programs.
+_tml_tools() {
+    local options=(--help)
+    COMPREPLY=()
+    case ${COMP_WORDS[0]##*/} in
+        tml-edit) options+=(--rename --unwrap --value --iso --instances --links --name --drop-links --overlaps --touching-dates --tml) ;;
+        tml-redundant-links) options+=(--together --glob --tml --jobs) ;;
+    esac
+    case ${COMP_WORDS[COMP_CWORD - 1]}:${COMP_WORDS[COMP_CWORD]} in
+        --rename:* | --unwrap:* | --value:* | --name:* | --drop-links:* | --glob:* | --jobs:*) _tml_offer ;;
         *:-*) _tml_offer "${options[@]}" ;;
     esac
 }
 
 complete -o bashdefault -o default -F _tml tml
 complete -o bashdefault -o default -F _tml_corpus tml-corpus
+complete -o bashdefault -o default -F _tml_tools tml-edit tml-redundant-links tml-from-tempeval2 tml-html-entities

@@ -1,6 +1,7 @@
 """What the tests share: a folder for documents, and runs of `tml-corpus` over it with the real program."""
 
 import os
+import signal
 import subprocess
 import sys
 import tempfile
@@ -9,6 +10,9 @@ import unittest
 TOOLS = os.path.dirname(os.path.dirname(os.path.abspath(__file__)))
 TOP = os.path.dirname(TOOLS)
 sys.path.insert(0, TOOLS)
+
+# In the background of a shell Ctrl-C is ignored, and would be by the programs that the tests interrupt.
+signal.signal(signal.SIGINT, signal.default_int_handler)
 
 COMPANION = os.path.join(TOOLS, "tml-corpus")
 TML = os.environ.get("TML") or os.path.join(TOP, "crates", "tml", "out", "tml")
@@ -59,5 +63,5 @@ class CorpusTest(unittest.TestCase):
     def notes(self, content, *words):
         """The notes on a document, from line and column on."""
         self.write("d.xml", content)
-        _, lines, _ = self.run_it("check", "--explain", *words, "d.xml")
+        _, lines, _ = self.run_it("check", *words, "d.xml")
         return [line.removeprefix("d.xml:").replace(" note: ", " ") for line in lines if " note: " in line]

@@ -13,6 +13,7 @@ from corpus import EVENT, TML, TOP, CorpusTest, document
 
 GOOD = document(EVENT)
 BAD = document("<EVENT/>")
+NO_TEXT = "this EVENT has no text: take it out, or add eid and class if it is meant"
 
 
 class Sentences(unittest.TestCase):
@@ -67,6 +68,7 @@ class Statuses(CorpusTest):
         os.symlink(".", self.path("loop"))
         self.write("z.xml", BAD)
         status, lines, _ = self.run_it("check", ".")
+        lines = [line for line in lines if not line.startswith("    ")]
         self.assertEqual(status, 2)
         self.assertEqual(lines[0], "./a.xml: not judged: the file has more than 4,194,304 bytes")
         self.assertTrue(lines[1].startswith("./b.xml:1:4194305: error: 6 Unclosed: "), lines[1])
@@ -87,11 +89,19 @@ class Statuses(CorpusTest):
 
     def test_statuses_of_tml(self):
         self.write("a.xml", GOOD)
-        for status, words in ((4, "cannot read"), (6, "out of memory"), (9, "4,194,304"), (3, "status 3"), (137, "status 137")):
+        rows = [
+            (4, "echo read fault", "tml cannot read the file"),
+            (6, ":", "tml ran out of memory"),
+            (9, "echo too long DOC", "the file has more than 4,194,304 bytes"),
+            (3, "echo usage:", "tml answered status 3, which `check` should not"),
+            (5, "echo accepted", "tml answered status 5, which `check` should not"),
+            (137, ":", "tml answered status 137, which `check` should not"),
+        ]
+        for status, answer, words in rows:
             with self.subTest(status):
-                self.script(f"exit {status}")
-                told, lines, _ = self.run_it("check", "a.xml", tml=self.path("fake"))
-                self.assertEqual(told, 2)
+                self.script(f"{answer}; exit {status}")
+                printed, lines, _ = self.run_it("check", "a.xml", tml=self.path("fake"))
+                self.assertEqual(printed, 2)
                 self.assertIn(words, lines[0])
 
     def test_answers_that_cannot_be_read(self):
@@ -129,10 +139,10 @@ class Statuses(CorpusTest):
         out, _ = child.communicate(timeout=60)
         lines = out.decode().splitlines()
         self.assertEqual(child.returncode, 130)
-        told = re.fullmatch(r"interrupted: (\d+) of 400 files were looked at", lines[-1])
-        self.assertIsNotNone(told, lines[-1:])
+        printed = re.fullmatch(r"interrupted: (\d+) of 400 files were looked at", lines[-1])
+        self.assertIsNotNone(printed, lines[-1:])
         named = [line.split(":")[0] for line in lines if "error" in line]
-        self.assertEqual(named, [f"./{number:03}.xml" for number in range(int(told[1]))])
+        self.assertEqual(named, [f"./{number:03}.xml" for number in range(int(printed[1]))])
         self.assertLess(0, len(named))
         self.assertLess(len(named), 400)
 
@@ -148,7 +158,7 @@ class PlacesOfFaults(CorpusTest):
             ("after CR alone", "<TimeML>\r <EVENT/></TimeML>", "2:2"),
             ("after CR in a line", "<TimeML>\n\r<EVENT/></TimeML>", "2:2"),
             ("a byte that is not UTF-8", b"<TimeML>\n\xc3\xa9\xff</TimeML>", "2:2"),
-            ("at the end", "<TimeML>\n", "2:1"),
+            ("at the end", "<TimeML/>\n<!--", "2:1"),
             ("of nothing", "", "1:1"),
         ]
         for name, content, place in rows:
@@ -165,7 +175,7 @@ class PlacesOfFaults(CorpusTest):
                 self.assertEqual((status, lines[0].split(": ")[0]), (1, f"{shown}:2:1"))
 
     def test_source_line_and_caret(self):
-        from tml_corpus.places import caret_lines
+        from tml_corpus.places import Places, caret_lines
 
         rows = [("\té<EVENT/>", 3, "     é<EVENT/>", 6), ("日<", 2, "    日<", 6), ("e\u0301<", 3, "    e\u0301<", 5), ("\x1b<", 2, "    \ufffd<", 5)]
         for text, column, line, before in rows:
@@ -173,6 +183,15 @@ class PlacesOfFaults(CorpusTest):
                 self.assertEqual(caret_lines(text, column), [line, " " * before + "^"])
         line, caret = caret_lines("x" * 5000 + "<", 5001)
         self.assertEqual(line[caret.index("^")], "<")
+        self.assertEqual(caret_lines("\ta日<b/>", 3, 3), ["     a日<b/>", "      ^~~~"])
+        # Places in long lines are those that are counted from the beginning of the line.
+        text = "日e\u0301\x80x" * 3000
+        places = Places(("\n" + text).encode("utf-8", "surrogateescape"))
+        for column in (1, 2, 8, 4097, 9000, 12000, 3):
+            offset = 1 + len(text[: column - 1].encode())
+            self.assertEqual((places.place(offset).line, places.place(offset).column), (2, column))
+            line, caret = places.marked(places.place(offset), places.place(offset))
+            self.assertEqual(len(caret) - len(caret.rstrip("^")), 1)
 
 
 class Formats(CorpusTest):
@@ -187,7 +206,9 @@ class Formats(CorpusTest):
         self.assertEqual(
             lines,
             [
-                "b,%.xml:2:1: error: 10 MissingAttribute: A tag lacks an attribute that it has to have, or has it with an empty value.",
+                f"b,%.xml:2:1: error: 10 MissingAttribute: {NO_TEXT} [byte 9]",
+                "    <EVENT/></TimeML>",
+                "    ^~~~~~~~",
                 "c.xml: not judged: no such file or directory",
                 "3 files: 1 accepted, 1 with a fault, 1 not judged",
                 "      1  10 MissingAttribute",
@@ -195,13 +216,15 @@ class Formats(CorpusTest):
         )
 
     def test_json(self):
-        _, lines, error = self.run_it("check", "--format", "json", "--explain", *self.paths)
+        _, lines, error = self.run_it("check", "--format", "json", *self.paths)
         one, two, three = (json.loads(line) for line in lines)
-        self.assertEqual(one, {"path": "a.xml", "verdict": "accepted", "faults": []})
+        self.assertEqual(one, {"path": "a.xml", "verdict": "accepted", "faults": [], "warnings": []})
         self.assertEqual((three["verdict"], three["problem"]), ("not judged", "no such file or directory"))
         [fault] = two["faults"]
         self.assertEqual([fault[key] for key in ("number", "name", "offset", "line", "column", "perhapsConsequence")], [10, "MissingAttribute", 9, 2, 1, False])
-        self.assertEqual(fault["notes"], [{"offset": 9, "line": 2, "column": 1, "message": "<EVENT> lacks eid and class"}])
+        self.assertEqual((fault["message"], fault["notes"]), (NO_TEXT, []))
+        self.assertEqual(fault["meaning"], "A tag lacks an attribute that it has to have, or has it with an empty value.")
+        self.assertEqual((fault["start"], fault["end"]), ({"offset": 9, "line": 2, "column": 1}, {"offset": 17, "line": 2, "column": 9}))
         self.assertTrue(error.startswith("3 files: "))
 
     def test_junit(self):
@@ -210,13 +233,27 @@ class Formats(CorpusTest):
         self.assertEqual(root.attrib, {"tests": "3", "failures": "1", "errors": "1"})
         cases = {case.get("name"): [child.tag for child in case] for case in root.iter("testcase")}
         self.assertEqual(cases, {"a.xml": [], "b,%.xml": ["failure"], "c.xml": ["error"]})
-        self.assertTrue(root.find(".//failure").get("message").startswith("b,%.xml:2:1: 10 MissingAttribute: "))
+        self.assertEqual(root.find(".//failure").get("message"), f"b,%.xml:2:1: 10 MissingAttribute: {NO_TEXT} [byte 9]")
+        self.assertIn("    ^~~~~~~~", root.find(".//failure").text)
 
     def test_github(self):
-        _, lines, _ = self.run_it("check", "--format", "github", "--explain", *self.paths)
-        self.assertTrue(lines[0].startswith("::error file=b%2C%25.xml,line=2,col=1,title=10 MissingAttribute::10 MissingAttribute: A tag "))
-        self.assertTrue(lines[0].endswith("%0A2:1: <EVENT> lacks eid and class"))
+        _, lines, _ = self.run_it("check", "--format", "github", *self.paths)
+        self.assertEqual(lines[0], f"::error file=b%2C%25.xml,line=2,col=1,endColumn=8,title=10 MissingAttribute::10 MissingAttribute: {NO_TEXT} [byte 9]")
         self.assertEqual(lines[1], "::error file=c.xml::not judged: no such file or directory")
+
+    def test_the_number_the_name_and_the_byte_are_in_every_form(self):
+        for form in ("text", "json", "junit", "github"):
+            for words in ([], ["--no-explain"]):
+                with self.subTest(form=form, words=words):
+                    text = "\n".join(self.run_it("check", "--format", form, *words, "b,%.xml")[1])
+                    self.assertRegex(text, '"number": 10, "name": "MissingAttribute", "offset": 9,' if form == "json" else r"10 MissingAttribute: .* \[byte 9\]")
+
+    def test_bytes_of_a_document_are_escaped(self):
+        self.write("d.xml", document('<SIGNAL sid="\x1b[2J&#10;\x07"/>'))
+        for form in ("text", "json", "junit", "github"):
+            with self.subTest(form):
+                lines = self.run_it("check", "--format", form, "d.xml")[1]
+                self.assertFalse(any(not character.isprintable() for line in lines for character in line), lines)
 
 
 if __name__ == "__main__":

@@ -45,8 +45,22 @@ class Completion(CorpusTest):
         return [line.removeprefix("offered ") for line in lines if line.startswith("offered ")], NO_FILES not in lines
 
     def test_is_registered(self):
-        lines = self.bash('. "$1"; complete -p tml tml-corpus', SOURCE)
-        self.assertEqual(lines, [f"complete -o bashdefault -o default -F {name}" for name in ("_tml tml", "_tml_corpus tml-corpus")])
+        tools = ("tml-edit", "tml-redundant-links", "tml-from-tempeval2", "tml-html-entities")
+        lines = self.bash('. "$1"; shift; complete -p "$@"', SOURCE, "tml", "tml-corpus", *tools)
+        names = ["_tml tml", "_tml_corpus tml-corpus", *(f"_tml_tools {name}" for name in tools)]
+        self.assertEqual(lines, [f"complete -o bashdefault -o default -F {name}" for name in names])
+
+    def test_the_small_programs(self):
+        from tml_corpus import redundant_links, tml_edit
+
+        for name, module in (("tml-edit", tml_edit), ("tml-redundant-links", redundant_links)):
+            with self.subTest(name):
+                wanted = {option for action in module.parser()._actions for option in action.option_strings} - {"-h"}
+                offered, files = self.offered(f"/usr/bin/{name}", "x.xml", "-", function="_tml_tools")
+                self.assertEqual((set(offered), files), (wanted, False))
+        self.assertEqual(self.offered("tml-edit", "--unwrap", "", function="_tml_tools"), ([], False))
+        self.assertEqual(self.offered("tml-edit", "", function="_tml_tools"), ([], True))
+        self.assertEqual(self.offered("tml-html-entities", "-", function="_tml_tools"), (["--help"], False))
 
     def test_commands_are_those_of_the_usage_text(self):
         usage = subprocess.run([TML, "no", "such"], capture_output=True, text=True, check=False).stdout
@@ -85,6 +99,7 @@ class Completion(CorpusTest):
 
     def test_the_companion(self):
         from tml_corpus.commands import parser
+        from tml_corpus.lint import KINDS
 
         [commands] = [action.choices for action in parser()._actions if isinstance(action.choices, dict)]
         first, files = self.offered("tml-corpus", "", function="_tml_corpus")
@@ -100,6 +115,10 @@ class Completion(CorpusTest):
             (["check", "--jobs", ""], [], False),
             (["check", ""], [], True),
             (["check", "--tml", ""], [], True),
+            (["check", "--baseline", ""], [], True),
+            (["check", "--config", ""], [], True),
+            (["check", "--warn", ""], list(KINDS), False),
+            (["check", "--ignore", "un"], ["unknown-attribute", "unlinked-instance"], False),
             (["clashes", "--evidence", ""], [], True),
             (["tags", "--f"], [], False),
         ]

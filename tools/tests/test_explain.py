@@ -1,5 +1,8 @@
-"""What `--explain` and `--more` say, and `tml-corpus tags`."""
+"""What the first line on a fault says, `--more`, and `tml-corpus tags`."""
 
+import json
+import os
+import re
 import unittest
 
 from corpus import EVENT, INSTANCE, CorpusTest, document
@@ -8,79 +11,285 @@ TIME = '<TIMEX3 tid="t1" type="DATE"/>'
 
 
 class Explanations(CorpusTest):
-    def test_attributes(self):
-        rows = [
-            ('<EVENT eid="e1" class="STATE" eid="e2"/>', ['2:8: without one of eid="e1" and eid="e2" the fault goes']),
-            ("<SIGNAL/>", ["2:1: <SIGNAL> lacks sid"]),
-            ('<TLINK timeID="t" relType="ENDS"/>', ["2:1: <TLINK> lacks relatedToEventInstance or relatedToTime"]),
-            ('<EVENT eid="" class="STATE"/>', ["2:1: <EVENT> lacks eid"]),
-            ('<TLINK lid="l" timeID="t" relatedToTime="t" relType="OVERLAP"/>', ['2:45: at fault: relType="OVERLAP"']),
-            ('<MAKEINSTANCE eiid=":" eventID="e1" tense="past" pos="VERB"/>', ['2:15: at fault: eiid=":" and tense="past"']),
-            ('<SIGNAL sid="a b"/>', ['2:9: at fault: sid="a b"']),
-            (
-                '<TLINK timeID="t" eventInstanceID="i" relatedToTime="t" relType="ENDS"/>',
-                ['2:8: without one of timeID="t" and eventInstanceID="i" the fault goes'],
-            ),
-            ('<TIMEX3 tid="t" type="SET" value="1998-02-30"/>', ['2:28: without value="1998-02-30" the fault goes']),
-            (EVENT + '<SIGNAL sid="e1"/>', ['2:48: sid="e1" is the identifier', "2:1: <EVENT> has the same identifier"]),
-            ("<MAKEINSTANCE eiid='i1' eventID = 'e1' tense='PAST'/>", ["2:25: eventID = 'e1' names no EVENT"]),
-            (
-                EVENT + INSTANCE + '<TLINK eventInstanceID="e1" relatedToTime="t" relType="ENDS"/>',
-                ['2:85: eventInstanceID="e1" names no MAKEINSTANCE', '2:106: relatedToTime="t" names no TIMEX3'],
-            ),
-        ]
-        for inner, notes in rows:
+    def firsts(self, contents):
+        """The first lines on some documents, without their paths and without the number and the name of the fault."""
+        for number, content in enumerate(contents):
+            self.write(f"{number:03}.xml", content)
+        firsts = {}
+        for line in self.run_it("check", *sorted(os.listdir(self.folder)))[1]:
+            found = re.fullmatch(r"(\d{3})\.xml:(\d+:\d+): error: \d+ \w+: (.*) \[byte \d+\]", line)
+            if found:
+                firsts.setdefault(int(found[1]), f"{found[2]} {found[3]}")
+        return [firsts.get(number) for number in range(len(contents))]
+
+    def check(self, rows, made=document):
+        firsts = self.firsts([made(inner) for inner, _ in rows])
+        for (inner, line), first in zip(rows, firsts, strict=True):
             with self.subTest(inner):
-                self.assertEqual(self.notes(document(inner)), notes)
+                self.assertEqual(first, line)
+
+    def test_attributes(self):
+        self.check(
+            [
+                ('<EVENT eid="e1" class="STATE" eid="e2"/>', '2:31 eid stands twice, as eid="e1" and as eid="e2": take one of the two out'),
+                ("<SIGNAL/>", "2:1 sid is missing: an identifier that no other tag has, such as s2"),
+                (
+                    '<TLINK timeID="t" relType="ENDS"/>',
+                    "2:1 relatedToEventInstance or relatedToTime is missing: the second end of the link, the eiid of a MAKEINSTANCE or the tid of a TIMEX3",
+                ),
+                (
+                    '<EVENT eid="" class="STATE">x</EVENT>',
+                    "2:8 eid is empty: an identifier that no other tag has, such as e2",
+                ),
+                ('<EVENT eid="" class="STATE"/>', "2:1 this EVENT has no text: take it out, or add eid if it is meant"),
+                (
+                    '<TLINK eventID="e1" relatedToEvent="e2" relType="ENDS"/>',
+                    "2:8 eventInstanceID is missing, and eventID is no attribute of TLINK; did you mean eventInstanceID? (tml-edit --instances does it)"
+                    "; and relatedToEventInstance is missing, and relatedToEvent is no attribute of TLINK; did you mean relatedToEventInstance?"
+                    " (tml-edit --instances does it)",
+                ),
+                ('<MAKEINSTANCE eiid="i1"/>', "2:1 eventID is missing: the eid of an EVENT"),
+                ('<TIMEX3 tid="t" Type="DATE"/>', "2:17 type is missing, and Type is no attribute of TIMEX3; did you mean type?"),
+                (
+                    '<TLINK timeID="t" relatedToTime="t" relType="MODAL"/>',
+                    '2:37 relType="MODAL" is not a relation of TLINK but a relation of SLINK: BEFORE, AFTER, INCLUDES, IS_INCLUDED, DURING, '
+                    "DURING_INV, SIMULTANEOUS, IDENTITY, IBEFORE, IAFTER, BEGINS, BEGUN_BY, ENDS, ENDED_BY",
+                ),
+                (
+                    '<MAKEINSTANCE eiid=":" eventID="e1" polarity="pos" pos="VERB"/>',
+                    '2:15 eiid=":" is not an identifier, since it has : in it: letters A to Z, digits, _ - and . are allowed; and polarity="pos" is not '
+                    "a polarity: POS, NEG; did you mean POS?",
+                ),
+                ('<SIGNAL sid="a b"/>', '2:9 sid="a b" has a space in it, and one identifier has none'),
+                ('<SIGNAL sid=" a"/>', '2:9 sid=" a" has a space at its beginning or end: write a'),
+                (
+                    f'<SIGNAL sid="{"a" * 65}"/>',
+                    f'2:9 sid="{"a" * 65}" has 65 letters, and an identifier has 64 at most',
+                ),
+                (
+                    '<TIMEX3 tid="t" type="SET"/><TLINK timeID="t" eventInstanceID="i" relatedToTime="t" relType="ENDS"/>',
+                    '2:47 eventInstanceID="i" and timeID="t" both name the first end of the link: take eventInstanceID out, since no tag has this identifier',
+                ),
+            ]
+        )
+
+    def test_dates(self):
+        rows = [
+            ("1998-02-30", "February 1998 has 28 days"),
+            ("1900-02-29", "February 1900 has 28 days"),
+            ("XXXX-02-30", "February never has more than 29 days"),
+            ("1999-XX-32", "no month has more than 31 days"),
+            ("1998-31-12", "the months are 01 to 12; did you mean 1998-12-31?"),
+            ("1998-13-13", "the months are 01 to 12"),
+            ("1998-04-00", "the first day of a month is 01"),
+            ("1999-W53", "1999 has 52 weeks"),
+            ("199X-W54", "no year has more than 53 weeks"),
+            ("1998-W00", "the first week of a year is W01"),
+            ("1998-W01-8", "the days of a week are 1 to 7"),
+            ("1998-Q5", "the quarters are 1 to 4"),
+            ("0000", "the first year is 0001"),
+            ("1998-01-08T24:01", "at 24:00 the day is over: write 00 and the next day"),
+            ("1998-01-08T25", "the hours are 00 to 24"),
+            ("1998-01-08T23:60", "the minutes are 00 to 59"),
+        ]
+        self.check(
+            [(value, f'2:28 value="{value}": {why}') for value, why in rows],
+            lambda value: document(f'<TIMEX3 tid="t" type="SET" value="{value}"/>'),
+        )
+
+    def test_references(self):
+        second = '<EVENT eid="e2" class="STATE">y</EVENT>'
+        self.check(
+            [
+                (EVENT + '<SIGNAL sid="e1"/>', '2:48 sid="e1" is the eid of the EVENT at 2:1 too: write another one here, such as s2'),
+                ("<MAKEINSTANCE eiid='i1' eventID = 'e1' tense='PAST'/>", '2:25 no EVENT has eid="e1", and the document has no EVENT: add one'),
+                (
+                    EVENT + INSTANCE + '<TLINK eventInstanceID="e1" relatedToTime="t" relType="ENDS"/>',
+                    '2:85 no MAKEINSTANCE has eiid="e1"; e1 is an EVENT, its instance is i1; and no TIMEX3 has tid="t", and the document has no '
+                    "TIMEX3: add one",
+                ),
+                (
+                    EVENT + second + INSTANCE + '<TLINK eventInstanceID="i1" relatedToEventInstance="e2" relType="ENDS"/>',
+                    '2:145 no MAKEINSTANCE has eiid="e2"; e2 is an EVENT without an instance: add <MAKEINSTANCE eiid="ei2" eventID="e2"/>',
+                ),
+                (
+                    EVENT + INSTANCE + TIME + '<TLINK eventInstanceID="t1" relatedToTime="t1" relType="ENDS"/>',
+                    '2:115 no MAKEINSTANCE has eiid="t1"; t1 is a TIMEX3: write timeID="t1"',
+                ),
+                (EVENT + '<MAKEINSTANCE eiid="i1" eventID="i1"/>', '2:64 no EVENT has eid="i1"; i1 is this MAKEINSTANCE, and there is e1'),
+                (EVENT + '<MAKEINSTANCE eiid="i1" eventID="el"/>', '2:64 no EVENT has eid="el"; did you mean e1?'),
+                (
+                    EVENT + '<MAKEINSTANCE eiid="i1" eventID="e1" signalID="s1"/>',
+                    '2:77 no SIGNAL has sid="s1", and the document has no SIGNAL: add one, or take signalID out',
+                ),
+                (
+                    "".join(f'<SIGNAL sid="s{number}"/>' for number in (1, 2, 4)) + EVENT + '<MAKEINSTANCE eiid="i1" eventID="e1" signalID="x"/>',
+                    '2:131 no SIGNAL has sid="x"; there are s1, s2, s4',
+                ),
+            ]
+        )
+
+    def test_limits(self):
+        times = "".join(f'<TIMEX3 tid="t{number}" type="DATE"/>' for number in range(520))
+        self.assertEqual(self.firsts([document(times)]), ["2:16275 the document has 520 MAKEINSTANCE and TIMEX3, and tml takes 512: split it here or before"])
 
     def test_nesting(self):
+        self.check(
+            [
+                ("<TimeML>\n<P>\n<EVENT>x</P></TimeML>", "3:1 <EVENT> opened here has no end tag: write </EVENT>, at the latest before </P> at 3:9"),
+                ("<TimeML><P><S>x</P></S></TimeML>", "1:12 <S> opened here crosses </P> at 1:16: write </S> before that"),
+                ("<TimeML><P>x</p></TimeML>", "1:13 </p> does not close <P>, opened at 1:9: write </P>"),
+                ("<TimeML><P>x</S></TimeML>", "1:13 </S> closes nothing, since the tag that is open is <P>, opened at 1:9: take it out, or write its start tag"),
+                ("</P>", "1:1 </P> closes nothing, since no tag is open: take it out, or write its start tag"),
+                ("<TimeML>\n<P>", "2:1 <P> opened here has no end tag: write </P></TimeML> at the end, or see whether the end of the file was lost"),
+                ("", "1:1 the document is empty: write <TimeML> .. </TimeML>"),
+                ("<!--x-->", "1:9 the document has no tag: write <TimeML> before its text and </TimeML> after it"),
+                ("<TimeML>\n<Event/>", "2:2 <Event> is not known; did you mean EVENT? (names are in upper case)"),
+                ("<timeml/>", "1:2 <timeml> is not known; did you mean TimeML? (names are compared letter by letter, upper and lower case differ)"),
+                ("<isoTimeML/>", "1:2 <isoTimeML> is not known, and the root has to be TimeML: `tml-edit --rename isoTimeML=TimeML` renames it"),
+                ("<TimeML><HL/></TimeML>", "1:10 <HL> is not known: `tml-edit --unwrap HL` takes such tags out and leaves what they hold"),
+                ("<TimeML><TLINK>x</TLINK></TimeML>", "1:9 <TLINK> holds text (x), and may hold nothing: move it before this tag"),
+                ("<TimeML><TLINK>\n<TLINK/></TimeML>", "1:9 <TLINK> opened here is not closed before <TLINK/> at 2:1: write /> for its >"),
+                ("x<TimeML/>", "1:1 text stands before <TimeML>: take it out, or move it behind that"),
+                ("x\ty\n", "1:1 the document has no <TimeML>: write <TimeML> before its text and </TimeML> after it"),
+                ("<TEXT/>", "1:1 the root has to be <TimeML>: write <TimeML> before <TEXT> and </TimeML> at the end"),
+                ("<TimeML><P><TimeML/></P></TimeML>", "1:12 <TimeML> stands inside of <TimeML>, opened at 1:1: take it and its end tag out"),
+                (" <?xml version='1.0'?><TimeML/>", "1:2 <?xml ..?> has to come first: take out what stands before it (1 byte)"),
+                ("<TimeML/><!DOCTYPE x>", "1:10 a doctype stands once, and before all tags: take this one out"),
+                (
+                    "<TimeML>" + "<P>" * 32 + "</TimeML>",
+                    "1:9 <P> opened here is one of 31 that are open at 1:102, and tml takes 32 open tags: write the end tags",
+                ),
+            ],
+            str,
+        )
+
+    def test_markup(self):
         rows = [
-            ("<TimeML>\n<P>\n<EVENT>x</P></TimeML>", ["3:9: it is </P>", "3:1: <EVENT> is open from here"]),
-            ("</P>", ["1:1: it is </P>", "1:1: no tag is open"]),
-            ("<TimeML>\n<P>", ["2:1: <P> is open from here"]),
-            ("<TimeML>\n<Event/>", ["2:1: it is <Event/>"]),
-            ("<TimeML><TLINK>x</TLINK></TimeML>", ["1:16: it is a text", "1:9: <TLINK> is open from here"]),
+            ("&", "1:9 write &amp; for the sign &"),
+            ("&eacute;", "1:9 &eacute; is an entity of HTML that XML has not: write é"),
+            ("&nbsp;", "1:9 &nbsp; is an entity of HTML that XML has not: write &#160;"),
+            ("&bank;", "1:9 &bank; is an entity that nothing declares: write what it stands for, or &amp;bank; for the sign &"),
+            ("&lt ", "1:9 &lt lacks its ;: write &lt;"),
+            ("&#x;", "1:9 &#x; is no number of a character: write &# and 1 to 7 digits and ;, or &#x and 1 to 6 digits and ;"),
+            ("< 3", "1:9 no tag begins with this <: write &lt; for the sign <"),
+            ("< EVENT>", "1:9 no space may stand after <: write <EVENT"),
+            ("<P", "1:10 <P> has no >: write it after P"),
+            ("<P a>", '1:12 a has no value: write a="..", or take it out'),
+            ("<P a b='1'>", '1:12 a has no value: write a="..", or take it out'),
+            ("<P a=>", '1:12 a has no value: write a=".."'),
+            ("<P a=1/>", '1:12 the value of a has no quotes: write a="1"'),
+            ("<P a=1'>", '1:12 the value of a has no opening quote: write a="1"'),
+            ("<P a='1>", "1:12 the value of a has no closing quote: write a='1'"),
+            ("<P a='1 b='2'>", "1:12 the value of a has no closing quote: write a='1'"),
+            ("<P a='1'b='2'>", "1:17 a space is missing before b"),
+            ("<P a='1', b='2'>", "1:17 no , may stand between attributes: take it out"),
+            ("<P a='1''>", "1:17 one quote too many after a='1': take it out"),
+            ("<P a='1' / >", "1:18 this / is not followed by >: write /> at the end of <P>"),
+            ("<P a=\u2018t1\u2019>", '1:14 the value of a begins with a curly quote \u2018: write "'),
+            ("</P a>", "1:9 an end tag has its name alone: write </P>"),
+            ("</ P>", "1:9 no space may stand after </: write </P>"),
+            ("<![CDATA[x]]>", "1:9 a CDATA section is not read: write its text, with &lt; and &amp; for each < and & in it"),
+            ("<!--", "1:9 this comment has no end: write --> after it"),
+            ("<?a b?>", "1:9 a processing instruction is not read: take out <?a .. ?>"),
+            ("<!doctype x>", "1:9 write <!DOCTYPE for <!doctype"),
+            ("<!DOCTYPE x [<!ENTITY a 'b'>]>", "1:21 a doctype with a subset of its own is not read: take out all from [ to ]"),
+            ("<!ENTITY a>", "1:9 <!ENTITY is not read: take it out, up to its >"),
         ]
-        for content, notes in rows:
-            with self.subTest(content):
-                self.assertEqual(self.notes(content), notes)
+        self.check(rows, lambda inner: f"<TimeML>{inner}</TimeML>")
 
-    def test_silent_where_the_document_is_not_cut(self):
-        self.assertEqual(self.notes(b"<TimeML>\xe9</TimeML>"), ["1:9: the byte is E9"])
-        self.assertEqual(self.notes("<TimeML>&</TimeML>"), [])
-        self.assertEqual(self.notes("<TimeML><"), [])
+    def test_the_end_of_the_file(self):
+        self.assertEqual(self.firsts(["<TimeML><P a='1'"]), ["1:12 the file ends within this <P>, so its end was lost"])
 
-    def test_silent_unless_asked_for(self):
+    def test_bytes(self):
+        rows = [
+            (b"<TimeML>\xe9</TimeML>", "1:9 the byte E9 (é in Latin-1) is not UTF-8: the file looks like Latin-1; `iconv -f latin1 -t utf-8` mends it"),
+            (
+                b"<TimeML>\x93\xe9\x94</TimeML>",
+                "1:9 3 bytes, the first one 93 (\u201c in Windows-1252), are not UTF-8: the file looks like Windows-1252; `iconv -f windows-1252 -t utf-8` mends it",
+            ),
+            (
+                b'<?xml version="1.0" encoding="iso-8859-15"?><TimeML>\xa4</TimeML>',
+                "1:53 the byte A4 (\u20ac in iso8859-15) is not UTF-8: the file looks like iso8859-15; `iconv -f iso8859-15 -t utf-8` mends it",
+            ),
+            ("<TimeML>é".encode() + b"\xe9</TimeML>", "1:10 the byte E9 is not UTF-8, and other characters of the file are: write é anew"),
+            ("<TimeML>x</TimeML>".encode("utf-16"), "1:1 the byte FF is not UTF-8: the file looks like UTF-16; `iconv -f utf-16 -t utf-8` mends it"),
+            ("<TimeML>x</TimeML>".encode("utf-16-le"), "1:1 the file looks like UTF-16: `iconv -f utf-16 -t utf-8` mends it"),
+            (b"<TimeML>caf\xc3", "1:12 the file ends within a character, so its end was lost"),
+        ]
+        self.check(rows, bytes)
+
+    def test_general_sentences_where_no_others_are_wanted(self):
         self.write("d.xml", document("<SIGNAL/>"))
-        self.assertEqual(len([line for line in self.run_it("check", "d.xml")[1] if "d.xml" in line]), 1)
+        self.assertEqual(
+            self.run_it("check", "--no-explain", "d.xml")[1][:2],
+            ["d.xml:2:1: error: 10 MissingAttribute: A tag lacks an attribute that it has to have, or has it with an empty value. [byte 9]", "1 file: 0 accepted, 1 with a fault, 0 not judged"],
+        )
+
+    def test_what_it_is_about_is_marked(self):
+        self.write("d.xml", document('<TIMEX3 tid="t" type="date"/>\n'))
+        self.assertEqual(self.run_it("check", "d.xml")[1][1:3], ['    <TIMEX3 tid="t" type="date"/>', "                    ^~~~~~~~~~~"])
 
     def test_a_tag_with_very_many_attributes(self):
-        self.assertEqual(self.notes(document("<P" + "".join(f' a{number}=""' for number in range(5000)) + ' a1=""/>')), [])
+        many = "".join(f' a{number}=""' for number in range(5000))
+        [first] = self.firsts([document(f'<P{many} a1=""/>')])
+        self.assertTrue(first.endswith(' a1 stands twice, as a1="" and as a1="": take one of the two out'))
+
+    def test_other_places(self):
+        self.assertEqual(self.notes(document(EVENT + '<SIGNAL sid="e1"/>')), ["2:1: an EVENT has it here"])
+        self.assertEqual(self.notes("<TimeML>\n<P>\n<S>x</P></TimeML>"), ["3:5: here stands </P>"])
 
 
 class Further(CorpusTest):
     def test_faults_after_the_first(self):
         rows = [
-            (b"<TimeML>\xe9\xe9 & <\n<EVENT/></TimeML>", ["1:9 1", "1:10 1", "1:12 2", "1:14 3", "2:1 10"]),
-            ("<TimeML>\n<a><Event>x</Event></a><SIGNAL/></TimeML>", ["2:1 4", "2:4 4", "2:24 10"]),
-            ("<TimeML>\n<P>\n<EVENT>x</P><SIGNAL/></TimeML>", ["3:9 5", "3:13 10"]),
-            ("<TimeML>\n<P><SIGNAL/>", ["2:13 6", "2:4 10"]),
-            ("<TimeML>\n<TLINK>x</TLINK></TimeML>", ["2:8 7", "2:1 10"]),
-            (document('<SIGNAL sid=":"/><SIGNAL sid="a" sid="b"/>'), ["2:1 11", "2:18 9"]),
-            (document('<MAKEINSTANCE eiid="i" eventID="e"/>' + EVENT + '<SIGNAL sid="e1"/>'), ["2:1 15", "2:76 14"]),
-            (document("".join(f'<TIMEX3 tid="t{number}" type="DATE"/>' for number in range(520))), ["2:16275 16"]),
-            (document(EVENT + INSTANCE + TIME), []),
+            (b"<TimeML>\xe9\xe9 & <\n<EVENT/></TimeML>", ["1:9 1", "1:12 2", "1:14 3", "2:1 10"], []),
+            ("<TimeML>\n<a><Event>x</Event></a><SIGNAL/></TimeML>", ["2:1 4", "2:4 4", "2:4 10", "2:24 10"], []),
+            ("<TimeML>\n<P>\n<EVENT>x</P><SIGNAL/></TimeML>", ["3:9 5", "3:13 10"], []),
+            ("<TimeML>\n<P><SIGNAL/>", ["2:13 6", "2:4 10"], []),
+            ("<TimeML>\n<TLINK>x</TLINK></TimeML>", ["2:8 7"], []),
+            (document('<SIGNAL sid=":"/><SIGNAL sid="a" sid="b"/>'), ["2:1 11", "2:18 9"], []),
+            (document('<MAKEINSTANCE eiid="i" eventID="e"/>' + EVENT + '<SIGNAL sid="e1"/>'), ["2:1 15", "2:76 14"], []),
+            (document('<MAKEINSTANCE eiid="i" eventID="e"/><TLINK eventInstanceID="i" relatedToTime="x" relType="ENDS"/>'), ["2:1 15", "2:37 15"], [1]),
+            (document('<MAKEINSTANCE eiid="i" eventID="e"/>' + TIME + '<TLINK timeID="t1" relatedToTime="x" relType="ENDS"/>'), ["2:1 15", "2:67 15"], []),
+            (document("".join(f'<TIMEX3 tid="t{number}" type="DATE"/>' for number in range(520))), ["2:16275 16"], []),
+            (document(f"<p><Event eid='e1' class='STATE'>x</P>{INSTANCE}"), ["2:4 4", "2:35 5", "2:77 5", "3:1 6"], [2, 3]),
+            (document(EVENT + INSTANCE + TIME), [], []),
         ]
-        for content, told in rows:
+        for number, (content, _, _) in enumerate(rows):
+            self.write(f"{number:02}.xml", content)
+        _, lines, _ = self.run_it("check", "--more", "9", "--format", "json", ".")
+        for (content, wanted, consequences), line in zip(rows, lines, strict=True):
             with self.subTest(content[:80]):
-                self.write("d.xml", content)
-                lines = [line for line in self.run_it("check", "--more", "9", "d.xml")[1] if ": error: " in line]
-                self.assertEqual([" ".join(line.removeprefix("d.xml:").split()[0::2][:2]).replace(": ", " ") for line in lines], told)
-                self.assertEqual([line.endswith(" (perhaps only a consequence)") for line in lines], [False, *[True] * (len(told) - 1)][: len(told)])
+                found = json.loads(line)["faults"]
+                self.assertEqual([f"{fault['line']}:{fault['column']} {fault['number']}" for fault in found], wanted)
+                self.assertEqual([number for number, fault in enumerate(found) if fault["perhapsConsequence"]], consequences)
 
     def test_no_more_than_asked_for(self):
         self.write("d.xml", document("<SIGNAL/>" * 9))
         self.assertEqual(sum(": error: " in line for line in self.run_it("check", "--more", "3", "d.xml")[1]), 4)
+
+    def test_columns_are_those_of_the_file(self):
+        self.write("d.xml", document("<P>é日</P><a>é</a><SIGNAL/>"))
+        lines = [line for line in self.run_it("check", "--more", "3", "d.xml")[1] if "error" in line]
+        self.assertEqual([line.split(": ")[0] for line in lines], ["d.xml:2:11", "d.xml:2:18"])
+
+
+class Hostile(CorpusTest):
+    def test_documents_that_repeat_one_thing(self):
+        size = 512 * 1024
+        parts = [b"\xe9", "é".encode() + b"\xe9", b"&", b"<", b"<!--", b"<![CDATA[", b"<?", b"&eacute;", b'<a b="', "<a b=“x".encode(), b"<a b=", b"<P>", b"<event/>", b"</P>", b" "]
+        for number, part in enumerate(parts):
+            self.write(f"{number:02}.xml", part * (size // len(part)))
+        wholes = [b'<P a="' + b"x" * size, b"<P " + b'b="" ' * (size // 5), b"<" + b"a" * size, b"<P a=" + b" " * size, b"&" + b"a" * size]
+        for number, whole in enumerate(wholes, len(parts)):
+            self.write(f"{number:02}.xml", b"<TimeML>" + whole)
+        status, lines, error = self.run_it("check", "--more", "2", ".")
+        self.assertEqual((status, error), (1, ""))
+        self.assertEqual(len({line.split(":")[0] for line in lines if ": error: " in line}), len(parts) + len(wholes))
+        self.assertLess(max(map(len, lines)), 2000)
+        status, lines, error = self.run_it("fix", ".")
+        self.assertEqual((status, error), (1, ""))
 
 
 class Tags(CorpusTest):

@@ -73,14 +73,14 @@ class OfTheCompanion(unittest.TestCase):
         from tml_corpus.commands import parser
 
         [commands] = [action.choices for action in parser()._actions if isinstance(action.choices, dict)]
-        told = {form[0].split()[1]: set(re.findall(r"Fl (-?[\w-]+)", "\n".join(form))) for form in forms_of("tml-corpus.1")}
+        printed = {form[0].split()[1]: set(re.findall(r"Fl (-?[\w-]+)", "\n".join(form))) for form in forms_of("tml-corpus.1")}
         items = re.findall(r"^\.It Fl (.*)$", section("tml-corpus.1", "DESCRIPTION"), re.MULTILINE)
         explained = {"-" + name for item in items for name in re.findall(r"(?:^|Fl )(-?[\w-]+)", item)}
-        self.assertLessEqual(set(commands), set(told))
+        self.assertLessEqual(set(commands), set(printed))
         for command, words in commands.items():
             with self.subTest(command):
                 options = [action.option_strings for action in words._actions if action.option_strings and action.dest != "help"]
-                in_synopsis = {"-" + name for name in told[command]}
+                in_synopsis = {"-" + name for name in printed[command]}
                 self.assertTrue(all(in_synopsis & set(names) for names in options), options)
                 self.assertLessEqual(in_synopsis, {name for names in options for name in names})
                 self.assertLessEqual({name for names in options for name in names}, explained)

@@ -33,7 +33,7 @@ def expected_names():
     names = {"usr/bin/tml", "usr/share/lintian/overrides/tml-timeml"}
     names |= {f"usr/bin/{called}" for called in SCRIPTS} | {f"{SHARE}/{name}" for name in SCRIPTS.values()}
     names |= {f"{SHARE}/tml_corpus/{name}" for name in files_in("tools/tml_corpus", ".py")}
-    names |= {f"usr/share/bash-completion/completions/{name}" for name in ("tml", "tml-corpus")}
+    names |= {f"usr/share/bash-completion/completions/{name}" for name in ("tml", *SCRIPTS)}
     names |= {f"usr/share/man/man1/{name}.1.gz" for name in ("tml", "tml-tools", *SCRIPTS)}
     names |= {f"{DOCS}/{name}" for name in ("README.md", "CHANGELOG.md", "changelog.gz", "copyright")}
     names |= {f"{DOCS}/docs/{name}" for name in files_in("docs", ".md")}
@@ -103,8 +103,8 @@ class Package(unittest.TestCase):
     def test_fields(self):
         with open(os.path.join(TOP, "CHANGELOG.md"), encoding="utf-8") as file:
             version = re.search(r"^## (\S+), ", file.read(), re.MULTILINE)[1]
-        told = subprocess.run(["dpkg-deb", "-f", self.made], check=True, capture_output=True, text=True).stdout
-        fields = dict(re.findall(r"^(\S+): (.*)$", told, re.MULTILINE))
+        printed = subprocess.run(["dpkg-deb", "-f", self.made], check=True, capture_output=True, text=True).stdout
+        fields = dict(re.findall(r"^(\S+): (.*)$", printed, re.MULTILINE))
         wanted = {"Package": "tml-timeml", "Version": version, "Architecture": "amd64", "Conflicts": "tml", "Maintainer": "A Name <a@example.org>"}
         self.assertEqual({name: fields.get(name) for name in wanted}, wanted)
         self.assertRegex(fields["Depends"], r"^libc6 \(>= 2\.\d+\), python3 \(>= 3\.11\)$")
@@ -122,14 +122,13 @@ class Package(unittest.TestCase):
         self.assertRegex(changes, r"^tml-timeml \(\d+\.\d+\.\d+\) unstable; urgency=medium\n\n  \* .*\n\n -- A Name <a@example.org>  \w{3}, \d\d ")
 
     def test_sums(self):
-        told = subprocess.run(["dpkg-deb", "-I", self.made, "md5sums"], check=True, capture_output=True, text=True).stdout
-        sums = {name: digest for digest, name in map(str.split, told.splitlines())}
+        printed = subprocess.run(["dpkg-deb", "-I", self.made, "md5sums"], check=True, capture_output=True, text=True).stdout
+        sums = {name: digest for digest, name in map(str.split, printed.splitlines())}
         files = {name for name in expected_names() if not os.path.islink(os.path.join(self.root, name))}
         self.assertEqual(sums, {name: hashlib.md5(self.content(name)).hexdigest() for name in files})
 
     def test_the_same_again(self):
-        again = os.path.join(self.folder, "again")
-        os.mkdir(again)
+        again = os.path.join(self.folder, "made", "again")
         done = self.package(TML, "--output", again, umask=0o077)
         self.assertEqual((done.returncode, done.stderr), (0, ""))
         with open(self.made, "rb") as one, open(done.stdout.rstrip("\n"), "rb") as other:

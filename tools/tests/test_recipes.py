@@ -18,7 +18,7 @@ from dataclasses import dataclass, field
 from corpus import TML, TOP
 
 PAGES = ("README.md", "docs/CLASHES.md", "docs/CORPORA.md", "docs/RECIPES.md", "docs/TOUR.md")
-NEEDED = ("perl", "iconv", "make", "xmllint", "sha256sum", "diff")
+NEEDED = ("perl", "iconv", "make", "xmllint", "sha256sum", "diff", "git")
 MARK = "the-end-of-command"
 
 
@@ -68,8 +68,8 @@ def add_line(commands, number, line):
 
 
 def agree(expected, printed):
-    """Whether the lines are those that are expected, where `...` stands for any."""
-    pattern = "".join("(?:.*\n)*?" if line == "..." else re.escape(line) + "\n" for line in expected)
+    """Whether the lines are those that are expected, where `...` stands for any, and at the end of a line for the rest of it."""
+    pattern = "".join("(?:.*\n)*?" if line == "..." else re.escape(line).removesuffix(r"\.\.\.") + r".*" * line.endswith("...") + "\n" for line in expected)
     return re.fullmatch(pattern, "".join(line + "\n" for line in printed)) is not None
 
 
@@ -80,7 +80,7 @@ class Pages(unittest.TestCase):
         with tempfile.TemporaryDirectory() as top:
             folder, programs = os.path.join(top, "here"), os.path.join(top, "bin")
             shutil.copytree(os.path.join(TOP, "samples"), os.path.join(folder, "samples"))
-            shutil.copytree(os.path.join(TOP, "tools"), os.path.join(folder, "tools"), ignore=shutil.ignore_patterns("tests", "__pycache__"))
+            shutil.copytree(os.path.join(TOP, "tools"), os.path.join(folder, "tools"), ignore=shutil.ignore_patterns("test_*.py", "__pycache__"))
             os.mkdir(programs)
             os.symlink(os.path.abspath(TML), os.path.join(programs, "tml"))
             os.symlink(sys.executable, os.path.join(programs, "python3"))
@@ -134,6 +134,8 @@ class Agreement(unittest.TestCase):
             (["...", "c"], ["a", "b", "c"], True),
             (["...", "b"], ["a", "b", "c"], False),
             (["a.c"], ["abc"], False),
+            (["a..."], ["abc"], True),
+            (["a..."], ["abc", "d"], False),
             ([], [], True),
             ([], [""], False),
         ]

@@ -70,8 +70,8 @@ class RedundantLinks(ScriptTest):
                 self.write("d e.xml", document(times + links))
                 for words, places in (((), alone), (("--together",), together)):
                     status, out, error = self.run_script("redundant-links", *words, "d e.xml")
-                    told = [":".join(line.split(":")[1:3]) for line in out.splitlines() if ": follows: " in line]
-                    self.assertEqual((status, told, error), (2, [], "") if places is None else (1 if places else 0, places, ""))
+                    printed = [":".join(line.split(":")[1:3]) for line in out.splitlines() if ": follows: " in line]
+                    self.assertEqual((status, printed, error), (2, [], "") if places is None else (1 if places else 0, places, ""))
 
     def test_what_is_named_together_follows_from_the_rest(self):
         names = [f"t{number}" for number in range(5)]
@@ -151,8 +151,8 @@ class Edits(ScriptTest):
                     self.assertEqual(self.tml("solve", "-", given=made.encode())[0], 2 if relation in excluded else 0)
             # Nothing of the fourteen follows: what is left of Allen's thirteen has no relation in common.
             made = self.edit(document(A + B + link("a", overlap, "b", "> </TLINK>")), "--overlaps")
-            told = self.tml("relations", "-", given=made.encode())[1]
-            self.assertEqual([line for line in told.splitlines() if "o." not in line], [])
+            printed = self.tml("relations", "-", given=made.encode())[1]
+            self.assertEqual([line for line in printed.splitlines() if "o." not in line], [])
 
     def test_links_of_a_table(self):
         inner = EVENT + INSTANCE + '<MAKEINSTANCE eiid="i2" eventID="e1"/>' + A
@@ -165,16 +165,16 @@ class Edits(ScriptTest):
                 self.write("table", line + "\n")
                 status, out, error = self.run_script("tml-edit", "--links", "table", "d.xml")
                 self.assertEqual((status, out), (1, ""))
-                self.assertIn("line 1 of the table", error)
+                self.assertIn("tml-edit: table:1:", error)
 
     def test_what_cannot_be_changed(self):
         rows = [
-            (1, document("&"), ["--unwrap", "P"], "d.xml: not changed: fault 2 BadReference at 2:1: mend it first\n"),
-            (1, document("<TLINK relType='NONE'>"), ["--drop-links", "NONE"], "d.xml: not changed: <TLINK> at 2:1 has no end tag\n"),
-            (1, document("<TLINK relType='OVERLAP'/>"), ["--overlaps"], "d.xml: not changed: <TLINK> at 2:1 lacks eventInstanceID or timeID\n"),
-            (1, "<P>" + EVENT + "</P>", ["--instances"], "d.xml: not changed: there is no </TimeML>\n"),
-            (1, document("<P a='1'/>"), ["--value", "P", "a", "1", "'"], "d.xml: not changed: fault 3 BadMarkup at 2:1: mend it first\n"),
-            (2, document(""), ["--links", "gone"], "d.xml: [Errno 2] No such file or directory: 'gone'\n"),
+            (1, document("&"), ["--unwrap", "P"], "tml-edit: d.xml: not changed: fault 2 BadReference at 2:1: mend it first\n"),
+            (1, document("<TLINK relType='NONE'>"), ["--drop-links", "NONE"], "tml-edit: d.xml: not changed: <TLINK> at 2:1 has no end tag\n"),
+            (1, document("<TLINK relType='OVERLAP'/>"), ["--overlaps"], "tml-edit: d.xml: not changed: <TLINK> at 2:1 lacks eventInstanceID or timeID\n"),
+            (1, "<P>" + EVENT + "</P>", ["--instances"], "tml-edit: d.xml: not changed: there is no </TimeML>\n"),
+            (1, document("<P a='1'/>"), ["--value", "P", "a", "1", "'"], "tml-edit: d.xml: not changed: fault 3 BadMarkup at 2:1: mend it first\n"),
+            (2, document(""), ["--links", "gone"], "tml-edit: d.xml: gone: no such file or directory\n"),
         ]
         for status, content, words, error in rows:
             with self.subTest(words):
@@ -229,8 +229,8 @@ class Tables(ScriptTest):
     def test_tables_of_another_form(self):
         base = "a 0 0 x\na 0 1 y\na 0 2 z\n"
         rows = [
-            ({"base_segmentation": "a 0 0\n"}, "base-segmentation.tab:1: 3 columns instead of 4"),
-            ({"base_segmentation": "a x 0 0\n"}, "invalid literal for int"),
+            ({"base_segmentation": "a 0 0\n"}, "base-segmentation.tab:1:6: 3 of 4 columns: document, sentence, token number, token"),
+            ({"base_segmentation": "a x 0 0\n"}, "base-segmentation.tab:1:3: 'x' is not a number of at most 9 digits"),
             ({"base_segmentation": "../a 0 0 x\n"}, "is no name for a file"),
             ({"base_segmentation": base, "event_extents": "a 0 7 event e1 1\n"}, "e1 stands at a token that is not there"),
             ({"base_segmentation": base, "event_extents": "a 0 0 event e1 1\na 0 2 event e1 1\n"}, "the tokens of e1 do not follow each other"),

@@ -69,7 +69,7 @@ class TimelineTest(CorpusTest):
         return found
 
     def titles(self, picture):
-        """What is told of each row."""
+        """What is shown of each row."""
         return [title.text for title in ElementTree.fromstring(picture.encode()).iter(SVG + "title")]
 
     def fake(self, body):
@@ -79,10 +79,10 @@ class TimelineTest(CorpusTest):
         return self.path("fake")
 
     def refused(self, status, content, *words, tml=TML):
-        """What is told of a document that is not drawn; there is no file then, and nothing is left of one."""
+        """What is printed of a document that is not drawn; there is no file then, and nothing is left of one."""
         self.write("d.xml", content)
-        told, lines, error = self.run_it("timeline", "d.xml", "-o", "d.svg", *words, tml=tml)
-        self.assertEqual((told, error), (status, ""), lines)
+        printed, lines, error = self.run_it("timeline", "d.xml", "-o", "d.svg", *words, tml=tml)
+        self.assertEqual((printed, error), (status, ""), lines)
         self.assertEqual([name for name in os.listdir(self.folder) if name not in ("d.xml", "fake")], [])
         return lines
 
@@ -122,9 +122,9 @@ class Rows(TimelineTest):
         self.assertLess(len(content), 20_000)
 
     def test_links_are_told_in_the_words_of_the_text(self):
-        told = self.titles(self.drawn(self.mended()))[6].split("\n")
+        printed = self.titles(self.drawn(self.mended()))[6].split("\n")
         links = ["waited AFTER closed (link 5: ei5 AFTER ei4)", "turned IS_INCLUDED waited (link 6: ei6 IS_INCLUDED ei5)"]
-        self.assertEqual(told, ["waited (ei5): event, ranks 8 to 11", *links, "waited IBEFORE reopened (link 11: ei5 IBEFORE ei9)"])
+        self.assertEqual(printed, ["waited (ei5): event, ranks 8 to 11", *links, "waited IBEFORE reopened (link 11: ei5 IBEFORE ei9)"])
 
     def test_kinds_and_dates(self):
         times = [
@@ -200,7 +200,7 @@ class Strangers(TimelineTest):
                 picture = self.drawn(document(event(1, text) + event(2)))
                 label = next(label for _, label, _, _ in self.rows(picture) if "(i1)" in label)
                 self.assertRegex(label, r"^.{10,80}…\s\(i1\)$")
-                self.assertIn(" ".join(text.split()), self.titles(picture)[0])
+                self.assertIn(" ".join(text.split())[:77] + "... (i1)", self.titles(picture)[0])
 
     def test_names_of_files(self):
         name = 'a<&">é\udce9\n.xml'
@@ -212,16 +212,16 @@ class Strangers(TimelineTest):
 
 
 class NotDrawn(TimelineTest):
-    def test_links_that_clash_are_told_as_clashes_tells_them(self):
+    def test_links_that_clash_are_those_of_clashes(self):
         with open(os.path.join(TOP, "samples", "plant.xml"), encoding="utf-8") as file:
             lines = self.refused(1, file.read())
-        told = self.run_it("clashes", "d.xml")[1][:-1]
-        self.assertEqual(len(told), 3)
-        self.assertEqual(lines, [*told, "d.xml: not drawn: no timeline fits, since these links clash"])
+        clashes = self.run_it("clashes", "d.xml")[1][:-1]
+        self.assertEqual(len([line for line in clashes if ": error: clash, " in line]), 3)
+        self.assertEqual(lines, [*clashes, "d.xml: not drawn: no timeline fits, since these links clash"])
 
-    def test_a_fault_is_told_as_check_tells_it(self):
+    def test_a_fault_is_that_of_check(self):
         lines = self.refused(1, document(EVENT + "<EVENT/>"))
-        self.assertEqual(lines, self.run_it("check", "d.xml")[1][:1])
+        self.assertEqual(lines, self.run_it("check", "d.xml")[1][:-2])
         self.assertTrue(lines[0].startswith("d.xml:2:40: error: 10 MissingAttribute: "), lines)
 
     def test_only_what_verify_accepts_is_drawn(self):
@@ -229,21 +229,27 @@ class NotDrawn(TimelineTest):
         rows = [
             ("s/^at 0 1$/at 2 3/", "tml verify did not accept the timeline of tml solve: evidence part 1 Link 0"),
             ("s/^timeline 2$/timeline 1/", "tml verify did not accept the timeline of tml solve: evidence line 4"),
-            ("s/^timeline 2$/counter 1 BEFORE 0\\ntimeline 2/", "tml verify did not accept the timeline of tml solve: verified counter i2 BEFORE i1"),
+            ("s/^timeline 2$/counter 1 BEFORE 0\\ntimeline 2/", "tml answered status 0 to `solve`, and a text that does not go with it"),
             ("s/^at 2 3$/at 4 5/", "the timeline that tml solve printed is not the least one"),
             ("s/^at 2 3$/at 2 4294967295/", "the timeline that tml solve printed is not the least one"),
         ]
-        for change, told in rows:
+        for change, printed in rows:
             with self.subTest(change):
                 fake = self.fake(f'if [ $1 = solve ]; then {TML} "$@" | sed "{change}"; exit 0; fi\nexec {TML} "$@"')
-                self.assertEqual(self.refused(2, content, tml=fake), [f"d.xml: not judged: {told}"])
+                self.assertEqual(self.refused(2, content, tml=fake), [f"d.xml: not judged: {printed}"])
 
     def test_verify_has_the_last_word(self):
-        for answer in ("echo verified clash 0", "echo verified timeline; exit 7", "printf 'verified timeline'", "true"):
+        refused = "tml verify did not accept the timeline of tml solve: verified clash 0"
+        rows = [("echo verified clash 0", refused)]
+        rows += [
+            (answer, f"tml answered status {status} to `verify`, and a text that does not go with it")
+            for answer, status in (("echo verified timeline; exit 7", 7), ("printf 'verified timeline'", 0), ("true", 0))
+        ]
+        for answer, said in rows:
             with self.subTest(answer):
                 fake = self.fake(f'if [ $1 = verify ]; then {answer}; exit; fi\nexec {TML} "$@"')
                 [line] = self.refused(2, document(event(1)), tml=fake)
-                self.assertTrue(line.startswith("d.xml: not judged: tml verify did not accept the timeline of tml solve: "), line)
+                self.assertEqual(line, f"d.xml: not judged: {said}")
 
     def test_answers_that_do_not_belong_together(self):
         for answer in ("solve ] && echo fault 10 MissingAttribute 9 && exit 1", "solve ] && exit 2", "solve ] && exit 6", "dates ] && exit 0", "check ] && exit 0"):
@@ -265,11 +271,11 @@ class NotDrawn(TimelineTest):
             (["d.xml", "-o", "a.png"], "a.png ends neither in .svg nor in .html"),
             (["d.xml"], "required: -o/--output"),
         ]
-        for words, told in rows:
+        for words, printed in rows:
             with self.subTest(words):
                 status, lines, error = self.run_it("timeline", *words)
                 self.assertEqual(status, 2)
-                self.assertIn(told, "\n".join(lines) + error)
+                self.assertIn(printed, "\n".join(lines) + error)
         self.assertEqual(sorted(os.listdir(self.folder)), ["d.xml", "dir.svg", "same.svg"])
 
     def test_a_picture_that_is_there_stays_where_none_is_drawn(self):

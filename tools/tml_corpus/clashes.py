@@ -1,4 +1,4 @@
-"""Links that contradict each other: found by `tml solve`, judged by `tml verify` before they are told, and kept as evidence."""
+"""Links that contradict each other: found by `tml solve`, judged by `tml verify` before they are reported, and kept as evidence."""
 
 from __future__ import annotations
 
@@ -7,135 +7,88 @@ import hashlib
 import os
 import re
 import tempfile
-from collections.abc import Iterator
-from dataclasses import dataclass, field
+from collections.abc import Iterator, Sequence
+from dataclasses import dataclass
 
-from .check import PlacedNote, problem_of
-from .faults import Fault, read_fault
-from .files import CannotRead, Found, counted, read_document, reason, shown
-from .places import Place, Places
-from .program import ACCEPTED, CLASH, FAULT, CannotRun, Program
-from .units import room_for
-from .words import Wording
+from .files import CannotRead, reason, written
+from .program import ACCEPTED, CannotRun, Program, Reply
 
 
-@dataclass
-class ClashReport:
-    """What became of one file: a clash has notes on its links and on the calendar."""
-
-    path: str
-    problem: str | None = None
-    fault: tuple[Fault, Place] | None = None
-    links: list[PlacedNote] = field(default_factory=list)
-    calendar: list[PlacedNote] = field(default_factory=list)
-    evidence: str | None = None
-
-    def text(self) -> str:
-        """The report in lines; nothing where a timeline fits."""
-        path = shown(self.path)
-        lines = [f"{path}: not judged: {shown(self.problem)}"] if self.problem else []
-        if self.fault:
-            fault, place = self.fault
-            lines.append(f"{path}:{place.line}:{place.column}: error: {fault.title()}: {fault.sentence()}")
-        total = len(self.links)
-        for number, link in enumerate(self.links, 1):
-            lines.append(f"{path}:{link.place.line}:{link.place.column}: error: clash, {number} of {total}: {shown(link.text)}")
-        lines += [f"{path}:{fact.place.line}:{fact.place.column}: note: {shown(fact.text)}" for fact in self.calendar]
-        if self.evidence:
-            lines.append(f"{path}: evidence in {shown(self.evidence)}")
-        return "".join(line + "\n" for line in lines)
+STRICT_ORDERS = {
+    "BEFORE": (0,), "AFTER": (0,), "INCLUDES": (0, 1), "IS_INCLUDED": (0, 1), "BEGINS": (2,), "BEGUN_BY": (2,), "ENDS": (2,), "ENDED_BY": (2,),
+}  # fmt: skip
+"""The orders of a relation that are strict, by their numbers in docs/DEFINITIONS.md; all others allow for equal points."""
 
 
-@dataclass
-class ClashSummary:
-    """How many files there are, and what became of them."""
+@dataclass(frozen=True)
+class Step:
+    """A step of a walk: `via K T`, `span I` or `calendar P Q`."""
 
-    files: int
-    fitting: int = 0
-    clashing: int = 0
-    faulty: int = 0
-    problems: int = 0
-
-    def add(self, report: ClashReport) -> None:
-        """Counts one file."""
-        self.problems += report.problem is not None
-        self.faulty += report.fault is not None
-        self.clashing += bool(report.links)
-        self.fitting += not (report.problem or report.fault or report.links)
-
-    def status(self) -> int:
-        """0 where a timeline fits each document, 2 where something could not be judged, else 1."""
-        return 2 if self.problems else 1 if self.faulty or self.clashing else 0
-
-    def text(self, interrupted: bool) -> str:
-        """The summary in lines."""
-        told = f"{counted(self.files, 'file')}: {self.clashing} with a clash, {self.fitting} without, "
-        told += f"{self.faulty} with a fault, {self.problems} not judged\n"
-        looked_at = self.fitting + self.clashing + self.faulty + self.problems
-        return told + (f"interrupted: {looked_at} of {self.files} files were looked at\n" if interrupted else "")
+    kind: str
+    first: int
+    second: int = 0
 
 
-def find_clash(program: Program, found: Found, folder: str | None) -> ClashReport:
-    """Asks for the clash of one file, and keeps its evidence in the folder, if there is one."""
-    if found.problem is not None:
-        return ClashReport(found.path, problem=found.problem)
-    try:
-        document = read_document(found.place())
-        with room_for(document):
-            report = clash_of(program, found.path, document, folder and os.path.join(found.base, folder))
-        if folder is not None and report.evidence is not None:
-            report.evidence = os.path.join(folder, os.path.basename(report.evidence))
-        return report
-    except (CannotRead, CannotRun) as problem:
-        return ClashReport(found.path, problem=str(problem))
+@dataclass(frozen=True)
+class Clash:
+    """A minimal clash as `tml solve` printed it: the numbers of its links, the steps of its walk, and the whole text."""
+
+    links: tuple[int, ...]
+    walk: tuple[Step, ...]
+    evidence: bytes
+
+    def renumbered(self, numbers: Sequence[int]) -> Clash:
+        """The clash of a document that has more links: link K of this one is its link `numbers[K]`."""
+        walk = tuple(Step(step.kind, numbers[step.first], step.second) if step.kind == "via" else step for step in self.walk)
+        lines = re.sub(rb"^(cite|via) (\d+)", lambda found: b"%s %d" % (found[1], numbers[int(found[2])]), self.evidence, flags=re.MULTILINE)
+        return Clash(tuple(numbers[link] for link in self.links), walk, lines)
 
 
-def clash_of(program: Program, path: str, document: bytes, folder: str | None) -> ClashReport:
-    """The clash of a document in memory."""
-    reply = program.ask(["solve", "-"], document)
-    fault = read_fault(reply.text) if reply.status == FAULT else None
-    if fault is not None:
-        return ClashReport(path, fault=(fault, Places(document).place(fault.offset)))
-    if reply.status == ACCEPTED:
-        return ClashReport(path)
-    if reply.status != CLASH:
-        return ClashReport(path, problem=problem_of(reply))
-    with kept(path, reply.text, folder) as evidence:
+def read_clash(reply: Reply) -> Clash:
+    """The clash that an answer of `tml solve` with status 2 has."""
+    links = tuple(int(number) for number in re.findall(rb"^cite (\d+)$", reply.text, re.MULTILINE))
+    steps = re.findall(rb"^(via|span|calendar) (\d+)(?: (\d+))?$", reply.text, re.MULTILINE)
+    if not reply.text.startswith(b"tml-evidence 1\nclash ") or not links or not steps:
+        raise CannotRun("the answer of tml to `solve` cannot be read")
+    return Clash(links, tuple(Step(kind.decode(), int(first), int(second or 0)) for kind, first, second in steps), reply.text)
+
+
+def is_timeline(reply: Reply) -> bool:
+    """Whether an answer of `tml solve` says that a timeline fits."""
+    return reply.status == ACCEPTED and reply.text.startswith(b"tml-evidence 1\ntimeline ")
+
+
+def verify_clash(program: Program, path: str, document: bytes, clash: Clash, folder: str | None = None) -> str:
+    """Has `tml verify` judge a clash, and answers the name of the file of its evidence, which stays where a folder is given."""
+    with evidence_file(path, clash.evidence, folder) as evidence:
         judged = program.ask(["verify", "-", "./" + os.path.basename(evidence)], document, os.path.dirname(evidence))
-        cites = re.fullmatch(rb"verified clash ([\d ]+)\n", judged.text)
-        if judged.status != ACCEPTED or cites is None:
+        if judged.status != ACCEPTED or judged.text != b"verified clash %s\n" % b" ".join(b"%d" % link for link in clash.links):
             said = judged.text.decode("utf-8", "replace").strip()
-            return ClashReport(path, problem=f"tml verify refused the evidence of tml solve: {said}")
-    wording = Wording(program, document)
-    report = ClashReport(path, evidence=folder and os.path.join(folder, os.path.basename(evidence)))
-    report.links = [PlacedNote(link.place, wording.in_words(link)) for link in (wording.links[int(cite)] for cite in cites[1].split())]
-    for first, second in re.findall(rb"^calendar (\d+) (\d+)$", reply.text, re.MULTILINE):
-        report.calendar.append(PlacedNote(*wording.calendar(int(first), int(second))))
-    return report
+            raise CannotRun(f"tml verify refused the evidence of tml solve: {said}")
+    return os.path.basename(evidence)
+
+
+def verify_timeline(program: Program, path: str, document: bytes, timeline: Reply) -> None:
+    """Has `tml verify` judge a timeline."""
+    with evidence_file(path, timeline.text, None) as evidence:
+        judged = program.ask(["verify", "-", "./" + os.path.basename(evidence)], document, os.path.dirname(evidence))
+    if judged.status != ACCEPTED or judged.text != b"verified timeline\n":
+        said = judged.text.decode("utf-8", "replace").strip()
+        raise CannotRun(f"tml verify did not accept the timeline of tml solve: {said}")
 
 
 @contextlib.contextmanager
-def kept(path: str, evidence: bytes, folder: str | None) -> Iterator[str]:
-    """A file with the evidence: in the folder, where it stays, or else one that goes again.
-
-    In the folder it is written under another name first, so that no file is left half written, and no symbolic link that
-    lies there is followed.
-    """
-    try:
-        handle, temporary = tempfile.mkstemp(prefix="tml-", dir=folder and os.path.abspath(folder))
-        with os.fdopen(handle, "wb") as file:
-            file.write(evidence)
-        name = temporary
-        if folder is not None:
-            name = os.path.join(os.path.dirname(temporary), evidence_name(path))
-            os.replace(temporary, name)
-    except OSError as error:
-        raise CannotRead(f"its evidence cannot be kept: {reason(error)}") from None
-    try:
+def evidence_file(path: str, evidence: bytes, folder: str | None) -> Iterator[str]:
+    """A file with the evidence: in the folder, where it stays, or else in one of its own that goes again."""
+    with contextlib.ExitStack() as stack:
+        try:
+            place = folder if folder is not None else stack.enter_context(tempfile.TemporaryDirectory(prefix="tml-"))
+            name = os.path.join(os.path.abspath(place), evidence_name(path))
+            with written(name) as file:
+                file.write(evidence)
+        except OSError as error:
+            raise CannotRead(f"its evidence cannot be kept: {reason(error)}") from None
         yield name
-    finally:
-        if folder is None:
-            os.unlink(name)
 
 
 def evidence_name(path: str) -> str:

@@ -39,7 +39,7 @@ BATCH = 16
 """So many files are a task."""
 
 AHEAD = 4
-"""So many batches for each thread of the workers are under way or wait to be told."""
+"""So many batches for each thread of the workers are under way or wait to be reported."""
 
 ANSWERING = 5.0
 """So many seconds a scheduler has to answer."""
@@ -58,7 +58,7 @@ def connected(address: str, stop: Interruption) -> Iterator[Cluster]:
         from distributed.comm import resolve_address
     except ImportError:
         raise CannotRun(f"--cluster needs the module distributed (of Debian: python3-distributed), which {sys.executable} lacks") from None
-    # What a user has to know of is told by this program.
+    # What a user has to know of is said by this program.
     logging.disable(logging.CRITICAL)
     try:
         resolve_address(address)
@@ -78,7 +78,7 @@ class Cluster:
 
     def __init__(self, client: Client, address: str) -> None:
         self.client, self.address, self.base = client, address, os.getcwd()
-        self.threads, self.looked, self.told = 0, -LOOKING, False
+        self.threads, self.looked, self.reported = 0, -LOOKING, False
 
     @contextmanager
     def needed(self) -> Iterator[None]:
@@ -89,14 +89,14 @@ class Cluster:
             raise CannotRun(f"the cluster at {self.address} was lost or cancelled the tasks, so not all files were looked at ({error})") from None
 
     def look(self) -> None:
-        """Counts the threads of the workers, if that was long ago; where there is none, that is told once."""
+        """Counts the threads of the workers, if that was long ago; where there is none, that is said once."""
         if time.monotonic() - self.looked < LOOKING:
             return
         self.threads = sum(self.client.nthreads().values())
         self.looked = time.monotonic()
-        if not self.threads and not self.told:
+        if not self.threads and not self.reported:
             print("tml-corpus: the cluster has no worker; waiting for one", file=sys.stderr, flush=True)
-        self.told = not self.threads
+        self.reported = not self.threads
 
     def wait_for_a_worker(self, stop: Interruption) -> None:
         """Waits until there is a worker, or an interruption."""
@@ -129,7 +129,7 @@ class Cluster:
         raise CannotRun(f"no program {name} at {at}: choose one that all of them see by --tml PROGRAM")
 
     def in_order(self, work: Work[Result], files: Sequence[Found], stop: Interruption, lost: Callable[[Found], Result]) -> Iterator[Result]:
-        """The results of the files in their order. After an interruption those that are there are told, and the other tasks cancelled."""
+        """The results of the files in their order. After an interruption those that are there are reported, and the other tasks cancelled."""
         rest = iter(files)
         waiting: deque[tuple[list[Found], Future]] = deque()
         with self.needed():
@@ -170,14 +170,15 @@ class Cluster:
                 return True
             except TimeoutError:
                 self.look()
-        return future.status == "finished"
+        return bool(future.status == "finished")
 
     def results_of(self, future: Future) -> list[Result] | None:
         """The results of a task that is done, or None where worker after worker was lost with it."""
         from distributed import KilledWorker
 
         try:
-            return read(future.result())
+            results: list[Result] = read(future.result())
+            return results
         except KilledWorker:
             return None
         except (OSError, *CANCELLED):
@@ -188,7 +189,7 @@ class Cluster:
     def one_by_one(
         self, work: Work[Result], batch: list[Found], others: list[Future], stop: Interruption, lost: Callable[[Found], Result]
     ) -> Iterator[Result]:
-        """The results of a batch with which workers were lost, each file alone, so that only the one that ends workers is told so.
+        """The results of a batch with which workers were lost, each file alone, so that only the one that ends workers has it in its report.
 
         Nothing else is under way then: the scheduler blames all tasks that a lost worker had.
         """

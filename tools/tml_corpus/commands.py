@@ -7,64 +7,98 @@ be run or read, and 130 that the run was interrupted.
 from __future__ import annotations
 
 import argparse
-import io
 import os
 import sys
+from collections import Counter
 from collections.abc import Callable, Iterator, Sequence
 from contextlib import contextmanager
 from functools import partial
 from typing import TypeVar
 
+from . import clash_formats
+from .baseline import Baseline, read_baseline, write_baseline
 from .check import Judgement, judge
-from .clashes import ClashReport, ClashSummary, find_clash
+from .clash_report import ClashReport, ClashSummary, Wanted
+from .clash_search import find_clashes
 from .cluster import connected
 from .files import PATTERNS, Found, counted, find_files, reason, shown
+from .fix import FixReport, fix, not_mended
 from .formats import Summary, make_format
+from .lint import KINDS, Lint, chosen
+from .output import Parser, run
 from .pool import Interruption, Progress, in_order, processors
 from .program import CannotRun, Program, find_program
+from .settings import Settings, settings_for
+from .standard_input import STANDARD_INPUT, StandardInput, find_with
+from .statuses import ENDED, Status
 from .tags import MOST_NAMES, Names, Table, is_known, names_in
-from .timeline import draw, form_of, written
+from .timeline import draw, form_of, write_picture
+from .watch import watch
+from .wrappers import Unwrapping
 
 Result = TypeVar("Result")
-INTERRUPTED = 130
 EXAMPLES = """Examples:
   tools/tml-corpus {0} samples
   tools/tml-corpus {0} --cluster tcp://head:8786 --tml /shared/bin/tml /shared/corpus"""
-ENDED = "a process of this program that looked at it was ended from outside, or had no memory"
+FORMS = ("text", "json", "junit", "github")
+TOUCHING = "read links between dates that touch as the relation that holds, as IBEFORE for BEFORE, and list them"
 
 
-def main(arguments: list[str]) -> int:
+def main(words: Sequence[str] | None = None) -> int:
+    """Runs the program and answers its status."""
+    return run(command, words)
+
+
+def command(words: list[str]) -> int:
     """Runs one command and answers its status."""
-    for stream in (sys.stdout, sys.stderr):
-        if isinstance(stream, io.TextIOWrapper):
-            stream.reconfigure(encoding=stream.encoding, errors="backslashreplace")
-    options = parser().parse_args(arguments)
-    try:
-        with Interruption() as stop, prepared(options, stop):
-            status = options.command(options, stop)
-            sys.stdout.flush()
-            return INTERRUPTED if stop.happened.is_set() else status
-    except CannotRun as problem:
-        print(f"tml-corpus: {shown(str(problem))}", file=sys.stderr)
-        return 2
-    except KeyboardInterrupt:
-        return INTERRUPTED
-    except BrokenPipeError:
-        os.dup2(os.open(os.devnull, os.O_WRONLY), sys.stdout.fileno())
-        return 2
+    options = parser().parse_args(words)
+    options.settings = settings_of(options)
+    with Interruption() as stop, prepared(options, stop):
+        status = run_command(options, stop)
+        sys.stdout.flush()
+        return Status.INTERRUPTED if stop.happened.is_set() else status
+
+
+def run_command(options: argparse.Namespace, stop: Interruption) -> int:
+    """Runs one command, where it is wanted again and again on the files that change, and answers its status."""
+    command: Callable[[argparse.Namespace, Interruption], int] = options.command
+    if not getattr(options, "watch", False):
+        return command(options, stop)
+    if options.format == "junit" or options.cluster is not None or STANDARD_INPUT in options.paths:
+        raise CannotRun("--watch goes neither with --format junit, nor with --cluster, nor with -")
+
+    def look(found: list[Found]) -> None:
+        options.found = found
+        command(options, stop)
+
+    watch(lambda: find_files(options.paths, patterns_of(options)), look, stop)
+    return 0
 
 
 @contextmanager
 def prepared(options: argparse.Namespace, stop: Interruption) -> Iterator[None]:
     """Finds the program, and what does the work on files in their order: the processors here, or a cluster."""
     if getattr(options, "cluster", None) is None:
-        options.program = Program(find_program(options.tml))
-        options.in_order = partial(in_order, workers=max(getattr(options, "jobs", 1), 1))
+        options.program = with_wrappers(Program(find_program(options.tml)), options)
+        jobs = getattr(options, "jobs", 1) or options.settings.jobs or processors()
+        options.in_order = partial(in_order, workers=max(jobs, 1))
         yield
     else:
         with connected(options.cluster, stop) as cluster:
-            options.program, options.in_order = cluster.program(options.tml), cluster.in_order
+            options.program, options.in_order = with_wrappers(cluster.program(options.tml), options), cluster.in_order
             yield
+
+
+def settings_of(options: argparse.Namespace) -> Settings:
+    """What the file of settings says that lies where the paths are; standard input lies in the current folder."""
+    paths = getattr(options, "paths", None) or [options.document]
+    return settings_for(["." if path == STANDARD_INPUT else path for path in paths], options.config)
+
+
+def with_wrappers(program: Program, options: argparse.Namespace) -> Program:
+    """The program, asked without the tags of the corpus's own wrappers; `tags` counts these too."""
+    wrappers = options.settings.wrappers
+    return Unwrapping(program.path, wrappers) if wrappers and options.command is not tags_command else program
 
 
 def number_from_zero(text: str) -> int:
@@ -75,9 +109,9 @@ def number_from_zero(text: str) -> int:
     return number
 
 
-def parser() -> argparse.ArgumentParser:
+def parser() -> Parser:
     """The words that are understood."""
-    whole = argparse.ArgumentParser(prog="tml-corpus", description="Asks tml about all documents of a corpus.")
+    whole = Parser(prog="tml-corpus", description="Asks tml about all documents of a corpus.")
     commands = whole.add_subparsers(required=True, metavar="COMMAND")
     check = commands.add_parser(
         "check",
@@ -85,9 +119,11 @@ def parser() -> argparse.ArgumentParser:
         epilog=EXAMPLES.format("check"),
         formatter_class=argparse.RawDescriptionHelpFormatter,
     )
-    check.add_argument("--format", choices=("text", "json", "junit", "github"), default="text", help="the form of the output")
-    check.add_argument("--explain", action=argparse.BooleanOptionalAction, help="say what is at fault (default at a terminal)")
-    check.add_argument("--more", type=number_from_zero, default=0, metavar="N", help="go on to at most N further faults of each document")
+    check.add_argument(
+        "--explain", action=argparse.BooleanOptionalAction, default=True, help="say what is at fault and how to mend it, and mark it (the default)"
+    )
+    check.add_argument("--clashes", action="store_true", help="show the links that contradict each other too")
+    lint_words(check)
     check.set_defaults(command=check_command)
     tags = commands.add_parser("tags", help="count the names of tags, and say which of them tml does not know")
     tags.set_defaults(command=tags_command)
@@ -98,29 +134,74 @@ def parser() -> argparse.ArgumentParser:
         formatter_class=argparse.RawDescriptionHelpFormatter,
     )
     clashes.add_argument("--evidence", metavar="FOLDER", help="keep the evidence of each clash in this folder")
+    clashes.add_argument("--repair", action="store_true", help="find a smallest set of links without which a timeline fits")
     clashes.set_defaults(command=clashes_command)
-    for command in (check, tags, clashes):
+    shared_words(check, "faults or clashes")
+    shared_words(clashes, "clashes")
+    fixes = fix_words(commands)
+    for command in (check, tags, clashes, fixes):
         command.add_argument("paths", nargs="+", metavar="PATH", help="a file, or a folder to search")
         command.add_argument("--glob", action="append", metavar="PATTERN", help=f"names to look for in folders (default {' '.join(PATTERNS)})")
-        command.add_argument("--jobs", type=int, default=processors(), metavar="N", help="how many files at once (default: one a processor)")
+        command.add_argument("--jobs", type=int, metavar="N", help="how many files at once (default: one a processor)")
     for command in (check, clashes):
         command.add_argument("--cluster", metavar="ADDRESS", help="work on a Dask cluster, whose workers see the files and tml by the same paths; --jobs says nothing then")
-    for command in (check, tags, clashes, timeline_words(commands)):
+    for command in (check, tags, clashes, fixes, timeline_words(commands)):
+        command.add_argument("--config", metavar="FILE", help="the settings (default: tml-corpus.toml in the folder of the paths or nearest above)")
         command.add_argument("--tml", metavar="PROGRAM", help="the program tml (default: that of this repository, else that on PATH)")
     return whole
 
 
-def timeline_words(commands: argparse._SubParsersAction[argparse.ArgumentParser]) -> argparse.ArgumentParser:
+def shared_words(command: Parser, things: str) -> None:
+    """The words that `check` and `clashes` share."""
+    command.add_argument("--format", choices=FORMS, default="text", help="the form of the output")
+    command.add_argument("--more", type=number_from_zero, default=0, metavar="N", help=f"go on to at most N further {things} of each document")
+    command.add_argument("--touching", action="store_true", help=TOUCHING)
+    command.add_argument("--stdin-name", metavar="NAME", help="the name in the reports of the document of standard input, which is the path -")
+    command.add_argument("--quiet", action="store_true", help="print no summary, and no list of links that are read as touching")
+    command.add_argument("--watch", action="store_true", help="go on, and look again at files that change, until interrupted")
+    command.set_defaults(found=None)
+
+
+def lint_words(check: Parser) -> None:
+    """The words for what is accepted and suspect."""
+    names = f"one of {', '.join(KINDS)}"
+    check.add_argument("--lint", action="store_true", help="warn of what tml accepts and an annotator probably did not mean")
+    check.add_argument("--ignore", action="append", choices=KINDS, default=[], metavar="NAME", help=f"no warnings of this kind: {names}")
+    check.add_argument("--warn", action="append", choices=KINDS, default=[], metavar="NAME", help="warnings of this kind too, as unknown-attribute")
+    check.add_argument("--strict", action="store_true", help="status 1 where there is a warning")
+    check.add_argument("--baseline", metavar="FILE", help="no warnings that this file has, which were there before")
+    check.add_argument("--write-baseline", action="store_true", help="write the warnings that there are to the file of --baseline")
+
+
+def fix_words(commands: argparse._SubParsersAction[Parser]) -> Parser:
+    """The words of `fix`."""
+    words = commands.add_parser(
+        "fix",
+        help="mend what has one cure only",
+        description="Mends what has one cure only: & that begin no reference, curly quotes around values, CDATA, Latin-1, names and listed values in "
+        "other letters, and references to an event that has one instance. It prints the changes, and writes them where --write is given. "
+        "The status is 0 where tml accepts each file as it is then.",
+        epilog="Example: tools/tml-corpus fix samples",
+    )
+    what = words.add_mutually_exclusive_group()
+    what.add_argument("--diff", action="store_true", help="print the changes and write nothing (the default)")
+    what.add_argument("--write", action="store_true", help="write the mended documents in the place of the files")
+    words.set_defaults(command=fix_command)
+    return words
+
+
+def timeline_words(commands: argparse._SubParsersAction[Parser]) -> Parser:
     """The words of `timeline`, which is about one document."""
     words = commands.add_parser(
         "timeline",
         help="draw the least timeline of a document",
         description="Draws the least timeline of a document, once tml verify accepted it. Where links clash it says which ones, and where the "
-        "document has a fault it tells that; the status is 1 then, and no file is written.",
+        "document has a fault it names that; the status is 1 then, and no file is written.",
         epilog="Example: tools/tml-corpus timeline samples/rates.xml -o rates.html",
     )
     words.add_argument("document", metavar="DOC", help="a file")
     words.add_argument("-o", "--output", type=picture_name, required=True, metavar="FILE", help="the picture: FILE.svg, or FILE.html with the links of each row")
+    words.add_argument("--touching", action="store_true", help=TOUCHING)
     words.set_defaults(command=timeline_command)
     return words
 
@@ -135,8 +216,28 @@ def picture_name(text: str) -> str:
 
 
 def search(options: argparse.Namespace) -> list[Found]:
-    """The files that the command is about."""
-    return find_files(options.paths, options.glob or list(PATTERNS))
+    """The files that the command is about: where files are watched, those that have changed."""
+    found: list[Found] | None = getattr(options, "found", None)
+    patterns = patterns_of(options)
+    given = standard_input_of(options) if hasattr(options, "stdin_name") else None
+    return found if found is not None else find_with(given, options.paths, patterns) if given else find_files(options.paths, patterns)
+
+
+def patterns_of(options: argparse.Namespace) -> list[str]:
+    """The names to look for in folders."""
+    return options.glob or list(options.settings.patterns or PATTERNS)
+
+
+def standard_input_of(options: argparse.Namespace) -> StandardInput | None:
+    """Standard input, where it is among the paths; it is there as long as the options are."""
+    if STANDARD_INPUT not in options.paths:
+        if options.stdin_name is not None:
+            raise CannotRun("--stdin-name names the document of -, which is not among the paths")
+        return None
+    if options.cluster is not None:
+        raise CannotRun("- cannot be judged on a cluster, whose workers have another standard input")
+    options.standard_input = StandardInput(options.stdin_name)
+    return options.standard_input
 
 
 def each(
@@ -145,13 +246,13 @@ def each(
     found: Sequence[Found],
     work: Callable[[Found], Result],
     lost: Callable[[Found], Result],
-    tell: Callable[[Result], str],
+    report: Callable[[Result], str],
 ) -> None:
-    """Does the work for each file on all processors or a cluster, and prints in the order of the files what there is to tell."""
+    """Does the work for each file on all processors or a cluster, and prints in the order of the files what there is to report."""
     progress = Progress(len(found), "files")
     try:
         for result in options.in_order(work, found, stop=stop, lost=lost):
-            text = tell(result)
+            text = report(result)
             if text:
                 progress.clear()
                 sys.stdout.write(text)
@@ -164,21 +265,81 @@ def each(
 
 def check_command(options: argparse.Namespace, stop: Interruption) -> int:
     """`tml-corpus check`."""
+    lint = chosen((*options.settings.ignore, *options.ignore), (*options.settings.warn, *options.warn)) if options.lint else None
+    baseline = baseline_of(options)
+    if options.clashes:
+        wanted = Wanted(touching=options.touching, more=options.more, explained=options.explain, lint=lint)
+        return show_clashes(options, stop, wanted, baseline)
+    if options.touching:
+        raise CannotRun("--touching is about clashes: give --clashes too")
     found = search(options)
-    terminal = sys.stdout.isatty()
-    explained = terminal if options.explain is None else options.explain
-    form, summary = make_format(options.format, terminal), Summary(len(found))
+    form, summary = make_format(options.format, options.explain, options.strict), Summary(len(found))
 
-    def tell(judgement: Judgement) -> str:
+    def reported(judgement: Judgement) -> str:
+        use_baseline(options, baseline, judgement)
         summary.add(judgement)
         return form.file(judgement)
 
-    work = partial(judge, options.program, explained=explained, more=options.more)
-    each(options, stop, found, work, lambda one: Judgement(one.path, problem=ENDED), tell)
+    work = partial(judge, options.program, explained=options.explain, more=options.more, lint=lint)
+    each(options, stop, found, work, lambda one: Judgement(one.path, problem=ENDED), reported)
     sys.stdout.write(form.end(summary))
-    apart = sys.stderr if form.summary_apart else sys.stdout
-    apart.write(summary.text(stop.happened.is_set()))
-    return summary.status()
+    write_summary(options, form.summary_apart, summary.text(stop.happened.is_set()) + baseline_text(options, baseline, stop))
+    return summary.status(options.strict)
+
+
+def baseline_of(options: argparse.Namespace) -> Baseline | None:
+    """The baseline that is read, or that is to be written."""
+    if options.baseline is None:
+        if options.write_baseline:
+            raise CannotRun("--write-baseline needs --baseline FILE")
+        return None
+    return Baseline(options.baseline) if options.write_baseline else read_baseline(options.baseline)
+
+
+def use_baseline(options: argparse.Namespace, baseline: Baseline | None, judgement: Judgement) -> None:
+    """Takes the warnings out of a judgement that the baseline has, or that it is to have."""
+    if baseline is not None and options.write_baseline:
+        baseline.take(judgement)
+    elif baseline is not None:
+        baseline.without_known(judgement)
+
+
+def baseline_text(options: argparse.Namespace, baseline: Baseline | None, stop: Interruption) -> str:
+    """Writes the baseline, where that is wanted and all files were looked at, and answers what there is to say of it."""
+    if baseline is not None and options.write_baseline and not stop.happened.is_set():
+        write_baseline(options.baseline, baseline)
+        return f"{counted(baseline.counts.total(), 'warning')} written to {shown(options.baseline)}\n"
+    if baseline is not None and baseline.hidden:
+        return f"{counted(baseline.hidden, 'warning')} of the baseline not shown\n"
+    return ""
+
+
+def fix_command(options: argparse.Namespace, stop: Interruption) -> int:
+    """`tml-corpus fix`."""
+    found = search(options)
+    reports: Counter[str] = Counter()
+
+    def reported(one: FixReport) -> str:
+        reports["changed"] += one.changed
+        reports["left"] += one.left
+        reports["problem"] += one.problem
+        return one.text
+
+    work = partial(fix, options.program, writes=options.write)
+    each(options, stop, found, work, lambda one: not_mended(one, ENDED), reported)
+    changed, left, problems = reports["changed"], reports["left"], reports["problem"]
+    done = "mended" if options.write else "can be mended (--write does it)"
+    sys.stdout.write(f"{counted(len(found), 'file')}: {changed} {done}, {left} with a fault that is left, {problems} not looked at\n")
+    if stop.happened.is_set():
+        sys.stdout.write("interrupted: not all files were looked at\n")
+    return Status.TROUBLE if problems else Status.FINDING if left or (changed and not options.write) else Status.SUCCESS
+
+
+def write_summary(options: argparse.Namespace, apart: bool, text: str) -> None:
+    """Prints a summary: on standard error where the output is for programs."""
+    sys.stdout.flush()
+    if not options.quiet:
+        (sys.stderr if apart else sys.stdout).write(text)
 
 
 def tags_command(options: argparse.Namespace, stop: Interruption) -> int:
@@ -186,14 +347,14 @@ def tags_command(options: argparse.Namespace, stop: Interruption) -> int:
     found = search(options)
     table, problems = Table(), 0
 
-    def tell(names: Names) -> str:
+    def reported(names: Names) -> str:
         nonlocal problems
         table.add(names)
         problems += names.problem is not None
-        said = f"not counted: {names.problem}" if names.problem else names.remark
-        return f"{shown(names.path)}: {shown(said)}\n" if said else ""
+        remark = f"not counted: {names.problem}" if names.problem else names.remark
+        return f"{shown(names.path)}: {shown(remark)}\n" if remark else ""
 
-    each(options, stop, found, partial(names_in, options.program), lambda one: Names(one.path, problem=ENDED), tell)
+    each(options, stop, found, partial(names_in, options.program), lambda one: Names(one.path, problem=ENDED), reported)
     asked = table.names()[:MOST_NAMES]
     known = dict(zip(asked, options.in_order(partial(is_known, options.program), asked, stop=stop, lost=lambda name: None), strict=False))
     sys.stdout.write(table.text(known))
@@ -201,7 +362,7 @@ def tags_command(options: argparse.Namespace, stop: Interruption) -> int:
     sys.stdout.write(f"{counted(len(found), 'file')}: {counted(len(table.counts), 'name')} of tags, {unknown} unknown to tml; {problems} not counted\n")
     if stop.happened.is_set():
         sys.stdout.write("interrupted: not all files were looked at\n")
-    return 2 if problems else 1 if unknown else 0
+    return Status.TROUBLE if problems else Status.FINDING if unknown else Status.SUCCESS
 
 
 def clashes_command(options: argparse.Namespace, stop: Interruption) -> int:
@@ -211,23 +372,32 @@ def clashes_command(options: argparse.Namespace, stop: Interruption) -> int:
             os.makedirs(options.evidence, exist_ok=True)
         except (OSError, ValueError) as error:
             raise CannotRun(f"the folder {options.evidence} cannot be made: {reason(error)}") from None
-    found = search(options)
-    summary = ClashSummary(len(found))
+    return show_clashes(options, stop, Wanted(options.evidence, options.touching, options.more, options.repair), None)
 
-    def tell(report: ClashReport) -> str:
+
+def show_clashes(options: argparse.Namespace, stop: Interruption, wanted: Wanted, baseline: Baseline | None) -> int:
+    """`tml-corpus clashes`, and `tml-corpus check --clashes`."""
+    found, checked = search(options), options.command is check_command
+    strict = checked and options.strict
+    form = clash_formats.make_format(options.format, wanted.explained, options.quiet, checked, strict)
+    summary = ClashSummary(len(found), checked, read_touching=wanted.touching)
+
+    def reported(report: ClashReport) -> str:
+        use_baseline(options, baseline, report.judgement)
         summary.add(report)
-        return report.text()
+        return form.file(report)
 
-    work = partial(find_clash, options.program, folder=options.evidence)
-    each(options, stop, found, work, lambda one: ClashReport(one.path, problem=ENDED), tell)
-    sys.stdout.write(summary.text(stop.happened.is_set()))
-    return summary.status()
+    work = partial(find_clashes, options.program, wanted=wanted)
+    each(options, stop, found, work, lambda one: ClashReport(Judgement(one.path, problem=ENDED)), reported)
+    sys.stdout.write(form.end(summary))
+    write_summary(options, form.summary_apart, summary.text(stop.happened.is_set()) + baseline_text(options, baseline, stop))
+    return summary.status(strict)
 
 
 def timeline_command(options: argparse.Namespace, stop: Interruption) -> int:
     """`tml-corpus timeline`."""
-    told = draw(options.program, options.document, options.output, sys.stdout.isatty())
-    if told.picture is not None and not stop.happened.is_set():
-        written(options.output, told.picture)
-    sys.stdout.write(told.text)
-    return told.status
+    drawn = draw(options.program, options.document, options.output, options.touching)
+    if drawn.picture is not None and not stop.happened.is_set():
+        write_picture(options.output, drawn.picture)
+    sys.stdout.write(drawn.text)
+    return drawn.status

@@ -1,14 +1,16 @@
-"""Files: finding them in folders, reading no more of them than the limit, and showing their names."""
+"""Files: finding them in folders, reading no more of them than the limit, writing them whole, and showing their names."""
 
 import fnmatch
 import os
+import re
+import secrets
 import stat
 from collections.abc import Iterator
-from contextlib import contextmanager
+from contextlib import contextmanager, suppress
 from dataclasses import dataclass
 from typing import IO
 
-from .program import DOCUMENT_LIMIT
+from .statuses import DOCUMENT_LIMIT
 
 PATTERNS = ("*.tml", "*.xml")
 
@@ -26,7 +28,7 @@ class Found:
     base: str = ""
 
     def place(self) -> str:
-        """Where the file lies: its path is told as it was given, and is one of the base where another folder is the current one."""
+        """Where the file lies: its path is printed as it was given, and is one of the base where another folder is the current one."""
         return os.path.join(self.base, self.path)
 
 
@@ -93,6 +95,24 @@ def read_open(file: IO[bytes]) -> bytes:
         raise CannotRead(reason(error)) from None
 
 
+@contextmanager
+def written(target: str) -> Iterator[IO[bytes]]:
+    """A new file that takes the place of the target once it is written whole. Where that fails nothing is left of it.
+
+    Its mode is that of the user's umask. A symbolic link that lies there is not followed, and gives way.
+    """
+    temporary = os.path.join(os.path.dirname(os.path.abspath(target)), f".tml-{secrets.token_hex(8)}")
+    file = open(temporary, "xb")
+    try:
+        with file:
+            yield file
+        os.replace(temporary, target)
+    except BaseException:
+        with suppress(OSError):
+            os.unlink(temporary)
+        raise
+
+
 def reason(error: Exception) -> str:
     """Why a file cannot be read, in a few words."""
     return (getattr(error, "strerror", None) or str(error)).lower()
@@ -104,12 +124,17 @@ def counted(number: int, noun: str) -> str:
 
 
 def shown(text: str) -> str:
-    """A name or a text as it may be printed: what is not printable is escaped, so that a line stays a line."""
-    return "".join(character if character.isprintable() else escaped(character) for character in text)
+    """A name or a text as it may be printed: what is not printable is escaped, so that a line stays a line.
+
+    So is a colon at the beginning, and what GitHub and Azure take for a command elsewhere in a line of a log.
+    """
+    if not text.isprintable():
+        text = "".join(character if character.isprintable() else escaped(character) for character in text)
+    return re.sub(r"##(?=\[|vso)", r"\\x23#", re.sub(r"^( *):", r"\1\\x3a", text))
 
 
 def escaped(character: str) -> str:
-    """An escape for one character; a byte that is not UTF-8 is told as this byte."""
+    """An escape for one character; a byte that is not UTF-8 is printed as this byte."""
     code = ord(character)
     if 0xDC80 <= code <= 0xDCFF:
         return f"\\x{code - 0xDC00:02x}"

@@ -1,17 +1,40 @@
-"""The forms in which judgements are told: text, JSON, JUnit and annotations of GitHub."""
+"""The forms in which judgements are reported: text, JSON, JUnit and annotations of GitHub.
+
+Each of them has the number and the name of a fault, and the byte at which `tml` reports it.
+"""
 
 from __future__ import annotations
 
 import json
 from collections import Counter
 from dataclasses import dataclass, field
-from xml.sax.saxutils import escape, quoteattr
+from xml.etree import ElementTree
 
-from .check import Judgement, PlacedFault
+from .check import Judgement, Mark, PlacedFault, PlacedNote, PlacedWarning
 from .files import counted, shown
-from .places import caret_lines
+from .places import Place
 
 CONSEQUENCE = "(perhaps only a consequence)"
+
+
+@dataclass
+class WarningCounts:
+    """How many warnings there are of each kind, and in how many files."""
+
+    kinds: Counter[str] = field(default_factory=Counter)
+    files: int = 0
+
+    def add(self, judgement: Judgement) -> None:
+        """Counts the warnings of one file."""
+        self.kinds.update(warning.name for warning in judgement.warnings)
+        self.files += bool(judgement.warnings)
+
+    def lines(self) -> list[str]:
+        """The counts in lines; nothing where there are none."""
+        if not self.kinds:
+            return []
+        first = f"{counted(self.kinds.total(), 'warning')} in {counted(self.files, 'file')}"
+        return [first, *(f"{count:7}  {name}" for name, count in sorted(self.kinds.items()))]
 
 
 @dataclass
@@ -22,13 +45,17 @@ class Summary:
     accepted: int = 0
     problems: int = 0
     further: int = 0
+    consequences: int = 0
     first_faults: Counter[tuple[int, str]] = field(default_factory=Counter)
+    warnings: WarningCounts = field(default_factory=WarningCounts)
 
     def add(self, judgement: Judgement) -> None:
         """Counts one file."""
         self.accepted += judgement.accepted()
         self.problems += judgement.problem is not None
         self.further += max(len(judgement.faults) - 1, 0)
+        self.consequences += sum(fault.perhaps_consequence for fault in judgement.faults)
+        self.warnings.add(judgement)
         if judgement.faults:
             first = judgement.faults[0].fault
             self.first_faults[first.number, first.title()] += 1
@@ -38,37 +65,44 @@ class Summary:
         return sum(self.first_faults.values())
 
     def judged(self) -> int:
-        """The files of which something was told."""
+        """The files that were looked at."""
         return self.accepted + self.problems + self.faulty()
 
-    def status(self) -> int:
-        """0 where all are accepted, 2 where something could not be judged, else 1."""
-        return 2 if self.problems else 1 if self.faulty() else 0
+    def status(self, strict: bool = False) -> int:
+        """0 where all are accepted, 2 where something could not be judged, else 1; a warning counts where this is strict."""
+        return 2 if self.problems else 1 if self.faulty() or (strict and self.warnings.files) else 0
 
     def text(self, interrupted: bool) -> str:
         """The summary in lines."""
         lines = [f"{counted(self.files, 'file')}: {self.accepted} accepted, {self.faulty()} with a fault, {self.problems} not judged"]
         lines += [f"{count:7}  {title}" for (_, title), count in sorted(self.first_faults.items())]
         if self.further:
-            lines.append(f"{self.further:7}  further faults, perhaps only consequences of these")
+            perhaps = f", {self.consequences} of them perhaps only consequences" if self.consequences else ""
+            lines.append(f"{self.further:7}  further faults of these files{perhaps}")
+        lines += self.warnings.lines()
         if interrupted:
             lines.append(f"interrupted: {self.judged()} of {self.files} files were looked at")
         return "".join(line + "\n" for line in lines)
 
 
-def located(path: str, fault: PlacedFault) -> str:
+def located(path: str, place: Place) -> str:
     """`path:line:col`, the form that editors take up."""
-    return f"{shown(path)}:{fault.place.line}:{fault.place.column}"
+    return f"{shown(path)}:{place.line}:{place.column}"
 
 
 def message(fault: PlacedFault) -> str:
     """The fault in words."""
-    told = f"{fault.fault.title()}: {fault.fault.sentence()}"
-    return f"{told} {CONSEQUENCE}" if fault.perhaps_consequence else told
+    perhaps = f" {CONSEQUENCE}" if fault.perhaps_consequence else ""
+    return f"{fault.fault.title()}: {shown(fault.text)}{perhaps} [byte {fault.fault.offset}]"
+
+
+def warning_message(warning: PlacedWarning) -> str:
+    """The warning in words."""
+    return f"{shown(warning.text)} [{warning.name}]"
 
 
 class Text:
-    """A line for each fault and note; at a terminal the line of the source and a caret besides."""
+    """A line for each fault, warning and note; where that is wanted the line of the source besides, with what it is about marked."""
 
     summary_apart = False
 
@@ -76,15 +110,20 @@ class Text:
         self.with_source = with_source
 
     def file(self, judgement: Judgement) -> str:
-        """What is told of one file."""
+        """What is reported of one file."""
         lines = [f"{shown(judgement.path)}: not judged: {shown(judgement.problem)}"] if judgement.problem else []
         for fault in judgement.faults:
-            lines.append(f"{located(judgement.path, fault)}: error: {message(fault)}")
-            if self.with_source:
-                lines += caret_lines(fault.source, fault.place.column)
-            for note in fault.notes:
-                lines.append(f"{shown(judgement.path)}:{note.place.line}:{note.place.column}: note: {shown(note.text)}")
+            lines.append(f"{located(judgement.path, fault.mark.start)}: error: {message(fault)}")
+            lines += self.source(fault.mark)
+            lines += [f"{located(judgement.path, note.place)}: note: {shown(note.text)}" for note in fault.notes]
+        for warning in judgement.warnings:
+            lines.append(f"{located(judgement.path, warning.mark.start)}: warning: {warning_message(warning)}")
+            lines += self.source(warning.mark)
         return "".join(line + "\n" for line in lines)
+
+    def source(self, mark: Mark) -> list[str]:
+        """The line of the source, and the mark below it."""
+        return mark.source if self.with_source else []
 
     def end(self, summary: Summary) -> str:
         """What comes after all files."""
@@ -97,74 +136,153 @@ class Json(Text):
     summary_apart = True
 
     def file(self, judgement: Judgement) -> str:
-        verdict = "not judged" if judgement.problem else "fault" if judgement.faults else "accepted"
-        told: dict[str, object] = {"path": judgement.path, "verdict": verdict}
-        if judgement.problem:
-            told["problem"] = judgement.problem
-        told["faults"] = [fault_object(fault) for fault in judgement.faults]
-        return json.dumps(told) + "\n"
+        return printable(judgement_object(judgement))
+
+
+def printable(entry: dict[str, object]) -> str:
+    """JSON in a log that may take `##[` and `##vso[` for commands: these stand within strings alone, where escapes are."""
+    return json.dumps(entry).replace("##", "\\u0023#") + "\n"
+
+
+def judgement_object(judgement: Judgement) -> dict[str, object]:
+    """A judgement as JSON has it."""
+    verdict = "not judged" if judgement.problem else "fault" if judgement.faults else "accepted"
+    entry: dict[str, object] = {"path": judgement.path, "verdict": verdict}
+    if judgement.problem:
+        entry["problem"] = judgement.problem
+    entry["faults"] = [fault_object(fault) for fault in judgement.faults]
+    entry["warnings"] = [warning_object(warning) for warning in judgement.warnings]
+    return entry
 
 
 def fault_object(fault: PlacedFault) -> dict[str, object]:
-    """A fault as JSON has it."""
+    """A fault as JSON has it: the offset, line and column are those of the byte at which `tml` reports it."""
     return {
         "number": fault.fault.number,
         "name": fault.fault.name,
-        "offset": fault.place.offset,
-        "line": fault.place.line,
-        "column": fault.place.column,
-        "message": fault.fault.sentence(),
+        **place_object(fault.place),
+        "message": fault.text,
+        "meaning": fault.fault.sentence(),
+        "start": place_object(fault.mark.start),
+        "end": place_object(fault.mark.end),
         "perhapsConsequence": fault.perhaps_consequence,
-        "notes": [
-            {"offset": note.place.offset, "line": note.place.line, "column": note.place.column, "message": note.text} for note in fault.notes
-        ],
+        "notes": [note_object(note) for note in fault.notes],
     }
 
 
+def warning_object(warning: PlacedWarning) -> dict[str, object]:
+    """A warning as JSON has it."""
+    return {
+        "name": warning.name,
+        "message": warning.text,
+        "start": place_object(warning.mark.start),
+        "end": place_object(warning.mark.end),
+    }
+
+
+def note_object(note: PlacedNote) -> dict[str, object]:
+    """A note as JSON has it."""
+    return place_object(note.place) | {"message": note.text}
+
+
+def place_object(place: Place) -> dict[str, object]:
+    """A place as JSON has it."""
+    return {"offset": place.offset, "line": place.line, "column": place.column}
+
+
+class Suite:
+    """Test cases as JUnit has them. The counts stand at the beginning, so all is printed at the end, in ASCII."""
+
+    def __init__(self, name: str) -> None:
+        self.element = ElementTree.Element("testsuite", name=name)
+        self.failures = self.errors = 0
+
+    def case(self, path: str) -> ElementTree.Element:
+        """A test case."""
+        return ElementTree.SubElement(self.element, "testcase", classname="tml", name=shown(path))
+
+    def error(self, path: str, problem: str) -> None:
+        """A test case of a file that was not judged."""
+        ElementTree.SubElement(self.case(path), "error", message=shown(problem))
+        self.errors += 1
+
+    def failure(self, path: str, kind: str, sentence: str, body: str) -> None:
+        """A test case that failed."""
+        ElementTree.SubElement(self.case(path), "failure", type=kind, message=shown(sentence)).text = body
+        self.failures += 1
+
+    def success(self, path: str, body: str) -> None:
+        """A test case of a file of which there is perhaps something to report."""
+        case = self.case(path)
+        if body:
+            ElementTree.SubElement(case, "system-out").text = body
+
+    def text(self) -> str:
+        """The whole report."""
+        counts = {"tests": str(len(self.element)), "failures": str(self.failures), "errors": str(self.errors)}
+        whole = ElementTree.Element("testsuites", counts)
+        self.element.attrib.update(counts)
+        whole.append(self.element)
+        ElementTree.indent(whole)
+        text = ElementTree.tostring(whole, encoding="us-ascii", xml_declaration=False).decode()
+        return f'<?xml version="1.0" encoding="UTF-8"?>\n{text}\n'
+
+
 class JUnit(Text):
-    """One test case for each file. The counts stand at the beginning, so all is printed at the end."""
+    """One test case for each file."""
 
     summary_apart = True
 
-    def __init__(self) -> None:
-        super().__init__(False)
-        self.cases: list[str] = []
+    def __init__(self, with_source: bool, strict: bool) -> None:
+        super().__init__(with_source)
+        self.strict = strict
+        self.suite = Suite("tml check")
 
     def file(self, judgement: Judgement) -> str:
-        name = quoteattr(shown(judgement.path))
-        if judgement.accepted():
-            self.cases.append(f'    <testcase classname="tml" name={name}/>\n')
-            return ""
+        failure = first_failure(judgement, self.strict)
         if judgement.problem:
-            inner = f"<error message={quoteattr(shown(judgement.problem))}/>"
+            self.suite.error(judgement.path, judgement.problem)
+        elif failure is not None:
+            self.suite.failure(judgement.path, *failure, super().file(judgement))
         else:
-            first = judgement.faults[0]
-            said = f"{located(judgement.path, first)}: {message(first)}"
-            body = escape(super().file(judgement))
-            inner = f"<failure type={quoteattr(first.fault.title())} message={quoteattr(said)}>{body}</failure>"
-        self.cases.append(f'    <testcase classname="tml" name={name}>{inner}</testcase>\n')
+            self.suite.success(judgement.path, super().file(judgement))
         return ""
 
     def end(self, summary: Summary) -> str:
-        counts = f'tests="{len(self.cases)}" failures="{summary.faulty()}" errors="{summary.problems}"'
-        suite = f'  <testsuite name="tml check" {counts}>\n{"".join(self.cases)}  </testsuite>\n'
-        return f'<?xml version="1.0" encoding="UTF-8"?>\n<testsuites {counts}>\n{suite}</testsuites>\n'
+        return self.suite.text()
+
+
+def first_failure(judgement: Judgement, strict: bool) -> tuple[str, str] | None:
+    """The kind of the first fault, or where this is strict of the first warning, and one line on it."""
+    if judgement.faults:
+        fault = judgement.faults[0]
+        return fault.fault.title(), f"{located(judgement.path, fault.mark.start)}: {message(fault)}"
+    if judgement.warnings and strict:
+        warning = judgement.warnings[0]
+        return warning.name, f"{located(judgement.path, warning.mark.start)}: {warning_message(warning)}"
+    return None
 
 
 class GitHub(Text):
-    """A workflow command of GitHub for each fault, which GitHub shows beside the line."""
-
-    def __init__(self) -> None:
-        super().__init__(False)
+    """A workflow command of GitHub for each fault and warning, which GitHub shows beside the line."""
 
     def file(self, judgement: Judgement) -> str:
         file = property_text(shown(judgement.path))
         lines = [f"::error file={file}::not judged: {data_text(shown(judgement.problem))}"] if judgement.problem else []
         for fault in judgement.faults:
-            where = f"file={file},line={fault.place.line},col={fault.place.column},title={property_text(fault.fault.title())}"
+            title = property_text(fault.fault.title())
             notes = "".join(f"\n{note.place.line}:{note.place.column}: {shown(note.text)}" for note in fault.notes)
-            lines.append(f"::error {where}::{data_text(message(fault) + notes)}")
+            lines.append(f"::error file={file},{stretch(fault.mark)},title={title}::{data_text(message(fault) + notes)}")
+        for warning in judgement.warnings:
+            lines.append(f"::warning file={file},{stretch(warning.mark)},title={warning.name}::{data_text(warning_message(warning))}")
         return "".join(line + "\n" for line in lines)
+
+
+def stretch(mark: Mark) -> str:
+    """A stretch as the properties of a workflow command have it. GitHub takes an end of the columns only on the same line."""
+    first, last = mark.start, mark.end
+    one_line = first.line == last.line and last.column > first.column + 1
+    return f"line={first.line},col={first.column}" + (f",endColumn={last.column - 1}" if one_line else "")
 
 
 def data_text(text: str) -> str:
@@ -177,6 +295,8 @@ def property_text(text: str) -> str:
     return data_text(text).replace(":", "%3A").replace(",", "%2C")
 
 
-def make_format(name: str, with_source: bool) -> Text:
+def make_format(name: str, with_source: bool, strict: bool = False) -> Text:
     """The format of a name."""
-    return {"text": lambda: Text(with_source), "json": lambda: Json(False), "junit": JUnit, "github": GitHub}[name]()
+    if name == "junit":
+        return JUnit(with_source, strict)
+    return {"text": Text, "json": Json, "github": GitHub}[name](with_source)

@@ -12,20 +12,20 @@ from .rows import Timeline
 STYLE = """
 body{margin:0;background:#fff;color:#111;font:14px/1.45 "DejaVu Sans",Verdana,Helvetica,Arial,sans-serif}
 main{overflow-x:auto;padding-bottom:38vh}
-#told{position:fixed;left:0;right:0;bottom:0;max-height:34vh;overflow:auto;box-sizing:border-box;margin:0;padding:10px 16px;
+#links{position:fixed;left:0;right:0;bottom:0;max-height:34vh;overflow:auto;box-sizing:border-box;margin:0;padding:10px 16px;
 background:#fff;border-top:2px solid #16324f;columns:28em;font-size:13px}
-#told div{break-inside:avoid;padding-left:1.5em;text-indent:-1.5em;overflow-wrap:anywhere}#told div:first-child{font-weight:bold}
+#links div{break-inside:avoid;padding-left:1.5em;text-indent:-1.5em;overflow-wrap:anywhere}#links div:first-child{font-weight:bold}
 .row{outline:none;cursor:pointer}.row.on .back{fill-opacity:.5}.row.near .back{fill-opacity:.2}.row.on .bar,.row.near .bar{stroke-width:3}
-@media print{#told{display:none}main{padding:0;overflow:visible}}
+@media print{#links{display:none}main{padding:0;overflow:visible}}
 """
 
 SCRIPT = """
 "use strict";
-const told = document.getElementById("told");
+const panel = document.getElementById("links");
 const rows = Array.from(document.querySelectorAll("g.row"));
 const partners = JSON.parse(document.getElementById("partners").textContent);
 let marked = [];
-let kept = null;
+let pinned = null;
 const mark = (row, name) => { row.classList.add(name); marked.push(row); };
 const line = (text) => {
   const part = document.createElement("div");
@@ -43,14 +43,14 @@ rows.forEach((row, place) => {
     if (marked[0] === row) return;
     marked.forEach((one) => one.classList.remove("on", "near"));
     marked = [];
-    told.replaceChildren(...words.split("\\n").map(line));
-    told.scrollTop = 0;
+    panel.replaceChildren(...words.split("\\n").map(line));
+    panel.scrollTop = 0;
     mark(row, "on");
     partners[place].forEach((other) => mark(rows[other], "near"));
   };
-  row.addEventListener("pointermove", () => { if (kept === null) show(); });
-  row.addEventListener("focus", () => { if (kept === null) show(); });
-  row.addEventListener("click", () => { kept = kept === row ? null : row; show(); });
+  row.addEventListener("pointermove", () => { if (pinned === null) show(); });
+  row.addEventListener("focus", () => { if (pinned === null) show(); });
+  row.addEventListener("click", () => { pinned = pinned === row ? null : row; show(); });
 });
 """
 """Words go in by `textContent` alone. Without the script a browser shows them beside the pointer, as any title of SVG."""
@@ -66,6 +66,6 @@ def page(timeline: Timeline) -> str:
         f'<meta http-equiv="Content-Security-Policy" content="{policy}"/>\n'
         f"<title>Timeline of {escaped(plain(timeline.title))}</title>\n<style>{STYLE}</style>\n</head>\n<body>\n"
         f"<main>\n{drawing(timeline)}</main>\n"
-        '<div id="told" role="status">Point at a row, or go to it with the tabulator, to see its links; a click keeps them here.</div>\n'
+        '<div id="links" role="status">Point at a row, or go to it with the tabulator, to see its links; a click keeps them here.</div>\n'
         f'<script type="application/json" id="partners">{partners}</script>\n<script>{SCRIPT}</script>\n</body>\n</html>\n'
     )

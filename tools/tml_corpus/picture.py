@@ -132,12 +132,12 @@ def axis(layout: Layout, top: float, bottom: float) -> str:
 
 
 def drawn_row(row: Row, place: int, layout: Layout, top: float) -> str:
-    """One interval: its text and name, its dates, its bar, and what is told where it is pointed at."""
+    """One interval: its text and name, its dates, its bar, and what is shown where it is pointed at."""
     y = top + ROW * place
     text, name = label(row)
     called = f' <tspan class="name">{escaped(name)}</tspan>' if name else ""
     parts = [
-        f'<g class="row {row.kind}"><title>{escaped(row.told())}</title>',
+        f'<g class="row {row.kind}"><title>{escaped(row.description())}</title>',
         f'<rect class="back" y="{number(y)}" width="{number(layout.width())}" height="{ROW}"/>',
         f'<text x="{MARGIN}" y="{number(y + 15)}">{escaped(text)}{called}</text>',
     ]

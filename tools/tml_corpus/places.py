@@ -5,12 +5,18 @@ one. A byte order mark at the beginning is not counted. LF and CR LF end a line;
 that has no LF at all, as old Macintosh programs wrote them, and else counts as a character. vim and Emacs see it so.
 """
 
+import re
 import unicodedata
-from bisect import bisect_right
+from bisect import bisect_left, bisect_right
 from dataclasses import dataclass
+from itertools import pairwise
 
 BYTE_ORDER_MARK = b"\xef\xbb\xbf"
 SHOWN_WIDTH = 160
+FARTHEST = 4 * SHOWN_WIDTH
+"""So many bytes around a place have all that is shown of its line."""
+
+BLOCK = 4096
 
 
 @dataclass(frozen=True)
@@ -23,35 +29,65 @@ class Place:
 
 
 class Places:
-    """The lines of one document."""
+    """The lines of one document, which may be one line of four million characters, or four million lines.
+
+    What stands before every block of the document is counted once, so that a place is found by looking at one block.
+    """
 
     def __init__(self, document: bytes) -> None:
         self.document = document
-        end = b"\n" if b"\n" in document else b"\r"
-        self.starts = [len(BYTE_ORDER_MARK) if document.startswith(BYTE_ORDER_MARK) else 0]
-        self.last = Place(self.starts[0], 1, 1)
-        at = document.find(end)
-        while at >= 0:
-            self.starts.append(at + 1)
-            at = document.find(end, at + 1)
+        self.end = b"\n" if b"\n" in document else b"\r"
+        self.begin = len(BYTE_ORDER_MARK) if document.startswith(BYTE_ORDER_MARK) else 0
+        self.blocks = [self.begin, *(boundary(document, at) for at in range(self.begin + BLOCK, len(document), BLOCK))]
+        self.ends, self.characters, self.starts = [0], [0], [self.begin]
+        for first, last in pairwise(self.blocks):
+            self.ends.append(self.ends[-1] + document.count(self.end, first, last))
+            self.characters.append(self.characters[-1] + len(characters(document[first:last])))
+            self.starts.append(max(document.rfind(self.end, first, last) + 1, self.starts[-1]))
 
     def place(self, offset: int) -> Place:
-        """The place of an offset; one inside the byte order mark is the first place.
+        """The place of an offset; one inside the byte order mark is the first place."""
+        number = max(bisect_right(self.blocks, offset) - 1, 0)
+        first = self.blocks[number]
+        line = 1 + self.ends[number] + self.document.count(self.end, first, max(offset, first))
+        start = max(self.document.rfind(self.end, first, max(offset, first)) + 1, self.starts[number])
+        return Place(offset, line, 1 + self.characters_before(offset) - self.characters_before(start))
 
-        It is counted from the place that was asked before, where that lies on the same line, since lines may be long.
-        """
-        line = max(bisect_right(self.starts, offset), 1)
-        start, column = self.starts[line - 1], 1
-        if self.last.line == line and start <= self.last.offset <= offset:
-            start, column = self.last.offset, self.last.column
-        self.last = Place(offset, line, column + len(characters(self.document[start:offset])))
-        return self.last
+    def characters_before(self, offset: int) -> int:
+        """How many characters stand before an offset, without a byte order mark."""
+        number = max(bisect_right(self.blocks, offset) - 1, 0)
+        return self.characters[number] + len(characters(self.document[self.blocks[number] : offset]))
 
     def line_text(self, line: int) -> str:
         """The characters of a line without its end."""
-        start = self.starts[line - 1]
-        end = self.starts[line] if line < len(self.starts) else len(self.document)
-        return characters(self.document[start:end].rstrip(b"\r\n"))
+        number = bisect_left(self.ends, line - 1) - 1 if line > 1 else 0
+        start, left = self.blocks[number] if line > 1 else self.begin, line - 1 - self.ends[number]
+        for _ in range(left):
+            start = self.document.index(self.end, start) + 1
+        end = self.document.find(self.end, start)
+        return characters(self.document[start : end if end >= 0 else len(self.document)].rstrip(b"\r\n"))
+
+    def excerpt(self, place: Place) -> tuple[str, int]:
+        """The part of the line around a place that is shown, and the column of the place in it."""
+        farthest = max(place.offset - FARTHEST, 0)
+        first = self.document.rfind(self.end, farthest, place.offset) + 1 or (farthest and boundary(self.document, farthest)) or self.begin
+        last = boundary(self.document, place.offset + FARTHEST)
+        end = self.document.find(self.end, place.offset, last)
+        part = characters(self.document[first : end if end >= 0 else last].rstrip(b"\r\n"))
+        return part, 1 + len(characters(self.document[first : place.offset]))
+
+    def marked(self, start: Place, end: Place) -> list[str]:
+        """The line where a stretch begins, and below it a mark under as much of the stretch as lies there; of a long line the part around it."""
+        text, column = self.excerpt(start)
+        return caret_lines(text, column, end.column - start.column if end.line == start.line else len(text))
+
+
+def boundary(document: bytes, at: int) -> int:
+    """The first place from here on that is not within a character: no character has more than three bytes after its first."""
+    last = min(at + 3, len(document))
+    while at < last and 0x80 <= document[at] < 0xC0:
+        at += 1
+    return min(at, len(document))
 
 
 def characters(text: bytes) -> str:
@@ -59,13 +95,19 @@ def characters(text: bytes) -> str:
     return text.decode("utf-8", "surrogateescape")
 
 
-def caret_lines(text: str, column: int) -> list[str]:
-    """The line of the source and a caret below the column; of a long line the part around it."""
+def caret_lines(text: str, column: int, count: int = 1) -> list[str]:
+    """The line of the source, and below it a mark under so many characters from the column on; of a long line the part around it."""
     begin = max(0, column - 1 - SHOWN_WIDTH // 2) if len(text) > SHOWN_WIDTH else 0
     part = text[begin : begin + SHOWN_WIDTH]
-    shown = "".join(drawn(character) for character in part)
-    before = "".join(drawn(character) for character in part[: column - 1 - begin])
-    return ["    " + shown, "    " + " " * sum(width(character) for character in before) + "^"]
+    shown = no_command("".join(drawn(character) for character in part))
+    blanks = sum(width(drawn(character)) for character in part[: column - 1 - begin])
+    under = sum(width(drawn(character)) for character in part[column - 1 - begin :][:count])
+    return ["    " + shown.rstrip(), "    " + " " * blanks + "^" + "~" * (under - 1)]
+
+
+def no_command(line: str) -> str:
+    """A line without what GitHub and Azure take for a command in a log."""
+    return re.sub(r"^( *):(?=:)|#(?=#(?:\[|vso))", "\\g<1>\ufffd", line)
 
 
 def drawn(character: str) -> str:

@@ -12,8 +12,13 @@ from collections import deque
 from collections.abc import Callable, Iterable, Iterator, Sequence
 from concurrent.futures import Future, ProcessPoolExecutor, wait
 from concurrent.futures.process import BrokenProcessPool
+from contextlib import contextmanager
 from itertools import islice
+from multiprocessing.synchronize import Lock
 from typing import TypeVar
+
+from .running import CannotRun, end_all
+from .units import Room
 
 Item = TypeVar("Item")
 Result = TypeVar("Result")
@@ -26,7 +31,7 @@ PATIENCE = 0.5
 
 
 class Interruption:
-    """Notes the first Ctrl-C, so that what was judged can still be told; a second one ends the program at once."""
+    """Notes the first Ctrl-C, so that what was judged can still be reported; a second one ends the program and its children at once."""
 
     def __init__(self) -> None:
         self.happened = threading.Event()
@@ -40,8 +45,11 @@ class Interruption:
 
     def note(self, number: int, frame: object) -> None:
         """Is called by the signal."""
+        if self.happened.is_set():
+            signal.signal(signal.SIGINT, signal.SIG_DFL)
+            end_all()
+            os.kill(os.getpid(), signal.SIGINT)
         self.happened.set()
-        signal.signal(signal.SIGINT, signal.SIG_DFL)
 
 
 def processors() -> int:
@@ -52,10 +60,10 @@ def processors() -> int:
 def in_order(
     work: Callable[[Item], Result], items: Sequence[Item], workers: int, stop: Interruption, lost: Callable[[Item], Result]
 ) -> Iterator[Result]:
-    """The results of the items in their order. After an interruption no item is begun; what was begun is still told.
+    """The results of the items in their order. After an interruption no item is begun; what was begun is still reported.
 
     The work is done in processes of Python, since much of it is to start `tml` again and again, which threads would do
-    one after the other. Where such a process is ended from outside, as where it is out of memory, the items that were not told
+    one after the other. Where such a process is ended from outside, as where it is out of memory, the items that were not reported
     yet are begun again one at a time, until the one that ends its process again is met: its result is made by `lost`.
     """
     left = deque(items)
@@ -80,34 +88,53 @@ def in_order(
 
 def at_once(work: Callable[[Item], Result], items: Iterable[Item], workers: int, stop: Interruption) -> Iterator[Result]:
     """The same by so many processes, as long as none of them is ended from outside."""
+    waiting: deque[Future[Result]] = deque()
+    rest = iter(list(items))
     with pool_of(workers) as pool:
-        waiting: deque[Future[Result]] = deque()
-        rest = iter(list(items))
-        while True:
-            for item in islice(rest, 0 if stop.happened.is_set() else AHEAD - len(waiting)):
-                waiting.append(pool.submit(work, item))
-            if not waiting:
-                return
-            if stop.happened.is_set():
-                yield from [future.result() for future in waiting if not future.cancel()]
-                return
-            if not wait([waiting[0]], PATIENCE).done:
-                continue
-            yield waiting.popleft().result()
+        try:
+            while True:
+                for item in islice(rest, 0 if stop.happened.is_set() else AHEAD - len(waiting)):
+                    waiting.append(pool.submit(work, item))
+                if not waiting:
+                    return
+                if stop.happened.is_set():
+                    # All that was not begun is cancelled before what was begun is waited for, so that no more is begun meanwhile.
+                    begun = [future for future in waiting if not future.cancel()]
+                    yield from [future.result() for future in begun]
+                    return
+                if wait([waiting[0]], PATIENCE).done:
+                    yield waiting.popleft().result()
+        finally:
+            for future in waiting:
+                future.cancel()
 
 
-def pool_of(workers: int) -> ProcessPoolExecutor:
-    """So many processes, which leave Ctrl-C to the program."""
-    return ProcessPoolExecutor(workers, multiprocessing.get_context("fork"), prepare_worker, (os.getpid(),))
+@contextmanager
+def pool_of(workers: int) -> Iterator[ProcessPoolExecutor]:
+    """So many processes, which leave Ctrl-C to the program, and end at once where it is no more: then the pipe that it holds is closed."""
+    context = multiprocessing.get_context("fork")
+    watched, held = os.pipe()
+    try:
+        try:
+            pool = ProcessPoolExecutor(workers, context, prepare_worker, (watched, held, context.Lock()))
+        except OSError as error:
+            raise CannotRun(f"processes of Python cannot share a lock here, which needs some room in /dev/shm: {error}") from None
+        with pool:
+            yield pool
+    finally:
+        os.close(watched)
+        os.close(held)
 
 
-def prepare_worker(parent: int) -> None:
-    """Lets a worker leave Ctrl-C to the program, and end when the program is no more."""
+def prepare_worker(watched: int, held: int, lock: Lock) -> None:
+    """Lets a worker leave Ctrl-C to the program, and end when the program is no more, with the `tml` that it has started."""
     signal.signal(signal.SIGINT, signal.SIG_IGN)
+    os.close(held)
+    Room.share(lock)
 
     def watch() -> None:
-        while os.getppid() == parent:
-            time.sleep(1)
+        os.read(watched, 1)
+        end_all()
         os._exit(1)
 
     threading.Thread(target=watch, daemon=True).start()

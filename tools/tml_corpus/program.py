@@ -1,43 +1,41 @@
-"""Running `tml`: where the program lies, and one question to it."""
+"""The program `tml`: where it lies, and one question to it."""
+
+from __future__ import annotations
 
 import io
 import os
 import shutil
-import subprocess
 from collections.abc import Iterator
 from dataclasses import dataclass
-from typing import IO, Any
+from typing import IO
 
-DOCUMENT_LIMIT = 4_194_304
-"""The number of bytes that `tml` takes of a document."""
+from .replies import longest, refusal
+from .running import CannotRun, run
+from .statuses import DOCUMENT_LIMIT, MEANINGS, TmlStatus
 
-SECONDS = 300.0
-"""No question takes `tml` more than a second or two; a run that is longer than this is given up."""
+__all__ = ["ACCEPTED", "CLASH", "DOCUMENT_LIMIT", "FAULT", "MEANINGS", "CannotRun", "Program", "Reply", "find_program"]
 
-ACCEPTED, FAULT, CLASH, READ_FAULT, NO_MEMORY, TOO_LONG = 0, 1, 2, 4, 6, 9
-
-MEANINGS = {
-    READ_FAULT: "tml cannot read the file",
-    NO_MEMORY: "tml ran out of memory",
-    TOO_LONG: f"the file has more than {DOCUMENT_LIMIT:,} bytes",
-}
-
-
-class CannotRun(Exception):
-    """The program could not be started, took too long, or ended in a way that it never should."""
+ACCEPTED, FAULT, CLASH = TmlStatus.DONE, TmlStatus.DOC_FAULT, TmlStatus.CLASH
 
 
 @dataclass(frozen=True)
 class Reply:
-    """What `tml` answered: its status and its text."""
+    """What `tml` answered: its status and its text; with the command, and the number of bytes of the document where it is known."""
 
     status: int
     text: bytes
+    command: str = "check"
+    size: int | None = None
 
     def lines(self) -> Iterator[list[str]]:
         """The lines of the text one by one, cut into words; names may hold any bytes and are kept by surrogates."""
         for line in io.BytesIO(self.text):
             yield line.rstrip(b"\n").decode("utf-8", "surrogateescape").split(" ")
+
+    def problem(self) -> str:
+        """Why a reply that is no judgement is none."""
+        known = MEANINGS.get(self.status)  # type: ignore[call-overload]
+        return known or f"tml answered status {self.status}, which `{self.command}` should not"
 
 
 def find_program(chosen: str | None) -> str:
@@ -69,28 +67,15 @@ class Program:
     def ask(self, words: list[str], document: bytes | IO[bytes], folder: str | None = None) -> Reply:
         """Runs `tml` with the words, in the folder, and with the document or an open file as its standard input.
 
-        So the names of documents are no words of `tml`, which takes none that is not UTF-8. No shell is used. The child
-        gets a session of its own, so that Ctrl-C ends this program in its own way and does not kill a judgement half-way.
+        So the names of documents are no words of `tml`, which takes none that is not UTF-8. A reply that is not believed is
+        raised as a problem.
         """
-        given: dict[str, Any] = {"input": document} if isinstance(document, bytes) else {"stdin": document}
-        try:
-            done = subprocess.run(
-                [self.path, *words],
-                stdout=subprocess.PIPE,
-                stderr=subprocess.DEVNULL,
-                timeout=SECONDS,
-                cwd=folder,
-                start_new_session=True,
-                check=False,
-                **given,
-            )
-        except subprocess.TimeoutExpired:
-            raise CannotRun(f"tml took longer than {SECONDS:.0f} seconds") from None
-        except (OSError, ValueError) as error:
-            raise CannotRun(f"tml could not be run: {error}") from None
-        if done.returncode < 0:
-            raise CannotRun(f"tml was ended by signal {-done.returncode}")
-        return Reply(done.returncode, done.stdout)
+        size = len(document) if isinstance(document, bytes) else None
+        status, text = run([self.path, *words], document, folder, longest(words[0]))
+        problem = refusal(words, status, text, size)
+        if problem is not None:
+            raise CannotRun(problem)
+        return Reply(status, text, words[0], size)
 
     def check(self, document: bytes | IO[bytes]) -> Reply:
         """`tml check` of a document in memory or of an open file."""

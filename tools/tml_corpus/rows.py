@@ -36,7 +36,7 @@ class Row:
         first, last = short if all(len(text) < len(civil) for text, civil in zip(short, self.civil, strict=True)) else self.civil
         return f"within {first} – {last}" if self.kind == "within" else f"{first} – {last}"
 
-    def told(self) -> str:
+    def description(self) -> str:
         """All that is known of it, in lines: its whole text, ranks and dates, and each of its links."""
         label = f"{plain(self.text)} ({self.name})" if plain(self.text) else self.name
         lines = [f"{label}: {KINDS[self.kind]}, ranks {self.start} to {self.finish}"]

@@ -2,15 +2,19 @@
 
 from __future__ import annotations
 
+import re
 from dataclasses import dataclass, field
 
 from .faults import BAD_MARKUP, UNKNOWN_TAG, read_fault
 from .files import CannotRead, Found, read_document, shown
 from .places import Place, Places
-from .program import FAULT, MEANINGS, CannotRun, Program, Reply
+from .program import FAULT, CannotRun, Program, Reply
 from .units import read_units, room_for
 
 MOST_BLANKS = 100
+MOST_BYTES = 32 * 1024 * 1024
+"""So much is asked about one document at most: about the longest ones eight times."""
+
 MOST_NAMES = 2000
 """So many names are asked about, the frequent ones first; a corpus has some dozens."""
 
@@ -42,13 +46,10 @@ def names_of(program: Program, path: str, document: bytes) -> Names:
     """The names in a document."""
     reply, remark = cut(program, document)
     if reply.status != 0:
-        return Names(path, problem=MEANINGS.get(reply.status, f"tml answered status {reply.status}"))
+        return Names(path, problem=reply.problem())
     names, places = Names(path, remark=remark), Places(document)
-    for unit in read_units(reply):
-        if unit.opens():
-            names.counts[unit.name] = names.counts.get(unit.name, 0) + 1
-            if unit.name not in names.firsts:
-                names.firsts[unit.name] = places.place(unit.start)
+    for name, (count, first) in read_units(reply).counts().items():
+        names.counts[name], names.firsts[name] = count, places.place(first)
     return names
 
 
@@ -63,9 +64,9 @@ def cut(program: Program, document: bytes) -> tuple[Reply, str | None]:
     if first is None:
         return reply, None
     remark = f"has fault {first.title()}; its tags are counted all the same"
-    changed = "".join("?" if "\udc80" <= letter <= "\udcff" else letter for letter in document.decode("utf-8", "surrogateescape"))
+    changed = re.sub("[\udc80-\udcff]", "?", document.decode("utf-8", "surrogateescape"))
     document = changed.encode("utf-8").replace(b"&", b" ")
-    for _ in range(MOST_BLANKS):
+    for _ in range(min(MOST_BLANKS, MOST_BYTES // max(len(document), 1))):
         reply = program.spans(document)
         fault = read_fault(reply.text) if reply.status == FAULT else None
         if fault is None or fault.number != BAD_MARKUP:

@@ -4,17 +4,20 @@ from __future__ import annotations
 
 import os
 import re
-import secrets
-from dataclasses import dataclass
+from dataclasses import dataclass, replace
 
-from .check import judge_document, problem_of
-from .clashes import clash_of, kept
-from .files import CannotRead, counted, read_document, reason, shown
+from . import clash_formats
+from .check import judge_document
+from .clash_report import Wanted
+from .clash_search import report_of
+from .clashes import verify_timeline
+from .files import CannotRead, Found, counted, read_document, reason, shown, written
 from .formats import make_format
 from .page import page
 from .picture import svg
 from .program import ACCEPTED, CLASH, FAULT, CannotRun, Program, Reply
 from .rows import Row, Timeline
+from .touching import touching_copy
 from .units import room_for
 from .words import Wording
 
@@ -23,7 +26,7 @@ FORMS = {".svg": svg, ".html": page, ".htm": page}
 
 
 @dataclass(frozen=True)
-class Told:
+class Drawn:
     """What is printed of a document, its status, and the picture where there is one."""
 
     text: str
@@ -39,55 +42,53 @@ def form_of(target: str) -> str:
     return end
 
 
-def draw(program: Program, path: str, target: str, terminal: bool) -> Told:
-    """The picture of the timeline of one file, or why there is none."""
+def draw(program: Program, path: str, target: str, touching: bool) -> Drawn:
+    """The picture of the timeline of one file, or why there is none; links between dates that touch may be read so."""
     try:
         document = read_document(path)
         if os.path.exists(target) and os.path.samefile(path, target):
             raise CannotRead("the picture would be written over it")
         with room_for(document):
-            return draw_document(program, path, document, target, terminal)
+            return draw_document(program, path, document, target, touching)
     except (CannotRead, CannotRun) as problem:
-        return Told(f"{shown(path)}: not judged: {shown(str(problem))}\n", 2)
+        return Drawn(f"{shown(path)}: not judged: {shown(str(problem))}\n", 2)
 
 
-def draw_document(program: Program, path: str, document: bytes, target: str, terminal: bool) -> Told:
+def draw_document(program: Program, path: str, document: bytes, target: str, touching: bool) -> Drawn:
     """The picture of a document in memory, or its fault, or the links that clash."""
     reply = program.ask(["solve", "-"], document)
     if reply.status == FAULT:
-        return fault_of(program, path, document, terminal)
+        return fault_of(program, path, document)
     if reply.status == CLASH:
-        return links_of(program, path, document)
+        return links_of(program, path, document, target, touching, reply)
     if reply.status != ACCEPTED:
-        raise CannotRun(problem_of(reply) or "the answer of tml to `solve` cannot be read")
+        raise CannotRun(reply.problem())
     timeline = verified(program, path, document, reply)
-    told = f"{counted(len(timeline.rows), 'interval')}, {counted(timeline.links, 'link')}, ranks 0 to {timeline.greatest()}"
-    return Told(f"{shown(path)}: drawn in {shown(target)}: {told}\n", 0, FORMS[form_of(target)](timeline))
+    counts = f"{counted(len(timeline.rows), 'interval')}, {counted(timeline.links, 'link')}, ranks 0 to {timeline.greatest()}"
+    return Drawn(f"{shown(path)}: drawn in {shown(target)}: {counts}\n", 0, FORMS[form_of(target)](timeline))
 
 
-def fault_of(program: Program, path: str, document: bytes, terminal: bool) -> Told:
-    """The fault of a document, as `tml-corpus check` tells it."""
-    judgement = judge_document(program, path, document, terminal, 0)
+def fault_of(program: Program, path: str, document: bytes) -> Drawn:
+    """The fault of a document, as `tml-corpus check` prints it."""
+    judgement = judge_document(program, path, document, True, 0)
     if judgement.accepted():
         raise CannotRun("the answers of tml to `solve` and `check` do not belong together")
-    return Told(make_format("text", terminal).file(judgement), 2 if judgement.problem else 1)
+    return Drawn(make_format("text", True).file(judgement), 2 if judgement.problem else 1)
 
 
-def links_of(program: Program, path: str, document: bytes) -> Told:
-    """The links that clash, as `tml-corpus clashes` tells them."""
-    report = clash_of(program, path, document, None)
-    if not report.links:
-        raise CannotRun(report.problem or "two answers of tml to `solve` do not belong together")
-    return Told(f"{report.text()}{shown(path)}: not drawn: no timeline fits, since these links clash\n", 1)
+def links_of(program: Program, path: str, document: bytes, target: str, touching: bool, reply: Reply) -> Drawn:
+    """The links that clash, as `tml-corpus clashes` prints them; the picture where they clash only since dates touch, and may be read so."""
+    report = report_of(program, Found(path), document, Wanted(touching=touching), reply)
+    text = clash_formats.Text(True).file(report)
+    if report.clashes:
+        return Drawn(f"{text}{shown(path)}: not drawn: no timeline fits, since these links clash\n", 1)
+    picture = draw_document(program, path, touching_copy(program, document), target, False)
+    return replace(picture, text=text + picture.text)
 
 
 def verified(program: Program, path: str, document: bytes, reply: Reply) -> Timeline:
     """The rows of what `tml solve` printed, once `tml verify` said that it is a timeline of the document."""
-    with kept(path, reply.text, None) as evidence:
-        judged = program.ask(["verify", "-", "./" + os.path.basename(evidence)], document, os.path.dirname(evidence))
-    if judged.status != ACCEPTED or judged.text != b"verified timeline\n":
-        said = judged.text.decode("utf-8", "replace").strip()
-        raise CannotRun(f"tml verify did not accept the timeline of tml solve: {said}")
+    verify_timeline(program, path, document, reply)
     found = re.fullmatch(rb"tml-evidence 1\ntimeline \d+\n((?:at \d+ \d+\n)*)end\n", reply.text)
     if found is None:
         raise CannotRun("the answer of tml to `solve` cannot be read")
@@ -127,14 +128,10 @@ def row_of(wording: Wording, number: int, ranks: tuple[int, int]) -> Row:
     return Row(name, wording.whole_text_of(name), kind, *ranks, civil=tuple(numbers[2:]))
 
 
-def written(target: str, text: str) -> None:
-    """Writes a picture: under another name first, so that no file is left half written."""
-    temporary = os.path.join(os.path.dirname(os.path.abspath(target)), f".tml-{secrets.token_hex(8)}")
+def write_picture(target: str, text: str) -> None:
+    """Writes a picture."""
     try:
-        with open(temporary, "x", encoding="utf-8", newline="\n") as file:
-            file.write(text)
-        os.replace(temporary, target)
+        with written(target) as file:
+            file.write(text.encode("utf-8"))
     except (OSError, ValueError) as error:
-        if os.path.lexists(temporary):
-            os.unlink(temporary)
         raise CannotRun(f"{target} cannot be written: {reason(error)}") from None

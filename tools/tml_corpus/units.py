@@ -1,17 +1,25 @@
-"""The units of a document, as `tml spans` tells them: tags, attributes and texts with their places."""
+"""The units of a document, as `tml spans` prints them: tags, attributes and texts with their places."""
 
 from __future__ import annotations
 
-import multiprocessing
+import threading
+from array import array
+from bisect import bisect_left
 from collections.abc import Iterator, Sequence
-from contextlib import contextmanager
+from contextlib import AbstractContextManager, contextmanager
 from dataclasses import dataclass
-from sys import intern
+from typing import overload
 
 from .program import CannotRun, Program, Reply
 
 MANY_BYTES = 256 * 1024
-ONE_AT_A_TIME = multiprocessing.get_context("fork").Lock()
+CHUNK = 256 * 1024
+SHOWN = 80
+
+KINDS = ("start", "empty", "end", "attribute", "text", "comment", "bom", "declaration", "doctype")
+START, EMPTY, END, ATTRIBUTE, TEXT = range(5)
+CODES = {kind.encode(): code for code, kind in enumerate(KINDS)}
+NAMELESS = tuple(b" %s\n" % kind.encode() for kind in KINDS[TEXT:])
 
 
 @dataclass(frozen=True, slots=True)
@@ -29,8 +37,8 @@ class Attribute:
 
     def written(self, document: bytes) -> str:
         """The attribute as it is written, cut where it is long."""
-        text = document[self.start : self.end].decode("utf-8", "surrogateescape")
-        return text if len(text) <= 80 else text[:77] + "..."
+        text = document[self.start : min(self.end, self.start + 4 * SHOWN + 4)].decode("utf-8", "surrogateescape")
+        return text if len(text) <= SHOWN else text[: SHOWN - 3] + "..."
 
 
 @dataclass(slots=True)
@@ -54,80 +62,225 @@ class Unit:
                 return attribute.value(document).decode("utf-8", "surrogateescape")
         return None
 
-    def told(self) -> str:
-        """What it is, in words."""
-        words = {"start": f"<{self.name}>", "end": f"</{self.name}>", "empty": f"<{self.name}/>"}
-        return words.get(self.kind, "a " + self.kind)
+
+class Numbers(dict[bytes, int]):
+    """Numbers for words: from 0 on, in the order in which they are asked for."""
+
+    def __missing__(self, word: bytes) -> int:
+        self[word] = number = len(self)
+        return number
+
+
+class Units(Sequence[Unit]):
+    """The units of a document in their order, one after another without a gap.
+
+    A document may have two million of them, so they lie in arrays, a row for each unit and for each attribute after its tag,
+    and a `Unit` is made where it is looked at.
+    """
+
+    def __init__(self) -> None:
+        self.starts, self.ends, self.kinds, self.names = array("I"), array("I"), bytearray(), array("I")
+        self.rows: Sequence[int] = range(0)
+        self.places = self.starts
+        self.ids = Numbers()
+        self.words: list[str] = []
+
+    def add(self, lines: bytes) -> None:
+        """Adds rows, from some lines of the table. So that each line has four words, units without a name get one."""
+        for line_end in NAMELESS:
+            lines = lines.replace(line_end, line_end[:-1] + b" -\n")
+        words = lines.split()
+        self.starts.extend(map(int, words[0::4]))
+        self.ends.extend(map(int, words[1::4]))
+        self.kinds.extend(map(CODES.__getitem__, words[2::4]))
+        self.names.extend(map(self.ids.__getitem__, words[3::4]))
+        if not len(self.starts) == len(self.ends) == len(self.kinds) == len(self.names):
+            raise ValueError
+
+    def finish(self, size: int | None) -> None:
+        """Once all rows are there: finds the units among them, and sees that these follow each other over the whole document."""
+        self.words = [word.decode("utf-8", "surrogateescape") for word in self.ids]
+        self.ids.clear()
+        ends = self.ends
+        if ATTRIBUTE in self.kinds:
+            self.rows = array("I", [row for row, kind in enumerate(self.kinds) if kind != ATTRIBUTE])
+            self.places, ends = array("I", map(self.starts.__getitem__, self.rows)), array("I", map(self.ends.__getitem__, self.rows))
+        else:
+            self.rows = range(len(self.kinds))
+        whole = ends[-1] if ends else 0
+        if self.places[1:] != ends[:-1] or self.places[:1] not in (array("I"), array("I", [0])) or whole != (whole if size is None else size):
+            raise ValueError
+
+    def __len__(self) -> int:
+        return len(self.rows)
+
+    @overload
+    def __getitem__(self, index: int) -> Unit: ...
+
+    @overload
+    def __getitem__(self, index: slice) -> list[Unit]: ...
+
+    def __getitem__(self, index: int | slice) -> Unit | list[Unit]:
+        if isinstance(index, slice):
+            return [self.unit(row) for row in self.rows[index]]
+        return self.unit(self.rows[index])
+
+    def __iter__(self) -> Iterator[Unit]:
+        return map(self.unit, self.rows)
+
+    def unit(self, row: int) -> Unit:
+        """The unit of a row."""
+        kind = self.kinds[row]
+        name = self.words[self.names[row]] if kind <= END else ""
+        attributes = self.attributes(row + 1) if kind <= EMPTY else ()
+        return Unit(self.starts[row], self.ends[row], KINDS[kind], name, attributes)
+
+    def attributes(self, row: int) -> Sequence[Attribute]:
+        """The attributes that stand from a row on."""
+        last = row
+        while last < len(self.kinds) and self.kinds[last] == ATTRIBUTE:
+            last += 1
+        return [Attribute(self.words[self.names[one]], self.starts[one], self.ends[one]) for one in range(row, last)]
+
+    def opening(self, *names: str) -> list[Unit]:
+        """The start and empty tags of these names."""
+        wanted = {number for number, word in enumerate(self.words) if word in names}
+        kinds, rows = self.kinds, self.names
+        return [self.unit(row) for row, name in enumerate(rows) if name in wanted and kinds[row] <= EMPTY]
+
+    def named(self, *names: str) -> list[Unit]:
+        """The tags of these names, end tags included."""
+        wanted = {number for number, word in enumerate(self.words) if word in names}
+        kinds, rows = self.kinds, self.names
+        return [self.unit(row) for row, name in enumerate(rows) if name in wanted and kinds[row] <= END]
+
+    def counts(self) -> dict[str, tuple[int, int]]:
+        """How many start and empty tags there are of each name, and where the first one is, in the order of these places."""
+        counts: dict[int, int] = {}
+        firsts: dict[int, int] = {}
+        for row, (kind, name) in enumerate(zip(self.kinds, self.names, strict=True)):
+            if kind <= EMPTY:
+                counts[name] = counts.get(name, 0) + 1
+                firsts.setdefault(name, row)
+        return {self.words[name]: (count, self.starts[firsts[name]]) for name, count in counts.items()}
+
+    def tag_names(self) -> set[str]:
+        """The names of the tags."""
+        return {self.words[name] for name in {name for name, kind in zip(self.names, self.kinds, strict=True) if kind <= END}}
+
+    def first_tag(self) -> Unit | None:
+        """The first start or empty tag."""
+        row = next((row for row, kind in enumerate(self.kinds) if kind <= EMPTY), None)
+        return None if row is None else self.unit(row)
+
+    def last_tag_before(self, offset: int) -> Unit | None:
+        """The last tag that begins before a place."""
+        rows = self.rows[: bisect_left(self.places, offset)]
+        row = next((row for row in reversed(rows) if self.kinds[row] <= END), None)
+        return None if row is None else self.unit(row)
+
+    def after(self, offset: int) -> Iterator[Unit]:
+        """The units that begin after a place."""
+        return map(self.unit, self.rows_from(offset + 1))
+
+    def rows_from(self, offset: int) -> Sequence[int]:
+        """The rows of the units that begin at a place or after it."""
+        return self.rows[bisect_left(self.places, offset) :]
+
+    def end_tags(self) -> dict[int, int]:
+        """The numbers of the end tags that belong to start tags, by the places of these, as `end_of` says it of one."""
+        found: dict[int, int] = {}
+        open_tags: dict[int, list[int]] = {}
+        for number, row in enumerate(self.rows):
+            kind = self.kinds[row]
+            if kind == START:
+                open_tags.setdefault(self.names[row], []).append(self.starts[row])
+            elif kind == END and open_tags.get(self.names[row]):
+                found[open_tags[self.names[row]].pop()] = number
+        return found
+
+
+class Room:
+    """The lock that lets long documents be taken apart one at a time, since the units of one may take some hundred MiB.
+
+    A pool of processes sets one that they share; else it is made where it is needed, and shared by the threads.
+    """
+
+    locks: dict[str, AbstractContextManager[object]] = {}
+
+    @classmethod
+    def share(cls, lock: AbstractContextManager[object]) -> None:
+        """Sets the lock."""
+        cls.locks["lock"] = lock
+
+    @classmethod
+    def lock(cls) -> AbstractContextManager[object]:
+        """The lock."""
+        return cls.locks.setdefault("lock", threading.Lock())
 
 
 @contextmanager
 def room_for(document: bytes) -> Iterator[None]:
-    """Lets long documents be taken apart one at a time, since the units of one may take some hundred MiB."""
+    """Lets long documents be taken apart one at a time."""
     if len(document) <= MANY_BYTES:
         yield
         return
-    with ONE_AT_A_TIME:
+    with Room.lock():
         yield
 
 
-def units_of(program: Program, document: bytes) -> list[Unit] | None:
+def units_of(program: Program, document: bytes) -> Units | None:
     """The units of a document, or None where it cannot be cut into units whole (faults 1 to 3) or was not read."""
     reply = program.spans(document)
     return read_units(reply) if reply.status == 0 else None
 
 
-def read_units(reply: Reply) -> list[Unit]:
-    """The units that the table tells."""
+def read_units(reply: Reply) -> Units:
+    """The units that the table has."""
+    units, begin = Units(), 0
     try:
-        return read_table(reply)
-    except (ValueError, IndexError):
+        while begin < len(reply.text):
+            end = reply.text.index(b"\n", min(begin + CHUNK, len(reply.text) - 1)) + 1
+            units.add(reply.text[begin:end])
+            begin = end
+        units.finish(reply.size)
+    except (ValueError, KeyError, IndexError, OverflowError):
         raise CannotRun("the answer of tml to `spans` cannot be read") from None
-
-
-def read_table(reply: Reply) -> list[Unit]:
-    """The units, line by line."""
-    units: list[Unit] = []
-    attributes: list[Attribute] = []
-    for words in reply.lines():
-        start, end, kind = int(words[0]), int(words[1]), intern(words[2])
-        name = intern(words[3]) if len(words) > 3 else ""
-        if kind == "attribute":
-            attributes.append(Attribute(name, start, end))
-            units[-1].attributes = attributes
-        else:
-            units.append(Unit(start, end, kind, name))
-            attributes = []
     return units
 
 
-def unit_at(units: list[Unit], offset: int) -> Unit | None:
+def unit_at(units: Units, offset: int) -> Unit | None:
     """The unit that begins at a place."""
-    return next((unit for unit in units if unit.start == offset), None)
+    number = bisect_left(units.places, offset)
+    return units[number] if number < len(units) and units.places[number] == offset else None
 
 
-def open_tags(units: list[Unit], offset: int) -> list[Unit]:
+def open_tags(units: Units, offset: int) -> list[Unit]:
     """The start tags that are open before a place, the innermost one last; up to there the tags have to nest."""
-    tags: list[Unit] = []
-    for unit in units:
-        if unit.start >= offset:
-            break
-        if unit.kind == "start":
-            tags.append(unit)
-        elif unit.kind == "end" and tags:
-            tags.pop()
-    return tags
+    rows: list[int] = []
+    for row in units.rows[: bisect_left(units.places, offset)]:
+        kind = units.kinds[row]
+        if kind == START:
+            rows.append(row)
+        elif kind == END and rows:
+            rows.pop()
+    return list(map(units.unit, rows))
 
 
-def end_of(units: list[Unit], tag: Unit) -> Unit | None:
-    """The end tag that belongs to a start tag: the first one of its name that no start tag of this name between them takes."""
+def end_of(units: Units, tag: Unit) -> Unit | None:
+    """The end tag that belongs to a start tag: the first one of its name that no start tag of this name between them takes.
+
+    This looks at the units after the tag; for many tags there is `Units.end_tags`.
+    """
     depth = 0
-    for unit in units:
-        if unit.start <= tag.start or unit.name != tag.name:
+    for row in units.rows_from(tag.start + 1):
+        kind = units.kinds[row]
+        if kind not in (START, END) or units.words[units.names[row]] != tag.name:
             continue
-        if unit.kind == "start":
+        if kind == START:
             depth += 1
-        elif unit.kind == "end":
-            if depth == 0:
-                return unit
+        elif depth == 0:
+            return units.unit(row)
+        else:
             depth -= 1
     return None

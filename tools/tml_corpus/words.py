@@ -3,14 +3,18 @@
 from __future__ import annotations
 
 import html
-from bisect import bisect_left
 from dataclasses import dataclass
+from functools import cached_property
 
 from .places import Place, Places
 from .program import CannotRun, Program
-from .units import Unit, end_of, units_of
+from .texts import cut, texts_of
+from .units import Unit, Units, units_of
 
 LONGEST = 40
+"""So many characters of a text stand in a sentence."""
+
+MOST_OF_VALUE = 1000
 
 
 @dataclass(frozen=True)
@@ -27,13 +31,14 @@ class Link:
 class Wording:
     """What can be said of the intervals and links of one accepted document."""
 
-    def __init__(self, program: Program, document: bytes) -> None:
+    def __init__(self, program: Program, document: bytes, units: Units | None = None) -> None:
         self.document, self.places = document, Places(document)
-        self.units = units_of(program, document) or []
+        self.units = units or units_of(program, document) or Units()
         self.tags = {kind: self.tags_by(kind, key) for kind, key in (("EVENT", "eid"), ("MAKEINSTANCE", "eiid"), ("TIMEX3", "tid"))}
         self.texts: dict[str, str] = {}
         self.intervals: list[str] = []
         self.links: list[Link] = []
+        self.link_tags = self.units.opening("TLINK")
         try:
             self.read_check(program)
         except (ValueError, IndexError):
@@ -42,45 +47,46 @@ class Wording:
 
     def tags_by(self, kind: str, key: str) -> dict[str, Unit]:
         """The tags of a kind by their identifiers."""
-        return {unit.value_of(key, self.document) or "": unit for unit in self.units if unit.opens() and unit.name == kind}
+        return {unit.value_of(key, self.document) or "": unit for unit in self.units.opening(kind)}
 
     def read_check(self, program: Program) -> None:
         """Reads the intervals and the links from `tml check`; the links stand there in the order of the TLINK tags."""
-        tags = [unit for unit in self.units if unit.opens() and unit.name == "TLINK"]
         for words in program.check(self.document).lines():
             if words[0] == "interval":
                 self.intervals.append(words[2])
             elif words[0] == "tlink":
-                tag = tags[int(words[1])]
+                tag = self.link_tags[int(words[1])]
                 self.links.append(Link(int(words[1]), self.places.place(tag.start), words[2], words[3], words[4]))
-        if len(tags) != len(self.links):
+        if len(self.link_tags) != len(self.links):
             raise CannotRun("the answers of tml to `check` and `spans` do not belong together")
 
     def text_of(self, name: str) -> str:
         """The text of the event or time that an interval is, cut where it is long, or its name where it has none."""
-        text = self.whole_text_of(name)
-        return (text if len(text) <= LONGEST else text[: LONGEST - 3] + "...") or name
+        return cut(self.whole_text_of(name), LONGEST) or name
 
     def whole_text_of(self, name: str) -> str:
-        """The text of the event or time that an interval is; it may be empty. It is looked for once."""
+        """The text of the event or time that an interval is, cut only where it is very long; it may be empty. It is found once."""
         if name not in self.texts:
-            tag = self.tags["TIMEX3"].get(name)
-            instance = self.tags["MAKEINSTANCE"].get(name)
-            if tag is None and instance is not None:
-                tag = self.tags["EVENT"].get(instance.value_of("eventID", self.document) or "")
-            self.texts[name] = self.inner_text(tag) if tag is not None else ""
+            tag = self.tag_of(name)
+            self.texts[name] = "" if tag is None else self.inner_texts[tag.start] or cut(html.unescape(self.value_of(tag)))
         return self.texts[name]
 
-    def inner_text(self, tag: Unit) -> str:
-        """The text inside a tag, with single spaces; of an empty time its value."""
-        begin = bisect_left(self.units, tag.start, key=lambda unit: unit.start)
-        end = end_of(self.units[begin:], tag) if tag.kind == "start" else None
-        if end is None:
-            return html.unescape(tag.value_of("value", self.document) or "")
-        last = bisect_left(self.units, end.start, key=lambda unit: unit.start)
-        texts = (unit for unit in self.units[begin:last] if unit.kind == "text")
-        raw = b"".join(self.document[unit.start : unit.end] for unit in texts)
-        return " ".join(html.unescape(raw.decode("utf-8", "surrogateescape")).split())
+    def tag_of(self, name: str) -> Unit | None:
+        """The event or time that an interval is."""
+        instance = self.tags["MAKEINSTANCE"].get(name)
+        if name in self.tags["TIMEX3"] or instance is None:
+            return self.tags["TIMEX3"].get(name)
+        return self.tags["EVENT"].get(instance.value_of("eventID", self.document) or "")
+
+    def value_of(self, tag: Unit) -> str:
+        """The beginning of the value of an empty time, which stands for its text."""
+        return (tag.value_of("value", self.document) or "")[:MOST_OF_VALUE] if tag.kind == "empty" else ""
+
+    @cached_property
+    def inner_texts(self) -> dict[int, str]:
+        """The texts inside the tags of all intervals, by the places of the tags."""
+        tags = map(self.tag_of, self.intervals)
+        return texts_of(self.units, self.document, {tag.start for tag in tags if tag is not None})
 
     def in_words(self, link: Link) -> str:
         """A link in words, and beside it its number and the names of its intervals."""

@@ -1,0 +1,113 @@
+"""`tml-corpus fix`: what has one cure only is mended, and nothing else is changed."""
+
+import os
+import stat
+import unittest
+
+from corpus import EVENT, INSTANCE, CorpusTest, document
+
+TIME = '<TIMEX3 tid="t1" type="DATE" value="1998">x</TIMEX3>'
+LINK = '<TLINK eventInstanceID="i1" relatedToTime="t1" relType="BEFORE"/>'
+
+
+class Fixes(CorpusTest):
+    def read(self, name):
+        with open(self.path(name), "rb") as file:
+            return file.read()
+
+    def test_one_cure(self):
+        rows = [
+            ("AT&T &amp; S&P &#38; &eacute;&nbsp;", "AT&amp;T &amp; S&amp;P &#38; é&#160;"),
+            ("<!-- a & b -->&", "<!-- a & b -->&amp;"),
+            ("<![CDATA[a & <b>]]> &", "a &amp; &lt;b&gt; &amp;"),
+            ("<P a=\u201cx\u201d b='\u201c' c=\u2018y\u2019>\u201cz\u201d</P>", "<P a=\"x\" b='\u201c' c=\"y\">\u201cz\u201d</P>"),
+            ("<Event eid='e1' class='state'>x</event>", "<EVENT eid='e1' class='STATE'>x</EVENT>"),
+            ("<Text><P>x</p></TEXT>", "<TEXT><P>x</P></TEXT>"),
+            ('<SIGNAL Sid="s1">x</SIGNAL>', '<SIGNAL sid="s1">x</SIGNAL>'),
+            (EVENT + INSTANCE + TIME + LINK.replace("i1", "e1").replace("BEFORE", "is-included"), EVENT + INSTANCE + TIME + LINK.replace("BEFORE", "IS_INCLUDED")),
+        ]
+        for number, (inner, _) in enumerate(rows):
+            self.write(f"{number}.xml", document(inner))
+        before = [self.read(f"{number}.xml") for number in range(len(rows))]
+        status, lines, _ = self.run_it("fix", ".")
+        self.assertEqual((status, lines[-1]), (1, f"{len(rows)} files: {len(rows)} can be mended (--write does it), 0 with a fault that is left, 0 not looked at"))
+        self.assertEqual([self.read(f"{number}.xml") for number in range(len(rows))], before)
+        status, lines, _ = self.run_it("fix", "--write", ".")
+        self.assertEqual((status, lines[-1]), (0, f"{len(rows)} files: {len(rows)} mended, 0 with a fault that is left, 0 not looked at"))
+        for number, (inner, mended) in enumerate(rows):
+            with self.subTest(inner):
+                self.assertEqual(self.read(f"{number}.xml").decode(), document(mended))
+        self.assertEqual(self.run_it("fix", ".")[:2], (0, [f"{len(rows)} files: 0 can be mended (--write does it), 0 with a fault that is left, 0 not looked at"]))
+
+    def test_latin(self):
+        self.write("d.xml", b'<?xml version="1.0" encoding="ISO-8859-1"?>\r\n<TimeML>caf\xe9 &\r\n</TimeML>\r\n')
+        self.assertEqual(
+            self.run_it("fix", "d.xml")[1][:8],
+            [
+                "--- d.xml",
+                "+++ d.xml (mended)",
+                "@@ -1,3 +1,3 @@",
+                '-<?xml version="1.0" encoding="ISO-8859-1"?>',
+                '+<?xml version="1.0" encoding="UTF-8"?>',
+                "-<TimeML>caf\\xe9 &",
+                "+<TimeML>café &amp;",
+                " </TimeML>",
+            ],
+        )
+        self.run_it("fix", "--write", "d.xml")
+        self.assertEqual(self.read("d.xml"), '<?xml version="1.0" encoding="UTF-8"?>\r\n<TimeML>café &amp;\r\n</TimeML>\r\n'.encode())
+
+    def test_what_has_no_one_cure_is_left(self):
+        second = '<MAKEINSTANCE eiid="i2" eventID="e1"/>'
+        rows = [
+            ("<TimeML>é".encode() + b"\xe9</TimeML>", "1 NotUtf8 at byte 10"),
+            ("<TimeML>&bank; </TimeML>", "2 BadReference at byte 8"),
+            ("<TimeML>&amp </TimeML>", "2 BadReference at byte 8"),
+            ("<TimeML><P a='1></P></TimeML>", "3 BadMarkup at byte 8"),
+            (document("<FILEID/>"), "4 UnknownTag at byte 9"),
+            (document("<P>"), "5 Unbalanced at byte 12"),
+            (document(EVENT + INSTANCE + second + TIME + LINK.replace("i1", "e1")), "15 UnknownReference at byte 176"),
+            (document('<TLINK timeID="t" relatedToTime="t" relType="OVERLAP"/>'), "11 BadValue at byte 9"),
+        ]
+        for number, (content, _) in enumerate(rows):
+            self.write(f"{number}.xml", content)
+        status, lines, _ = self.run_it("fix", "--write", ".")
+        self.assertEqual(status, 1)
+        self.assertEqual(lines[:-1], [f"./{number}.xml: left to mend: {left}; see `tml-corpus check`" for number, (_, left) in enumerate(rows)])
+        for number, (content, _) in enumerate(rows):
+            self.assertEqual(self.read(f"{number}.xml"), content if isinstance(content, bytes) else content.encode())
+
+    def test_a_part_is_mended_and_a_part_left(self):
+        self.write("d.xml", document("& <SIGNAL/>"))
+        status, lines, _ = self.run_it("fix", "--write", "d.xml")
+        self.assertEqual(status, 1)
+        self.assertEqual(lines[:2], ["d.xml: mended: & that begin no reference (1 change)", "d.xml: left to mend: 10 MissingAttribute at byte 15; see `tml-corpus check`"])
+
+    def test_modes_and_symbolic_links(self):
+        self.write("d.xml", document("&"))
+        os.chmod(self.path("d.xml"), 0o640)
+        os.symlink("d.xml", self.path("l.xml"))
+        self.assertEqual(self.run_it("fix", "--write", "l.xml")[0], 0)
+        self.assertTrue(os.path.islink(self.path("l.xml")))
+        self.assertEqual(stat.S_IMODE(os.stat(self.path("d.xml")).st_mode), 0o640)
+        self.assertEqual(self.read("d.xml").decode(), document("&amp;"))
+        self.assertEqual(sorted(os.listdir(self.folder)), ["d.xml", "l.xml"])
+
+    def test_files_that_cannot_be_looked_at(self):
+        self.write("long.xml", b"&" * 4_194_305)
+        os.mkfifo(self.path("pipe.xml"))
+        status, lines, _ = self.run_it("fix", ".", "gone.xml")
+        self.assertEqual(status, 2)
+        self.assertEqual(
+            lines,
+            [
+                "./long.xml: not mended: the file has more than 4,194,304 bytes",
+                "./pipe.xml: not mended: is not a regular file",
+                "gone.xml: not mended: no such file or directory",
+                "3 files: 0 can be mended (--write does it), 0 with a fault that is left, 3 not looked at",
+            ],
+        )
+
+
+if __name__ == "__main__":
+    unittest.main()

@@ -1,0 +1,197 @@
+"""The search for the clashes of one file: it is read once, and `tml solve` is asked first, which tells a fault too."""
+
+from __future__ import annotations
+
+import os
+from functools import cached_property
+
+from .check import Judgement, PlacedNote, judge_document, placed_warnings
+from .clash_report import ClashReport, PlacedChange, PlacedClash, PlacedLink, PlacedRepair, Wanted
+from .clashes import STRICT_ORDERS, Clash, is_timeline, read_clash, verify_clash
+from .files import CannotRead, Found, read_document
+from .hitting import TooMuch
+from .leftout import Copies
+from .program import CLASH, FAULT, CannotRun, Program, Reply
+from .repair import find_repair
+from .touching import GAP, INCLUSIONS, Change, asks, relation_of, touching_changes
+from .units import room_for
+from .words import Wording
+
+
+def find_clashes(program: Program, found: Found, wanted: Wanted) -> ClashReport:
+    """Asks about the fault and the clashes of one file. Whatever goes wrong with it is reported of it and ends nothing else."""
+    if found.problem is not None:
+        return ClashReport(Judgement(found.path, problem=found.problem))
+    try:
+        document = read_document(found.place())
+        reply = program.ask(["solve", "-"], document)
+        if is_timeline(reply) and wanted.lint is None:
+            return ClashReport(Judgement(found.path))
+        with room_for(document):
+            if is_timeline(reply) and wanted.lint is not None:
+                return ClashReport(Judgement(found.path, warnings=placed_warnings(program, document, wanted.lint)))
+            return report_of(program, found, document, wanted, reply)
+    except (CannotRead, CannotRun) as problem:
+        return ClashReport(Judgement(found.path, problem=str(problem)))
+    except MemoryError:
+        return ClashReport(Judgement(found.path, problem="no memory to take the document apart"))
+
+
+def report_of(program: Program, found: Found, document: bytes, wanted: Wanted, reply: Reply) -> ClashReport:
+    """What there is to report of a document in memory that no timeline fits, or that was not judged yet."""
+    if reply.status == FAULT:
+        judgement = judge_document(program, found.path, document, wanted.explained, wanted.more)
+        if judgement.accepted():
+            raise CannotRun("the answers of tml to `solve` and `check` do not belong together")
+        return ClashReport(judgement)
+    if reply.status != CLASH:
+        raise CannotRun(reply.problem())
+    return ClashSearch(program, found, document, wanted).report(read_clash(reply))
+
+
+class ClashSearch:
+    """The search in one accepted document."""
+
+    def __init__(self, program: Program, found: Found, document: bytes, wanted: Wanted) -> None:
+        self.program, self.found, self.document, self.wanted = program, found, document, wanted
+        self.path = found.path
+        self.wording = Wording(program, document)
+        self.changes = touching_changes(self.wording)
+
+    @cached_property
+    def copies(self) -> Copies:
+        """Copies of the document without some links, in which links between dates that touch are changed."""
+        relations = {change.link.number: change.relation for change in self.changes}
+        return Copies(self.program, self.path, self.document, self.wording.units, relations)
+
+    def report(self, first: Clash) -> ClashReport:
+        """All that was asked for."""
+        left = self.left_by_touching(first)
+        judgement = Judgement(self.path)
+        if self.wanted.lint is not None:
+            judgement.warnings = placed_warnings(self.program, self.document, self.wanted.lint, self.wording.units)
+        report = ClashReport(judgement, read_touching=self.wanted.touching, fits_touching=left is None)
+        report.touching = [self.placed_change(change) for change in self.changes]
+        shown = left if left is not None or self.wanted.touching else first
+        if shown is not None:
+            report.clashes.append(self.placed_clash(shown, 1))
+        if left is not None and self.wanted.more:
+            report.clashes += self.further_clashes(left)
+        if self.wanted.repair and (left is not None or not self.wanted.touching):
+            report.repair = self.repair(left)
+        return report
+
+    def left_by_touching(self, first: Clash) -> Clash | None:
+        """The clash that is left where links between dates that touch are read so; the first one where there are none."""
+        if not self.changes:
+            return first
+        left = self.copies.clash_without(())
+        if left is None:
+            return None
+        if {change.link.number for change in self.changes} & set(left.links):
+            raise CannotRun("the answers of tml to `dates` and `solve` do not belong together")
+        return left
+
+    def further_clashes(self, first: Clash) -> list[PlacedClash]:
+        """At most so many clashes as are wanted, each without the links of those before it."""
+        found: list[PlacedClash] = []
+        left_out = set(first.links)
+        while len(found) < self.wanted.more:
+            self.copies.renew()
+            clash = self.copies.clash_without(left_out)
+            if clash is None:
+                break
+            found.append(self.placed_clash(clash, len(found) + 2))
+            left_out.update(clash.links)
+        self.copies.renew()
+        return found
+
+    def repair(self, left: Clash | None) -> PlacedRepair:
+        """The smallest set of links without which a timeline fits, with the timeline verified."""
+        changes = 0 if self.wanted.touching else len(self.changes)
+        if left is None:
+            self.copies.verify_without(())
+            return PlacedRepair([], True, True, 0, changes)
+        repair = find_repair(self.copies, left)
+        if repair.links:
+            self.copies.verify_without(repair.links)
+        choices = [[self.placed_link(number) for number in repair.choices(link)] for link in repair.links]
+        return PlacedRepair(choices, repair.smallest, repair.all_others, repair.at_least, changes)
+
+    def placed_link(self, number: int) -> PlacedLink:
+        """A link in words, with its line."""
+        link, tag = self.wording.links[number], self.wording.link_tags[number]
+        attribute = relation_of(tag)
+        start, end = tag.start, tag.end
+        if attribute is not None and b"\n" not in self.document[tag.start : attribute.start]:
+            start, end = attribute.start, attribute.end
+        places = self.wording.places
+        return PlacedLink(link, self.wording.in_words(link), places.marked(places.place(start), places.place(end)))
+
+    def placed_change(self, change: Change) -> PlacedChange:
+        """A link between dates that touch, with its line."""
+        return PlacedChange(self.placed_link(change.link.number), change.relation, change.reason, asks(change.link.relation))
+
+    def placed_clash(self, clash: Clash, number: int) -> PlacedClash:
+        """A clash in words, once `tml verify` accepted it as one of the document."""
+        folder = self.wanted.folder
+        name = self.path if number == 1 else f"{self.path}.{number}"
+        evidence = verify_clash(self.program, name, self.document, clash, folder and os.path.join(self.found.base, folder))
+        links = [self.placed_link(link) for link in clash.links]
+        return PlacedClash(links, self.calendar_notes(clash), self.cures(clash), os.path.join(folder, evidence) if folder is not None else None)
+
+    def calendar_notes(self, clash: Clash) -> list[PlacedNote]:
+        """What the walk takes from the calendar; places are asked for in their order, since lines may be long."""
+        steps = list(dict.fromkeys((step.first, step.second) for step in clash.walk if step.kind == "calendar"))
+        notes = {step: PlacedNote(*self.wording.calendar(*step)) for step in sorted(steps)}
+        return [notes[step] for step in steps]
+
+    def cures(self, clash: Clash) -> list[PlacedNote]:
+        """Of a clash of several links that stands on ends of dates that are equal: relations that do not clash with the other links.
+
+        Of each `tml` is asked. Where a link between two dates clashes alone, it is one of the changes.
+        """
+        notes: list[PlacedNote] = []
+        if len(clash.links) == 1:
+            return notes
+        try:
+            for number, relation in self.candidates(clash).items():
+                link = self.wording.links[number]
+                if self.copies.fit_alone(clash.links, {number: relation}):
+                    between = f"{self.wording.text_of(link.left)} and {self.wording.text_of(link.right)}"
+                    nothing = "no gap" if link.relation in GAP else "no room at both ends"
+                    text = f"the dates and the other links leave {nothing} between {between}: {relation} for {link.relation} would not clash with them"
+                    notes.append(PlacedNote(link.place, text))
+        except TooMuch:
+            pass
+        return notes
+
+    def candidates(self, clash: Clash) -> dict[int, str]:
+        """Other relations for links of a walk that has no strict step but over these, and an equal end of dates."""
+        orders: dict[int, set[int]] = {}
+        equal_ends = False
+        for step in clash.walk:
+            if step.kind == "calendar" and self.is_equal_end(step.first, step.second):
+                equal_ends = True
+            elif step.kind != "via":
+                return {}
+            elif step.second in STRICT_ORDERS.get(relation := self.wording.links[step.first].relation, ()):
+                if relation not in GAP and relation not in INCLUSIONS:
+                    return {}
+                orders.setdefault(step.first, set()).add(step.second)
+        return {number: self.weaker(number, strict) for number, strict in orders.items()} if equal_ends else {}
+
+    def weaker(self, number: int, orders: set[int]) -> str:
+        """The relation of a link with some of its strict orders equal."""
+        relation = self.wording.links[number].relation
+        return GAP.get(relation) or INCLUSIONS[relation][2 if len(orders) == 2 else min(orders)]
+
+    def is_equal_end(self, first: int, second: int) -> bool:
+        """Whether the calendar has two points no further apart than at one second."""
+        upper, lower = (self.wording.dates.get(self.wording.intervals[point // 2], ["free"]) for point in (first, second))
+        return upper[0] != "free" and lower[0] != "free" and number_at(upper, first, 2) == number_at(lower, second, 1)
+
+
+def number_at(date: list[str], point: int, bound: int) -> int:
+    """The second of a point: that of an exact date, or its bound of one within bounds."""
+    return int(date[1 + point % 2] if date[0] == "exact" else date[bound])

@@ -1,0 +1,79 @@
+"""Bytes that are not UTF-8: which encoding the file probably has."""
+
+from __future__ import annotations
+
+import codecs
+import re
+from collections.abc import Iterator
+
+from .edits import Edit
+from .source import Explanation, Source
+
+DECLARED = re.compile(rb"<\?xml[^>]{0,200}?encoding\s*=\s*[\"']([A-Za-z0-9._-]{1,40})[\"']")
+NAMES = {"iso8859-1": ("Latin-1", "latin1"), "cp1252": ("Windows-1252", "windows-1252"), "utf-16": ("UTF-16", "utf-16")}
+"""How an encoding is called, and what `iconv` calls it."""
+
+ESCAPED = re.compile("[\udc80-\udcff]")
+PROPER = re.compile("[^\x00-\x7f\udc80-\udcff]")
+
+
+def not_utf8(source: Source, offset: int) -> Explanation:
+    """Fault 1: one sentence for all bytes of the document that are not UTF-8."""
+    document = source.document
+    if offset >= len(document):
+        return Explanation()
+    found = Explanation(start=offset, end=offset + 1)
+    text = document.decode("utf-8", "surrogateescape")
+    wrong, byte = len(text) - len(ESCAPED.sub("", text)), document[offset]
+    guess = guessed(document, text)
+    if guess is not None:
+        called, option = NAMES.get(guess, (guess, guess))
+        letter = f" ({bytes([byte]).decode(guess)} in {called})" if guess != "utf-16" else ""
+        first = f"the byte {byte:02X}{letter} is" if wrong == 1 or not letter else f"{wrong} bytes, the first one {byte:02X}{letter}, are"
+        found.text = f"{first} not UTF-8: the file looks like {called}; `iconv -f {option} -t utf-8` mends it"
+    elif ends_within_character(document, offset):
+        found.text = "the file ends within a character, so its end was lost"
+    else:
+        letter = bytes([byte]).decode("cp1252", "replace")
+        hint = f" write {letter} anew" if letter.isprintable() and letter != "\ufffd" else " write the character anew"
+        found.text = f"the byte {byte:02X} is not UTF-8, and other characters of the file are:{hint}"
+    return found
+
+
+def guessed(document: bytes, text: str) -> str | None:
+    """The encoding that the file probably has, as Python calls it; None where other characters of it are UTF-8."""
+    if document.startswith((b"\xff\xfe", b"\xfe\xff")):
+        return "utf-16"
+    if PROPER.search(text.removeprefix("\ufeff")) or ends_within_character(document, len(text.encode("utf-8", "surrogateescape")) - 3):
+        return None
+    declared = DECLARED.search(document[:1000])
+    for name in (declared[1].decode() if declared else "", "latin-1" if not re.search("[\udc80-\udc9f]", text) else "cp1252"):
+        try:
+            called = codecs.lookup(name).name
+            if called not in ("utf-8", "ascii") and document.decode(called).encode(called) == document:
+                return called
+        except (LookupError, ValueError):
+            continue
+    return None
+
+
+def ends_within_character(document: bytes, offset: int) -> bool:
+    """Whether the file ends with the beginning of a character."""
+    if len(document) - offset > 3:
+        return False
+    decoder = codecs.getincrementaldecoder("utf-8")()
+    try:
+        decoder.decode(document)
+    except UnicodeDecodeError:
+        return False
+    return True
+
+
+def converted(document: bytes) -> Iterator[Edit]:
+    """The edit that turns the document into UTF-8, its declaration included; none where its encoding is not clear."""
+    guess = guessed(document, document.decode("utf-8", "surrogateescape"))
+    if guess is not None and guess != "utf-16":
+        declared = DECLARED.search(document[:1000])
+        first, last = declared.span(1) if declared else (0, 0)
+        text = (document[:first] + (b"UTF-8" if declared else b"") + document[last:]).decode(guess)
+        yield Edit(0, len(document), text.encode())

@@ -1,0 +1,249 @@
+"""What `tml` accepts and an annotator probably did not mean, as warnings, each of a kind that has a name."""
+
+from __future__ import annotations
+
+from collections.abc import Callable, Iterable, Iterator
+from dataclasses import dataclass
+from itertools import chain
+
+from .profile import CARRIED, LEFT, RIGHT, ROOT, TABLE
+from .program import ACCEPTED, CannotRun, Program
+from .similar import one_letter_apart
+from .source import Source, attribute_of, cut
+from .units import Attribute, Unit
+from .values import CALENDAR, DURATION, LOOKS_LIKE_DATE, PART_OF_DAY, better, has_form
+
+INVERSES = {
+    "BEFORE": "AFTER", "IBEFORE": "IAFTER", "IS_INCLUDED": "INCLUDES", "DURING": "DURING_INV", "BEGINS": "BEGUN_BY", "ENDS": "ENDED_BY",
+    "SIMULTANEOUS": "SIMULTANEOUS", "IDENTITY": "IDENTITY",
+}  # fmt: skip
+KNOWN = {name: frozenset((*TABLE.get(name, ()), *CARRIED.get(name, ()))) for name in (ROOT, *TABLE)}
+INVERSES |= {inverse: relation for relation, inverse in INVERSES.items()}
+
+
+@dataclass(frozen=True)
+class Finding:
+    """Something suspect: the name of its kind, the sentence on it, the stretch that it speaks of, and the tag as it is written."""
+
+    name: str
+    text: str
+    start: int
+    end: int
+    tag: str
+
+
+Finder = Callable[[Source], Iterator[tuple[Unit, Attribute | None, str]]]
+"""Finds the tags of one kind of warning, with the attribute that is suspect where it is one, and the sentence."""
+
+
+@dataclass(frozen=True)
+class WarningKind:
+    """A kind of warnings: what it is about, how it is found, whether it is given only on demand, and whether `tml dates` is asked."""
+
+    words: str
+    finder: Finder
+    on_demand: bool = False
+    of_free_times: bool = False
+
+
+@dataclass(frozen=True)
+class Lint:
+    """The kinds of warnings that are given."""
+
+    names: frozenset[str]
+
+
+def chosen(ignored: Iterable[str], demanded: Iterable[str]) -> Lint:
+    """The kinds that are given, but for those that are ignored, and with those that are demanded."""
+    usual = {name for name, kind in KINDS.items() if not kind.on_demand}
+    return Lint(frozenset((usual | set(demanded)) - set(ignored)))
+
+
+def warnings_of(program: Program, source: Source, lint: Lint) -> Iterator[Finding]:
+    """The warnings on an accepted document."""
+    free: set[str] | None = None
+    for name, kind in KINDS.items():
+        if name not in lint.names:
+            continue
+        for tag, attribute, text in kind.finder(source):
+            if kind.of_free_times:
+                free = free_times(program, source) if free is None else free
+                if source.value(tag, "tid") not in free:
+                    continue
+            start, end = (attribute.start, attribute.end) if attribute is not None else (tag.start, tag.end)
+            yield Finding(name, text, start, end, cut(source.document[tag.start : min(tag.end, tag.start + 400)].decode("utf-8", "surrogateescape")))
+
+
+def free_times(program: Program, source: Source) -> set[str]:
+    """The times of which the calendar says nothing."""
+    reply = program.ask(["dates", "-"], source.document)
+    if reply.status != ACCEPTED:
+        raise CannotRun("the answers of tml to `check` and `dates` do not belong together")
+    return {words[0] for words in reply.lines() if words[1:] == ["free"]}
+
+
+def misspelled_attribute(source: Source) -> Iterator[tuple[Unit, Attribute | None, str]]:
+    """An attribute that is unknown, and one letter from one that is known and not there."""
+    at, missing = -1, set[str]()
+    for tag, attribute in unknown_attributes(source):
+        if tag.start != at:
+            at, missing = tag.start, set(TABLE.get(tag.name, {})) - {one.name for one in tag.attributes}
+        meant = min((name for name in missing if one_letter_apart(attribute.name, name)), default=None)
+        if meant is not None:
+            yield tag, attribute, f"{cut(attribute.name)} is no attribute of {tag.name} that means something; did you mean {meant}?"
+
+
+def unknown_attribute(source: Source) -> Iterator[tuple[Unit, Attribute | None, str]]:
+    """An attribute that neither the profile nor TimeML knows."""
+    for tag, attribute in unknown_attributes(source):
+        yield tag, attribute, f"{cut(attribute.name)} is no attribute of {tag.name} that means something"
+
+
+def unknown_attributes(source: Source) -> Iterator[tuple[Unit, Attribute]]:
+    """The attributes of tags of TimeML that are not known."""
+    for tag in chain(source.units.opening(ROOT), *source.by_kind.values()):
+        for attribute in tag.attributes:
+            if attribute.name not in KNOWN[tag.name]:
+                yield tag, attribute
+
+
+def value_form(source: Source) -> Iterator[tuple[Unit, Attribute | None, str]]:
+    """A value of a TIMEX3 that has none of the forms."""
+    for tag, attribute, value in values(source):
+        if not has_form(value) and not LOOKS_LIKE_DATE.fullmatch(value):
+            meant = better(value)
+            hint = f"; did you mean {meant}?" if meant else ": a date is written as 1998-03-11"
+            yield tag, attribute, f'value="{cut(value)}" has no form of a value, so this time has no date{hint}'
+
+
+def free_date(source: Source) -> Iterator[tuple[Unit, Attribute | None, str]]:
+    """A value that looks like a date, of a time that has none."""
+    for tag, attribute, value in values(source):
+        kind = source.value(tag, "type")
+        if kind == "DURATION" and CALENDAR.fullmatch(value):
+            yield tag, attribute, f'value="{value}" is a date, and a DURATION has none; did you mean type="DATE"?'
+        elif kind in ("DATE", "TIME") and DURATION.fullmatch(value):
+            yield tag, attribute, f'value="{value}" is a duration, so this {kind} has no date; did you mean type="DURATION"?'
+        elif kind in ("DATE", "TIME") and not CALENDAR.fullmatch(value) and LOOKS_LIKE_DATE.fullmatch(value):
+            yield tag, attribute, f'value="{cut(value)}" looks like a date, and the calendar does not place it: {why_free(value)}'
+
+
+def why_free(value: str) -> str:
+    """Why a value that looks like a date is none."""
+    if value.endswith("Z") or "+" in value or value.count("-") > 2:
+        return "write it without the zone"
+    if "." in value or "," in value:
+        return "write it without the parts of a second"
+    return "a field is all digits or all X" if "X" in value else "a time is written as T18, T18:30 or T18:30:00"
+
+
+def part_of_day(source: Source) -> Iterator[tuple[Unit, Attribute | None, str]]:
+    """A part of a day, which no calendar places."""
+    for tag, attribute, value in values(source):
+        if PART_OF_DAY.fullmatch(value):
+            yield tag, attribute, f'value="{value}" is a part of a day, which the calendar does not place: nothing says when it is but links'
+
+
+def values(source: Source) -> Iterator[tuple[Unit, Attribute, str]]:
+    """The times with a value."""
+    for tag in source.tags("TIMEX3"):
+        attribute = attribute_of(tag, "value")
+        if attribute is not None and (value := attribute.value(source.document)):
+            yield tag, attribute, value.decode("utf-8", "surrogateescape")
+
+
+def event_without_instance(source: Source) -> Iterator[tuple[Unit, Attribute | None, str]]:
+    """An event that no MAKEINSTANCE names, so that no link can."""
+    for name, tag in source.identifiers["EVENT"].items():
+        if name not in source.instances:
+            yield tag, None, f'{name} has no instance, so no link can name it: add <MAKEINSTANCE eiid="{source.fresh("MAKEINSTANCE")}" eventID="{name}"/>'
+
+
+def empty_tag(source: Source) -> Iterator[tuple[Unit, Attribute | None, str]]:
+    """A tag of the text that has no text, and is none that TimeML wants to be empty."""
+    for kind in ("EVENT", "SIGNAL", "TIMEX3"):
+        for tag in source.tags(kind):
+            if tag.start not in source.with_text and not is_meant_to_be_empty(source, tag):
+                yield tag, None, f"this {kind} has no text: put the tag around its words"
+
+
+def is_meant_to_be_empty(source: Source, tag: Unit) -> bool:
+    """Whether a tag without text stands for something that is not in the text, or for words that lie apart."""
+    if attribute_of(tag, "target") is not None:
+        return True
+    if tag.name != "TIMEX3":
+        return False
+    pointed = any(source.value(tag, name) for name in ("anchorTimeID", "beginPoint", "endPoint"))
+    function = source.value(tag, "functionInDocument") not in ("", "NONE") or source.value(tag, "temporalFunction") == "true"
+    return pointed or function or not source.value(tag, "value") or source.value(tag, "tid") in source.points
+
+
+def self_link(source: Source) -> Iterator[tuple[Unit, Attribute | None, str]]:
+    """A link from an interval to itself."""
+    for tag in source.tags("TLINK"):
+        left, right = ends(source, tag)
+        if left == right:
+            yield tag, None, f"this link is from {left} to {left}: write another one for one of the two, or take the link out"
+
+
+def repeated_link(source: Source) -> Iterator[tuple[Unit, Attribute | None, str]]:
+    """A link that was given before, perhaps the other way round."""
+    seen: dict[tuple[str, str, str], Unit] = {}
+    for tag in source.tags("TLINK"):
+        left, right = ends(source, tag)
+        relation = source.value(tag, "relType")
+        first = seen.get((left, relation, right)) or seen.get((right, INVERSES.get(relation, ""), left))
+        if first is None:
+            seen[left, relation, right] = tag
+        elif left != right:
+            yield tag, None, f"{left} {relation} {right} is given at {source.at(first.start)} already: take one of the two out"
+
+
+def ends(source: Source, tag: Unit) -> tuple[str, str]:
+    """The identifiers of the two intervals of a TLINK."""
+    left, right = (next((value for name in pair if (value := source.value(tag, name))), "") for pair in (LEFT, RIGHT))
+    return left, right
+
+
+def date_with_points(source: Source) -> Iterator[tuple[Unit, Attribute | None, str]]:
+    """A date with a begin and an end, which say nothing of when it is."""
+    for tag in source.tags("TIMEX3"):
+        names = [name for name in ("beginPoint", "endPoint") if source.value(tag, name)]
+        kind = source.value(tag, "type")
+        if names and kind in ("DATE", "TIME"):
+            text = f"{' and '.join(names)} of a {kind} {'say' if len(names) > 1 else 'says'} nothing of its time: only its value and links do"
+            yield tag, attribute_of(tag, names[0]), text
+
+
+def unlinked_instance(source: Source) -> Iterator[tuple[Unit, Attribute | None, str]]:
+    """An instance that no link names."""
+    names = ("eventInstanceID", "relatedToEventInstance", "subordinatedEventInstance")
+    linked = {source.value(tag, name) for kind in ("TLINK", "ALINK", "SLINK") for tag in source.tags(kind) for name in names}
+    for name, tag in source.identifiers["MAKEINSTANCE"].items():
+        if name not in linked:
+            yield tag, None, f"no link names {name}, so nothing says when it is: add a TLINK"
+
+
+def no_creation_time(source: Source) -> Iterator[tuple[Unit, Attribute | None, str]]:
+    """A document of which no time says when it was made."""
+    if not any(source.value(tag, "functionInDocument") == "CREATION_TIME" for tag in source.tags("TIMEX3")):
+        root = source.units.first_tag()
+        if root is not None:
+            yield root, None, 'the document has no creation time: add functionInDocument="CREATION_TIME" to the TIMEX3 that says when it was made'
+
+
+KINDS: dict[str, WarningKind] = {
+    "misspelled-attribute": WarningKind("an attribute that is one letter from one that means something", misspelled_attribute),
+    "unknown-attribute": WarningKind("an attribute that neither tml nor TimeML knows; only with --warn", unknown_attribute, on_demand=True),
+    "value-form": WarningKind("a value of a TIMEX3 that has no form", value_form, of_free_times=True),
+    "free-date": WarningKind("a value that looks like a date, of a time that has none", free_date, of_free_times=True),
+    "part-of-day": WarningKind("a part of a day, which the calendar does not place", part_of_day, of_free_times=True),
+    "event-without-instance": WarningKind("an EVENT that no MAKEINSTANCE names", event_without_instance),
+    "empty-tag": WarningKind("an EVENT, SIGNAL or TIMEX3 without text that is not meant to be empty", empty_tag),
+    "self-link": WarningKind("a TLINK from an interval to itself", self_link),
+    "repeated-link": WarningKind("a TLINK that was given before", repeated_link),
+    "date-with-points": WarningKind("beginPoint or endPoint of a DATE or TIME, which say nothing of its time", date_with_points),
+    "unlinked-instance": WarningKind("an instance that no link names", unlinked_instance),
+    "no-creation-time": WarningKind("a document without a creation time", no_creation_time),
+}
+"""The kinds of warnings by their names."""

@@ -1,0 +1,96 @@
+"""Which replies of `tml` are believed: those whose status and text fit each other and the question.
+
+So what another program answers, or a `tml` that does not work, is no judgement. What a reply says is not judged here.
+"""
+
+from __future__ import annotations
+
+import re
+from collections.abc import Sequence
+
+from .statuses import EVIDENCE_LIMIT, FAULT_NAMES, RELATIONS, TmlStatus
+
+NAME = rb"[A-Za-z0-9_.-]{1,64}"
+RELATION = "|".join(RELATIONS).encode()
+COUNTS = b"".join(rb"%s (\d+)\n" % name for name in (b"events", b"instances", b"timex", b"signals", b"tlinks", b"alinks", b"slinks"))
+ACCEPTED = re.compile(rb"accepted\n%s((?:interval \d+ %s\n)*)((?:tlink \d+ %s (?:%s) %s\n)*)" % (COUNTS, NAME, NAME, RELATION, NAME))
+FAULT = re.compile(rb"fault (\d{1,2}) (\w+) (\d{1,7})\n")
+
+DONE = {
+    "dates": re.compile(rb"(?:%s (?:free|(?:exact|within) -?\d+ -?\d+ [\dT:-]+ [\dT:-]+)\n)*" % NAME),
+    "solve": re.compile(rb"tml-evidence 1\ntimeline \d+\n(?s:.*)(?<=\n)end\n"),
+    "ask": re.compile(rb"tml-evidence 1\n(?:entails|counter) \d+ (%s) \d+\n(?s:.*)(?<=\n)end\n" % RELATION),
+    "relations": re.compile(rb"(?:%s (?:%s) %s\n)*" % (NAME, RELATION, NAME)),
+    "canon": re.compile(rb"<(?s:.*)\n"),
+    "verify": re.compile(rb"verified (?:timeline|(?:entails|counter) %s (?:%s) %s|clash \d+(?: \d+)*)\n" % (NAME, RELATION, NAME)),
+}
+"""The texts with status 0; of `check` and `spans` more is asked."""
+
+OTHER = {
+    TmlStatus.CLASH: (("solve", "ask", "relations"), re.compile(rb"tml-evidence 1\nclash \d+\ncite \d+\n(?s:.*)(?<=\n)end\n")),
+    TmlStatus.READ_FAULT: (None, re.compile(rb"read fault\n")),
+    TmlStatus.NO_MEMORY: (None, re.compile(rb"")),
+    TmlStatus.EVIDENCE_FAULT: (("verify",), re.compile(rb"evidence (?:line|part) \d+[ \w]*\n")),
+    TmlStatus.UNKNOWN_NAME: (("ask",), re.compile(rb"unknown (?:X|REL|Y)\n")),
+    TmlStatus.TOO_LONG: (None, re.compile(rb"too long (?:DOC|EVIDENCE)\n")),
+}
+"""The commands that may end with a status, where not all may, and the text that goes with it."""
+
+MEBIBYTE = 1024 * 1024
+LONGEST = {"solve": EVIDENCE_LIMIT, "ask": EVIDENCE_LIMIT, "relations": 64 * MEBIBYTE, "canon": 32 * MEBIBYTE, "spans": 64 * MEBIBYTE}
+"""So many bytes a reply may have, where it may have more than one MiB: more is not read."""
+
+
+def longest(command: str) -> int:
+    """So many bytes a reply to a command may have."""
+    return LONGEST.get(command, MEBIBYTE)
+
+
+def refusal(words: Sequence[str], status: int, text: bytes, size: int | None) -> str | None:
+    """Why a reply about a document of so many bytes (if that is known) is not believed, or None where it is."""
+    command = words[0]
+    expected = status in (TmlStatus.DONE, TmlStatus.DOC_FAULT) or (status in OTHER and command in (OTHER[TmlStatus(status)][0] or (command,)))
+    if not expected:
+        return f"tml answered status {status}, which `{command}` should not"
+    if not fits(words, TmlStatus(status), text, size):
+        return f"tml answered status {status} to `{command}`, and a text that does not go with it"
+    return None
+
+
+def fits(words: Sequence[str], status: TmlStatus, text: bytes, size: int | None) -> bool:
+    """Whether the text is one that goes with the status."""
+    if status == TmlStatus.DOC_FAULT:
+        return fault_fits(words[0], text, size)
+    if status in OTHER:
+        return OTHER[status][1].fullmatch(text) is not None
+    if words[0] == "check":
+        return counts_fit(text)
+    if words[0] == "spans":
+        return text.startswith(b"0 ") if size or text else size is not None
+    found = DONE[words[0]].fullmatch(text)
+    return found is not None and (words[0] != "ask" or found[1] == words[3].encode("utf-8", "surrogateescape"))
+
+
+def fault_fits(command: str, text: bytes, size: int | None) -> bool:
+    """Whether this is the line of a fault, with its name, at a place of the document; `spans` has the first three only."""
+    found = FAULT.fullmatch(text)
+    if found is None:
+        return False
+    number, place = int(found[1]), int(found[3])
+    known = 1 <= number <= (3 if command == "spans" else len(FAULT_NAMES)) and FAULT_NAMES[number - 1].encode() == found[2]
+    return known and (size is None or place <= size)
+
+
+def counts_fit(text: bytes) -> bool:
+    """Whether the counts of `tml check` are those of the lines after them, which are numbered from 0 on."""
+    found = ACCEPTED.fullmatch(text)
+    if found is None:
+        return False
+    instances, times, links = int(found[2]), int(found[3]), int(found[5])
+    return numbered(found[8]) == instances + times and numbered(found[9]) == links
+
+
+def numbered(lines: bytes) -> int:
+    """How many lines there are, or -1 where they are not numbered from 0 on."""
+    numbers = [int(line.split(b" ", 2)[1]) for line in lines.splitlines()]
+    return len(numbers) if numbers == list(range(len(numbers))) else -1

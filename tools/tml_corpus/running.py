@@ -1,0 +1,132 @@
+"""Running a program: what it reads and prints passes by here, bounded in time and size, and it never outlives this process."""
+
+from __future__ import annotations
+
+import os
+import selectors
+import signal
+import subprocess
+import time
+from collections.abc import Sequence
+from contextlib import suppress
+from dataclasses import dataclass, field
+from typing import IO
+
+SECONDS = 300.0
+"""No question takes `tml` more than a second or two; a run that is longer than this is given up."""
+
+TOO_LONG = f"tml took longer than {SECONDS:.0f} seconds"
+
+PART = 65536
+
+RUNNING: set[subprocess.Popen[bytes]] = set()
+"""The programs that this process has started and that have not ended."""
+
+
+class CannotRun(Exception):
+    """A program could not be started, took too long, printed too much, or answered what it never should."""
+
+
+def run(words: Sequence[str], document: bytes | IO[bytes], folder: str | None, most: int) -> tuple[int, bytes]:
+    """The status of a program and what it printed: at most so many bytes. It reads the document or the open file.
+
+    No shell is used. The child gets a session of its own, so that Ctrl-C ends this program in its own way and does not end
+    a judgement half-way.
+    """
+    given = document if isinstance(document, bytes) else None
+    try:
+        child = subprocess.Popen(
+            words,
+            stdin=subprocess.PIPE if isinstance(document, bytes) else document,
+            stdout=subprocess.PIPE,
+            stderr=subprocess.DEVNULL,
+            cwd=folder,
+            start_new_session=True,
+        )
+    except (OSError, ValueError) as error:
+        raise CannotRun(f"tml could not be run: {error}") from None
+    RUNNING.add(child)
+    try:
+        talk = Talk(child, memoryview(given or b""), most)
+        talk.go_on()
+        status = child.wait(talk.seconds_left())
+    except BaseException as error:
+        end(child)
+        if isinstance(error, subprocess.TimeoutExpired):
+            raise CannotRun(TOO_LONG) from None
+        raise
+    finally:
+        RUNNING.discard(child)
+        for stream in (child.stdin, child.stdout):
+            if stream is not None:
+                with suppress(OSError):
+                    stream.close()
+    if status < 0:
+        raise CannotRun(f"tml was ended by signal {-status}")
+    return status, b"".join(talk.parts)
+
+
+def end(child: subprocess.Popen[bytes]) -> None:
+    """Ends a child that was not waited for, with the programs that it started."""
+    with suppress(OSError):
+        os.killpg(child.pid, signal.SIGKILL)
+    child.wait()
+
+
+def end_all() -> None:
+    """Ends the programs that are running; this process is about to end too."""
+    for child in list(RUNNING):
+        with suppress(OSError):
+            os.killpg(child.pid, signal.SIGKILL)
+
+
+@dataclass
+class Talk:
+    """What a child is still to read, and what it has printed."""
+
+    child: subprocess.Popen[bytes]
+    rest: memoryview
+    most: int
+    parts: list[bytes] = field(default_factory=list)
+    size: int = 0
+    late: float = field(default_factory=lambda: time.monotonic() + SECONDS)
+
+    def seconds_left(self) -> float:
+        """How long the child may still take."""
+        return max(self.late - time.monotonic(), 0.0)
+
+    def go_on(self) -> None:
+        """Writes and reads by turns, until the child has closed its output."""
+        with selectors.PollSelector() as selector:
+            for stream, event in ((self.child.stdin, selectors.EVENT_WRITE), (self.child.stdout, selectors.EVENT_READ)):
+                if stream is not None:
+                    os.set_blocking(stream.fileno(), False)
+                    selector.register(stream, event)
+            while selector.get_map():
+                ready = selector.select(self.seconds_left())
+                if not ready:
+                    raise CannotRun(TOO_LONG)
+                for key, _ in ready:
+                    going_on = self.read(key.fd) if key.fileobj is self.child.stdout else self.write(key.fd)
+                    if not going_on:
+                        selector.unregister(key.fileobj)
+                        key.fileobj.close()  # type: ignore[union-attr]
+
+    def read(self, handle: int) -> bool:
+        """Reads what there is; False at the end."""
+        part = os.read(handle, PART)
+        self.size += len(part)
+        if self.size > self.most:
+            raise CannotRun(f"tml printed more than {self.most:,} bytes")
+        self.parts.append(part)
+        return bool(part)
+
+    def write(self, handle: int) -> bool:
+        """Writes as much as there is room for; False where nothing is left, or where the child reads no more."""
+        try:
+            self.rest = self.rest[os.write(handle, self.rest[:PART]) :]
+        except BlockingIOError:
+            pass
+        except OSError:
+            return False
+        return bool(self.rest)

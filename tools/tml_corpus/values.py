@@ -1,0 +1,160 @@
+"""The values of TIMEX3: which form one has, and why it is no date. `tml` judges them; the words are found here."""
+
+from __future__ import annotations
+
+import calendar
+import re
+from datetime import date
+
+YEARS = range(1, 10000)
+MONTH_NAMES = calendar.month_name
+
+CALENDAR = re.compile(
+    r"(?P<year>\d{4}|\d{3}X|\d\dXX|XXXX)"
+    r"(?:-(?P<month>\d\d|XX)(?:-(?P<day>\d\d|XX)(?:T(?P<hour>\d\d|XX)(?::(?P<minute>\d\d|XX)(?::(?P<second>\d\d|XX))?)?)?)?"
+    r"|-W(?P<week>\d\d|XX)(?:-(?P<weekday>\d|X))?|-Q(?P<quarter>\d|X))?",
+    re.ASCII,
+)
+"""The shapes that the calendar places."""
+
+NUMBER = r"(?:\d{1,9}|X)"
+DURATION = re.compile(
+    rf"P(?=[\dXT])(?:{NUMBER}Y)?(?:{NUMBER}M)?(?:{NUMBER}W)?(?:{NUMBER}D)?(?:T(?=[\dX])(?:{NUMBER}H)?(?:{NUMBER}M)?(?:{NUMBER}S)?)?", re.ASCII
+)
+
+YEAR = r"(?:\d{4}|\d{3}X|\d\dXX|XXXX)"
+FIELD = r"(?:\d\d|XX)"
+PART_OF_DAY = re.compile(rf"{YEAR}-(?:{FIELD}-{FIELD}|W{FIELD}-[\dX])T(?:MO|MI|AF|EV|NI|DT|AM|PM)", re.ASCII)
+OTHER_FORMS = re.compile(
+    r"(?:PAST|PRESENT|FUTURE)_REF"
+    rf"|(?:FY)?{YEAR}(?:-(?:SP|SU|FA|WI|H[12X]|Q[1-4X]))?"
+    rf"|{YEAR}-W{FIELD}-WE"
+    r"|\d{2,3}|BC[\dX]{2,4}|[KMG]A[\dX]+"
+    r"|PT?(?:\d+(?:\.\d+)?|X+)[A-Z]{1,2}"
+    rf"|T{FIELD}(?::{FIELD}(?::{FIELD})?)?",
+    re.ASCII,
+)
+"""Forms of TimeML that no calendar places: references, seasons, halves, weekends, decades, fiscal years, other durations, hours."""
+
+LOOKS_LIKE_DATE = re.compile(r"[\dX]{4}-[\dX]{2}(?:-[\dX]{2}(?:T[\dX]{2}(?:[:\dX.,]*)(?:Z|[+-]\d\d(?::?\d\d)?)?)?)?", re.ASCII)
+"""A date or time with a zone, with parts of a second, or with a field of which only a part is X."""
+
+NUMBERS = re.compile(r"(\d{4})[-/.](\d{1,2})[-/.](\d{1,2})(T.*)?|(\d{1,2})[-/.](\d{1,2})[-/.](\d{4})|(\d{4})(\d\d)(\d\d)(T.*)?", re.ASCII)
+
+
+def has_form(value: str) -> bool:
+    """Whether a value has one of the forms that TimeML knows."""
+    return any(form.fullmatch(value) for form in (CALENDAR, DURATION, PART_OF_DAY, OTHER_FORMS))
+
+
+def better(value: str) -> str | None:
+    """A value that was probably meant by one that has no form."""
+    plain = value.strip().upper()
+    if plain != value and has_form(plain):
+        return plain
+    if has_form("P" + plain) and not CALENDAR.fullmatch(plain):
+        return "P" + plain
+    quarter = re.fullmatch(r"(\d{4})-?(Q[1-4]|W\d\d|H[12])", plain, re.ASCII)
+    if quarter:
+        return f"{quarter[1]}-{quarter[2]}"
+    month = re.fullmatch(r"(\d{4})[-/.](\d{1,2})", plain, re.ASCII)
+    if month:
+        return real(f"{month[1]}-{month[2]:0>2}")
+    return dated(plain)
+
+
+def dated(value: str) -> str | None:
+    """A date in the order of the calendar; None where the day and the month cannot be told apart."""
+    found = NUMBERS.fullmatch(value)
+    if found is None:
+        return None
+    if found[5]:
+        first, second = sorted((int(found[5]), int(found[6])))
+        return real(f"{found[7]}-{first:02}-{second:02}") if second > 12 or first == second else None
+    year, month, day, rest = (found[1], found[2], found[3], found[4]) if found[1] else (found[8], found[9], found[10], found[11])
+    return real(f"{year}-{month:0>2}-{day:0>2}{rest or ''}")
+
+
+def real(value: str) -> str | None:
+    """The value, if it is one of the calendar."""
+    return value if CALENDAR.fullmatch(value) and no_date(value) is None else None
+
+
+def no_date(value: str) -> str | None:
+    """Why a value of a calendar shape is no date; None where it is one, or has no such shape."""
+    found = CALENDAR.fullmatch(value)
+    if found is None:
+        return None
+    if found["year"] == "0000":
+        return "the first year is 0001"
+    for field, first, last, words in (
+        ("month", 1, 12, "the months are 01 to 12"),
+        ("weekday", 1, 7, "the days of a week are 1 to 7"),
+        ("quarter", 1, 4, "the quarters are 1 to 4"),
+        ("hour", 0, 24, "the hours are 00 to 24"),
+        ("minute", 0, 59, "the minutes are 00 to 59"),
+        ("second", 0, 59, "the seconds are 00 to 59"),
+    ):
+        if is_number(found[field]) and not first <= int(found[field]) <= last:
+            return words + exchanged(found)
+    return no_day(found) or no_week(found) or past_midnight(found)
+
+
+def is_number(field: str | None) -> bool:
+    """Whether a field is there and is no X."""
+    return field is not None and "X" not in field
+
+
+def exchanged(found: re.Match[str]) -> str:
+    """A hint where the month and the day were exchanged."""
+    if not is_number(found["month"]) or not is_number(found["day"]) or int(found["month"]) <= 12 or int(found["day"]) > 12:
+        return ""
+    other = f"{found['year']}-{found['day']}-{found['month']}" + found.string[len("YYYY-MM-DD") :]
+    return f"; did you mean {other}?" if real(other) else ""
+
+
+def years_of(found: re.Match[str]) -> list[int]:
+    """The years that a year with X may be: of a century or of all years as many as have every kind of year among them."""
+    digits = found["year"].rstrip("X")
+    first = int(digits.ljust(4, "0")) if digits else 1996
+    count = {4: 1, 3: 10, 2: 100, 0: 28}[len(digits)]
+    return [year for year in range(first, first + count) if year in YEARS]
+
+
+def no_day(found: re.Match[str]) -> str | None:
+    """Why no month has the day."""
+    if not is_number(found["day"]):
+        return None
+    day, years = int(found["day"]), years_of(found)
+    if day == 0:
+        return "the first day of a month is 01"
+    if not is_number(found["month"]):
+        return "no month has more than 31 days" if day > 31 else None
+    month = int(found["month"])
+    days = max(calendar.monthrange(year, month)[1] for year in years)
+    if day <= days:
+        return None
+    if len(years) == 1:
+        return f"{MONTH_NAMES[month]} {found['year']} has {days} days"
+    return f"{MONTH_NAMES[month]} never has more than {days} days"
+
+
+def no_week(found: re.Match[str]) -> str | None:
+    """Why no year has the week."""
+    if not is_number(found["week"]):
+        return None
+    week, years = int(found["week"]), years_of(found)
+    if week == 0:
+        return "the first week of a year is W01"
+    weeks = max(date(year, 12, 28).isocalendar().week for year in years)
+    if week <= weeks:
+        return None
+    return f"{found['year']} has {weeks} weeks" if len(years) == 1 else f"no year has more than {weeks} weeks"
+
+
+def past_midnight(found: re.Match[str]) -> str | None:
+    """Why no day has the time."""
+    if found["hour"] != "24":
+        return None
+    later = [found[field] for field in ("minute", "second") if is_number(found[field]) and int(found[field]) > 0]
+    return "at 24:00 the day is over: write 00 and the next day" if later else None

@@ -1,0 +1,39 @@
+"""Wrappers that a corpus has of its own: `tml` is asked about a copy in which spaces stand in the place of their tags.
+
+So all places stay, and what the tags hold is judged as if they were not there.
+"""
+
+from __future__ import annotations
+
+import re
+from collections.abc import Iterable
+from typing import IO
+
+from .edits import applied, blank
+from .files import read_open
+from .program import ACCEPTED, Program, Reply
+from .units import read_units
+
+
+class Unwrapping(Program):
+    """`tml`, which is asked about documents without the tags of these names."""
+
+    def __init__(self, path: str, names: Iterable[str]) -> None:
+        super().__init__(path)
+        self.names = frozenset(names)
+        self.opening = re.compile(b"|".join(b"<" + re.escape(name.encode()) for name in sorted(self.names)))
+
+    def ask(self, words: list[str], document: bytes | IO[bytes], folder: str | None = None) -> Reply:
+        """Asks about the document without these tags; a document that is not cut into units is asked about as it is."""
+        if not isinstance(document, bytes):
+            document = read_open(document)
+        return super().ask(words, self.unwrapped(document), folder)
+
+    def unwrapped(self, document: bytes) -> bytes:
+        """The document with spaces in the place of these tags."""
+        if not self.opening.search(document):
+            return document
+        reply = super().ask(["spans", "-"], document)
+        if reply.status != ACCEPTED:
+            return document
+        return applied(document, [blank(unit) for unit in read_units(reply).named(*self.names)])
