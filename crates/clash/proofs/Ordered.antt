@@ -11,7 +11,7 @@ use Rattle.net_core.specs.Relations.{Timeline}
 use Rattle.net_core.specs.declared.atom.Atom.{Atom}
 use Rattle.order_closure.specs.Tables.{AreInRange, SatisfiesAll}
 use Rattle.clash.specs.Steps.{KeepsDates}
-use Rattle.clash.specs.Orders.{AllAreTrueBut, AreBelow, IsTrueBut, Puts, is_link}
+use Rattle.clash.specs.Orders.{AllAreTrueBut, AreBelow, IsTrueBut, Appends, is_link}
 use Rattle.clash.specs.declared.orders.Order.{Order}
 use Rattle.clash.proofs.LinkAtoms.{no_atom}
 use Rattle.clash.proofs.Steps.{Below, all_below}
@@ -31,8 +31,8 @@ all_parts P xs ys = (
 )
 
 -- one order is put last
-pub puts_one : (n : ℕ) (order : Order) (old new : List Order) → IsInRange n order.atom → new ≡ old ++ order ∷ [] → Puts n (λ but t. IsTrueBut but order t) old new
-puts_one n order old new in_range is = subst (Puts n (λ but t. IsTrueBut but order t) old) (sym is) record {
+pub appends_one : (n : ℕ) (order : Order) (old new : List Order) → IsInRange n order.atom → new ≡ old ++ order ∷ [] → Appends n (λ but t. IsTrueBut but order t) old new
+appends_one n order old new in_range is = subst (Appends n (λ but t. IsTrueBut but order t) old) (sym is) record {
   in_range = λ below. All-push (λ (o : Order). IsInRange n o.atom) old order below in_range;
   exact = λ but t. (
     λ all. let both = (all_parts (λ o. IsTrueBut but o t) old (order ∷ [])).0 all in (both.0, both.1 0 order (omega arith)),
@@ -41,16 +41,16 @@ puts_one n order old new in_range is = subst (Puts n (λ but t. IsTrueBut but or
 }
 
 -- nothing is put last
-pub puts_nothing : (n : ℕ) (Says : ℕ → Timeline → Type 0) (old : List Order) → ((but : ℕ) (t : Timeline) → Says but t) → Puts n Says old old
-puts_nothing n Says old says = record { in_range = λ below. below; exact = λ but t. (λ all. (all, says but t), λ both. both.0) }
+pub appends_nothing : (n : ℕ) (Says : ℕ → Timeline → Type 0) (old : List Order) → ((but : ℕ) (t : Timeline) → Says but t) → Appends n Says old old
+appends_nothing n Says old says = record { in_range = λ below. below; exact = λ but t. (λ all. (all, says but t), λ both. both.0) }
 
-pub puts_none : (n : ℕ) (Each : ℕ → ℕ → Timeline → Type 0) (old : List Order) → Puts n (λ but t. Below (λ j u. Each j but u) 0 t) old old
-puts_none n Each old = puts_nothing n (λ but t. Below (λ j u. Each j but u) 0 t) old (λ but t j lt. absurd (omega arith))
+pub appends_none : (n : ℕ) (Each : ℕ → ℕ → Timeline → Type 0) (old : List Order) → Appends n (λ but t. Below (λ j u. Each j but u) 0 t) old old
+appends_none n Each old = appends_nothing n (λ but t. Below (λ j u. Each j but u) 0 t) old (λ but t j lt. absurd (omega arith))
 
 -- one thing after others
-pub puts_more : (n : ℕ) (Each : ℕ → ℕ → Timeline → Type 0) (k : ℕ) (start now next : List Order)
-    → Puts n (λ but t. Below (λ j u. Each j but u) k t) start now → Puts n (Each k) now next → Puts n (λ but t. Below (λ j u. Each j but u) (k + 1) t) start next
-puts_more n Each k start now next so_far this = record {
+pub appends_more : (n : ℕ) (Each : ℕ → ℕ → Timeline → Type 0) (k : ℕ) (start now next : List Order)
+    → Appends n (λ but t. Below (λ j u. Each j but u) k t) start now → Appends n (Each k) now next → Appends n (λ but t. Below (λ j u. Each j but u) (k + 1) t) start next
+appends_more n Each k start now next so_far this = record {
   in_range = λ below. this.in_range (so_far.in_range below);
   exact = λ but t. (
     λ all.
@@ -62,12 +62,12 @@ puts_more n Each k start now next so_far this = record {
 }
 
 -- the same of something that is true where it is
-pub puts_same : (n : ℕ) (P Q : ℕ → Timeline → Type 0) (old new : List Order) → ((but : ℕ) (t : Timeline) → P but t ↔ Q but t) → Puts n P old new → Puts n Q old new
-puts_same n P Q old new same puts = record {
-  in_range = puts.in_range;
+pub appends_same : (n : ℕ) (P Q : ℕ → Timeline → Type 0) (old new : List Order) → ((but : ℕ) (t : Timeline) → P but t ↔ Q but t) → Appends n P old new → Appends n Q old new
+appends_same n P Q old new same appends = record {
+  in_range = appends.in_range;
   exact = λ but t. (
-    λ all. let both = (puts.exact but t).0 all in (both.0, (same but t).0 both.1),
-    λ both. (puts.exact but t).1 (both.0, (same but t).1 both.1),
+    λ all. let both = (appends.exact but t).0 all in (both.0, (same but t).0 both.1),
+    λ both. (appends.exact but t).1 (both.0, (same but t).1 both.1),
   );
 }
 
@@ -89,12 +89,12 @@ link_orders atoms link but t =
       λ holds k lt is. each.1 (holds (test.0 is)) k lt,
     )
 
--- orders that are put last in an empty list are all of them
-pub orders_put : (n : ℕ) (Says : ℕ → Timeline → Type 0) (orders : List Order) → Puts n Says [] orders
+-- orders that are appended to an empty list are all of them
+pub orders_appended : (n : ℕ) (Says : ℕ → Timeline → Type 0) (orders : List Order) → Appends n Says [] orders
     → (AreBelow n orders) × ((but : ℕ) (t : Timeline) → AllAreTrueBut but orders t ↔ Says but t)
-orders_put n Says orders puts = (
-  puts.in_range (λ k d lt. absurd (omega arith)),
-  λ but t. (λ all. ((puts.exact but t).0 all).1, λ says. (puts.exact but t).1 (λ k d lt. absurd (omega arith), says)),
+orders_appended n Says orders appends = (
+  appends.in_range (λ k d lt. absurd (omega arith)),
+  λ but t. (λ all. ((appends.exact but t).0 all).1, λ says. (appends.exact but t).1 (λ k d lt. absurd (omega arith), says)),
 )
 
 -- the first n intervals start before they end

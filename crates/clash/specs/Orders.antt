@@ -41,7 +41,7 @@ abbrev pub AreBelow : ℕ → List Order → Type 0
 AreBelow n orders = All (λ (order : Order). IsInRange n order.atom) orders
 
 -- orders of points below n were put last; whatever link is left out, they say this
-pub record Puts (n : ℕ) (Says : ℕ → Timeline → Type 0) (old new : List Order) : Type 0 where
+pub record Appends (n : ℕ) (Says : ℕ → Timeline → Type 0) (old new : List Order) : Type 0 where
   pub in_range : AreBelow n old → AreBelow n new
   pub exact : (but : ℕ) (t : Timeline) → AllAreTrueBut but new t ↔ (AllAreTrueBut but old t × Says but t)
 

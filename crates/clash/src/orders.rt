@@ -1,6 +1,6 @@
 //! The orders of points that the steps of a walk are over.
 ghost use Rattle.clash.specs.Orders as spec;
-ghost use Rattle.clash.specs.Orders.{AreFixed, AreOrdersOf, HoldsBut, Puts};
+ghost use Rattle.clash.specs.Orders.{AreFixed, AreOrdersOf, HoldsBut, Appends};
 ghost use Rattle.net_core.specs.Atoms.{atoms_in};
 ghost use Rattle.net_core.specs.Fits.{Fits, KeepsLink};
 ghost use Rattle.net_core.specs.Nets.{points};
@@ -48,9 +48,9 @@ pub fn orders_of(alloc: Global, net: &Net, steps: &[Step]) -> Result<List<Order>
     Ok(orders)
 }
 
-/// Puts the orders that a step is over last.
+/// Appends the orders that a step is over.
 fn push_step(orders: &mut List<Order>, net: &Net, step: &Step) -> Result<(), Memory>
-    ensures { OnOk result (Puts (points net.now) (λ but t. HoldsBut net.now but step.now t) orders.old orders.new) }
+    ensures { OnOk result (Appends (points net.now) (λ but t. HoldsBut net.now but step.now t) orders.old orders.new) }
 {
     if let Some(link) = step.link() {
         if link < net.links() {
@@ -62,10 +62,10 @@ fn push_step(orders: &mut List<Order>, net: &Net, step: &Step) -> Result<(), Mem
     Ok(())
 }
 
-/// Puts the orders of a link last.
+/// Appends the orders of a link.
 fn push_link(orders: &mut List<Order>, net: &Net, link: u32) -> Result<(), Memory>
     requires { link < length net.now.links }
-    ensures { OnOk result (Puts (points net.now) (λ but t. link ≢ but → KeepsLink net.now t link) orders.old orders.new) }
+    ensures { OnOk result (Appends (points net.now) (λ but t. link ≢ but → KeepsLink net.now t link) orders.old orders.new) }
 {
     let atoms = atoms_of_link(net, link);
     for number in 0..atoms.count() {
@@ -114,7 +114,7 @@ pub fn all_orders(alloc: Global, net: &Net, fixed: &[Atom]) -> Result<Vec<Atom>,
     Ok(orders)
 }
 
-/// Puts the orders that a relation is last.
+/// Appends the orders that a relation is.
 fn push_atoms(orders: &mut Vec<Atom>, atoms: Atoms) -> Result<(), Memory>
     ensures { OnOk result (orders.new.items ≡ orders.old.items ++ atoms_in atoms) }
 {

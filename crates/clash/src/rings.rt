@@ -81,7 +81,7 @@ fn turned(alloc: Global, points: usize, orders: &[Atom]) -> Result<Vec<Atom>, Me
     Ok(turned)
 }
 
-/// Puts a point into a component, unless it is in one, and notes that it was met.
+/// Adds a point to a component, unless it is in one, and notes that it was met.
 fn meet(
     components: &mut [Option<usize>],
     point: usize,
@@ -102,7 +102,7 @@ fn meet(
     Ok(())
 }
 
-/// Puts all points that lead to those that were met into a component, unless they are in one. Each is met once.
+/// Adds all points that lead to those that were met to a component, unless they are in one. Each is met once.
 fn flood(
     entering: &Leaving,
     turned: &[Atom],
@@ -122,7 +122,7 @@ fn flood(
     Ok(())
 }
 
-/// Puts the points from which an order leads to this one into a component, unless they are in one.
+/// Adds the points from which an order leads to this one to a component, unless they are in one.
 fn spread(
     entering: &Leaving,
     turned: &[Atom],

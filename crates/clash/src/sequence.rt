@@ -153,7 +153,7 @@ fn follow(
     enter(leaving, orders[k].to as usize, seen, path)
 }
 
-/// Puts the orders that leave a point last.
+/// Appends the orders that leave a point.
 fn push_leaving(leaving: &Leaving, point: usize, sequence: &mut Vec<usize>) -> Result<(), Memory>
     requires leaving { AreLeaving leaving.now }
     requires point { point < length leaving.now.last.items }

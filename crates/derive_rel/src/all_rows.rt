@@ -38,7 +38,7 @@ pub fn rows(alloc: Global, closed: &Closed) -> Result<List<Row>, Memory>
     Ok(rows)
 }
 
-/// Puts the relations of an interval and each one after it last.
+/// Appends the relations of an interval and each one after it.
 fn push_from(rows: &mut List<Row>, closed: &Closed, masks: &[Mask], a: u32) -> Result<(), Memory>
     requires few { closed.now.points ≤ max_table_points }
     requires a { 2 * a + 1 < closed.now.points }
@@ -51,7 +51,7 @@ fn push_from(rows: &mut List<Row>, closed: &Closed, masks: &[Mask], a: u32) -> R
     Ok(())
 }
 
-/// Puts the relations of two intervals last. Where the table orders their points one way alone, only BEFORE or only AFTER
+/// Appends the relations of two intervals. Where the table orders their points one way alone, only BEFORE or only AFTER
 /// can be one: so it is for most intervals of most documents.
 fn push_pair(
     rows: &mut List<Row>,
@@ -78,7 +78,7 @@ fn push_pair(
     push_all(rows, closed, masks, a, b)
 }
 
-/// Puts a row last, where the first of two points is before the second: that is its relation, and no other one can hold
+/// Appends a row, where the first of two points is before the second: that is its relation, and no other one can hold
 /// between its intervals.
 fn push_alone(
     rows: &mut List<Row>,
@@ -101,7 +101,7 @@ fn push_alone(
     Ok(())
 }
 
-/// Puts the relations of two intervals last, each all of whose orders the table gives.
+/// Appends the relations of two intervals, each all of whose orders the table gives.
 fn push_all(
     rows: &mut List<Row>,
     closed: &Closed,

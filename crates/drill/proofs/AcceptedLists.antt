@@ -6,22 +6,22 @@ use Rattle.std.proofs.lemmas.List.Elements.{filter-append, filter_map-append}
 use Rattle.std.proofs.lemmas.List.Folds.{list_any-append}
 use Rattle.std.proofs.lemmas.List.Sums.{sum_by-cons, sum_by-append}
 
--- ---- what holds behind pieces
+-- ---- what holds after pieces
 
--- what a piece before keeps holds of a list behind all pieces
-pub behind_pieces : {A B : Type 0} (P : List B → Type 0) (Q : A → Type 0) (f : A → List B) → ((x : A) (rest : List B) → Q x → P rest → P (f x ++ rest))
+-- what a piece before keeps holds of a list after all pieces
+pub after_pieces : {A B : Type 0} (P : List B → Type 0) (Q : A → Type 0) (f : A → List B) → ((x : A) (rest : List B) → Q x → P rest → P (f x ++ rest))
     → (xs : List A) (rest : List B) → AllByRecursion Q xs → P rest → P (flat_map f xs ++ rest)
-behind_pieces P Q f more [] rest q h = h
-behind_pieces P Q f more (x ∷ xs) rest q h = subst P (sym (append_assoc (f x) (flat_map f xs) rest)) (more x (flat_map f xs ++ rest) q.0 (behind_pieces P Q f more xs rest q.1 h))
+after_pieces P Q f more [] rest q h = h
+after_pieces P Q f more (x ∷ xs) rest q h = subst P (sym (append_assoc (f x) (flat_map f xs) rest)) (more x (flat_map f xs ++ rest) q.0 (after_pieces P Q f more xs rest q.1 h))
 
 -- the same of two lists, whose pieces are made of the same
-pub behind_both : {A B C : Type 0} (P : List B → List C → Type 0) (Q : A → Type 0) (f : A → List B) (g : A → List C)
+pub after_both : {A B C : Type 0} (P : List B → List C → Type 0) (Q : A → Type 0) (f : A → List B) (g : A → List C)
     → ((x : A) (bs : List B) (cs : List C) → Q x → P bs cs → P (f x ++ bs) (g x ++ cs))
     → (xs : List A) (bs : List B) (cs : List C) → AllByRecursion Q xs → P bs cs → P (flat_map f xs ++ bs) (flat_map g xs ++ cs)
-behind_both P Q f g more [] bs cs q h = h
-behind_both P Q f g more (x ∷ xs) bs cs q h =
+after_both P Q f g more [] bs cs q h = h
+after_both P Q f g more (x ∷ xs) bs cs q h =
     subst (λ (p : List _ × List _). P p.0 p.1) (λ i. (sym (append_assoc (f x) (flat_map f xs) bs) i, sym (append_assoc (g x) (flat_map g xs) cs) i))
-    (more x (flat_map f xs ++ bs) (flat_map g xs ++ cs) q.0 (behind_both P Q f g more xs bs cs q.1 h))
+    (more x (flat_map f xs ++ bs) (flat_map g xs ++ cs) q.0 (after_both P Q f g more xs bs cs q.1 h))
 
 -- what holds of each element implies something else of it
 pub recursion_weaker : {A : Type 0} (P Q : A → Type 0) → ((x : A) → P x → Q x) → (xs : List A) → AllByRecursion P xs → AllByRecursion Q xs

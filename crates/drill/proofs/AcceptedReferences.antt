@@ -13,7 +13,7 @@ use Rattle.tml_types.specs.Content.{Content, Reference}
 use Rattle.tml_types.specs.References.{id_of, is_of_kind, reference, references_of}
 use Rattle.drill.specs.Texts.{event_name, instance_name}
 use Rattle.drill.proofs.AcceptedLinks.{HasEnds}
-use Rattle.drill.proofs.AcceptedLists.{any_in_range, behind_pieces, range_below}
+use Rattle.drill.proofs.AcceptedLists.{any_in_range, after_pieces, range_below}
 use Rattle.drill.proofs.AcceptedNames.{events_differ, instances_differ, event_is_no_instance, instance_is_no_event}
 use Rattle.drill.proofs.AcceptedTags.{contents_of, event_content, instance_content, interval_contents, link_content, link_contents}
 
@@ -115,6 +115,6 @@ module _ (n : ℕ) (links : List DocLink) where
   -- each reference of a drill is known
   pub references_known : AllByRecursion (HasEnds n) links → AllByRecursion (IsKnown all) all
   references_known ends =
-      let behind = behind_pieces (AllByRecursion (IsKnown all)) (HasEnds n) link_contents link_known links [] ends tt in
-      behind_pieces (AllByRecursion (IsKnown all)) (λ (i : ℕ). i < n) interval_contents interval_known (range_with_len 0 n) (flat_map link_contents links) (range_below 0 n n (omega arith))
-      (subst (AllByRecursion (IsKnown all)) (append-nil (flat_map link_contents links)) behind)
+      let later = after_pieces (AllByRecursion (IsKnown all)) (HasEnds n) link_contents link_known links [] ends tt in
+      after_pieces (AllByRecursion (IsKnown all)) (λ (i : ℕ). i < n) interval_contents interval_known (range_with_len 0 n) (flat_map link_contents links) (range_below 0 n n (omega arith))
+      (subst (AllByRecursion (IsKnown all)) (append-nil (flat_map link_contents links)) later)

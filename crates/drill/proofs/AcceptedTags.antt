@@ -30,7 +30,7 @@ use Rattle.tml_types.specs.Whole.{Types, has_rows}
 use Rattle.tml_types.proofs.KindNames.{names_differ}
 use Rattle.tml_types.proofs.OneRule.{rows_known, sound_by}
 use Rattle.drill.specs.Texts.{event_name, instance_name}
-use Rattle.drill.proofs.AcceptedLists.{behind_both}
+use Rattle.drill.proofs.AcceptedLists.{after_both}
 use Rattle.drill.proofs.AcceptedNames.{event_identifier, instance_identifier}
 use Rattle.drill.proofs.AcceptedTree.{line_end, event_node, instance_node, link_node, event_attributes, instance_attributes, link_attributes, interval_nodes, link_nodes, root_of}
 use Rattle.drill.proofs.AcceptedWriting.{IsSmall, HasSmallEnds}
@@ -166,7 +166,7 @@ root_says place tags contents h = record {
 pub tree_says : (numbers : List ℕ) (links : List DocLink) → AllByRecursion IsSmall numbers → AllByRecursion HasSmallEnds links → Say (elements (node_at 0 (root_of numbers links))) (contents_of numbers links)
 tree_says numbers links small ends =
     let last : NodesSay [] [] = λ place. say_none in
-    let behind = behind_both NodesSay HasSmallEnds link_nodes link_contents link_says links [] [] ends last in
-    let whole = subst (λ (p : List PlainNode × List Content). NodesSay p.0 p.1) (λ k. (append-nil (flat_map link_nodes links) k, append-nil (flat_map link_contents links) k)) behind in
-    let inside = behind_both NodesSay IsSmall interval_nodes interval_contents interval_says numbers (flat_map link_nodes links) (flat_map link_contents links) small whole in
+    let later = after_both NodesSay HasSmallEnds link_nodes link_contents link_says links [] [] ends last in
+    let whole = subst (λ (p : List PlainNode × List Content). NodesSay p.0 p.1) (λ k. (append-nil (flat_map link_nodes links) k, append-nil (flat_map link_contents links) k)) later in
+    let inside = after_both NodesSay IsSmall interval_nodes interval_contents interval_says numbers (flat_map link_nodes links) (flat_map link_contents links) small whole in
     root_says 0 _ (contents_of numbers links) (inside _)

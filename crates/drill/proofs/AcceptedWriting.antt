@@ -13,7 +13,7 @@ use Rattle.tml_span.specs.Written.{attribute_text, kind_text, written, IsAttribu
 use Rattle.tml_tree.specs.Plain.{PlainNode, nodes_of}
 use Rattle.tml_tree.specs.Written.{kinds_of, all_kinds, AllMayStand, MayBeRoot, root_kinds}
 use Rattle.drill.proofs.AcceptedBytes.{all_append, ascii_utf8, is_ascii, is_plain, plain_ascii, plain_references, plain_value, event_plain, instance_plain, relation_plain}
-use Rattle.drill.proofs.AcceptedLists.{behind_pieces}
+use Rattle.drill.proofs.AcceptedLists.{after_pieces}
 use Rattle.drill.proofs.AcceptedTree.{event_attributes, instance_attributes, link_attributes, interval_nodes, link_nodes, lines_of, root_of, flat_map_pieces, kinds_of_nodes}
 
 -- ---- tags of plain bytes
@@ -131,8 +131,8 @@ units_are numbers links = sym (ap (λ (ks : List Kind). start_tag (codes "TimeML
 units_follow : (numbers : List ℕ) (links : List DocLink) → AllByRecursion IsSmall numbers → AllByRecursion HasSmallEnds links → Follow (root_units numbers links)
 units_follow numbers links small ends =
     let last : Follow (end_tag (codes "TimeML") ∷ text (codes "\n") ∷ []) = record { safe = ((refl, refl), (line_safe, tt)); begins = λ b. b; apart = (λ b. b, tt) } in
-    let behind = behind_pieces Follow HasSmallEnds link_kinds link_follows links (end_tag (codes "TimeML") ∷ text (codes "\n") ∷ []) ends last in
-    let inside = behind_pieces Follow IsSmall interval_kinds interval_follows numbers (flat_map link_kinds links ++ (end_tag (codes "TimeML") ∷ text (codes "\n") ∷ [])) small behind in
+    let later = after_pieces Follow HasSmallEnds link_kinds link_follows links (end_tag (codes "TimeML") ∷ text (codes "\n") ∷ []) ends last in
+    let inside = after_pieces Follow IsSmall interval_kinds interval_follows numbers (flat_map link_kinds links ++ (end_tag (codes "TimeML") ∷ text (codes "\n") ∷ [])) small later in
     record { safe = (start_safe (codes "TimeML") [] refl refl tt, (line_safe, inside.safe)); begins = λ b. b; apart = (inside.begins, inside.apart) }
 
 -- units that can be written in ASCII can be written
@@ -184,6 +184,6 @@ link_stands link rest q h = ((refl, refl, omega arith, λ e. refl, tt), (tt, h))
 -- each node of the tree may stand where it does
 pub root_stands : (numbers : List ℕ) (links : List DocLink) → MayBeRoot (root_of numbers links)
 root_stands numbers links =
-    let behind = behind_pieces MayStandInRoot IsAnything link_nodes link_stands links [] (anything links) tt in
-    let inside = behind_pieces MayStandInRoot IsAnything interval_nodes interval_stands numbers (flat_map link_nodes links) (anything numbers) (subst MayStandInRoot (append-nil (flat_map link_nodes links)) behind) in
+    let later = after_pieces MayStandInRoot IsAnything link_nodes link_stands links [] (anything links) tt in
+    let inside = after_pieces MayStandInRoot IsAnything interval_nodes interval_stands numbers (flat_map link_nodes links) (anything numbers) (subst MayStandInRoot (append-nil (flat_map link_nodes links)) later) in
     (refl, (tt, inside))

@@ -49,7 +49,7 @@ fn document(alloc: Global, n: u32) -> Result<Vec<u8>, AllocError>
     Ok(text)
 }
 
-/// Puts an event and its instance last.
+/// Appends an event and its instance.
 fn push_interval(out: &mut Vec<u8>, i: u32) -> Result<(), AllocError>
     ensures { OnOk result (out.new.items ≡ out.old.items ++ texts.interval_lines i) }
 {
@@ -60,7 +60,7 @@ fn push_interval(out: &mut Vec<u8>, i: u32) -> Result<(), AllocError>
     out.extend_from_slice(b"\"/>\n")
 }
 
-/// Puts the links of a drill last, after the numbers for its intervals were drawn.
+/// Appends the links of a drill, after the numbers for its intervals were drawn.
 fn push_links(out: &mut Vec<u8>, hidden: &[Ends], mut draws: Draws) -> Result<(), AllocError>
     requires some { 1 ≤ length hidden.now }
     requires few { length hidden.now ≤ max_intervals }
@@ -99,7 +99,7 @@ fn push_links_from(
     Ok(())
 }
 
-/// Puts the link from an interval to one before it last, where a relation holds between them.
+/// Appends the link from an interval to one before it, where a relation holds between them.
 fn push_link_between(out: &mut Vec<u8>, hidden: &[Ends], i: u32, j: u32) -> Result<(), AllocError>
     requires hidden { hidden.now ≡ hidden_intervals (length hidden.now) }
     requires i { i < length hidden.now }
@@ -112,7 +112,7 @@ fn push_link_between(out: &mut Vec<u8>, hidden: &[Ends], i: u32, j: u32) -> Resu
     }
 }
 
-/// Puts a TLINK last.
+/// Appends a TLINK.
 fn push_link(out: &mut Vec<u8>, link: DocLink) -> Result<(), AllocError>
     ensures { OnOk result (out.new.items ≡ out.old.items ++ texts.link_line link) }
 {
@@ -123,7 +123,7 @@ fn push_link(out: &mut Vec<u8>, link: DocLink) -> Result<(), AllocError>
     out.extend_from_slice(b"\"/>\n")
 }
 
-/// Puts a text and a number last.
+/// Appends a text and a number.
 fn push_numbered(out: &mut Vec<u8>, text: &[u8], number: u32) -> Result<(), AllocError>
     ensures { OnOk result (out.new.items ≡ out.old.items ++ text.now ++ decimal number) }
 {

@@ -40,21 +40,21 @@ rest_lines (clash cites walk spares) = map cite_line cites ++ (walk_lines walk +
 abbrev pub HasRest : Head → PlainEvidence → Lines → Type 0
 HasRest h e ls = IsWellFormed e × (head_for e ≡ h) × (ls ≡ rest_lines e)
 
--- the body is the line that tells the kind, and those that follow it
+-- the body is the line that names the kind, and those that follow it
 pub body_is : (e : PlainEvidence) → body_lines e ≡ head_line (head_for e) ∷ rest_lines e
 body_is (timeline ranks) = refl
 body_is (entails a r b walks) = refl
 body_is (counter a r b ranks) = refl
 body_is (clash cites walk spares) = refl
 
--- the kind of well-formed evidence can be told
+-- the kind of well-formed evidence is determined
 head_is : (e : PlainEvidence) → IsWellFormed e → IsHead (head_for e)
 head_is (timeline ranks) h = h.1
 head_is (entails a r b walks) h = (h.0, h.1)
 head_is (counter a r b ranks) h = (h.0, h.1)
 head_is (clash cites walk spares) h = h.0.2
 
--- ---- what follows the line that tells the kind
+-- ---- what follows the line that names the kind
 
 -- the ranks of so many intervals, by their lines
 abbrev HasRanks : ℕ → List (ℕ × ℕ) → Lines → Type 0
@@ -168,7 +168,7 @@ exact_clash n small =
     exact_same (HasClash n) (HasRest (Clash n)) (λ ls. cites_at n 0 ls >>= λ cites. walk_at cites.1 >>= λ walk. many_at timeline_at n walk.1 >>= λ spares. Ok (clash cites.0 walk.0 spares.0, spares.1)) (clash_is n) (clash_has n)
     (exact_then (HasCites n) (HasWalkAndSpares n) (cites_at n 0) (λ cites ls. walk_at ls >>= λ walk. many_at timeline_at n walk.1 >>= λ spares. Ok (clash cites walk.0 spares.0, spares.1)) (exact_cites n small) (λ cites prefix g. exact_walk_and_spares n cites))
 
--- what follows the line that tells the kind
+-- what follows the line that names the kind
 exact_rest : (h : Head) → IsHead h → Exact (HasRest h) (rest_at h)
 exact_rest (Timeline n) h = exact_ranks n h
 exact_rest (Entails a r b) h = exact_walks a r b h.0 h.1

@@ -1,4 +1,4 @@
--- The forms of lines of steps, and of those that tell the kind of evidence.
+-- The forms of lines of steps, and of those that name the kind of evidence.
 use Rattle.std.proofs.Common.{◌≡◌, ℕ, List, ◌⊎◌, inl, inr, Option, Some, None, refl, subst}
 use Rattle.std.specs.Prelude.{codes, option_map}
 use Rattle.std.specs.Option.{option_or}
@@ -68,7 +68,7 @@ step_form = record { again = step_again; found = step_found }
 
 -- ---- the kinds of evidence
 
--- the line that tells the kind
+-- the line that names the kind
 abbrev pub head_line : Head → List ℕ
 head_line (head.Timeline n) = one_number (codes "timeline ") n
 head_line (head.Entails a r b) = relation_line (codes "entails ") a r b
@@ -82,11 +82,11 @@ IsHead (head.Entails a r b) = IsNumber a × IsNumber b
 IsHead (head.Counter a r b) = IsNumber a × IsNumber b
 IsHead (head.Clash n) = IsNumber n
 
--- a line tells a kind
+-- a line names a kind
 abbrev SaysHead : List ℕ → Head → Type 0
 SaysHead l h = (head_line h ≡ l) × IsHead h
 
--- a line of which a kind is read tells it
+-- a line of which a kind is read names it
 head_found : (l : List ℕ) (h : Head) → head_of l ≡ Some h → SaysHead l h
 unfolding head_of
 head_found l h e =
@@ -139,6 +139,6 @@ head_again (head.Entails a r b) f = rw (no_timeline_entails a r b, (relation_for
 head_again (head.Counter a r b) f = rw (no_timeline_counter a r b, no_entails_counter a r b, (relation_form (codes "counter ")).again (a, r, b) f) refl
 head_again (head.Clash n) f = rw (no_timeline_clash n, no_entails_clash n, no_counter_clash n, (one_form (codes "clash ")).again n f) refl
 
--- lines that tell a kind
+-- lines that name a kind
 pub head_form : IsForm head_line IsHead head_of
 head_form = record { again = head_again; found = head_found }

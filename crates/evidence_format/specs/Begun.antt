@@ -25,7 +25,7 @@ Reads e (Ok evidence) = plain evidence ≡ e
 Reads e (Err Memory) = ⊤
 Reads e (Err (BadLine line)) = ⊥
 
--- the bad line is told, unless out of memory
+-- the bad line is reported, unless out of memory
 abbrev pub TellsBadLine : List ℕ → ReadEvidence → Type 0
 TellsBadLine text Memory = ⊤
 TellsBadLine text (BadLine line) = IsBadLine text line

@@ -20,7 +20,7 @@ cite_of left least line = do
   link ← one_of (codes "cite ") line
   if nat_le least link && nat_lt (link + left) (2 ^ 32) then Some link else None
 
--- the kind of evidence, by the line that tells it
+-- the kind of evidence, by the line that names it
 unfoldable pub head_of : List ℕ → Option Head
 head_of line =
     option_or (option_map (λ n. head.Timeline n) (one_of (codes "timeline ") line))

@@ -44,7 +44,7 @@ cites_at (suc left) least ls = do
   more ← cites_at left (link.0 + 1) link.1
   Ok (link.0 ∷ more.0, more.1)
 
--- what follows the line that tells the kind
+-- what follows the line that names the kind
 unfoldable pub rest_at : Head → Lines → Read PlainEvidence
 rest_at (Timeline n) ls = do
   ranks ← ranks_at n ls

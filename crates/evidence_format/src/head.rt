@@ -1,4 +1,4 @@
-//! The line that tells the kind of evidence.
+//! The line that names the kind of evidence.
 ghost use Rattle.evidence_format.specs.Forms as forms;
 ghost use Rattle.evidence_format.specs.Given.{Gives};
 ghost use Rattle.evidence_format.specs.Lines.{lines_of};
@@ -32,7 +32,7 @@ pub fn head_at(text: &[u8]) -> Result<(Head, &[u8]), Stop<'_>>
     Ok((head, rest))
 }
 
-/// The kind that a line tells. None comes exactly where it tells none.
+/// The kind that a line names. None comes exactly where it names none.
 #[tactic(auto, unfolding(crate::specs::Forms::head_of))]
 fn head_of(line: &[u8]) -> Option<Head>
     ensures { result ≡ forms.head_of line.now }

@@ -79,7 +79,7 @@ fn body_at<'t>(alloc: Global, text: &'t [u8]) -> Result<(Evidence, &'t [u8]), St
     rest_at(alloc, head, rest)
 }
 
-/// What follows the line that tells the kind.
+/// What follows the line that names the kind.
 #[tactic(auto, unfolding(crate::specs::Readers::rest_at))]
 fn rest_at<'t>(alloc: Global, head: Head, text: &'t [u8]) -> Result<(Evidence, &'t [u8]), Stop<'t>>
     ensures { Gives (λ x. (plain x.0, lines_of x.1.now)) result (readers.rest_at head (lines_of text.now)) }

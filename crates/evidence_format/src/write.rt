@@ -40,7 +40,7 @@ fn text_bytes(alloc: Global, evidence: &Evidence) -> Result<Vec<u8>, AllocError>
     Ok(out)
 }
 
-/// Puts last what stands between the first line and the last one.
+/// Appends what stands between the first line and the last one.
 fn push_body(out: &mut Vec<u8>, evidence: &Evidence) -> Result<(), AllocError>
     requires { IsWellFormed (plain evidence.now) }
     ensures { OnOk result (out.new.items ≡ out.old.items ++ body_bytes (plain evidence.now)) }

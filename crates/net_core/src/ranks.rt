@@ -57,7 +57,7 @@ impl Ranks {
         self.items.len() / 2
     }
 
-    /// Puts the ranks of one more interval last. After `Memory` the list is unchanged.
+    /// Appends the ranks of one more interval. After `Memory` the list is unchanged.
     pub fn push(&mut self, start: u32, finish: u32) -> Result<(), Memory>
         ensures ok { OnOk result (self.new ≡ self.old ++ start ∷ finish ∷ []) }
         ensures pairs { OnOk result (pairs_of self.new ≡ pairs_of self.old ++ (start, finish) ∷ []) }

@@ -44,7 +44,7 @@ impl Walk {
         self.steps.as_slice()
     }
 
-    /// Puts a step last. After `Memory` the walk is unchanged.
+    /// Appends a step. After `Memory` the walk is unchanged.
     pub fn push(&mut self, step: Step) -> Result<(), Memory>
         ensures ok { OnOk result (self.new ≡ self.old ++ step ∷ []) }
         ensures err { OnErr result (self.new ≡ self.old) }

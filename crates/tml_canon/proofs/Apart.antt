@@ -21,7 +21,7 @@ Spares kinds others = (NoTextsMeet kinds → NoTextsMeet others) × (BeginsWithT
 -- ---- nodes and their units
 
 mutual
-  -- texts meet in the canonical form of a node, and behind it, only where they do among its units
+  -- texts meet in the canonical form of a node, and after it, only where they do among its units
   item_spares : (node : PlainNode) (us : List PlainUnit) (kinds others : List Kind) → Item node us → Spares kinds others → Spares (map kind_of us ++ kinds) (kinds_of (canonical node) ++ others)
   item_spares (text_node start end bytes) us kinds others i h =
       subst (λ (vs : List PlainUnit). Spares (map kind_of vs ++ kinds) (text bytes ∷ others)) (sym i) (λ apart. (λ begins. apart.0 (h.1 begins), h.0 apart.1), λ begins. tt)
@@ -58,7 +58,7 @@ leaf_passed (text_node start end bytes) us rest e i = ap (λ (vs : List PlainUni
 leaf_passed (comment_node start end bytes) us rest e i = ap (λ (vs : List PlainUnit). after_tag (vs ++ rest)) i
 leaf_passed (element start end name attrs children) us rest e i = absurd cc
 
--- the units of the first element among nodes, and those behind it
+-- the units of the first element among nodes, and those after it
 root_units : (nodes : List PlainNode) (root : PlainNode) (others : List PlainNode) (us : List PlainUnit) → filter is_element nodes ≡ root ∷ others → Items (nodes_of nodes) us
     → (own : List PlainUnit) × (rest : List PlainUnit) × Item root own × (after_tag us ≡ after_tag (own ++ rest))
 root_units [] root others us e i = absurd cc
@@ -70,7 +70,7 @@ root_units (n ∷ nodes) root others us e i =
           (later.0, later.1, later.2, ap (λ (vs : List PlainUnit). after_tag vs) i.2 ∙ leaf_passed n i.0 i.1 is i.3 ∙ later.3)
     ] refl e
 
--- where no two texts meet behind the first tag of a root, none do in its canonical form
+-- where no two texts meet after the first tag of a root, none do in its canonical form
 root_apart : (root : PlainNode) (own rest : List PlainUnit) → MayBeRoot root → Item root own → NoTextsMeet (map kind_of (after_tag (own ++ rest))) → NoTextsMeet (root_kinds (canonical root))
 root_apart (text_node start end bytes) own rest m i h = absurd m
 root_apart (comment_node start end bytes) own rest m i h = absurd m
@@ -80,8 +80,8 @@ root_apart (element start end name attrs (more n ns)) own rest m (inr i) h =
     let last = unit i.2 end (end_tag name) in
     let line = text (codes "\n") ∷ [] in
     let spares = items_spare (more n ns) i.0 (end_tag name ∷ map kind_of rest) (end_tag name ∷ line) i.4 (λ apart. (λ begins. begins, tt), λ begins. begins) in
-    let behind = ap (λ (vs : List PlainUnit). map kind_of (after_tag (vs ++ rest))) i.3 ∙ ap (λ (vs : List PlainUnit). map kind_of vs) (append_assoc i.0 (last ∷ []) rest) ∙ map-append kind_of i.0 (last ∷ rest) in
-    subst (λ (ks : List Kind). NoTextsMeet ks) (sym (append_assoc (all_kinds (canonical_nodes (more n ns))) (end_tag name ∷ []) line)) (spares.0 (subst (λ (ks : List Kind). NoTextsMeet ks) behind h))
+    let later = ap (λ (vs : List PlainUnit). map kind_of (after_tag (vs ++ rest))) i.3 ∙ ap (λ (vs : List PlainUnit). map kind_of vs) (append_assoc i.0 (last ∷ []) rest) ∙ map-append kind_of i.0 (last ∷ rest) in
+    subst (λ (ks : List Kind). NoTextsMeet ks) (sym (append_assoc (all_kinds (canonical_nodes (more n ns))) (end_tag name ∷ []) line)) (spares.0 (subst (λ (ks : List Kind). NoTextsMeet ks) later h))
 
 -- what is written of a root begins with no text
 pub root_begins : (root : PlainNode) → MayBeRoot root → BeginsWithText (root_kinds root) → ⊥
@@ -90,10 +90,10 @@ root_begins (comment_node start end bytes) m begins = m
 root_begins (element start end name attrs none) m begins = begins
 root_begins (element start end name attrs (more n ns)) m begins = begins
 
--- in the canonical form of the tree of a source, and the LF behind it, no text meets another one
+-- in the canonical form of the tree of a source, and the LF after it, no text meets another one
 pub apart : (source : List ℕ) (root : PlainNode) → IsTreeOf source root → NoTextsMeet (root_kinds (canonical root))
 apart source root t =
     let nodes = t.2.1.0 in
-    let behind = apart_after_tag [] t.0 0 source [] [] (record { tags = []; nodes = nodes }) refl (open_runs t.0 [] nodes t.2.1.1) t.2.0.1 t.1.1 in
+    let later = apart_after_tag [] t.0 0 source [] [] (record { tags = []; nodes = nodes }) refl (open_runs t.0 [] nodes t.2.1.1) t.2.0.1 t.1.1 in
     let units = root_units nodes root [] (filter is_content t.0) t.2.1.2 t.2.1.1 in
-    root_apart root units.0 units.1 (stands source root t) units.2 (subst (λ (vs : List PlainUnit). NoTextsMeet (map kind_of vs)) units.3 behind)
+    root_apart root units.0 units.1 (stands source root t) units.2 (subst (λ (vs : List PlainUnit). NoTextsMeet (map kind_of vs)) units.3 later)

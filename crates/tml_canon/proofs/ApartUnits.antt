@@ -1,4 +1,4 @@
--- In the cut of a source two texts never follow each other, and behind the first tag each unit is part of an item.
+-- In the cut of a source two texts never follow each other, and after the first tag each unit is part of an item.
 use Rattle.std.proofs.Common.{◌≡◌, ◌≢◌, ◌⊎◌, inl, inr, ℕ, ◌+◌, ◌<◌, true, false, cond, List, [], ◌∷◌, ◌++◌, length, map, refl, sym, ap, subst, ◌∙◌, append_assoc, arith, Some}
 use Rattle.std.specs.List.{filter, list_any, list_all}
 use Rattle.std.proofs.lemmas.Bool.{both_ways, or_cases, or_left, or_parts, or_right, cond-true}
@@ -23,7 +23,7 @@ use Rattle.tml_canon.proofs.Allowed.{not_at_fault}
 abbrev pub kind_of : PlainUnit → Kind
 kind_of u = u.kind
 
--- the units behind the first tag
+-- the units after the first tag
 abbrev pub after_tag : List PlainUnit → List PlainUnit
 after_tag [] = []
 after_tag (u ∷ us) = cond (is_tag u) us (after_tag us)
@@ -55,7 +55,7 @@ cut_apart : (place : ℕ) (bytes : List ℕ) (us : List PlainUnit) → CutsFrom 
 cut_apart place bytes [] c = tt
 cut_apart place bytes (u ∷ us) c = kind_apart u.kind (place + length c.0) c.1 us c.4 c.5 (cut_apart (place + length c.0) c.1 us c.5)
 
--- ---- behind a tag
+-- ---- after a tag
 
 -- a tag is among units where it is among the first or the last of them
 tagged_more : (us vs : List PlainUnit) → (list_any is_tag us ≡ true) ⊎ (list_any is_tag vs ≡ true) → list_any is_tag (us ++ vs) ≡ true
@@ -75,7 +75,7 @@ tag_begun (u ∷ us) h = elim (or_cases (is_tag u) (list_any is_tag us) h) [
   | inr later ↦ or_right (is_past_bom u) (list_any is_past_bom us) (tag_begun us later)
 ]
 
--- a unit behind a tag is no Bom, no declaration and no doctype
+-- a unit after a tag is no Bom, no declaration and no doctype
 kind_is_content : (start end : ℕ) (k : Kind) (place : ℕ) (prefix : List ℕ) (done us : List PlainUnit) (tags : List OpenTag) (nodes : List PlainNode) → 0 < place → list_any is_tag done ≡ true
     → Opens (filter is_content done) tags nodes → NoneBreaks Breaks (done ++ unit start end k ∷ us) → SpelledKind place k prefix → is_content (unit start end k) ≡ true
 kind_is_content start end bom place prefix done us tags nodes some t o lawful h = absurd (omega (arith, h.0))
@@ -86,7 +86,7 @@ kind_is_content start end (doctype b) place prefix done us tags nodes some t o l
     absurd (both_ways (list_any is_tag done) none.0 t)
 kind_is_content start end k place prefix done us tags nodes some t o lawful h = refl
 
--- behind a tag each unit is part of an item
+-- after a tag each unit is part of an item
 content_from : (done us : List PlainUnit) (place : ℕ) (bytes : List ℕ) (tags : List OpenTag) (nodes : List PlainNode) (s : Stage) → 0 < place → list_any is_tag done ≡ true → Opens (filter is_content done) tags nodes
     → run tags nodes us ≡ Some s → NoneBreaks Breaks (done ++ us) → CutsFrom place bytes us [] → filter is_content us ≡ us
 content_from done [] place bytes tags nodes s some t o e lawful c = refl
@@ -97,7 +97,7 @@ content_from done (u ∷ us) place bytes tags nodes s some t o e lawful c =
     (subst (λ (vs : List PlainUnit). NoneBreaks Breaks vs) (sym (append_assoc done (u ∷ []) us)) lawful) c.5 in
     cond-true (is_content u) (u ∷ filter is_content us) (filter is_content us) here ∙ ap (λ (vs : List PlainUnit). u ∷ vs) rest
 
--- one unit more: where it is a tag, what is behind the first tag is what follows it
+-- one unit more: where it is a tag, what is after the first tag is what follows it
 after_kind : (start end : ℕ) (k : Kind) (us : List PlainUnit) → (is_tag (unit start end k) ≡ true → NoTextsMeet (map kind_of (filter is_content us))) → NoTextsMeet (map kind_of (after_tag (filter is_content us)))
     → NoTextsMeet (map kind_of (after_tag (filter is_content (unit start end k ∷ us))))
 after_kind start end (start_tag name attrs) us f h = f refl
@@ -105,7 +105,7 @@ after_kind start end (end_tag name) us f h = f refl
 after_kind start end (empty_tag name attrs) us f h = f refl
 after_kind start end k us f h = h
 
--- behind the first tag of the items no two texts meet
+-- after the first tag of the items no two texts meet
 pub apart_after_tag : (done us : List PlainUnit) (place : ℕ) (bytes : List ℕ) (tags : List OpenTag) (nodes : List PlainNode) (s : Stage) → Opens (filter is_content done) tags nodes → run tags nodes us ≡ Some s
     → NoneBreaks Breaks (done ++ us) → CutsFrom place bytes us [] → NoTextsMeet (map kind_of (after_tag (filter is_content us)))
 apart_after_tag done [] place bytes tags nodes s o e lawful c = tt
@@ -113,9 +113,9 @@ apart_after_tag done (u ∷ us) place bytes tags nodes s o e lawful c =
     let one = then_some (step tags nodes u) (λ r. run r.tags r.nodes us) s e in
     let next = opens_step done u tags nodes one.0 o one.1 in
     let others = subst (λ (vs : List PlainUnit). NoneBreaks Breaks vs) (sym (append_assoc done (u ∷ []) us)) lawful in
-    let behind = place + length c.0 in
-    let some : 0 < behind = omega (arith, spelling_some place u c.0 c.3) in
+    let later = place + length c.0 in
+    let some : 0 < later = omega (arith, spelling_some place u c.0 c.3) in
     let tagged = λ (t : is_tag u ≡ true). tagged_more done (u ∷ []) (inr (or_left (is_tag u) false t)) in
     after_kind u.start u.end u.kind us
-    (λ t. subst (λ (vs : List PlainUnit). NoTextsMeet (map kind_of vs)) (sym (content_from (done ++ u ∷ []) us behind c.1 one.0.tags one.0.nodes s some (tagged t) next one.2 others c.5)) (cut_apart behind c.1 us c.5))
-    (apart_after_tag (done ++ u ∷ []) us behind c.1 one.0.tags one.0.nodes s next one.2 others c.5)
+    (λ t. subst (λ (vs : List PlainUnit). NoTextsMeet (map kind_of vs)) (sym (content_from (done ++ u ∷ []) us later c.1 one.0.tags one.0.nodes s some (tagged t) next one.2 others c.5)) (cut_apart later c.1 us c.5))
+    (apart_after_tag (done ++ u ∷ []) us later c.1 one.0.tags one.0.nodes s next one.2 others c.5)

@@ -44,7 +44,7 @@ fn text_of(alloc: Global, root: &Tag<'_>) -> Result<Vec<u8>, AllocError>
     Ok(text)
 }
 
-/// Puts the text of an element last. `sorted` is room for attributes, whatever is in it.
+/// Appends the text of an element. `sorted` is room for attributes, whatever is in it.
 #[cycle(push)]
 fn push_tag<'s>(
     out: &mut Vec<u8>,
@@ -65,7 +65,7 @@ fn push_tag<'s>(
     push_end_tag(out, tag.name.text())
 }
 
-/// Puts the text of a node last.
+/// Appends the text of a node.
 #[cycle(push)]
 fn push_node<'s>(
     out: &mut Vec<u8>,
@@ -80,7 +80,7 @@ fn push_node<'s>(
     }
 }
 
-/// Puts last what a start tag and an empty tag begin with: `<`, the name and the attributes.
+/// Appends what a start tag and an empty tag begin with: `<`, the name and the attributes.
 fn push_opening<'s>(
     out: &mut Vec<u8>,
     sorted: &mut Vec<Attr<'s>>,
@@ -93,7 +93,7 @@ fn push_opening<'s>(
     push_attributes(out, sorted, tag.attrs.as_slice())
 }
 
-/// Puts an end tag last.
+/// Appends an end tag.
 fn push_end_tag(out: &mut Vec<u8>, name: &[u8]) -> Result<(), AllocError>
     ensures { OnOk result (out.new.items ≡ out.old.items ++ kind_text (end_tag name.now)) }
 {
@@ -102,7 +102,7 @@ fn push_end_tag(out: &mut Vec<u8>, name: &[u8]) -> Result<(), AllocError>
     out.extend_from_slice(b">")
 }
 
-/// Puts the attributes of a tag last, in the byte order of their names.
+/// Appends the attributes of a tag, in the byte order of their names.
 fn push_attributes<'s>(
     out: &mut Vec<u8>,
     sorted: &mut Vec<Attr<'s>>,
@@ -119,7 +119,7 @@ fn push_attributes<'s>(
     Ok(())
 }
 
-/// Puts an attribute last, with its value between double quotes.
+/// Appends an attribute, with its value between double quotes.
 fn push_attribute(out: &mut Vec<u8>, attr: &Attr<'_>) -> Result<(), AllocError>
     ensures { OnOk result (out.new.items ≡ out.old.items ++ attribute_text (spec.canonical_attribute (attribute_of attr.now))) }
 {
@@ -130,7 +130,7 @@ fn push_attribute(out: &mut Vec<u8>, attr: &Attr<'_>) -> Result<(), AllocError>
     out.extend_from_slice(b"\"")
 }
 
-/// Puts a value last, with `&quot;` for each `"`.
+/// Appends a value, with `&quot;` for each `"`.
 fn push_value(out: &mut Vec<u8>, value: &[u8]) -> Result<(), AllocError>
     ensures { OnOk result (out.new.items ≡ out.old.items ++ spec.quoted value.now) }
 {

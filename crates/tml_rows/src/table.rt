@@ -128,7 +128,7 @@ impl Table {
         Ok(())
     }
 
-    /// Puts the command of the line that was read last into a row.
+    /// Appends the command of the line that was read into a row.
     fn take_command(&mut self, mut row: Row, words: &str) -> Result<()> {
         row.commands
             .push(Command::new(self.alloc, self.lines, words)?)?;

@@ -103,7 +103,7 @@ pub fn attribute_at<'s>(place: u32, bytes: &'s [u8]) -> Option<(Attr<'s>, &'s [u
     ))
 }
 
-/// Puts the attribute last. Most tags have at most two, so the first one gets room for two.
+/// Appends the attribute. Most tags have at most two, so the first one gets room for two.
 fn push_attribute<'s>(attrs: &mut List<Attr<'s>>, attr: Attr<'s>) -> Result<(), Memory>
     ensures { OnOk result (attrs.new ≡ attrs.old ++ attr.entry ∷ []) }
 {

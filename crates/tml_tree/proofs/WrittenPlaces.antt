@@ -20,7 +20,7 @@ units_append place (k ∷ kinds) others =
 pub empty_end : (place start end : ℕ) (name : List ℕ) (attrs : List Attribute) → place + length (kind_text (empty_tag name attrs)) ≡ place + size_of (element start end name attrs none)
 empty_end place start end name attrs = let same = ap length (append-nil (kind_text (empty_tag name attrs))) in omega (arith, same)
 
--- the place behind the start tag of an element
+-- the place after the start tag of an element
 abbrev pub inside_at : ℕ → List ℕ → List Attribute → ℕ
 inside_at place name attrs = place + length (kind_text (start_tag name attrs))
 

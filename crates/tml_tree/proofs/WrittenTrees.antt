@@ -51,7 +51,7 @@ root_reached (element start end name attrs (more n ns)) m =
       refl,
     )
 
--- and with the LF behind it they make its tree
+-- and with the LF after it they make its tree
 root_read : (root : PlainNode) → MayBeRoot root → Document (node_at 0 root) (units_at 0 (root_kinds root))
 root_read root m =
     let r = root_reached root m in

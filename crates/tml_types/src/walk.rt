@@ -132,7 +132,7 @@ fn type_node<'s>(
     }
 }
 
-/// Puts the typed tag of a tag last, where it has one.
+/// Appends the typed tag of a tag, where it has one.
 fn type_one<'s>(
     alloc: Global,
     tag: &Tag<'s>,

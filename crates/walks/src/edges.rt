@@ -27,7 +27,7 @@ pub fn edges_of(alloc: Global, net: &Net, keep: &[bool]) -> Result<Vec<Edge>, Me
     Ok(edges)
 }
 
-/// Puts the step over each span last.
+/// Appends the step over each span.
 fn push_spans(edges: &mut Vec<Edge>, net: &Net) -> Result<(), Memory>
     ensures { OnOk result (Adds net.now IsSpan edges.old.items edges.new.items) }
 {
@@ -37,7 +37,7 @@ fn push_spans(edges: &mut Vec<Edge>, net: &Net) -> Result<(), Memory>
     Ok(())
 }
 
-/// Puts the steps over each link that is kept last.
+/// Appends the steps over each link that is kept.
 fn push_links(edges: &mut Vec<Edge>, net: &Net, keep: &[bool]) -> Result<(), Memory>
     requires { length keep.now ≡ length net.now.links }
     ensures { OnOk result (Adds net.now (IsOver (Kept keep.now)) edges.old.items edges.new.items) }
@@ -50,7 +50,7 @@ fn push_links(edges: &mut Vec<Edge>, net: &Net, keep: &[bool]) -> Result<(), Mem
     Ok(())
 }
 
-/// Puts the steps over a link last.
+/// Appends the steps over a link.
 fn push_link(edges: &mut Vec<Edge>, net: &Net, link: u32) -> Result<(), Memory>
     requires { link < length net.now.links }
     ensures { OnOk result (Adds net.now (IsOver (λ k. k ≡ link)) edges.old.items edges.new.items) }
@@ -62,7 +62,7 @@ fn push_link(edges: &mut Vec<Edge>, net: &Net, link: u32) -> Result<(), Memory>
     Ok(())
 }
 
-/// Puts a step last, where it goes by an order.
+/// Appends a step, where it goes by an order.
 fn push_step(edges: &mut Vec<Edge>, net: &Net, step: Step) -> Result<(), Memory>
     ensures { OnOk result (Adds net.now (λ s. s ≡ step) edges.old.items edges.new.items) }
 {

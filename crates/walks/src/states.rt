@@ -82,7 +82,7 @@ impl States {
         self.seen[place_of(point, strict)]
     }
 
-    /// Puts an entry last, unless one with its point and flag is there.
+    /// Appends an entry, unless one with its point and flag is there.
     pub fn visit(&mut self, entry: Entry) -> Result<(), Memory>
         requires { entry.point < self.old.points }
         ensures { OnOk result (Visits entry self.old self.new) }
