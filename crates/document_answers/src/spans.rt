@@ -11,7 +11,7 @@ use answers::refusal;
 use itoa::write_digits;
 use std::alloc::{AllocError, Global};
 use tml_run::{Answer, OfFile};
-use tml_span::{Attr, Cut, NotUtf8, Span, Unit, UnitReader};
+use tml_span::{Attr, Span, Unit, UnitReader, reader};
 
 /// The command `spans`.
 #[derive(Clone, Copy)]
@@ -27,32 +27,25 @@ impl OfFile for Spans {
 
     /// The table of the units, or the fault of the cut.
     fn answer(&self, alloc: Global, bytes: &[u8]) -> Result<Answer, AllocError> {
-        match unit_table(alloc, bytes) {
-            Ok(table) => Ok(Answer::done(table)),
-            Err(fault) => refusal(alloc, fault.kind_and_place()),
+        match reader(bytes) {
+            Ok(reader) => Ok(Answer::done(unit_table(alloc, reader)?)),
+            Err(fault) => refusal(alloc, Some(fault.kind_and_place())),
         }
     }
 }
 
 /// A line for each unit, and after that of a start tag one for each attribute.
-fn unit_table(alloc: Global, doc: &[u8]) -> Result<Vec<u8>, Cut>
-    requires { length doc.now ≤ max_document }
-    ensures ok { IfOk result (λ table. HasTable doc.now table.items) }
-    ensures err { IfErr result (λ fault. HasFault doc.now fault) }
+fn unit_table(alloc: Global, reader: UnitReader<'_>) -> Result<Vec<u8>, AllocError>
+    requires { Begins doc reader }
+    ensures { IfOk result (λ table. HasTable reader.entry.source table.items) }
 {
-    let mut reader = match UnitReader::new(doc) {
-        Ok(reader) => reader,
-        Err(NotUtf8 { place }) => return Err(Cut::NotUtf8 { place }),
-    };
+    let mut reader = reader;
     let mut table = Vec::new(alloc);
     loop {
-        let unit = match reader.pull(alloc) {
-            Ok(Some(unit)) => unit,
+        match reader.pull(alloc) {
+            Ok(Some(unit)) => push_unit(&mut table, &unit)?,
             Ok(None) => return Ok(table),
-            Err(fault) => return Err(fault),
-        };
-        if push_unit(&mut table, &unit).is_err() {
-            return Err(Cut::Memory);
+            Err(_) => return Err(AllocError),
         }
     }
 }

@@ -7,7 +7,8 @@ ghost use Rattle.net_core.specs.Limits.{max_document};
 use faults::FaultKind;
 use std::alloc::Global;
 use tml_refs::{Document, resolve};
-use tml_tree::{TagTree, tree_of};
+use tml_span::reader;
+use tml_tree::{TagTree, tree_from};
 use tml_types::{Typed, type_tags};
 
 /// The kind and the place of a fault of a document. Out of memory there is none.
@@ -73,7 +74,11 @@ fn nested<'s>(alloc: Global, doc: &'s [u8]) -> Result<TagTree<'s>, Fault>
     ensures ok { IfOk result (λ tree. tree ≡ doc.now) }
     ensures err { IfErr result (λ fault. IfSome fault (λ f. FirstFault doc.now f.0 f.1)) }
 {
-    match tree_of(alloc, doc) {
+    let mut reader = match reader(doc) {
+        Ok(reader) => reader,
+        Err(fault) => return Err(Some(fault.kind_and_place())),
+    };
+    match tree_from(alloc, &mut reader) {
         Ok(tree) => Ok(tree),
         Err(fault) => Err(fault.kind_and_place()),
     }

@@ -93,7 +93,7 @@ same_lead place (empty_tag name attrs) j prefix suffix ahead after l e h m g n =
 one_kind : (place : ℕ) (k j : Kind) (prefix suffix ahead after : List ℕ) → prefix ++ suffix ≡ ahead ++ after → SpelledKind place k prefix → Ends k suffix → SpelledKind place j ahead → Ends j after → (k ≡ j) × (suffix ≡ after)
 one_kind place k j prefix suffix ahead after e h m g n = same_lead place k j prefix suffix ahead after (sym (leads place k prefix suffix h) ∙ ap lead e ∙ leads place j ahead after g) e h m g n
 
-one_unit : (place : ℕ) (u v : PlainUnit) (prefix suffix ahead after : List ℕ) → prefix ++ suffix ≡ ahead ++ after → Spelled place u prefix → Ends u.kind suffix → Spelled place v ahead → Ends v.kind after → (u ≡ v) × (prefix ≡ ahead) × (suffix ≡ after)
+pub one_unit : (place : ℕ) (u v : PlainUnit) (prefix suffix ahead after : List ℕ) → prefix ++ suffix ≡ ahead ++ after → Spelled place u prefix → Ends u.kind suffix → Spelled place v ahead → Ends v.kind after → (u ≡ v) × (prefix ≡ ahead) × (suffix ≡ after)
 one_unit place u v prefix suffix ahead after e h m g n =
     let one = one_kind place u.kind v.kind prefix suffix ahead after e h.kind m g.kind n in
     let same = prefixes prefix ahead suffix after e one.1 in

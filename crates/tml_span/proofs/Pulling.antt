@@ -1,64 +1,120 @@
 -- A reader of units, one unit further.
-use Rattle.std.proofs.Common.{◌≡◌, inl, inr, ℕ, ◌+◌, ◌-◌, ◌<◌, ◌≤◌, List, [], ◌∷◌, ◌++◌, length, ap, arith}
+use Rattle.std.proofs.Common.{◌≡◌, ℕ, ◌+◌, ◌-◌, ◌<◌, ◌≤◌, ◌^◌, List, [], ◌∷◌, ◌++◌, length, drop, refl, sym, ap, subst, ◌∙◌, append_assoc, arith, length-append, Some, None, Ok}
+use Rattle.std.proofs.Math.Seq.{drop-append_seam}
+use Rattle.std.proofs.lemmas.List.{append-nil, length-drop}
+use Rattle.tml_span.specs.declared.unit.Unit as rust
 use Rattle.tml_span.specs.Units.{PlainUnit}
 use Rattle.tml_span.specs.Cutting.{Stops, CutsFrom, FindsUnit}
-use Rattle.tml_span.specs.References.{pieces_of, IsBadIn, IsBad, IsFirst, IsNowhere}
-use Rattle.tml_span.specs.Faults.{HasBadMarkup, HasBadReference}
-use Rattle.tml_span.specs.Whole.{IsWhole}
-use Rattle.tml_span.specs.Reader.{Progress, HasGiven, IsProgress}
-use Rattle.tml_span.proofs.Joining.{goes_on, stops_here, whole_here}
-use Rattle.tml_span.proofs.FirstBad.{bad_in_from, bad-append, bad-append_right}
-use Rattle.tml_span.proofs.Placing.{placed}
-use Rattle.tml_span.proofs.EveryCut.{every_cut_from}
+use Rattle.tml_span.specs.Slices.{UnitIsIn}
+use Rattle.tml_span.specs.Whole.{IsWhole, CutsWhole}
+use Rattle.tml_span.specs.Reader.{Reading, Divides, IsReading, Gives, end_of}
+use Rattle.tml_span.specs.View.{unit_of}
+use Rattle.tml_span.proofs.OneCut.{one_unit}
+use Rattle.tml_span.proofs.SlicesIn.{unit_is_in}
 
-abbrev pub at : List ℕ → ℕ → List ℕ → Progress
-at source place rest = record { source = source; place = place; rest = rest }
+abbrev pub at : List ℕ → ℕ → Reading
+at source place = record { source = source; place = place }
 
--- where nothing is left, all units are given
-pub gives_all : (source rest : List ℕ) (place : ℕ) → IsProgress (at source place rest) → length rest ≡ 0 → (done : List PlainUnit) → HasGiven (at source place rest) done → IsWhole (record { source = source; units = done })
-gives_all source rest place p none done given = (p.utf8, whole_here source rest done place given.cuts none, given.sound)
+pub begins : (source : List ℕ) → length source < 2 ^ 32 → CutsWhole source → IsReading (at source 0)
+begins source small whole = (small, [], whole.0, record { whole = whole.1; place = refl })
 
--- where no unit begins, the source has a fault
-pub gives_fault : (source rest : List ℕ) (place : ℕ) → IsProgress (at source place rest) → (length rest ≡ 0 → ⊥) → Stops place rest → HasBadMarkup source place
-gives_fault source rest place p some stops = (p.utf8, p.given.0, rest, stops_here source rest p.given.0 place p.given.1.cuts stops, p.given.1.sound, (λ e. some (ap length e)), p.place)
+end_more : (place : ℕ) (units : List PlainUnit) (u : PlainUnit) → end_of place (units ++ u ∷ []) ≡ u.end
+end_more place [] u = refl
+end_more place (v ∷ units) u = end_more v.end units u
 
--- one unit more is given, where no reference in it is bad
-pub gives_unit : (source rest after : List ℕ) (place : ℕ) (u : PlainUnit) → FindsUnit place rest u after → IsNowhere (IsBadIn (pieces_of u)) → (done : List PlainUnit) → HasGiven (at source place rest) done → HasGiven (at source (place + (length rest - length after)) after) (done ++ u ∷ [])
-gives_unit source rest after place u found good done given = record {
-  sound = λ bad h. elim (bad-append done (u ∷ []) bad h) [ inl old ↦ given.sound bad old | inr new ↦ elim new [ inl here ↦ good bad here | inr none ↦ none ] ];
-  cuts = λ more end h. goes_on source rest after done place u given.cuts found more end h;
-}
+-- the bytes up to the end of some units, and the cut of those after them
+parts : (place : ℕ) (bytes rest : List ℕ) (given left : List PlainUnit) → CutsFrom place bytes (given ++ left) rest
+    → (before : List ℕ) × (after : List ℕ) × (bytes ≡ before ++ after) × (end_of place given ≡ place + length before) × CutsFrom (end_of place given) after left rest
+parts place bytes rest [] left h = ([], bytes, refl, omega arith, h)
+parts place bytes rest (u ∷ given) left h =
+    let end : place + length h.0 ≡ u.end = sym h.3.end in
+    let p = parts u.end h.1 rest given left (subst (λ (n : ℕ). CutsFrom n h.1 (given ++ left) rest) end h.5) in
+    (h.0 ++ p.0, p.1, h.2 ∙ ap (λ (bs : List ℕ). h.0 ++ bs) p.2 ∙ sym (append_assoc h.0 p.0 p.1), omega (arith, p.3, end, length-append h.0 p.0), p.4)
 
-pub goes_further : (source rest after : List ℕ) (place : ℕ) (u : PlainUnit) → IsProgress (at source place rest) → FindsUnit place rest u after → IsNowhere (IsBadIn (pieces_of u)) → length after < length rest → IsProgress (at source (place + (length rest - length after)) after)
-goes_further source rest after place u p found good shorter = record {
-  utf8 = p.utf8;
-  small = p.small;
-  place = omega (arith, p.place);
-  given = (p.given.0 ++ u ∷ [], gives_unit source rest after place u found good p.given.0 p.given.1);
-}
+-- what follows the place is cut into the units that are left
+pub record LeavesBytes (r : Reading) (left : List PlainUnit) : Type 0 where
+  pub before : List ℕ
+  pub whole : r.source ≡ before ++ drop r.place r.source
+  pub place : length before ≡ r.place
+  pub cuts : CutsFrom r.place (drop r.place r.source) left []
 
--- nothing is bad before the place where units begin
-bad_later : (place : ℕ) (bytes : List ℕ) (units : List PlainUnit) (rest : List ℕ) → CutsFrom place bytes units rest → (bad : ℕ) → IsBad units bad → place ≤ bad
-bad_later place bytes [] rest h bad b = absurd b
-bad_later place bytes (u ∷ units) rest h bad (inl b) =
-    let spelled = h.3 in
-    omega (arith, spelled.start, (bad_in_from (pieces_of u) u.start u.end bad (placed place u h.0 spelled).follows b).0)
-bad_later place bytes (u ∷ units) rest h bad (inr b) = omega (arith, bad_later (place + length h.0) h.1 units rest h.5 bad b)
+pub leaves_bytes : (r : Reading) (given left : List PlainUnit) → Divides r given left → LeavesBytes r left
+leaves_bytes r given left d =
+    let p = parts 0 r.source [] given left d.whole.1 in
+    let place : length p.0 ≡ r.place = omega (arith, p.3, d.place) in
+    let after : drop r.place r.source ≡ p.1 = ap (λ (n : ℕ). drop n r.source) (sym place) ∙ ap (drop (length p.0)) p.2 ∙ drop-append_seam p.0 p.1 in
+    record {
+      before = p.0;
+      whole = p.2 ∙ ap (λ (bs : List ℕ). p.0 ++ bs) (sym after);
+      place = place;
+      cuts = subst (λ (q : ℕ × List ℕ). CutsFrom q.0 q.1 left []) (λ i. (sym d.place i, sym after i)) p.4;
+    }
 
--- the first bad reference of a unit is that of the source, where none is bad before it
-pub gives_bad_reference : (source rest after : List ℕ) (place : ℕ) (u : PlainUnit) (bad : ℕ) → IsProgress (at source place rest) → FindsUnit place rest u after → IsFirst (IsBadIn (pieces_of u)) bad → HasBadReference source bad
-gives_bad_reference source rest after place u bad p found first =
-    let prefix = found.0 in
-    let done = p.given.0 in
-    let others = every_cut_from (length after) (place + length prefix) after (omega arith) in
-    let units = u ∷ others.0 in
-    let cut = p.given.1.cuts units others.1.0 (prefix, after, found.1, found.2, found.3, others.1.1) in
-    let upto = (bad_in_from (pieces_of u) u.start u.end bad (placed place u prefix found.2).follows first.0).1 in
-    let least : (other : ℕ) → IsBad (done ++ units) other → bad ≤ other = λ other h. elim (bad-append done units other h) [
-      | inl old ↦ absurd (p.given.1.sound other old)
-      | inr new ↦ elim new [
-        | inl here ↦ first.1 other here
-        | inr later ↦ omega (arith, upto, found.2.end, bad_later (place + length prefix) after others.0 others.1.0 others.1.1 other later)
-      ]
-    ] in
-    (p.utf8, done ++ units, others.1.0, cut, (bad-append_right done units bad (inl first.0), least))
+pub place_within : (r : Reading) → IsReading r → r.place ≤ length r.source
+place_within r h =
+    let l = leaves_bytes r h.1 h.2 h.3 in
+    omega (arith, l.place, ap length l.whole, length-append l.before (drop r.place r.source))
+
+-- ---- where no unit begins
+
+none_left : (r : Reading) → Stops r.place (drop r.place r.source) → (given left : List PlainUnit) → Divides r given left → left ≡ []
+none_left r stops given [] d = refl
+none_left r stops given (u ∷ left) d =
+    let c = (leaves_bytes r given (u ∷ left) d).cuts in
+    absurd (stops u c.0 c.1 c.2 c.3)
+
+at_end : (r : Reading) → IsReading r → Stops r.place (drop r.place r.source) → r.place ≡ length r.source
+at_end r h stops =
+    let none = none_left r stops h.1 h.2 h.3 in
+    let l = leaves_bytes r h.1 h.2 h.3 in
+    let cut = subst (λ (left : List PlainUnit). CutsFrom r.place (drop r.place r.source) left []) none l.cuts in
+    omega (arith, place_within r h, ap length cut.0, length-drop r.place r.source)
+
+pub gives_none : (r : Reading) (bytes : List ℕ) → IsReading r → bytes ≡ drop r.place r.source → Stops r.place bytes → Gives r r (Ok None)
+gives_none r bytes h is stops =
+    let here = subst (Stops r.place) is stops in
+    (refl, at_end r h here, none_left r here)
+
+-- ---- where a unit begins
+
+abbrev pub next : Reading → List ℕ → List ℕ → Reading
+next r bytes after = at r.source (r.place + (length bytes - length after))
+
+first_left : (r : Reading) (bytes after : List ℕ) (u : PlainUnit) → bytes ≡ drop r.place r.source → FindsUnit r.place bytes u after → (given left : List PlainUnit) → Divides r given left
+    → (more : List PlainUnit) × (left ≡ u ∷ more) × Divides (next r bytes after) (given ++ u ∷ []) more
+first_left r bytes after u is found given [] d =
+    let c = (leaves_bytes r given [] d).cuts in
+    absurd (c.1 u found.0 after (sym c.0 ∙ sym is ∙ found.1) found.2)
+first_left r bytes after u is found given (v ∷ left) d =
+    let c = (leaves_bytes r given (v ∷ left) d).cuts in
+    let one = one_unit r.place v u c.0 c.1 found.0 after (sym c.2 ∙ sym is ∙ found.1) c.3 c.4 found.2 found.3 in
+    let len = ap length found.1 ∙ length-append found.0 after in
+    let units : given ++ v ∷ left ≡ (given ++ u ∷ []) ++ left = ap (λ (w : PlainUnit). given ++ w ∷ left) one.0 ∙ sym (append_assoc given (u ∷ []) left) in (
+      left,
+      ap (λ (w : PlainUnit). w ∷ left) one.0,
+      record {
+        whole = subst (λ (us : List PlainUnit). IsWhole (record { source = r.source; units = us })) units d.whole;
+        place = omega (arith, len, found.2.end, end_more 0 given u);
+      },
+    )
+
+unit_in_source : (r : Reading) (bytes after : List ℕ) (u : PlainUnit) → IsReading r → bytes ≡ drop r.place r.source → FindsUnit r.place bytes u after → UnitIsIn r.source u
+unit_in_source r bytes after u h is found =
+    let l = leaves_bytes r h.1 h.2 h.3 in
+    unit_is_in r.source l.before after found.0 r.place u (l.whole ∙ ap (λ (bs : List ℕ). l.before ++ bs) (sym is ∙ found.1)) l.place found.2
+
+pub goes_further : (r : Reading) (bytes after : List ℕ) (u : PlainUnit) → IsReading r → bytes ≡ drop r.place r.source → FindsUnit r.place bytes u after → IsReading (next r bytes after)
+goes_further r bytes after u h is found =
+    let m = first_left r bytes after u is found h.1 h.2 h.3 in
+    (h.0, h.1 ++ u ∷ [], m.0, m.2)
+
+pub gives_unit : (r : Reading) (bytes after : List ℕ) (u : rust.Unit) → IsReading r → bytes ≡ drop r.place r.source → FindsUnit r.place bytes (unit_of u) after → length after < length bytes → Gives r (next r bytes after) (Ok (Some u))
+gives_unit r bytes after u h is found shorter =
+    let l = leaves_bytes r h.1 h.2 h.3 in
+    let within : length r.source ≡ r.place + length bytes = omega (arith, l.place, ap length is, ap length l.whole, length-append l.before (drop r.place r.source)) in
+    (refl, omega arith, omega arith, unit_in_source r bytes after (unit_of u) h is found, first_left r bytes after (unit_of u) is found)
+
+-- ---- where all units are given
+
+pub all_given : (r : Reading) (given left : List PlainUnit) → left ≡ [] → Divides r given left → IsWhole (record { source = r.source; units = given })
+all_given r given left none d = subst (λ (us : List PlainUnit). IsWhole (record { source = r.source; units = us })) (ap (λ (us : List PlainUnit). given ++ us) none ∙ append-nil given) d.whole

@@ -1,14 +1,16 @@
 -- Why a source is not cut into units whole.
-use Rattle.std.specs.Prelude.{◌≡◌, ◌≢◌, ◌⊎◌, ℕ, ◌+◌, List, [], length, IsUtf8, Option, Some, None, IfSome}
+use Rattle.std.specs.Prelude.{◌≡◌, ◌≢◌, ◌⊎◌, ℕ, ◌+◌, List, [], length, IsUtf8, ⊤}
 use Rattle.std.specs.Str.{IsValidUpTo}
 use Rattle.faults.specs.declared.kind.FaultKind.{FaultKind}
 use Rattle.faults.specs.declared.kind.FaultKind.TheVariants as fault
-use Rattle.tml_span.specs.declared.reader.Cut.{Cut}
-use Rattle.tml_span.specs.declared.reader.Cut.TheVariants.{NotUtf8, BadReference, BadMarkup, Memory}
+use Rattle.tml_span.specs.declared.fault.Cut.{Cut}
+use Rattle.tml_span.specs.declared.fault.Cut.TheVariants.{NotUtf8, BadReference, BadMarkup, Memory}
+use Rattle.tml_span.specs.declared.fault.PlainCut.{PlainCut}
+use Rattle.tml_span.specs.declared.fault.PlainCut.TheVariants as plain
 use Rattle.tml_span.specs.Units.{PlainUnit}
 use Rattle.tml_span.specs.Cutting.{Cuts}
 use Rattle.tml_span.specs.References.{IsBad, IsFirst, IsNowhere}
-use Rattle.tml_span.specs.Whole.{IsWhole}
+use Rattle.tml_span.specs.Whole.{IsWhole, CutsWhole}
 
 -- the source is not UTF-8, and its longest valid prefix has this length
 abbrev pub IsNotUtf8 : List ℕ → ℕ → Type 0
@@ -29,16 +31,28 @@ CutFault source place fault.BadReference = HasBadReference source place
 CutFault source place fault.BadMarkup = HasBadMarkup source place
 CutFault source place kind = ⊥
 
--- the kind of a fault and its place; none where it is that memory ran out
-abbrev pub kind_and_place : Cut → Option (FaultKind × ℕ)
-kind_and_place (NotUtf8 place) = Some (fault.NotUtf8, place)
-kind_and_place (BadReference place) = Some (fault.BadReference, place)
-kind_and_place (BadMarkup place) = Some (fault.BadMarkup, place)
-kind_and_place Memory = None
+-- the kind of a fault and its place
+abbrev pub kind_and_place : PlainCut → FaultKind × ℕ
+kind_and_place (plain.NotUtf8 place) = (fault.NotUtf8, place)
+kind_and_place (plain.BadReference place) = (fault.BadReference, place)
+kind_and_place (plain.BadMarkup place) = (fault.BadMarkup, place)
+
+-- the source has this fault
+abbrev pub HasPlainFault : List ℕ → PlainCut → Type 0
+HasPlainFault source cut = CutFault source (kind_and_place cut).1 (kind_and_place cut).0
+
+-- the same fault, where memory may run out as well
+abbrev pub cut_of : PlainCut → Cut
+cut_of (plain.NotUtf8 place) = NotUtf8 place
+cut_of (plain.BadReference place) = BadReference place
+cut_of (plain.BadMarkup place) = BadMarkup place
 
 -- what a refusal says of the source
 abbrev pub HasFault : List ℕ → Cut → Type 0
-HasFault source cut = IfSome (kind_and_place cut) (λ f. CutFault source f.1 f.0)
+HasFault source (NotUtf8 place) = IsNotUtf8 source place
+HasFault source (BadReference place) = HasBadReference source place
+HasFault source (BadMarkup place) = HasBadMarkup source place
+HasFault source Memory = ⊤
 
 -- a source has one fault at most, and none where it is cut whole
 pub record OneFault (source : List ℕ) : Type 0 where
@@ -50,4 +64,4 @@ OneFaults = (source : List ℕ) → OneFault source
 
 -- a source is cut whole, or has a fault
 abbrev pub CutOrFault : List ℕ → Type 0
-CutOrFault source = ((units : List PlainUnit) × IsWhole (record { source = source; units = units })) ⊎ ((place : ℕ) × (kind : FaultKind) × CutFault source place kind)
+CutOrFault source = CutsWhole source ⊎ ((place : ℕ) × (kind : FaultKind) × CutFault source place kind)

@@ -1,35 +1,40 @@
 -- How far a reader of units has come.
-use Rattle.std.specs.Prelude.{◌≡◌, ℕ, ◌+◌, ◌<◌, ◌^◌, List, [], ◌∷◌, ◌++◌, length, IsUtf8, Some, None, Ok, Err}
+use Rattle.std.specs.Prelude.{◌≡◌, ℕ, ◌<◌, ◌≤◌, ◌^◌, List, [], ◌∷◌, ◌++◌, length, Some, None, Ok, Err}
 use Rattle.std.specs.declared.result.Result.{Result}
 use Rattle.std.specs.declared.option.Option.{Option}
 use Rattle.tml_span.specs.declared.unit.Unit as rust
-use Rattle.tml_span.specs.declared.reader.Cut.{Cut}
+use Rattle.tml_span.specs.declared.list.Memory.{Memory}
 use Rattle.tml_span.specs.Units.{PlainUnit}
-use Rattle.tml_span.specs.Cutting.{CutsFrom, Cuts}
-use Rattle.tml_span.specs.References.{IsBad, IsNowhere}
-use Rattle.tml_span.specs.Faults.{HasFault}
+use Rattle.tml_span.specs.Slices.{UnitIsIn}
 use Rattle.tml_span.specs.View.{unit_of}
-use Rattle.tml_span.specs.Whole.{IsWhole}
+use Rattle.tml_span.specs.Whole.{IsWhole, CutsWhole}
 
--- the source, the end of the last unit given, and what follows that place
-pub record Progress : Type 0 where
+-- a source, and the place up to which its units are given
+pub record Reading : Type 0 where
   pub source : List ℕ
   pub place : ℕ
-  pub rest : List ℕ
 
--- these are the units given so far: no reference in them is bad, and with the units of the rest they are those of the source
-pub record HasGiven (p : Progress) (done : List PlainUnit) : Type 0 where
-  pub sound : IsNowhere (IsBad done)
-  pub cuts : (more : List PlainUnit) (end : List ℕ) → CutsFrom p.place p.rest more end → Cuts p.source (done ++ more) end
+-- the end of the last of some units, or where they begin if there are none
+abbrev pub end_of : ℕ → List PlainUnit → ℕ
+end_of place [] = place
+end_of place (u ∷ units) = end_of u.end units
 
-pub record IsProgress (p : Progress) : Type 0 where
-  pub utf8 : IsUtf8 p.source
-  pub small : length p.source < 2 ^ 32
-  pub place : p.place + length p.rest ≡ length p.source
-  pub given : (done : List PlainUnit) × HasGiven p done
+-- The source has no fault, and these are its units up to the place and those after it.
+pub record Divides (r : Reading) (given left : List PlainUnit) : Type 0 where
+  pub whole : IsWhole (record { source = r.source; units = given ++ left })
+  pub place : r.place ≡ end_of 0 given
 
--- what a pull gives: one unit more, or none where all are given, or the fault of the source
-abbrev pub Gives : Progress → Progress → Result (Option rust.Unit) Cut → Type 0
-Gives old new (Ok (Some u)) = (new.source ≡ old.source) × (length new.rest < length old.rest) × ((done : List PlainUnit) → HasGiven old done → HasGiven new (done ++ unit_of u ∷ []))
-Gives old new (Ok None) = (new ≡ old) × ((done : List PlainUnit) → HasGiven old done → IsWhole (record { source = old.source; units = done }))
-Gives old new (Err e) = (new ≡ old) × HasFault old.source e
+-- a source of fewer than 2^32 bytes that has no fault, and 0 or the end of one of its units
+abbrev pub IsReading : Reading → Type 0
+IsReading r = (length r.source < 2 ^ 32) × (given : List PlainUnit) × (left : List PlainUnit) × Divides r given left
+
+-- a reader of this source that has given no unit
+abbrev pub Begins : List ℕ → Reading → Type 0
+Begins source r = (r ≡ record { source = source; place = 0 }) × CutsWhole source
+
+-- What a pull gives: the first of the units that are left, or none where none is left. A refusal changes nothing.
+abbrev pub Gives : Reading → Reading → Result (Option rust.Unit) Memory → Type 0
+Gives old new (Ok (Some u)) = (new.source ≡ old.source) × (old.place < new.place) × (new.place ≤ length old.source) × UnitIsIn old.source (unit_of u)
+    × ((given left : List PlainUnit) → Divides old given left → (more : List PlainUnit) × (left ≡ unit_of u ∷ more) × Divides new (given ++ unit_of u ∷ []) more)
+Gives old new (Ok None) = (new ≡ old) × (old.place ≡ length old.source) × ((given left : List PlainUnit) → Divides old given left → left ≡ [])
+Gives old new (Err e) = new ≡ old

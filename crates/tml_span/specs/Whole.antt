@@ -12,6 +12,10 @@ pub record Cutting : Type 0 where
 abbrev pub IsWhole : Cutting → Type 0
 IsWhole c = IsUtf8 c.source × Cuts c.source c.units [] × IsNowhere (IsBad c.units)
 
+-- the source has no fault
+abbrev pub CutsWhole : List ℕ → Type 0
+CutsWhole source = (units : List PlainUnit) × IsWhole (record { source = source; units = units })
+
 -- the same of a source of fewer than 2^32 bytes
 abbrev pub IsSmallWhole : Cutting → Type 0
 IsSmallWhole c = (length c.source < 2 ^ 32) × IsWhole c

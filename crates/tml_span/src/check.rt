@@ -1,12 +1,15 @@
 //! Units that are checked and not kept, which takes no memory.
-ghost use Rattle.std.specs.Prelude.{◌≡◌, ◌≢◌, ◌+◌, ◌<◌, ◌≤◌, ◌^◌, ◌∷◌, ◌++◌, [], codes, slice_index, length, IfSome, MatchOption, List as ListOf};
+ghost use Rattle.std.specs.Prelude.{◌≡◌, ◌≢◌, ◌+◌, ◌<◌, ◌≤◌, ◌^◌, ◌∷◌, ◌++◌, [], codes, slice_index, length, IfErr, IfSome, IsUtf8, MatchOption, OnOk};
 ghost use Rattle.tml_span.specs.Bytes as kinds;
 ghost use Rattle.tml_span.specs.Checking.{AddsPiece, ChecksAttributes, ChecksUnit, FirstInOrder};
 ghost use Rattle.tml_span.specs.Cutting.{Stops};
+ghost use Rattle.tml_span.specs.Faults.{HasPlainFault};
 ghost use Rattle.tml_span.specs.References.{FirstBadIn, IsPlaced, IsWithin, Piece, pieces_of, value_piece};
 ghost use Rattle.tml_span.specs.View.{attribute_of, unit_of};
+ghost use Rattle.tml_span.specs.Whole.{CutsWhole};
 
 use crate::enclosed::declaration_at;
+use crate::fault::PlainCut;
 use crate::references::{bad_place_in_value, bad_reference_in};
 use crate::scan::{comment_or_doctype_at, text_or_bom_at};
 use crate::tags::{after_white, attribute_at, close_at, end_tag_at, name_at};
@@ -92,4 +95,44 @@ pub fn check_unit(place: u32, bytes: &[u8]) -> Option<Checked<'_>>
         [_, ..] => Some(check_found(text_or_bom_at(place, bytes))),
         [] => None,
     }
+}
+
+/// Looks at the units of a source that is UTF-8, one after another.
+fn check_units(source: &[u8]) -> Result<(), PlainCut>
+    requires small { length source.now < 2 ^ 32 }
+    requires utf8 { IsUtf8 source.now }
+    ensures ok { OnOk result (CutsWhole source.now) }
+    ensures err { IfErr result (λ e. HasPlainFault source.now e) }
+{
+    let mut place = 0;
+    let mut rest = source;
+    while !rest.is_empty() {
+        let Some(Checked { bad, rest: after }) = check_unit(place, rest) else {
+            return Err(PlainCut::BadMarkup { place });
+        };
+        if let Some(place) = bad {
+            return Err(PlainCut::BadReference { place });
+        }
+        place += (rest.len() - after.len()) as u32;
+        rest = after;
+    }
+    Ok(())
+}
+
+/// Looks at a source as a whole.
+///
+/// # Errors
+///
+/// The fault of the source, where it has one.
+pub fn check_source(source: &[u8]) -> Result<(), PlainCut>
+    requires { length source.now < 2 ^ 32 }
+    ensures ok { OnOk result (CutsWhole source.now) }
+    ensures err { IfErr result (λ e. HasPlainFault source.now e) }
+{
+    if let Err(e) = simdutf8::compat::from_utf8(source) {
+        return Err(PlainCut::NotUtf8 {
+            place: e.valid_up_to() as u32,
+        });
+    }
+    check_units(source)
 }

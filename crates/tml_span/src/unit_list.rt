@@ -5,7 +5,8 @@ ghost use Rattle.tml_span.specs.Faults.{HasFault};
 ghost use Rattle.tml_span.specs.Slices.{UnitIsIn};
 ghost use Rattle.tml_span.specs.Whole.{IsWhole};
 
-use crate::reader::{Cut, NotUtf8, UnitReader};
+use crate::fault::{Cut, cut_of};
+use crate::unit_reader::reader;
 use crate::{List, Unit};
 use std::alloc::Global;
 use std::marker::Model;
@@ -73,9 +74,9 @@ pub fn units<'s>(alloc: Global, source: &'s [u8]) -> Result<UnitList<'s>, Cut>
     ensures slices { IfOk result (λ l. AllByRecursion (UnitIsIn l.source) l.units) }
     ensures fault { IfErr result (λ e. HasFault source.now e) }
 {
-    let mut reader = match UnitReader::new(source) {
+    let mut reader = match reader(source) {
         Ok(reader) => reader,
-        Err(NotUtf8 { place }) => return Err(Cut::NotUtf8 { place }),
+        Err(fault) => return Err(cut_of(fault)),
     };
     let mut units = List::new(alloc);
     loop {
@@ -86,7 +87,7 @@ pub fn units<'s>(alloc: Global, source: &'s [u8]) -> Result<UnitList<'s>, Cut>
                 }
             }
             Ok(None) => return Ok(UnitList { source, units }),
-            Err(fault) => return Err(fault),
+            Err(_) => return Err(Cut::Memory),
         }
     }
 }

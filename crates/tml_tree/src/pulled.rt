@@ -1,73 +1,37 @@
 //! The root of a source whose units are pulled one by one.
-ghost use Rattle.std.specs.Prelude.{◌≡◌, ◌<◌, ◌^◌, length, IfOk, IfErr};
-ghost use Rattle.tml_tree.specs.Pulled.{Outranks};
+ghost use Rattle.std.specs.Prelude.{◌≡◌, IfOk, IfErr};
 ghost use Rattle.tml_tree.specs.View.{tag_node};
-ghost use Rattle.tml_tree.specs.Whole.{HasSourceFault, IsTreeOf};
-ghost use Rattle.tml_tree.specs.Whole as whole;
+ghost use Rattle.tml_tree.specs.Whole.{IsTreeOf, HasTreeFault};
+ghost use Rattle.tml_tree.specs.Pulled.{Leaves};
 
 use crate::builder::Builder;
 use crate::{Tag, TreeFault};
-use faults::FaultKind;
 use std::alloc::Global;
-use tml_span::{Cut, NotUtf8, UnitReader};
+use tml_span::UnitReader;
 
-/// Why a source has no tree.
-#[derive(Clone, Copy)]
-pub enum SourceFault {
-    /// It is not cut into units whole.
-    Cut(Cut),
-    /// It is, and its units make no tree.
-    Tree(TreeFault),
-}
-
-impl SourceFault {
-    /// The kind of the fault and its place, or none where it is that memory ran out.
-    pub fn kind_and_place(self) -> Option<(FaultKind, u32)>
-        ensures { result ≡ whole.source_kind_and_place self }
-    {
-        match self {
-            SourceFault::Cut(fault) => fault.kind_and_place(),
-            SourceFault::Tree(fault) => fault.kind_and_place(),
-        }
-    }
-}
-
-/// The root of the document that the units of a source make.
-pub fn root_of_source<'s>(alloc: Global, source: &'s [u8]) -> Result<Tag<'s>, SourceFault>
-    requires { length source.now < 2 ^ 32 }
-    ensures ok { IfOk result (λ t. IsTreeOf source.now (tag_node t)) }
-    ensures fault { IfErr result (λ e. HasSourceFault source.now e) }
+/// The root of the document that the units of a reader make. None of them was given.
+pub fn root_from<'s>(alloc: Global, reader: &mut UnitReader<'s>) -> Result<Tag<'s>, TreeFault>
+    requires { reader.old.place ≡ 0 }
+    ensures ok { IfOk result (λ t. IsTreeOf reader.old.source (tag_node t)) }
+    ensures fault { IfErr result (λ e. HasTreeFault reader.old.source e) }
+    ensures leaves { Leaves reader.old.source reader.new result }
 {
-    let mut reader = match UnitReader::new(source) {
-        Ok(reader) => reader,
-        Err(NotUtf8 { place }) => return Err(SourceFault::Cut(Cut::NotUtf8 { place })),
-    };
     let mut builder = Builder::new(alloc);
     loop {
         match reader.pull(alloc) {
             Ok(Some(unit)) => {
                 if let Err(fault) = builder.take(alloc, unit) {
-                    return Err(outranked(reader, fault));
+                    return Err(fault);
                 }
             }
             Ok(None) => match builder.finish() {
                 Some(root) => return Ok(root),
                 None => {
-                    let place = source.len() as u32;
-                    return Err(SourceFault::Tree(TreeFault::Unclosed { place }));
+                    let place = reader.place();
+                    return Err(TreeFault::Unclosed { place });
                 }
             },
-            Err(fault) => return Err(SourceFault::Cut(fault)),
+            Err(_) => return Err(TreeFault::Memory),
         }
-    }
-}
-
-/// The fault of a source that has this fault among its units so far. A fault of the cut in what is left outranks it.
-fn outranked(reader: UnitReader<'_>, fault: TreeFault) -> SourceFault
-    ensures { Outranks reader.entry fault result }
-{
-    match reader.finish() {
-        Ok(()) => SourceFault::Tree(fault),
-        Err(cut) => SourceFault::Cut(cut.into_cut()),
     }
 }

@@ -1,13 +1,13 @@
 //! A tree with its source.
 ghost use Rattle.std.specs.Prelude.{◌≡◌, ◌<◌, ◌^◌, length, IfOk, IfErr};
-ghost use Rattle.tml_tree.specs.Whole.{IsTreeOf, HasFault, HasSourceFault};
+ghost use Rattle.tml_tree.specs.Whole.{IsTreeOf, HasFault, HasTreeFault};
 
-use crate::pulled::{SourceFault, root_of_source};
+use crate::pulled::root_from;
 use crate::whole::root;
 use crate::{Tag, TreeFault};
 use std::alloc::Global;
 use std::marker::Model;
-use tml_span::UnitList;
+use tml_span::{UnitList, UnitReader};
 
 /// The tree of the tags of a document, and its source. Contracts see the source, of which there is one tree.
 #[derive(Drop)]
@@ -48,18 +48,20 @@ impl<'s> TagTree<'s> {
     }
 }
 
-/// Cuts a document and nests its units, which are pulled one by one: no list of them is kept. The document has
-/// fewer than 2^32 bytes.
+/// Nests the units of a reader, which are pulled one by one: no list of them is kept. None of them was given.
 ///
 /// # Errors
 ///
-/// The fault of the cut, or where it has none the fault of `tree` over the units of the document.
-pub fn tree_of<'s>(alloc: Global, source: &'s [u8]) -> Result<TagTree<'s>, SourceFault>
-    requires { length source.now < 2 ^ 32 }
-    ensures source { IfOk result (λ t. t ≡ source.now) }
-    ensures fault { IfErr result (λ e. HasSourceFault source.now e) }
+/// The fault that `tree` gives for the units of the source. After Ok and Unclosed the place of the reader is the end of
+/// the source, and after any other fault of a unit the end of that unit. Out of memory it is 0 or the end of a unit.
+pub fn tree_from<'s>(alloc: Global, reader: &mut UnitReader<'s>) -> Result<TagTree<'s>, TreeFault>
+    requires { reader.old.place ≡ 0 }
+    ensures source { IfOk result (λ t. t ≡ reader.old.source) }
+    ensures fault { IfErr result (λ e. HasTreeFault reader.old.source e) }
+    ensures leaves { Leaves reader.old.source reader.new result }
 {
-    let root = root_of_source(alloc, source)?;
+    let source = reader.source();
+    let root = root_from(alloc, reader)?;
     Ok(TagTree { source, root })
 }
 

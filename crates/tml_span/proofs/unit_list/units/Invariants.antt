@@ -1,5 +1,6 @@
-use Rattle.std.proofs.Common.{◌≡◌, map, length}
-use Rattle.tml_span.specs.Reader.{HasGiven}
+use Rattle.std.proofs.Common.{◌≡◌, ◌-◌, List, map, length}
+use Rattle.tml_span.specs.Units.{PlainUnit}
+use Rattle.tml_span.specs.Reader.{Divides}
 use Rattle.tml_span.specs.View.{unit_of}
 use Rattle.tml_span.proofs.unit_list.units.Given as goal
 
@@ -7,8 +8,8 @@ use Rattle.tml_span.proofs.unit_list.units.Given as goal
 abbrev pub invariant-loop-unit : goal.invariant-loop-unit
 invariant-loop-unit l = record {
   source : l.reader.source ≡ l.source;
-  given : HasGiven l.reader (map unit_of l.units);
+  given : (left : List PlainUnit) × Divides l.reader (map unit_of l.units) left;
 }
 
 abbrev pub decreases-loop-unit : goal.decreases-loop-unit
-decreases-loop-unit l = length l.reader.rest
+decreases-loop-unit l = length l.reader.source - l.reader.place
