@@ -1,10 +1,9 @@
 //! The command `spans`: the units of a document.
 ghost use Rattle.document_answers.specs.Spans as texts;
 ghost use Rattle.document_answers.specs.Spans.{HasTable, OfSpans};
-ghost use Rattle.net_core.specs.Limits.{max_document};
 ghost use Rattle.std.specs.List.{flat_map};
-ghost use Rattle.std.specs.Prelude.{◌≡◌, ◌≤◌, ◌++◌, length, map, IfOk, IfErr, OnOk};
-ghost use Rattle.tml_span.specs.Faults.{HasFault};
+ghost use Rattle.std.specs.Prelude.{◌≡◌, ◌++◌, map, IfOk, OnOk};
+ghost use Rattle.tml_span.specs.Reader.{Begins};
 ghost use Rattle.tml_span.specs.View.{attribute_of, unit_of};
 
 use answers::refusal;
@@ -36,7 +35,7 @@ impl OfFile for Spans {
 
 /// A line for each unit, and after that of a start tag one for each attribute.
 fn unit_table(alloc: Global, reader: UnitReader<'_>) -> Result<Vec<u8>, AllocError>
-    requires { Begins doc reader }
+    requires { Begins reader.entry.source reader.entry }
     ensures { IfOk result (λ table. HasTable reader.entry.source table.items) }
 {
     let mut reader = reader;

@@ -1,6 +1,8 @@
 //! One file a subject.
 mod canonical;
+mod documents;
 mod drills;
+mod readers;
 mod tags;
 mod trees;
 mod values;

@@ -3,12 +3,13 @@ use Rattle.std.proofs.Common.{◌≡◌, ℕ, ◌+◌, ◌-◌, ◌<◌, ◌≤�
 use Rattle.std.proofs.Math.Seq.{drop-append_seam}
 use Rattle.std.proofs.lemmas.List.{append-nil, length-drop}
 use Rattle.tml_span.specs.declared.unit.Unit as rust
-use Rattle.tml_span.specs.Units.{PlainUnit}
+use Rattle.tml_span.specs.Units.{PlainUnit, Spelled}
 use Rattle.tml_span.specs.Cutting.{Stops, CutsFrom, FindsUnit}
 use Rattle.tml_span.specs.Slices.{UnitIsIn}
 use Rattle.tml_span.specs.Whole.{IsWhole, CutsWhole}
 use Rattle.tml_span.specs.Reader.{Reading, Divides, IsReading, Gives, end_of}
 use Rattle.tml_span.specs.View.{unit_of}
+use Rattle.tml_span.proofs.Joining.{empty_stops}
 use Rattle.tml_span.proofs.OneCut.{one_unit}
 use Rattle.tml_span.proofs.SlicesIn.{unit_is_in}
 
@@ -54,6 +55,20 @@ pub place_within : (r : Reading) → IsReading r → r.place ≤ length r.source
 place_within r h =
     let l = leaves_bytes r h.1 h.2 h.3 in
     omega (arith, l.place, ap length l.whole, length-append l.before (drop r.place r.source))
+
+-- ---- before the first unit
+
+some_bytes : (place : ℕ) (u : PlainUnit) (prefix : List ℕ) → Spelled place u prefix → 0 < length prefix
+some_bytes place u [] h = absurd (empty_stops place u [] [] refl h)
+some_bytes place u (b ∷ prefix) h = omega arith
+
+pub none_given : (r : Reading) → IsReading r → r.place ≡ 0 → (left : List PlainUnit) × Divides r [] left
+none_given r (small, [], left, d) start = (left, d)
+none_given r (small, u ∷ given, left, d) start =
+    let c = d.whole.1 in
+    let end : 0 + length c.0 ≡ u.end = sym c.3.end in
+    let others = parts u.end c.1 [] given left (subst (λ (n : ℕ). CutsFrom n c.1 (given ++ left) []) end c.5) in
+    absurd (omega (arith, start, d.place, others.3, end, some_bytes 0 u c.0 c.3))
 
 -- ---- where no unit begins
 

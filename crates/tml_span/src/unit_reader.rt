@@ -56,7 +56,8 @@ impl<'s> UnitReader<'s> {
 
     /// The source of the units.
     pub fn source(&self) -> &'s [u8]
-        ensures { result.now ≡ self.now.source }
+        ensures source { result.now ≡ self.now.source }
+        ensures reading { IsReading self.now }
     {
         self.source
     }

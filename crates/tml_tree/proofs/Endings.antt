@@ -1,20 +1,32 @@
--- An end tag taken, and one refused.
-use Rattle.std.proofs.Common.{◌≡◌, ℕ, true, List, [], ◌∷◌, ◌++◌, refl, ap, ◌∙◌, Some}
+-- An end tag that is taken, and one that is refused.
+use Rattle.std.proofs.Common.{◌≡◌, ℕ, Bool, true, false, not, List, [], ◌∷◌, ◌++◌, refl, sym, ap, ◌∙◌, Some, None}
 use Rattle.std.specs.Str.{bytes_eq}
 use Rattle.tml_tree.specs.declared.builder.Frame.{Frame}
+use Rattle.tml_tree.specs.declared.tag_name.TagName.{TagName}
 use Rattle.tml_tree.specs.TagNames.{text_of}
 use Rattle.tml_tree.specs.Plain.{PlainNode, element, nodes_of}
 use Rattle.tml_tree.specs.Nesting.{OpenTag}
-use Rattle.tml_tree.specs.Rules.{is_innermost}
+use Rattle.tml_span.specs.Units.{end_tag}
+use Rattle.tml_tree.specs.Judging.{first_fault, names_in}
+use Rattle.tml_tree.specs.Rules.{History, is_innermost}
+use Rattle.tml_tree.proofs.FirstFaults.{first_of}
 use Rattle.tml_tree.specs.Stage.{closed}
-use Rattle.tml_tree.specs.View.{names_of, tag_of, tags_of}
+use Rattle.tml_tree.specs.View.{tag_of, tags_of}
 use Rattle.tml_tree.proofs.Stacks.{names_more, tags_more}
 
-pub innermost_is : (frames rest : List Frame) (f : Frame) (name : List ℕ) → frames ≡ rest ++ f ∷ [] → is_innermost name (names_of frames) ≡ bytes_eq (text_of f.name) name
-innermost_is frames rest f name e = ap (λ (fs : List Frame). is_innermost name (names_of fs)) e ∙ ap (λ (ns : List (List ℕ)). is_innermost name ns) (names_more rest f)
+pub innermost_is : (tags rest : List TagName) (t : TagName) (name : List ℕ) → tags ≡ rest ++ t ∷ [] → is_innermost name (names_in tags) ≡ bytes_eq (text_of t) name
+innermost_is tags rest t name e = ap (λ (ts : List TagName). is_innermost name (names_in ts)) e ∙ ap (λ (ns : List (List ℕ)). is_innermost name ns) (names_more rest t)
 
 pub closed_is : (frames rest : List Frame) (f : Frame) (nodes after : List PlainNode) (end : ℕ) (name : List ℕ) → frames ≡ rest ++ f ∷ [] → bytes_eq (text_of f.name) name ≡ true
     → after ≡ (tag_of f).before ++ element f.span.start end (text_of f.name) (tag_of f).attrs (nodes_of nodes) ∷ [] → closed (tags_of frames) nodes end name ≡ Some (record { tags = tags_of rest; nodes = after })
 closed_is frames rest f nodes after end name e same a =
     ap (λ (fs : List Frame). closed (tags_of fs) nodes end name) e ∙ ap (λ (ts : List OpenTag). closed ts nodes end name) (tags_more rest f)
     ∙ rw (same, a) refl
+
+closes : (same : Bool) → first_of false (not same) false false ≡ None → same ≡ true
+closes true e = refl
+closes false e = absurd cc
+
+-- an end tag without a fault has the name of the innermost open tag
+pub ends_innermost : (h : History) (names : List (List ℕ)) (innermost name : List ℕ) → h.names ≡ innermost ∷ names → first_fault h (end_tag name) ≡ None → bytes_eq innermost name ≡ true
+ends_innermost h names innermost name e none = ap (λ (ns : List (List ℕ)). is_innermost name ns) (sym e) ∙ closes (is_innermost name h.names) none

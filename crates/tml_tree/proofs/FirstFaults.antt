@@ -6,7 +6,7 @@ use Rattle.faults.specs.declared.kind.FaultKind.TheVariants as fault
 use Rattle.faults.specs.Kinds.{number_of}
 use Rattle.tml_span.specs.Units.{Kind}
 use Rattle.tml_tree.specs.Rules.{History, is_unknown, is_unbalanced, is_misplaced, is_too_deep, is_at_fault}
-use Rattle.tml_tree.specs.Taking.{first_fault}
+use Rattle.tml_tree.specs.Judging.{first_fault}
 
 abbrev pub first_of : Bool → Bool → Bool → Bool → Option FaultKind
 first_of unknown unbalanced misplaced deep = cond unknown (Some fault.UnknownTag) (cond unbalanced (Some fault.Unbalanced) (cond misplaced (Some fault.Misplaced) (cond deep (Some fault.TooDeep) None)))

@@ -13,13 +13,13 @@ use Rattle.tml_tree.specs.Nesting.{OpenTag, Opens, name_of, is_seen, is_content}
 use Rattle.tml_tree.specs.Roots.{AtMostOne}
 use Rattle.tml_tree.specs.Rules.{history_of}
 use Rattle.tml_tree.specs.Stage.{Stage, step}
-use Rattle.tml_tree.specs.Taking.{first_fault}
+use Rattle.tml_tree.specs.Judging.{first_fault}
 use Rattle.tml_tree.specs.Trees.{Breaks, Path}
 use Rattle.tml_tree.specs.Whole.{AreJudged, TreeOrFault}
 use Rattle.tml_tree.proofs.FirstFaults.{first_of}
 use Rattle.tml_tree.proofs.Paths.{fault_at, lawful_more}
 use Rattle.tml_tree.proofs.Running.{opens_step}
-use Rattle.tml_tree.proofs.Taken.{kept_kind, unclosed_open, unclosed_none, document_is}
+use Rattle.tml_tree.proofs.Passed.{kept_kind, unclosed_open, unclosed_none, document_is}
 
 -- ---- one unit
 

@@ -7,11 +7,9 @@ use Rattle.named.specs.Texts.{named_of}
 use Rattle.named.proofs.Tables.{found_among, named_some}
 use Rattle.tml_tree.specs.declared.tag_name.TagName.{TagName}
 use Rattle.tml_span.specs.Units.{start_tag}
-use Rattle.tml_tree.specs.declared.builder.Frame.{Frame}
 use Rattle.tml_tree.specs.TagNames.{text_of, all_tags, begins_with, is_known}
 use Rattle.tml_tree.specs.Rules.{History, is_misplaced_tag}
-use Rattle.tml_tree.specs.Taking.{first_fault}
-use Rattle.tml_tree.specs.View.{names_of}
+use Rattle.tml_tree.specs.Judging.{first_fault, names_in}
 use Rattle.tml_tree.proofs.FirstFaults.{first_of}
 use Rattle.tml_tree.proofs.Running.{same_name}
 
@@ -27,14 +25,14 @@ found_by_first (first ∷ rest) some = found_among text_of (begins_with first) a
 pub fault_by : (h : History) (name : List ℕ) (known misplaced deep : Bool) → is_known name ≡ known → is_misplaced_tag h name ≡ misplaced → nat_le 32 (length h.names) ≡ deep → first_fault h (start_tag name []) ≡ first_of (not known) false misplaced deep
 fault_by h name known misplaced deep k m d = λ i. first_of (not (k i)) false (m i) (d i)
 
-deep_is : (frames : List Frame) → length (names_of frames) ≡ length frames
-deep_is frames = simp (length-map, length-reverse)
+deep_is : (open_tags : List TagName) → length (names_in open_tags) ≡ length open_tags
+deep_is open_tags = simp (length-map, length-reverse)
 
-pub is_deep : (frames : List Frame) → 32 ≤ length frames → nat_le 32 (length (names_of frames)) ≡ true
-is_deep frames h = rw (deep_is frames) (grind (arith, nat_tests))
+pub is_deep : (open_tags : List TagName) → 32 ≤ length open_tags → nat_le 32 (length (names_in open_tags)) ≡ true
+is_deep open_tags h = rw (deep_is open_tags) (grind (arith, nat_tests))
 
-pub is_flat : (frames : List Frame) → length frames < 32 → nat_le 32 (length (names_of frames)) ≡ false
-is_flat frames h = rw (deep_is frames) (grind (arith, nat_tests))
+pub is_flat : (open_tags : List TagName) → length open_tags < 32 → nat_le 32 (length (names_in open_tags)) ≡ false
+is_flat open_tags h = rw (deep_is open_tags) (grind (arith, nat_tests))
 
 -- the same where the name is that of a tag
 pub tag_fault_by : (h : History) (name : List ℕ) (tag : TagName) (misplaced deep : Bool) → named_of text_of all_tags name ≡ Some tag → is_misplaced_tag h (text_of tag) ≡ misplaced → nat_le 32 (length h.names) ≡ deep

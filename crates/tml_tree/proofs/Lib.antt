@@ -7,6 +7,7 @@ pub mod Known
 pub mod LastUnits
 pub mod LaidOut
 pub mod LinkTags
+pub mod Passed
 pub mod Paths
 pub mod Pulling
 pub mod Rows

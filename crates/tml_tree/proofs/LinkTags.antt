@@ -4,7 +4,7 @@ use Rattle.std.specs.List.{list_any}
 use Rattle.tml_span.specs.Units.{Kind, start_tag, end_tag}
 use Rattle.tml_tree.specs.TagNames.{is_known, is_link, is_root}
 use Rattle.tml_tree.specs.Rules.{History, is_nil}
-use Rattle.tml_tree.specs.Taking.{OnlyInnermost, first_fault}
+use Rattle.tml_tree.specs.Judging.{OnlyInnermost, first_fault}
 use Rattle.tml_tree.specs.Trees.{Differs}
 use Rattle.tml_tree.proofs.FirstFaults.{first_of}
 
@@ -14,16 +14,5 @@ outside_rule true l m s r d e = absurd cc
 outside_rule false true m s r d e = absurd cc
 outside_rule false false m s r d e = refl
 
-no_links : (names : List (List ℕ)) → list_any is_link names ≡ false → OnlyInnermost names
-no_links [] e = tt
-no_links (n ∷ names) e = elim (is_link n) as (λ b. (b || list_any is_link names) ≡ false → list_any is_link names ≡ false) [
-  | true ↦ λ h. absurd cc
-  | false ↦ λ h. h
-] e
-
--- a unit that no rule forbids keeps it so
-pub links_kept : (k : Kind) (h : History) (after : List (List ℕ)) → OnlyInnermost h.names → first_fault h k ≡ None → Differs k h.names after → OnlyInnermost after
-links_kept (start_tag name attrs) h after o r d =
-    subst (λ (ns : List (List ℕ)). OnlyInnermost ns) (sym d) (outside_rule (not (is_known name)) (list_any is_link h.names) (not h.tagged && not (is_root name)) h.seen (not (is_nil h.names) && is_root name) (nat_le 32 (length h.names)) r)
-links_kept (end_tag name) h after o r d = no_links after (subst (λ (ns : List (List ℕ)). OnlyInnermost ns) d o)
-links_kept k h after o r d = subst (λ (ns : List (List ℕ)). OnlyInnermost ns) (sym d) o
+pub outside : (h : History) (name : List ℕ) → first_fault h (start_tag name []) ≡ None → list_any is_link h.names ≡ false
+outside h name none = outside_rule (not (is_known name)) (list_any is_link h.names) (not h.tagged && not (is_root name)) h.seen (not (is_nil h.names) && is_root name) (nat_le 32 (length h.names)) none

@@ -8,7 +8,7 @@ use Rattle.tml_span.specs.Units.{PlainUnit}
 use Rattle.tml_tree.specs.Plain.{PlainNode}
 use Rattle.tml_tree.specs.Nesting.{OpenTag, Nests, name_of, is_seen, is_element}
 use Rattle.tml_tree.specs.Rules.{history_of, is_at_fault}
-use Rattle.tml_tree.specs.Taking.{first_fault}
+use Rattle.tml_tree.specs.Judging.{first_fault}
 use Rattle.tml_tree.specs.Trees.{Breaks, Path, Document, FaultAt, OneTree}
 use Rattle.tml_tree.specs.Whole.{OneTreeOfSource}
 use Rattle.tml_span.proofs.OneCut.{one_cut_from}

@@ -1,34 +1,38 @@
--- A fault of units that are pulled one by one.
-use Rattle.std.proofs.Common.{◌≡◌, ℕ, List, ◌++◌, length, subst, inl, inr, Option, Some, None, IfSome}
-use Rattle.faults.specs.declared.kind.FaultKind.{FaultKind}
+-- A reader whose units are judged one after another.
+use Rattle.std.proofs.Common.{◌≡◌, ◌<◌, ◌^◌, ℕ, Bool, true, List, [], ◌∷◌, ◌++◌, length, sym, subst, Some, None, IfSome}
+use Rattle.tml_span.specs.Reader.{Reading, Divides, IsReading}
 use Rattle.tml_span.specs.Units.{PlainUnit}
-use Rattle.tml_span.specs.Reader.{Progress, HasGiven}
-use Rattle.tml_span.specs.Faults.{CutFault, HasFault as HasCutFault, kind_and_place as cut_kind_and_place}
 use Rattle.tml_span.specs.Whole.{IsWhole}
-use Rattle.tml_span.specs.declared.reader.Cut.{Cut}
+use Rattle.faults.specs.declared.kind.FaultKind.TheVariants as fault
 use Rattle.tml_tree.specs.declared.whole.TreeFault.{TreeFault}
-use Rattle.tml_tree.specs.declared.pulled.SourceFault.{SourceFault}
-use Rattle.tml_tree.specs.Pulled.{Outranks}
-use Rattle.tml_tree.specs.Whole.{FaultOf, UnitsFault, SourceFaultAt, HasSourceFault, kind_and_place}
+use Rattle.tml_tree.specs.declared.whole.TreeFault.TheVariants as tree
+use Rattle.tml_tree.specs.Judging.{Refuses, first_fault}
+use Rattle.tml_tree.specs.Pulled.{Leaves}
+use Rattle.tml_tree.specs.Rules.{History}
+use Rattle.tml_tree.specs.Whole.{FaultOf, HasTreeFault, UnitsFault, UnitsFaultAt, kind_and_place}
+use Rattle.tml_tree.proofs.FirstFaults.{has_fault}
 
--- a fault of the units so far, however they go on, is that of the source unless the cut has one
-of_cut : (source : List ℕ) (o : Option (FaultKind × ℕ)) → IfSome o (λ f. CutFault source f.1 f.0) → IfSome o (λ f. SourceFaultAt source f.1 f.0)
-of_cut source None h = tt
-of_cut source (Some f) h = inl h
+-- a reader that has moved on within its source
+pub still_reading : (old new : Reading) → IsReading old → new.source ≡ old.source → (given left : List PlainUnit) → Divides new given left → IsReading new
+still_reading old new reading e given left d = (subst (λ (s : List ℕ). length s < 2 ^ 32) (sym e) reading.0, given, left, d)
 
-of_units : (source : List ℕ) (units : List PlainUnit) (o : Option (FaultKind × ℕ)) → IsWhole (record { source = source; units = units }) → IfSome o (λ f. FaultOf (length source) units f.1 f.0) → IfSome o (λ f. SourceFaultAt source f.1 f.0)
-of_units source units None w h = tt
-of_units source units (Some f) w h = inr (units, w, h)
+-- no unit leaves the root open
+never_unclosed : (h : History) (u : PlainUnit) → first_fault h u.kind ≡ Some fault.Unclosed → ⊥
+never_unclosed h u e = let here = has_fault h u.kind fault.Unclosed e in absurd cc
 
-pub cut_fault : (source : List ℕ) (cut : Cut) → HasCutFault source cut → HasSourceFault source (SourceFault.Cut cut)
-cut_fault source cut h = of_cut source (cut_kind_and_place cut) h
+-- where a unit is at fault, the reader is left at its end
+pub left_past_unit : (source : List ℕ) (r : Reading) (h : History) (before left : List PlainUnit) (u : PlainUnit) (f : TreeFault) → r.source ≡ source → IsReading r → Divides r (before ++ u ∷ []) left → Refuses h u.kind u.start f
+    → Leaves source r f
+left_past_unit source r h before left u (tree.UnknownTag place) e reading d refuses = (e, before, u, left, d, sym refuses.1)
+left_past_unit source r h before left u (tree.Unbalanced place) e reading d refuses = (e, before, u, left, d, sym refuses.1)
+left_past_unit source r h before left u (tree.Unclosed place) e reading d refuses = absurd (never_unclosed h u refuses.0)
+left_past_unit source r h before left u (tree.Misplaced place) e reading d refuses = (e, before, u, left, d, sym refuses.1)
+left_past_unit source r h before left u (tree.TooDeep place) e reading d refuses = (e, before, u, left, d, sym refuses.1)
+left_past_unit source r h before left u tree.Memory e reading d refuses = (e, reading)
 
-pub units_fault : (source : List ℕ) (units : List PlainUnit) (fault : TreeFault) → IsWhole (record { source = source; units = units }) → UnitsFault (length source) units fault → HasSourceFault source (SourceFault.Tree fault)
-units_fault source units fault w h = of_units source units (kind_and_place fault) w h
-
-pub outranked : (p : Progress) (source : List ℕ) (fault : TreeFault) (result : SourceFault) (done : List PlainUnit) → p.source ≡ source → Outranks p fault result → HasGiven p done
-    → ((more : List PlainUnit) → UnitsFault (length p.source) (done ++ more) fault) → HasSourceFault source result
-outranked p source fault (SourceFault.Cut cut) done e h g f = subst (λ (s : List ℕ). HasSourceFault s (SourceFault.Cut cut)) e (cut_fault p.source cut h)
-outranked p source fault (SourceFault.Tree kept) done e h g f =
-    let m = h.1 done g in
-    subst (λ (s : List ℕ). HasSourceFault s (SourceFault.Tree kept)) e (units_fault p.source (done ++ m.0) kept m.1 (rw h.0 (f m.0)))
+-- the fault of all units is that of their source
+pub units_fault : (source : List ℕ) (units : List PlainUnit) (f : TreeFault) → IsWhole (record { source = source; units = units }) → UnitsFault (length source) units f → HasTreeFault source f
+units_fault source units f whole h = elim (kind_and_place f) as (λ o. IfSome o (λ q. FaultOf (length source) units q.1 q.0) → IfSome o (λ q. UnitsFaultAt source q.1 q.0)) [
+  | None ↦ λ k. tt
+  | Some q ↦ λ k. (units, whole, k)
+] h

@@ -16,7 +16,7 @@ use Rattle.tml_tree.specs.Nesting.{OpenTag, Opens, name_of, is_seen, is_content}
 use Rattle.tml_tree.specs.Rules.{is_tag, history_of}
 use Rattle.tml_tree.specs.TagNames.{is_known, is_link, is_root}
 use Rattle.tml_tree.specs.Stage.{Stage, step}
-use Rattle.tml_tree.specs.Taking.{first_fault}
+use Rattle.tml_tree.specs.Judging.{first_fault}
 use Rattle.tml_tree.specs.Trees.{Breaks}
 use Rattle.tml_tree.specs.Written.{kinds_of, all_kinds, size_of, node_at, nodes_at, may_be_in_link, all_may_be_in_link, MayStand, AllMayStand}
 use Rattle.tml_tree.proofs.FirstFaults.{first_of}

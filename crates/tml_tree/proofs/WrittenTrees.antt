@@ -9,7 +9,7 @@ use Rattle.tml_tree.specs.Plain.{PlainNode, text_node, comment_node, element, no
 use Rattle.tml_tree.specs.Nesting.{is_element}
 use Rattle.tml_tree.specs.Rules.{history_of}
 use Rattle.tml_tree.specs.TagNames.{is_link}
-use Rattle.tml_tree.specs.Taking.{first_fault}
+use Rattle.tml_tree.specs.Judging.{first_fault}
 use Rattle.tml_tree.specs.Trees.{Breaks, Document}
 use Rattle.tml_tree.specs.Written.{kinds_of, size_of, node_at, MayBeRoot, root_kinds, WrittenIsRead}
 use Rattle.tml_span.proofs.Written.{written_is_cut}

@@ -1,3 +1,4 @@
+pub mod Judging
 pub mod Nesting
 pub mod Places
 pub mod Plain

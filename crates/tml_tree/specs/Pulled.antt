@@ -1,13 +1,27 @@
--- What is left to ask of a source after a unit at fault.
-use Rattle.std.specs.Prelude.{◌≡◌}
-use Rattle.tml_span.specs.Checking.{GoesOnWhole}
-use Rattle.tml_span.specs.Faults.{HasFault}
-use Rattle.tml_span.specs.Reader.{Progress}
+-- Where a reader is left whose units were pulled.
+use Rattle.std.specs.Prelude.{◌≡◌, ℕ, List, [], ◌∷◌, ◌++◌, length}
+use Rattle.tml_span.specs.Reader.{Reading, Divides, IsReading}
+use Rattle.tml_span.specs.Units.{PlainUnit}
 use Rattle.tml_tree.specs.declared.whole.TreeFault.{TreeFault}
-use Rattle.tml_tree.specs.declared.pulled.SourceFault.{SourceFault}
-use Rattle.tml_tree.specs.declared.pulled.SourceFault.TheVariants.{Cut, Tree}
+use Rattle.tml_tree.specs.declared.whole.TreeFault.TheVariants as tree
 
--- the source has a fault of the cut, or its units are those given so far and some more, and the fault stays what it was
-abbrev pub Outranks : Progress → TreeFault → SourceFault → Type 0
-Outranks p fault (Cut cut) = HasFault p.source cut
-Outranks p fault (Tree kept) = (kept ≡ fault) × GoesOnWhole p
+-- at the end of the source
+abbrev pub IsAtEnd : List ℕ → Reading → Type 0
+IsAtEnd source r = (r.source ≡ source) × (r.place ≡ length source)
+
+-- at the end of the unit of the source that begins at a place
+abbrev pub IsPastUnit : List ℕ → ℕ → Reading → Type 0
+IsPastUnit source place r = (r.source ≡ source) × (before : List PlainUnit) × (u : PlainUnit) × (left : List PlainUnit) × Divides r (before ++ u ∷ []) left × (u.start ≡ place)
+
+-- at 0 or at the end of a unit of the source
+abbrev pub IsInside : List ℕ → Reading → Type 0
+IsInside source r = (r.source ≡ source) × IsReading r
+
+-- After a fault at the end of the unit at fault; where the root is not closed at the end of the source.
+abbrev pub Leaves : List ℕ → Reading → TreeFault → Type 0
+Leaves source r (tree.UnknownTag place) = IsPastUnit source place r
+Leaves source r (tree.Unbalanced place) = IsPastUnit source place r
+Leaves source r (tree.Unclosed place) = IsAtEnd source r
+Leaves source r (tree.Misplaced place) = IsPastUnit source place r
+Leaves source r (tree.TooDeep place) = IsPastUnit source place r
+Leaves source r tree.Memory = IsInside source r

@@ -4,9 +4,7 @@ use Rattle.faults.specs.declared.kind.FaultKind.{FaultKind}
 use Rattle.faults.specs.declared.kind.FaultKind.TheVariants as fault
 use Rattle.tml_span.specs.Units.{PlainUnit}
 use Rattle.tml_span.specs.Whole.{Cutting, IsWhole}
-use Rattle.tml_span.specs.Faults.{CutFault, kind_and_place as cut_kind_and_place}
-use Rattle.tml_tree.specs.declared.pulled.SourceFault.{SourceFault}
-use Rattle.tml_tree.specs.declared.pulled.SourceFault.TheVariants.{Cut, Tree}
+use Rattle.tml_span.specs.Faults.{CutFault}
 use Rattle.tml_tree.specs.declared.whole.TreeFault.{TreeFault}
 use Rattle.tml_tree.specs.declared.whole.TreeFault.TheVariants as tree
 use Rattle.tml_tree.specs.Plain.{PlainNode}
@@ -41,17 +39,17 @@ UnitsFault end us fault = IfSome (kind_and_place fault) (λ f. FaultOf end us f.
 abbrev pub HasFault : Cutting → TreeFault → Type 0
 HasFault c fault = UnitsFault (length c.source) c.units fault
 
+-- the fault of the units of a source that has no fault of the cut
+abbrev pub UnitsFaultAt : List ℕ → ℕ → FaultKind → Type 0
+UnitsFaultAt source place kind = (units : List PlainUnit) × IsWhole (record { source = source; units = units }) × FaultOf (length source) units place kind
+
 -- why a source has no tree: the fault of its cut, or where it has none that of its units
 abbrev pub SourceFaultAt : List ℕ → ℕ → FaultKind → Type 0
-SourceFaultAt source place kind = CutFault source place kind ⊎ ((units : List PlainUnit) × IsWhole (record { source = source; units = units }) × FaultOf (length source) units place kind)
+SourceFaultAt source place kind = CutFault source place kind ⊎ UnitsFaultAt source place kind
 
-abbrev pub source_kind_and_place : SourceFault → Option (FaultKind × ℕ)
-source_kind_and_place (Cut fault) = cut_kind_and_place fault
-source_kind_and_place (Tree fault) = kind_and_place fault
-
--- what a refusal says of a source
-abbrev pub HasSourceFault : List ℕ → SourceFault → Type 0
-HasSourceFault source fault = IfSome (source_kind_and_place fault) (λ f. SourceFaultAt source f.1 f.0)
+-- what a fault says of a source that has no fault of the cut
+abbrev pub HasTreeFault : List ℕ → TreeFault → Type 0
+HasTreeFault source fault = IfSome (kind_and_place fault) (λ f. UnitsFaultAt source f.1 f.0)
 
 -- a source has a tree or a fault, and of faults there is one
 pub record OneSourceAnswer (source : List ℕ) : Type 0 where

@@ -4,16 +4,14 @@ ghost use Rattle.std.specs.List.{filter};
 ghost use Rattle.tml_span.specs.Units as units;
 ghost use Rattle.tml_span.specs.Units.{PlainUnit};
 ghost use Rattle.tml_span.specs.View.{attribute_of, unit_of};
-ghost use Rattle.tml_tree.specs.TagNames.{text_of};
 ghost use Rattle.tml_tree.specs.Plain.{element, nodes_of};
 ghost use Rattle.tml_tree.specs.Nesting.{is_element};
-ghost use Rattle.tml_tree.specs.Rules as rules;
 ghost use Rattle.tml_tree.specs.Trees.{Document, Unclosed};
 ghost use Rattle.tml_tree.specs.Roots.{EndsIn};
-ghost use Rattle.tml_tree.specs.Taking.{HasTaken, MayBegin, OnlyInnermost, RefusesUnit, TakesUnit, history_of};
-ghost use Rattle.tml_tree.specs.View.{at_span, element_of, elements_in, empty_unit, names_of, node_of, start_unit, tag_node};
+ghost use Rattle.tml_tree.specs.Taking.{Agrees, HasTaken, RefusesUnit, TakesUnit};
+ghost use Rattle.tml_tree.specs.View.{at_span, element_of, elements_in, empty_unit, node_of, start_unit, tag_node};
 
-use crate::rules::{MOST_OPEN, in_link, is_blank, is_name_of};
+use crate::nesting::Nesting;
 use crate::{Node, Tag, TagName, TreeFault};
 use std::alloc::{AllocError, Global};
 use std::mem;
@@ -23,21 +21,17 @@ use tml_span::{Attr, List, Span, Unit};
 #[derive(Drop)]
 pub struct Frame<'s> {
     span: Span,
-    pub name: TagName,
+    name: TagName,
     attrs: List<Attr<'s>>,
     before: Vec<Node<'s>>,
 }
 
-/// What the units so far make: the open tags, the innermost last, and the nodes that follow its start tag. It knows
-/// whether a unit other than a Bom stood among the units, a tag, a doctype, and whether the root was seen whole.
+/// What the units so far make: the open tags, the innermost last, and the nodes that follow its start tag.
 #[derive(Drop)]
 pub struct Builder<'s> {
+    nesting: Nesting,
     frames: Vec<Frame<'s>>,
     nodes: Vec<Node<'s>>,
-    begun: bool,
-    tagged: bool,
-    doctyped: bool,
-    seen: bool,
 }
 
 fn make_element<'s>(
@@ -95,25 +89,22 @@ impl<'s> Builder<'s> {
         ensures { HasTaken [] result }
     {
         Builder {
+            nesting: Nesting::new(alloc),
             frames: Vec::new(alloc),
             nodes: Vec::new(alloc),
-            begun: false,
-            tagged: false,
-            doctyped: false,
-            seen: false,
         }
     }
 
     /// Takes one more unit, or says what its fault is.
     pub fn take(&mut self, alloc: Global, unit: Unit<'s>) -> Result<(), TreeFault>
-        requires { OnlyInnermost (names_of self.old.frames.items) }
+        requires { Agrees self.old }
         ensures ok { OnOk result (TakesUnit self.old (unit_of unit.entry) self.new) }
         ensures err { IfErr result (λ e. RefusesUnit self.old (unit_of unit.entry) e) }
     {
         match unit {
             Unit::Bom { .. } => Ok(()),
-            Unit::Declaration { span, text } => self.declaration(span, text),
-            Unit::Doctype { span, text } => self.doctype(span, text),
+            Unit::Declaration { span, .. } => self.nesting.declaration(span.start),
+            Unit::Doctype { span, .. } => self.nesting.doctype(span.start),
             Unit::Comment { span, text } => self.comment(span, text),
             Unit::Text { span, text } => self.text(span, text),
             Unit::StartTag { span, name, attrs } => self.start(alloc, span, name, attrs),
@@ -133,81 +124,28 @@ impl<'s> Builder<'s> {
         root_of(self.nodes)
     }
 
-    fn declaration(&mut self, span: Span, text: &[u8]) -> Result<(), TreeFault>
-        ensures ok { OnOk result (TakesUnit self.old (at_span span (units.declaration text.now)) self.new) }
-        ensures err { IfErr result (λ e. RefusesUnit self.old (at_span span (units.declaration text.now)) e) }
-    {
-        if self.begun {
-            return Err(TreeFault::Misplaced { place: span.start });
-        }
-        self.begun = true;
-        Ok(())
-    }
-
-    fn doctype(&mut self, span: Span, text: &[u8]) -> Result<(), TreeFault>
-        ensures ok { OnOk result (TakesUnit self.old (at_span span (units.doctype text.now)) self.new) }
-        ensures err { IfErr result (λ e. RefusesUnit self.old (at_span span (units.doctype text.now)) e) }
-    {
-        if self.tagged || self.doctyped {
-            return Err(TreeFault::Misplaced { place: span.start });
-        }
-        self.begun = true;
-        self.doctyped = true;
-        Ok(())
-    }
-
     fn comment(&mut self, span: Span, text: &'s [u8]) -> Result<(), TreeFault>
         ensures ok { OnOk result (TakesUnit self.old (at_span span (units.comment text.now)) self.new) }
         ensures err { IfErr result (λ e. RefusesUnit self.old (at_span span (units.comment text.now)) e) }
     {
+        self.nesting.comment();
         if push_node(&mut self.nodes, Node::Comment { span, text }).is_err() {
             return Err(TreeFault::Memory);
         }
-        self.begun = true;
         Ok(())
     }
 
     fn text(&mut self, span: Span, text: &'s [u8]) -> Result<(), TreeFault>
-        requires { OnlyInnermost (names_of self.old.frames.items) }
         ensures ok { OnOk result (TakesUnit self.old (at_span span (units.text text.now)) self.new) }
         ensures err { IfErr result (λ e. RefusesUnit self.old (at_span span (units.text text.now)) e) }
     {
-        if (self.frames.is_empty() || in_link(self.frames.as_slice())) && !is_blank(text) {
-            return Err(TreeFault::Misplaced { place: span.start });
+        if let Err(fault) = self.nesting.text(span.start, text) {
+            return Err(fault);
         }
         if push_node(&mut self.nodes, Node::Text { span, text }).is_err() {
             return Err(TreeFault::Memory);
         }
-        self.begun = true;
         Ok(())
-    }
-
-    fn is_misplaced(&self, name: TagName) -> bool
-        requires { OnlyInnermost (names_of self.now.frames.items) }
-        ensures { result ≡ rules.is_misplaced_tag (history_of self.now) (text_of name) }
-    {
-        let is_root = name == TagName::TimeMl;
-        in_link(self.frames.as_slice())
-            || !self.tagged && !is_root
-            || self.seen
-            || !self.frames.is_empty() && is_root
-    }
-
-    /// The tag of this name, or the first fault of a start or empty tag of this name at a place.
-    fn tag(&self, place: u32, name: &[u8]) -> Result<TagName, TreeFault>
-        requires { OnlyInnermost (names_of self.now.frames.items) }
-        ensures { MayBegin self.now place name.now result }
-    {
-        let Some(tag) = TagName::of(name) else {
-            return Err(TreeFault::UnknownTag { place });
-        };
-        if self.is_misplaced(tag) {
-            return Err(TreeFault::Misplaced { place });
-        }
-        if self.frames.len() >= MOST_OPEN {
-            return Err(TreeFault::TooDeep { place });
-        }
-        Ok(tag)
     }
 
     fn start(
@@ -217,11 +155,10 @@ impl<'s> Builder<'s> {
         name: &'s [u8],
         attrs: List<Attr<'s>>,
     ) -> Result<(), TreeFault>
-        requires { OnlyInnermost (names_of self.old.frames.items) }
         ensures ok { OnOk result (TakesUnit self.old (start_unit span name.now attrs.entry) self.new) }
         ensures err { IfErr result (λ e. RefusesUnit self.old (start_unit span name.now attrs.entry) e) }
     {
-        let name = match self.tag(span.start, name) {
+        let name = match self.nesting.start(span.start, name) {
             Ok(name) => name,
             Err(fault) => return Err(fault),
         };
@@ -239,9 +176,6 @@ impl<'s> Builder<'s> {
         if self.frames.push(frame).is_err() {
             return Err(TreeFault::Memory);
         }
-        self.begun = true;
-        self.tagged = true;
-        self.seen = false;
         Ok(())
     }
 
@@ -252,11 +186,10 @@ impl<'s> Builder<'s> {
         name: &'s [u8],
         attrs: List<Attr<'s>>,
     ) -> Result<(), TreeFault>
-        requires { OnlyInnermost (names_of self.old.frames.items) }
         ensures ok { OnOk result (TakesUnit self.old (empty_unit span name.now attrs.entry) self.new) }
         ensures err { IfErr result (λ e. RefusesUnit self.old (empty_unit span name.now attrs.entry) e) }
     {
-        let name = match self.tag(span.start, name) {
+        let name = match self.nesting.empty(span.start, name) {
             Ok(name) => name,
             Err(fault) => return Err(fault),
         };
@@ -264,21 +197,19 @@ impl<'s> Builder<'s> {
         if push_node(&mut self.nodes, node).is_err() {
             return Err(TreeFault::Memory);
         }
-        self.begun = true;
-        self.tagged = true;
-        self.seen = self.frames.is_empty();
         Ok(())
     }
 
     fn end(&mut self, span: Span, name: &[u8]) -> Result<(), TreeFault>
+        requires { Agrees self.old }
         ensures ok { OnOk result (TakesUnit self.old (at_span span (units.end_tag name.now)) self.new) }
         ensures err { IfErr result (λ e. RefusesUnit self.old (at_span span (units.end_tag name.now)) e) }
     {
         let Some(frame) = self.frames.pop() else {
             return Err(TreeFault::Unbalanced { place: span.start });
         };
-        if !is_name_of(frame.name, name) {
-            return Err(TreeFault::Unbalanced { place: span.start });
+        if let Err(fault) = self.nesting.end(span.start, name) {
+            return Err(fault);
         }
         let children = mem::replace(&mut self.nodes, frame.before);
         let whole = Span {
@@ -289,9 +220,6 @@ impl<'s> Builder<'s> {
         if push_node(&mut self.nodes, node).is_err() {
             return Err(TreeFault::Memory);
         }
-        self.begun = true;
-        self.tagged = true;
-        self.seen = self.frames.is_empty();
         Ok(())
     }
 }

@@ -1,8 +1,9 @@
 //! The root of a source whose units are pulled one by one.
-ghost use Rattle.std.specs.Prelude.{◌≡◌, IfOk, IfErr};
+ghost use Rattle.std.specs.Prelude.{◌≡◌, IfOk, IfErr, OnOk};
+ghost use Rattle.tml_span.specs.Reader.{IsReading};
 ghost use Rattle.tml_tree.specs.View.{tag_node};
 ghost use Rattle.tml_tree.specs.Whole.{IsTreeOf, HasTreeFault};
-ghost use Rattle.tml_tree.specs.Pulled.{Leaves};
+ghost use Rattle.tml_tree.specs.Pulled.{IsAtEnd, Leaves};
 
 use crate::builder::Builder;
 use crate::{Tag, TreeFault};
@@ -11,10 +12,12 @@ use tml_span::UnitReader;
 
 /// The root of the document that the units of a reader make. None of them was given.
 pub fn root_from<'s>(alloc: Global, reader: &mut UnitReader<'s>) -> Result<Tag<'s>, TreeFault>
-    requires { reader.old.place ≡ 0 }
+    requires reading { IsReading reader.old }
+    requires none_given { reader.old.place ≡ 0 }
     ensures ok { IfOk result (λ t. IsTreeOf reader.old.source (tag_node t)) }
     ensures fault { IfErr result (λ e. HasTreeFault reader.old.source e) }
-    ensures leaves { Leaves reader.old.source reader.new result }
+    ensures ends { OnOk result (IsAtEnd reader.old.source reader.new) }
+    ensures leaves { IfErr result (λ e. Leaves reader.old.source reader.new e) }
 {
     let mut builder = Builder::new(alloc);
     loop {

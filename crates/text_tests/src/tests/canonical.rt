@@ -1,13 +1,11 @@
 //! The canonical text of a tree that is no document, since a tag repeats an attribute.
+use super::documents::tree_of;
 use tml_canon::canon;
-use tml_tree::tree_of;
 
 #[test]
 fn attributes_of_one_name_keep_their_order(rt: HostRuntime) {
     let doc: &[u8] = b"<TimeML b='2' a='' b='1' B='3'/>";
-    let Ok(tree) = tree_of(rt.alloc(), doc) else {
-        panic!(&rt; "no tree");
-    };
+    let tree = tree_of(&rt, doc);
     let Ok(text) = canon(rt.alloc(), &tree) else {
         panic!(&rt; "out of memory");
     };

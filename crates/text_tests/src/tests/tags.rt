@@ -1,7 +1,7 @@
 //! What typed tags carry beside the identifiers and references that `check` prints or asks for.
+use super::documents::tree_of;
 use net_core::Rel;
 use timex_value::{Modifier, TimexKind, Value};
-use tml_tree::tree_of;
 use tml_types::{
     Aspect, AspectRel, DocFunction, EventClass, LinkEnd, Polarity, Pos, SubRel, Tense, TypedTag,
     type_tags,
@@ -19,9 +19,7 @@ const DOC: &[u8] = b"<TimeML>
 
 #[test]
 fn typed_tags_carry_their_attributes(rt: HostRuntime) {
-    let Ok(tree) = tree_of(rt.alloc(), DOC) else {
-        panic!(&rt; "no tree");
-    };
+    let tree = tree_of(&rt, DOC);
     let Ok(typed) = type_tags(rt.alloc(), &tree) else {
         panic!(&rt; "no typed tags");
     };

@@ -1,6 +1,7 @@
 //! The names and the places of the tags of a tree.
+use super::documents::tree_of;
 use std::process::Abort;
-use tml_tree::{Node, Tag, TagName, tree_of};
+use tml_tree::{Node, Tag, TagName};
 
 /// The child at this index, which is an element.
 fn child<'t, 's>(rt: &(impl Abort + AllocGlobal), tag: &'t Tag<'s>, index: usize) -> &'t Tag<'s> {
@@ -13,9 +14,7 @@ fn child<'t, 's>(rt: &(impl Abort + AllocGlobal), tag: &'t Tag<'s>, index: usize
 #[test]
 fn tags_have_their_names_and_places(rt: HostRuntime) {
     let doc: &[u8] = b" <TimeML><P><EVENT a='1'/>x</P><s/></TimeML>";
-    let Ok(tree) = tree_of(rt.alloc(), doc) else {
-        panic!(&rt; "no tree");
-    };
+    let tree = tree_of(&rt, doc);
     assert!(&rt; tree.source() == doc);
     let root = tree.root();
     let paragraph = child(&rt, root, 0);

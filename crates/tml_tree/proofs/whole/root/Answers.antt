@@ -2,8 +2,11 @@ use Rattle.std.proofs.Common.{◌≡◌, [], ◌∷◌, ◌++◌, inr, refl, sym
 use Rattle.std.proofs.lemmas.List.{map-append}
 use Rattle.std.specs.Vec.Iter.{into_iter_items}
 use Rattle.tml_span.specs.View.{unit_of}
-use Rattle.tml_tree.proofs.Taken.{taken_more, refused, nothing_left}
+use Rattle.tml_tree.proofs.Taken.{agrees, taken_more, refused, nothing_left}
 use Rattle.tml_tree.proofs.whole.root.Goals as goal
+
+pub take-requires : goal.take-requires
+take-requires c = agrees _ c.loop-unit.builder c.loop-unit.invariant.taken
 
 pub loop-unit-preserved : goal.loop-unit-preserved
 loop-unit-preserved c =
@@ -16,7 +19,7 @@ loop-unit-preserved c =
           let gone = c.in-Some.ensures.steps.1 in
           let short = ap length steps in
           omega arith;
-      taken = rw (map-append unit_of at.yielded (c.in-Some.unit ∷ [])) (taken_more _ _ _ _ at.invariant.taken c.in_default.ensures.ok);
+      taken = rw (map-append unit_of at.yielded (c.in-Some.unit ∷ [])) (taken_more _ _ at.builder c.take.new.self at.invariant.taken c.in_default.ensures.ok);
     }
 
 pub returns-in-Err-clause-fault : goal.returns-in-Err-clause-fault

@@ -1,18 +1,13 @@
-use Rattle.std.proofs.Common.{refl, inl}
-use Rattle.faults.proofs.First.{none_breaks_nil}
-use Rattle.tml_tree.specs.Trees.{Breaks}
+use Rattle.std.proofs.Common.{List, [], map, sym, subst}
+use Rattle.tml_tree.specs.declared.builder.Frame.{Frame}
+use Rattle.tml_tree.specs.declared.node.Node.{Node}
+use Rattle.tml_tree.specs.Judging.{HavePassed}
+use Rattle.tml_tree.specs.Rules.{History}
+use Rattle.tml_tree.specs.View.{node_of, tags_of}
+use Rattle.tml_tree.proofs.Passed.{passed_none}
 use Rattle.tml_tree.proofs.builder.Builder.new.Goals as goal
 
 pub returns : goal.returns
 returns c =
-    let f = c.new.ensures.items in
-    let n = c.new-2.ensures.items in record {
-      opens = rw (f, n) refl;
-      lawful = none_breaks_nil Breaks;
-      begun = refl;
-      tagged = refl;
-      doctyped = refl;
-      seen = rw (f, n) refl;
-      single = rw (f, n) (inl refl);
-      links = rw f tt;
-    }
+    subst (λ (p : List Frame × List Node × History). HavePassed [] (tags_of p.0) (map node_of p.1) p.2)
+    (λ i. (sym c.new-2.ensures.items i, sym c.new-3.ensures.items i, sym c.new.ensures i)) passed_none
