@@ -1,6 +1,5 @@
 -- A table, one unit further.
-use Rattle.std.proofs.Common.{◌≡◌, ℕ, List, [], ◌∷◌, ◌++◌, sym, ap, ◌∙◌, false, Result, Ok, Err}
-use Rattle.std.specs.Prelude.{OnOk, is_err}
+use Rattle.std.proofs.Common.{◌≡◌, ℕ, List, [], ◌∷◌, ◌++◌, sym, ap, ◌∙◌}
 use Rattle.std.proofs.lemmas.Grind.{flat_map-append}
 use Rattle.std.proofs.lemmas.List.{append-nil}
 use Rattle.tml_span.specs.Units.{PlainUnit}
@@ -20,8 +19,3 @@ pub one_more : (old new : Reading) (table lines : List ℕ) (u : PlainUnit) → 
 one_more old new table lines u gives so_far e =
     let next = gives so_far.0 so_far.1 so_far.2 in
     (so_far.0 ++ u ∷ [], next.0, next.2, e ∙ ap (λ (t : List ℕ). t ++ texts.unit_lines u) so_far.3 ∙ sym (unit_table-append so_far.0 u))
-
--- what holds on success, of a success
-pub when_ok : {T E : Type 0} (r : Result T E) (P : Type 0) → is_err r ≡ false → OnOk r P → P
-when_ok (Ok x) P e h = h
-when_ok (Err x) P e h = absurd cc

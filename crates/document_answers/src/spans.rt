@@ -35,7 +35,7 @@ impl OfFile for Spans {
 
 /// A line for each unit, and after that of a start tag one for each attribute.
 fn unit_table(alloc: Global, reader: UnitReader<'_>) -> Result<Vec<u8>, AllocError>
-    requires { Begins reader.entry.source reader.entry }
+    requires { Begins reader.source reader }
     ensures { IfOk result (λ table. HasTable reader.entry.source table.items) }
 {
     let mut reader = reader;
