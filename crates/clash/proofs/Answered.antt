@@ -8,6 +8,7 @@ use Rattle.net_core.specs.Clashes.{Clashes, Others}
 use Rattle.net_core.specs.Fits.{EveryLink, Fits, FitsWith}
 use Rattle.net_core.specs.Nets.{IsNet, PlainNet, points}
 use Rattle.net_core.specs.Walks.{IsClosedWalk, Kept}
+use Rattle.net_core.proofs.StepLaws.{fits_fewer}
 use Rattle.net_core.proofs.WalkLaws.{joined_more, over_chosen, round_clashes}
 use Rattle.net_core.specs.Least.{AreSpares, IsSpare}
 use Rattle.order_closure.proofs.LeastRanks.{same_ranks}
@@ -17,7 +18,7 @@ use Rattle.clash.specs.declared.minimal.Clash.{Clash}
 use Rattle.clash.proofs.Complete.{fits_or_closed_walk, least_or_closed_walk, walk_or_counter}
 use Rattle.clash.proofs.Marked.{every_marked, kept_within}
 use Rattle.clash.proofs.Proved.{proved_links}
-use Rattle.clash.proofs.Rounds.{fits_fewer, goes_over, others_set, set_others, spared_fewer}
+use Rattle.clash.proofs.Rounds.{goes_over, others_set, set_others, spared_fewer}
 use Rattle.clash.proofs.ShortWalks.{short_walk}
 
 -- marks of all links

@@ -1,27 +1,20 @@
 -- A closed table that is kept by the timelines that fit a net.
-use Rattle.std.proofs.Common.{◌≡◌, ◌↔◌, ℕ, ◌<◌, ◌≤◌, Bool, true, false, List, refl, arith}
+use Rattle.std.proofs.Common.{◌≡◌, ◌↔◌, ℕ, ◌<◌, ◌≤◌, Bool, true, false, List, arith}
 use Rattle.net_core.specs.Entailment.{Always, HasNoTimeline}
-use Rattle.net_core.specs.Fits.{Fits, FitsWith}
+use Rattle.net_core.specs.Fits.{EveryLink, Fits, FitsWith}
 use Rattle.net_core.specs.Nets.{PlainNet, points}
 use Rattle.net_core.specs.Relations.{Timeline}
+use Rattle.net_core.proofs.StepLaws.{fits_fewer}
 use Rattle.order_closure.specs.Cells.{Says, order, strength}
 use Rattle.order_closure.specs.Counting.{before_count}
 use Rattle.net_core.specs.declared.atom.Atom.{Atom}
 use Rattle.order_closure.specs.Tables.{IsClosed, Keeps, SatisfiesAll, Table, cell_at}
-use Rattle.order_closure.specs.declared.cell.Cell.{Cell}
-use Rattle.order_closure.specs.declared.cell.Cell.TheVariants.{Free, Strict, Weak}
-use Rattle.order_closure.proofs.Central.{always_stands, order_says}
+use Rattle.order_closure.proofs.Central.{always_stands, order_says, weak_is}
 use Rattle.order_closure.proofs.Ranking.{counts_kept, strict_from, strict_says}
 use Rattle.clash.specs.Closures.{IsClosureOf, NoLink}
-use Rattle.clash.specs.Minimal.{IsFirstClash}
+use Rattle.clash.specs.Minimal.{IsFirstClash, UpTo}
 use Rattle.clash.specs.Orders.{AreFixed}
 use Rattle.clash.specs.Steps.{Adds, IsFirstExcluded, KeepsLinks}
-
--- a cell that says something is Weak or Strict
-weak_or_strict : (x : Cell) → 1 ≤ strength x → ¬ (x ≡ Strict) → x ≡ Weak
-weak_or_strict Free h other = absurd (omega arith)
-weak_or_strict Weak h other = refl
-weak_or_strict Strict h other = absurd (other refl)
 
 module _ (net : PlainNet) (table : Table) (closed : IsClosed table) (size : table.points ≡ points net) (keeps : (t : Timeline) → Keeps table t ↔ Fits net t) where
   -- an order that every timeline has stands in the table
@@ -48,7 +41,7 @@ module _ (net : PlainNet) (table : Table) (closed : IsClosed table) (size : tabl
             λ t fits. order_says (cell_at table p q) false _ _ (rw e (omega arith)) (says p q lp lq t fits),
             λ always. let is = strict_from (cell_at table p q) (stands true p q lp lq always) in cc,
           ),
-          λ both. weak_or_strict _ (stands false p q lp lq both.0)
+          λ both. weak_is _ (stands false p q lp lq both.0)
               (λ e. both.1 (λ t fits. strict_says (cell_at table p q) _ _ e (says p q lp lq t fits))),
         );
   }
@@ -75,7 +68,7 @@ module _ (net : PlainNet) (table : Table) (fitting : (t : Timeline) → Keeps ta
         let both = (links.1 t).0 kept in
         let fits = (fitting t).0 both.0 in
         record { order = fits.order; links = λ k lt any. both.1 k lt; calendar = fits.calendar },
-    λ fits. (links.1 t).1 ((fitting t).1 record { order = fits.order; links = λ k lt none. absurd none; calendar = fits.calendar }, λ k lt. fits.links k lt tt),
+    λ fits. (links.1 t).1 ((fitting t).1 (fits_fewer net EveryLink NoLink t (λ k lt none. tt) fits), λ k lt. fits.links k lt tt),
   )
 
   -- the first link that no timeline keeps with those before it is the first that clashes
@@ -87,10 +80,10 @@ module _ (net : PlainNet) (table : Table) (fitting : (t : Timeline) → Keeps ta
         let fits = (fitting t).0 first.before.1 in
         (t, record { order = fits.order; links = λ j lt before. first.before.2 j before; calendar = fits.calendar });
     clashes = λ t fits.
-        first.excluded t ((fitting t).1 record { order = fits.order; links = λ j lt none. absurd none; calendar = fits.calendar })
+        first.excluded t ((fitting t).1 (fits_fewer net (UpTo k) NoLink t (λ j lt none. absurd none) fits))
         (λ j less. fits.links j (omega (arith, less, first.link)) (omega (arith, less))) (fits.links k first.link (omega arith));
   }
 
 -- where a link clashes with those before it no timeline fits
 pub none_fits : (net : PlainNet) (k : ℕ) → IsFirstClash net k → HasNoTimeline net
-none_fits net k first t fits = first.clashes t record { order = fits.order; links = λ j lt up_to. fits.links j lt tt; calendar = fits.calendar }
+none_fits net k first t fits = first.clashes t (fits_fewer net EveryLink (UpTo k) t (λ j lt up_to. tt) fits)

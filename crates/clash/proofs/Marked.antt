@@ -3,7 +3,7 @@ use Rattle.std.proofs.Common.{◌≡◌, ◌↔◌, inl, inr, ℕ, zero, suc, �
 use Rattle.std.specs.List.{All, Contains}
 use Rattle.std.specs.List.Sorted.{IsStrictlyIncreasing}
 use Rattle.std.proofs.lemmas.Bool.{cases_lt}
-use Rattle.std.proofs.lemmas.List.{get_or_append_left, get_or_past}
+use Rattle.std.proofs.lemmas.List.{get_or_append_left, get_or_past, get_or_push}
 use Rattle.std.proofs.lemmas.List.Elements.{Contains-append_cases, Contains-append_left, Contains-append_right}
 use Rattle.net_core.specs.Walks.{Kept}
 
@@ -12,10 +12,6 @@ pub record AreMarked (marks : List Bool) (k : ℕ) (links : List ℕ) : Type 0 w
   pub rising : IsStrictlyIncreasing links
   pub below : All (λ (j : ℕ). j < k) links
   pub exact : (j : ℕ) → Contains links j ↔ ((j < k) × Kept marks j)
-
-last_is : (xs : List ℕ) (k d : ℕ) → slice_index_or (xs ++ k ∷ []) (length xs) d ≡ k
-last_is [] k d = refl
-last_is (x ∷ xs) k d = last_is xs k d
 
 -- a number above all others stands last
 rising_push : (links : List ℕ) (k : ℕ) → IsStrictlyIncreasing links → All (λ (j : ℕ). j < k) links → IsStrictlyIncreasing (links ++ k ∷ [])
@@ -27,7 +23,7 @@ rising_push links k rising below i lt = elim (cases_lt (i + 1) (length links)) [
   | inr not ↦
       let end : i + 1 ≡ length links = omega (arith, not, lt, length-append links (k ∷ [])) in
       let first : slice_index (links ++ k ∷ []) i ≡ slice_index links i = get_or_append_left links (k ∷ []) 0 i (omega arith) in
-      let second : slice_index (links ++ k ∷ []) (i + 1) ≡ k = subst (λ (n : ℕ). slice_index (links ++ k ∷ []) n ≡ k) (sym end) (last_is links k 0) in
+      let second : slice_index (links ++ k ∷ []) (i + 1) ≡ k = get_or_push links k 0 (i + 1) (sym end) in
       omega (arith, first, second, below i 0 (omega arith))
 ]
 
@@ -36,7 +32,7 @@ below_push links k below i d lt = elim (cases_lt i (length links)) [
   | inl less ↦ omega (arith, get_or_append_left links (k ∷ []) d i less, below i d less)
   | inr not ↦
       let end : i ≡ length links = omega (arith, not, lt, length-append links (k ∷ [])) in
-      let is : slice_index_or (links ++ k ∷ []) i d ≡ k = subst (λ (n : ℕ). slice_index_or (links ++ k ∷ []) n d ≡ k) (sym end) (last_is links k d) in
+      let is : slice_index_or (links ++ k ∷ []) i d ≡ k = get_or_push links k d i (sym end) in
       omega (arith, is)
 ]
 

@@ -8,12 +8,13 @@ use Rattle.net_core.specs.Fits.{EveryLink, FitsWith}
 use Rattle.net_core.specs.Nets.{PlainNet, points}
 use Rattle.net_core.specs.Walks.{GoesOver, IsClosedWalk, Kept}
 use Rattle.net_core.specs.declared.step.Step.{Step}
-use Rattle.net_core.proofs.WalkLaws.{round_clashes}
+use Rattle.net_core.proofs.StepLaws.{fits_fewer}
+use Rattle.net_core.proofs.WalkLaws.{over_links, round_clashes, round_more}
 use Rattle.net_core.specs.Least.{AreSpares, IsSpare}
 use Rattle.order_closure.proofs.LeastRanks.{same_ranks}
 use Rattle.clash.specs.Minimal.{IsProvedClash, IsRound, IsSpared}
 use Rattle.clash.specs.declared.round.Round.{Round}
-use Rattle.clash.proofs.Rounds.{fits_fewer, goes_over, over_links, round_more, spared_fewer}
+use Rattle.clash.proofs.Rounds.{goes_over, spared_fewer}
 
 module _ (net : PlainNet) (cites : List ℕ) (Over : ℕ → Type 0) (walk : List Step) (goes : IsClosedWalk net Over walk) (over : (k : ℕ) → k < length net.links → Over k ↔ GoesOver walk k) (short : length walk ≤ 2 * points net)
     (exact : (k : ℕ) → Contains cites k ↔ Over k) (needed : (k : ℕ) → Over k → IsSpared net Over k) where

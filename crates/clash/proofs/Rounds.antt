@@ -1,21 +1,21 @@
 -- Closed walks, and sets of links that they clash by.
-use Rattle.std.proofs.Common.{◌≡◌, ◌↔◌, inl, inr, ℕ, zero, suc, ◌<◌, ◌≤◌, Bool, true, false, List, [], ◌∷◌, length, Some, slice_index_or, slice_set, refl, sym, ap, subst, ◌∙◌, arith}
+use Rattle.std.proofs.Common.{◌≡◌, ◌↔◌, inl, inr, ℕ, zero, suc, ◌<◌, ◌≤◌, Bool, true, false, List, [], ◌∷◌, length, Some, slice_index_or, slice_set, refl, sym, ap, subst, arith}
 use Rattle.std.specs.List.{Contains, slice_get}
 use Rattle.std.proofs.lemmas.Bool.{cases_lt}
-use Rattle.std.proofs.lemmas.Option.{get_or_from_slice_get, option_and_then_some, slice_get_within}
+use Rattle.std.proofs.lemmas.Option.{get_or_from_slice_get, option_and_then_some}
 use Rattle.net_core.specs.Atoms.{atoms_of}
 use Rattle.net_core.specs.Clashes.{Clashes, Others}
-use Rattle.net_core.specs.Fits.{EveryLink, FitsWith}
+use Rattle.net_core.specs.Fits.{EveryLink}
 use Rattle.net_core.specs.Nets.{IsNet, PlainNet, link_at}
-use Rattle.net_core.specs.Relations.{Timeline}
 use Rattle.net_core.specs.Steps.{atom_of, link_of}
-use Rattle.net_core.specs.Walks.{GoesOver, IsClosedWalk, HasWalk, IsJoined, Kept}
+use Rattle.net_core.specs.Walks.{GoesOver, IsClosedWalk, HasWalk, Kept}
 use Rattle.net_core.specs.declared.atom.Atom.{Atom}
 use Rattle.net_core.specs.declared.net.NetLink.{NetLink}
 use Rattle.net_core.specs.declared.rels.Rel.TheVariants as rel
 use Rattle.net_core.specs.declared.step.Step.{Step}
 use Rattle.net_core.specs.declared.step.Step.TheVariants.{Link, Span, Calendar}
-use Rattle.net_core.proofs.WalkLaws.{joined_more, joined_over, over_chosen, over_or_not, round_clashes, round_from}
+use Rattle.net_core.proofs.StepLaws.{fits_fewer}
+use Rattle.net_core.proofs.WalkLaws.{over_chosen, over_links, over_or_not, round_clashes, round_from, round_over, step_goes}
 use Rattle.net_core.specs.Entailment.{HasTimelineWith}
 use Rattle.clash.specs.Minimal.{Before, IsFirstClash, IsRound, IsSpared, UpTo}
 use Rattle.clash.specs.declared.round.Round.{Round}
@@ -24,34 +24,10 @@ use Rattle.clash.proofs.Marked.{kept_within}
 
 -- ---- sets of links
 
--- a timeline that fits with links fits with fewer of them
-pub fits_fewer : (net : PlainNet) (Chosen Fewer : ℕ → Type 0) (t : Timeline) → ((k : ℕ) → k < length net.links → Fewer k → Chosen k) → FitsWith net Chosen t → FitsWith net Fewer t
-fits_fewer net Chosen Fewer t fewer fits = record { order = fits.order; links = λ k lt chosen. fits.links k lt (fewer k lt chosen); calendar = fits.calendar }
-
 pub spared_fewer : (net : PlainNet) (Chosen Fewer : ℕ → Type 0) (k : ℕ) → ((j : ℕ) → Fewer j → Chosen j) → IsSpared net Chosen k → IsSpared net Fewer k
 spared_fewer net Chosen Fewer k fewer spared = (spared.0, fits_fewer net (Others Chosen k) (Others Fewer k) spared.0 (λ j lt other. (fewer j other.0, other.1)) spared.1)
 
 -- ---- closed walks
-
--- joined steps go over links of the net only
-pub over_links : (net : PlainNet) (Chosen : ℕ → Type 0) (steps : List Step) (x y k : ℕ) → IsJoined net Chosen steps x y → GoesOver steps k → k < length net.links
-over_links net Chosen [] x y k joined over = absurd (omega (arith, over.1.1))
-over_links net Chosen (step ∷ steps) x y k joined (other, (zero, lt, e), is) = in_range step joined.0 joined.1.0 (ap link_of e ∙ is)
-  where
-    in_range : (step : Step) (a : Atom) → atom_of net step ≡ Some a → link_of step ≡ Some k → k < length net.links
-    in_range (Link j i) a at link =
-        let same : j ≡ k = cc in
-        subst (λ (n : ℕ). n < length net.links) same
-        (option_and_then_some (λ (l : NetLink). slice_get (atoms_of l.rel l.a l.b) i) (slice_get net.links j) a at (λ l found here. slice_get_within net.links j l found))
-    in_range (Span i) a at link = absurd cc
-    in_range (Calendar p q) a at link = absurd cc
-over_links net Chosen (step ∷ steps) x y k joined (other, (suc j, lt, e), is) = over_links net Chosen steps joined.0.to y k joined.3 (other, (j, omega (arith, lt), e), is)
-
-pub round_more : (net : PlainNet) (Chosen Other : ℕ → Type 0) (steps : List Step) → ((k : ℕ) → Chosen k → Other k) → IsClosedWalk net Chosen steps → IsClosedWalk net Other steps
-round_more net Chosen Other steps more round = (round.0, (joined_more net Chosen Other steps round.0 round.0 more round.1.0, round.1.1))
-
-pub round_over : (net : PlainNet) (Chosen Other : ℕ → Type 0) (steps : List Step) → ((k : ℕ) → GoesOver steps k → Other k) → IsClosedWalk net Chosen steps → IsClosedWalk net Other steps
-round_over net Chosen Other steps over round = (round.0, (joined_over net Chosen Other steps round.0 round.0 round.1.0 over, round.1.1))
 
 -- a closed walk goes over a link where the others of its links do not clash
 pub goes_over : (net : PlainNet) (Chosen : ℕ → Type 0) (k : ℕ) (steps : List Step) → IsSpared net Chosen k → IsClosedWalk net Chosen steps → GoesOver steps k
@@ -75,31 +51,25 @@ pub some_round : (net : PlainNet) (keep : List Bool) (needed : ℕ) → IsNet ne
     → ((steps : List Step) → IsClosedWalk net (Kept keep) steps → GoesOver steps needed → ⊥) → ⊥
 some_round net keep needed is spared clashes none = let fits = none_round net keep needed is spared none in clashes fits.0 fits.1
 
--- each of joined steps goes by an order
-step_goes : (net : PlainNet) (Chosen : ℕ → Type 0) (steps : List Step) (x y : ℕ) (step : Step) → IsJoined net Chosen steps x y → Contains steps step → (a : Atom) × (atom_of net step ≡ Some a)
-step_goes net Chosen [] x y step joined (i, lt, e) = absurd (omega (arith, lt))
-step_goes net Chosen (first ∷ steps) x y step joined (zero, lt, e) = (joined.0, subst (λ (s : Step). atom_of net s ≡ Some joined.0) e joined.1.0)
-step_goes net Chosen (first ∷ steps) x y step joined (suc i, lt, e) = step_goes net Chosen steps joined.0.to y step joined.3 (i, omega (arith, lt), e)
-
 -- the orders that a link is
-abbrev pub orders_of : PlainNet → ℕ → List Atom
-orders_of net k = let link = link_at net k in atoms_of link.rel link.a link.b
+abbrev pub orders_of_link : PlainNet → ℕ → List Atom
+orders_of_link net k = let link = link_at net k in atoms_of link.rel link.a link.b
 
 -- a closed walk over a link can begin with one of its orders
 pub round_through : (net : PlainNet) (Chosen : ℕ → Type 0) (k : ℕ) (steps : List Step) → IsClosedWalk net Chosen steps → GoesOver steps k
-    → (i : ℕ) × (a : Atom) × (slice_get (orders_of net k) i ≡ Some a) × HasWalk net Chosen a.from a.from true
+    → (i : ℕ) × (a : Atom) × (slice_get (orders_of_link net k) i ≡ Some a) × HasWalk net Chosen a.from a.from true
 round_through net Chosen k steps round (step, has, is) =
     let goes = step_goes net Chosen steps round.0 round.0 step round.1.0 has in
-    by_step step goes.0 goes.1 has is
+    by_step step goes.0 goes.1.0 has is
   where
     by_step : (step : Step) (a : Atom) → atom_of net step ≡ Some a → Contains steps step → link_of step ≡ Some k
-        → (i : ℕ) × (b : Atom) × (slice_get (orders_of net k) i ≡ Some b) × HasWalk net Chosen b.from b.from true
+        → (i : ℕ) × (b : Atom) × (slice_get (orders_of_link net k) i ≡ Some b) × HasWalk net Chosen b.from b.from true
     by_step (Link j i) a at has is =
         let same : j ≡ k = cc in
-        let here : slice_get (orders_of net j) i ≡ Some a =
+        let here : slice_get (orders_of_link net j) i ≡ Some a =
         option_and_then_some (λ (l : NetLink). slice_get (atoms_of l.rel l.a l.b) i) (slice_get net.links j) a at (λ l found here.
         subst (λ (x : NetLink). slice_get (atoms_of x.rel x.a x.b) i ≡ Some a) (sym (get_or_from_slice_get net.links j l (record { a = 0; rel = rel.Before; b = 0 }) found)) here) in
-        (i, a, subst (λ (n : ℕ). slice_get (orders_of net n) i ≡ Some a) same here, round_from net Chosen steps (Link j i) a round has at)
+        (i, a, subst (λ (n : ℕ). slice_get (orders_of_link net n) i ≡ Some a) same here, round_from net Chosen steps (Link j i) a round has at)
     by_step (Span i) a at has is = absurd cc
     by_step (Calendar p q) a at has is = absurd cc
 

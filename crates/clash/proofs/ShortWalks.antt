@@ -1,5 +1,5 @@
 -- A walk can be short: what leads from a state back to it is cut out, until each state is visited once.
-use Rattle.std.proofs.Common.{◌≡◌, ℕ, zero, suc, ◌+◌, ◌*◌, ◌<◌, ◌≤◌, Bool, true, false, not, ◌&&◌, ◌||◌, cond, List, [], ◌∷◌, length, refl, sym, ap, subst, ◌∙◌, arith, ◌⊎◌, inl, inr}
+use Rattle.std.proofs.Common.{◌≡◌, ℕ, zero, suc, ◌*◌, ◌<◌, ◌≤◌, Bool, true, false, not, ◌&&◌, ◌||◌, List, [], ◌∷◌, length, refl, sym, ap, subst, ◌∙◌, arith, ◌⊎◌, inl, inr}
 use Rattle.std.specs.Prelude.{nat_eq}
 use Rattle.std.proofs.lemmas.Bool.{cases_eq, eqb-true, eq-eqb}
 use Rattle.net_core.specs.Nets.{IsNet, PlainNet, points}
@@ -10,6 +10,8 @@ use Rattle.net_core.specs.declared.step.Step.{Step}
 use Rattle.net_core.proofs.StepLaws.{step_in_range}
 use Rattle.order_closure.specs.Counting.{count}
 use Rattle.order_closure.proofs.Counting.{count-le, count-more}
+use Rattle.walks.specs.States.{place as state}
+use Rattle.walks.proofs.StateLaws.{one_state}
 use Rattle.clash.specs.Walks.{HasShortWalk, ShortWalks}
 
 -- ---- paths from node to node
@@ -75,16 +77,6 @@ module _ {X : Type 0} (Leads : X → ℕ → ℕ → Type 0) where
       ]
 
 -- ---- walks as paths
-
--- the number of a state: a point, and whether a step on the way to it was strict
-abbrev state : ℕ → Bool → ℕ
-state p strict = 2 * p + cond strict 1 0
-
-one_state : (p q : ℕ) (s t : Bool) → state p s ≡ state q t → (p ≡ q) × (s ≡ t)
-one_state p q true true e = (omega arith, refl)
-one_state p q false false e = (omega arith, refl)
-one_state p q true false e = absurd (omega arith)
-one_state p q false true e = absurd (omega arith)
 
 or_none : (s : Bool) → (s || false) ≡ s
 or_none true = refl

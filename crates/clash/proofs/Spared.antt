@@ -15,6 +15,7 @@ use Rattle.net_core.specs.Ranks.{timeline_of}
 use Rattle.net_core.specs.Relations.{Timeline}
 use Rattle.net_core.specs.Walks.{Kept}
 use Rattle.net_core.specs.declared.atom.Atom.{Atom}
+use Rattle.net_core.proofs.StepLaws.{fits_fewer}
 use Rattle.order_closure.specs.Tables.{AreInRange}
 use Rattle.clash.specs.Minimal.{IsRound, IsSpared}
 use Rattle.clash.specs.Orders.{AreBelow, AreFixed, FitsBut}
@@ -22,7 +23,6 @@ use Rattle.clash.specs.Raising.{AreLow, AreUnder, AreWithin, Rises}
 use Rattle.clash.specs.declared.orders.Order.{Order}
 use Rattle.clash.specs.declared.round.Round.{Round}
 use Rattle.clash.proofs.Complete.{small_timeline}
-use Rattle.clash.proofs.Rounds.{fits_fewer}
 use Rattle.clash.proofs.StepsBut.{fits_but}
 
 -- whether a link is one of those that are marked, and another one

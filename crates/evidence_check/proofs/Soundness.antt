@@ -1,15 +1,10 @@
 -- What supported evidence shows is true.
-use Rattle.std.proofs.Common.{◌≡◌, ℕ, zero, suc, ◌<◌, List, [], ◌∷◌, length, Some, Result, Ok, Err, OnOk, IfOk, arith, subst}
-use Rattle.std.specs.List.{AllByRecursion, Contains, slice_get}
+use Rattle.std.proofs.Common.{◌≡◌, ℕ, List, [], ◌∷◌, Result, Ok, Err, OnOk, IfOk, subst}
+use Rattle.std.specs.List.{AllByRecursion, Contains}
 use Rattle.std.proofs.lemmas.List.Elements.{All-from_get_or}
-use Rattle.std.proofs.lemmas.Option.{option_and_then_some, slice_get_within}
 use Rattle.net_core.specs.Atoms.{Satisfies, atoms_of}
 use Rattle.net_core.specs.Relations.{Timeline}
-use Rattle.net_core.specs.Steps.{atom_of, link_of}
-use Rattle.net_core.specs.Walks.{GoesOver, IsJoined}
 use Rattle.net_core.specs.declared.atom.Atom.{Atom}
-use Rattle.net_core.specs.declared.net.NetLink.{NetLink}
-use Rattle.net_core.specs.declared.step.Step.TheVariants.{Link, Span, Calendar}
 use Rattle.net_core.specs.Clashes.{IsMinimalClash, Others}
 use Rattle.net_core.specs.Fits.{EveryLink, Fits, FitsWith}
 use Rattle.net_core.specs.Nets.{PlainNet}
@@ -17,28 +12,13 @@ use Rattle.net_core.specs.Ranks.{ranks_of, timeline_of}
 use Rattle.net_core.specs.declared.rels.Rel.{Rel}
 use Rattle.net_core.specs.declared.step.Step.{Step as StepOf}
 use Rattle.net_core.proofs.AtomLaws.{atoms_say_the_relation}
-use Rattle.net_core.proofs.WalkLaws.{joined_over, round_clashes, walk_kept}
+use Rattle.net_core.proofs.WalkLaws.{over_links, round_clashes, round_over, walk_kept}
 use Rattle.net_core.specs.Entailment.{Follows}
 use Rattle.evidence_format.specs.Evidence.{PlainEvidence, timeline, entails, counter, clash}
 use Rattle.evidence_check.specs.Claims.{ShowsTruth}
 use Rattle.evidence_check.specs.Refusals.{ranks_at}
 use Rattle.evidence_check.specs.Supported.{FitsOthers, IsSupported, ProveAll}
 use Rattle.evidence_check.proofs.Zipped.{zip_at}
-
--- the link of a step that goes by an order is one of the net
-link_within : (net : PlainNet) (step : StepOf) (a : Atom) (k : ℕ) → atom_of net step ≡ Some a → link_of step ≡ Some k → k < length net.links
-link_within net (Link link i) a k e is =
-    let same : link ≡ k = let f = is in cc in
-    subst (λ (n : ℕ). n < length net.links) same
-    (option_and_then_some (λ (l : NetLink). slice_get (atoms_of l.rel l.a l.b) i) (slice_get net.links link) a e (λ l at here. slice_get_within net.links link l at))
-link_within net (Span i) a k e is = absurd cc
-link_within net (Calendar p q) a k e is = absurd cc
-
--- the links that joined steps go over are links of the net
-over_links : (net : PlainNet) (steps : List StepOf) (x y k : ℕ) → IsJoined net EveryLink steps x y → GoesOver steps k → k < length net.links
-over_links net [] x y k joined over = absurd (omega (arith, over.1.1))
-over_links net (step ∷ steps) x y k joined (s, (zero, lt, is), of_link) = link_within net s joined.0 k (subst (λ (r : StepOf). atom_of net r ≡ Some joined.0) is joined.1.0) of_link
-over_links net (step ∷ steps) x y k joined (s, (suc i, lt, is), of_link) = over_links net steps joined.0.to y k joined.3 (s, (i, omega (arith, lt), is), of_link)
 
 -- a timeline that fits is in the order of each atom that is proved
 all_kept : (net : PlainNet) (t : Timeline) (atoms : List Atom) (walks : List (List StepOf)) → Fits net t → ProveAll net atoms walks → AllByRecursion (Satisfies t) atoms
@@ -55,7 +35,7 @@ supported_is_true net (clash cites walk spares) shown =
     record {
       links = shown.0;
       clashes = round_clashes net (Contains cites) walk
-          (round.0, (joined_over net EveryLink (Contains cites) walk round.0 round.0 round.1.0 (λ k over. (shown.1.1 k (over_links net walk round.0 round.0 k round.1.0 over)).0 over), round.1.1));
+          (round_over net EveryLink (Contains cites) walk (λ k over. (shown.1.1 k (over_links net EveryLink walk round.0 round.0 k round.1.0 over)).0 over) round);
       needed = All-from_get_or (λ (k : ℕ). (t : Timeline) × FitsWith net (Others (Contains cites) k) t) cites 0
           (λ i lt. (timeline_of (ranks_of (ranks_at spares i)), (zip_at (FitsOthers net cites) 0 [] cites spares shown.2 i lt).1));
     }

@@ -7,7 +7,6 @@ use Rattle.answers.proofs.Answered.{contents_answered}
 use Rattle.clash.specs.Minimal.{IsProvedClash}
 use Rattle.clash.specs.declared.minimal.Clash.{Clash as ClashOf}
 use Rattle.clash.proofs.Answered.{every_net as answered_net}
-use Rattle.clash.proofs.Rounds.{fits_fewer}
 use Rattle.evidence_format.specs.Evidence.{clash, text_lines}
 use Rattle.net_build.specs.Built.{IntervalBounds, IsNetOf}
 use Rattle.net_build.proofs.EveryNet.{every_net}
@@ -16,6 +15,7 @@ use Rattle.net_core.specs.Entailment.{HasNoTimeline, HasTimeline}
 use Rattle.net_core.specs.Fits.{EveryLink}
 use Rattle.net_core.specs.Nets.{IsNet, PlainNet, intervals}
 use Rattle.net_core.specs.Ranks.{pairs_of, timeline_of}
+use Rattle.net_core.proofs.StepLaws.{fits_fewer}
 use Rattle.tml_accept.specs.Acceptance.{Says}
 use Rattle.tml_accept.proofs.Phases.{one_document}
 use Rattle.tml_refs.specs.Documents.{PlainDocument}

@@ -1,5 +1,5 @@
 -- A relation and its orders of points say the same.
-use Rattle.std.proofs.Common.{◌≡◌, ◌↔◌, ℕ, ◌≤◌, ◌<◌, ◌*◌, nat_le, true, List, [], ◌∷◌, map, arith, rules, length, refl, sym, ap, subst}
+use Rattle.std.proofs.Common.{◌≡◌, ◌↔◌, ℕ, ◌≤◌, ◌<◌, ◌*◌, nat_le, true, List, [], ◌∷◌, map, arith, rules, length, refl, sym, ap, subst, le_antisymm}
 use Rattle.std.specs.List.{All, AllByRecursion}
 use Rattle.std.proofs.lemmas.Bool.{leb-true}
 use Rattle.std.proofs.lemmas.List.{length-map}
@@ -20,9 +20,6 @@ BothWays m n = (m ≤ n) × (n ≤ m)
 split : (m n : ℕ) → m ≡ n → BothWays m n
 split m n e = (omega (arith, e), omega (arith, e))
 
-join : (m n : ℕ) → m ≤ n → n ≤ m → m ≡ n
-join m n le ge = omega arith
-
 -- a relation holds exactly where all its orders are true
 pub relation_by_orders : (r : Rel) (a b : Ends) → Holds r a b ↔ AllByRecursion (IsTrueOf a b) (orders_of r)
 relation_by_orders rel.Before a b = (λ h. (h, tt), λ k. k.0)
@@ -31,14 +28,14 @@ relation_by_orders rel.Includes a b = (λ h. (h.0, (h.1, tt)), λ k. (k.0, k.1.0
 relation_by_orders rel.IsIncluded a b = (λ h. (h.0, (h.1, tt)), λ k. (k.0, k.1.0))
 relation_by_orders rel.During a b = (λ h. (h.0, (h.1, tt)), λ k. (k.0, k.1.0))
 relation_by_orders rel.DuringInv a b = (λ h. (h.0, (h.1, tt)), λ k. (k.0, k.1.0))
-relation_by_orders rel.Simultaneous a b = (λ h. let s = split _ _ h.0 in let e = split _ _ h.1 in (s.0, (s.1, (e.0, (e.1, tt)))), λ k. (join _ _ k.0 k.1.0, join _ _ k.1.1.0 k.1.1.1.0))
-relation_by_orders rel.Identity a b = (λ h. let s = split _ _ h.0 in let e = split _ _ h.1 in (s.0, (s.1, (e.0, (e.1, tt)))), λ k. (join _ _ k.0 k.1.0, join _ _ k.1.1.0 k.1.1.1.0))
-relation_by_orders rel.Ibefore a b = (λ h. let s = split _ _ h in (s.0, (s.1, tt)), λ k. join _ _ k.0 k.1.0)
-relation_by_orders rel.Iafter a b = (λ h. let s = split _ _ h in (s.0, (s.1, tt)), λ k. join _ _ k.0 k.1.0)
-relation_by_orders rel.Begins a b = (λ h. let s = split _ _ h.0 in (s.0, (s.1, (h.1, tt))), λ k. (join _ _ k.0 k.1.0, k.1.1.0))
-relation_by_orders rel.BegunBy a b = (λ h. let s = split _ _ h.0 in (s.1, (s.0, (h.1, tt))), λ k. (join _ _ k.1.0 k.0, k.1.1.0))
-relation_by_orders rel.Ends a b = (λ h. let s = split _ _ h.0 in (s.0, (s.1, (h.1, tt))), λ k. (join _ _ k.0 k.1.0, k.1.1.0))
-relation_by_orders rel.EndedBy a b = (λ h. let s = split _ _ h.0 in (s.1, (s.0, (h.1, tt))), λ k. (join _ _ k.1.0 k.0, k.1.1.0))
+relation_by_orders rel.Simultaneous a b = (λ h. let s = split _ _ h.0 in let e = split _ _ h.1 in (s.0, (s.1, (e.0, (e.1, tt)))), λ k. (le_antisymm k.0 k.1.0, le_antisymm k.1.1.0 k.1.1.1.0))
+relation_by_orders rel.Identity a b = (λ h. let s = split _ _ h.0 in let e = split _ _ h.1 in (s.0, (s.1, (e.0, (e.1, tt)))), λ k. (le_antisymm k.0 k.1.0, le_antisymm k.1.1.0 k.1.1.1.0))
+relation_by_orders rel.Ibefore a b = (λ h. let s = split _ _ h in (s.0, (s.1, tt)), λ k. le_antisymm k.0 k.1.0)
+relation_by_orders rel.Iafter a b = (λ h. let s = split _ _ h in (s.0, (s.1, tt)), λ k. le_antisymm k.0 k.1.0)
+relation_by_orders rel.Begins a b = (λ h. let s = split _ _ h.0 in (s.0, (s.1, (h.1, tt))), λ k. (le_antisymm k.0 k.1.0, k.1.1.0))
+relation_by_orders rel.BegunBy a b = (λ h. let s = split _ _ h.0 in (s.1, (s.0, (h.1, tt))), λ k. (le_antisymm k.1.0 k.0, k.1.1.0))
+relation_by_orders rel.Ends a b = (λ h. let s = split _ _ h.0 in (s.0, (s.1, (h.1, tt))), λ k. (le_antisymm k.0 k.1.0, k.1.1.0))
+relation_by_orders rel.EndedBy a b = (λ h. let s = split _ _ h.0 in (s.1, (s.0, (h.1, tt))), λ k. (le_antisymm k.1.0 k.0, k.1.1.0))
 
 -- the same of the list of orders
 pub orders_say_the_relation : (r : Rel) (a b : Ends) → All (IsTrueOf a b) (orders_of r) ↔ Holds r a b

@@ -1,5 +1,7 @@
--- Ranks, two by two.
-use Rattle.std.proofs.Common.{◌≡◌, ℕ, zero, suc, ◌*◌, ◌%◌, ◌≤◌, length, arith, List, [], ◌∷◌, ◌++◌, refl, ap}
+-- Ranks, two by two, and their sums.
+use Rattle.std.proofs.Common.{◌≡◌, ℕ, zero, suc, ◌*◌, ◌%◌, ◌≤◌, length, arith, List, [], ◌∷◌, ◌++◌, slice_index, refl, ap}
+use Rattle.std.specs.List.{sum_by}
+use Rattle.std.proofs.lemmas.List.Sums.{sum_by-cons}
 use Rattle.net_core.specs.Ranks.{AreEven, pairs_of, ranks_of}
 
 pub even_push : (ranks : List ℕ) (s e : ℕ) → AreEven ranks → AreEven (ranks ++ s ∷ e ∷ [])
@@ -46,3 +48,30 @@ pub even_of_length : (ranks : List ℕ) → length ranks % 2 ≡ 0 → AreEven r
 even_of_length [] even = tt
 even_of_length (start ∷ []) even = absurd (omega (arith, even))
 even_of_length (start ∷ finish ∷ ranks) even = even_of_length ranks (omega (arith, even))
+
+-- the sum of ranks
+abbrev pub sum_of : List ℕ → ℕ
+sum_of ranks = sum_by (λ rank. rank) ranks
+
+-- the sum of higher ranks is no less
+pub sum_rises : (old new : List ℕ) → length new ≡ length old → ((p : ℕ) → slice_index old p ≤ slice_index new p) → sum_of old ≤ sum_of new
+sum_rises [] new size up = omega arith
+sum_rises (x ∷ old) [] size up = absurd (omega arith)
+sum_rises (x ∷ old) (y ∷ new) size up =
+    let first : x ≤ y = up zero in
+    let rest = sum_rises old new (omega arith) (λ p. up (suc p)) in
+    omega (arith, sum_by-cons (λ (rank : ℕ). rank) x old, sum_by-cons (λ (rank : ℕ). rank) y new)
+
+-- higher ranks with no greater sum are the same
+pub same_sum : (old new : List ℕ) → length new ≡ length old → ((p : ℕ) → slice_index old p ≤ slice_index new p) → sum_of new ≤ sum_of old → new ≡ old
+same_sum [] [] size up less = refl
+same_sum [] (y ∷ new) size up less = absurd (omega arith)
+same_sum (x ∷ old) [] size up less = absurd (omega arith)
+same_sum (x ∷ old) (y ∷ new) size up less =
+    let first : x ≤ y = up zero in
+    let rest = sum_rises old new (omega arith) (λ p. up (suc p)) in
+    let lower = sum_by-cons (λ (rank : ℕ). rank) x old in
+    let higher = sum_by-cons (λ (rank : ℕ). rank) y new in
+    let here : y ≡ x = omega arith in
+    let more = same_sum old new (omega arith) (λ p. up (suc p)) (omega arith) in
+    cc

@@ -1,6 +1,6 @@
--- Steps, and the timelines that are in their orders.
+-- Steps, and the timelines that fit: those that are in the orders of all steps.
 use Rattle.std.proofs.Common.{◌≡◌, ◌==◌, ℕ, ◌+◌, ◌*◌, ◌/◌, ◌%◌, ◌<◌, Bool, true, false, cond, int_le, int_lt, nat_lt, ℤ, ◌<ℤ◌, List, length, get_or, Option, Some, None, refl, sym, ap, subst, ◌∙◌, arith, inl, inr}
-use Rattle.std.specs.List.{AllByRecursion, slice_get}
+use Rattle.std.specs.List.{All, slice_get}
 use Rattle.std.proofs.lemmas.Bool.{cases_lt, lt-ltb, ltb-true}
 use Rattle.std.proofs.lemmas.Int.{ints}
 use Rattle.std.proofs.lemmas.List.{get_or_past}
@@ -11,7 +11,7 @@ use Rattle.net_core.specs.Bounds.{lower_of, upper_of}
 use Rattle.net_core.specs.Fits.{FitsWith, FollowsNumbers}
 use Rattle.net_core.specs.Nets.{IsNet, PlainNet, bounds_at, intervals, link_at, lower, points, upper}
 use Rattle.net_core.specs.Relations.{Relates, Timeline}
-use Rattle.net_core.specs.Steps.{GoesBy, atom_of, calendar_order}
+use Rattle.net_core.specs.Steps.{GoesBy, atom_of, calendar_order, link_of}
 use Rattle.net_core.specs.declared.atom.Atom.{Atom}
 use Rattle.net_core.specs.declared.bounds.Bounds.{Bounds}
 use Rattle.net_core.specs.declared.bounds.Bounds.TheVariants.{Free}
@@ -22,9 +22,8 @@ use Rattle.net_core.specs.declared.step.Step.TheVariants.{Link, Span, Calendar}
 use Rattle.net_core.proofs.AtomLaws.{atoms_in_range, atoms_say_the_relation}
 
 -- what is true of all of a list is true of the one at k
-pub one_of_all : {X : Type 0} (P : X → Type 0) (xs : List X) (k : ℕ) (x : X) → AllByRecursion P xs → slice_get xs k ≡ Some x → P x
-one_of_all P xs k x all e =
-    subst P (get_or_from_slice_get xs k x x e) (All-get_or P xs k x (slice_get_within xs k x e) (All-from_recursion P xs all))
+pub one_of_all : {X : Type 0} (P : X → Type 0) (xs : List X) (k : ℕ) (x : X) → All P xs → slice_get xs k ≡ Some x → P x
+one_of_all P xs k x all e = subst P (get_or_from_slice_get xs k x x e) (All-get_or P xs k x (slice_get_within xs k x e) all)
 
 -- the order of a step, where a test is passed
 pub tested : (b : Bool) (a c : Atom) → cond b (Some a) None ≡ Some c → (b ≡ true) × (a ≡ c)
@@ -61,7 +60,7 @@ step_kept net Chosen t (Link k i) a fits goes =
     option_and_then_some (λ (l : NetLink). slice_get (atoms_of l.rel l.a l.b) i) (slice_get net.links k) a goes.0 (λ l at e.
     let same = get_or_from_slice_get net.links k l (record { a = 0; rel = rel.Before; b = 0 }) at in
     let holds = fits.links k (slice_get_within net.links k l at) goes.1 in
-    one_of_all (Satisfies t) (atoms_of l.rel l.a l.b) i a ((atoms_say_the_relation t l.rel l.a l.b).0 (subst (λ (x : NetLink). Relates t x.rel x.a x.b) same holds)) e)
+    one_of_all (Satisfies t) (atoms_of l.rel l.a l.b) i a (All-from_recursion (Satisfies t) (atoms_of l.rel l.a l.b) ((atoms_say_the_relation t l.rel l.a l.b).0 (subst (λ (x : NetLink). Relates t x.rel x.a x.b) same holds))) e)
 step_kept net Chosen t (Span i) a fits goes =
     let both = tested (nat_lt i (intervals net)) (before (2 * i) (2 * i + 1)) a goes.0 in
     subst (Satisfies t) both.1 (fits.order i (ltb-true i (intervals net) both.0))
@@ -99,12 +98,25 @@ fits_from_steps net Chosen t kept = record {
   calendar = λ p q lp lq. numbers_kept (upper net p) (lower net q) p q t (λ a e. kept (Calendar p q) a (e, tt));
 }
 
+-- a timeline that fits with links fits with fewer of them
+pub fits_fewer : (net : PlainNet) (Chosen Fewer : ℕ → Type 0) (t : Timeline) → ((k : ℕ) → k < length net.links → Fewer k → Chosen k) → FitsWith net Chosen t → FitsWith net Fewer t
+fits_fewer net Chosen Fewer t fewer fits = record { order = fits.order; links = λ k lt chosen. fits.links k lt (fewer k lt chosen); calendar = fits.calendar }
+
+-- the link of a step that goes by an order is one of the net
+pub link_within : (net : PlainNet) (step : Step) (a : Atom) (k : ℕ) → atom_of net step ≡ Some a → link_of step ≡ Some k → k < length net.links
+link_within net (Link j i) a k e is =
+    let same : j ≡ k = cc in
+    subst (λ (n : ℕ). n < length net.links) same
+    (option_and_then_some (λ (l : NetLink). slice_get (atoms_of l.rel l.a l.b) i) (slice_get net.links j) a e (λ l at here. slice_get_within net.links j l at))
+link_within net (Span i) a k e is = absurd cc
+link_within net (Calendar p q) a k e is = absurd cc
+
 -- the points of a step are points of the net
 pub step_in_range : (net : PlainNet) (step : Step) (a : Atom) → IsNet net → atom_of net step ≡ Some a → IsInRange (points net) a
 step_in_range net (Link k i) a is e =
     option_and_then_some (λ (l : NetLink). slice_get (atoms_of l.rel l.a l.b) i) (slice_get net.links k) a e (λ l at here.
-    let ends = one_of_all (λ (x : NetLink). (x.a < length net.bounds) × (x.b < length net.bounds)) net.links k l (recursion_from_All _ net.links is.ends) at in
-    one_of_all (IsInRange (points net)) (atoms_of l.rel l.a l.b) i a (atoms_in_range (intervals net) l.rel l.a l.b ends.0 ends.1) here)
+    let ends = one_of_all (λ (x : NetLink). (x.a < length net.bounds) × (x.b < length net.bounds)) net.links k l is.ends at in
+    one_of_all (IsInRange (points net)) (atoms_of l.rel l.a l.b) i a (All-from_recursion (IsInRange (points net)) (atoms_of l.rel l.a l.b) (atoms_in_range (intervals net) l.rel l.a l.b ends.0 ends.1)) here)
 step_in_range net (Span i) a is e =
     let both = tested (nat_lt i (intervals net)) (before (2 * i) (2 * i + 1)) a e in
     let lt = ltb-true i (intervals net) both.0 in

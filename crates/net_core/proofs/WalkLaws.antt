@@ -1,5 +1,5 @@
 -- Walks, and what they say of timelines.
-use Rattle.std.proofs.Common.{◌≡◌, ◌⊎◌, inl, inr, ℕ, zero, suc, take, Some, ◌<◌, ◌≤◌, Bool, true, false, ◌||◌, List, [], ◌∷◌, ◌++◌, refl, sym, ap, subst, ◌∙◌, arith}
+use Rattle.std.proofs.Common.{◌≡◌, ◌⊎◌, inl, inr, ℕ, zero, suc, take, Some, ◌<◌, ◌≤◌, Bool, true, false, ◌||◌, List, [], ◌∷◌, ◌++◌, length, refl, sym, ap, subst, ◌∙◌, arith}
 use Rattle.std.specs.List.{Contains}
 use Rattle.std.proofs.lemmas.Bool.{cases_eq}
 use Rattle.std.proofs.lemmas.List.Folds.{list_any-append}
@@ -13,7 +13,7 @@ use Rattle.net_core.specs.Walks.{GoesOver, IsClosedWalk, HasWalk, IsJoined, IsWa
 use Rattle.net_core.specs.declared.atom.Atom.{Atom}
 use Rattle.net_core.specs.declared.step.Step.{Step}
 use Rattle.net_core.specs.declared.step.Step.TheVariants.{Link, Span, Calendar}
-use Rattle.net_core.proofs.StepLaws.{step_kept}
+use Rattle.net_core.proofs.StepLaws.{link_within, step_kept}
 
 -- an order and then another one are one together, strict where one of them is
 pub in_order_then : (o r : Bool) (a b c : ℕ) → IsInOrder o a b → IsInOrder r b c → IsInOrder (o || r) a c
@@ -105,21 +105,36 @@ joined_over net Chosen Other (step ∷ steps) x y joined over = (
   joined_over net Chosen Other steps joined.0.to y joined.3 (λ k goes. over k (goes.0, (suc goes.1.0, omega (arith, goes.1.1), goes.1.2), goes.2)),
 )
 
+-- the same of closed walks
+pub round_more : (net : PlainNet) (Chosen Other : ℕ → Type 0) (steps : List Step) → ((k : ℕ) → Chosen k → Other k) → IsClosedWalk net Chosen steps → IsClosedWalk net Other steps
+round_more net Chosen Other steps more round = (round.0, (joined_more net Chosen Other steps round.0 round.0 more round.1.0, round.1.1))
+
+pub round_over : (net : PlainNet) (Chosen Other : ℕ → Type 0) (steps : List Step) → ((k : ℕ) → GoesOver steps k → Other k) → IsClosedWalk net Chosen steps → IsClosedWalk net Other steps
+round_over net Chosen Other steps over round = (round.0, (joined_over net Chosen Other steps round.0 round.0 round.1.0 over, round.1.1))
+
 -- where a walk is closed no timeline fits
 pub round_clashes : (net : PlainNet) (Chosen : ℕ → Type 0) (steps : List Step) → IsClosedWalk net Chosen steps → Clashes net Chosen
 round_clashes net Chosen steps round t fits =
     let less : t round.0 < t round.0 = walk_kept net Chosen t steps round.0 round.0 true fits round.1 in omega arith
 
--- joined steps go over links of the set only
+-- each of joined steps goes by an order
+pub step_goes : (net : PlainNet) (Chosen : ℕ → Type 0) (steps : List Step) (x y : ℕ) (step : Step) → IsJoined net Chosen steps x y → Contains steps step → (a : Atom) × GoesBy net Chosen step a
+step_goes net Chosen [] x y step joined (i, lt, e) = absurd (omega (arith, lt))
+step_goes net Chosen (first ∷ steps) x y step joined (zero, lt, e) = (joined.0, subst (λ (s : Step). GoesBy net Chosen s joined.0) e joined.1)
+step_goes net Chosen (first ∷ steps) x y step joined (suc i, lt, e) = step_goes net Chosen steps joined.0.to y step joined.3 (i, omega (arith, lt), e)
+
+-- joined steps go over links of the net only
+pub over_links : (net : PlainNet) (Chosen : ℕ → Type 0) (steps : List Step) (x y k : ℕ) → IsJoined net Chosen steps x y → GoesOver steps k → k < length net.links
+over_links net Chosen steps x y k joined (step, has, is) = let goes = step_goes net Chosen steps x y step joined has in link_within net step goes.0 k goes.1.0 is
+
+-- and over those of the set only
 pub over_chosen : (net : PlainNet) (Chosen : ℕ → Type 0) (steps : List Step) (x y k : ℕ) → IsJoined net Chosen steps x y → GoesOver steps k → Chosen k
-over_chosen net Chosen [] x y k joined over = absurd (omega (arith, over.1.1))
-over_chosen net Chosen (step ∷ steps) x y k joined (other, (zero, lt, e), is) = uses_it step joined.1.1 (ap link_of e ∙ is)
+over_chosen net Chosen steps x y k joined (step, has, is) = uses_it step (step_goes net Chosen steps x y step joined has).1.1 is
   where
     uses_it : (step : Step) → Uses Chosen step → link_of step ≡ Some k → Chosen k
     uses_it (Link j i) uses e = let same : j ≡ k = cc in subst Chosen same uses
     uses_it (Span i) uses e = absurd cc
     uses_it (Calendar p q) uses e = absurd cc
-over_chosen net Chosen (step ∷ steps) x y k joined (other, (suc j, lt, e), is) = over_chosen net Chosen steps joined.0.to y k joined.3 (other, (j, omega (arith, lt), e), is)
 
 -- whether steps go over a link
 pub over_or_not : (steps : List Step) (k : ℕ) → GoesOver steps k ⊎ ¬ GoesOver steps k

@@ -1,5 +1,5 @@
 -- What the closure of a net says of orders, and counterexamples.
-use Rattle.std.proofs.Common.{◌≡◌, ◌↔◌, ℕ, ◌<◌, ◌≤◌, Bool, true, false, List, length, Some, None, sym, subst, ◌∙◌, arith}
+use Rattle.std.proofs.Common.{◌≡◌, ℕ, ◌<◌, ◌≤◌, Bool, true, false, List, length, Some, None, sym, subst, ◌∙◌, arith}
 use Rattle.std.proofs.lemmas.List.Elements.{All-from_recursion, All-get_or}
 use Rattle.net_core.specs.Atoms.{IsInRange, Satisfies, atoms_of}
 use Rattle.net_core.specs.Firsts.{IsFirst}
@@ -15,8 +15,7 @@ use Rattle.order_closure.specs.Cells.{order, strength}
 use Rattle.order_closure.specs.Tables.{AreInRange, Keeps, Table, cell_at}
 use Rattle.net_core.specs.Least.{IsLeast}
 use Rattle.order_closure.specs.declared.cell.Cell.{Cell}
-use Rattle.order_closure.specs.declared.cell.Cell.TheVariants.{Free, Weak, Strict}
-use Rattle.order_closure.proofs.Central.{order_says}
+use Rattle.order_closure.proofs.Central.{at_least_weak, order_says}
 use Rattle.clash.specs.Closures.{IsClosureOf}
 use Rattle.net_core.specs.Entailment.{Always, AlwaysHolds, AreIntervals}
 use Rattle.net_core.specs.Limits.{max_printed}
@@ -26,12 +25,6 @@ use Rattle.evidence_check.specs.Supported.{IsFalse, IsSupported}
 use Rattle.evidence_check.proofs.Soundness.{supported_is_true}
 use Rattle.evidence_format.specs.Evidence.{IsText, counter}
 use Rattle.order_answers.specs.Ask.{IsCounterText, IsFirstNotGiven, IsFirstOpen, ShowsCounterexample}
-
--- a cell that is Strict or Weak is at least Weak
-at_least : (x : Cell) (P Q : Type 0) → ((x ≡ Strict) ↔ P) → ((x ≡ Weak) ↔ (Q × ¬ P)) → Q → 1 ≤ strength x
-at_least Free P Q s w q = let e = w.1 (q, λ p. let f = s.1 p in cc) in cc
-at_least Weak P Q s w q = omega arith
-at_least Strict P Q s w q = omega arith
 
 module _ (net : PlainNet) (table : Table) (closure : IsClosureOf net table) where
   -- what a cell says always holds
@@ -46,7 +39,7 @@ module _ (net : PlainNet) (table : Table) (closure : IsClosureOf net table) wher
     where
       by : (strict : Bool) → Always net strict atom.from atom.to → strength (order strict) ≤ strength (cell_at table atom.from atom.to)
       by true holds = subst (λ (x : Cell). 2 ≤ strength x) (sym ((closure.strict atom.from atom.to range.0 range.1).1 holds)) (omega arith)
-      by false holds = at_least (cell_at table atom.from atom.to) (Always net true atom.from atom.to) (Always net false atom.from atom.to) (closure.strict atom.from atom.to range.0 range.1) (closure.weak atom.from atom.to range.0 range.1) holds
+      by false holds = at_least_weak (cell_at table atom.from atom.to) (Always net true atom.from atom.to) (Always net false atom.from atom.to) (closure.strict atom.from atom.to range.0 range.1) (closure.weak atom.from atom.to range.0 range.1) holds
 
   module _ (atoms : List Atom) (range : AreInRange (points net) atoms) where
     in_range : (k : ℕ) → k < length atoms → IsInRange (points net) (atom_at atoms k)

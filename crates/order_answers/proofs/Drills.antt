@@ -1,5 +1,5 @@
 -- The document of a drill is accepted, its links can all be true, and it has one summary.
-use Rattle.std.proofs.Common.{◌≡◌, ℕ, ◌*◌, ◌≤◌, List, ◌++◌, length, codes, refl, sym, ap, subst, ◌∙◌, arith}
+use Rattle.std.proofs.Common.{◌≡◌, ℕ, ◌*◌, ◌≤◌, List, ◌++◌, length, codes, refl, sym, ap, subst, ◌∙◌, arith, le_antisymm}
 use Rattle.std.specs.List.{All, Contains}
 use Rattle.std.proofs.lemmas.List.Elements.{All-get_or}
 use Rattle.std.proofs.lemmas.List.FromFn.{length-map-range_with_len}
@@ -30,7 +30,7 @@ use Rattle.order_answers.proofs.RelationsAnswered.{one_list_of}
 use Rattle.net_answers.proofs.Nets.{as_many, one_net_of}
 use Rattle.evidence_answers.proofs.VerifyAnswered.{same_status, same_text}
 use Rattle.tml_accept.proofs.Phases.{accepted_or_fault, one_document}
-use Rattle.order_answers.proofs.Timelines.{one_least, one_number, timeline_supported}
+use Rattle.order_answers.proofs.Timelines.{one_least, timeline_supported}
 
 -- it has no fault
 pub no_fault : (n : ℕ) (kind : FaultKind) (place : ℕ) → IsDrill n → FirstFault (drill_document n) kind place → ⊥
@@ -68,7 +68,7 @@ timeline_verdict contents net ranks text finding line built fit is (other, is_ne
 
 -- numbers have one greatest
 one_greatest : (ranks : List ℕ) (g h : ℕ) → IsGreatest ranks g → IsGreatest ranks h → g ≡ h
-one_greatest ranks g h (in_g, above_g) (in_h, above_h) = one_number g h (below ranks g h in_g above_h) (below ranks h g in_h above_g)
+one_greatest ranks g h (in_g, above_g) (in_h, above_h) = le_antisymm (below ranks g h in_g above_h) (below ranks h g in_h above_g)
   where
     below : (ranks : List ℕ) (g h : ℕ) → Contains ranks g → All (λ n. n ≤ h) ranks → g ≤ h
     below ranks g h (k, lt, e) all = subst (λ n. n ≤ h) e (All-get_or (λ n. n ≤ h) ranks k _ lt all)

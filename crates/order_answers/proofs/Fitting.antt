@@ -16,12 +16,12 @@ use Rattle.net_core.specs.declared.rels.Rel.{Rel}
 use Rattle.net_core.specs.declared.step.Step.{Step}
 use Rattle.net_core.proofs.AtomLaws.{atoms_in_range, atoms_say_the_relation}
 use Rattle.net_core.proofs.FirstLaws.{first_or_none}
+use Rattle.net_core.proofs.StepLaws.{fits_fewer}
 use Rattle.net_core.proofs.WalkLaws.{walk_kept}
 use Rattle.order_closure.specs.Tables.{AreInRange}
 use Rattle.net_core.specs.Least.{AreLeast}
 use Rattle.clash.specs.Walks.{HasShortWalk}
 use Rattle.clash.proofs.Answered.{every_net, orders_are_answered}
-use Rattle.clash.proofs.Rounds.{fits_fewer}
 use Rattle.derive_rel.specs.declared.all_rows.Row.{Row}
 use Rattle.derive_rel.proofs.AllThere.{all_there}
 use Rattle.net_core.specs.Entailment.{AlwaysHolds, AreIntervals, Follows, HasTimeline}

@@ -1,5 +1,6 @@
 -- The least timeline of a document, and its text.
-use Rattle.std.proofs.Common.{◌≡◌, ℕ, suc, ◌<◌, ◌≤◌, List, [], ◌∷◌, length, get_or, refl, sym, subst, ◌∙◌, arith}
+use Rattle.std.proofs.Common.{◌≡◌, ℕ, List, length, sym, subst, ◌∙◌, arith, le_antisymm}
+use Rattle.std.proofs.lemmas.Grind.{same_number_lists}
 use Rattle.net_core.specs.Fits.{Fits, RanksFit}
 use Rattle.net_core.specs.Nets.{PlainNet, points}
 use Rattle.net_core.specs.Ranks.{pairs_of, timeline_of}
@@ -31,24 +32,10 @@ shows_timeline net table text c l =
     let least = least_fits net table (timeline_of ranks) c l.2 in
     (ranks, (size, least), (l.3, timeline_supported net ranks (size, least.holds), (timeline_of ranks, least.holds), l.4))
 
--- two lists of the same items are one
-same_items : (a b : List ℕ) → length a ≡ length b → ((p : ℕ) → p < length a → get_or a p 0 ≡ get_or b p 0) → a ≡ b
-same_items [] [] e same = refl
-same_items [] (y ∷ b) e same = absurd (omega (arith, e))
-same_items (x ∷ a) [] e same = absurd (omega (arith, e))
-same_items (x ∷ a) (y ∷ b) e same =
-    let first = same 0 (omega arith) in
-    let others = same_items a b (omega (arith, e)) (λ p less. same (suc p) (omega arith)) in
-    λ i. first i ∷ others i
-
--- two numbers of which neither is more are one
-pub one_number : (m n : ℕ) → m ≤ n → n ≤ m → m ≡ n
-one_number m n le ge = omega arith
-
 -- of ranks of n points there is one list that is the least timeline of a property
 pub one_least_of : (n : ℕ) (P : Timeline → Type 0) (a b : List ℕ) → length a ≡ n → length b ≡ n → IsLeast n P (timeline_of a) → IsLeast n P (timeline_of b) → a ≡ b
-one_least_of n P a b la lb h k = same_items a b (la ∙ sym lb) (λ p less.
-    one_number (get_or a p 0) (get_or b p 0) (h.least (timeline_of b) k.holds p (omega (arith, less, la))) (k.least (timeline_of a) h.holds p (omega (arith, less, la))))
+one_least_of n P a b la lb h k = same_number_lists a b (la ∙ sym lb) (λ p less.
+    le_antisymm (h.least (timeline_of b) k.holds p (omega (arith, less, la))) (k.least (timeline_of a) h.holds p (omega (arith, less, la))))
 
 -- a net has one least timeline
 pub one_least : (net : PlainNet) (a b : List ℕ) → AreLeastRanks net a → AreLeastRanks net b → a ≡ b

@@ -1,8 +1,7 @@
 -- Walks prove the orders that hold in every timeline that fits.
-use Rattle.std.proofs.Common.{◌≡◌, ℕ, ◌+◌, ◌*◌, ◌<◌, ◌≤◌, All, Bool, true, false, List, [], ◌∷◌, ◌++◌, Some, length, get_or, slice_get, replicate, below_more, refl, sym, ap, subst, ◌∙◌, arith}
-use Rattle.std.proofs.lemmas.List.{get_or-replicate, get_or_append_left}
+use Rattle.std.proofs.Common.{◌≡◌, ℕ, ◌+◌, ◌*◌, ◌<◌, ◌≤◌, Bool, true, false, List, [], ◌∷◌, ◌++◌, length, get_or, replicate, below_more, sym, ap, subst, ◌∙◌, arith}
+use Rattle.std.proofs.lemmas.List.{get_or-replicate, get_or_append_left, get_or_push}
 use Rattle.std.proofs.lemmas.List.Elements.{All-from_get_or, All-get_or}
-use Rattle.std.proofs.lemmas.Option.{get_or_from_slice_get, slice_get_within}
 use Rattle.net_core.specs.Atoms.{IsInRange, atoms_of, points_of}
 use Rattle.net_core.specs.Fits.{EveryLink, Fits, FitsWith}
 use Rattle.net_core.specs.Nets.{IsNet, PlainNet, points}
@@ -12,6 +11,7 @@ use Rattle.net_core.specs.declared.atom.Atom.{Atom}
 use Rattle.net_core.specs.declared.rels.Rel.{Rel}
 use Rattle.net_core.specs.declared.step.Step.{Step}
 use Rattle.net_core.proofs.AtomLaws.{atoms_counted}
+use Rattle.net_core.proofs.StepLaws.{fits_fewer}
 use Rattle.net_core.proofs.WalkLaws.{joined_more}
 use Rattle.clash.proofs.Complete.{walks_say_all}
 use Rattle.net_core.specs.Entailment.{AlwaysHolds, AreIntervals, HasTimeline}
@@ -24,10 +24,6 @@ use Rattle.order_answers.specs.Ask.{AreWalks, ShowsProof}
 use Rattle.net_answers.proofs.StepNumbers.{walk_numbers}
 use Rattle.net_answers.proofs.Sizes.{entails_size}
 
--- what is true of all of a list is true of the one at k
-pub one_of : {X : Type 0} (P : X → Type 0) (xs : List X) (k : ℕ) (x : X) → All P xs → Some x ≡ slice_get xs k → P x
-one_of P xs k x all is = subst P (get_or_from_slice_get xs k x x (sym is)) (All-get_or P xs k x (slice_get_within xs k x (sym is)) all)
-
 -- ---- with all links kept
 
 module _ (net : PlainNet) (keep : List Bool) (all : keep ≡ replicate (length net.links) true) where
@@ -36,10 +32,10 @@ module _ (net : PlainNet) (keep : List Bool) (all : keep ≡ replicate (length n
 
   -- what fits with the links that are kept fits
   fits_all : (t : Timeline) → FitsWith net (Kept keep) t → Fits net t
-  fits_all t fits = record { order = fits.order; links = λ k lt any. fits.links k lt (kept k lt); calendar = fits.calendar }
+  fits_all t fits = fits_fewer net (Kept keep) EveryLink t (λ k lt any. kept k lt) fits
 
   fits_kept : (t : Timeline) → Fits net t → FitsWith net (Kept keep) t
-  fits_kept t fits = record { order = fits.order; links = λ k lt any. fits.links k lt tt; calendar = fits.calendar }
+  fits_kept t fits = fits_fewer net EveryLink (Kept keep) t (λ k lt any. tt) fits
 
   -- where some timeline fits, an order that always holds has a walk
   pub walk_exists : (atom : Atom) → IsNet net → IsInRange (points net) atom → HasTimeline net → AlwaysHolds net atom → HasWalk net (Kept keep) atom.from atom.to atom.strict
@@ -50,16 +46,11 @@ module _ (net : PlainNet) (keep : List Bool) (all : keep ≡ replicate (length n
 pub walk_proves : (net : PlainNet) (keep : List Bool) (atom : Atom) (steps : List Step) → IsWalk net (Kept keep) atom.from atom.to atom.strict steps → IsProof net atom steps
 walk_proves net keep atom steps walk = (joined_more net (Kept keep) EveryLink steps atom.from atom.to (λ k any. tt) walk.0, walk.1)
 
--- the last of a list
-read_last : {X : Type 0} (xs : List X) (x d : X) → get_or (xs ++ x ∷ []) (length xs) d ≡ x
-read_last [] x d = refl
-read_last (y ∷ xs) x d = read_last xs x d
-
 -- one walk more
 pub proofs_push : (net : PlainNet) (atoms : List Atom) (walks : List (List Step)) (k : ℕ) (steps : List Step) → length walks ≡ k
     → ((j : ℕ) → j < k → Proves net atoms walks j) → IsProof net (atom_at atoms k) steps → (j : ℕ) → j < k + 1 → Proves net atoms (walks ++ steps ∷ []) j
 proofs_push net atoms walks k steps size so_far proof =
-    let last : walk_at (walks ++ steps ∷ []) k ≡ steps = subst (λ (n : ℕ). walk_at (walks ++ steps ∷ []) n ≡ steps) size (read_last walks steps []) in
+    let last : walk_at (walks ++ steps ∷ []) k ≡ steps = get_or_push walks steps [] k size in
     below_more (Proves net atoms (walks ++ steps ∷ [])) k
     (λ j lt. subst (IsProof net (atom_at atoms j)) (sym (get_or_append_left walks (steps ∷ []) [] j (omega (arith, lt, size)))) (so_far j lt))
     (subst (IsProof net (atom_at atoms k)) (sym last) proof)

@@ -75,7 +75,7 @@ closed_tables_have_timelines = λ table closed.
     }
 
 -- a cell that says something and is not Strict
-weak_is : (x : Cell) → 1 ≤ strength x → ¬ (x ≡ Strict) → x ≡ Weak
+pub weak_is : (x : Cell) → 1 ≤ strength x → ¬ (x ≡ Strict) → x ≡ Weak
 weak_is Free h other = absurd (omega arith)
 weak_is Weak h other = refl
 weak_is Strict h other = absurd (other refl)
@@ -129,7 +129,7 @@ says_of Weak a b s w = w refl
 says_of Strict a b s w = s refl
 
 -- a cell that is known by what it entails, where the weak order is entailed
-at_least_weak : (x : Cell) (P Q : Type 0) → ((x ≡ Strict) ↔ P) → ((x ≡ Weak) ↔ (Q × ¬ P)) → Q → 1 ≤ strength x
+pub at_least_weak : (x : Cell) (P Q : Type 0) → ((x ≡ Strict) ↔ P) → ((x ≡ Weak) ↔ (Q × ¬ P)) → Q → 1 ≤ strength x
 at_least_weak Free P Q s w q = let e = w.1 (q, λ p. let f = s.1 p in cc) in cc
 at_least_weak Weak P Q s w q = omega arith
 at_least_weak Strict P Q s w q = omega arith

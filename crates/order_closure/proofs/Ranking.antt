@@ -40,10 +40,6 @@ strict_says Free a b e h = cc
 strict_says Weak a b e h = cc
 strict_says Strict a b e h = h
 
--- a point is not before itself
-not_before_itself : (x : Cell) → x ≡ Weak → is_strict x ≡ false
-not_before_itself x e = rw e refl
-
 module _ (n : ℕ) (cell : ℕ → ℕ → Cell) (closed : AreClosed n cell) where
   -- who is before the first is before the second
   passed_on : (p q r : ℕ) → p < n → q < n → r < n → 1 ≤ strength (cell p q) → cell r p ≡ Strict → cell r q ≡ Strict
@@ -57,11 +53,11 @@ module _ (n : ℕ) (cell : ℕ → ℕ → Cell) (closed : AreClosed n cell) whe
   pub fewer_before : (p q : ℕ) → p < n → q < n → cell p q ≡ Strict → before_count n cell p < before_count n cell q
   fewer_before p q lp lq s =
       let some : 1 ≤ strength (cell p q) = rw s (omega arith) in
-      count-more (λ r. is_strict (cell r p)) (λ r. is_strict (cell r q)) n p lp (not_before_itself _ (closed.itself p lp)) (ap is_strict s) (passed p q lp lq some)
+      count-more (λ r. is_strict (cell r p)) (λ r. is_strict (cell r q)) n p lp (ap is_strict (closed.itself p lp)) (ap is_strict s) (passed p q lp lq some)
 
   -- not every point is before a point
   pub count_below_n : (p : ℕ) → p < n → before_count n cell p < n
-  count_below_n p lp = omega (arith, count-le (λ _. true) n, count-more (λ r. is_strict (cell r p)) (λ _. true) n p lp (not_before_itself _ (closed.itself p lp)) refl (λ _ _ _. refl))
+  count_below_n p lp = omega (arith, count-le (λ _. true) n, count-more (λ r. is_strict (cell r p)) (λ _. true) n p lp (ap is_strict (closed.itself p lp)) refl (λ _ _ _. refl))
 
   -- how many points are before each point is a timeline that keeps the cells
   pub counts_kept : AreKept n cell (before_count n cell)

@@ -12,7 +12,7 @@ use Rattle.order_closure.specs.Cells.{strength, joined}
 use Rattle.order_closure.specs.Counting.{is_strict}
 use Rattle.order_closure.specs.Tables.{AreClosed}
 use Rattle.order_closure.specs.declared.cell.Cell.{Cell}
-use Rattle.order_closure.specs.declared.cell.Cell.TheVariants.{Weak, Strict}
+use Rattle.order_closure.specs.declared.cell.Cell.TheVariants.{Strict}
 use Rattle.order_closure.proofs.Counting.{count-more}
 use Rattle.order_closure.proofs.Ranking.{is_strict_at, strict_from}
 use Rattle.timeline.specs.Ranking.{AreCounted, AreInTurn, IsCounted, after_count, counted_at}
@@ -45,10 +45,6 @@ most_first turns sorted i j d le lj =
     let later : Counted → Counted → Bool = λ x y. is_lt (nat_cmp x.after y.after) in
     no_later _ _ (sorted_far (λ x y. later y x) (IsStrictWeakOrder-flip later (ranks_by nat_cmp_total (λ (turn : Counted). turn.after))) turns sorted i j d le lj)
 
--- a point is not before itself
-not_itself : (x : Cell) → x ≡ Weak → is_strict x ≡ false
-not_itself x e = rw e refl
-
 module _ (n : ℕ) (cell : ℕ → ℕ → Cell) (closed : AreClosed n cell) where
   -- what is after the second point is after the first
   after_passed : (p q r : ℕ) → p < n → q < n → r < n → cell p q ≡ Strict → cell q r ≡ Strict → cell p r ≡ Strict
@@ -58,7 +54,7 @@ module _ (n : ℕ) (cell : ℕ → ℕ → Cell) (closed : AreClosed n cell) whe
 
   -- of two points of which one is before the other, that one has more points after it
   pub more_after : (p q : ℕ) → p < n → q < n → cell p q ≡ Strict → after_count n cell q < after_count n cell p
-  more_after p q lp lq s = count-more (λ r. is_strict (cell q r)) (λ r. is_strict (cell p r)) n q lq (not_itself _ (closed.itself q lq)) (ap is_strict s)
+  more_after p q lp lq s = count-more (λ r. is_strict (cell q r)) (λ r. is_strict (cell p r)) n q lq (ap is_strict (closed.itself q lq)) (ap is_strict s)
       (λ r lr h. ap is_strict (after_passed p q r lp lq lr s (is_strict_at _ h)))
 
 -- the points of m turns: each point of the table has a turn, and those with the most points after them come first

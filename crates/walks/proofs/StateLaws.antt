@@ -17,7 +17,7 @@ pub any_more : {X : Type 0} (P : X → Type 0) (xs ys : List X) → Any P xs →
 any_more P xs ys h = (h.0, h.1, let lt = h.2 in omega (arith, length-append xs ys), get_or_append_left xs ys h.1 h.0 h.2 ∙ h.3, h.4)
 
 -- no two states have one mark
-one_state : (p q : ℕ) (s r : Bool) → place p s ≡ place q r → (p ≡ q) × (s ≡ r)
+pub one_state : (p q : ℕ) (s r : Bool) → place p s ≡ place q r → (p ≡ q) × (s ≡ r)
 one_state p q true true e = (omega arith, refl)
 one_state p q true false e = absurd (omega arith)
 one_state p q false true e = absurd (omega arith)

@@ -1,5 +1,4 @@
 use Rattle.std.proofs.Common.{◌≡◌, ℕ, Err, Ok, List, length, get_or, subst, sym, arith}
-use Rattle.std.proofs.lemmas.List.Elements.{recursion_from_All}
 use Rattle.std.proofs.lemmas.Option.{get_or_from_slice_get}
 use Rattle.std.proofs.lemmas.Result.{err_from_is_err_and}
 use Rattle.net_core.specs.Atoms.{IsInRange, Satisfies, atoms_in}
@@ -25,7 +24,7 @@ pub insert-requires : goal.insert-requires
 insert-requires c =
     let Fits = IsInRange c.args.table.now.points in
     let atoms = atoms_in c.args.atoms in
-    let both = one_of_all Fits atoms c.loop-number.number c.nth.result (recursion_from_All Fits atoms c.requires) c.nth.ensures in
+    let both = one_of_all Fits atoms c.loop-number.number c.nth.result c.requires c.nth.ensures in
     let size = c.loop-number.invariant.so_far.0 in
     record { from = omega (arith, both.0, size); to = omega (arith, both.1, size) }
 

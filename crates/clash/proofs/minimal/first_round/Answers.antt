@@ -7,9 +7,10 @@ use Rattle.net_core.specs.Walks.{GoesOver, IsClosedWalk, Kept}
 use Rattle.net_core.specs.declared.list.Memory.{Memory}
 use Rattle.net_core.specs.declared.step.Step.{Step}
 use Rattle.net_core.specs.declared.walk.Walk.{Walk}
+use Rattle.net_core.proofs.WalkLaws.{round_more}
 use Rattle.clash.specs.Minimal.{IsRound, IsSpared, UpTo}
 use Rattle.clash.specs.declared.round.Round.{Round}
-use Rattle.clash.proofs.Rounds.{first_clashes, first_spared, marked_chosen, round_more, some_round, spared_fewer}
+use Rattle.clash.proofs.Rounds.{first_clashes, first_spared, marked_chosen, some_round, spared_fewer}
 use Rattle.clash.proofs.minimal.first_round.Goals as goal
 use Rattle.clash.proofs.minimal.first_round.Goals.{After-round_over, In-Some}
 

@@ -6,13 +6,13 @@ use Rattle.std.proofs.lemmas.Option.{slice_get_within}
 use Rattle.net_core.specs.Walks.{HasWalk, Kept}
 use Rattle.net_core.specs.declared.atom.Atom.{Atom}
 use Rattle.net_core.specs.declared.walk.Walk.{Walk}
-use Rattle.clash.proofs.Rounds.{orders_of, round_through}
+use Rattle.clash.proofs.Rounds.{orders_of_link, round_through}
 use Rattle.clash.proofs.round.round_over.Goals as goal
 
 pub loop-number-preserved : goal.loop-number-preserved
 loop-number-preserved c =
     let net = c.args.net.now in
-    let orders = orders_of net c.args.link in
+    let orders = orders_of_link net c.args.link in
     let Goes = λ (a : Atom). HasWalk net (Kept c.args.keep.now) a.from a.from true in
     let k = c.loop-number.number in
     let here : slice_get orders k ≡ Some c.nth-point.result = subst (λ (atoms : List Atom). slice_get atoms k ≡ Some c.nth-point.result) c.atoms_of_link-atoms.ensures.atoms c.nth-point.ensures in
@@ -32,5 +32,5 @@ pub returns-clause-none : goal.returns-clause-none
 returns-clause-none c steps round over =
     let net = c.args.net.now in
     let begun = round_through net (Kept c.args.keep.now) c.args.link steps round over in
-    let within = slice_get_within (orders_of net c.args.link) begun.0 begun.1 begun.2 in
+    let within = slice_get_within (orders_of_link net c.args.link) begun.0 begun.1 begun.2 in
     c.loop-number.invariant.none begun.0 begun.1 (omega (arith, within, c.loop-number-test.false, c.loop-number.invariant.end)) begun.2 begun.3

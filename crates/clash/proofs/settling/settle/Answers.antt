@@ -1,9 +1,9 @@
 use Rattle.std.proofs.Common.{◌≤◌, ℕ, List, sym, subst, arith}
 use Rattle.net_core.specs.Ranks.{timeline_of}
+use Rattle.net_core.proofs.RankLaws.{same_sum, sum_of, sum_rises}
 use Rattle.order_closure.specs.Tables.{SatisfiesAll}
 use Rattle.clash.specs.Orders.{FitsBut}
 use Rattle.clash.specs.Raising.{AreLow}
-use Rattle.clash.proofs.RankSums.{same_sum, sum_of, sum_rises}
 use Rattle.clash.proofs.Rising.{rises_part, rises_then}
 use Rattle.clash.proofs.Settled.{low_from_all}
 use Rattle.clash.proofs.settling.settle.Goals as goal

@@ -6,8 +6,10 @@ use Rattle.net_core.specs.Nets.{points}
 use Rattle.net_core.specs.Walks.{GoesOver, IsClosedWalk, Kept}
 use Rattle.net_core.specs.declared.step.Step.{Step}
 use Rattle.net_core.specs.declared.walk.Walk.{Walk}
+use Rattle.net_core.proofs.StepLaws.{fits_fewer}
+use Rattle.net_core.proofs.WalkLaws.{round_more}
 use Rattle.clash.specs.Minimal.{IsSpared}
-use Rattle.clash.proofs.Rounds.{fits_fewer, marked_chosen, none_round, others_set, round_more, set_again, set_others, spared_fewer}
+use Rattle.clash.proofs.Rounds.{marked_chosen, none_round, others_set, set_again, set_others, spared_fewer}
 use Rattle.clash.proofs.round.Round.leave_out.Goals as goal
 use Rattle.clash.proofs.round.Round.leave_out.Goals.{After-drop-self-in-Some-2, After-index_mut-in-None, In-Some}
 

@@ -8,11 +8,12 @@ use Rattle.net_core.specs.Nets.{points}
 use Rattle.net_core.specs.declared.atom.Atom.{Atom}
 use Rattle.net_core.specs.declared.step.Step.{Step}
 use Rattle.net_core.specs.Entailment.{AlwaysHolds}
-use Rattle.order_answers.proofs.WalkProofs.{one_of, proofs_push}
+use Rattle.net_core.proofs.StepLaws.{one_of_all}
+use Rattle.order_answers.proofs.WalkProofs.{proofs_push}
 use Rattle.order_answers.proofs.ask.proving.walks_for.Goals as goal
 
 pub walk_for-requires-clause-range : goal.walk_for-requires-clause-range
-walk_for-requires-clause-range c = one_of (IsInRange (points c.args.net.now)) (atoms_in c.args.atoms) c.loop-k.k c.in-Some.atom c.requires.range c.in-Some.ensures
+walk_for-requires-clause-range c = one_of_all (IsInRange (points c.args.net.now)) (atoms_in c.args.atoms) c.loop-k.k c.in-Some.atom c.requires.range (sym c.in-Some.ensures)
 
 pub walk_for-requires-clause-always : goal.walk_for-requires-clause-always
 walk_for-requires-clause-always c =
