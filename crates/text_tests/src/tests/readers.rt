@@ -38,6 +38,6 @@ fn a_reader_stands_after_the_unit_at_fault(rt: HostRuntime) {
         panic!(&rt; "no empty tag");
     };
     assert!(&rt; (span.start, span.end) == (12, 16));
-    assert!(&rt; name == b"P");
+    assert!(&rt; name == b"P".as_slice());
     assert!(&rt; units.place() == 16);
 }
