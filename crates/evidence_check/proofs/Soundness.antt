@@ -3,6 +3,7 @@ use Rattle.std.proofs.Common.{◌≡◌, ℕ, zero, suc, ◌<◌, List, [], ◌�
 use Rattle.std.specs.List.{AllByRecursion, Contains, slice_get}
 use Rattle.std.proofs.lemmas.List.Elements.{All-from_get_or}
 use Rattle.std.proofs.lemmas.Option.{option_and_then_some, slice_get_within}
+use Rattle.named.proofs.Pairs.{zip_at}
 use Rattle.net_core.specs.Atoms.{Satisfies, atoms_of}
 use Rattle.net_core.specs.Relations.{Timeline}
 use Rattle.net_core.specs.Steps.{atom_of, link_of}
@@ -23,7 +24,6 @@ use Rattle.evidence_format.specs.Evidence.{PlainEvidence, timeline, entails, cou
 use Rattle.evidence_check.specs.Claims.{ShowsTruth}
 use Rattle.evidence_check.specs.Refusals.{ranks_at}
 use Rattle.evidence_check.specs.Supported.{FitsOthers, IsSupported, ProveAll}
-use Rattle.evidence_check.proofs.Zipped.{zip_at}
 
 -- the link of a step that goes by an order is one of the net
 link_within : (net : PlainNet) (step : StepOf) (a : Atom) (k : ℕ) → atom_of net step ≡ Some a → link_of step ≡ Some k → k < length net.links
