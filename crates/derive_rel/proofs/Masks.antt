@@ -6,6 +6,7 @@ use Rattle.std.specs.List.{AllByRecursion}
 use Rattle.std.proofs.lemmas.Bool.{cases_eq, eqb-true, eq-eqb}
 use Rattle.std.proofs.lemmas.List.Elements.{All-from_recursion, recursion_from_All}
 use Rattle.std.proofs.lemmas.Nat.Bits.{bit_at-lt, bit_at-pow_other, bit_at-pow_same, bit_at-zero, bit_at_and, bit_at_or, same_from_bits}
+use Rattle.named.proofs.Lists.{each_weaker}
 use Rattle.net_core.specs.Atoms.{atom_between, atoms_of, orders_of, points_of}
 use Rattle.net_core.specs.declared.atom.PairOrder.{PairOrder}
 use Rattle.net_core.specs.declared.rels.Rel.{Rel}
@@ -13,11 +14,6 @@ use Rattle.net_core.proofs.AtomLaws.{all_mapped}
 use Rattle.order_closure.specs.Tables.{Table}
 use Rattle.derive_rel.specs.Entailed.{TableEntails, Gives}
 use Rattle.derive_rel.specs.Pairs.{AreGiven, bit_number, mask_of}
-
--- what is true of each element where another thing is
-each_weaker : {A : Type 0} (P Q : A → Type 0) (xs : List A) → ((x : A) → P x → Q x) → AllByRecursion P xs → AllByRecursion Q xs
-each_weaker P Q [] weaker all = tt
-each_weaker P Q (x ∷ xs) weaker all = (weaker x all.0, each_weaker P Q xs weaker all.1)
 
 module _ (set : ℕ) where
   -- the bit of an order is set
@@ -63,6 +59,6 @@ mask_entails table a b set r given =
     let between = atom_between (points_of a) (points_of b) in
     let GivesOrder : PairOrder → Type 0 = λ order. Gives table (between order) in
     let mapped = all_mapped (Gives table) between orders in (
-      λ e. All-from_recursion (Gives table) (atoms_of r a b) (mapped.0 (each_weaker (HasBit set) GivesOrder orders (λ order. (given order).0) ((mask_in set orders).0 (eqb-true (bit_and set mask) mask e)))),
-      λ h. eq-eqb (bit_and set mask) mask ((mask_in set orders).1 (each_weaker GivesOrder (HasBit set) orders (λ order. (given order).1) (mapped.1 (recursion_from_All (Gives table) (atoms_of r a b) h)))),
+      λ e. All-from_recursion (Gives table) (atoms_of r a b) (mapped.0 (each_weaker (HasBit set) GivesOrder (λ order. (given order).0) orders ((mask_in set orders).0 (eqb-true (bit_and set mask) mask e)))),
+      λ h. eq-eqb (bit_and set mask) mask ((mask_in set orders).1 (each_weaker GivesOrder (HasBit set) (λ order. (given order).1) orders (mapped.1 (recursion_from_All (Gives table) (atoms_of r a b) h)))),
     )

@@ -5,6 +5,7 @@ use Rattle.std.specs.Prelude.{if◌then◌else◌}
 use Rattle.std.specs.Str.{bytes_eq}
 use Rattle.std.proofs.lemmas.Bool.{and_parts, eqb-true}
 use Rattle.std.proofs.lemmas.List.Elements.{All-get_or}
+use Rattle.named.proofs.Lists.{each_weaker}
 use Rattle.net_core.specs.Rels.{all_rels, rel_text}
 use Rattle.net_core.specs.declared.rels.Rel.{Rel}
 use Rattle.net_core.specs.declared.rels.Rel.TheVariants as rel
@@ -89,8 +90,7 @@ AreSorted (x ∷ xs) = AllByRecursion (Precedes x) xs × AreSorted xs
 
 -- what precedes the first of some sorted rows precedes all
 before_all : (x y : Row) (ys : List Row) → Precedes x y → AllByRecursion (Precedes y) ys → AllByRecursion (Precedes x) ys
-before_all x y [] less all = tt
-before_all x y (z ∷ ys) less all = (in_turn x y z less all.0, before_all x y ys less all.1)
+before_all x y ys less all = each_weaker (Precedes y) (Precedes x) (λ z after. in_turn x y z less after) ys all
 
 -- rows each of which comes before the next are sorted
 sorted : (xs : List Row) → ((k : ℕ) → k + 1 < length xs → ComesBefore (row_at xs k) (row_at xs (k + 1))) → AreSorted xs

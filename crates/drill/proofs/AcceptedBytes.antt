@@ -1,38 +1,23 @@
 -- Plain bytes: ASCII without `<`, `&` and `"`. What is made of them can be written in an attribute.
-use Rattle.std.proofs.Common.{◌≡◌, ℕ, ◌+◌, ◌<◌, ◌%◌, ◌^◌, Bool, true, false, ◌&&◌, not, List, [], ◌∷◌, ◌++◌, decimal, refl, subst, ◌∙◌, arith, rules}
-use Rattle.std.specs.Prelude.{codes, nat_lt, IsUtf8}
+use Rattle.std.proofs.Common.{◌≡◌, ℕ, ◌+◌, ◌<◌, ◌%◌, ◌^◌, Bool, true, false, ◌&&◌, not, List, [], ◌∷◌, ◌++◌, decimal, refl, subst, arith, rules}
+use Rattle.std.specs.Prelude.{codes}
 use Rattle.std.specs.List.{list_all}
-use Rattle.std.specs.Str.{IsAscii}
-use Rattle.std.proofs.lemmas.Bool.{and_parts, and_from, ltb-true, both_ways}
+use Rattle.std.proofs.lemmas.Bool.{and_parts, and_from, both_ways}
 use Rattle.std.proofs.lemmas.Bool.Decides.{nat_tests}
 use Rattle.std.proofs.lemmas.Fmt.{decimal_by_steps}
-use Rattle.std.proofs.lemmas.List.Folds.{list_all-append}
-use Rattle.std.proofs.lemmas.Str.{IsUtf8-from_ascii}
-use Rattle.std.proofs.lemmas.Str.Ascii.{IsAscii-nil, IsAscii-cons}
+use Rattle.named.proofs.Lists.{all_append, all_weaker}
 use Rattle.net_core.specs.declared.rels.Rel.{Rel}
 use Rattle.net_core.specs.Rels.{rel_text}
 use Rattle.tml_span.specs.Bytes.{is_digit, is_in, is_value_byte}
 use Rattle.tml_span.specs.Written.{double_quote, HasGoodReferences}
+use Rattle.tml_span.proofs.Utf8.{is_ascii}
 use Rattle.drill.specs.Texts.{event_name, instance_name}
-
--- a byte of ASCII
-abbrev pub is_ascii : ℕ → Bool
-is_ascii b = nat_lt b 128
 
 -- one that is none of `<`, `&` and `"`
 abbrev pub is_plain : ℕ → Bool
 is_plain b = is_ascii b && not (is_in (codes "<&\"") b)
 
 -- ---- tests of all bytes
-
--- a test that implies another at each byte
-pub all_weaker : (p q : ℕ → Bool) → ((b : ℕ) → p b ≡ true → q b ≡ true) → (bs : List ℕ) → list_all p bs ≡ true → list_all q bs ≡ true
-all_weaker p q w [] h = refl
-all_weaker p q w (b ∷ bs) h = let s = and_parts (p b) (list_all p bs) h in and_from (q b) (list_all q bs) (w b s.0) (all_weaker p q w bs s.1)
-
--- a test that all bytes of two texts pass
-pub all_append : (p : ℕ → Bool) (xs ys : List ℕ) → list_all p xs ≡ true → list_all p ys ≡ true → list_all p (xs ++ ys) ≡ true
-all_append p xs ys h k = list_all-append p xs ys ∙ and_from (list_all p xs) (list_all p ys) h k
 
 -- a byte that fails the test is none of these
 pub none_fails : (p : ℕ → Bool) (before after : List ℕ) (b : ℕ) → p b ≡ false → list_all p (before ++ b ∷ after) ≡ true → ⊥
@@ -60,15 +45,6 @@ plain_references bs h = λ place bad. none_fails is_plain bad.prefix bad.suffix 
 -- they are ASCII
 pub plain_ascii : (bs : List ℕ) → list_all is_plain bs ≡ true → list_all is_ascii bs ≡ true
 plain_ascii bs h = all_weaker is_plain is_ascii plain_is_ascii bs h
-
--- the test of bytes gives what std says of ASCII
-below_128 : (bs : List ℕ) → list_all is_ascii bs ≡ true → IsAscii bs
-below_128 [] h = IsAscii-nil
-below_128 (b ∷ bs) h = let s = and_parts (is_ascii b) (list_all is_ascii bs) h in IsAscii-cons b bs (ltb-true b 128 s.0) (below_128 bs s.1)
-
--- ASCII is UTF-8
-pub ascii_utf8 : (bs : List ℕ) → list_all is_ascii bs ≡ true → IsUtf8 bs
-ascii_utf8 bs h = IsUtf8-from_ascii bs (below_128 bs h)
 
 -- ---- numbers
 

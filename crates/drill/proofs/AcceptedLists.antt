@@ -23,11 +23,6 @@ after_both P Q f g more (x ∷ xs) bs cs q h =
     subst (λ (p : List _ × List _). P p.0 p.1) (λ i. (sym (append_assoc (f x) (flat_map f xs) bs) i, sym (append_assoc (g x) (flat_map g xs) cs) i))
     (more x (flat_map f xs ++ bs) (flat_map g xs ++ cs) q.0 (after_both P Q f g more xs bs cs q.1 h))
 
--- what holds of each element implies something else of it
-pub recursion_weaker : {A : Type 0} (P Q : A → Type 0) → ((x : A) → P x → Q x) → (xs : List A) → AllByRecursion P xs → AllByRecursion Q xs
-recursion_weaker P Q w [] h = tt
-recursion_weaker P Q w (x ∷ xs) h = (w x h.0, recursion_weaker P Q w xs h.1)
-
 -- ---- what pieces give, one after another
 
 -- what is made of pieces is made of each
@@ -78,11 +73,6 @@ zip_made R f (x ∷ xs) [] h = absurd h
 zip_made R f (x ∷ xs) (y ∷ ys) h = (h.0, zip_made R f xs ys h.1)
 
 -- ---- numbers one after another
-
--- each number of a range is below its end
-pub range_below : (start len top : ℕ) → start + len ≤ top → AllByRecursion (λ (i : ℕ). i < top) (range_with_len start len)
-range_below start zero top h = tt
-range_below start (suc len) top h = (omega arith, range_below (start + 1) len top (omega arith))
 
 -- what the piece of a number of a range has, all pieces have
 pub any_in_range : {B : Type 0} (p : B → Bool) (f : ℕ → List B) (i start len : ℕ) → start ≤ i → i < start + len → list_any p (f i) ≡ true → list_any p (flat_map f (range_with_len start len)) ≡ true

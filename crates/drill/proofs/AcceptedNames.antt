@@ -7,11 +7,12 @@ use Rattle.std.proofs.lemmas.Bool.{and_from, false_from_ne_true}
 use Rattle.std.proofs.lemmas.Bool.Decides.{nat_tests}
 use Rattle.std.proofs.lemmas.Fmt.{decimal_injective}
 use Rattle.std.proofs.lemmas.Slice.Eq.{bytes_eq-Decides}
+use Rattle.named.proofs.Lists.{all_append, all_weaker}
 use Rattle.net_core.specs.Limits.{max_intervals}
 use Rattle.tml_span.specs.Bytes.{is_digit}
 use Rattle.tml_types.specs.Values.{is_id_byte, is_id_len, is_identifier}
 use Rattle.drill.specs.Texts.{event_name, instance_name}
-use Rattle.drill.proofs.AcceptedBytes.{all_append, all_weaker, decimal_digits, none_fails}
+use Rattle.drill.proofs.AcceptedBytes.{decimal_digits, none_fails}
 use Rattle.drill.proofs.Short.{number_short}
 
 -- a digit may stand in an identifier

@@ -3,9 +3,9 @@ use Rattle.std.proofs.Common.{◌≡◌, ℕ, zero, suc, ◌+◌, ◌<◌, ◌�
 use Rattle.std.specs.List.{AllByRecursion, flat_map, list_any, range_with_len}
 use Rattle.std.specs.Str.{bytes_eq}
 use Rattle.std.proofs.lemmas.Bool.{or_from, or_left}
+use Rattle.std.proofs.lemmas.Cmp.{nat_list_eq_equiv}
 use Rattle.std.proofs.lemmas.List.{append-nil}
 use Rattle.std.proofs.lemmas.List.Folds.{list_any-append}
-use Rattle.std.proofs.lemmas.Slice.Eq.{bytes_eq-Decides}
 use Rattle.net_core.specs.Limits.{max_intervals}
 use Rattle.tml_refs.specs.declared.document.DocLink.{DocLink}
 use Rattle.tml_types.specs.declared.typed.TagKind.TheVariants as kind
@@ -13,9 +13,10 @@ use Rattle.tml_types.specs.Content.{Content, Reference}
 use Rattle.tml_types.specs.References.{id_of, is_of_kind, reference, references_of}
 use Rattle.drill.specs.Texts.{event_name, instance_name}
 use Rattle.drill.proofs.AcceptedLinks.{HasEnds}
-use Rattle.drill.proofs.AcceptedLists.{any_in_range, after_pieces, range_below}
+use Rattle.drill.proofs.AcceptedLists.{any_in_range, after_pieces}
 use Rattle.drill.proofs.AcceptedNames.{events_differ, instances_differ, event_is_no_instance, instance_is_no_event}
 use Rattle.drill.proofs.AcceptedTags.{contents_of, event_content, instance_content, interval_contents, link_content, link_contents}
+use Rattle.drill.proofs.Lists.{all_range}
 
 -- a tag that says this has this identifier
 abbrev pub is_called : List ℕ → Content → Bool
@@ -81,10 +82,6 @@ identifiers_new n links few = intervals_new 0 n [] (flat_map link_contents links
 abbrev pub IsKnown : List Content → Content → Type 0
 IsKnown all c = list_any (λ (r : Reference). not (list_any (is_asked r) all)) (references_of c) ≡ false
 
--- a text is itself
-same_text : (name : List ℕ) → bytes_eq name name ≡ true
-same_text name = (bytes_eq-Decides name name).1 refl
-
 module _ (n : ℕ) (links : List DocLink) where
   -- what all tags say
   abbrev all : List Content
@@ -98,11 +95,11 @@ module _ (n : ℕ) (links : List DocLink) where
 
   -- each event is there
   event_known : (i : ℕ) → i < n → list_any (is_asked (reference kind.Event (event_name i))) all ≡ true
-  event_known i low = in_drill (reference kind.Event (event_name i)) i low (ap (λ (b : Bool). b || false) (same_text (event_name i)))
+  event_known i low = in_drill (reference kind.Event (event_name i)) i low (ap (λ (b : Bool). b || false) (nat_list_eq_equiv.refl (event_name i)))
 
   -- and each instance
   instance_known : (i : ℕ) → i < n → list_any (is_asked (reference kind.Instance (instance_name i))) all ≡ true
-  instance_known i low = in_drill (reference kind.Instance (instance_name i)) i low (ap (λ (b : Bool). b || false) (same_text (instance_name i)))
+  instance_known i low = in_drill (reference kind.Instance (instance_name i)) i low (ap (λ (b : Bool). b || false) (nat_list_eq_equiv.refl (instance_name i)))
 
   -- the references of an interval are known
   interval_known : (i : ℕ) (rest : List Content) → i < n → AllByRecursion (IsKnown all) rest → AllByRecursion (IsKnown all) (interval_contents i ++ rest)
@@ -116,5 +113,5 @@ module _ (n : ℕ) (links : List DocLink) where
   pub references_known : AllByRecursion (HasEnds n) links → AllByRecursion (IsKnown all) all
   references_known ends =
       let later = after_pieces (AllByRecursion (IsKnown all)) (HasEnds n) link_contents link_known links [] ends tt in
-      after_pieces (AllByRecursion (IsKnown all)) (λ (i : ℕ). i < n) interval_contents interval_known (range_with_len 0 n) (flat_map link_contents links) (range_below 0 n n (omega arith))
+      after_pieces (AllByRecursion (IsKnown all)) (λ (i : ℕ). i < n) interval_contents interval_known (range_with_len 0 n) (flat_map link_contents links) (all_range (λ (i : ℕ). i < n) 0 n (λ i from below. omega arith))
       (subst (AllByRecursion (IsKnown all)) (append-nil (flat_map link_contents links)) later)

@@ -8,15 +8,14 @@ use Rattle.std.proofs.lemmas.List.Elements.{All-from_recursion, filter-append, f
 use Rattle.std.proofs.lemmas.List.FromFn.{length-range_with_len, length-map-range_with_len, get_or-map-range_with_len}
 use Rattle.std.proofs.lemmas.List.Sums.{sum_by-append}
 use Rattle.std.proofs.lemmas.Option.{slice_get-get_or}
+use Rattle.named.proofs.Lists.{any_agree, any_map}
 use Rattle.faults.specs.declared.kind.FaultKind.{FaultKind}
 use Rattle.faults.specs.declared.kind.FaultKind.TheVariants as kinds
-use Rattle.faults.proofs.Cuts.{inside}
-use Rattle.named.proofs.Tables.{any_map}
+use Rattle.named.proofs.Cuts.{inside}
 use Rattle.net_core.specs.Limits.{max_intervals, max_links}
 use Rattle.tml_refs.specs.declared.document.DocLink.{DocLink}
 use Rattle.tml_refs.specs.Documents.{IsLinkOf, PlainInterval, RefersTo, Resolved, counts_of, instance, intervals_of, time}
 use Rattle.tml_refs.specs.Rules.{Breaks, has_id, is_interval, is_tlink, is_unknown}
-use Rattle.tml_refs.proofs.Lists.{any_agree}
 use Rattle.tml_types.specs.declared.typed.TagKind.{TagKind}
 use Rattle.tml_types.specs.declared.typed.TagKind.TheVariants as kind
 use Rattle.tml_types.specs.Content as content

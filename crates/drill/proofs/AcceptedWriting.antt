@@ -5,14 +5,16 @@ use Rattle.std.specs.List.{All, AllByRecursion, flat_map, list_all}
 use Rattle.std.proofs.lemmas.List.{append-nil}
 use Rattle.std.proofs.lemmas.List.Concat.{flat_map-append}
 use Rattle.std.proofs.lemmas.List.Elements.{All-nil, All-cons}
+use Rattle.named.proofs.Lists.{all_append}
 use Rattle.net_core.specs.Limits.{max_intervals}
+use Rattle.tml_span.proofs.Utf8.{ascii_utf8, is_ascii}
 use Rattle.tml_refs.specs.declared.document.DocLink.{DocLink}
 use Rattle.tml_span.specs.Bytes.{is_name, is_text_byte}
 use Rattle.tml_span.specs.Units.{Attribute, Kind, text, start_tag, end_tag, empty_tag}
 use Rattle.tml_span.specs.Written.{attribute_text, kind_text, written, IsAttribute, IsContent, BeginsWithText, NoTextsMeet, AreWritable}
 use Rattle.tml_tree.specs.Plain.{PlainNode, nodes_of}
 use Rattle.tml_tree.specs.Written.{kinds_of, all_kinds, AllMayStand, MayBeRoot, root_kinds}
-use Rattle.drill.proofs.AcceptedBytes.{all_append, ascii_utf8, is_ascii, is_plain, plain_ascii, plain_references, plain_value, event_plain, instance_plain, relation_plain}
+use Rattle.drill.proofs.AcceptedBytes.{is_plain, plain_ascii, plain_references, plain_value, event_plain, instance_plain, relation_plain}
 use Rattle.drill.proofs.AcceptedLists.{after_pieces}
 use Rattle.drill.proofs.AcceptedTree.{event_attributes, instance_attributes, link_attributes, interval_nodes, link_nodes, lines_of, root_of, flat_map_pieces, kinds_of_nodes}
 

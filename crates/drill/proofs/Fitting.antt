@@ -2,6 +2,7 @@
 use Rattle.std.proofs.Common.{◌≡◌, ℕ, zero, suc, ◌+◌, ◌*◌, ◌/◌, ◌%◌, ◌==◌, Bool, List, [], ◌∷◌, map, refl, sym, subst, arith, get_or, ℤ, Option}
 use Rattle.std.specs.List.{All, AllZip, range_with_len}
 use Rattle.std.proofs.lemmas.List.Elements.{All-from_recursion, All-get_or, All-map, All-same}
+use Rattle.named.proofs.Lists.{each_weaker}
 use Rattle.net_core.specs.Bounds.{upper_of}
 use Rattle.net_core.specs.Fits.{FollowsNumbers, StartsFirst}
 use Rattle.net_core.specs.Nets.{bounds_at, lower}
@@ -18,7 +19,6 @@ use Rattle.drill.specs.Laws.{HiddenIntervalsFit}
 use Rattle.drill.specs.Numbers.{hidden, hidden_timeline, links_of}
 use Rattle.drill.specs.Texts.{instance_name}
 use Rattle.drill.proofs.Links.{IsTrueLink, true_links}
-use Rattle.drill.proofs.Lists.{all_each}
 
 -- the timeline gives a hidden interval its start
 start_at : (n i : ℕ) → hidden_timeline n (2 * i) ≡ (hidden n i).start
@@ -54,7 +54,7 @@ related n link true = subst (λ (a : Ends). Holds link.rel a (ends_of (hidden_ti
 all_related : (n : ℕ) (links : List NetLink) → links ≡ map net_link (links_of n) → All (IsRelated n) links
 all_related n links is =
     All-same (IsRelated n) links (map net_link (links_of n)) is (All-map (IsRelated n) net_link (links_of n)
-    (All-from_recursion (λ (link : DocLink). IsRelated n (net_link link)) (links_of n) (all_each (IsTrueLink n) (λ (link : DocLink). IsRelated n (net_link link)) (related n) (links_of n) (true_links n))))
+    (All-from_recursion (λ (link : DocLink). IsRelated n (net_link link)) (links_of n) (each_weaker (IsTrueLink n) (λ (link : DocLink). IsRelated n (net_link link)) (related n) (links_of n) (true_links n))))
 
 -- the calendar says nothing of instances
 free_bounds : (numbers : List ℕ) (bounds : List Bounds) (p : ℕ) → AllZip IntervalBounds (map (λ (i : ℕ). instance (instance_name i)) numbers) bounds → get_or bounds p Free ≡ Free

@@ -1,12 +1,12 @@
 -- The lines of a drill, put last one after another.
-use Rattle.std.proofs.Common.{◌≡◌, ℕ, ◌+◌, ◌-◌, ◌*◌, ◌%◌, ◌≤◌, List, [], ◌∷◌, ◌++◌, Option, None, Some, refl, ap, ◌∙◌, codes, cond, Result, Ok, Err, append_assoc, arith}
+use Rattle.std.proofs.Common.{◌≡◌, ℕ, ◌+◌, ◌-◌, ◌*◌, ◌%◌, ◌≤◌, List, [], ◌∷◌, ◌++◌, Option, ap, ◌∙◌, codes, cond, Result, Ok, Err, append_assoc, arith}
 use Rattle.std.specs.Prelude.{decimal}
 use Rattle.std.specs.Result.{OnOk, is_ok}
-use Rattle.std.specs.List.{cons_option, filter_map, flat_map, range_with_len}
+use Rattle.std.specs.List.{filter_map, flat_map, range_with_len}
 use Rattle.std.specs.Option.{option_to_list}
 use Rattle.std.proofs.lemmas.List.{append-nil}
 use Rattle.std.proofs.lemmas.List.Concat.{flat_map-append}
-use Rattle.std.proofs.lemmas.List.Elements.{filter_map-append}
+use Rattle.named.proofs.Lists.{filter_map_more}
 use Rattle.net_core.specs.Rels.{rel_text}
 use Rattle.tml_refs.specs.declared.document.DocLink.{DocLink}
 use Rattle.drill.specs.Numbers.{drawn, link_between, links_from, partner}
@@ -21,16 +21,11 @@ put_after start old more all out new h k e = rw (k, h, e) (append_assoc start ol
 pub made_more : {Y : Type 0} (f : ℕ → List Y) (a k j : ℕ) → a + k ≡ j → flat_map f (range_with_len a (k + 1)) ≡ flat_map f (range_with_len a k) ++ f j
 made_more f a k j e = ap (flat_map f) (range_more a k j e) ∙ flat_map-append f (range_with_len a k) (j ∷ []) ∙ ap (λ ys. flat_map f (range_with_len a k) ++ ys) (append-nil (f j))
 
--- a value that may be missing, as a list
-single : {X : Type 0} (o : Option X) → cons_option o [] ≡ option_to_list o
-single None = refl
-single (Some x) = refl
-
 -- the lines of the links to one interval more
 links_to_more : (f : ℕ → Option DocLink) (k : ℕ) → flat_map link_line (filter_map f (range_with_len 1 (k + 1))) ≡ flat_map link_line (filter_map f (range_with_len 1 k)) ++ flat_map link_line (option_to_list (f (k + 1)))
 links_to_more f k =
     let made : filter_map f (range_with_len 1 (k + 1)) ≡ filter_map f (range_with_len 1 k) ++ option_to_list (f (k + 1)) =
-    ap (filter_map f) (range_more 1 k (k + 1) (omega arith)) ∙ filter_map-append f (range_with_len 1 k) ((k + 1) ∷ []) ∙ ap (λ ys. filter_map f (range_with_len 1 k) ++ ys) (single (f (k + 1))) in
+    ap (filter_map f) (range_more 1 k (k + 1) (omega arith)) ∙ filter_map_more f (range_with_len 1 k) (k + 1) in
     ap (flat_map link_line) made ∙ flat_map-append link_line (filter_map f (range_with_len 1 k)) (option_to_list (f (k + 1)))
 
 -- the link to one interval more is put last, by the number that is drawn for it

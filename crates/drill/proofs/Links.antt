@@ -4,12 +4,13 @@ use Rattle.std.specs.List.{AllByRecursion, range_with_len}
 use Rattle.std.specs.Option.{IfSome}
 use Rattle.std.proofs.lemmas.List.FromFn.{length-range_with_len}
 use Rattle.std.proofs.lemmas.Option.{IfSome_then}
+use Rattle.named.proofs.Lists.{each_flat_map}
 use Rattle.net_core.specs.Relations.{Holds}
 use Rattle.net_core.specs.Rels.{all_rels}
 use Rattle.net_core.specs.declared.rels.Rel.{Rel}
 use Rattle.tml_refs.specs.declared.document.DocLink.{DocLink}
 use Rattle.drill.specs.Numbers.{does_hold, first_relation, hidden, link_between, links_from, links_of, partner}
-use Rattle.drill.proofs.Lists.{all_filter_map, all_flat_map, all_range, filter_map_length, flat_map_length, found_passes, if_some_made}
+use Rattle.drill.proofs.Lists.{all_filter_map, all_range, filter_map_length, flat_map_length, found_passes, if_some_made}
 use Rattle.drill.proofs.Relations.{holds_decided}
 
 -- a link between intervals of the drill, whose relation holds of the hidden ones
@@ -34,11 +35,11 @@ true_links_from n i some below =
 -- all links are true
 pub true_links : (n : ℕ) → AllByRecursion (IsTrueLink n) (links_of n)
 true_links n =
-    all_flat_map (IsTrueLink n) (links_from n) (range_with_len 1 (n - 1))
+    each_flat_map (IsTrueLink n) (links_from n) (range_with_len 1 (n - 1))
     (all_range (λ i. AllByRecursion (IsTrueLink n) (links_from n i)) 1 (n - 1) (λ i some below. true_links_from n i some (omega arith)))
 
--- there are at most three from each interval
-pub few_links : (n : ℕ) → length (links_of n) ≤ 3 * n
+-- there are at most three from each interval but the first
+pub few_links : (n : ℕ) → length (links_of n) ≤ 3 * (n - 1)
 few_links n =
     let each : (i : ℕ) → length (links_from n i) ≤ 3 = λ i. filter_map_length (λ (time : ℕ). link_between n i (partner n i time)) (1 ∷ 2 ∷ 3 ∷ []) in
     let all = flat_map_length (links_from n) 3 (range_with_len 1 (n - 1)) (all_range (λ i. length (links_from n i) ≤ 3) 1 (n - 1) (λ i some below. each i)) in

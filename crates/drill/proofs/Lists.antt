@@ -16,16 +16,6 @@ pub all_range : (P : ℕ → Type 0) (a n : ℕ) → ((i : ℕ) → a ≤ i → 
 all_range P a zero each = tt
 all_range P a (suc n) each = (each a (omega arith) (omega arith), all_range P (a + 1) n (λ i ge lt. each i (omega arith) (omega arith)))
 
--- what holds of each item of two lists holds of both together
-all_joined : {X : Type 0} (P : X → Type 0) (xs ys : List X) → AllByRecursion P xs → AllByRecursion P ys → AllByRecursion P (xs ++ ys)
-all_joined P [] ys h k = k
-all_joined P (x ∷ xs) ys h k = (h.0, all_joined P xs ys h.1 k)
-
--- what holds of each item of each part holds of all
-pub all_flat_map : {X Y : Type 0} (P : Y → Type 0) (f : X → List Y) (xs : List X) → AllByRecursion (λ x. AllByRecursion P (f x)) xs → AllByRecursion P (flat_map f xs)
-all_flat_map P f [] h = tt
-all_flat_map P f (x ∷ xs) h = all_joined P (f x) (flat_map f xs) h.0 (all_flat_map P f xs h.1)
-
 -- and of a list with a value first that may be missing
 all_put_first : {X : Type 0} (P : X → Type 0) (o : Option X) (xs : List X) → IfSome o P → AllByRecursion P xs → AllByRecursion P (cons_option o xs)
 all_put_first P None xs h k = k
@@ -65,8 +55,3 @@ found_passes test (x ∷ xs) = chosen (λ y. test y ≡ true) (test x) x (find t
 pub if_some_made : {X Y : Type 0} (P : Y → Type 0) (f : X → Y) (o : Option X) → IfSome o (λ x. P (f x)) → IfSome (option_map f o) P
 if_some_made P f None h = tt
 if_some_made P f (Some x) h = h
-
--- what follows for each item follows for all
-pub all_each : {X : Type 0} (P Q : X → Type 0) → ((x : X) → P x → Q x) → (xs : List X) → AllByRecursion P xs → AllByRecursion Q xs
-all_each P Q each [] h = tt
-all_each P Q each (x ∷ xs) h = (each x h.0, all_each P Q each xs h.1)

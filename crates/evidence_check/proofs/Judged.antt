@@ -4,6 +4,7 @@ use Rattle.std.specs.List.{Contains}
 use Rattle.std.proofs.lemmas.List.Elements.{All-from_get_or}
 use Rattle.std.proofs.lemmas.Bool.{cases_lt}
 use native.Mathlib.Decide.{dec_lt, ℕ_discrete}
+use Rattle.named.proofs.Pairs.{zip_from}
 use Rattle.net_core.specs.Atoms.{atoms_of}
 use Rattle.net_core.specs.Clashes.{Others}
 use Rattle.net_core.specs.Fits.{EveryLink, RanksFit}
@@ -26,7 +27,6 @@ use Rattle.evidence_check.proofs.RanksJudged.{fit_or_misfit}
 use Rattle.evidence_check.proofs.Reasons.{OrReason, first_bad}
 use Rattle.evidence_check.proofs.Verdicts.{no_misfit}
 use Rattle.evidence_check.proofs.WalksJudged.{proof_or_none, round_or_none}
-use Rattle.evidence_check.proofs.Zipped.{zip_from}
 
 abbrev refusal : ℕ → Reason → Refused
 refusal part reason = record { part = part; reason = reason }

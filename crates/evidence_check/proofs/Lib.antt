@@ -1,5 +1,4 @@
 pub mod Checks
-pub mod Zipped
 pub mod Proving
 pub mod ClosedWalks
 pub mod Marks

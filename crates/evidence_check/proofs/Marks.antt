@@ -2,6 +2,7 @@
 use Rattle.std.proofs.Common.{◌≡◌, ◌↔◌, ◌⊎◌, inl, inr, ℕ, ◌<◌, Bool, true, false, List, replicate, slice_index_or, refl, sym, ◌∙◌}
 use Rattle.std.specs.List.{Contains}
 use Rattle.std.proofs.Math.Bool.{beq, not}
+use Rattle.std.proofs.lemmas.Bool.Decides.{same_from_decides}
 use Rattle.std.proofs.lemmas.List.{get_or-replicate}
 use Rattle.net_core.specs.Limits.{max_links}
 use Rattle.net_core.specs.Walks.{GoesOver}
@@ -45,14 +46,9 @@ alike cited gone_over cites steps marked walked k below = (there, back)
     there : slice_index_or cited k false ≡ slice_index_or gone_over k false → Agrees cites steps k
     there e = (λ goes. (marked k below).0 (e ∙ (walked k below).1 goes), λ cites. (walked k below).0 (sym e ∙ (marked k below).1 cites))
 
-    both : (a b : Bool) → (a ≡ true → b ≡ true) → (b ≡ true → a ≡ true) → a ≡ b
-    both true b f g = sym (f refl)
-    both false true f g = g refl
-    both false false f g = refl
-
     back : Agrees cites steps k → slice_index_or cited k false ≡ slice_index_or gone_over k false
-    back agrees = both (slice_index_or cited k false) (slice_index_or gone_over k false)
-        (λ e. (walked k below).1 (agrees.1 ((marked k below).0 e))) (λ e. (marked k below).1 (agrees.0 ((walked k below).0 e)))
+    back agrees = same_from_decides (slice_index_or cited k false) (slice_index_or gone_over k false)
+        (λ e. (walked k below).1 (agrees.1 ((marked k below).0 e)), λ e. (marked k below).1 (agrees.0 ((walked k below).0 e))) (λ e. e, λ e. e)
 
 -- of two marks
 pub are_apart : (a b : Bool) → not (beq a b) ≡ true → a ≡ b → ⊥

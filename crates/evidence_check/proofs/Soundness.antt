@@ -2,6 +2,7 @@
 use Rattle.std.proofs.Common.{◌≡◌, ℕ, List, [], ◌∷◌, Result, Ok, Err, OnOk, IfOk, subst}
 use Rattle.std.specs.List.{AllByRecursion, Contains}
 use Rattle.std.proofs.lemmas.List.Elements.{All-from_get_or}
+use Rattle.named.proofs.Pairs.{zip_at}
 use Rattle.net_core.specs.Atoms.{Satisfies, atoms_of}
 use Rattle.net_core.specs.Relations.{Timeline}
 use Rattle.net_core.specs.declared.atom.Atom.{Atom}
@@ -18,7 +19,6 @@ use Rattle.evidence_format.specs.Evidence.{PlainEvidence, timeline, entails, cou
 use Rattle.evidence_check.specs.Claims.{ShowsTruth}
 use Rattle.evidence_check.specs.Refusals.{ranks_at}
 use Rattle.evidence_check.specs.Supported.{FitsOthers, IsSupported, ProveAll}
-use Rattle.evidence_check.proofs.Zipped.{zip_at}
 
 -- a timeline that fits is in the order of each atom that is proved
 all_kept : (net : PlainNet) (t : Timeline) (atoms : List Atom) (walks : List (List StepOf)) → Fits net t → ProveAll net atoms walks → AllByRecursion (Satisfies t) atoms

@@ -3,6 +3,7 @@ use Rattle.std.proofs.Common.{◌≡◌, inl, inr, false, ℕ, ◌+◌, ◌<◌,
 use Rattle.std.specs.List.{Contains}
 use Rattle.std.proofs.lemmas.List.Elements.{All-get_or}
 use Rattle.std.proofs.lemmas.Slice.Zip.{AllZip-long}
+use Rattle.named.proofs.Pairs.{zip_at}
 use Rattle.net_core.specs.Atoms.{atoms_of}
 use Rattle.net_core.specs.Clashes.{IsClosedOver, Others}
 use Rattle.net_core.specs.Fits.{EveryLink, KeepsCalendar, KeepsLink, RanksFit, RanksFitWith, StartsFirst}
@@ -21,7 +22,6 @@ use Rattle.evidence_check.specs.Refusals.{AreSparesRefused, AreWalksRefused, Fir
 use Rattle.evidence_check.specs.Supported.{AllFitOthers, AreLinks, FitsOthers, IsFalse, IsProof, IsSupported, ProveAll}
 use Rattle.evidence_check.proofs.Checks.{IsCheck, by_check, three_checks, two_checks}
 use Rattle.evidence_check.proofs.Proving.{one_reason}
-use Rattle.evidence_check.proofs.Zipped.{zip_at}
 use Rattle.evidence_check.proofs.ClosedWalks.{one_round, round_not_both}
 
 -- numbers that are found alike are one

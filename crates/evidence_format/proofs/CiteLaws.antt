@@ -4,6 +4,7 @@ use Rattle.std.specs.Prelude.{codes}
 use Rattle.std.proofs.lemmas.Bool.{lt-ltb}
 use Rattle.std.proofs.lemmas.Bool.Decides.{nat_tests}
 use Rattle.std.proofs.lemmas.List.{append-nil}
+use Rattle.std.proofs.lemmas.Option.{cond_some}
 use Rattle.evidence_format.specs.declared.stop.Stop.{Stop}
 use Rattle.evidence_format.specs.declared.stop.Stop.TheVariants as stop
 use Rattle.evidence_format.specs.Lines.{Lines, lines_of}
@@ -15,7 +16,7 @@ use Rattle.evidence_format.specs.Forms.{cite_of}
 use Rattle.evidence_format.specs.Readers.{cites_at}
 use Rattle.evidence_format.specs.Given.{StopsAt}
 use Rattle.evidence_format.proofs.Exact.{Exact, exact_then, exact_give, exact_same}
-use Rattle.evidence_format.proofs.Numbers.{guard, some_bind}
+use Rattle.evidence_format.proofs.Numbers.{some_bind}
 use Rattle.evidence_format.proofs.WordLaws.{IsForm, one_form}
 use Rattle.evidence_format.proofs.Rising.{IsCite, Rise, rise_from_cites, cites_from_rise}
 use Rattle.evidence_format.proofs.ReaderLaws.{Has, exact_form, exact_map}
@@ -34,7 +35,7 @@ cite_form left least = record {
       rw ((one_form (codes "cite ")).again link small, le, lt) refl;
   found = λ l link e.
       let a = some_bind (one_of (codes "cite ") l) (λ n. cond (leb least n && ltb (n + left) (2 ^ 32)) (Some n) None) link e in
-      let g = guard (leb least a.0 && ltb (a.0 + left) (2 ^ 32)) a.0 link a.2 in
+      let g = cond_some (leb least a.0 && ltb (a.0 + left) (2 ^ 32)) a.0 link a.2 in
       let f = (one_form (codes "cite ")).found l a.0 a.1 in
       let le : least ≤ a.0 = grind (arith, nat_tests, g.0) in
       let lt : a.0 + left < 2 ^ 32 = grind (arith, nat_tests, g.0) in

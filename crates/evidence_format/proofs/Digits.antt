@@ -3,12 +3,13 @@ use Rattle.std.proofs.Common.{◌≡◌, ℕ, ◌+◌, ◌*◌, ◌^◌, ◌<◌
 use Rattle.std.specs.Prelude.{decimal}
 use Rattle.std.specs.Char.{digit_value}
 use Rattle.std.specs.Str.Parse.{AllDigits, digits_value, digits_value_after}
-use Rattle.std.proofs.lemmas.Bool.{cases_lt, eqb-true, ltb-true, lt-ltb}
+use Rattle.std.proofs.lemmas.Bool.{cases_lt, eqb-true, ltb-true, lt-ltb, and_parts}
 use Rattle.std.proofs.lemmas.Bool.Decides.{nat_tests}
 use Rattle.std.proofs.lemmas.Fmt.{decimal_is_IsNumeral, decimal-digits_value, decimal_digit, decimal_nonempty, first_decimal}
+use Rattle.std.proofs.lemmas.Option.{cond_some}
 use Rattle.std.proofs.lemmas.Str.Parse.{numerals_by_value, tells_digits}
 use Rattle.evidence_format.specs.Words.{number, begins_well, digit_after, digits_after}
-use Rattle.evidence_format.proofs.Numbers.{both, guard, some_bind, number_again, number_none}
+use Rattle.evidence_format.proofs.Numbers.{some_bind, number_again, number_none}
 
 -- digits after a number write no less
 value_rises : (n : ℕ) (bytes : List ℕ) → n ≤ digits_value_after 10 n bytes
@@ -20,8 +21,8 @@ digit_found : (n b m : ℕ) → digit_after n b ≡ Some m → (digit_value b < 
 unfolding digit_after
 digit_found n b m e =
     let v = n * 10 + digit_value b in
-    let g = guard (ltb (digit_value b) 10 && ltb v (2 ^ 32)) v m e in
-    let t = both (ltb (digit_value b) 10) (ltb v (2 ^ 32)) g.0 in
+    let g = cond_some (ltb (digit_value b) 10 && ltb v (2 ^ 32)) v m e in
+    let t = and_parts (ltb (digit_value b) 10) (ltb v (2 ^ 32)) g.0 in
     (ltb-true (digit_value b) 10 t.0, g.1, subst (λ (k : ℕ). k < 2 ^ 32) g.1 (ltb-true v (2 ^ 32) t.1))
 
 -- a digit is read where its number is not too large

@@ -5,6 +5,7 @@ use Rattle.std.specs.List.{concat, flat_map, list_all, count_by, AllByRecursion}
 use Rattle.std.proofs.lemmas.List.{take_at}
 use Rattle.std.proofs.lemmas.List.Elements.{recursion_from_All}
 use Rattle.std.proofs.lemmas.List.Sums.{sum_by-cons, sum_by-append}
+use Rattle.named.proofs.Lists.{all_append, each_joined, each_flat_map, each_weaker}
 use Rattle.net_core.specs.Rels.{rel_text}
 use Rattle.net_core.specs.declared.rels.Rel.{Rel}
 use Rattle.net_core.specs.declared.step.Step.{Step}
@@ -12,7 +13,7 @@ use Rattle.net_core.specs.declared.step.Step.TheVariants.{Link, Span, Calendar}
 use Rattle.evidence_format.specs.Lines.{Lines, is_lf, with_byte, lines_of}
 use Rattle.evidence_format.specs.Words.{is_not}
 use Rattle.evidence_format.specs.Evidence.{PlainEvidence, timeline, entails, counter, clash, IsNumber, IsPair, AreRanks, HasNumbers, AreSteps, IsWellFormed, one_number, two_numbers, relation_line, at_line, timeline_lines, step_line, walk_lines, cite_line, body_lines, text_lines, last_line}
-use Rattle.evidence_format.proofs.WordLaws.{all_append, digits_differ}
+use Rattle.evidence_format.proofs.WordLaws.{digits_differ}
 
 -- ---- the lines of a text are the text
 
@@ -54,16 +55,6 @@ lines_again (l ∷ ls) h =
     let grouped : concat (l ∷ ls) ≡ s.0 ++ 10 ∷ concat ls = ap (λ (x : List ℕ). x ++ concat ls) s.2 ∙ append_assoc s.0 (10 ∷ []) (concat ls) in
     ap lines_of grouped ∙ first_is s.0 (concat ls) s.1 ∙ rw (lines_again ls h.1, ← s.2) refl
 
--- the first of whole lines are whole
-pub prefix_lines : (a b : Lines) → AllByRecursion IsLine (a ++ b) → AllByRecursion IsLine a
-prefix_lines [] b h = tt
-prefix_lines (l ∷ a) b h = (h.0, prefix_lines a b h.1)
-
--- whole lines, and whole lines after them
-both_lines : (a b : Lines) → AllByRecursion IsLine a → AllByRecursion IsLine b → AllByRecursion IsLine (a ++ b)
-both_lines [] b h k = k
-both_lines (l ∷ a) b h k = (h.0, both_lines a b h.1 k)
-
 -- ---- each line of evidence is one
 
 -- a keyword and one number are a whole line
@@ -97,8 +88,7 @@ mapped_are Fits line each (v ∷ vs) h = (each v h.0, mapped_are Fits line each 
 
 -- lines for each value, all whole
 flat_are : {A : Type 0} (Fits : A → Type 0) (lines : A → Lines) → ((a : A) → Fits a → AllByRecursion IsLine (lines a)) → (vs : List A) → AllByRecursion Fits vs → AllByRecursion IsLine (flat_map lines vs)
-flat_are Fits lines each [] h = tt
-flat_are Fits lines each (v ∷ vs) h = both_lines (lines v) (flat_map lines vs) (each v h.0) (flat_are Fits lines each vs h.1)
+flat_are Fits lines each vs h = each_flat_map IsLine lines vs (each_weaker Fits (λ v. AllByRecursion IsLine (lines v)) each vs h)
 
 -- a step is a whole line
 step_is : (s : Step) → HasNumbers s → IsLine (step_line s)
@@ -122,11 +112,11 @@ body_is (counter a r b ranks) h = (relation_is (codes "counter ") a r b refl h.0
 body_is (clash cites walk spares) h =
     let each : AllByRecursion IsLine (map cite_line cites) = mapped_are IsNumber cite_line (λ link small. one_is (codes "cite ") link refl small) cites (recursion_from_All IsNumber cites h.0.1) in
     let timelines : AllByRecursion IsLine (flat_map timeline_lines spares) = flat_are AreRanks timeline_lines timeline_is spares (recursion_from_All AreRanks spares h.2) in
-    (one_is (codes "clash ") (length cites) refl h.0.2, both_lines (map cite_line cites) (walk_lines walk ++ flat_map timeline_lines spares) each (both_lines (walk_lines walk) (flat_map timeline_lines spares) (walk_is walk h.1) timelines))
+    (one_is (codes "clash ") (length cites) refl h.0.2, each_joined IsLine (map cite_line cites) (walk_lines walk ++ flat_map timeline_lines spares) each (each_joined IsLine (walk_lines walk) (flat_map timeline_lines spares) (walk_is walk h.1) timelines))
 
 -- the lines of a text are whole
 pub text_is : (e : PlainEvidence) → IsWellFormed e → AllByRecursion IsLine (text_lines e)
-text_is e h = ((codes "tml-evidence 1", refl, refl), both_lines (body_lines e) (last_line ∷ []) (body_is e h) ((codes "end", refl, refl), tt))
+text_is e h = ((codes "tml-evidence 1", refl, refl), each_joined IsLine (body_lines e) (last_line ∷ []) (body_is e h) ((codes "end", refl, refl), tt))
 
 -- ---- the number of a line
 

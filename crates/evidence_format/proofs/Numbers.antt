@@ -1,23 +1,13 @@
 -- A word is the decimal of one number below 2 ^ 32, or of none.
-use Rattle.std.proofs.Common.{◌≡◌, ℕ, ◌^◌, ◌<◌, Bool, true, false, cond, ltb, ◌&&◌, List, Option, Some, None, refl, subst, arith}
+use Rattle.std.proofs.Common.{◌≡◌, ℕ, ◌^◌, ◌<◌, true, ltb, ◌&&◌, List, Option, Some, None, refl, subst, arith}
 use Rattle.std.specs.Prelude.{decimal}
 use Rattle.std.specs.Str.{bytes_eq}
 use Rattle.std.specs.Str.Parse.{digits_value}
-use Rattle.std.proofs.lemmas.Bool.{ltb-true, lt-ltb}
+use Rattle.std.proofs.lemmas.Bool.{ltb-true, lt-ltb, and_parts}
 use Rattle.std.proofs.lemmas.Fmt.{decimal_is_IsNumeral}
+use Rattle.std.proofs.lemmas.Option.{cond_some}
 use Rattle.std.proofs.lemmas.Slice.Eq.{bytes_eq-Decides}
 use Rattle.evidence_format.specs.Words.{◌>>=◌, number}
-
--- both of two tests held
-pub both : (a b : Bool) → (a && b) ≡ true → (a ≡ true) × (b ≡ true)
-both true true e = (refl, refl)
-both true false e = absurd cc
-both false b e = absurd cc
-
--- a test that held
-pub guard : {A : Type 0} (t : Bool) (x y : A) → cond t (Some x) None ≡ Some y → (t ≡ true) × (x ≡ y)
-guard true x y e = (refl, cc)
-guard false x y e = absurd cc
 
 -- where two steps give a value, each does
 pub some_bind : {A B : Type 0} (o : Option A) (f : A → Option B) (y : B) → (o >>= f) ≡ Some y → (x : A) × (o ≡ Some x) × (f x ≡ Some y)
@@ -29,8 +19,8 @@ pub number_found : (word : List ℕ) (n : ℕ) → number word ≡ Some n → (d
 unfolding number
 number_found word n e =
     let v = digits_value 10 word in
-    let g = guard (ltb v (2 ^ 32) && bytes_eq (decimal v) word) v n e in
-    let t = both (ltb v (2 ^ 32)) (bytes_eq (decimal v) word) g.0 in
+    let g = cond_some (ltb v (2 ^ 32) && bytes_eq (decimal v) word) v n e in
+    let t = and_parts (ltb v (2 ^ 32)) (bytes_eq (decimal v) word) g.0 in
     let same : decimal v ≡ word = (bytes_eq-Decides (decimal v) word).0 t.1 in
     let small : v < 2 ^ 32 = ltb-true v (2 ^ 32) t.0 in
     subst (λ (m : ℕ). (decimal m ≡ word) × (m < 2 ^ 32)) g.1 (same, small)

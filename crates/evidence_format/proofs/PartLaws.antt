@@ -5,6 +5,7 @@ use Rattle.std.specs.List.{All, AllByRecursion, flat_map}
 use Rattle.std.proofs.lemmas.Grind.{flat_map-append}
 use Rattle.std.proofs.lemmas.List.{append-nil, map-append, length-replicate}
 use Rattle.std.proofs.lemmas.List.Elements.{All-nil, All-cons, All-append, All-replicate, All-from_recursion, recursion_from_All}
+use Rattle.named.proofs.Lists.{each_parts}
 use Rattle.net_core.specs.Atoms.{atom_count}
 use Rattle.net_core.specs.declared.step.Step.{Step}
 use Rattle.net_core.specs.declared.step.Step.TheVariants.{Span}
@@ -41,11 +42,6 @@ prefix_map f (v ∷ vs) (x ∷ xs) ys e =
     let more = prefix_map f vs xs ys tails in
     (v ∷ more.0, more.1, ap (λ us. v ∷ us) more.2, (let rest = more.3 in cc))
 
--- what holds of all values holds of the first ones
-all_prefix : {A : Type 0} (P : A → Type 0) (us ws : List A) → AllByRecursion P (us ++ ws) → AllByRecursion P us
-all_prefix P [] ws h = tt
-all_prefix P (u ∷ us) ws h = (h.0, all_prefix P us ws h.1)
-
 -- the first lines have the first line, or are none
 prefix_cons : (xs ys : Lines) (l : List ℕ) (rest : Lines) → xs ++ ys ≡ l ∷ rest → (xs ≡ []) ⊎ ((more : Lines) × (xs ≡ l ∷ more) × (more ++ ys ≡ rest))
 prefix_cons [] ys l rest e = inl refl
@@ -58,7 +54,7 @@ counted_prefix keyword line Fits vs xs ys fit e =
       | inl none ↦ inl none
       | inr m ↦
           let f = prefix_map line vs m.0 ys m.2 in
-          let first = all_prefix Fits f.0 f.1 (subst (AllByRecursion Fits) f.2 (recursion_from_All Fits vs fit.0)) in
+          let first = (each_parts Fits f.0 f.1 (subst (AllByRecursion Fits) f.2 (recursion_from_All Fits vs fit.0))).0 in
           let few : length f.0 ≤ length vs = omega (arith, ap length f.2, length-append f.0 f.1) in
           inr (length vs, f.0, fit.1, All-from_recursion Fits f.0 first, few, m.1 ∙ ap (λ (x : Lines). one_number keyword (length vs) ∷ x) f.3)
     ]

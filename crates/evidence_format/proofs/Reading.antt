@@ -1,6 +1,7 @@
 -- What is read of whole texts.
 use Rattle.std.proofs.Common.{◌≡◌, ℕ, ◌+◌, ◌-◌, ◌≤◌, List, length, take, Ok, Err, sym, ap, subst, ◌∙◌}
 use Rattle.std.specs.List.{count_by, concat, AllByRecursion}
+use Rattle.named.proofs.Lists.{each_parts}
 use Rattle.evidence_format.specs.Lines.{Lines, is_lf, lines_of}
 use Rattle.evidence_format.specs.Evidence.{PlainEvidence, IsText, text_lines}
 use Rattle.evidence_format.specs.Grammar.{Stuck}
@@ -8,7 +9,7 @@ use Rattle.evidence_format.specs.Begun.{HasLines, IsBegun, IsBadLine}
 use Rattle.evidence_format.specs.Readers.{text_at, evidence_at}
 use Rattle.evidence_format.proofs.Exact.{all_again, all_found, all_bad, one_place}
 use Rattle.evidence_format.proofs.BodyLaws.{exact_text}
-use Rattle.evidence_format.proofs.LineLaws.{IsLine, lines_again, lines_concat, prefix_lines, text_is, line_number}
+use Rattle.evidence_format.proofs.LineLaws.{IsLine, lines_again, lines_concat, text_is, line_number}
 
 -- what is read has this text
 pub is_found : (e : PlainEvidence) (text : List ℕ) → evidence_at (lines_of text) ≡ Ok e → IsText e text
@@ -26,7 +27,7 @@ is_read e text h =
 
 -- lines that are begun are whole
 begun_lines : (ls : Lines) → IsBegun ls → AllByRecursion IsLine ls
-begun_lines ls b = prefix_lines ls b.1 (subst (AllByRecursion IsLine) (sym b.2.1) (text_is b.0 b.2.0))
+begun_lines ls b = (each_parts IsLine ls b.1 (subst (AllByRecursion IsLine) (sym b.2.1) (text_is b.0 b.2.0))).0
 
 -- where reading stops, the lines are stuck
 pub is_stuck : (text : List ℕ) (rest : Lines) → evidence_at (lines_of text) ≡ Err rest → Stuck HasLines (lines_of text) rest

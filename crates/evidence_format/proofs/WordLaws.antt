@@ -6,22 +6,19 @@ use Rattle.std.specs.Str.{bytes_eq}
 use Rattle.std.proofs.lemmas.Bool.{eqb-true}
 use Rattle.std.proofs.lemmas.Bool.Decides.{Decides-eqb}
 use Rattle.std.proofs.lemmas.List.{take_at, drop_at, take-append-drop}
-use Rattle.std.proofs.lemmas.List.Folds.{list_all-append}
 use Rattle.std.proofs.lemmas.Fmt.{decimal_by_steps}
+use Rattle.std.proofs.lemmas.Option.{cond_some}
 use Rattle.std.proofs.lemmas.Slice.Eq.{starts_is, bytes_eq-Decides}
+use Rattle.named.proofs.Lists.{all_append}
 use Rattle.named.specs.Texts.{AreApart, named_of}
 use Rattle.named.proofs.Tables.{found_has}
 use Rattle.net_core.specs.Rels.{rel_text, all_rels}
 use Rattle.net_core.specs.declared.rels.Rel.{Rel}
 use Rattle.evidence_format.specs.Words.{◌>>=◌, is_not, number, number_to, word_to, after, after_one, alone, one_of, two_of, relation_of, same_of}
 use Rattle.evidence_format.specs.Evidence.{IsNumber, IsPair, one_number, two_numbers, relation_line}
-use Rattle.evidence_format.proofs.Numbers.{guard, some_bind, number_found, number_again}
+use Rattle.evidence_format.proofs.Numbers.{some_bind, number_found, number_again}
 
 -- ---- up to a byte
-
--- a test that all of two lists pass
-pub all_append : (p : ℕ → Bool) (xs ys : List ℕ) → list_all p xs ≡ true → list_all p ys ≡ true → list_all p (xs ++ ys) ≡ true
-all_append p xs ys h k = rw (list_all-append p xs ys, h, k) refl
 
 -- a larger byte differs
 differs : (stop b : ℕ) → stop < b → is_not stop b ≡ true
@@ -75,7 +72,7 @@ alone_is a b (x ∷ rest) e = absurd cc
 after_found : (keyword bytes rest : List ℕ) → after keyword bytes ≡ Some rest → bytes ≡ keyword ++ rest
 unfolding after
 after_found keyword bytes rest e =
-    let g = guard _ (drop (length keyword) bytes) rest e in
+    let g = cond_some _ (drop (length keyword) bytes) rest e in
     rw (← g.1) ((starts_is Decides-eqb bytes keyword _ refl).0 g.0)
 
 -- what follows a keyword is found
@@ -218,5 +215,5 @@ relation_form keyword = record {
 pub same_form : (text : List ℕ) → IsForm (λ (u : Unit {0}). text) (λ u. Unit {0}) (same_of text)
 same_form text = record {
   again = λ u fits. rw ((bytes_eq-Decides text text).1 refl) refl;
-  found = λ l u e. let g = guard (bytes_eq l text) tt u e in (sym ((bytes_eq-Decides l text).0 g.0), tt);
+  found = λ l u e. let g = cond_some (bytes_eq l text) tt u e in (sym ((bytes_eq-Decides l text).0 g.0), tt);
 }

@@ -2,7 +2,7 @@
 use Rattle.std.proofs.Common.{◌≡◌, ◌≤◌, ℕ, List, [], ◌∷◌, ◌++◌, refl, sym, ap, subst, ◌∙◌, append_assoc, inl, inr, arith, All}
 use Rattle.std.proofs.lemmas.List.Elements.{All-nil, All-cons, All-append}
 use Rattle.faults.specs.First.{AreNumbered, FirstFault, NoneBreaks}
-use Rattle.faults.proofs.Cuts.{inside, none_cut, two_cuts, last_or_before}
+use Rattle.named.proofs.Cuts.{inside, none_cut, two_cuts, last_or_before}
 
 -- ---- no element breaks a rule
 

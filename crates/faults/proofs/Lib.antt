@@ -1,4 +1,3 @@
-pub mod Cuts
 pub mod First
 pub mod FirstOrNone
 pub mod Numbered

@@ -3,6 +3,7 @@ use Rattle.std.proofs.Common.{◌≡◌, ℕ, ◌<◌, List, [], length, map, sl
 use Rattle.std.specs.List.{Contains}
 use Rattle.std.proofs.lemmas.List.{get_or-map, length-map}
 use Rattle.std.proofs.lemmas.List.Elements.{All-from_get_or}
+use Rattle.named.proofs.Pairs.{zip_from}
 use Rattle.net_core.specs.Clashes.{Others}
 use Rattle.net_core.specs.Fits.{RanksFitWith}
 use Rattle.net_core.specs.Nets.{IsNet, PlainNet, points}
@@ -17,7 +18,6 @@ use Rattle.evidence_check.specs.Refusals.{cite_at, ranks_at}
 use Rattle.evidence_check.specs.Supported.{FitsOthers, IsSupported}
 use Rattle.evidence_check.proofs.Cites.{no_more}
 use Rattle.evidence_check.proofs.Soundness.{supported_is_true}
-use Rattle.evidence_check.proofs.Zipped.{zip_from}
 use Rattle.net_answers.specs.Showing.{ShowsClash}
 use Rattle.net_answers.proofs.Sizes.{clash_size}
 use Rattle.net_answers.proofs.StepNumbers.{walk_numbers}

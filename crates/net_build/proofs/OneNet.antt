@@ -1,8 +1,8 @@
 -- A document has one net.
 use Rattle.std.proofs.Common.{◌≡◌, sym, ◌∙◌}
+use Rattle.named.proofs.Pairs.{zip_one}
 use Rattle.net_core.specs.declared.bounds.Bounds.{Bounds}
 use Rattle.timex_dates.proofs.OneAnswers.{one_bounds}
-use Rattle.tml_refs.proofs.Lists.{zip_one}
 use Rattle.tml_refs.specs.Documents.{PlainInterval, instance, time}
 use Rattle.net_build.specs.Built.{IntervalBounds, OneNet}
 

@@ -2,6 +2,7 @@
 use Rattle.std.proofs.Common.{◌≡◌, ℕ, ◌+◌, ◌*◌, ◌<◌, ◌≤◌, Bool, true, false, List, [], ◌∷◌, ◌++◌, length, get_or, replicate, below_more, sym, ap, subst, ◌∙◌, arith}
 use Rattle.std.proofs.lemmas.List.{get_or-replicate, get_or_append_left, get_or_push}
 use Rattle.std.proofs.lemmas.List.Elements.{All-from_get_or, All-get_or}
+use Rattle.named.proofs.Pairs.{zip_from}
 use Rattle.net_core.specs.Atoms.{IsInRange, atoms_of, points_of}
 use Rattle.net_core.specs.Fits.{EveryLink, Fits, FitsWith}
 use Rattle.net_core.specs.Nets.{IsNet, PlainNet, points}
@@ -18,7 +19,6 @@ use Rattle.net_core.specs.Entailment.{AlwaysHolds, AreIntervals, HasTimeline}
 use Rattle.evidence_check.specs.Refusals.{Proves, atom_at, walk_at}
 use Rattle.evidence_check.specs.Supported.{IsProof, IsSupported}
 use Rattle.evidence_check.proofs.Soundness.{supported_is_true}
-use Rattle.evidence_check.proofs.Zipped.{zip_from}
 use Rattle.evidence_format.specs.Evidence.{AreSteps, IsText, IsWellFormed, entails}
 use Rattle.order_answers.specs.Ask.{AreWalks, ShowsProof}
 use Rattle.net_answers.proofs.StepNumbers.{walk_numbers}

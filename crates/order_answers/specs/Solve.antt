@@ -5,7 +5,7 @@ use Rattle.evidence_format.specs.Evidence.{IsText, timeline}
 use Rattle.net_answers.specs.Nets.{NetAnswers, of_net}
 use Rattle.net_answers.specs.Showing.{ShowsEvidence}
 use Rattle.net_core.specs.Limits.{max_printed}
-use Rattle.net_core.specs.Nets.{PlainNet, points}
+use Rattle.net_core.specs.Nets.{PlainNet}
 use Rattle.net_core.specs.Ranks.{pairs_of, timeline_of}
 use Rattle.order_closure.specs.Tables.{Keeps, Table}
 use Rattle.net_core.specs.Least.{AreLeastRanks, IsLeast}

@@ -5,13 +5,14 @@ use Rattle.std.specs.List.{filter}
 use Rattle.std.proofs.lemmas.List.{map-append}
 use Rattle.tml_span.specs.Units.{Kind, comment, text, start_tag, end_tag, PlainUnit}
 use Rattle.tml_span.specs.Written.{BeginsWithText, NoTextsMeet}
+use Rattle.tml_span.proofs.TextsApart.{kind_of}
 use Rattle.tml_tree.specs.Plain.{unit, PlainNode, PlainNodes, text_node, comment_node, element, none, more, nodes_of}
 use Rattle.tml_tree.specs.Nesting.{Item, Items, is_content, is_element}
 use Rattle.tml_tree.specs.Whole.{IsTreeOf}
 use Rattle.tml_tree.specs.Written.{kinds_of, all_kinds, MayBeRoot, root_kinds}
+use Rattle.tml_tree.proofs.AfterTag.{after_tag, apart_after_tag}
 use Rattle.tml_tree.proofs.Running.{open_runs}
 use Rattle.tml_canon.specs.Canonical.{canonical, canonical_attributes, canonical_nodes}
-use Rattle.tml_canon.proofs.ApartUnits.{kind_of, after_tag, apart_after_tag}
 use Rattle.tml_canon.proofs.Standing.{stands}
 
 -- where no two texts meet among some kinds none do among others, and these begin with a text only where those do

@@ -1,36 +1,22 @@
 -- What is in the canonical text of the tree of a source: units that can be written, in UTF-8.
-use Rattle.std.proofs.Common.{◌≡◌, inl, inr, ℕ, Bool, true, false, cond, List, [], ◌∷◌, ◌++◌, map, refl, sym, subst}
+use Rattle.std.proofs.Common.{◌≡◌, inl, inr, ℕ, true, false, cond, List, [], ◌∷◌, ◌++◌, map, refl, sym, subst}
 use Rattle.std.specs.Prelude.{codes, IsUtf8, ⊤}
 use Rattle.std.specs.List.{All, AllByRecursion, filter, flat_map}
 use Rattle.std.proofs.lemmas.List.Elements.{All-from_recursion}
 use Rattle.std.proofs.lemmas.Str.{IsUtf8-append, IsUtf8-nil}
+use Rattle.named.proofs.Lists.{each_joined, each_kept, each_parts}
+use Rattle.tml_span.specs.Pieces.{IsGoodAttribute, IsGoodKind, IsGoodTag, IsGoodUnit}
 use Rattle.tml_span.specs.Units.{Attribute, Kind, PlainUnit, comment, empty_tag, end_tag, start_tag, text}
 use Rattle.tml_span.specs.Written.{IsAttribute, IsContent, IsTag, attribute_text, kind_text, written}
+use Rattle.tml_span.proofs.Pieces.{units_are_good}
+use Rattle.tml_span.proofs.Utf8.{ascii_utf8, three_utf8}
 use Rattle.tml_tree.specs.Nesting.{Item, Items, is_content, is_element}
 use Rattle.tml_tree.specs.Plain.{PlainNode, PlainNodes, comment_node, element, more, nodes_of, none, text_node}
 use Rattle.tml_tree.specs.Whole.{IsTreeOf}
 use Rattle.tml_tree.specs.Written.{all_kinds, kinds_of, root_kinds}
-use Rattle.tml_canon.specs.Canonical.{canonical, canonical_attribute, canonical_attributes, canonical_nodes, canonical_text, in_order, is_after, placed}
+use Rattle.tml_canon.specs.Canonical.{canonical, canonical_attribute, canonical_attributes, canonical_nodes, canonical_text, in_order}
+use Rattle.tml_canon.proofs.Ordered.{all_in_order}
 use Rattle.tml_canon.proofs.Quoting.{no_references, quoted_references, quoted_utf8, quoted_value}
-use Rattle.tml_canon.proofs.SourceUnits.{IsGoodAttribute, IsGoodKind, IsGoodTag, IsGoodUnit, units_are_good}
-use Rattle.tml_canon.proofs.Utf8.{ascii_utf8, three_utf8}
-
--- ---- lists
-
--- what holds of each element of two lists that are joined holds of those of the first and of those of the second
-all_parts : {A : Type 0} (P : A → Type 0) (xs ys : List A) → AllByRecursion P (xs ++ ys) → AllByRecursion P xs × AllByRecursion P ys
-all_parts P [] ys h = (tt, h)
-all_parts P (x ∷ xs) ys h = let rest = all_parts P xs ys h.1 in ((h.0, rest.0), rest.1)
-
--- and the other way round
-all_joined : {A : Type 0} (P : A → Type 0) (xs ys : List A) → AllByRecursion P xs → AllByRecursion P ys → AllByRecursion P (xs ++ ys)
-all_joined P [] ys h k = k
-all_joined P (x ∷ xs) ys h k = (h.0, all_joined P xs ys h.1 k)
-
--- it holds of each element that a filter keeps
-all_kept : {A : Type 0} (P : A → Type 0) (p : A → Bool) (xs : List A) → AllByRecursion P xs → AllByRecursion P (filter p xs)
-all_kept P p [] h = tt
-all_kept P p (x ∷ xs) h = elim (p x) as (λ b. AllByRecursion P (cond b (x ∷ filter p xs) (filter p xs))) [ true ↦ (h.0, all_kept P p xs h.1) | false ↦ all_kept P p xs h.1 ]
 
 -- ---- nodes of a source
 
@@ -55,14 +41,14 @@ mutual
       (here, subst (λ (ns : PlainNodes). AreGoodNodes ns) (sym i.0) tt)
   item_is_good (element start end name attrs children) us (inr i) h =
       let all = subst (λ (vs : List PlainUnit). AllByRecursion IsGoodUnit vs) i.3 h in
-      let inner = all_parts IsGoodUnit i.0 _ all.1 in
+      let inner = each_parts IsGoodUnit i.0 _ all.1 in
       (all.0, items_are_good children i.0 i.4 inner.0)
 
   -- nodes of good units are good
   items_are_good : (ns : PlainNodes) (us : List PlainUnit) → Items ns us → AllByRecursion IsGoodUnit us → AreGoodNodes ns
   items_are_good none us i h = tt
   items_are_good (more n ns) us i h =
-      let all = all_parts IsGoodUnit i.0 i.1 (subst (λ (vs : List PlainUnit). AllByRecursion IsGoodUnit vs) i.2 h) in
+      let all = each_parts IsGoodUnit i.0 i.1 (subst (λ (vs : List PlainUnit). AllByRecursion IsGoodUnit vs) i.2 h) in
       (item_is_good n i.0 i.3 all.0, items_are_good ns i.1 i.4 all.1)
 
 -- an element among good nodes is good
@@ -77,20 +63,10 @@ among_good (n ∷ nodes) root rest e h =
 -- the root of a source is good
 root_is_good : (source : List ℕ) (root : PlainNode) → IsTreeOf source root → IsGoodNode root
 root_is_good source root t =
-    let units = units_are_good 0 source t.0 [] t.1.1 t.1.0 t.1.2 in
-    among_good t.2.1.0 root [] t.2.1.2 (items_are_good (nodes_of t.2.1.0) (filter is_content t.0) t.2.1.1 (all_kept IsGoodUnit is_content t.0 units))
+    let units = units_are_good source t.0 t.1 in
+    among_good t.2.1.0 root [] t.2.1.2 (items_are_good (nodes_of t.2.1.0) (filter is_content t.0) t.2.1.1 (each_kept IsGoodUnit is_content t.0 units))
 
 -- ---- canonical attributes
-
--- what holds of an attribute and of each of some others holds of each where the one is put in its place among them
-placed_all : (P : Attribute → Type 0) (a : Attribute) (attrs : List Attribute) → P a → AllByRecursion P attrs → AllByRecursion P (placed a attrs)
-placed_all P a [] h k = (h, tt)
-placed_all P a (b ∷ attrs) h k = elim (is_after a b) as (λ t. AllByRecursion P (cond t (b ∷ placed a attrs) (a ∷ b ∷ attrs))) [ true ↦ (k.0, placed_all P a attrs h k.1) | false ↦ (h, k) ]
-
--- what holds of each of some attributes holds of each of them in the order of their names
-in_order_all : (P : Attribute → Type 0) (attrs : List Attribute) → AllByRecursion P attrs → AllByRecursion P (in_order attrs)
-in_order_all P [] h = tt
-in_order_all P (a ∷ attrs) h = placed_all P a (in_order attrs) h.0 (in_order_all P attrs h.1)
 
 -- an attribute that can be written, in UTF-8
 abbrev IsReady : Attribute → Type 0
@@ -110,7 +86,7 @@ each_ready (a ∷ attrs) h = (attribute_ready a h.0, each_ready attrs h.1)
 
 -- the attributes of a canonical tag can be written and are UTF-8
 attributes_ready : (attrs : List Attribute) → AllByRecursion IsGoodAttribute attrs → AllByRecursion IsReady (canonical_attributes attrs)
-attributes_ready attrs h = each_ready (in_order attrs) (in_order_all IsGoodAttribute attrs h)
+attributes_ready attrs h = each_ready (in_order attrs) (all_in_order IsGoodAttribute attrs h)
 
 -- ---- canonical units
 
@@ -149,12 +125,12 @@ mutual
   node_ready (text_node start end bytes) h = (h, tt)
   node_ready (comment_node start end bytes) h = (h, tt)
   node_ready (element start end name attrs none) h = (empty_ready name attrs h.0, tt)
-  node_ready (element start end name attrs (more n ns)) h = (start_ready name attrs h.0, all_joined IsReadyKind (all_kinds (canonical_nodes (more n ns))) (end_tag name ∷ []) (nodes_ready (more n ns) h.1) (end_ready name attrs h.0, tt))
+  node_ready (element start end name attrs (more n ns)) h = (start_ready name attrs h.0, each_joined IsReadyKind (all_kinds (canonical_nodes (more n ns))) (end_tag name ∷ []) (nodes_ready (more n ns) h.1) (end_ready name attrs h.0, tt))
 
   -- the units of canonical nodes can be written where the nodes are good
   nodes_ready : (ns : PlainNodes) → AreGoodNodes ns → AllByRecursion IsReadyKind (all_kinds (canonical_nodes ns))
   nodes_ready none h = tt
-  nodes_ready (more n ns) h = all_joined IsReadyKind (kinds_of (canonical n)) (all_kinds (canonical_nodes ns)) (node_ready n h.0) (nodes_ready ns h.1)
+  nodes_ready (more n ns) h = each_joined IsReadyKind (kinds_of (canonical n)) (all_kinds (canonical_nodes ns)) (node_ready n h.0) (nodes_ready ns h.1)
 
 -- ---- the canonical text
 
@@ -164,7 +140,7 @@ line_feed_ready = ((λ e. absurd cc, refl, no_references (codes "\n") refl), asc
 
 -- the units of the canonical tree of a source can be written, and each is UTF-8
 kinds_ready : (source : List ℕ) (root : PlainNode) → IsTreeOf source root → AllByRecursion IsReadyKind (root_kinds (canonical root))
-kinds_ready source root t = all_joined IsReadyKind (kinds_of (canonical root)) (text (codes "\n") ∷ []) (node_ready root (root_is_good source root t)) (line_feed_ready, tt)
+kinds_ready source root t = each_joined IsReadyKind (kinds_of (canonical root)) (text (codes "\n") ∷ []) (node_ready root (root_is_good source root t)) (line_feed_ready, tt)
 
 -- units that can be written, in UTF-8, make UTF-8 together
 ready_content : (kinds : List Kind) → AllByRecursion IsReadyKind kinds → AllByRecursion IsContent kinds × IsUtf8 (written kinds)

@@ -1,6 +1,7 @@
 -- Quoting changes no value that has to be of a form, and makes none be of another one.
 use Rattle.std.proofs.Common.{◌≡◌, not, ℕ, Bool, true, false, List, refl, sym, ap, subst, Option, Some, None, option_map, rules}
 use Rattle.std.specs.List.{list_all}
+use Rattle.std.proofs.lemmas.Bool.Decides.{same_from_decides}
 use Rattle.std.proofs.lemmas.Bool.{and_parts, not-false}
 use Rattle.net_core.specs.Rels.{all_rels, rel_text}
 use Rattle.timex_value.specs.Kinds.{all_kinds, all_modifiers, kind_text, modifier_text}
@@ -34,17 +35,12 @@ form_from_dash form.relation text n h = named_from_dash rel_text all_rels (λ v.
 form_from_dash form.aspect_relation text n h = named_from_dash listed.aspect_rel_text listed.all_aspect_rels (λ v. search rules) text h
 form_from_dash form.sub_relation text n h = named_from_dash listed.sub_rel_text listed.all_sub_rels (λ v. search rules) text h
 
--- two tests that pass together are one
-one_test : (p q : Bool) → (p ≡ true → q ≡ true) → (q ≡ true → p ≡ true) → p ≡ q
-one_test true q h k = sym (h refl)
-one_test false true h k = k refl
-one_test false false h k = refl
-
 -- a quoted text is of a form where the text is, but where any text will do
 one_form : (f : ValueForm) (text : List ℕ) → is_any f ≡ false → is_of_form f (quoted text) ≡ is_of_form f text
-one_form f text n = one_test (is_of_form f (quoted text)) (is_of_form f text)
-    (λ h. subst (λ (t : List ℕ). is_of_form f t ≡ true) (unchanged_before text (form_from_dash f (quoted text) n h)) h)
-    (λ h. subst (λ (t : List ℕ). is_of_form f t ≡ true) (sym (unchanged text (form_from_dash f text n h))) h)
+one_form f text n = same_from_decides (is_of_form f (quoted text)) (is_of_form f text) (
+  λ h. subst (λ (t : List ℕ). is_of_form f t ≡ true) (unchanged_before text (form_from_dash f (quoted text) n h)) h,
+  λ h. subst (λ (t : List ℕ). is_of_form f t ≡ true) (sym (unchanged text (form_from_dash f text n h))) h,
+) (λ e. e, λ e. e)
 
 -- the same of all forms
 form_quoted : (f : ValueForm) (text : List ℕ) → is_of_form f (quoted text) ≡ is_of_form f text

@@ -1,10 +1,6 @@
-pub mod Allowed
 pub mod Apart
-pub mod ApartUnits
 pub mod Standing
-pub mod Utf8
 pub mod Quoting
-pub mod SourceUnits
 pub mod Content
 pub mod CanonicalTrees
 pub mod Quoted

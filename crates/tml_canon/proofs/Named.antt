@@ -4,10 +4,10 @@ use Rattle.std.specs.Prelude.{codes}
 use Rattle.std.specs.Ordering.{is_gt, nat_cmp}
 use Rattle.std.specs.Str.{bytes_eq}
 use Rattle.std.proofs.lemmas.Bool.{both_ways}
-use Rattle.std.proofs.lemmas.Bool.Decides.{Decides-like, same_from_decides}
-use Rattle.std.proofs.lemmas.Cmp.{nat_list_cmp_total, tied_itself}
+use Rattle.std.proofs.lemmas.Cmp.{nat_list_cmp_total, tied_itself, nat_list_eq_equiv}
 use Rattle.std.proofs.lemmas.Slice.Eq.{bytes_eq-Decides}
 use Rattle.std.specs.Cmp.Lexicographic.{slice_cmp}
+use Rattle.named.proofs.Lists.{or_swapped}
 use Rattle.tml_span.specs.Units.{Attribute}
 use Rattle.tml_span.specs.Written.{attribute_text, attributes_at, double_quote, tag_attributes}
 use Rattle.tml_types.specs.Rules.{has_name, is_repeated}
@@ -103,25 +103,14 @@ has_placed name a (b ∷ attrs) = elim (is_after a b) as (λ e. has_name name (c
   | false ↦ refl
 ]
 
--- of two names the one is the other where the other is the one
-same_back : (m n : List ℕ) → bytes_eq m n ≡ bytes_eq n m
-same_back m n = same_from_decides (bytes_eq m n) (bytes_eq n m) (bytes_eq-Decides m n) (Decides-like (bytes_eq n m) sym sym (bytes_eq-Decides n m))
-
--- four tests, of which the middle ones are swapped
-swapped : (p q r s : Bool) → ((p || q) || (r || s)) ≡ ((p || r) || (q || s))
-swapped true q r s = refl
-swapped false true true s = refl
-swapped false true false s = refl
-swapped false false r s = refl
-
 -- where an attribute stands matters to no repetition
 repeated_placed : (a : Attribute) (attrs : List Attribute) → is_repeated (placed a attrs) ≡ is_repeated (a ∷ attrs)
 repeated_placed a [] = refl
 repeated_placed a (b ∷ attrs) = elim (is_after a b) as (λ e. is_repeated (cond e (b ∷ placed a attrs) (a ∷ b ∷ attrs)) ≡ is_repeated (a ∷ b ∷ attrs)) [
   | true ↦
       (λ i. has_placed b.name a attrs i || repeated_placed a attrs i)
-      ∙ swapped (bytes_eq a.name b.name) (has_name b.name attrs) (has_name a.name attrs) (is_repeated attrs)
-      ∙ ap (λ (c : Bool). (c || has_name a.name attrs) || (has_name b.name attrs || is_repeated attrs)) (same_back a.name b.name)
+      ∙ or_swapped (bytes_eq a.name b.name) (has_name b.name attrs) (has_name a.name attrs) (is_repeated attrs)
+      ∙ ap (λ (c : Bool). (c || has_name a.name attrs) || (has_name b.name attrs || is_repeated attrs)) (nat_list_eq_equiv.symm a.name b.name)
   | false ↦ refl
 ]
 

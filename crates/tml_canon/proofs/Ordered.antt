@@ -1,6 +1,7 @@
 -- Attributes in the order of their names.
 use Rattle.std.proofs.Common.{◌≡◌, ℕ, ◌+◌, Bool, true, false, cond, List, [], ◌∷◌, length, map, count_by, Ordering, Less, Equal, Greater, is_eq, is_gt, nat_cmp, bytes_eq, refl, sym, ap, ◌∙◌, arith}
 use Rattle.std.specs.Cmp.Lexicographic.{slice_cmp}
+use Rattle.std.specs.List.{AllByRecursion}
 use Rattle.std.specs.Ordering.{ordering_reverse}
 use Rattle.std.proofs.lemmas.Bool.{cond_both, cond-false}
 use Rattle.std.proofs.lemmas.Cmp.{nat_list_cmp_total}
@@ -64,6 +65,18 @@ pub different_after : (a b : Attribute) → is_after a b ≡ true → bytes_eq b
 different_after a b e = sym (is_eq-slice_cmp b.name a.name) ∙ ap is_eq (less a b e)
 
 -- ---- attributes in order
+
+-- what holds of some attributes and of one more holds of all with that one in its place
+pub all_placed : (P : Attribute → Type 0) (a : Attribute) (attrs : List Attribute) → P a → AllByRecursion P attrs → AllByRecursion P (placed a attrs)
+all_placed P a [] h all = (h, tt)
+all_placed P a (b ∷ attrs) h all = cond_both (is_after a b) (b ∷ placed a attrs) (a ∷ b ∷ attrs) (AllByRecursion P)
+    (λ e. (all.0, all_placed P a attrs h all.1))
+    (λ e. (h, all))
+
+-- what holds of attributes holds of them in order
+pub all_in_order : (P : Attribute → Type 0) (attrs : List Attribute) → AllByRecursion P attrs → AllByRecursion P (in_order attrs)
+all_in_order P [] all = tt
+all_in_order P (a ∷ attrs) all = all_placed P a (in_order attrs) all.0 (all_in_order P attrs all.1)
 
 -- an attribute comes after none that follows it at once
 abbrev MayPrecede : Attribute → List Attribute → Type 0

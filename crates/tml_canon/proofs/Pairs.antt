@@ -4,13 +4,6 @@ use Rattle.std.specs.List.{All, AllZip, cons_option, count_by, filter, filter_ma
 use Rattle.std.proofs.lemmas.List.Elements.{All-cons, All-head, All-nil, All-tail}
 use Rattle.std.proofs.lemmas.List.Sums.{sum_by-cons}
 
--- pairs of elements that agree, after others that do
-pub pairs_append : {A B : Type 0} (R : A → B → Type 0) (xs others : List A) (ys more : List B) → AllZip R xs ys → AllZip R others more → AllZip R (xs ++ others) (ys ++ more)
-pairs_append R [] others [] more h k = k
-pairs_append R [] others (y ∷ ys) more h k = absurd h
-pairs_append R (x ∷ xs) others [] more h k = absurd h
-pairs_append R (x ∷ xs) others (y ∷ ys) more h k = (h.0, pairs_append R xs others ys more h.1 k)
-
 -- what holds of each element holds of those that agree with them
 pub pairs_all : {A B : Type 0} (R : A → B → Type 0) (P : A → Type 0) (Q : B → Type 0) → ((x : A) (y : B) → R x y → P x → Q y) → (xs : List A) (ys : List B) → AllZip R xs ys → All P xs → All Q ys
 pairs_all R P Q w [] [] h k = All-nil Q

@@ -8,11 +8,12 @@ use Rattle.std.proofs.lemmas.List.{append-nil}
 use Rattle.std.proofs.lemmas.List.Concat.{flat_map-append}
 use Rattle.std.proofs.lemmas.List.Elements.{All-contains, All-from_recursion}
 use Rattle.std.proofs.lemmas.Str.{IsUtf8-append}
+use Rattle.named.proofs.Lists.{all_append, all_weaker}
 use Rattle.tml_span.specs.Bytes.{is_digit, is_hex_digit, is_text_byte, is_value_byte}
 use Rattle.tml_span.specs.References.{named_references, IsReference, BeginsReference}
 use Rattle.tml_span.specs.Written.{double_quote, HasGoodReferences}
+use Rattle.tml_span.proofs.Utf8.{ascii_utf8, is_ascii, parted}
 use Rattle.tml_canon.specs.Canonical.{quoted, quoted_byte}
-use Rattle.tml_canon.proofs.Utf8.{all_append, all_weaker, ascii_utf8, is_ascii, parted}
 
 -- ---- bytes that are not changed
 

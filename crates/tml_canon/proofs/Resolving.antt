@@ -1,13 +1,13 @@
 -- What typed tags resolve to depends on what they say, and not on where they stand.
 use Rattle.std.proofs.Common.{◌≡◌, ℕ, ◌==◌, ◌&&◌, not, Bool, false, List, refl, sym, ap, subst, ◌∙◌, Option, Some, None}
 use Rattle.std.specs.List.{AllZip, count_by, filter, list_any}
+use Rattle.named.proofs.Lists.{any_agree}
 use Rattle.faults.specs.declared.kind.FaultKind.{FaultKind}
 use Rattle.faults.specs.declared.kind.FaultKind.TheVariants as kinds
 use Rattle.net_core.specs.Limits.{max_intervals, max_links}
 use Rattle.tml_refs.specs.declared.document.DocLink.{DocLink}
 use Rattle.tml_refs.specs.Documents.{IsLinkOf, PlainDocument, PlainInterval, Resolved, counts_of, intervals_of, interval_of}
 use Rattle.tml_refs.specs.Rules.{breaks, has_id, is_interval, is_target, is_tlink, is_unknown}
-use Rattle.tml_refs.proofs.Lists.{any_agree}
 use Rattle.tml_types.specs.declared.typed.TagKind.{TagKind}
 use Rattle.tml_types.specs.declared.typed.TagKind.TheVariants as kind
 use Rattle.tml_types.specs.Content.{Content, PlainTyped, Reference}

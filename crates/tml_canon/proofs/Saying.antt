@@ -2,6 +2,7 @@
 use Rattle.std.proofs.Common.{◌≡◌, ◌+◌, ℕ, List, [], ◌∷◌, length, refl, sym, ap, All}
 use Rattle.std.specs.List.{AllZip, filter}
 use Rattle.std.proofs.lemmas.List.Elements.{All-filter, All-head, All-tail}
+use Rattle.named.proofs.Pairs.{zip_append}
 use Rattle.tml_span.specs.Units.{Attribute, start_tag}
 use Rattle.tml_span.specs.Written.{kind_text, tag_attributes}
 use Rattle.tml_tree.specs.Plain.{PlainNode, PlainNodes, text_node, comment_node, element, none, more}
@@ -14,7 +15,7 @@ use Rattle.tml_types.specs.Whole.{has_rows}
 use Rattle.tml_canon.specs.Canonical.{canonical, canonical_nodes, canonical_attributes}
 use Rattle.tml_canon.specs.Laws.{CanonicalSaysTheSame, canonical_tree}
 use Rattle.tml_canon.proofs.Named.{canonical_are_quoted}
-use Rattle.tml_canon.proofs.Pairs.{pairs_all, pairs_append, pairs_filter}
+use Rattle.tml_canon.proofs.Pairs.{pairs_all, pairs_filter}
 use Rattle.tml_canon.proofs.Resolving.{SayOne, resolved_alike}
 use Rattle.tml_canon.proofs.Sound.{IsQuoted, sound_quoted, typed_quoted}
 
@@ -37,7 +38,7 @@ mutual
   nodes_quoted : (place : ℕ) (ns : PlainNodes) → AllZip IsQuoted (all_elements ns) (all_elements (nodes_at place (canonical_nodes ns)))
   nodes_quoted place none = tt
   nodes_quoted place (more n ns) =
-      pairs_append IsQuoted (elements n) (all_elements ns) (elements (node_at place (canonical n))) (all_elements (nodes_at (place + size_of (canonical n)) (canonical_nodes ns)))
+      zip_append IsQuoted (elements n) (all_elements ns) (elements (node_at place (canonical n))) (all_elements (nodes_at (place + size_of (canonical n)) (canonical_nodes ns)))
       (elements_quoted place n) (nodes_quoted (place + size_of (canonical n)) ns)
 
 -- ---- what they say

@@ -4,8 +4,10 @@ use Rattle.std.specs.Prelude.{◌&&◌, ⊤, if◌then◌else◌}
 use Rattle.std.specs.Cmp.{IsStrictWeakOrder}
 use Rattle.std.specs.List.{AllByRecursion, filter}
 use Rattle.std.specs.List.Sorted.{IsSortedBy, IsStableBy, ties}
+use Rattle.std.proofs.lemmas.Bool.{and_parts, not-true}
 use Rattle.std.proofs.lemmas.List.Elements.{recursion_from_All}
 use Rattle.std.proofs.lemmas.List.Sorted.{sorted_far}
+use Rattle.named.proofs.Lists.{each_kept, each_weaker}
 
 -- an element in its place among others, before those that tie with it
 abbrev pub inserted : {X : Type 0} → (X → X → Bool) → X → List X → List X
@@ -16,12 +18,6 @@ inserted lt a (b ∷ bs) = if lt b a then b ∷ inserted lt a bs else a ∷ b �
 abbrev pub ordered : {X : Type 0} → (X → X → Bool) → List X → List X
 ordered lt [] = []
 ordered lt (a ∷ bs) = inserted lt a (ordered lt bs)
-
--- where neither of two tests holds, both are false
-both_not : (b c : Bool) → not b && not c ≡ true → (b ≡ false) × (c ≡ false)
-both_not true c h = absurd cc
-both_not false true h = absurd cc
-both_not false false h = (refl, refl)
 
 -- two elements of which a filter keeps one at the most may change places
 exchanged : {X : Type 0} (p q : Bool) (a b : X) (rest : List X) → (p ≡ true → q ≡ true → ⊥) → cond q (b ∷ cond p (a ∷ rest) rest) (cond p (a ∷ rest) rest) ≡ cond p (a ∷ cond q (b ∷ rest) rest) (cond q (b ∷ rest) rest)
@@ -63,19 +59,11 @@ module _ {X : Type 0} (lt : X → X → Bool) where
 
     -- of elements that tie neither is below the other one
     not_below : (x y : X) → ties lt x y ≡ true → (lt x y ≡ false) × (lt y x ≡ false)
-    not_below x y h = both_not (lt x y) (lt y x) h
-
-    -- what a filter keeps of elements none of which is below one
-    none_below_kept : (a : X) (p : X → Bool) (bs : List X) → NoneBelow a bs → NoneBelow a (filter p bs)
-    none_below_kept a p [] h = tt
-    none_below_kept a p (b ∷ bs) h = elim (p b) as (λ c. NoneBelow a (cond c (b ∷ filter p bs) (filter p bs))) [
-      | true ↦ (h.0, none_below_kept a p bs h.1)
-      | false ↦ none_below_kept a p bs h.1
-    ]
+    not_below x y h = let parts = and_parts (not (lt x y)) (not (lt y x)) h in (not-true (lt x y) parts.0, not-true (lt y x) parts.1)
 
     -- an element that a filter of a list gives first is not below what none of the list is below
     first_not_below : (a x : X) (p : X → Bool) (rest bs : List X) → NoneBelow a bs → x ∷ rest ≡ filter p bs → lt x a ≡ false
-    first_not_below a x p rest bs h e = (subst (NoneBelow a) (sym e) (none_below_kept a p bs h)).0
+    first_not_below a x p rest bs h e = (subst (NoneBelow a) (sym e) (each_kept (λ (b : X). lt b a ≡ false) p bs h)).0
 
     -- a filter of what ties with an element keeps one that does
     kept_first : (x y : X) (ys : List X) → ties lt x y ≡ true → filter (ties lt x) (y ∷ ys) ≡ y ∷ filter (ties lt x) ys
@@ -114,8 +102,7 @@ module _ {X : Type 0} (lt : X → X → Bool) where
 
     -- where none is below an element, none is below one that it is not below
     none_below_after : (a b : X) (bs : List X) → lt b a ≡ false → NoneBelow b bs → NoneBelow a bs
-    none_below_after a b [] e h = tt
-    none_below_after a b (c ∷ bs) e h = (o.chain c b a h.0 e, none_below_after a b bs e h.1)
+    none_below_after a b bs e h = each_weaker (λ (c : X). lt c b ≡ false) (λ (c : X). lt c a ≡ false) (λ c below. o.chain c b a below e) bs h
 
     -- an insertion of what is not below an element puts none below it
     none_below_inserted : (a b : X) (bs : List X) → lt a b ≡ false → NoneBelow b bs → NoneBelow b (inserted lt a bs)

@@ -2,9 +2,9 @@
 use Rattle.std.proofs.Common.{◌≡◌, ◌&&◌, ◌||◌, not, ℕ, Bool, true, false, List, [], ◌∷◌, codes, refl, sym, ap, subst, ◌∙◌, inl, inr, Option}
 use Rattle.std.specs.List.{AllByRecursion, list_any}
 use Rattle.std.proofs.lemmas.Bool.{false_from_ne_true, or_parts}
+use Rattle.named.proofs.Lists.{any_agree}
 use Rattle.faults.specs.declared.kind.FaultKind.{FaultKind}
 use Rattle.faults.specs.declared.kind.FaultKind.TheVariants as kinds
-use Rattle.tml_refs.proofs.Lists.{any_agree}
 use Rattle.tml_span.specs.Units.{Attribute}
 use Rattle.tml_tree.specs.declared.tag_name.TagName.{TagName}
 use Rattle.tml_tree.specs.declared.tag_name.TagName.TheVariants as tag

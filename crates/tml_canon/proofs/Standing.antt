@@ -3,7 +3,7 @@ use Rattle.std.proofs.Common.{◌≡◌, ℕ, ◌+◌, ◌<◌, Bool, true, fals
 use Rattle.std.specs.Prelude.{codes, ⊤}
 use Rattle.std.specs.List.{filter, list_any, list_all}
 use Rattle.std.specs.Str.{bytes_eq}
-use Rattle.std.proofs.lemmas.Bool.{not-false, or_parts, and_from, both_ways}
+use Rattle.std.proofs.lemmas.Bool.{not-false, or_parts, and_from, both_ways, and_parts}
 use Rattle.std.proofs.lemmas.Bool.Decides.{nat_tests}
 use Rattle.std.proofs.lemmas.List.{length-map}
 use Rattle.std.proofs.lemmas.Option.{same_Some}
@@ -20,10 +20,9 @@ use Rattle.tml_tree.specs.TagNames.{is_known, is_link, is_root}
 use Rattle.tml_tree.specs.Trees.{Breaks}
 use Rattle.tml_tree.specs.Whole.{IsTreeOf}
 use Rattle.tml_tree.specs.Written.{may_be_in_link, all_may_be_in_link, MayStand, AllMayStand, MayBeRoot}
-use Rattle.tml_span.proofs.Runs.{both}
+use Rattle.tml_tree.proofs.Allowed.{not_at_fault, tagged_is_seen}
 use Rattle.tml_tree.proofs.Running.{then_some, opens_step, open_runs}
 use Rattle.tml_canon.specs.Canonical.{canonical, canonical_nodes}
-use Rattle.tml_canon.proofs.Allowed.{not_at_fault, tagged_is_seen}
 
 -- ---- where tags and nodes may be
 
@@ -63,7 +62,7 @@ all_stand_more depth (n ∷ nodes) node h f = (h.0, all_stand_more depth nodes n
 in_link_more : (nodes : List PlainNode) (node : PlainNode) → all_may_be_in_link (nodes_of nodes) ≡ true → may_be_in_link node ≡ true → all_may_be_in_link (nodes_of (nodes ++ node ∷ [])) ≡ true
 in_link_more [] node h f = ap (λ (b : Bool). b && true) f
 in_link_more (n ∷ nodes) node h f =
-    let parts = both (may_be_in_link n) (all_may_be_in_link (nodes_of nodes)) h in
+    let parts = and_parts (may_be_in_link n) (all_may_be_in_link (nodes_of nodes)) h in
     and_from (may_be_in_link n) (all_may_be_in_link (nodes_of (nodes ++ node ∷ []))) parts.0 (in_link_more nodes node parts.1 f)
 
 -- one more node that may stand there

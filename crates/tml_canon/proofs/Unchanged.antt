@@ -5,7 +5,7 @@ use Rattle.std.specs.List.{list_all}
 use Rattle.std.specs.Option.{is_some}
 use Rattle.std.proofs.lemmas.Bool.{and_from, and_parts}
 use Rattle.std.proofs.lemmas.Bool.Decides.{nat_tests}
-use Rattle.std.proofs.lemmas.List.Folds.{list_all-append}
+use Rattle.named.proofs.Lists.{all_weaker, all_append}
 use Rattle.named.specs.Texts.{named_of}
 use Rattle.named.proofs.Tables.{found_has}
 use Rattle.tml_span.specs.Written.{double_quote}
@@ -22,7 +22,7 @@ are_from_dash text = list_all is_from_dash text
 
 -- two texts of such bytes make one
 pub both_from_dash : (xs ys : List ℕ) → are_from_dash xs ≡ true → are_from_dash ys ≡ true → are_from_dash (xs ++ ys) ≡ true
-both_from_dash xs ys h k = list_all-append is_from_dash xs ys ∙ and_from (are_from_dash xs) (are_from_dash ys) h k
+both_from_dash xs ys h k = all_append is_from_dash xs ys h k
 
 -- such a byte is no `"`
 byte_unchanged : (b : ℕ) → is_from_dash b ≡ true → (b == double_quote) ≡ false
@@ -50,11 +50,6 @@ unchanged_before text h = unchanged text (from_dash_before text h)
 -- each byte of an identifier is such
 identifier_byte : (b : ℕ) → is_id_byte b ≡ true → is_from_dash b ≡ true
 identifier_byte b h = grind (arith, nat_tests)
-
--- bytes that all pass one test pass one that asks for less
-all_weaker : (p q : ℕ → Bool) → ((b : ℕ) → p b ≡ true → q b ≡ true) → (text : List ℕ) → list_all p text ≡ true → list_all q text ≡ true
-all_weaker p q w [] h = refl
-all_weaker p q w (b ∷ text) h = let parts = and_parts (p b) (list_all p text) h in and_from (q b) (list_all q text) (w b parts.0) (all_weaker p q w text parts.1)
 
 -- so an identifier is of such bytes
 pub identifier_from_dash : (text : List ℕ) → list_all is_id_byte text ≡ true → are_from_dash text ≡ true

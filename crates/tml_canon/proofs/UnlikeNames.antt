@@ -4,12 +4,13 @@ use Rattle.std.specs.List.{AllByRecursion}
 use Rattle.std.proofs.lemmas.Bool.{and_from, and_left, and_parts, both_ways, cases_Bool, cond_both, or_parts}
 use Rattle.std.proofs.lemmas.Cmp.{nat_list_eq_equiv}
 use Rattle.std.proofs.lemmas.Slice.Eq.{bytes_eq-Decides}
+use Rattle.named.proofs.Lists.{each_weaker}
 use Rattle.tml_span.specs.Units.{Attribute}
 use Rattle.tml_span.specs.Written.{double_quote}
 use Rattle.tml_types.specs.Rules.{has_name, is_repeated}
 use Rattle.tml_canon.specs.Canonical.{canonical_attribute, canonical_attributes, in_order, is_after, placed, quoted}
 use Rattle.tml_canon.specs.Same.{SameAttributes, says}
-use Rattle.tml_canon.proofs.Ordered.{after_both, after_or_before, different_after, in_order_counts}
+use Rattle.tml_canon.proofs.Ordered.{all_in_order, all_placed, after_both, after_or_before, different_after, in_order_counts}
 use Rattle.tml_canon.proofs.Quoted.{count_first}
 
 -- ---- names that differ
@@ -29,18 +30,6 @@ all_differ a (b ∷ attrs) h =
     let parts = or_parts (bytes_eq b.name a.name) (has_name a.name attrs) h in
     (parts.0, all_differ a attrs parts.1)
 
--- what holds of some attributes and of one more holds of all with that one in its place
-all_placed : (P : Attribute → Type 0) (a : Attribute) (attrs : List Attribute) → P a → AllByRecursion P attrs → AllByRecursion P (placed a attrs)
-all_placed P a [] h all = (h, tt)
-all_placed P a (b ∷ attrs) h all = cond_both (is_after a b) (b ∷ placed a attrs) (a ∷ b ∷ attrs) (AllByRecursion P)
-    (λ e. (all.0, all_placed P a attrs h all.1))
-    (λ e. (h, all))
-
--- what holds of attributes holds of them in order
-all_in_order : (P : Attribute → Type 0) (attrs : List Attribute) → AllByRecursion P attrs → AllByRecursion P (in_order attrs)
-all_in_order P [] all = tt
-all_in_order P (a ∷ attrs) all = all_placed P a (in_order attrs) all.0 (all_in_order P attrs all.1)
-
 -- ---- attributes each of which comes after all before it
 
 -- the second attribute comes after the first
@@ -54,8 +43,7 @@ AreApart (a ∷ attrs) = AllByRecursion (ComesAfter a) attrs × AreApart attrs
 
 -- what comes after an attribute comes after all that this comes after
 all_after_both : (a b : Attribute) (attrs : List Attribute) → is_after b a ≡ true → AllByRecursion (ComesAfter b) attrs → AllByRecursion (ComesAfter a) attrs
-all_after_both a b [] e all = tt
-all_after_both a b (c ∷ attrs) e all = (after_both c b a all.0 e, all_after_both a b attrs e all.1)
+all_after_both a b attrs e all = each_weaker (ComesAfter b) (ComesAfter a) (λ c after. after_both c b a after e) attrs all
 
 -- what comes before the first of attributes that are apart is apart from all
 first_apart : (a b : Attribute) (attrs : List Attribute) → is_after b a ≡ true → AreApart (b ∷ attrs) → AreApart (a ∷ b ∷ attrs)

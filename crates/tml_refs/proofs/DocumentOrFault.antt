@@ -4,6 +4,7 @@ use Rattle.std.proofs.Common.{◌≡◌, inl, inr, ℕ, true, false, List, get_o
 use Rattle.std.specs.List.{All, AllZip, filter, list_any}
 use Rattle.std.proofs.lemmas.Bool.{false_from_ne_true, not-false, or_parts}
 use Rattle.std.proofs.lemmas.List.Elements.{All-filter, filter_passes}
+use Rattle.named.proofs.Pairs.{partners}
 use Rattle.faults.specs.declared.kind.FaultKind.TheVariants as kinds
 use Rattle.faults.specs.First.{NoneBreaks}
 use Rattle.faults.specs.Kinds.{number_of, all_kinds}
@@ -18,7 +19,6 @@ use Rattle.tml_types.specs.Places.{place_of}
 use Rattle.tml_types.specs.References.{is_of_kind, references_of}
 use Rattle.tml_types.specs.Typing.{EndOf, HasFields, TypedAs}
 use Rattle.tml_types.specs.Whole.{has_rows}
-use Rattle.tml_types.proofs.Walks.{partners}
 use Rattle.tml_refs.specs.declared.document.DocLink.{DocLink}
 use Rattle.tml_refs.specs.Answers.{AllAreResolved}
 use Rattle.tml_refs.specs.Documents.{IsLinkOf, RefersTo, counts_of, intervals_of}

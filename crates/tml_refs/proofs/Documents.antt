@@ -1,11 +1,12 @@
 -- A document without fault.
-use Rattle.std.proofs.Common.{◌≡◌, ◌≤◌, ◌<◌, ◌==◌, cond, ◌+◌, List, length, refl, sym, subst, ◌∙◌, arith, eq-eqb}
+use Rattle.std.proofs.Common.{◌≡◌, ◌≤◌, ◌<◌, ◌==◌, cond, ◌+◌, List, length, refl, subst, ◌∙◌, arith, eq-eqb}
 use Rattle.std.specs.List.{All, AllZip, count_by, cons_option, filter}
 use Rattle.std.proofs.lemmas.Bool.{and_from}
 use Rattle.std.proofs.lemmas.List.Elements.{All-weaker}
 use Rattle.std.proofs.lemmas.List.Recursion.{is_count_by}
 use Rattle.std.proofs.lemmas.List.Sums.{length-filter}
 use Rattle.std.proofs.lemmas.Option.{slice_get_within}
+use Rattle.std.proofs.lemmas.Slice.Zip.{AllZip-long}
 use Rattle.faults.specs.declared.kind.FaultKind.TheVariants.{TooManyIntervals, TooManyLinks}
 use Rattle.faults.specs.First.{NoneBreaks}
 use Rattle.net_core.specs.Limits.{max_intervals, max_links}
@@ -15,7 +16,7 @@ use Rattle.tml_refs.specs.declared.document.DocLink.{DocLink}
 use Rattle.tml_refs.specs.Documents.{IsDocument, IsLinkOf, PlainDocument, PlainInterval, Resolved, interval_of, intervals_of}
 use Rattle.tml_refs.specs.Gathering.{Gathers}
 use Rattle.tml_refs.specs.Rules.{Breaks, is_interval, is_tlink}
-use Rattle.tml_refs.proofs.Lists.{all_paired, few, zip_length}
+use Rattle.tml_refs.proofs.Lists.{all_paired, few}
 use Rattle.tml_refs.proofs.Locating.{distinct_names, with_content}
 
 -- ---- limits
@@ -33,7 +34,7 @@ pub count_intervals : (tags : List PlainTyped) → length (intervals_of tags) �
 count_intervals tags = is_count_by (λ (ts : List PlainTyped). length (intervals_of ts)) is_interval refl (λ tag ts. interval_counted tag (intervals_of ts)) tags
 
 pub count_links : (intervals : List PlainInterval) (tags : List PlainTyped) (doc : PlainDocument) → Gathers intervals tags doc → length doc.links ≡ count_by is_tlink tags
-count_links intervals tags doc g = sym (zip_length (IsLinkOf intervals) (filter is_tlink tags) doc.links g.links_are) ∙ length-filter is_tlink tags
+count_links intervals tags doc g = AllZip-long (IsLinkOf intervals) (filter is_tlink tags) doc.links g.links_are ∙ length-filter is_tlink tags
 
 -- ---- ends of links
 

@@ -1,10 +1,12 @@
 -- What the names of a document say of its tags.
-use Rattle.std.proofs.Common.{◌≡◌, ◌==◌, ℕ, Bool, true, false, not, List, ◌∷◌, ◌++◌, length, refl, sym, ap, subst, ◌∙◌, Option, Some, IsSome, eq-eqb, eqb-true}
+use Rattle.std.proofs.Common.{◌≡◌, ◌==◌, ℕ, true, not, List, ◌∷◌, ◌++◌, length, refl, sym, ap, subst, ◌∙◌, Option, Some, IsSome, eq-eqb, eqb-true}
 use Rattle.std.specs.List.{list_any, slice_get}
-use Rattle.std.proofs.lemmas.Bool.{and_from}
+use Rattle.std.proofs.lemmas.Bool.Decides.{same_from_decides}
+use Rattle.std.proofs.lemmas.Bool.{and_from, and_parts}
 use Rattle.std.proofs.lemmas.List.Elements.{All-contains}
 use Rattle.std.proofs.lemmas.List.Folds.{list_any_at}
 use Rattle.std.proofs.lemmas.Option.{same_Some}
+use Rattle.named.proofs.Lists.{any_agree}
 use Rattle.tml_types.specs.declared.typed.TagKind.{TagKind}
 use Rattle.tml_types.specs.declared.typed.TagKind.TheVariants as kind
 use Rattle.tml_types.specs.Content as content
@@ -17,9 +19,9 @@ use Rattle.tml_refs.specs.Documents.{IsLinkOf, PlainInterval, RefersTo, instance
 use Rattle.tml_refs.specs.Gathering.{IsLinkBy, has_unlisted}
 use Rattle.tml_refs.specs.NameIndex.{AreEntriesOf, HasNumber, HasIntervalNumber, IsEntryIn, IsEntryOf, IsIndexOf, IsOfIntervals, entry_name, is_for, is_listed, is_unlisted, rank_of}
 use Rattle.tml_refs.specs.Rules.{has_id, is_target, is_unknown}
-use Rattle.tml_refs.proofs.Lists.{any_agree, any_inside, filter_map_at, passes_at}
+use Rattle.tml_refs.proofs.Lists.{any_inside, filter_map_at, passes_at}
 use Rattle.tml_refs.proofs.Locating.{has_own_id, its_id, its_kind, its_own_id, located, with_content}
-use Rattle.tml_refs.proofs.Searches.{both_true, for_both, inside, is_for_both}
+use Rattle.tml_refs.proofs.Searches.{for_both, inside, is_for_both}
 
 -- ---- kinds
 
@@ -44,7 +46,7 @@ interval_kind k tag of = absurd of
 -- what a reference asks for is the interval of this number
 pub refers_at : (all : List PlainTyped) (r : Reference) (before after : List PlainTyped) (tag : PlainTyped) → all ≡ before ++ tag ∷ after → IsOfIntervals r.asked → is_target r tag ≡ true → RefersTo (intervals_of all) r (length (intervals_of before))
 refers_at all r before after tag whole of target =
-    let both = both_true (is_of_kind r.asked tag.content) (has_id r.name tag) target in
+    let both = and_parts (is_of_kind r.asked tag.content) (has_id r.name tag) target in
     let v = interval_kind r.asked tag of both.0 in
     record {
       interval = v.0;
@@ -64,18 +66,13 @@ target_by before tag e r its h =
 
 for_by : (before : List PlainTyped) (tag : PlainTyped) (e : Entry) (r : Reference) → IsEntryOf before tag e → is_target r tag ≡ true → is_for r e ≡ true
 for_by before tag e r its h =
-    let both = both_true (is_of_kind r.asked tag.content) (has_id r.name tag) h in
+    let both = and_parts (is_of_kind r.asked tag.content) (has_id r.name tag) h in
     is_for_both r e
     (its.rank ∙ eqb-true (rank_of (references.kind_of tag.content)) (rank_of r.asked) (sym (kind_rank r.asked tag.content) ∙ both.0))
     (same_Some r.name (entry_name e) (sym (its_own_id tag r.name both.1) ∙ its.name))
 
 pub some_from : {A : Type 0} (o : Option A) (x : A) → o ≡ Some x → IsSome o
 some_from {A} o x e = subst (λ (p : Option A). IsSome p) (sym e) refl
-
-same_tests : (a b : Bool) → (a ≡ true → b ≡ true) → (b ≡ true → a ≡ true) → a ≡ b
-same_tests true b h k = sym (h refl)
-same_tests false true h k = k refl
-same_tests false false h k = refl
 
 module _ (all : List PlainTyped) (names : List Entry) (known : AreEntriesOf all names) where
   -- ---- what is unknown
@@ -89,13 +86,13 @@ module _ (all : List PlainTyped) (names : List Entry) (known : AreEntriesOf all 
   target_listed : (r : Reference) → list_any (is_target r) all ≡ true → is_listed names r ≡ true
   target_listed r h =
       let p = passes_at (is_target r) all h in
-      let both = both_true (is_of_kind r.asked p.element.content) (has_id r.name p.element) p.passes in
+      let both = and_parts (is_of_kind r.asked p.element.content) (has_id r.name p.element) p.passes in
       let e = known.each p.before p.after p.element p.whole (some_from (id_of p.element.content) r.name (its_own_id p.element r.name both.1)) in
       let stands = e.1 in
       list_any_at (is_for r) names stands.0 e.0 stands.1 (ap (is_for r) stands.2 ∙ for_by p.before p.element e.0 r e.2 p.passes)
 
   unlisted_unknown : (r : Reference) → is_unlisted names r ≡ is_unknown all r
-  unlisted_unknown r = ap not (same_tests (is_listed names r) (list_any (is_target r) all) (listed_target r) (target_listed r))
+  unlisted_unknown r = ap not (same_from_decides (is_listed names r) (list_any (is_target r) all) (listed_target r, target_listed r) (λ e. e, λ e. e))
 
   pub unknown_by_names : (tag : PlainTyped) → has_unlisted names tag ≡ list_any (is_unknown all) (references_of tag.content)
   unknown_by_names tag = any_agree (is_unlisted names) (is_unknown all) unlisted_unknown (references_of tag.content)

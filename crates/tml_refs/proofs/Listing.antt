@@ -8,7 +8,8 @@ use Rattle.std.specs.Result.{is_err, is_ok}
 use Rattle.std.proofs.lemmas.List.{length-map, map-append, take_more}
 use Rattle.std.proofs.lemmas.List.Elements.{All-push, Contains-append_left, Contains-push}
 use Rattle.std.proofs.lemmas.List.Sums.{sum_by-cons}
-use Rattle.faults.proofs.Cuts.{last_or_before}
+use Rattle.named.proofs.Lists.{filter_map_more}
+use Rattle.named.proofs.Cuts.{last_or_before}
 use Rattle.tml_types.specs.declared.typed.TypedTag.{TypedTag}
 use Rattle.tml_types.specs.Content as content
 use Rattle.tml_types.specs.Content.{PlainTyped, Reference}
@@ -18,7 +19,7 @@ use Rattle.tml_refs.specs.declared.name_index.Entry.{Entry}
 use Rattle.tml_refs.specs.Documents.{interval_of, intervals_of}
 use Rattle.tml_refs.specs.NameIndex.{AreEntriesOf, IsEntryIn, IsEntryOf, IsKeyOf, head_of, is_at, rank_of}
 use Rattle.tml_refs.specs.Rules.{is_interval}
-use Rattle.tml_refs.proofs.Lists.{count_more, filter_map_more}
+use Rattle.tml_refs.proofs.Lists.{count_more}
 
 -- ---- one tag more
 

@@ -1,7 +1,6 @@
 -- Lists: what agrees pair by pair, what passes a test, and how many pass it.
-use Rattle.std.proofs.Common.{◌≡◌, ℕ, suc, ◌+◌, ◌≤◌, Bool, true, false, cond, ◌||◌, List, [], ◌∷◌, ◌++◌, length, refl, sym, ap, subst, ◌∙◌, append_assoc, arith, Option, Some, None}
+use Rattle.std.proofs.Common.{◌≡◌, ℕ, ◌+◌, ◌≤◌, Bool, true, false, cond, ◌||◌, List, [], ◌∷◌, ◌++◌, length, refl, sym, ap, subst, ◌∙◌, append_assoc, arith, Option, Some}
 use Rattle.std.specs.List.{All, AllZip, list_any, count_by, cons_option, filter_map, slice_get}
-use Rattle.std.specs.Option.{option_to_list}
 use Rattle.std.proofs.lemmas.List.{append-nil}
 use Rattle.std.proofs.lemmas.List.Elements.{All-cons, All-nil, filter_map-append}
 use Rattle.std.proofs.lemmas.List.Sums.{sum_by-append}
@@ -14,12 +13,6 @@ zip_weaker R S w [] (y ∷ ys) h = absurd h
 zip_weaker R S w (x ∷ xs) [] h = absurd h
 zip_weaker R S w (x ∷ xs) (y ∷ ys) h = (w x y h.0, zip_weaker R S w xs ys h.1)
 
-pub zip_length : {A B : Type 0} (R : A → B → Type 0) (xs : List A) (ys : List B) → AllZip R xs ys → length xs ≡ length ys
-zip_length R [] [] h = refl
-zip_length R [] (y ∷ ys) h = absurd h
-zip_length R (x ∷ xs) [] h = absurd h
-zip_length R (x ∷ xs) (y ∷ ys) h = ap suc (zip_length R xs ys h.1)
-
 -- each element of the second list has one of the first
 pub all_paired : {A B : Type 0} (R : A → B → Type 0) (xs : List A) (ys : List B) → AllZip R xs ys → All (λ y. (x : A) × R x y) ys
 all_paired R [] [] h = All-nil _
@@ -27,23 +20,7 @@ all_paired R [] (y ∷ ys) h = absurd h
 all_paired R (x ∷ xs) [] h = All-nil _
 all_paired {A} R (x ∷ xs) (y ∷ ys) h = All-cons (λ y. (x : A) × R x y) y ys (x, h.0) (all_paired R xs ys h.1)
 
--- two lists whose elements agree with the same elements are one list, where each agrees with one element at most
-pub zip_one : {A B : Type 0} (R : A → B → Type 0) → ((x : A) (y z : B) → R x y → R x z → y ≡ z) → (xs : List A) (ys zs : List B) → AllZip R xs ys → AllZip R xs zs → ys ≡ zs
-zip_one R one [] [] [] h k = refl
-zip_one R one [] [] (z ∷ zs) h k = absurd k
-zip_one R one [] (y ∷ ys) zs h k = absurd h
-zip_one R one (x ∷ xs) [] zs h k = absurd h
-zip_one R one (x ∷ xs) (y ∷ ys) [] h k = absurd k
-zip_one R one (x ∷ xs) (y ∷ ys) (z ∷ zs) h k =
-    let first = one x y z h.0 k.0 in
-    let rest = zip_one R one xs ys zs h.1 k.1 in
-    λ i. first i ∷ rest i
-
 -- ---- tests
-
-pub any_agree : {A : Type 0} (p q : A → Bool) → ((x : A) → p x ≡ q x) → (xs : List A) → list_any p xs ≡ list_any q xs
-any_agree p q h [] = refl
-any_agree p q h (x ∷ xs) = ap (λ (b : Bool × Bool). b.0 || b.1) (λ i. (h x i, any_agree p q h xs i))
 
 -- a test passes at an element inside
 pub any_inside : {A : Type 0} (p : A → Bool) (before after : List A) (x : A) → p x ≡ true → list_any p (before ++ x ∷ after) ≡ true
@@ -89,12 +66,6 @@ pub few : {A : Type 0} (p : A → Bool) (most : ℕ) (all : List A) → ((prefix
 few p most all h = few_from p most all [] all h refl (omega arith)
 
 -- ---- what is made of the elements
-
-cons_some : {A B : Type 0} (f : A → Option B) (x : A) → filter_map f (x ∷ []) ≡ option_to_list (f x)
-cons_some f x = elim (f x) as (λ o. cons_option o [] ≡ option_to_list o) [ None ↦ refl | Some y ↦ refl ]
-
-pub filter_map_more : {A B : Type 0} (f : A → Option B) (xs : List A) (x : A) → filter_map f (xs ++ x ∷ []) ≡ filter_map f xs ++ option_to_list (f x)
-filter_map_more f xs x = filter_map-append f xs (x ∷ []) ∙ ap (λ ys. filter_map f xs ++ ys) (cons_some f x)
 
 get_here : {B : Type 0} (ys zs : List B) (y : B) → slice_get (ys ++ y ∷ zs) (length ys) ≡ Some y
 get_here [] zs y = refl

@@ -5,7 +5,7 @@ use Rattle.std.specs.Str.{bytes_eq}
 use Rattle.std.proofs.lemmas.Slice.Eq.{bytes_eq-Decides}
 use Rattle.faults.specs.declared.kind.FaultKind.TheVariants.{DuplicateId}
 use Rattle.faults.specs.First.{NoneBreaks}
-use Rattle.faults.proofs.Cuts.{two_cuts}
+use Rattle.named.proofs.Cuts.{two_cuts}
 use Rattle.tml_types.specs.Content as content
 use Rattle.tml_types.specs.Content.{Content, PlainTyped}
 use Rattle.tml_types.specs.References as references

@@ -3,12 +3,13 @@ use Rattle.std.proofs.Common.{◌≡◌, ◌+◌, ℕ, cond, List, [], ◌∷◌
 use Rattle.std.specs.List.{filter}
 use Rattle.std.specs.Option.{option_to_list}
 use Rattle.std.proofs.lemmas.List.Elements.{filter-append}
+use Rattle.named.proofs.Lists.{filter_map_more}
+use Rattle.named.proofs.Pairs.{zip_append}
 use Rattle.tml_types.specs.declared.typed.TagKind.{TagKind}
 use Rattle.tml_types.specs.declared.typed.TagKind.TheVariants as kind
 use Rattle.tml_types.specs.Content as content
 use Rattle.tml_types.specs.Content.{Content, PlainTyped}
 use Rattle.tml_types.specs.References.{is_of_kind, kind_of}
-use Rattle.tml_types.proofs.Walks.{zip_append}
 use Rattle.tml_refs.specs.declared.document.Counts.{Counts}
 use Rattle.tml_refs.specs.declared.name_index.Entry.{Entry}
 use Rattle.tml_refs.specs.Counting.{one_at}
@@ -17,7 +18,7 @@ use Rattle.tml_refs.specs.Gathering.{AddsTag, Gathers, IsLinkBy}
 use Rattle.tml_refs.specs.NameIndex.{AreEntriesOf}
 use Rattle.tml_refs.specs.Rules.{is_tlink}
 use Rattle.tml_refs.proofs.Knowing.{link_named}
-use Rattle.tml_refs.proofs.Lists.{count_more, filter_map_more, zip_weaker}
+use Rattle.tml_refs.proofs.Lists.{count_more, zip_weaker}
 
 -- ---- counts
 

@@ -1,6 +1,7 @@
 -- Typed tags have one answer.
 use Rattle.std.proofs.Common.{◌≡◌, ℕ, List, sym, subst, ◌∙◌}
 use Rattle.std.specs.List.{AllZip, filter}
+use Rattle.named.proofs.Pairs.{zip_one}
 use Rattle.faults.specs.First.{NoneBreaks}
 use Rattle.faults.specs.Kinds.{number_of}
 use Rattle.faults.proofs.First.{none_or_fault, one_fault}
@@ -12,7 +13,6 @@ use Rattle.tml_refs.specs.declared.document.DocLink.{DocLink}
 use Rattle.tml_refs.specs.Answers.{OneAnswers}
 use Rattle.tml_refs.specs.Documents.{IsLinkOf, PlainDocument, PlainInterval, RefersTo, Resolved, intervals_of}
 use Rattle.tml_refs.specs.Rules.{Breaks, is_tlink}
-use Rattle.tml_refs.proofs.Lists.{zip_one}
 use Rattle.tml_refs.proofs.Locating.{distinct_names}
 
 module _ (all : List PlainTyped) (sound : NoneBreaks (Breaks all) all) where

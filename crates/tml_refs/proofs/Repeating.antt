@@ -4,7 +4,7 @@ use Rattle.std.specs.List.{list_any}
 use Rattle.std.proofs.lemmas.List.Elements.{All-contains}
 use Rattle.std.proofs.lemmas.Option.{same_Some}
 use Rattle.faults.specs.declared.kind.FaultKind.TheVariants.{DuplicateId}
-use Rattle.faults.proofs.Cuts.{two_cuts}
+use Rattle.named.proofs.Cuts.{two_cuts}
 use Rattle.tml_types.specs.Content.{PlainTyped}
 use Rattle.tml_types.specs.References.{id_of}
 use Rattle.tml_refs.specs.declared.name_index.Entry.{Entry}

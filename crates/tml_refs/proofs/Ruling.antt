@@ -2,6 +2,7 @@
 use Rattle.std.proofs.Common.{◌≡◌, ◌≤◌, ◌==◌, ◌&&◌, ℕ, Bool, true, false, List, ◌∷◌, ◌++◌, length, refl, sym, ap, ◌∙◌, arith}
 use mathlib.Core.Bool.{true≢false}
 use Rattle.std.specs.List.{count_by}
+use Rattle.std.proofs.lemmas.Bool.{and_parts}
 use Rattle.faults.specs.declared.kind.FaultKind.{FaultKind}
 use Rattle.faults.specs.declared.kind.FaultKind.TheVariants as kinds
 use Rattle.faults.specs.First.{NoneBreaks}
@@ -18,7 +19,6 @@ use Rattle.tml_refs.specs.NameIndex.{AreEntriesOf}
 use Rattle.tml_refs.specs.Rules.{Breaks, FaultAt, HasFault, breaks, is_interval, is_tlink}
 use Rattle.tml_refs.proofs.Documents.{count_intervals, count_links}
 use Rattle.tml_refs.proofs.Knowing.{unknown_by_names}
-use Rattle.tml_refs.proofs.Searches.{both_true}
 
 differs : (b : Bool) → b ≡ true → b ≡ false → ⊥
 differs b h k = true≢false (sym h ∙ k)
@@ -78,7 +78,7 @@ module _ (all before after : List PlainTyped) (tag : PlainTyped) where
       later_fault (faults.TooManyIntervals place) h =
           rw h.0 (fault_here kinds.TooManyIntervals (intervals ∙ h.1.1) (at_least 16 (λ b. absurd (free b)) (λ b. absurd (differs _ b (unknown ∙ h.1.0))) (λ b. omega arith) (λ b. omega arith)))
       later_fault (faults.TooManyLinks place) h =
-          let link = (both_true (is_tlink tag) (length doc.links == max_links) h.1.1).0 in
-          let no_interval = λ (b : Breaks all kinds.TooManyIntervals before tag). tlink_only tag link (both_true (is_interval tag) (count_by is_interval before == max_intervals) b).0 in
+          let link = (and_parts (is_tlink tag) (length doc.links == max_links) h.1.1).0 in
+          let no_interval = λ (b : Breaks all kinds.TooManyIntervals before tag). tlink_only tag link (and_parts (is_interval tag) (count_by is_interval before == max_intervals) b).0 in
           rw h.0 (fault_here kinds.TooManyLinks (links ∙ h.1.1) (at_least 17 (λ b. absurd (free b)) (λ b. absurd (differs _ b (unknown ∙ h.1.0))) (λ b. absurd (no_interval b)) (λ b. omega arith)))
       later_fault faults.Memory h = tt

@@ -1,5 +1,5 @@
 -- What a search for a key finds.
-use Rattle.std.proofs.Common.{◌≡◌, ℕ, ◌<◌, ◌==◌, Bool, true, false, ◌&&◌, List, ◌∷◌, ◌++◌, length, Ok, Err, inl, inr, refl, sym, ap, ◌∙◌, get_or, subst, arith, length-append, eq-eqb, eqb-true}
+use Rattle.std.proofs.Common.{◌≡◌, ℕ, ◌<◌, ◌==◌, Bool, true, false, List, ◌∷◌, ◌++◌, length, Ok, Err, inl, inr, refl, sym, ap, ◌∙◌, get_or, subst, arith, length-append, eq-eqb, eqb-true}
 use mathlib.Core.Bool.{true≢false}
 use Rattle.std.specs.List.{Contains, list_any}
 use Rattle.std.specs.List.Sorted.{IsBinarySearchResult}
@@ -7,7 +7,7 @@ use Rattle.std.specs.Ordering.{is_eq}
 use Rattle.std.specs.Str.{bytes_eq}
 use Rattle.std.specs.declared.cmp.Ordering.{Ordering}
 use Rattle.std.specs.declared.cmp.Ordering.TheVariants.{Equal}
-use Rattle.std.proofs.lemmas.Bool.{and_from, cases_lt}
+use Rattle.std.proofs.lemmas.Bool.{and_from, cases_lt, and_parts}
 use Rattle.std.proofs.lemmas.List.{get_or_at}
 use Rattle.std.proofs.lemmas.List.Elements.{All-contains, Contains-get_or}
 use Rattle.std.proofs.lemmas.List.Folds.{list_any_at}
@@ -27,13 +27,9 @@ entry_order key e = key_order e.key key
 pub inside : {A : Type 0} (xs before after : List A) (x : A) → xs ≡ before ++ x ∷ after → Contains xs x
 inside xs before after x e = (length before, omega (arith, ap length e, length-append before (x ∷ after)), ap (λ ys. get_or ys (length before) x) e ∙ get_or_at before x after x (length before) refl)
 
-pub both_true : (a b : Bool) → (a && b) ≡ true → (a ≡ true) × (b ≡ true)
-both_true true b h = (refl, h)
-both_true false b h = absurd (true≢false (sym h))
-
 pub for_both : (r : Reference) (e : Entry) → is_for r e ≡ true → (e.key.rank ≡ rank_of r.asked) × (r.name ≡ entry_name e)
 for_both r e h =
-    let both = both_true (e.key.rank == rank_of r.asked) (bytes_eq r.name (entry_name e)) h in
+    let both = and_parts (e.key.rank == rank_of r.asked) (bytes_eq r.name (entry_name e)) h in
     (eqb-true e.key.rank (rank_of r.asked) both.0, (bytes_eq-Decides r.name (entry_name e)).0 both.1)
 
 pub is_for_both : (r : Reference) (e : Entry) → e.key.rank ≡ rank_of r.asked → r.name ≡ entry_name e → is_for r e ≡ true

@@ -3,9 +3,8 @@ use Rattle.std.proofs.Common.{◌≡◌, ◌≢◌, ℕ, Bool, true, false, cond
 use Rattle.std.specs.Prelude.{nat_eq, codes}
 use Rattle.std.specs.List.{starts_with, list_all}
 use Rattle.tml_span.specs.Bytes.{is_text_byte, is_name_start, is_name_byte, is_name}
-use Rattle.std.proofs.lemmas.Bool.{eqb-true}
+use Rattle.std.proofs.lemmas.Bool.{eqb-true, and_parts}
 use Rattle.tml_span.specs.Units.{Attribute, Kind, bom, declaration, doctype, comment, text, start_tag, end_tag, empty_tag, SpelledTag, SpelledKind}
-use Rattle.tml_span.proofs.Runs.{both}
 
 -- what the first bytes begin
 pub data Lead : Type 0 where
@@ -47,7 +46,7 @@ not_start b c h k = elim (nat_eq b c) as (λ t. nat_eq b c ≡ t → t ≡ false
 pub name_leads : (name suffix : List ℕ) → is_name name ≡ true → lead_after (name ++ suffix) ≡ opening
 name_leads [] suffix h = absurd cc
 name_leads (b ∷ name) suffix h =
-    let start = (both (is_name_start b) (list_all is_name_byte name) h).0 in
+    let start = (and_parts (is_name_start b) (list_all is_name_byte name) h).0 in
     rw (not_start b 47 refl start, not_start b 33 refl start, not_start b 63 refl start) refl
 
 not_true : (t : Bool) → not t ≡ true → t ≡ false
@@ -58,7 +57,7 @@ not_true false h = refl
 text_leads : (t suffix : List ℕ) → t ≢ [] → list_all is_text_byte t ≡ true → lead (t ++ suffix) ≡ plain
 text_leads [] suffix some h = absurd (some refl)
 text_leads (b ∷ t) suffix some h =
-    let first : nat_eq b 60 ≡ false = not_true (nat_eq b 60) (both (is_text_byte b) (list_all is_text_byte t) h).0 in
+    let first : nat_eq b 60 ≡ false = not_true (nat_eq b 60) (and_parts (is_text_byte b) (list_all is_text_byte t) h).0 in
     rw first refl
 
 -- the parts of a tag, and what follows it

@@ -1,14 +1,14 @@
 -- Values and attributes: what is read is spelled so, and what is spelled so is read.
 use Rattle.std.proofs.Common.{◌≡◌, ℕ, ◌+◌, ◌-◌, Bool, true, false, cond, eqb, eq-eqb, List, [], ◌∷◌, ◌++◌, length, refl, sym, ap, subst, ◌∙◌, append_assoc, arith, Option, Some, None, length-append}
-use Rattle.std.proofs.lemmas.Option.{same_Some}
+use Rattle.std.proofs.lemmas.Option.{same_Some, cond_some}
 use Rattle.std.specs.List.{prefix_len, list_all}
-use Rattle.std.proofs.lemmas.Bool.{eqb-true}
+use Rattle.std.proofs.lemmas.Bool.{eqb-true, and_parts}
 use Rattle.std.proofs.lemmas.Bool.Decides.{nat_tests}
 use Rattle.std.proofs.lemmas.List.{take-append-drop}
 use Rattle.tml_span.specs.Bytes.{is_white, is_name_byte, is_name, is_name_start, is_quote, is_value_byte}
 use Rattle.tml_span.specs.Units.{Attribute, SpelledAttribute, SpelledAttributes}
 use Rattle.tml_span.specs.Reading.{◌>>=◌, run_at, after_white, after_byte, name_at, quote_at, value_at, attribute_at, ReadsAttributes}
-use Rattle.tml_span.proofs.Runs.{both, when, guard, Not, run_again, prefix_passes, prefix_len_again, white_again, white_takes, name_takes, name_again}
+use Rattle.tml_span.proofs.Runs.{when, Not, run_again, prefix_passes, prefix_len_again, white_again, white_takes, name_takes, name_again}
 
 -- the value of a step that did not fail
 pub bind_some : {A B : Type 0} (o : Option A) (f : A → Option B) (y : B) → (o >>= f) ≡ Some y → (x : A) × (o ≡ Some x) × (f x ≡ Some y)
@@ -33,7 +33,7 @@ guard_not false o y e = (refl, e)
 pub byte_takes : (b : ℕ) (bytes rest : List ℕ) → after_byte b bytes ≡ Some rest → bytes ≡ b ∷ rest
 byte_takes b [] rest e = absurd cc
 byte_takes b (c ∷ bytes) rest e =
-    let g = guard (eqb c b) bytes rest e in
+    let g = cond_some (eqb c b) bytes rest e in
     let same = eqb-true c b g.0 in
     cc g.1
 
@@ -127,7 +127,7 @@ attribute_takes place bytes a rest e =
 
 name_stops : (left rest : List ℕ) → list_all is_white left ≡ true → Not is_name_byte (left ++ 61 ∷ rest)
 name_stops [] rest h = refl
-name_stops (b ∷ left) rest h = white_no_name b (both (is_white b) (list_all is_white left) h).0
+name_stops (b ∷ left) rest h = white_no_name b (and_parts (is_white b) (list_all is_white left) h).0
 
 quote_stops : (q : ℕ) → is_quote q ≡ true → is_white q ≡ false
 quote_stops q h = grind (arith, nat_tests)
@@ -137,7 +137,7 @@ same_attribute a s f e g = ap (λ (p : ℕ × ℕ). record { start = p.0; end = 
 
 name_not_white : (name rest : List ℕ) → is_name name ≡ true → Not is_white (name ++ rest)
 name_not_white [] rest h = absurd cc
-name_not_white (b ∷ bs) rest h = start_not_white b (both (is_name_start b) (list_all is_name_byte bs) h).0
+name_not_white (b ∷ bs) rest h = start_not_white b (and_parts (is_name_start b) (list_all is_name_byte bs) h).0
 
 some_len : (xs : List ℕ) → (xs ≡ [] → ⊥) → eqb (length xs) 0 ≡ false
 some_len [] h = absurd (h refl)

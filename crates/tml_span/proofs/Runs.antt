@@ -1,25 +1,16 @@
 -- The longest prefix of one kind of bytes, and names.
-use Rattle.std.proofs.Common.{one-add, subst, ◌≡◌, ℕ, ◌+◌, ◌≤◌, Bool, true, false, cond, ◌&&◌, List, [], ◌∷◌, ◌++◌, length, take, drop, refl, sym, ap, ◌∙◌, arith, Some, None, length-take}
+use Rattle.std.proofs.Common.{one-add, subst, ◌≡◌, ℕ, ◌+◌, ◌≤◌, Bool, true, false, cond, List, [], ◌∷◌, ◌++◌, length, take, drop, refl, sym, ap, ◌∙◌, arith, Some, None, length-take}
+use Rattle.std.proofs.lemmas.Bool.{and_parts}
 use Rattle.std.proofs.lemmas.Option.{same_Some}
 use Rattle.std.specs.List.{prefix_len, list_all}
 use Rattle.std.proofs.lemmas.List.{take-append-drop, take_at, drop_at}
 use Rattle.tml_span.specs.Bytes.{is_white, is_name_start, is_name_byte, is_name}
 use Rattle.tml_span.specs.Reading.{run_at, after_white, name_at}
 
-pub both : (a b : Bool) → (a && b) ≡ true → (a ≡ true) × (b ≡ true)
-both true true e = (refl, refl)
-both true false e = absurd cc
-both false b e = absurd cc
-
 -- a test that held
 pub when : {A : Type 0} (t : Bool) (x y : A) → t ≡ true → cond t x y ≡ x
 when true x y e = refl
 when false x y e = absurd cc
-
--- a test without which there is nothing
-pub guard : {A : Type 0} (t : Bool) (x y : A) → cond t (Some x) None ≡ Some y → (t ≡ true) × (x ≡ y)
-guard true x y e = (refl, cc)
-guard false x y e = absurd cc
 
 -- the bytes begin with none that passes
 abbrev pub Not : (ℕ → Bool) → List ℕ → Type 0
@@ -29,7 +20,7 @@ Not p (b ∷ bytes) = p b ≡ false
 pub prefix_len_again : (p : ℕ → Bool) (xs ys : List ℕ) → list_all p xs ≡ true → Not p ys → prefix_len p (xs ++ ys) ≡ length xs
 prefix_len_again p [] [] h n = refl
 prefix_len_again p [] (y ∷ ys) h n = rw n refl
-prefix_len_again p (x ∷ xs) ys h n = let s = both (p x) (list_all p xs) h in rw (s.0, prefix_len_again p xs ys s.1 n) (omega arith)
+prefix_len_again p (x ∷ xs) ys h n = let s = and_parts (p x) (list_all p xs) h in rw (s.0, prefix_len_again p xs ys s.1 n) (omega arith)
 
 pub prefix_passes : (p : ℕ → Bool) (xs : List ℕ) → list_all p (take (prefix_len p xs) xs) ≡ true
 prefix_passes p [] = refl
@@ -81,6 +72,6 @@ pub name_again : (name rest : List ℕ) → is_name name ≡ true → Not is_nam
 unfolding name_at
 name_again [] rest h n = absurd cc
 name_again (b ∷ bs) rest h n =
-    let s = both (is_name_start b) (list_all is_name_byte bs) h in
+    let s = and_parts (is_name_start b) (list_all is_name_byte bs) h in
     let all : list_all is_name_byte (b ∷ bs) ≡ true = rw (start_is_byte b s.0) s.1 in
     when (is_name_start b) _ _ s.0 ∙ ap (λ (q : List ℕ × List ℕ). Some q) (run_again is_name_byte (b ∷ bs) rest all n)

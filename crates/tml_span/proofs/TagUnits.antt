@@ -1,5 +1,6 @@
 -- Texts and tags: what is read is spelled so, and where nothing is read no unit begins.
 use Rattle.std.proofs.Common.{get_or, add-one, ◌≡◌, ◌≢◌, ℕ, ◌+◌, ◌-◌, ◌<◌, Bool, true, false, cond, List, [], ◌∷◌, ◌++◌, length, take, drop, refl, sym, ap, subst, ◌∙◌, append_assoc, arith, Some, None, length-append, length-take}
+use Rattle.std.proofs.lemmas.Bool.{and_parts}
 use Rattle.std.proofs.lemmas.Option.{same_Some}
 use Rattle.std.specs.Prelude.{nat_eq, codes}
 use Rattle.std.specs.List.{prefix_len, list_all, starts_with}
@@ -10,7 +11,7 @@ use Rattle.tml_span.specs.Bytes.{is_white, is_text_byte, is_name_start, is_name_
 use Rattle.tml_span.specs.Units.{Attribute, SpelledAttribute, SpelledAttributes, Kind, bom, text, start_tag, end_tag, empty_tag, SpelledTag, bom_bytes, BeginsWith, SpelledKind}
 use Rattle.tml_span.specs.Cutting.{Ends, Stops, FindsUnit}
 use Rattle.tml_span.specs.Reading.{after_white, after_byte, name_at, attribute_at, ReadsAttributes}
-use Rattle.tml_span.proofs.Runs.{both, Not, prefix_passes, rest_stops, white_again, white_takes, name_takes, name_again}
+use Rattle.tml_span.proofs.Runs.{Not, prefix_passes, rest_stops, white_again, white_takes, name_takes, name_again}
 use Rattle.tml_span.proofs.Parts.{attribute_text, white_no_name, attributes_take, attributes_again, one_reading}
 use Rattle.tml_span.proofs.Leads.{ending, opening, lead, lead_of, leads, tag_parts}
 
@@ -56,11 +57,11 @@ Closing tail = Not is_white tail × Not is_name_byte tail
 
 white_stops : (white tail : List ℕ) → list_all is_white white ≡ true → Not is_name_byte tail → Not is_name_byte (white ++ tail)
 white_stops [] tail h n = n
-white_stops (b ∷ white) tail h n = white_no_name b (both (is_white b) (list_all is_white white) h).0
+white_stops (b ∷ white) tail h n = white_no_name b (and_parts (is_white b) (list_all is_white white) h).0
 
 before_stops : (before tail : List ℕ) → (before ≡ [] → ⊥) → list_all is_white before ≡ true → Not is_name_byte (before ++ tail)
 before_stops [] tail some w = absurd (some refl)
-before_stops (b ∷ before) tail some w = white_no_name b (both (is_white b) (list_all is_white before) w).0
+before_stops (b ∷ before) tail some w = white_no_name b (and_parts (is_white b) (list_all is_white before) w).0
 
 attribute_stops : (place : ℕ) (a : Attribute) (prefix rest : List ℕ) → SpelledAttribute place a prefix → Not is_name_byte (prefix ++ rest)
 attribute_stops place a prefix rest h =

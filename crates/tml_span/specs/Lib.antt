@@ -10,3 +10,4 @@ pub mod Reader
 pub mod Reading
 pub mod Checking
 pub mod Written
+pub mod Pieces

@@ -2,6 +2,7 @@
 ghost use Rattle.std.specs.Prelude.{List, ℕ};
 ghost use Rattle.tml_span.specs.Cutting.{EveryCut, OneCut};
 ghost use Rattle.tml_span.specs.Faults.{CutOrFault, OneFaults};
+ghost use Rattle.tml_span.specs.Pieces.{UnitsAreGood};
 ghost use Rattle.tml_span.specs.Slices.{SlicesAreInSource};
 ghost use Rattle.tml_span.specs.Written.{WrittenIsCut};
 
@@ -28,6 +29,11 @@ pub fn cut_or_fault()
 /// Each slice of a unit is the source at its place.
 pub fn slices_are_in_source()
     ensures { SlicesAreInSource }
+{}
+
+/// Each name, value, text and comment of a source that has no fault is UTF-8 itself, and no reference in it is bad.
+pub fn units_are_good()
+    ensures { UnitsAreGood }
 {}
 
 /// Units that are written are cut again as they were, where none of them is a Bom, a declaration or a doctype, the first

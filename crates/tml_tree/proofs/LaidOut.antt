@@ -1,6 +1,7 @@
 -- The tree of a source is laid out as its units are.
 use Rattle.std.proofs.Common.{◌≡◌, inl, inr, ℕ, Bool, true, false, cond, ◌+◌, ◌≤◌, List, [], ◌∷◌, ◌++◌, length, refl, sym, ap, subst, ◌∙◌, length-append, arith}
 use Rattle.std.specs.List.{AllByRecursion, filter}
+use Rattle.named.proofs.Lists.{each_kept, each_parts}
 use Rattle.tml_span.specs.Cutting.{CutsFrom}
 use Rattle.tml_span.specs.Slices.{UnitIsIn}
 use Rattle.tml_span.specs.Units.{PlainUnit}
@@ -13,14 +14,6 @@ use Rattle.tml_tree.proofs.Depths.{depth_of_tree}
 
 -- ---- slices
 
-all_append : {A : Type 0} (P : A → Type 0) (xs ys : List A) → AllByRecursion P (xs ++ ys) → AllByRecursion P xs × AllByRecursion P ys
-all_append P [] ys h = (tt, h)
-all_append P (x ∷ xs) ys h = let rest = all_append P xs ys h.1 in ((h.0, rest.0), rest.1)
-
-all_filter : {A : Type 0} (P : A → Type 0) (p : A → Bool) (xs : List A) → AllByRecursion P xs → AllByRecursion P (filter p xs)
-all_filter P p [] h = tt
-all_filter P p (x ∷ xs) h = elim (p x) as (λ b. AllByRecursion P (cond b (x ∷ filter p xs) (filter p xs))) [ true ↦ (h.0, all_filter P p xs h.1) | false ↦ all_filter P p xs h.1 ]
-
 mutual
   item_slices : (source : List ℕ) (n : PlainNode) (us : List PlainUnit) → Item n us → AllByRecursion (UnitIsIn source) us → HasSlices source n
   item_slices source (text_node start end bytes) us i h = (subst (λ (vs : List PlainUnit). AllByRecursion (UnitIsIn source) vs) i h).0
@@ -30,13 +23,13 @@ mutual
       (here.0, here.1, subst (λ (ns : PlainNodes). HaveSlices source ns) (sym i.0) tt)
   item_slices source (element start end name attrs children) us (inr i) h =
       let all = subst (λ (vs : List PlainUnit). AllByRecursion (UnitIsIn source) vs) i.3 h in
-      let inner = all_append (UnitIsIn source) i.0 _ all.1 in
+      let inner = each_parts (UnitIsIn source) i.0 _ all.1 in
       (all.0.0, all.0.1, items_slices source children i.0 i.4 inner.0)
 
   items_slices : (source : List ℕ) (ns : PlainNodes) (us : List PlainUnit) → Items ns us → AllByRecursion (UnitIsIn source) us → HaveSlices source ns
   items_slices source none us i h = tt
   items_slices source (more n ns) us i h =
-      let all = all_append (UnitIsIn source) i.0 i.1 (subst (λ (vs : List PlainUnit). AllByRecursion (UnitIsIn source) vs) i.2 h) in
+      let all = each_parts (UnitIsIn source) i.0 i.1 (subst (λ (vs : List PlainUnit). AllByRecursion (UnitIsIn source) vs) i.2 h) in
       (item_slices source n i.0 i.3 all.0, items_slices source ns i.1 i.4 all.1)
 
 -- ---- order
@@ -136,7 +129,7 @@ among source low (n ∷ nodes) high root rest e s o =
     ] e
 
 slices_of : (source : List ℕ) (root : PlainNode) (t : IsTreeOf source root) → HaveSlices source (nodes_of t.2.1.0)
-slices_of source root t = items_slices source (nodes_of t.2.1.0) (filter is_content t.0) t.2.1.1 (all_filter (UnitIsIn source) is_content t.0 (units_are_in source [] source [] 0 t.0 refl refl t.1.1))
+slices_of source root t = items_slices source (nodes_of t.2.1.0) (filter is_content t.0) t.2.1.1 (each_kept (UnitIsIn source) is_content t.0 (units_are_in source [] source [] 0 t.0 refl refl t.1.1))
 
 order_of : (source : List ℕ) (root : PlainNode) (t : IsTreeOf source root) → AreInOrder 0 (nodes_of t.2.1.0) (length source)
 order_of source root t = items_order 0 (nodes_of t.2.1.0) (filter is_content t.0) (length source) t.2.1.1 (follow_filter is_content 0 t.0 (length source) (subst (λ (n : ℕ). FollowFrom 0 t.0 n) (omega arith) (cut_follows 0 source t.0 [] t.1.1)))

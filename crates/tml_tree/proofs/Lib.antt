@@ -1,3 +1,5 @@
+pub mod AfterTag
+pub mod Allowed
 pub mod Depths
 pub mod Endings
 pub mod Faults

@@ -1,11 +1,12 @@
 -- Units that are judged one after another, and what is known of them.
 use Rattle.std.proofs.Common.{◌≡◌, ◌⊎◌, inl, inr, ℕ, Bool, true, false, cond, not, ◌&&◌, ◌||◌, nat_le, List, [], ◌∷◌, ◌++◌, map, length, refl, sym, ap, subst, ◌∙◌, Option, Some, None}
+use Rattle.std.proofs.Math.Bool.{or-false, or-true}
 use Rattle.std.proofs.lemmas.Option.{same_Some}
 use Rattle.std.specs.List.{filter, list_any}
 use Rattle.std.specs.Str.{bytes_eq}
 use Rattle.std.proofs.lemmas.List.{append-nil}
 use Rattle.std.proofs.lemmas.List.Elements.{filter-append}
-use Rattle.named.proofs.Tables.{any_more}
+use Rattle.named.proofs.Lists.{any_more}
 use Rattle.tml_span.specs.Units.{Kind, bom, declaration, doctype, comment, text, start_tag, end_tag, empty_tag, PlainUnit}
 use Rattle.faults.specs.First.{NoneBreaks}
 use Rattle.faults.proofs.First.{none_breaks_nil}
@@ -25,20 +26,12 @@ use Rattle.tml_tree.proofs.LastUnits.{differs}
 
 -- ---- whether the root was seen
 
-or_false : (b : Bool) → (b || false) ≡ b
-or_false true = refl
-or_false false = refl
-
-or_true : (b : Bool) → (b || true) ≡ true
-or_true true = refl
-or_true false = refl
-
 seen_leaf : (tags : List OpenTag) (nodes : List PlainNode) (n : PlainNode) → is_element n ≡ false → is_seen tags (nodes ++ n ∷ []) ≡ is_seen tags nodes
-seen_leaf [] nodes n e = any_more is_element nodes n ∙ ap (λ (b : Bool). list_any is_element nodes || b) e ∙ or_false (list_any is_element nodes)
+seen_leaf [] nodes n e = any_more is_element nodes n ∙ ap (λ (b : Bool). list_any is_element nodes || b) e ∙ or-false (list_any is_element nodes)
 seen_leaf (t ∷ tags) nodes n e = refl
 
 seen_element : (tags : List OpenTag) (nodes : List PlainNode) (n : PlainNode) → is_element n ≡ true → is_seen tags (nodes ++ n ∷ []) ≡ is_nil (map name_of tags)
-seen_element [] nodes n e = any_more is_element nodes n ∙ ap (λ (b : Bool). list_any is_element nodes || b) e ∙ or_true (list_any is_element nodes)
+seen_element [] nodes n e = any_more is_element nodes n ∙ ap (λ (b : Bool). list_any is_element nodes || b) e ∙ or-true (list_any is_element nodes)
 seen_element (t ∷ tags) nodes n e = refl
 
 -- at most one element outside
@@ -151,18 +144,18 @@ path_is : (us : List PlainUnit) (tags : List OpenTag) (nodes : List PlainNode) (
 path_is us tags nodes h p = ((tags, nodes, p.opens, refl, refl), p.lawful)
 
 begun_after : (h : History) (start end : ℕ) (k : Kind) → (after h k).begun ≡ (h.begun || is_past_bom (unit start end k))
-begun_after h start end bom = sym (or_false h.begun)
-begun_after h start end k = sym (or_true h.begun)
+begun_after h start end bom = sym (or-false h.begun)
+begun_after h start end k = sym (or-true h.begun)
 
 tagged_after : (h : History) (start end : ℕ) (k : Kind) → (after h k).tagged ≡ (h.tagged || is_tag (unit start end k))
-tagged_after h start end (start_tag name attrs) = sym (or_true h.tagged)
-tagged_after h start end (end_tag name) = sym (or_true h.tagged)
-tagged_after h start end (empty_tag name attrs) = sym (or_true h.tagged)
-tagged_after h start end k = sym (or_false h.tagged)
+tagged_after h start end (start_tag name attrs) = sym (or-true h.tagged)
+tagged_after h start end (end_tag name) = sym (or-true h.tagged)
+tagged_after h start end (empty_tag name attrs) = sym (or-true h.tagged)
+tagged_after h start end k = sym (or-false h.tagged)
 
 doctyped_after : (h : History) (start end : ℕ) (k : Kind) → (after h k).doctyped ≡ (h.doctyped || is_doctype (unit start end k))
-doctyped_after h start end (doctype bytes) = sym (or_true h.doctyped)
-doctyped_after h start end k = sym (or_false h.doctyped)
+doctyped_after h start end (doctype bytes) = sym (or-true h.doctyped)
+doctyped_after h start end k = sym (or-false h.doctyped)
 
 names_after : (h : History) (k : Kind) (names : List (List ℕ)) → Differs k h.names names → (after h k).names ≡ names
 names_after h (start_tag name attrs) names d = sym d

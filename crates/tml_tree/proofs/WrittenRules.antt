@@ -2,12 +2,11 @@
 use Rattle.std.proofs.Common.{◌≡◌, ℕ, Bool, true, false, cond, not, ◌&&◌, ◌||◌, nat_le, ◌+◌, ◌<◌, List, [], ◌∷◌, ◌++◌, map, length, refl, sym, ap, subst, ◌∙◌, append_assoc, arith, Some, None}
 use Rattle.std.specs.List.{filter, list_any, list_all}
 use Rattle.std.proofs.lemmas.List.{append-nil, length-map}
-use Rattle.std.proofs.lemmas.Bool.{both_ways, false_from_ne_true}
+use Rattle.std.proofs.lemmas.Bool.{both_ways, false_from_ne_true, and_parts}
 use Rattle.std.proofs.lemmas.Bool.Decides.{nat_tests}
 use Rattle.std.proofs.Math.Bool.{or-false}
-use Rattle.named.proofs.Tables.{any_more}
+use Rattle.named.proofs.Lists.{any_more}
 use Rattle.faults.specs.First.{NoneBreaks}
-use Rattle.tml_span.proofs.Runs.{both}
 use Rattle.tml_span.specs.Bytes.{is_white}
 use Rattle.tml_span.specs.Units.{Attribute, text, comment, start_tag, end_tag, empty_tag, PlainUnit}
 use Rattle.tml_span.specs.Written.{tag_attributes, unit_at, units_at}
@@ -122,7 +121,7 @@ mutual
       → Reaches done (t ∷ tags) nodes → Reaches (done ++ units_at place (all_kinds ns)) (t ∷ tags) (nodes ++ list_of (nodes_at place ns))
   nodes_reached none place done t tags nodes m l r = rw (append-nil done, append-nil nodes) r
   nodes_reached (more n ns) place done t tags nodes m l r =
-      let each = λ (k : list_any is_link (map name_of (t ∷ tags)) ≡ true). both (may_be_in_link n) (all_may_be_in_link ns) (l k) in
+      let each = λ (k : list_any is_link (map name_of (t ∷ tags)) ≡ true). and_parts (may_be_in_link n) (all_may_be_in_link ns) (l k) in
       let first = node_reached n place done t tags nodes m.0 (λ k. (each k).0) r in
       let rest = nodes_reached ns (place + size_of n) (done ++ units_at place (kinds_of n)) t tags (nodes ++ node_at place n ∷ []) m.1 (λ k. (each k).1) first in
       let us = append_assoc done (units_at place (kinds_of n)) (units_at (place + size_of n) (all_kinds ns)) ∙ ap (λ (vs : List PlainUnit). done ++ vs) (sym (units_append place (kinds_of n) (all_kinds ns))) in

@@ -2,6 +2,7 @@
 use Rattle.std.proofs.Common.{◌≡◌, ℕ, Bool, true, false, ◌||◌, List, [], ◌∷◌, refl, ap, ◌∙◌}
 use Rattle.std.specs.List.{list_any}
 use Rattle.std.specs.Str.{bytes_eq}
+use Rattle.named.proofs.Lists.{or_swapped}
 use Rattle.tml_span.specs.Units.{Attribute}
 use Rattle.tml_types.specs.Rules.{has_name, is_repeated}
 use Rattle.tml_types.specs.NameSets.{is_in}
@@ -11,12 +12,6 @@ abbrev pub repeats : List (List ℕ) → List Attribute → Bool
 repeats before [] = false
 repeats before (a ∷ attrs) = is_in before a.name || repeats (a.name ∷ before) attrs
 
-turned : (p q r s : Bool) → ((p || q) || (r || s)) ≡ ((p || r) || (q || s))
-turned true q r s = refl
-turned false true true s = refl
-turned false true false s = refl
-turned false false r s = refl
-
 moved : (p q r s : Bool) → (p || ((q || r) || s)) ≡ ((p || r) || (q || s))
 moved true q r s = refl
 moved false true true s = refl
@@ -25,7 +20,7 @@ moved false false r s = refl
 
 any_or : {A : Type 0} (p q : A → Bool) (xs : List A) → list_any (λ a. p a || q a) xs ≡ (list_any p xs || list_any q xs)
 any_or p q [] = refl
-any_or p q (x ∷ xs) = ap (λ (b : Bool). (p x || q x) || b) (any_or p q xs) ∙ turned (p x) (q x) (list_any p xs) (list_any q xs)
+any_or p q (x ∷ xs) = ap (λ (b : Bool). (p x || q x) || b) (any_or p q xs) ∙ or_swapped (p x) (q x) (list_any p xs) (list_any q xs)
 
 none_in : (attrs : List Attribute) → list_any (λ (a : Attribute). is_in [] a.name) attrs ≡ false
 none_in [] = refl

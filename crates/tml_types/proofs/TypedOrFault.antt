@@ -15,6 +15,7 @@ use Rattle.faults.proofs.First.{all_of_none}
 use Rattle.faults.proofs.FirstOrNone.{first_or_none}
 use Rattle.faults.proofs.Numbered.{every_kind}
 use Rattle.named.specs.Texts.{named_of}
+use Rattle.named.proofs.Pairs.{partners}
 use Rattle.named.proofs.Tables.{found_has}
 use Rattle.net_core.specs.Rels.{rel_text, all_rels}
 use Rattle.timex_value.specs.Kinds.{kind_text, all_kinds as all_timex_kinds, modifier_text, all_modifiers}
@@ -38,7 +39,6 @@ use Rattle.tml_types.specs.Values.{is_named, is_of_form, truth_text, all_truths,
 use Rattle.tml_types.specs.Whole.{AreTyped, has_rows, place_of}
 use Rattle.tml_types.proofs.OneRule.{rows_named}
 use Rattle.tml_types.proofs.OneTag.{any_row}
-use Rattle.tml_types.proofs.Walks.{partners}
 
 -- ---- which rules a tag breaks
 

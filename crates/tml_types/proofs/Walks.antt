@@ -1,9 +1,10 @@
 -- Typed tags and faults of tags one after another.
-use Rattle.std.proofs.Common.{◌≡◌, ℕ, suc, ◌+◌, ◌<◌, add-one, drop-cons, drop, get_or, length, List, [], ◌∷◌, ◌++◌, map, sym, ap, ◌∙◌, append_assoc, Some, None, All}
-use Rattle.std.specs.List.{AllZip, filter}
+use Rattle.std.proofs.Common.{◌≡◌, ℕ, suc, ◌+◌, ◌<◌, add-one, drop-cons, drop, get_or, length, List, ◌∷◌, ◌++◌, map, sym, ap, ◌∙◌, append_assoc, Some, None, All}
+use Rattle.std.specs.List.{filter}
 use Rattle.std.specs.Option.{IfSome}
 use Rattle.std.proofs.lemmas.List.{map-append}
-use Rattle.std.proofs.lemmas.List.Elements.{All-append, All-head, All-tail, filter-append}
+use Rattle.std.proofs.lemmas.List.Elements.{All-append, filter-append}
+use Rattle.named.proofs.Pairs.{zip_append}
 use Rattle.tml_tree.specs.declared.node.Tag.{Tag}
 use Rattle.tml_tree.specs.declared.node.Node.{Node}
 use Rattle.tml_tree.specs.Plain.{PlainNode, nodes_of}
@@ -22,20 +23,6 @@ use Rattle.tml_types.specs.Typing.{TypedAs}
 use Rattle.tml_types.specs.View.{typed_of}
 use Rattle.tml_types.specs.Walking.{Adds, plain_of}
 use Rattle.tml_types.specs.Whole.{FaultAt, HasFault, Types, has_rows, kind_and_place, place_of}
-
-pub zip_append : {A B : Type 0} (R : A → B → Type 0) (xs xs' : List A) (ys ys' : List B) → AllZip R xs ys → AllZip R xs' ys' → AllZip R (xs ++ xs') (ys ++ ys')
-zip_append R [] xs' [] ys' h k = k
-zip_append R [] xs' (y ∷ ys) ys' h k = absurd h
-zip_append R (x ∷ xs) xs' [] ys' h k = absurd h
-zip_append R (x ∷ xs) xs' (y ∷ ys) ys' h k = (h.0, zip_append R xs xs' ys ys' h.1 k)
-
--- where each element has a partner, there is a list of partners
-pub partners : {A B : Type 0} (R : A → B → Type 0) (xs : List A) → All (λ x. (y : B) × R x y) xs → (ys : List B) × AllZip R xs ys
-partners R [] h = ([], tt)
-partners {A} {B} R (x ∷ xs) h =
-    let one = All-head (λ (x : A). (y : B) × R x y) x xs h in
-    let rest = partners R xs (All-tail (λ (x : A). (y : B) × R x y) x xs h) in
-    (one.0 ∷ rest.0, (one.1, rest.1))
 
 types_append : (tags others : List PlainTag) (ts us : List PlainTyped) → Types tags ts → Types others us → Types (tags ++ others) (ts ++ us)
 types_append tags others ts us h k = record {

@@ -1,9 +1,9 @@
 use Rattle.std.proofs.Common.{map, below_more, [], inr, ◌∙◌, arith}
 use Rattle.std.proofs.lemmas.List.{length-map}
+use Rattle.named.proofs.Pairs.{zip_from}
 use Rattle.net_core.specs.Ranks.{pairs_of}
 use Rattle.evidence_check.specs.Refusals.{IsSpareAt}
 use Rattle.evidence_check.specs.Supported.{FitsOthers}
-use Rattle.evidence_check.proofs.Zipped.{zip_from}
 use Rattle.evidence_check.proofs.Spares.{fits_others, spare_is, spare_is_short, spare_refused}
 use Rattle.evidence_check.proofs.checker.check_spares.Goals as goal
 

@@ -1,9 +1,9 @@
 use Rattle.std.proofs.Common.{◌<◌, false, [], inr, length, refl, ◌∙◌, arith, below_more}
+use Rattle.named.proofs.Pairs.{zip_from}
 use Rattle.net_core.specs.Atoms.{atoms_in}
 use Rattle.evidence_check.specs.Refusals.{IsNoProof, Proves, atom_at, walk_at}
 use Rattle.evidence_check.specs.Supported.{IsProof}
 use Rattle.evidence_check.proofs.Proving.{at_number, atom_is, not_both, walk_is}
-use Rattle.evidence_check.proofs.Zipped.{zip_from}
 use Rattle.evidence_check.proofs.walks.prove_all.Goals as goal
 
 pub returns-in-Err-clause-err : goal.returns-in-Err-clause-err

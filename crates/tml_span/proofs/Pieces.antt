@@ -1,46 +1,19 @@
--- What is in the units of a source: good names, values, texts and comments, all in UTF-8.
+-- The names, values, texts and comments of a source that has no fault are good.
 use Rattle.std.proofs.Common.{◌≡◌, ◌≢◌, inl, inr, ℕ, ◌+◌, true, false, List, [], ◌∷◌, ◌++◌, length, map, refl, sym, ap, subst, ◌∙◌, append_assoc, arith, rules}
-use Rattle.std.specs.Prelude.{codes, IsUtf8, ⊤}
+use Rattle.std.specs.Prelude.{codes, IsUtf8}
 use Rattle.std.specs.List.{AllByRecursion, list_all}
 use Rattle.std.proofs.lemmas.Bool.{and_from}
 use Rattle.std.proofs.lemmas.Bool.Decides.{nat_tests}
 use Rattle.std.proofs.lemmas.Str.{IsUtf8-append, IsUtf8-encode, IsUtf8-nil, IsUtf8-past_char}
 use lib.Utf8.{encode}
-use Rattle.tml_span.specs.Bytes.{is_name, is_quote, is_text_byte, is_value_byte, is_white}
+use Rattle.named.proofs.Lists.{all_append, all_weaker}
+use Rattle.tml_span.specs.Bytes.{is_quote, is_text_byte, is_value_byte, is_white}
 use Rattle.tml_span.specs.Cutting.{CutsFrom, Ends}
 use Rattle.tml_span.specs.References.{IsBad, IsBadIn, IsNowhere, kind_pieces, value_piece}
 use Rattle.tml_span.specs.Units.{Attribute, Kind, PlainUnit, SpelledAttribute, SpelledAttributes, SpelledKind, SpelledTag, bom, bom_bytes, comment, declaration, doctype, empty_tag, end_tag, start_tag, text}
-use Rattle.tml_span.specs.Written.{HasGoodReferences, IsContent}
-use Rattle.tml_canon.proofs.Utf8.{after_ascii, all_append, all_weaker, ascii_utf8, before_ascii, is_ascii, parted, parted_by}
-
--- ---- what is good
-
--- an attribute of a good name and value, both in UTF-8
-pub record IsGoodAttribute (a : Attribute) : Type 0 where
-  pub named : is_name a.name ≡ true
-  pub value : list_all is_text_byte a.value ≡ true
-  pub references : HasGoodReferences a.value
-  pub name_utf8 : IsUtf8 a.name
-  pub value_utf8 : IsUtf8 a.value
-
--- a tag of a good name, in UTF-8, and of good attributes
-pub record IsGoodTag (name : List ℕ) (attrs : List Attribute) : Type 0 where
-  pub named : is_name name ≡ true
-  pub utf8 : IsUtf8 name
-  pub attributes : AllByRecursion IsGoodAttribute attrs
-
--- a kind of unit of a good name and attributes, or of good bytes, all in UTF-8; nothing is said of a Bom, a declaration and a doctype
-abbrev pub IsGoodKind : Kind → Type 0
-IsGoodKind (comment bytes) = IsContent (comment bytes) × IsUtf8 bytes
-IsGoodKind (text bytes) = IsContent (text bytes) × IsUtf8 bytes
-IsGoodKind (start_tag name attrs) = IsGoodTag name attrs
-IsGoodKind (end_tag name) = IsGoodTag name []
-IsGoodKind (empty_tag name attrs) = IsGoodTag name attrs
-IsGoodKind kind = ⊤
-
--- a unit of such a kind
-abbrev pub IsGoodUnit : PlainUnit → Type 0
-IsGoodUnit u = IsGoodKind u.kind
+use Rattle.tml_span.specs.Written.{HasGoodReferences}
+use Rattle.tml_span.specs.Pieces.{IsGoodAttribute, IsGoodKind, IsGoodTag, IsGoodUnit, UnitsAreGood}
+use Rattle.tml_span.proofs.Utf8.{after_ascii, ascii_utf8, before_ascii, is_ascii, parted, parted_by}
 
 -- ---- bytes
 
@@ -181,9 +154,13 @@ unit_parts place (end_tag name) prefix suffix h ends utf8 = closed_parts (codes 
 unit_parts place (empty_tag name attrs) prefix suffix h ends utf8 = closed_parts (codes "<" ++ name ++ h.inner ++ h.white ++ codes "/") prefix suffix (h.whole ∙ simp append_assoc) utf8
 
 -- the units of UTF-8 without bad references are good
-pub units_are_good : (place : ℕ) (bytes : List ℕ) (units : List PlainUnit) (rest : List ℕ) → CutsFrom place bytes units rest → IsUtf8 bytes → IsNowhere (IsBad units) → AllByRecursion IsGoodUnit units
-units_are_good place bytes [] rest h utf8 good = tt
-units_are_good place bytes (u ∷ units) rest h utf8 good =
+good_from : (place : ℕ) (bytes : List ℕ) (units : List PlainUnit) (rest : List ℕ) → CutsFrom place bytes units rest → IsUtf8 bytes → IsNowhere (IsBad units) → AllByRecursion IsGoodUnit units
+good_from place bytes [] rest h utf8 good = tt
+good_from place bytes (u ∷ units) rest h utf8 good =
     let parts = unit_parts place u.kind h.0 h.1 h.3.kind h.4 (subst IsUtf8 h.2 utf8) in
     let here : IsNowhere (IsBadIn (kind_pieces place u.kind)) = subst (λ (n : ℕ). IsNowhere (IsBadIn (kind_pieces n u.kind))) h.3.start (λ at bad. good at (inl bad)) in
-    (kind_is_good place u.kind h.0 h.3.kind here parts.0, units_are_good (place + length h.0) h.1 units rest h.5 parts.1 (λ at bad. good at (inr bad)))
+    (kind_is_good place u.kind h.0 h.3.kind here parts.0, good_from (place + length h.0) h.1 units rest h.5 parts.1 (λ at bad. good at (inr bad)))
+
+-- so the units of a source that has no fault are good
+pub units_are_good : UnitsAreGood
+units_are_good = λ source units h. good_from 0 source units [] h.1 h.0 h.2

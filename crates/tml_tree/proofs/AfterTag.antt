@@ -1,61 +1,27 @@
--- In the cut of a source two texts never follow each other, and after the first tag each unit is part of an item.
-use Rattle.std.proofs.Common.{◌≡◌, ◌≢◌, ◌⊎◌, inl, inr, ℕ, ◌+◌, ◌<◌, true, false, cond, List, [], ◌∷◌, ◌++◌, length, map, refl, sym, ap, subst, ◌∙◌, append_assoc, arith, Some}
-use Rattle.std.specs.List.{filter, list_any, list_all}
+-- In the items of a source that follow its first tag two texts never follow each other, and each unit there is part of an item.
+use Rattle.std.proofs.Common.{◌≡◌, ◌⊎◌, inl, inr, ℕ, ◌+◌, ◌<◌, true, false, cond, List, [], ◌∷◌, ◌++◌, length, map, refl, sym, ap, subst, ◌∙◌, append_assoc, arith, Some}
+use Rattle.std.specs.List.{filter, list_any}
 use Rattle.std.proofs.lemmas.Bool.{both_ways, or_cases, or_left, or_parts, or_right, cond-true}
 use Rattle.std.proofs.lemmas.List.Folds.{list_any-append}
 use Rattle.faults.specs.First.{NoneBreaks}
 use Rattle.faults.specs.declared.kind.FaultKind.TheVariants as fault
-use Rattle.tml_span.specs.Bytes.{is_text_byte}
-use Rattle.tml_span.specs.Cutting.{Ends, CutsFrom}
-use Rattle.tml_span.specs.Units.{Kind, bom, declaration, doctype, text, start_tag, end_tag, empty_tag, PlainUnit, SpelledKind}
-use Rattle.tml_span.specs.Written.{BeginsWithText, NoTextsMeet}
+use Rattle.tml_span.specs.Cutting.{CutsFrom}
+use Rattle.tml_span.specs.Units.{Kind, bom, declaration, doctype, start_tag, end_tag, empty_tag, PlainUnit, SpelledKind}
+use Rattle.tml_span.specs.Written.{NoTextsMeet}
 use Rattle.tml_span.proofs.EveryCut.{spelling_some}
-use Rattle.tml_span.proofs.Runs.{both}
+use Rattle.tml_span.proofs.TextsApart.{cut_apart, kind_of}
 use Rattle.tml_tree.specs.Plain.{unit, PlainNode}
 use Rattle.tml_tree.specs.Nesting.{OpenTag, Opens, is_content}
 use Rattle.tml_tree.specs.Rules.{is_past_bom, is_tag, is_doctype}
 use Rattle.tml_tree.specs.Stage.{Stage, step, run}
 use Rattle.tml_tree.specs.Trees.{Breaks}
+use Rattle.tml_tree.proofs.Allowed.{not_at_fault}
 use Rattle.tml_tree.proofs.Running.{then_some, opens_step}
-use Rattle.tml_canon.proofs.Allowed.{not_at_fault}
-
--- a unit apart from its place
-abbrev pub kind_of : PlainUnit → Kind
-kind_of u = u.kind
 
 -- the units after the first tag
 abbrev pub after_tag : List PlainUnit → List PlainUnit
 after_tag [] = []
 after_tag (u ∷ us) = cond (is_tag u) us (after_tag us)
-
--- ---- no texts meet in a cut
-
--- a byte that ends a text begins no other one
-text_begins : (own rest bytes : List ℕ) → own ≢ [] → list_all is_text_byte own ≡ true → Ends (text bytes) (own ++ rest) → ⊥
-text_begins [] rest bytes some all e = some refl
-text_begins (b ∷ own) rest bytes some all e = both_ways (is_text_byte b) e (both (is_text_byte b) (list_all is_text_byte own) all).0
-
--- what ends a text is the beginning of no text
-kind_begins : (place : ℕ) (k : Kind) (kinds : List Kind) (prefix rest bytes : List ℕ) → SpelledKind place k prefix → Ends (text bytes) (prefix ++ rest) → BeginsWithText (k ∷ kinds) → ⊥
-kind_begins place (text own) kinds prefix rest bytes h e b = text_begins own rest bytes h.1 h.2 (subst (λ (x : List ℕ). Ends (text bytes) (x ++ rest)) h.0 e)
-kind_begins place k kinds prefix rest bytes h e b = b
-
--- a text is followed by no text
-text_ends : (bytes : List ℕ) (place : ℕ) (suffix : List ℕ) (us : List PlainUnit) → Ends (text bytes) suffix → CutsFrom place suffix us [] → BeginsWithText (map kind_of us) → ⊥
-text_ends bytes place suffix [] e c b = b
-text_ends bytes place suffix (u ∷ us) e c b = kind_begins place u.kind (map kind_of us) c.0 c.1 bytes c.3.kind (subst (λ (x : List ℕ). Ends (text bytes) x) c.2 e) b
-
--- one unit more before those of which no two texts meet
-kind_apart : (k : Kind) (place : ℕ) (suffix : List ℕ) (us : List PlainUnit) → Ends k suffix → CutsFrom place suffix us [] → NoTextsMeet (map kind_of us) → NoTextsMeet (k ∷ map kind_of us)
-kind_apart (text bytes) place suffix us e c h = (text_ends bytes place suffix us e c, h)
-kind_apart k place suffix us e c h = h
-
--- among the units of a cut no two texts meet
-cut_apart : (place : ℕ) (bytes : List ℕ) (us : List PlainUnit) → CutsFrom place bytes us [] → NoTextsMeet (map kind_of us)
-cut_apart place bytes [] c = tt
-cut_apart place bytes (u ∷ us) c = kind_apart u.kind (place + length c.0) c.1 us c.4 c.5 (cut_apart (place + length c.0) c.1 us c.5)
-
--- ---- after a tag
 
 -- a tag is among units where it is among the first or the last of them
 tagged_more : (us vs : List PlainUnit) → (list_any is_tag us ≡ true) ⊎ (list_any is_tag vs ≡ true) → list_any is_tag (us ++ vs) ≡ true
