@@ -1,14 +1,15 @@
 -- Where a piece is first within bytes.
-use Rattle.std.proofs.Common.{◌≡◌, ◌≢◌, ◌⊎◌, ℕ, ◌+◌, ◌<◌, ◌≤◌, Bool, true, List, get_or, [], ◌∷◌, ◌++◌, length, take, drop, refl, sym, ap, ◌∙◌, append_assoc, arith, Some, None, inl, inr, length-append, length-take, length-drop}
-use Rattle.std.specs.Prelude.{nat_eq, codes}
+use Rattle.std.proofs.Common.{◌≡◌, ◌≢◌, ◌⊎◌, ℕ, ◌+◌, ◌-◌, ◌<◌, ◌≤◌, Bool, true, List, get_or, [], ◌∷◌, ◌++◌, length, take, drop, refl, sym, ap, subst, ◌∙◌, append_assoc, arith, Some, None, inl, inr, length-append, length-take, length-drop}
+use Rattle.std.specs.Prelude.{nat_eq, codes, slice_index}
 use Rattle.std.specs.Bool.{Decides}
-use Rattle.std.specs.List.{starts_with}
+use Rattle.std.specs.List.{ends_with, starts_with}
+use Rattle.std.proofs.lemmas.Bool.{cases_lt}
 use Rattle.std.proofs.lemmas.Bool.Decides.{Decides-eqb}
-use Rattle.std.proofs.lemmas.List.{append_cancel_left, take-append-drop, take_at, drop_at}
-use Rattle.std.proofs.lemmas.List.Prefix.{at_from_reads, at_reads}
-use Rattle.std.proofs.lemmas.Slice.Eq.{starts_is}
+use Rattle.std.proofs.lemmas.List.{append_cancel_left, get_or-drop, get_or-take, take-append-drop, take_at, drop_at}
+use Rattle.std.proofs.lemmas.List.Prefix.{at_from_reads, at_reads, end_from_reads}
+use Rattle.std.proofs.lemmas.Slice.Eq.{ends_is, starts_is}
 use Rattle.named.proofs.Deciding.{by_test}
-use Rattle.memchr.specs.Find.{OccursAt, FindsNeedle}
+use Rattle.memchr.specs.Find.{OccursAt, FindsNeedle, Nowhere, Passes, is_byte}
 use Rattle.tml_span.specs.Bytes.{is_white}
 use Rattle.tml_span.specs.Units.{Lacks, BeginsWith}
 
@@ -148,3 +149,38 @@ past_piece bytes piece n k within h =
     let whole : bytes ≡ prefix ++ rest = sym (take-append-drop n bytes) ∙ ap (λ (x : List ℕ). take n bytes ++ x) (occurs_splits inner piece k h) ∙ sym (simp append_assoc) in
     let long : length prefix ≡ n + k + length piece = omega (arith, h.fits, length-drop n bytes, length-append (take n bytes ++ take k inner) piece, length-append (take n bytes) (take k inner), length-take n bytes, length-take k inner) in
     ap (take (n + k + length piece)) whole ∙ take_at prefix rest (n + k + length piece) long
+
+-- ---- a search by the last byte
+
+-- where a piece occurs, the bytes up to its end end in it
+pub occurs_ends : (bytes piece : List ℕ) (k end : ℕ) → OccursAt bytes piece k → k + length piece ≡ end → ends_with nat_eq (take end bytes) piece ≡ true
+occurs_ends bytes piece k end h e =
+    let ahead = take end bytes in
+    let len : length ahead ≡ end = omega (arith, length-take end bytes, h.fits, e) in
+    let here : length ahead - length piece ≡ k = omega (arith, len, e) in
+    let whole = end_from_reads 0 ahead piece (omega (arith, len, e))
+    (λ i lt. get_or-take end bytes (length ahead - length piece + i) 0 (omega (arith, here, e)) ∙ ap (λ (n : ℕ). get_or bytes (n + i) 0) here ∙ h.reads i lt) in
+    (ends_is Decides-eqb ahead piece (ends_with nat_eq ahead piece) refl).1 (take (length ahead - length piece) ahead) whole
+
+-- and where they end in it, it occurs
+pub ends_occurs : (bytes piece : List ℕ) (end : ℕ) → end ≤ length bytes → length piece ≤ end → ends_with nat_eq (take end bytes) piece ≡ true → OccursAt bytes piece (end - length piece)
+ends_occurs bytes piece end within fits e =
+    let ahead = take end bytes in
+    let len : length ahead ≡ end = omega (arith, length-take end bytes) in
+    let prefix = take (length ahead - length piece) ahead in
+    let whole : bytes ≡ prefix ++ piece ++ drop end bytes = sym (take-append-drop end bytes) ∙ ap (λ (x : List ℕ). x ++ drop end bytes) ((ends_is Decides-eqb ahead piece (ends_with nat_eq ahead piece) refl).0 e) in
+    subst (OccursAt bytes piece) (omega (arith, len, length-take (length ahead - length piece) ahead)) (splits_occurs bytes piece prefix (drop end bytes) whole)
+
+-- where no byte is the last of the piece, no piece ends
+pub none_ends : (bytes piece : List ℕ) (end ahead last : ℕ) → 0 < length piece → slice_index piece (length piece - 1) ≡ last → ((k : ℕ) → k + length piece ≤ end → OccursAt bytes piece k → ⊥) → Nowhere (Passes (is_byte last) (drop end bytes)) 0 ahead
+    → (k : ℕ) → k + length piece ≤ end + ahead → OccursAt bytes piece k → ⊥
+none_ends bytes piece end ahead last some is none nowhere k fits o = elim (cases_lt end (k + length piece)) [
+  | inl past ↦
+      let at = k + length piece - 1 - end in
+      let index : end + at ≡ k + (length piece - 1) = omega arith in
+      nowhere at (omega arith) (omega arith) (ap (is_byte last) (get_or-drop end bytes at 0 ∙ ap (λ (n : ℕ). get_or bytes n 0) index ∙ o.reads (length piece - 1) (omega arith) ∙ is) ∙ own last)
+  | inr within ↦ none k within o
+]
+  where
+    own : (b : ℕ) → is_byte b b ≡ true
+    own b = (Decides-eqb b b).1 refl

@@ -1,5 +1,6 @@
 //! Units that run up to their first closing text: declarations, doctypes and comments.
-ghost use Rattle.std.specs.Prelude.{true, false, ◌≡◌, ◌+◌, ◌<◌, ◌≤◌, ◌^◌, ◌++◌, ◌∷◌, codes, drop, take, length, nat_eq, IfNone, IfSome, MatchOption, List, ℕ};
+ghost use Rattle.std.specs.Prelude.{true, false, ◌≡◌, ◌+◌, ◌-◌, ◌<◌, ◌≤◌, ◌^◌, ◌++◌, ◌∷◌, codes, drop, take, length, nat_eq, slice_index, IfNone, IfSome, MatchOption, List, ℕ};
+ghost use Rattle.memchr.specs.Find.{FindsNeedle};
 ghost use Rattle.std.specs.Bool.{Decides};
 ghost use Rattle.std.specs.List.{starts_with};
 ghost use Rattle.tml_span.specs.Bytes as kinds;
@@ -9,12 +10,29 @@ ghost use Rattle.tml_span.specs.View.{ReadsUnit};
 
 use crate::bytes::{doctype_len, is_white};
 use crate::{Span, Unit};
-use memchr::memmem;
+
+/// The index of the first closing text, of which `>` is the last byte. It is searched by that byte, since a closing text
+/// mostly is near.
+fn find_closing(bytes: &[u8], close: &[u8]) -> Option<usize>
+    requires some { 0 < length close.now }
+    requires last { slice_index close.now (length close.now - 1) ≡ kinds.byte (codes ">") }
+    ensures { FindsNeedle bytes.now close.now 0 result }
+{
+    let mut end = 0;
+    while let Some(ahead) = memchr::memchr(b'>', &bytes[end..]) {
+        end += ahead + 1;
+        if bytes[..end].ends_with(close) {
+            return Some(end - close.len());
+        }
+    }
+    None
+}
 
 /// Splits the bytes past the first closing text that begins at or after `opening`.
 fn split_past<'s>(bytes: &'s [u8], opening: usize, close: &[u8]) -> Option<(&'s [u8], &'s [u8])>
     requires within { opening ≤ length bytes.now }
     requires some { 0 < length close.now }
+    requires last { slice_index close.now (length close.now - 1) ≡ kinds.byte (codes ">") }
     requires small { length close.now < 2 ^ 32 }
     ensures none { IfNone result (Lacks close.now (drop opening bytes.now)) }
     ensures some { IfSome result (λ r. (body : List ℕ) × Lacks close.now body
@@ -22,7 +40,7 @@ fn split_past<'s>(bytes: &'s [u8], opening: usize, close: &[u8]) -> Option<(&'s 
     ensures shorter { IfSome result (λ r. length r.1.now < length bytes.now) }
 {
     let (_, inner) = bytes.split_at(opening);
-    let len = memmem::find(inner, close)?;
+    let len = find_closing(inner, close)?;
     Some(bytes.split_at(opening + len + close.len()))
 }
 
