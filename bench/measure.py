@@ -96,6 +96,20 @@ def events_in_no_order(size):
     return numbered(b"", lambda n: b'<EVENT eid="%08x" class="STATE"/>' % (n * 2654435761 % (1 << 32)), size)
 
 
+def annotated_text(size):
+    """Sentences of a few words, every other one of them an EVENT."""
+    words = b"The board said on Wednesday that rates would fall before the meeting and rise after it".split()
+
+    def sentence(number):
+        marked = (
+            b'<EVENT eid="e%d" class="OCCURRENCE">%s</EVENT>' % (number * 8 + k, word) if k % 2 else word
+            for k, word in enumerate(words[number % 5 : number % 5 + 8])
+        )
+        return b"<s>%s.</s>\n" % b" ".join(marked)
+
+    return numbered(b"", sentence, size)
+
+
 def times(size):
     """TIMEX3s, each with an identifier of its own: too many to be accepted."""
     return numbered(b"", lambda n: b'<TIMEX3 tid="t%d" type="DATE" value="1998-W53-7"/>' % n, size)
@@ -117,7 +131,7 @@ def text_with_times(size):
 
 
 ROWS = [("spans", make) for make in (one_text, shortest_tags, one_tag, comments_and_references)]
-ROWS += [("check", make) for make in (one_text, deepest_nesting, deepest_of_long_names, shortest_tags, one_tag, events, events_in_no_order, signals_and_links, times)]
+ROWS += [("check", make) for make in (one_text, deepest_nesting, deepest_of_long_names, shortest_tags, one_tag, comments_and_references, annotated_text, events, events_in_no_order, signals_and_links, times)]
 ROWS += [("dates", text_with_times)]
 
 
