@@ -1,4 +1,5 @@
 pub mod Depths
+pub mod Elements
 pub mod Endings
 pub mod Faults
 pub mod FirstFaults
@@ -8,6 +9,7 @@ pub mod LastUnits
 pub mod LaidOut
 pub mod LinkTags
 pub mod Passed
+pub mod Passing
 pub mod Paths
 pub mod Pulling
 pub mod Rows
