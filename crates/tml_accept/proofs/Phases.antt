@@ -1,10 +1,9 @@
 -- A document has one first fault or says one thing: each phase has one fault at most, and where a phase has one the later phases have none.
-use Rattle.std.proofs.Common.{◌≡◌, ◌⊎◌, inl, inr, ℕ, List, subst, Option, Some, None, IfSome}
+use Rattle.std.proofs.Common.{◌≡◌, ◌⊎◌, inl, inr, ℕ, List, subst}
 use Rattle.faults.specs.declared.kind.FaultKind.{FaultKind}
 use Rattle.tml_tree.specs.Plain.{PlainNode}
 use Rattle.tml_tree.specs.Walking.{elements}
-use Rattle.tml_tree.specs.declared.whole.TreeFault.{TreeFault}
-use Rattle.tml_tree.specs.Whole.{HasTreeFault, IsTreeOf, UnitsFaultAt, kind_and_place}
+use Rattle.tml_tree.specs.Whole.{IsTreeOf}
 use Rattle.tml_tree.proofs.Faults as trees
 use Rattle.tml_tree.proofs.Paths.{one_tree_of_source}
 use Rattle.tml_types.specs.Content.{PlainTyped}
@@ -28,13 +27,6 @@ one_of_both A B a b none kind other place at (inr h) (inr k) = b kind other plac
 
 one_in_units : (doc : List ℕ) → One (InUnits doc)
 one_in_units doc kind other place at h k = let same = (trees.one_source_answer doc).one_fault place at kind other h k in (same.1, same.0)
-
--- a fault of the units of a document whose cut has none
-pub in_units : (doc : List ℕ) (fault : TreeFault) → HasTreeFault doc fault → IfSome (kind_and_place fault) (λ f. FirstFault doc f.0 f.1)
-in_units doc fault h = elim (kind_and_place fault) as (λ o. IfSome o (λ f. UnitsFaultAt doc f.1 f.0) → IfSome o (λ f. FirstFault doc f.0 f.1)) [
-  | None ↦ λ k. tt
-  | Some f ↦ λ k. inl (inr k)
-] h
 
 -- ---- the attributes
 

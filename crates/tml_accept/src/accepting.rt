@@ -9,14 +9,14 @@ use std::alloc::Global;
 use tml_refs::{Document, resolve};
 use tml_span::reader;
 use tml_tree::{TagTree, tree_from};
-use tml_types::{Typed, type_tags};
+use tml_types::{Typed, type_tags, type_units};
 
 /// The kind and the place of a fault of a document. Out of memory there is none.
 pub type Fault = Option<(FaultKind, u32)>;
 
 /// What a document says that has no fault in any of the five phases: that its bytes are UTF-8 and are cut into units,
-/// that the units nest, that the attributes are right, and the identifiers, references and limits. The tree is given up
-/// before the references are looked up, so that its memory serves the last phase.
+/// that the units nest, that the attributes are right, and the identifiers, references and limits. No tree is built: the
+/// tags are typed as the units are read.
 ///
 /// # Errors
 ///
@@ -27,15 +27,9 @@ pub fn accept<'s>(alloc: Global, doc: &'s [u8]) -> Result<Document<'s>, Fault>
     ensures ok { IfOk result (Says doc.now) }
     ensures err { IfErr result (λ fault. IfSome fault (λ f. FirstFault doc.now f.0 f.1)) }
 {
-    let typed = {
-        let tree = match nested(alloc, doc) {
-            Ok(tree) => tree,
-            Err(fault) => return Err(fault),
-        };
-        match typed_tags(alloc, &tree) {
-            Ok(typed) => typed,
-            Err(fault) => return Err(fault),
-        }
+    let typed = match typed(alloc, doc) {
+        Ok(typed) => typed,
+        Err(fault) => return Err(fault),
     };
     match resolve(alloc, &typed) {
         Ok(document) => Ok(document),
@@ -64,6 +58,22 @@ pub fn accepted_tree<'s>(alloc: Global, doc: &'s [u8]) -> Result<TagTree<'s>, Fa
     };
     match resolve(alloc, &typed) {
         Ok(_) => Ok(tree),
+        Err(fault) => Err(fault.kind_and_place()),
+    }
+}
+
+/// The typed tags of a document, or the first fault of its bytes, its units, their nesting or their attributes.
+fn typed<'s>(alloc: Global, doc: &'s [u8]) -> Result<Typed<'s>, Fault>
+    requires { length doc.now ≤ max_document }
+    ensures ok { IfOk result (λ tags. (root : PlainNode) × AreTypedTags doc.now root tags) }
+    ensures err { IfErr result (λ fault. IfSome fault (λ f. FirstFault doc.now f.0 f.1)) }
+{
+    let mut reader = match reader(doc) {
+        Ok(reader) => reader,
+        Err(fault) => return Err(Some(fault.kind_and_place())),
+    };
+    match type_units(alloc, &mut reader) {
+        Ok(typed) => Ok(typed),
         Err(fault) => Err(fault.kind_and_place()),
     }
 }

@@ -1,6 +1,7 @@
 pub mod AfterTag
 pub mod Allowed
 pub mod Depths
+pub mod Elements
 pub mod Endings
 pub mod Faults
 pub mod FirstFaults
@@ -10,6 +11,7 @@ pub mod LastUnits
 pub mod LaidOut
 pub mod LinkTags
 pub mod Passed
+pub mod Passing
 pub mod Paths
 pub mod Pulling
 pub mod Rows

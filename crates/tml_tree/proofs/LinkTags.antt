@@ -1,11 +1,10 @@
 -- Only the innermost open tag can be a link tag.
-use Rattle.std.proofs.Common.{◌≡◌, ℕ, Bool, true, false, not, ◌&&◌, ◌||◌, nat_le, List, [], ◌∷◌, length, refl, sym, subst, None}
+use Rattle.std.proofs.Common.{◌≡◌, ℕ, Bool, true, false, not, ◌&&◌, ◌||◌, nat_le, List, [], length, refl, None}
 use Rattle.std.specs.List.{list_any}
-use Rattle.tml_span.specs.Units.{Kind, start_tag, end_tag}
+use Rattle.tml_span.specs.Units.{start_tag}
 use Rattle.tml_tree.specs.TagNames.{is_known, is_link, is_root}
 use Rattle.tml_tree.specs.Rules.{History, is_nil}
-use Rattle.tml_tree.specs.Judging.{OnlyInnermost, first_fault}
-use Rattle.tml_tree.specs.Trees.{Differs}
+use Rattle.tml_tree.specs.Judging.{first_fault}
 use Rattle.tml_tree.proofs.FirstFaults.{first_of}
 
 -- a tag that is allowed is in no link tag

@@ -1,5 +1,5 @@
 -- Units that are judged one after another, and what is known of them.
-use Rattle.std.proofs.Common.{◌≡◌, ◌⊎◌, inl, inr, ℕ, Bool, true, false, cond, not, ◌&&◌, ◌||◌, nat_le, List, [], ◌∷◌, ◌++◌, map, length, refl, sym, ap, subst, ◌∙◌, Option, Some, None}
+use Rattle.std.proofs.Common.{◌≡◌, ◌⊎◌, inl, inr, ℕ, Bool, true, false, cond, not, ◌&&◌, ◌||◌, nat_le, List, [], ◌∷◌, ◌++◌, map, refl, sym, ap, subst, ◌∙◌, Some, None}
 use Rattle.std.proofs.Math.Bool.{or-false, or-true}
 use Rattle.std.proofs.lemmas.Option.{same_Some}
 use Rattle.std.specs.List.{filter, list_any}
@@ -45,14 +45,14 @@ single_element : (tags : List OpenTag) (nodes : List PlainNode) (n : PlainNode) 
 single_element [] nodes n e h = inr (n, filter-append is_element nodes (n ∷ []) ∙ ap (λ (ns : List PlainNode). filter is_element nodes ++ ns) e ∙ ap (λ (ns : List PlainNode). ns ++ n ∷ []) h)
 single_element (t ∷ tags) nodes n e h = h
 
-no_elements : (nodes : List PlainNode) → list_any is_element nodes ≡ false → filter is_element nodes ≡ []
+pub no_elements : (nodes : List PlainNode) → list_any is_element nodes ≡ false → filter is_element nodes ≡ []
 no_elements [] e = refl
 no_elements (n ∷ nodes) e = elim (is_element n) as (λ b. (b || list_any is_element nodes) ≡ false → cond b (n ∷ filter is_element nodes) (filter is_element nodes) ≡ []) [
   | true ↦ λ h. absurd cc
   | false ↦ λ h. no_elements nodes h
 ] e
 
-some_elements : (nodes : List PlainNode) → filter is_element nodes ≡ [] → list_any is_element nodes ≡ false
+pub some_elements : (nodes : List PlainNode) → filter is_element nodes ≡ [] → list_any is_element nodes ≡ false
 some_elements [] e = refl
 some_elements (n ∷ nodes) e = elim (is_element n) as (λ b. cond b (n ∷ filter is_element nodes) (filter is_element nodes) ≡ [] → (b || list_any is_element nodes) ≡ false) [
   | true ↦ λ h. absurd cc

@@ -1,8 +1,9 @@
 -- A reader whose units are judged one after another.
-use Rattle.std.proofs.Common.{◌≡◌, ◌<◌, ◌^◌, ℕ, Bool, true, List, [], ◌∷◌, ◌++◌, length, sym, subst, Some, None, IfSome}
+use Rattle.std.proofs.Common.{◌≡◌, ◌<◌, ◌^◌, ℕ, List, [], ◌∷◌, ◌++◌, append_assoc, length, sym, subst, Some, None, IfSome}
 use Rattle.tml_span.specs.Reader.{Reading, Divides, IsReading}
 use Rattle.tml_span.specs.Units.{PlainUnit}
 use Rattle.tml_span.specs.Whole.{IsWhole}
+use Rattle.tml_span.proofs.Pulling.{all_given}
 use Rattle.faults.specs.declared.kind.FaultKind.TheVariants as fault
 use Rattle.tml_tree.specs.declared.whole.TreeFault.{TreeFault}
 use Rattle.tml_tree.specs.declared.whole.TreeFault.TheVariants as tree
@@ -29,6 +30,15 @@ left_past_unit source r h before left u (tree.Unclosed place) e reading d refuse
 left_past_unit source r h before left u (tree.Misplaced place) e reading d refuses = (e, before, u, left, d, sym refuses.1)
 left_past_unit source r h before left u (tree.TooDeep place) e reading d refuses = (e, before, u, left, d, sym refuses.1)
 left_past_unit source r h before left u tree.Memory e reading d refuses = (e, reading)
+
+-- the units given and the one at the end of which a reader is are those of its source, with those that are left
+pub whole_past : (source : List ℕ) (r : Reading) (before left : List PlainUnit) (u : PlainUnit) → r.source ≡ source → Divides r (before ++ u ∷ []) left → IsWhole (record { source = source; units = before ++ u ∷ left })
+whole_past source r before left u e d =
+    subst (λ (s : List ℕ). IsWhole (record { source = s; units = before ++ u ∷ left })) e (subst (λ (us : List PlainUnit). IsWhole (record { source = r.source; units = us })) (append_assoc before (u ∷ []) left) d.whole)
+
+-- where none is left, the units given are those of the source
+pub whole_at_end : (source : List ℕ) (r : Reading) (given left : List PlainUnit) → r.source ≡ source → left ≡ [] → Divides r given left → IsWhole (record { source = source; units = given })
+whole_at_end source r given left e none d = subst (λ (s : List ℕ). IsWhole (record { source = s; units = given })) e (all_given r given left none d)
 
 -- the fault of all units is that of their source
 pub units_fault : (source : List ℕ) (units : List PlainUnit) (f : TreeFault) → IsWhole (record { source = source; units = units }) → UnitsFault (length source) units f → HasTreeFault source f

@@ -1,22 +1,20 @@
 -- What a builder knows, after one more unit and at the end.
-use Rattle.std.proofs.Common.{◌≡◌, inl, ℕ, List, [], ◌∷◌, ◌++◌, map, length, refl, sym, ap, subst, ◌∙◌, arith, Option, Some, None, IfSome}
+use Rattle.std.proofs.Common.{◌≡◌, List, [], ◌∷◌, ◌++◌, map, length, refl, sym, ap, subst, ◌∙◌, arith}
 use Rattle.std.specs.List.{filter}
 use Rattle.std.proofs.lemmas.List.{length-map, length-reverse}
 use Rattle.tml_span.specs.Units.{PlainUnit}
 use Rattle.tml_tree.specs.declared.builder.Frame.{Frame}
 use Rattle.tml_tree.specs.declared.builder.Builder.{Builder}
 use Rattle.faults.specs.First.{NoneBreaks}
-use Rattle.faults.specs.declared.kind.FaultKind.{FaultKind}
 use Rattle.tml_tree.specs.Plain.{PlainNode}
 use Rattle.tml_tree.specs.Nesting.{OpenTag, Opens, is_content, is_element}
-use Rattle.tml_tree.specs.Judging.{HavePassed, first_fault}
+use Rattle.tml_tree.specs.Judging.{HavePassed}
 use Rattle.tml_tree.specs.Rules.{History}
 use Rattle.tml_tree.specs.Trees.{Breaks, Document, Unclosed}
-use Rattle.tml_tree.specs.Whole.{FaultOf}
 use Rattle.tml_tree.specs.Roots.{AtMostOne, EndsIn}
 use Rattle.tml_tree.specs.View as view
 use Rattle.tml_tree.specs.Taking.{Agrees, TakesUnit, HasTaken, stage_of}
-use Rattle.tml_tree.proofs.Passed.{passed_more, passed_not, unclosed_open, unclosed_none, document_is}
+use Rattle.tml_tree.proofs.Passed.{passed_more, unclosed_open, unclosed_none, document_is}
 use Rattle.tml_tree.proofs.Stacks.{names_are}
 
 -- ---- one more unit
@@ -55,8 +53,3 @@ pub ends_whole : (us : List PlainUnit) (b : Builder) (root : PlainNode) → HasT
 ends_whole us b root s e f =
     document_is us root (map view.node_of b.nodes.items) (subst (λ (ts : List OpenTag). Opens (filter is_content us) ts (map view.node_of b.nodes.items)) (no_tags b e) s.opens) s.lawful
     (subst (λ (ts : List OpenTag). AtMostOne ts (map view.node_of b.nodes.items)) (no_tags b e) s.single) f
-
--- the fault of a builder that refuses
-pub refused : (end : ℕ) (us rest : List PlainUnit) (u : PlainUnit) (b : Builder) (o : Option (FaultKind × ℕ)) → HasTaken us b → IfSome o (λ f. (first_fault b.nesting u.kind ≡ Some f.0) × (f.1 ≡ u.start)) → IfSome o (λ f. FaultOf end (us ++ u ∷ rest) f.1 f.0)
-refused end us rest u b None s r = tt
-refused end us rest u b (Some f) s r = inl (rw r.1 (passed_not us rest u _ _ b.nesting f.0 s r.0))

@@ -1,5 +1,5 @@
 -- A builder that takes one unit after another.
-use Rattle.std.specs.Prelude.{◌≡◌, List, map, Some, IfSome}
+use Rattle.std.specs.Prelude.{◌≡◌, List, map, Some}
 use Rattle.tml_span.specs.Units.{PlainUnit}
 use Rattle.tml_tree.specs.declared.builder.Builder.{Builder}
 use Rattle.tml_tree.specs.declared.whole.TreeFault.{TreeFault}

@@ -3,6 +3,7 @@ ghost use Rattle.std.specs.Prelude.{List, ℕ};
 ghost use Rattle.tml_span.specs.Units.{PlainUnit};
 ghost use Rattle.tml_tree.specs.Places.{TreeIsLaidOut};
 ghost use Rattle.tml_tree.specs.Trees.{LastUnit, OneAnswers, OnePath, OneTree, PathEnds};
+ghost use Rattle.tml_tree.specs.Walking.{ElementsAreTags};
 ghost use Rattle.tml_tree.specs.Whole.{AreJudged, OneSourceAnswers, OneTreeOfSource, TreeOrFault};
 ghost use Rattle.tml_tree.specs.Written.{WrittenIsRead};
 
@@ -25,6 +26,11 @@ pub fn path_ends()
 /// Units make one tree.
 pub fn one_tree()
     ensures { OneTree }
+{}
+
+/// The elements of a tree are the start and empty tags of its units, in their order.
+pub fn elements_are_tags()
+    ensures { ElementsAreTags }
 {}
 
 /// A source has one tree.

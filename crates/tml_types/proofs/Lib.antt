@@ -8,3 +8,4 @@ pub mod OneAnswer
 pub mod TypedOrFault
 pub mod Walks
 pub mod Rising
+pub mod Pulling

@@ -1,16 +1,14 @@
 -- The tags of a source follow one another, so the places of its typed tags rise.
-use Rattle.std.proofs.Common.{◌≡◌, ℕ, suc, Bool, true, false, cond, ◌+◌, ◌<◌, ◌≤◌, ◌^◌, List, [], ◌∷◌, ◌++◌, length, map, refl, sym, ap, ◌∙◌, inl, inr, append-nil, length-append, arith, rules, codes, All, subst, Some, None}
+use Rattle.std.proofs.Common.{◌≡◌, ℕ, suc, true, false, cond, ◌+◌, ◌<◌, ◌≤◌, ◌^◌, List, [], ◌∷◌, ◌++◌, length, map, ap, ◌∙◌, length-append, arith, rules, codes, All, subst, Some, None}
 use Rattle.std.specs.Option.{IfSome}
 use Rattle.std.specs.List.{AllZip, filter}
-use Rattle.std.proofs.lemmas.List.{map-append}
-use Rattle.std.proofs.lemmas.List.Elements.{filter-append, All-nil, All-cons, All-head, All-tail}
+use Rattle.std.proofs.lemmas.List.Elements.{All-nil, All-cons, All-head, All-tail}
 use Rattle.tml_span.specs.Cutting.{CutsFrom}
 use Rattle.tml_span.specs.Units.{Attribute, Kind, PlainUnit, SpelledTag, Spelled, bom, declaration, doctype, comment, text, start_tag, end_tag, empty_tag}
-use Rattle.tml_tree.specs.Nesting.{Item, Items, is_content, is_element}
-use Rattle.tml_tree.specs.Plain.{PlainNode, PlainNodes, text_node, comment_node, element, none, more, nodes_of, unit}
-use Rattle.tml_tree.specs.Trees.{Document}
-use Rattle.tml_tree.specs.Walking.{PlainTag, elements, all_elements}
+use Rattle.tml_tree.specs.Plain.{PlainNode, unit}
+use Rattle.tml_tree.specs.Walking.{PlainTag, elements, tags_of}
 use Rattle.tml_tree.specs.Whole.{IsTreeOf}
+use Rattle.tml_tree.proofs.Elements.{elements_are_tags}
 use Rattle.tml_types.specs.Content.{PlainTyped}
 use Rattle.tml_types.specs.Places.{place_of, Rises, IsPlaceSmall, ArePlaced}
 use Rattle.tml_types.specs.Rules.{AreSoundBefore, Breaks, IsSound}
@@ -20,62 +18,8 @@ use Rattle.tml_types.specs.declared.walk.TypeFault.{TypeFault}
 use Rattle.faults.specs.declared.kind.FaultKind.{FaultKind}
 use Rattle.faults.proofs.First.{all_of_none}
 
--- ---- the starts of tags
-
-abbrev begins_tag : PlainUnit → Bool
-begins_tag u = elim u.kind [ start_tag name attrs ↦ true | empty_tag name attrs ↦ true | _ ↦ false ]
-
-abbrev start_of : PlainUnit → ℕ
-start_of u = u.start
-
-abbrev starts : List PlainUnit → List ℕ
-starts us = map start_of (filter begins_tag us)
-
 abbrev at : PlainTag → ℕ
 at tag = tag.place
-
-starts_append : (us vs : List PlainUnit) → starts (us ++ vs) ≡ starts us ++ starts vs
-starts_append us vs = ap (λ (xs : List PlainUnit). map start_of xs) (filter-append begins_tag us vs) ∙ map-append start_of (filter begins_tag us) (filter begins_tag vs)
-
-starts_kind : (start end : ℕ) (k : Kind) (us : List PlainUnit) → starts (filter is_content us) ≡ starts us → starts (filter is_content (unit start end k ∷ us)) ≡ starts (unit start end k ∷ us)
-starts_kind start end bom us h = h
-starts_kind start end (declaration b) us h = h
-starts_kind start end (doctype b) us h = h
-starts_kind start end (comment b) us h = h
-starts_kind start end (text b) us h = h
-starts_kind start end (end_tag name) us h = h
-starts_kind start end (start_tag name attrs) us h = ap (λ (ns : List ℕ). start ∷ ns) h
-starts_kind start end (empty_tag name attrs) us h = ap (λ (ns : List ℕ). start ∷ ns) h
-
-starts_of_content : (us : List PlainUnit) → starts (filter is_content us) ≡ starts us
-starts_of_content [] = refl
-starts_of_content (u ∷ us) = starts_kind u.start u.end u.kind us (starts_of_content us)
-
--- ---- elements begin where tags begin
-
-mutual
-  item_starts : (n : PlainNode) (us : List PlainUnit) → Item n us → map at (elements n) ≡ starts us
-  item_starts (text_node start end bytes) us h = rw h refl
-  item_starts (comment_node start end bytes) us h = rw h refl
-  item_starts (element start end name attrs children) us (inl h) = rw (h.0, h.1) refl
-  item_starts (element start end name attrs children) us (inr h) =
-      rw (h.3) (ap (λ (ns : List ℕ). start ∷ ns) (items_starts children h.0 h.4 ∙ sym (starts_append h.0 (unit h.2 end (end_tag name) ∷ []) ∙ append-nil (starts h.0))))
-
-  items_starts : (ns : PlainNodes) (us : List PlainUnit) → Items ns us → map at (all_elements ns) ≡ starts us
-  items_starts none us h = rw h refl
-  items_starts (more n ns) us h = rw (h.2, map-append at (elements n) (all_elements ns), starts_append h.0 h.1, item_starts n h.0 h.3, items_starts ns h.1 h.4) refl
-
-only_elements : (nodes : List PlainNode) → all_elements (nodes_of nodes) ≡ all_elements (nodes_of (filter is_element nodes))
-only_elements [] = refl
-only_elements (text_node start end bytes ∷ nodes) = only_elements nodes
-only_elements (comment_node start end bytes ∷ nodes) = only_elements nodes
-only_elements (element start end name attrs children ∷ nodes) = ap (λ (ts : List PlainTag). elements (element start end name attrs children) ++ ts) (only_elements nodes)
-
-root_starts : (root : PlainNode) (us : List PlainUnit) → Document root us → map at (elements root) ≡ starts us
-root_starts root us d =
-    let nodes = d.1.0 in
-    let all : all_elements (nodes_of nodes) ≡ elements root ++ [] = only_elements nodes ∙ ap (λ (ns : List PlainNode). all_elements (nodes_of ns)) d.1.2 in
-    ap (λ (ts : List PlainTag). map at ts) (sym (all ∙ append-nil (elements root))) ∙ items_starts (nodes_of nodes) (filter is_content us) d.1.1 ∙ starts_of_content us
 
 -- ---- units follow one another, and a tag has two bytes or more
 
@@ -95,22 +39,22 @@ tag_len place name attrs close spelling s k =
 spaced_tag : (place start : ℕ) (prefix : List ℕ) (ns : List ℕ) → start ≡ place → 2 ≤ length prefix → Spaced (place + length prefix) ns → Spaced place (start ∷ ns)
 spaced_tag place start prefix ns e k h = (omega arith, spaced_lower (start + 2) (place + length prefix) ns (omega arith) h)
 
-spaced_kind : (place start end : ℕ) (k : Kind) (prefix : List ℕ) (us : List PlainUnit) → Spelled place (unit start end k) prefix → Spaced (place + length prefix) (starts us) → Spaced place (starts (unit start end k ∷ us))
-spaced_kind place start end bom prefix us s h = spaced_lower place (place + length prefix) (starts us) (omega arith) h
-spaced_kind place start end (declaration b) prefix us s h = spaced_lower place (place + length prefix) (starts us) (omega arith) h
-spaced_kind place start end (doctype b) prefix us s h = spaced_lower place (place + length prefix) (starts us) (omega arith) h
-spaced_kind place start end (comment b) prefix us s h = spaced_lower place (place + length prefix) (starts us) (omega arith) h
-spaced_kind place start end (text b) prefix us s h = spaced_lower place (place + length prefix) (starts us) (omega arith) h
-spaced_kind place start end (end_tag name) prefix us s h = spaced_lower place (place + length prefix) (starts us) (omega arith) h
-spaced_kind place start end (start_tag name attrs) prefix us s h = spaced_tag place start prefix (starts us) s.start (tag_len place name attrs (codes ">") prefix s.kind (omega arith)) h
-spaced_kind place start end (empty_tag name attrs) prefix us s h = spaced_tag place start prefix (starts us) s.start (tag_len place name attrs (codes "/>") prefix s.kind (omega arith)) h
+spaced_kind : (place start end : ℕ) (k : Kind) (prefix : List ℕ) (us : List PlainUnit) → Spelled place (unit start end k) prefix → Spaced (place + length prefix) (map at (tags_of us)) → Spaced place (map at (tags_of (unit start end k ∷ us)))
+spaced_kind place start end bom prefix us s h = spaced_lower place (place + length prefix) (map at (tags_of us)) (omega arith) h
+spaced_kind place start end (declaration b) prefix us s h = spaced_lower place (place + length prefix) (map at (tags_of us)) (omega arith) h
+spaced_kind place start end (doctype b) prefix us s h = spaced_lower place (place + length prefix) (map at (tags_of us)) (omega arith) h
+spaced_kind place start end (comment b) prefix us s h = spaced_lower place (place + length prefix) (map at (tags_of us)) (omega arith) h
+spaced_kind place start end (text b) prefix us s h = spaced_lower place (place + length prefix) (map at (tags_of us)) (omega arith) h
+spaced_kind place start end (end_tag name) prefix us s h = spaced_lower place (place + length prefix) (map at (tags_of us)) (omega arith) h
+spaced_kind place start end (start_tag name attrs) prefix us s h = spaced_tag place start prefix (map at (tags_of us)) s.start (tag_len place name attrs (codes ">") prefix s.kind (omega arith)) h
+spaced_kind place start end (empty_tag name attrs) prefix us s h = spaced_tag place start prefix (map at (tags_of us)) s.start (tag_len place name attrs (codes "/>") prefix s.kind (omega arith)) h
 
-cut_spaced : (place : ℕ) (bytes : List ℕ) (us : List PlainUnit) (rest : List ℕ) → CutsFrom place bytes us rest → Spaced place (starts us)
+cut_spaced : (place : ℕ) (bytes : List ℕ) (us : List PlainUnit) (rest : List ℕ) → CutsFrom place bytes us rest → Spaced place (map at (tags_of us))
 cut_spaced place bytes [] rest c = tt
 cut_spaced place bytes (u ∷ us) rest c = spaced_kind place u.start u.end u.kind c.0 us c.3 (cut_spaced (place + length c.0) c.1 us rest c.5)
 
 tree_spaced : (source : List ℕ) (root : PlainNode) → IsTreeOf source root → Spaced 0 (map at (elements root))
-tree_spaced source root t = rw (root_starts root t.0 t.2) (cut_spaced 0 source t.0 [] t.1.1)
+tree_spaced source root t = rw (elements_are_tags root t.0 t.2) (cut_spaced 0 source t.0 [] t.1.1)
 
 -- ---- the places of typed tags
 

@@ -5,6 +5,8 @@ use Rattle.std.specs.Option.{IfSome}
 use Rattle.std.proofs.lemmas.List.{map-append}
 use Rattle.std.proofs.lemmas.List.Elements.{All-append, filter-append}
 use Rattle.named.proofs.Pairs.{zip_append}
+use Rattle.tml_span.specs.declared.unit.Attr.{Attr}
+use Rattle.tml_span.specs.View.{attribute_of}
 use Rattle.tml_tree.specs.declared.node.Tag.{Tag}
 use Rattle.tml_tree.specs.declared.node.Node.{Node}
 use Rattle.tml_tree.specs.Plain.{PlainNode, nodes_of}
@@ -21,7 +23,7 @@ use Rattle.tml_types.specs.Places.{IsPlaceSmall}
 use Rattle.tml_types.specs.Rules.{Breaks, IsSound}
 use Rattle.tml_types.specs.Typing.{TypedAs}
 use Rattle.tml_types.specs.View.{typed_of}
-use Rattle.tml_types.specs.Walking.{Adds, plain_of}
+use Rattle.tml_types.specs.Walking.{Adds, tag_at}
 use Rattle.tml_types.specs.Whole.{FaultAt, HasFault, Types, has_rows, kind_and_place, place_of}
 
 types_append : (tags others : List PlainTag) (ts us : List PlainTyped) → Types tags ts → Types others us → Types (tags ++ others) (ts ++ us)
@@ -46,8 +48,9 @@ fault_of_more before tags after all fault e sound h =
     ] h)
 
 -- a tag and those inside it, one after another
-pub tag_first : (tag : Tag) (children : List Node) → children ≡ tag.children.items → plain_of tag ∷ all_elements (nodes_of (map node_of children)) ≡ elements (tag_node tag)
-tag_first tag children k = rw k (sym (ap (λ (n : PlainNode). elements n) (element_is tag)))
+pub tag_first : (tag : Tag) (attrs : List Attr) (children : List Node) → attrs ≡ tag.attrs → children ≡ tag.children.items
+    → tag_at tag.span.start tag.name (map attribute_of attrs) ∷ all_elements (nodes_of (map node_of children)) ≡ elements (tag_node tag)
+tag_first tag attrs children a k = rw (a, k) (sym (ap (λ (n : PlainNode). elements n) (element_is tag)))
 
 -- the elements of what is left are those of the next child and then the others
 pub next_child : (done : List PlainTag) (children : List Node) (i : ℕ) (child : Node) (all : List PlainTag) → i < length children → child ≡ get_or children i child

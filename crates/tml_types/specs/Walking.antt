@@ -2,10 +2,8 @@
 use Rattle.std.specs.Prelude.{◌≡◌, ℕ, true, false, List, ◌++◌, map, codes, [], Option, Some, None, Result, Ok, Err}
 use Rattle.std.specs.List.{All, list_any}
 use Rattle.tml_span.specs.Units.{Attribute}
-use Rattle.tml_span.specs.View.{attribute_of}
 use Rattle.tml_tree.specs.declared.tag_name.TagName.{TagName}
 use Rattle.tml_tree.specs.declared.tag_name.TagName.TheVariants as tag
-use Rattle.tml_tree.specs.declared.node.Tag.{Tag}
 use Rattle.tml_tree.specs.TagNames.{text_of}
 use Rattle.tml_tree.specs.Walking.{PlainTag}
 use Rattle.tml_types.specs.declared.typed.TypedTag.{TypedTag}
@@ -24,10 +22,6 @@ use Rattle.tml_types.specs.Whole.{Types}
 -- a tag of a known name
 abbrev pub tag_at : ℕ → TagName → List Attribute → PlainTag
 tag_at place name attrs = record { place = place; name = text_of name; attrs = attrs }
-
--- a tag without its children
-abbrev pub plain_of : Tag → PlainTag
-plain_of tag = tag_at tag.span.start tag.name (map attribute_of tag.attrs)
 
 -- no rule is broken by a tag of this name with these attributes, but maybe that of repeated names, and this is its typed tag
 pub record Reads (name : TagName) (attrs : List Attribute) (place : ℕ) (t : PlainTyped) : Type 0 where

@@ -1,17 +1,21 @@
 //! Typed tags: each attribute that means something is read once, in the order of the table. What has to be there comes
 //! first, then what each value may be, then that not both of a pair are there, and last whether a date exists.
-ghost use Rattle.std.specs.Prelude.{◌≡◌, [], ◌∷◌, map, true, false, IfOk, IfErr};
+ghost use Rattle.std.specs.Prelude.{◌≡◌, [], ◌∷◌, map, true, false, IfOk, IfErr, OnOk};
 ghost use Rattle.tml_tree.specs.declared.tag_name.TagName.TheVariants as tag;
 ghost use Rattle.tml_types.specs.Reading.{attrs_of};
 ghost use Rattle.tml_types.specs.View.{typed_of};
-ghost use Rattle.tml_types.specs.Walking.{Reads, Refuses, TypesOne, plain_of};
+ghost use Rattle.tml_types.specs.Walking.{Adds, Reads, Refuses, TypesOne, tag_at};
+ghost use Rattle.tml_types.specs.Whole.{HasFault};
 
 use crate::attributes::Attributes;
+use crate::repeats::is_repeated;
 use crate::typed::TypedTag;
 use crate::{AspectRel, EventClass, SubRel, TypeFault};
 use net_core::Rel;
+use std::alloc::Global;
 use timex_value::TimexKind;
-use tml_tree::{Tag, TagName};
+use tml_span::{List, Memory};
+use tml_tree::TagName;
 
 fn event<'s>(of: &Attributes<'_, 's>) -> Result<TypedTag<'s>, TypeFault>
     ensures ok { IfOk result (λ t. Reads tag.Event (attrs_of of.now) of.now.place (typed_of t)) }
@@ -164,22 +168,43 @@ fn slink<'s>(of: &Attributes<'_, 's>) -> Result<TypedTag<'s>, TypeFault>
     })
 }
 
-/// The typed tag of a tag that repeats no name. The root and the wrappers have none.
-pub fn typed_tag<'s>(tag: &Tag<'s>) -> Result<Option<TypedTag<'s>>, TypeFault>
-    ensures { TypesOne tag.now.name (plain_of tag.now) result }
+/// The typed tag of a tag of this name that repeats no name of an attribute. The root and the wrappers have none.
+fn typed_tag<'s>(name: TagName, of: &Attributes<'_, 's>) -> Result<Option<TypedTag<'s>>, TypeFault>
+    ensures { TypesOne name (tag_at of.now.place name (attrs_of of.now)) result }
 {
-    let of = Attributes {
-        place: tag.span.start,
-        attrs: tag.attrs.as_slice(),
-    };
-    match tag.name {
-        TagName::Event => event(&of).map(Some),
-        TagName::MakeInstance => instance(&of).map(Some),
-        TagName::Timex3 => timex(&of).map(Some),
-        TagName::Signal => signal(&of).map(Some),
-        TagName::Tlink => tlink(&of).map(Some),
-        TagName::Alink => alink(&of).map(Some),
-        TagName::Slink => slink(&of).map(Some),
+    match name {
+        TagName::Event => event(of).map(Some),
+        TagName::MakeInstance => instance(of).map(Some),
+        TagName::Timex3 => timex(of).map(Some),
+        TagName::Signal => signal(of).map(Some),
+        TagName::Tlink => tlink(of).map(Some),
+        TagName::Alink => alink(of).map(Some),
+        TagName::Slink => slink(of).map(Some),
         _ => Ok(None),
+    }
+}
+
+/// Appends the typed tag of a tag of this name, where it has one.
+pub fn type_one<'s>(
+    alloc: Global,
+    name: TagName,
+    of: Attributes<'_, 's>,
+    typed: &mut List<TypedTag<'s>>,
+) -> Result<(), TypeFault>
+    ensures ok { OnOk result (Adds (tag_at of.entry.place name (attrs_of of.entry) ∷ []) typed.old typed.new) }
+    ensures err { IfErr result (λ e. HasFault (tag_at of.entry.place name (attrs_of of.entry) ∷ []) e) }
+{
+    let place = of.place;
+    match is_repeated(alloc, of.attrs) {
+        Ok(false) => {}
+        Ok(true) => return Err(TypeFault::RepeatedAttribute { place }),
+        Err(Memory) => return Err(TypeFault::Memory),
+    }
+    match typed_tag(name, &of)? {
+        None => Ok(()),
+        Some(value) => match typed.push(value) {
+            Ok(()) => Ok(()),
+            Err(Memory) => Err(TypeFault::Memory),
+        },
     }
 }

@@ -1,25 +1,25 @@
 //! The typed tags of a document.
-ghost use Rattle.std.specs.Prelude.{◌≡◌, [], ◌∷◌, Some, IfOk, IfErr, OnOk};
+ghost use Rattle.std.specs.Prelude.{◌≡◌, IfOk, IfErr, OnOk};
 ghost use Rattle.tml_tree.specs.View.{node_of, tag_node};
 ghost use Rattle.tml_tree.specs.Walking.{elements};
-ghost use Rattle.tml_types.specs.Walking.{Adds, plain_of};
+ghost use Rattle.tml_types.specs.Walking.{Adds};
 ghost use Rattle.tml_types.specs.Whole as whole;
 ghost use Rattle.tml_types.specs.Whole.{HasFault, IsAtLeastPlace, OfTree, Types};
 
-use crate::repeats::is_repeated;
+use crate::attributes::Attributes;
 use crate::typed::TypedTag;
-use crate::typing::typed_tag;
+use crate::typing::type_one;
 use faults::FaultKind;
 use std::alloc::Global;
 use std::marker::Model;
-use tml_span::{List, Memory};
+use tml_span::List;
 use tml_tree::{Node, Tag, TagTree};
 
 /// The tags of a document that mean something, typed, in document order. Their places rise strictly, and there are
 /// fewer than 2^32 of them.
 #[derive(Drop)]
 pub struct Typed<'s> {
-    tags: List<TypedTag<'s>>,
+    pub(crate) tags: List<TypedTag<'s>>,
 }
 
 impl<'s> Model for Typed<'s> {
@@ -109,7 +109,11 @@ fn type_tag<'s>(
     ensures ok { OnOk result (Adds (elements (tag_node tag.now)) typed.old typed.new) }
     ensures err { IfErr result (λ e. HasFault (elements (tag_node tag.now)) e) }
 {
-    type_one(alloc, tag, typed)?;
+    let of = Attributes {
+        place: tag.span.start,
+        attrs: tag.attrs.as_slice(),
+    };
+    type_one(alloc, tag.name, of, typed)?;
     for child in &tag.children {
         type_node(alloc, child, typed)?;
     }
@@ -129,29 +133,5 @@ fn type_node<'s>(
     match node {
         Node::Text { .. } | Node::Comment { .. } => Ok(()),
         Node::Element(tag) => type_tag(alloc, tag, typed),
-    }
-}
-
-/// Appends the typed tag of a tag, where it has one.
-fn type_one<'s>(
-    alloc: Global,
-    tag: &Tag<'s>,
-    typed: &mut List<TypedTag<'s>>,
-) -> Result<(), TypeFault>
-    ensures ok { OnOk result (Adds (plain_of tag.now ∷ []) typed.old typed.new) }
-    ensures err { IfErr result (λ e. HasFault (plain_of tag.now ∷ []) e) }
-{
-    let place = tag.span.start;
-    match is_repeated(alloc, tag.attrs.as_slice()) {
-        Ok(false) => {}
-        Ok(true) => return Err(TypeFault::RepeatedAttribute { place }),
-        Err(Memory) => return Err(TypeFault::Memory),
-    }
-    match typed_tag(tag)? {
-        None => Ok(()),
-        Some(value) => match typed.push(value) {
-            Ok(()) => Ok(()),
-            Err(Memory) => Err(TypeFault::Memory),
-        },
     }
 }

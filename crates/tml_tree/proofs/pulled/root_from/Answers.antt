@@ -1,11 +1,12 @@
 use Rattle.std.proofs.Common.{◌≡◌, [], ◌∷◌, ◌++◌, inr, refl, sym, subst, ◌∙◌, append_assoc, length, List, ℕ}
-use Rattle.tml_span.specs.Reader.{Reading, Divides, IsReading}
+use Rattle.tml_span.specs.Reader.{Reading, IsReading}
 use Rattle.tml_span.specs.Units.{PlainUnit}
 use Rattle.tml_span.specs.View.{unit_of}
 use Rattle.tml_span.specs.Whole.{IsWhole}
-use Rattle.tml_span.proofs.Pulling.{all_given, none_given}
-use Rattle.tml_tree.proofs.Pulling.{left_past_unit, still_reading, units_fault}
-use Rattle.tml_tree.proofs.Taken.{agrees, taken_more, refused}
+use Rattle.tml_span.proofs.Pulling.{none_given}
+use Rattle.tml_tree.proofs.Passing.{refused}
+use Rattle.tml_tree.proofs.Pulling.{left_past_unit, still_reading, units_fault, whole_at_end, whole_past}
+use Rattle.tml_tree.proofs.Taken.{agrees, taken_more}
 use Rattle.tml_tree.proofs.pulled.root_from.Goals as goal
 
 pub loop-unit-init : goal.loop-unit-init
@@ -23,9 +24,8 @@ returns-in-Err-take-clause-fault c =
     let u = unit_of c.in-Ok-Some.unit in
     let next = gives.4 at.0 at.1 at.2 in
     let source = c.args.reader.now.source in
-    let whole = subst (λ (s : List ℕ). IsWhole (record { source = s; units = at.0 ++ u ∷ next.0 })) (gives.0 ∙ c.loop-unit.invariant.source)
-    (subst (λ (us : List PlainUnit). IsWhole (record { source = c.pull.new.self.source; units = us })) (append_assoc at.0 (u ∷ []) next.0) next.2.whole) in
-    units_fault source (at.0 ++ u ∷ next.0) c.in-Err-take.fault whole (refused (length source) at.0 next.0 u c.loop-unit.builder _ at.3 c.in-Err-take.ensures.err)
+    let whole = whole_past source c.pull.new.self at.0 next.0 u (gives.0 ∙ c.loop-unit.invariant.source) next.2 in
+    units_fault source (at.0 ++ u ∷ next.0) c.in-Err-take.fault whole (refused (length source) at.0 next.0 u _ _ c.loop-unit.builder.nesting _ at.3 c.in-Err-take.ensures.err)
 
 pub returns-in-Err-take-clause-leaves : goal.returns-in-Err-take-clause-leaves
 returns-in-Err-take-clause-leaves c =
@@ -50,15 +50,15 @@ pub returns-in-Some-clause-ok : goal.returns-in-Some-clause-ok
 returns-in-Some-clause-ok c =
     let gives = rw c.in-Ok-None.field-0-is at c.in-Ok-None.ensures.gives in
     let at = c.loop-unit.invariant.taken in
-    let whole = all_given c.loop-unit.reader at.0 at.1 (gives.2 at.0 at.1 at.2) at.2 in
-    (at.0, subst (λ (s : List ℕ). IsWhole (record { source = s; units = at.0 })) c.loop-unit.invariant.source whole, c.in-Some.ensures.some at.0 at.3)
+    let whole = whole_at_end c.args.reader.now.source c.loop-unit.reader at.0 at.1 c.loop-unit.invariant.source (gives.2 at.0 at.1 at.2) at.2 in
+    (at.0, whole, c.in-Some.ensures.some at.0 at.3)
 
 pub returns-in-None-clause-fault : goal.returns-in-None-clause-fault
 returns-in-None-clause-fault c =
     let gives = rw c.in-Ok-None.field-0-is at c.in-Ok-None.ensures.gives in
     let at = c.loop-unit.invariant.taken in
-    let whole = all_given c.loop-unit.reader at.0 at.1 (gives.2 at.0 at.1 at.2) at.2 in
-    (at.0, subst (λ (s : List ℕ). IsWhole (record { source = s; units = at.0 })) c.loop-unit.invariant.source whole, inr (refl, (cc), c.in-None.ensures.none refl at.0 at.3))
+    let whole = whole_at_end c.args.reader.now.source c.loop-unit.reader at.0 at.1 c.loop-unit.invariant.source (gives.2 at.0 at.1 at.2) at.2 in
+    (at.0, whole, inr (refl, (cc), c.in-None.ensures.none refl at.0 at.3))
 
 pub returns-in-Err-clause-leaves : goal.returns-in-Err-clause-leaves
 returns-in-Err-clause-leaves c =

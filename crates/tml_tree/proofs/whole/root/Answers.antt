@@ -2,7 +2,8 @@ use Rattle.std.proofs.Common.{◌≡◌, [], ◌∷◌, ◌++◌, inr, refl, sym
 use Rattle.std.proofs.lemmas.List.{map-append}
 use Rattle.std.specs.Vec.Iter.{into_iter_items}
 use Rattle.tml_span.specs.View.{unit_of}
-use Rattle.tml_tree.proofs.Taken.{agrees, taken_more, refused, nothing_left}
+use Rattle.tml_tree.proofs.Passing.{refused}
+use Rattle.tml_tree.proofs.Taken.{agrees, taken_more, nothing_left}
 use Rattle.tml_tree.proofs.whole.root.Goals as goal
 
 pub take-requires : goal.take-requires
@@ -27,7 +28,7 @@ returns-in-Err-clause-fault c =
     let at = c.loop-unit in
     let whole : at.yielded ++ (c.in-Some.unit ∷ into_iter_items c.next.new.self) ≡ c.args.units.items = rw (← c.in-Some.ensures.steps.0) (at.invariant.items ∙ c.into_iter-unit-iterator.ensures.into_iter_gives.0) in
     rw (← whole, map-append unit_of at.yielded (c.in-Some.unit ∷ into_iter_items c.next.new.self))
-    (refused c.args.length _ _ _ at.builder _ at.invariant.taken c.in-Err.ensures.err)
+    (refused c.args.length _ _ _ _ _ at.builder.nesting _ at.invariant.taken c.in-Err.ensures.err)
 
 pub returns-in-None-finish-clause-fault : goal.returns-in-None-finish-clause-fault
 returns-in-None-finish-clause-fault c =

@@ -1,9 +1,10 @@
-use Rattle.std.proofs.Common.{◌∷◌, [], ◌++◌, refl}
+use Rattle.std.proofs.Common.{◌∷◌, [], ◌++◌, map, refl}
 use Rattle.std.proofs.lemmas.List.Elements.{All-nil}
 use Rattle.std.proofs.lemmas.Result.{err_from_is_err_and}
+use Rattle.tml_span.specs.View.{attribute_of}
 use Rattle.tml_tree.specs.View.{node_of}
 use Rattle.tml_tree.specs.Walking.{elements}
-use Rattle.tml_types.specs.Walking.{plain_of}
+use Rattle.tml_types.specs.Walking.{tag_at}
 use Rattle.tml_types.specs.Rules.{IsSound}
 use Rattle.tml_types.proofs.Walks.{adds_more, fault_of_more, next_child, tag_first}
 use Rattle.tml_types.proofs.walk.+walk.Goals as goal
@@ -11,10 +12,12 @@ use Rattle.tml_types.proofs.walk.+walk.Goals as goal
 pub type_tag-returns-in_err-type_one-clause-err : goal.type_tag-returns-in_err-type_one-clause-err
 type_tag-returns-in_err-type_one-clause-err t c =
     let p = err_from_is_err_and c.from_residual.result c.from_residual.ensures.1 in
-    rw (p.1, p.2) (fault_of_more [] _ _ _ _ (tag_first c.args.tag.now _ refl) (All-nil IsSound) c.in_err-type_one.ensures.err)
+    rw (p.1, p.2) (fault_of_more [] _ _ _ _ (tag_first c.args.tag.now _ _ c.as_slice.ensures refl) (All-nil IsSound) c.in_err-type_one.ensures.err)
 
 pub type_tag-loop-child-init : goal.type_tag-loop-child-init
-type_tag-loop-child-init t c = (plain_of c.args.tag.now ∷ [], tag_first c.args.tag.now _ c.deref-child-items.ensures.value, c.in_ok-type_one.ensures.ok)
+type_tag-loop-child-init t c =
+    let tag = c.args.tag.now in
+    (tag_at tag.span.start tag.name (map attribute_of c.as_slice.result.now) ∷ [], tag_first tag _ _ c.as_slice.ensures c.deref-child-items.ensures.value, c.in_ok-type_one.ensures.ok)
 
 pub type_tag-returns-in_err-type_node-clause-err : goal.type_tag-returns-in_err-type_node-clause-err
 type_tag-returns-in_err-type_node-clause-err t c =
