@@ -212,6 +212,9 @@ INSTANCES = b"".join(b'<MAKEINSTANCE eiid="i%d" eventID="e%d"/>' % (number, numb
 LINK = b'<TLINK eventInstanceID="i%d" relatedToEventInstance="i%d" relType="%s"/>'
 LINKS = b"".join(LINK % (number % 512, number * 7 % 512, b"SIMULTANEOUS") for number in range(4096))
 CIRCLE = b"".join(LINK % (number, (number + 1) % 512, b"BEFORE") for number in range(512))
+TOUCHING = (
+    b'<TimeML><TIMEX3 tid="a" type="DATE" value="1998"/><TIMEX3 tid="b" type="DATE" value="1999"/><TLINK timeID="a" relatedToTime="b" relType="BEFORE"/>'
+)
 NESTED = b"".join(b'<EVENT eid="e%d" class="STATE">' % number for number in range(30))
 
 
@@ -260,6 +263,13 @@ DOCUMENTS = {
     "very many attributes of a tag that lacks one": (CHECK, 1, lambda: numbered(b'<TimeML><EVENT eid="e"', b' a%d=""', b">x</EVENT></TimeML>\n")),
     "a tag with a very long name": (CHECK, 1, lambda: filled(b"<TimeML><", b"a", b"/></TimeML>\n")),
     "very many names in other letters": (FIX, 1, lambda: filled(b"<TimeML>", b"<Event/>", b"</TimeML>\n")),
+    "very many attributes of one name": ("tml-corpus check --more 100 --tml TML d.xml", 1, lambda: filled(b"<TimeML><EVENT", b' a=""', b"/></TimeML>\n")),
+    "very many unknown attributes": (
+        "tml-corpus check --lint --warn unknown-attribute --tml TML d.xml",
+        0,
+        lambda: numbered(b"<TimeML", b" a%d=''", b"></TimeML>\n"),
+    ),
+    "dates that touch among very many units": ("tml-edit --touching-dates --tml TML d.xml", 0, lambda: filled(TOUCHING, b"<p/>\n", b"</TimeML> \n")),
     "very many lines": ("tml-corpus check --tml TML d.xml", 1, lambda: filled(b"<TimeML>", b"\n", b"<EVENT/></TimeML>\n")),
 }
 """Documents made to cost much: a command, its status, and the document."""

@@ -105,9 +105,16 @@ class Statuses(CorpusTest):
                 self.assertIn(words, lines[0])
 
     def test_answers_that_cannot_be_read(self):
-        self.write("a.xml", BAD)
-        for answer in ("echo fault 10 MissingAttribute x; exit 1", "[ $1 = spans ] && echo 0 x && exit 0; echo fault 5 Unbalanced 0; exit 1", "echo accepting"):
+        rows = [
+            ("echo fault 10 MissingAttribute x; exit 1", BAD),
+            ("echo fault 10 MissingAttribute 999; exit 1", BAD),
+            ("echo fault 5 Unbalanced 0; exit 1", "<TimeML><"),
+            ("[ $1 = spans ] && echo 0 x && exit 0; echo fault 5 Unbalanced 0; exit 1", "<TimeML><"),
+            ("echo accepting", BAD),
+        ]
+        for answer, content in rows:
             with self.subTest(answer):
+                self.write("a.xml", content)
                 self.script(answer)
                 status, lines, error = self.run_it("check", "--explain", "a.xml", tml=self.path("fake"))
                 self.assertEqual((status, error), (2, ""))

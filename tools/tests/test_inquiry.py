@@ -68,14 +68,26 @@ class Both(InquiryTest):
     def test_each_file_is_read_once_and_asked_the_fewest_questions(self):
         self.write("fake", f'#!/bin/sh\necho "$1" >> "{self.path("asked")}"\nexec {TML} "$@"\n')
         os.chmod(self.path("fake"), stat.S_IRWXU)
-        rows = [("a.xml", ["solve"]), ("c.xml", ["solve", "check", "spans"]), ("b.xml", ["solve", "spans", "check", "dates", "verify"])]
-        for name, asked in rows:
-            for words in (("check", "--clashes"), ("clashes",)):
-                with self.subTest(name=name, words=words):
-                    self.run_it(*words, name, tml=self.path("fake"))
+        touching = '<TIMEX3 tid="a" type="DATE" value="1998"/><TIMEX3 tid="b" type="DATE" value="1999"/><TLINK timeID="a" relatedToTime="b" relType="BEFORE"/>'
+        self.write("t.xml", document(touching))
+        self.write("w.xml", document('<TIMEX3 tid="a" type="DATE" value="1998-1-7">x</TIMEX3>'))
+        both = ("clashes", "check --clashes", "check --lint --clashes")
+        rows = [
+            (("check", "check --lint"), "a.xml", ["check"]),
+            (both, "a.xml", ["solve"]),
+            (both, "c.xml", ["solve"]),
+            (both, "b.xml", ["solve", "dates", "verify"]),
+            (both, "t.xml", ["solve", "dates", "solve"]),
+            (("check --clashes --format json", "clashes --evidence kept"), "t.xml", ["solve", "dates", "solve", "verify"]),
+            (("check --lint",), "w.xml", ["check", "dates"]),
+        ]
+        for commands, name, asked in rows:
+            for command in commands:
+                with self.subTest(command=command, name=name):
+                    self.write("asked", "")
+                    self.run_it(*command.split(" "), name, tml=self.path("fake"))
                     with open(self.path("asked"), encoding="utf-8") as file:
                         self.assertEqual(file.read().split(), asked)
-                    os.unlink(self.path("asked"))
 
     def test_warnings_in_the_same_run(self):
         self.write("w.xml", document('<TIMEX3 tid="a" type="DATE" value="1998-1-7">x</TIMEX3>'))

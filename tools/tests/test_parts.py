@@ -1,5 +1,6 @@
 """The parts of the companions by themselves: places, units, texts, replies, tables, files, running, and numbers that pages have too."""
 
+import contextlib
 import html
 import os
 import random
@@ -214,12 +215,27 @@ class Folders(unittest.TestCase):
 
 class Running(unittest.TestCase):
     def run_sh(self, script, document=b"", most=100):
-        return running.run(["/bin/sh", "-c", script], document, None, most)
+        return running.run(["/bin/sh", "-c", script], document, most)
 
     def test_what_is_read_and_printed(self):
         self.assertEqual(self.run_sh("cat; exit 3", b"x" * 300_000, 300_000), (3, b"x" * 300_000))
         self.assertEqual(self.run_sh("echo a", b"x" * 300_000), (0, b"a\n"))
         self.assertEqual(self.run_sh("exec 0<&-; sleep 0.1; echo a", b"x" * 300_000), (0, b"a\n"))
+
+    def test_what_ends_after_its_output(self):
+        # Some systems have no handles of processes: there the end is looked for from time to time.
+        for handles in (True, False):
+            with self.subTest(handles=handles), contextlib.ExitStack() as stack:
+                if not handles and hasattr(os, "pidfd_open"):
+                    stack.enter_context(mock.patch.object(os, "pidfd_open", side_effect=OSError))
+                self.assertEqual(self.run_sh("echo x; exec 1>&-; sleep 0.2; exit 3"), (3, b"x\n"))
+
+    def test_another_file(self):
+        with tempfile.TemporaryFile() as other:
+            other.write(b"other")
+            other.seek(0)
+            script = f"cat; cat /dev/fd/{other.fileno()}"
+            self.assertEqual(running.run(["/bin/sh", "-c", script], b"document ", 100, other), (0, b"document other"))
 
     def test_what_is_given_up(self):
         with mock.patch.object(running, "SECONDS", 0.3):
@@ -231,7 +247,7 @@ class Running(unittest.TestCase):
         with self.assertRaisesRegex(CannotRun, "ended by signal 9"):
             self.run_sh("kill -9 $$")
         with self.assertRaisesRegex(CannotRun, "could not be run"):
-            running.run(["/no/such/program"], b"", None, 1)
+            running.run(["/no/such/program"], b"", 1)
         self.assertEqual(running.RUNNING, set())
 
 

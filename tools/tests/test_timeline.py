@@ -252,7 +252,7 @@ class NotDrawn(TimelineTest):
                 self.assertEqual(line, f"d.xml: not judged: {said}")
 
     def test_answers_that_do_not_belong_together(self):
-        for answer in ("solve ] && echo fault 10 MissingAttribute 9 && exit 1", "solve ] && exit 2", "solve ] && exit 6", "dates ] && exit 0", "check ] && exit 0"):
+        for answer in ("solve ] && echo fault 10 MissingAttribute 9 && exit 1", "solve ] && exit 2", "solve ] && exit 6", "dates ] && exit 0"):
             with self.subTest(answer):
                 fake = self.fake(f'[ $1 = {answer}\nexec {TML} "$@"')
                 [line] = self.refused(2, document(event(1) + '<TIMEX3 tid="t" type="DATE"/>'), tml=fake)

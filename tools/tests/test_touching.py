@@ -207,6 +207,14 @@ class Edits(ScriptTest):
         # What was written so needs no second writing.
         self.assertEqual(self.run_script("tml-edit", "--touching-dates", "-", given=out.encode()), (0, out, ""))
 
+    def test_a_document_that_would_be_too_long(self):
+        whole = document(DAYS + link("a", "BEFORE", "b"))
+        for left in (0, 1):
+            self.write("d.xml", whole + " " * (4_194_304 - left - len(whole)))
+            status, out, error = self.run_script("tml-edit", "--touching-dates", "d.xml")
+            self.assertEqual((status, len(out)), (0, 4_194_304) if left else (1, 0))
+            self.assertEqual("the file has more than 4,194,304 bytes" in error, not left)
+
     def test_faults_are_to_be_mended_first(self):
         self.write("d.xml", document(DAYS + "<EVENT/>"))
         self.assertEqual(self.run_script("tml-edit", "--touching-dates", "d.xml")[0], 1)

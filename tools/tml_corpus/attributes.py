@@ -55,7 +55,7 @@ def missing(source: Source, tag: Unit, found: Explanation) -> None:
     """Fault 10: attributes that the tag has to have."""
     found.start, found.end = tag.start, tag.end
     lacking = list(lacking_in(source, tag))
-    if tag.name == "EVENT" and tag.start not in source.with_text and (tag.kind == "empty" or not tag.attributes):
+    if tag.name == "EVENT" and tag.start not in source.with_text and (tag.kind == "empty" or next(tag.attributes, None) is None):
         names = " and ".join(row.name for row in lacking)
         found.text = f"this EVENT has no text: take it out, or add {names} if it is meant"
         return

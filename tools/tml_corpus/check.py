@@ -7,18 +7,17 @@ from dataclasses import dataclass, field
 from heapq import nsmallest
 from typing import IO
 
+from .cutting import units_of_whole
 from .explain import explain
 from .faults import Fault, read_fault
 from .files import CannotRead, Found, opened, read_open
 from .further import further_faults
-from .lint import Lint, warnings_of
+from .lint import MOST_WARNINGS, Lint, warnings_of
 from .places import Place, Places
 from .program import ACCEPTED, FAULT, CannotRun, Program, Reply
+from .replies import refusal
 from .source import Explanation, Source
-from .units import Units, read_units, room_for
-
-MOST_WARNINGS = 1000
-"""So many warnings on one document are reported, the first ones of its text."""
+from .units import room_for
 
 
 @dataclass(frozen=True)
@@ -108,14 +107,17 @@ def problem_of(reply: Reply) -> str | None:
 def judge_document(
     program: Program, path: str, document: bytes, explained: bool, more: int, lint: Lint | None = None, reply: Reply | None = None
 ) -> Judgement:
-    """The judgement of a document in memory, by the reply to `tml check` if there was one for these bytes."""
+    """The judgement of a document in memory, by a reply that accepts it or tells its fault if there was one for these bytes."""
     if reply is None:
         reply = program.check(document)
     fault = read_fault(reply.text) if reply.status == FAULT else None
+    problem = refusal([reply.command], reply.status, reply.text, len(document)) if fault is not None else None
+    if problem is not None:
+        raise CannotRun(problem)
     if fault is None:
         judgement = Judgement(path, problem=problem_of(reply))
         if lint is not None and judgement.accepted():
-            judgement.warnings = placed_warnings(program, document, lint)
+            judgement.warnings = placed_warnings(program, Source(document, units_of_whole(program, document)), lint)
         return judgement
     places = Places(document)
     found = explain(program, document, fault, places) if explained or more else Explanation()
@@ -126,14 +128,8 @@ def judge_document(
     return judgement
 
 
-def placed_warnings(program: Program, document: bytes, lint: Lint, units: Units | None = None) -> list[PlacedWarning]:
+def placed_warnings(program: Program, source: Source, lint: Lint) -> list[PlacedWarning]:
     """What is suspect in an accepted document, with places in lines and columns."""
-    if units is None:
-        reply = program.spans(document)
-        if reply.status != ACCEPTED:
-            raise CannotRun("the answers of tml to `check` and `spans` do not belong together")
-        units = read_units(reply)
-    source = Source(document, units)
     found = nsmallest(MOST_WARNINGS, warnings_of(program, source, lint), key=lambda warning: warning.start)
     return [PlacedWarning(one.name, one.text, mark_of(source.places, one.start, one.end), one.tag) for one in found]
 

@@ -161,7 +161,7 @@ class JUnit(Text):
     def file(self, report: ClashReport) -> str:
         judgement = report.judgement
         failure = formats.first_failure(judgement, False)
-        if failure is None and report.clashes:
+        if failure is None and report.verdict() in ("clash", TOUCHING):
             failure = report.verdict(), first_line(report)
         failure = failure or formats.first_failure(judgement, self.strict)
         if judgement.problem is not None:

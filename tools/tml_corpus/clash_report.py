@@ -25,6 +25,8 @@ class Wanted:
     repair: bool = False
     explained: bool = True
     lint: Lint | None = None
+    every_clash: bool = True
+    """Whether clashes are wanted that are not shown as such, since dates that touch are the only ones of their document."""
 
 
 @dataclass(frozen=True)
@@ -126,9 +128,9 @@ class ClashReport:
             return "not judged"
         if self.judgement.faults:
             return "fault"
-        if not self.clashes:
-            return "fits"
-        return TOUCHING if self.fits_touching else "clash"
+        if self.fits_touching and not self.read_touching:
+            return TOUCHING
+        return "clash" if self.clashes else "fits"
 
     def shown_clashes(self) -> list[PlacedClash]:
         """The clashes to show; where dates that touch are the only ones, their links are shown each for itself."""

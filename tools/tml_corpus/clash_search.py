@@ -7,12 +7,14 @@ from functools import cached_property
 
 from .check import Judgement, PlacedNote, judge_document, placed_warnings
 from .clash_report import ClashReport, PlacedChange, PlacedClash, PlacedLink, PlacedRepair, Wanted
-from .clashes import STRICT_ORDERS, Clash, is_timeline, read_clash, verify_clash
+from .clashes import STRICT_ORDERS, Clash, evidence_name, is_timeline, read_clash, verify_clash
+from .cutting import units_of_whole
 from .files import CannotRead, Found, read_document
 from .hitting import TooMuch
 from .leftout import Copies
 from .program import CLASH, FAULT, CannotRun, Program, Reply
 from .repair import find_repair
+from .source import Source
 from .touching import GAP, INCLUSIONS, Change, asks, relation_of, touching_changes
 from .units import room_for
 from .words import Wording
@@ -29,7 +31,8 @@ def find_clashes(program: Program, found: Found, wanted: Wanted) -> ClashReport:
             return ClashReport(Judgement(found.path))
         with room_for(document):
             if is_timeline(reply) and wanted.lint is not None:
-                return ClashReport(Judgement(found.path, warnings=placed_warnings(program, document, wanted.lint)))
+                source = Source(document, units_of_whole(program, document))
+                return ClashReport(Judgement(found.path, warnings=placed_warnings(program, source, wanted.lint)))
             return report_of(program, found, document, wanted, reply)
     except (CannotRead, CannotRun) as problem:
         return ClashReport(Judgement(found.path, problem=str(problem)))
@@ -40,10 +43,7 @@ def find_clashes(program: Program, found: Found, wanted: Wanted) -> ClashReport:
 def report_of(program: Program, found: Found, document: bytes, wanted: Wanted, reply: Reply) -> ClashReport:
     """What there is to report of a document in memory that no timeline fits, or that was not judged yet."""
     if reply.status == FAULT:
-        judgement = judge_document(program, found.path, document, wanted.explained, wanted.more)
-        if judgement.accepted():
-            raise CannotRun("the answers of tml to `solve` and `check` do not belong together")
-        return ClashReport(judgement)
+        return ClashReport(judge_document(program, found.path, document, wanted.explained, wanted.more, reply=reply))
     if reply.status != CLASH:
         raise CannotRun(reply.problem())
     return ClashSearch(program, found, document, wanted).report(read_clash(reply))
@@ -62,19 +62,20 @@ class ClashSearch:
     def copies(self) -> Copies:
         """Copies of the document without some links, in which links between dates that touch are changed."""
         relations = {change.link.number: change.relation for change in self.changes}
-        return Copies(self.program, self.path, self.document, self.wording.units, relations)
+        return Copies(self.program, self.document, self.wording.units, relations)
 
     def report(self, first: Clash) -> ClashReport:
         """All that was asked for."""
         left = self.left_by_touching(first)
         judgement = Judgement(self.path)
         if self.wanted.lint is not None:
-            judgement.warnings = placed_warnings(self.program, self.document, self.wanted.lint, self.wording.units)
+            judgement.warnings = placed_warnings(self.program, self.wording.source, self.wanted.lint)
         report = ClashReport(judgement, read_touching=self.wanted.touching, fits_touching=left is None)
         report.touching = [self.placed_change(change) for change in self.changes]
-        shown = left if left is not None or self.wanted.touching else first
-        if shown is not None:
-            report.clashes.append(self.placed_clash(shown, 1))
+        if left is not None:
+            report.clashes.append(self.placed_clash(left, 1))
+        elif self.wanted.every_clash and not self.wanted.touching:
+            report.clashes.append(self.placed_clash(first, 1))
         if left is not None and self.wanted.more:
             report.clashes += self.further_clashes(left)
         if self.wanted.repair and (left is not None or not self.wanted.touching):
@@ -120,7 +121,7 @@ class ClashSearch:
 
     def placed_link(self, number: int) -> PlacedLink:
         """A link in words, with its line."""
-        link, tag = self.wording.links[number], self.wording.link_tags[number]
+        link, tag = self.wording.link(number), self.wording.link_tags[number]
         attribute = relation_of(tag)
         start, end = tag.start, tag.end
         if attribute is not None and b"\n" not in self.document[tag.start : attribute.start]:
@@ -134,11 +135,12 @@ class ClashSearch:
 
     def placed_clash(self, clash: Clash, number: int) -> PlacedClash:
         """A clash in words, once `tml verify` accepted it as one of the document."""
-        folder = self.wanted.folder
-        name = self.path if number == 1 else f"{self.path}.{number}"
-        evidence = verify_clash(self.program, name, self.document, clash, folder and os.path.join(self.found.base, folder))
+        folder, evidence = self.wanted.folder, None
+        if folder is not None:
+            evidence = os.path.join(folder, evidence_name(self.path if number == 1 else f"{self.path}.{number}"))
+        verify_clash(self.program, self.document, clash, evidence and os.path.join(self.found.base, evidence))
         links = [self.placed_link(link) for link in clash.links]
-        return PlacedClash(links, self.calendar_notes(clash), self.cures(clash), os.path.join(folder, evidence) if folder is not None else None)
+        return PlacedClash(links, self.calendar_notes(clash), self.cures(clash), evidence)
 
     def calendar_notes(self, clash: Clash) -> list[PlacedNote]:
         """What the walk takes from the calendar; places are asked for in their order, since lines may be long."""
@@ -156,7 +158,7 @@ class ClashSearch:
             return notes
         try:
             for number, relation in self.candidates(clash).items():
-                link = self.wording.links[number]
+                link = self.wording.link(number)
                 if self.copies.fit_alone(clash.links, {number: relation}):
                     between = f"{self.wording.text_of(link.left)} and {self.wording.text_of(link.right)}"
                     nothing = "no gap" if link.relation in GAP else "no room at both ends"
@@ -175,7 +177,7 @@ class ClashSearch:
                 equal_ends = True
             elif step.kind != "via":
                 return {}
-            elif step.second in STRICT_ORDERS.get(relation := self.wording.links[step.first].relation, ()):
+            elif step.second in STRICT_ORDERS.get(relation := self.wording.relation(step.first), ()):
                 if relation not in GAP and relation not in INCLUSIONS:
                     return {}
                 orders.setdefault(step.first, set()).add(step.second)
@@ -183,7 +185,7 @@ class ClashSearch:
 
     def weaker(self, number: int, orders: set[int]) -> str:
         """The relation of a link with some of its strict orders equal."""
-        relation = self.wording.links[number].relation
+        relation = self.wording.relation(number)
         return GAP.get(relation) or INCLUSIONS[relation][2 if len(orders) == 2 else min(orders)]
 
     def is_equal_end(self, first: int, second: int) -> bool:

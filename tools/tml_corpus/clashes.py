@@ -9,6 +9,7 @@ import re
 import tempfile
 from collections.abc import Iterator, Sequence
 from dataclasses import dataclass
+from typing import IO
 
 from .files import CannotRead, reason, written
 from .program import ACCEPTED, CannotRun, Program, Reply
@@ -58,37 +59,40 @@ def is_timeline(reply: Reply) -> bool:
     return reply.status == ACCEPTED and reply.text.startswith(b"tml-evidence 1\ntimeline ")
 
 
-def verify_clash(program: Program, path: str, document: bytes, clash: Clash, folder: str | None = None) -> str:
-    """Has `tml verify` judge a clash, and answers the name of the file of its evidence, which stays where a folder is given."""
-    with evidence_file(path, clash.evidence, folder) as evidence:
-        judged = program.ask(["verify", "-", "./" + os.path.basename(evidence)], document, os.path.dirname(evidence))
-        if judged.status != ACCEPTED or judged.text != b"verified clash %s\n" % b" ".join(b"%d" % link for link in clash.links):
-            said = judged.text.decode("utf-8", "replace").strip()
-            raise CannotRun(f"tml verify refused the evidence of tml solve: {said}")
-    return os.path.basename(evidence)
+def verify_clash(program: Program, document: bytes, clash: Clash, kept: str | None = None) -> None:
+    """Has `tml verify` judge a clash. Its evidence stays where a name of a file is given for it."""
+    with evidence_file(clash.evidence, kept) as evidence:
+        judged = program.ask(["verify", "-"], document, evidence)
+    if judged.status != ACCEPTED or judged.text != b"verified clash %s\n" % b" ".join(b"%d" % link for link in clash.links):
+        said = judged.text.decode("utf-8", "replace").strip()
+        raise CannotRun(f"tml verify refused the evidence of tml solve: {said}")
 
 
-def verify_timeline(program: Program, path: str, document: bytes, timeline: Reply) -> None:
+def verify_timeline(program: Program, document: bytes, timeline: Reply) -> None:
     """Has `tml verify` judge a timeline."""
-    with evidence_file(path, timeline.text, None) as evidence:
-        judged = program.ask(["verify", "-", "./" + os.path.basename(evidence)], document, os.path.dirname(evidence))
+    with evidence_file(timeline.text, None) as evidence:
+        judged = program.ask(["verify", "-"], document, evidence)
     if judged.status != ACCEPTED or judged.text != b"verified timeline\n":
         said = judged.text.decode("utf-8", "replace").strip()
         raise CannotRun(f"tml verify did not accept the timeline of tml solve: {said}")
 
 
 @contextlib.contextmanager
-def evidence_file(path: str, evidence: bytes, folder: str | None) -> Iterator[str]:
-    """A file with the evidence: in the folder, where it stays, or else in one of its own that goes again."""
+def evidence_file(evidence: bytes, kept: str | None) -> Iterator[IO[bytes]]:
+    """An open file with the evidence: one that stays where a name is given, and else one without a name."""
     with contextlib.ExitStack() as stack:
         try:
-            place = folder if folder is not None else stack.enter_context(tempfile.TemporaryDirectory(prefix="tml-"))
-            name = os.path.join(os.path.abspath(place), evidence_name(path))
-            with written(name) as file:
+            if kept is None:
+                file: IO[bytes] = stack.enter_context(tempfile.TemporaryFile(buffering=0))
                 file.write(evidence)
+                file.seek(0)
+            else:
+                with written(kept) as target:
+                    target.write(evidence)
+                file = stack.enter_context(open(kept, "rb"))
         except OSError as error:
             raise CannotRead(f"its evidence cannot be kept: {reason(error)}") from None
-        yield name
+        yield file
 
 
 def evidence_name(path: str) -> str:

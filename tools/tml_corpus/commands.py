@@ -2,6 +2,8 @@
 
 Status 0 says that all was well, 1 that a document has a fault (or a clash, or an unknown tag), 2 that something could not
 be run or read, and 130 that the run was interrupted.
+
+What one command alone needs is imported where it is needed: most runs are `check`, often of one file.
 """
 
 from __future__ import annotations
@@ -20,11 +22,10 @@ from .baseline import Baseline, read_baseline, write_baseline
 from .check import Judgement, judge
 from .clash_report import ClashReport, ClashSummary, Wanted
 from .clash_search import find_clashes
-from .cluster import connected
 from .files import PATTERNS, Found, counted, find_files, reason, shown
 from .fix import FixReport, fix, not_mended
 from .formats import Summary, make_format
-from .lint import KINDS, Lint, chosen
+from .lint import KINDS, chosen
 from .output import Parser, run
 from .pool import Interruption, Progress, in_order, processors
 from .program import CannotRun, Program, find_program
@@ -32,7 +33,6 @@ from .settings import Settings, settings_for
 from .standard_input import STANDARD_INPUT, StandardInput, find_with
 from .statuses import ENDED, Status
 from .tags import MOST_NAMES, Names, Table, is_known, names_in
-from .timeline import draw, form_of, write_picture
 from .watch import watch
 from .wrappers import Unwrapping
 
@@ -84,6 +84,8 @@ def prepared(options: argparse.Namespace, stop: Interruption) -> Iterator[None]:
         options.in_order = partial(in_order, workers=max(jobs, 1))
         yield
     else:
+        from .cluster import connected
+
         with connected(options.cluster, stop) as cluster:
             options.program, options.in_order = with_wrappers(cluster.program(options.tml), options), cluster.in_order
             yield
@@ -208,6 +210,8 @@ def timeline_words(commands: argparse._SubParsersAction[Parser]) -> Parser:
 
 def picture_name(text: str) -> str:
     """A name for a picture."""
+    from .timeline import form_of
+
     try:
         form_of(text)
     except ValueError as problem:
@@ -268,7 +272,7 @@ def check_command(options: argparse.Namespace, stop: Interruption) -> int:
     lint = chosen((*options.settings.ignore, *options.ignore), (*options.settings.warn, *options.warn)) if options.lint else None
     baseline = baseline_of(options)
     if options.clashes:
-        wanted = Wanted(touching=options.touching, more=options.more, explained=options.explain, lint=lint)
+        wanted = Wanted(touching=options.touching, more=options.more, explained=options.explain, lint=lint, every_clash=options.format == "json")
         return show_clashes(options, stop, wanted, baseline)
     if options.touching:
         raise CannotRun("--touching is about clashes: give --clashes too")
@@ -372,7 +376,8 @@ def clashes_command(options: argparse.Namespace, stop: Interruption) -> int:
             os.makedirs(options.evidence, exist_ok=True)
         except (OSError, ValueError) as error:
             raise CannotRun(f"the folder {options.evidence} cannot be made: {reason(error)}") from None
-    return show_clashes(options, stop, Wanted(options.evidence, options.touching, options.more, options.repair), None)
+    every_clash = options.format == "json" or options.evidence is not None
+    return show_clashes(options, stop, Wanted(options.evidence, options.touching, options.more, options.repair, every_clash=every_clash), None)
 
 
 def show_clashes(options: argparse.Namespace, stop: Interruption, wanted: Wanted, baseline: Baseline | None) -> int:
@@ -396,6 +401,8 @@ def show_clashes(options: argparse.Namespace, stop: Interruption, wanted: Wanted
 
 def timeline_command(options: argparse.Namespace, stop: Interruption) -> int:
     """`tml-corpus timeline`."""
+    from .timeline import draw, write_picture
+
     drawn = draw(options.program, options.document, options.output, options.touching)
     if drawn.picture is not None and not stop.happened.is_set():
         write_picture(options.output, drawn.picture)

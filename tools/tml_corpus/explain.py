@@ -6,6 +6,7 @@ Where nothing is found the general sentence of the fault has to do.
 from __future__ import annotations
 
 from . import attributes, references
+from .cutting import units_of_whole
 from .encoding import not_utf8
 from .faults import BAD_MARKUP, BAD_REFERENCE, NOT_UTF8, TOO_DEEP, Fault
 from .markup import bad_markup, bad_reference
@@ -13,7 +14,7 @@ from .nesting import nesting
 from .places import Places
 from .program import Program
 from .source import Explanation, Source
-from .units import unit_at, units_of
+from .units import unit_at
 
 OF_BYTES = {NOT_UTF8: not_utf8, BAD_REFERENCE: bad_reference, BAD_MARKUP: bad_markup}
 OF_TAGS = attributes.EXPLAINERS | references.EXPLAINERS
@@ -25,7 +26,7 @@ def explain(program: Program, document: bytes, fault: Fault, places: Places | No
     if of_bytes is not None:
         found = of_bytes(Source(document, None, places), fault.offset)
     else:
-        found = of_units(Source(document, units_of(program, document), places), fault)
+        found = of_units(Source(document, units_of_whole(program, document), places), fault)
     if not found.text:
         found.start, found.end = fault.offset, min(fault.offset + 1, len(document))
     return found

@@ -3,7 +3,6 @@
 import fnmatch
 import os
 import re
-import secrets
 import stat
 from collections.abc import Iterator
 from contextlib import contextmanager, suppress
@@ -101,7 +100,7 @@ def written(target: str) -> Iterator[IO[bytes]]:
 
     Its mode is that of the user's umask. A symbolic link that lies there is not followed, and gives way.
     """
-    temporary = os.path.join(os.path.dirname(os.path.abspath(target)), f".tml-{secrets.token_hex(8)}")
+    temporary = os.path.join(os.path.dirname(os.path.abspath(target)), f".tml-{os.urandom(8).hex()}")
     file = open(temporary, "xb")
     try:
         with file:

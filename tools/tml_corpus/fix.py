@@ -10,6 +10,7 @@ from . import faults
 from .attributes import spelling_edits
 from .baseline import replace_file
 from .check import problem_of
+from .cutting import units_of_whole
 from .edits import Edit, applied
 from .encoding import converted
 from .faults import Fault, read_fault
@@ -20,7 +21,7 @@ from .places import characters
 from .program import FAULT, CannotRun, Program
 from .references import instance_edits
 from .source import Source
-from .units import room_for, units_of
+from .units import room_for
 
 ROUNDS = 12
 """So many kinds of slips are mended in one document at most, one after another."""
@@ -107,7 +108,7 @@ def mended(program: Program, document: bytes) -> Fixed:
 
 def steps(program: Program, document: bytes, fault: Fault) -> Iterator[tuple[str, bytes, Fault | None]]:
     """The changes that help against a fault: after each the document is accepted, or its first fault comes later."""
-    units = units_of(program, document) if fault.number > faults.BAD_MARKUP else None
+    units = units_of_whole(program, document) if fault.number > faults.BAD_MARKUP else None
     for words, edits_of in FIXERS.get(fault.number, []):
         edits = list(islice(edits_of(Source(document, units)), MOST_EDITS + 1))
         changed = applied(document, edits if len(edits) <= MOST_EDITS else [])

@@ -25,8 +25,8 @@ BYTES = 64 * 1024 * 1024
 class Copies:
     """Copies of one accepted document, with other relations for some links, and without some links."""
 
-    def __init__(self, program: Program, path: str, document: bytes, units: Units, relations: Mapping[int, str]) -> None:
-        self.program, self.path, self.document = program, path, document
+    def __init__(self, program: Program, document: bytes, units: Units, relations: Mapping[int, str]) -> None:
+        self.program, self.document = program, document
         self.renew()
         self.parts: list[bytes] = []
         self.links: dict[int, int] = {}
@@ -76,14 +76,14 @@ class Copies:
         reply = self.program.ask(["solve", "-"], copy)
         if not is_timeline(reply):
             raise CannotRun("two answers of tml to `solve` do not belong together")
-        verify_timeline(self.program, self.path, copy, reply)
+        verify_timeline(self.program, copy, reply)
 
     def verified_clash_without(self, left_out: Collection[int]) -> Clash | None:
         """The same, and `tml verify` accepted it as one of the document."""
         clash = self.clash_without(left_out)
         if clash is not None:
             self.spend(len(self.whole))
-            verify_clash(self.program, self.path, self.whole, clash)
+            verify_clash(self.program, self.whole, clash)
         return clash
 
     def fit_alone(self, links: Collection[int], relations: Mapping[int, str]) -> bool:

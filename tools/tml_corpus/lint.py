@@ -2,16 +2,20 @@
 
 from __future__ import annotations
 
+from collections import Counter
 from collections.abc import Callable, Iterable, Iterator
 from dataclasses import dataclass
 from itertools import chain
 
-from .profile import CARRIED, LEFT, RIGHT, ROOT, TABLE
+from .profile import CARRIED, ROOT, TABLE
 from .program import ACCEPTED, CannotRun, Program
 from .similar import one_letter_apart
 from .source import Source, attribute_of, cut
-from .units import Attribute, Unit
+from .units import MANY_BYTES, Attribute, Unit
 from .values import CALENDAR, DURATION, LOOKS_LIKE_DATE, PART_OF_DAY, better, has_form
+
+MOST_WARNINGS = 1000
+"""So many warnings on one document are reported, the first ones of its text."""
 
 INVERSES = {
     "BEFORE": "AFTER", "IBEFORE": "IAFTER", "IS_INCLUDED": "INCLUDES", "DURING": "DURING_INV", "BEGINS": "BEGUN_BY", "ENDS": "ENDED_BY",
@@ -60,18 +64,27 @@ def chosen(ignored: Iterable[str], demanded: Iterable[str]) -> Lint:
 
 
 def warnings_of(program: Program, source: Source, lint: Lint) -> Iterator[Finding]:
-    """The warnings on an accepted document."""
+    """The warnings on an accepted document: of each kind on each name of tags the first ones, as many as are reported at all."""
     free: set[str] | None = None
     for name, kind in KINDS.items():
         if name not in lint.names:
             continue
+        counts = Counter[str]()
         for tag, attribute, text in kind.finder(source):
             if kind.of_free_times:
                 free = free_times(program, source) if free is None else free
                 if source.value(tag, "tid") not in free:
                     continue
-            start, end = (attribute.start, attribute.end) if attribute is not None else (tag.start, tag.end)
-            yield Finding(name, text, start, end, cut(source.document[tag.start : min(tag.end, tag.start + 400)].decode("utf-8", "surrogateescape")))
+            counts[tag.name] += 1
+            if counts[tag.name] <= MOST_WARNINGS:
+                yield finding(source, name, tag, attribute, text)
+
+
+def finding(source: Source, name: str, tag: Unit, attribute: Attribute | None, text: str) -> Finding:
+    """What was found in a tag, or in one of its attributes."""
+    written = source.document[tag.start : min(tag.end, tag.start + 400)].decode("utf-8", "surrogateescape")
+    start, end = (attribute.start, attribute.end) if attribute is not None else (tag.start, tag.end)
+    return Finding(name, text, start, end, cut(written))
 
 
 def free_times(program: Program, source: Source) -> set[str]:
@@ -87,8 +100,8 @@ def misspelled_attribute(source: Source) -> Iterator[tuple[Unit, Attribute | Non
     at, missing = -1, set[str]()
     for tag, attribute in unknown_attributes(source):
         if tag.start != at:
-            at, missing = tag.start, set(TABLE.get(tag.name, {})) - {one.name for one in tag.attributes}
-        meant = min((name for name in missing if one_letter_apart(attribute.name, name)), default=None)
+            at, missing = tag.start, set(TABLE.get(tag.name, ())).difference(one.name for one in tag.attributes)
+        meant = min((name for name in missing if one_letter_apart(attribute.name, name)), default=None) if missing else None
         if meant is not None:
             yield tag, attribute, f"{cut(attribute.name)} is no attribute of {tag.name} that means something; did you mean {meant}?"
 
@@ -101,31 +114,35 @@ def unknown_attribute(source: Source) -> Iterator[tuple[Unit, Attribute | None, 
 
 def unknown_attributes(source: Source) -> Iterator[tuple[Unit, Attribute]]:
     """The attributes of tags of TimeML that are not known."""
-    for tag in chain(source.units.opening(ROOT), *source.by_kind.values()):
+    is_short = len(source.document) <= MANY_BYTES
+    for tag in chain(*source.by_name.values()):
+        known = KNOWN[tag.name]
+        if is_short and source.values(tag).keys() <= known:
+            continue
         for attribute in tag.attributes:
-            if attribute.name not in KNOWN[tag.name]:
+            if attribute.name not in known:
                 yield tag, attribute
 
 
 def value_form(source: Source) -> Iterator[tuple[Unit, Attribute | None, str]]:
     """A value of a TIMEX3 that has none of the forms."""
-    for tag, attribute, value in values(source):
+    for tag, value in values(source):
         if not has_form(value) and not LOOKS_LIKE_DATE.fullmatch(value):
             meant = better(value)
             hint = f"; did you mean {meant}?" if meant else ": a date is written as 1998-03-11"
-            yield tag, attribute, f'value="{cut(value)}" has no form of a value, so this time has no date{hint}'
+            yield tag, attribute_of(tag, "value"), f'value="{cut(value)}" has no form of a value, so this time has no date{hint}'
 
 
 def free_date(source: Source) -> Iterator[tuple[Unit, Attribute | None, str]]:
     """A value that looks like a date, of a time that has none."""
-    for tag, attribute, value in values(source):
+    for tag, value in values(source):
         kind = source.value(tag, "type")
         if kind == "DURATION" and CALENDAR.fullmatch(value):
-            yield tag, attribute, f'value="{value}" is a date, and a DURATION has none; did you mean type="DATE"?'
+            yield tag, attribute_of(tag, "value"), f'value="{value}" is a date, and a DURATION has none; did you mean type="DATE"?'
         elif kind in ("DATE", "TIME") and DURATION.fullmatch(value):
-            yield tag, attribute, f'value="{value}" is a duration, so this {kind} has no date; did you mean type="DURATION"?'
+            yield tag, attribute_of(tag, "value"), f'value="{value}" is a duration, so this {kind} has no date; did you mean type="DURATION"?'
         elif kind in ("DATE", "TIME") and not CALENDAR.fullmatch(value) and LOOKS_LIKE_DATE.fullmatch(value):
-            yield tag, attribute, f'value="{cut(value)}" looks like a date, and the calendar does not place it: {why_free(value)}'
+            yield tag, attribute_of(tag, "value"), f'value="{cut(value)}" looks like a date, and the calendar does not place it: {why_free(value)}'
 
 
 def why_free(value: str) -> str:
@@ -139,17 +156,14 @@ def why_free(value: str) -> str:
 
 def part_of_day(source: Source) -> Iterator[tuple[Unit, Attribute | None, str]]:
     """A part of a day, which no calendar places."""
-    for tag, attribute, value in values(source):
+    for tag, value in values(source):
         if PART_OF_DAY.fullmatch(value):
-            yield tag, attribute, f'value="{value}" is a part of a day, which the calendar does not place: nothing says when it is but links'
+            yield tag, attribute_of(tag, "value"), f'value="{value}" is a part of a day, which the calendar does not place: nothing says when it is but links'
 
 
-def values(source: Source) -> Iterator[tuple[Unit, Attribute, str]]:
+def values(source: Source) -> Iterator[tuple[Unit, str]]:
     """The times with a value."""
-    for tag in source.tags("TIMEX3"):
-        attribute = attribute_of(tag, "value")
-        if attribute is not None and (value := attribute.value(source.document)):
-            yield tag, attribute, value.decode("utf-8", "surrogateescape")
+    return ((tag, value) for tag in source.tags("TIMEX3") if (value := source.value(tag, "value")))
 
 
 def event_without_instance(source: Source) -> Iterator[tuple[Unit, Attribute | None, str]]:
@@ -181,7 +195,7 @@ def is_meant_to_be_empty(source: Source, tag: Unit) -> bool:
 def self_link(source: Source) -> Iterator[tuple[Unit, Attribute | None, str]]:
     """A link from an interval to itself."""
     for tag in source.tags("TLINK"):
-        left, right = ends(source, tag)
+        left, right = source.ends(tag)
         if left == right:
             yield tag, None, f"this link is from {left} to {left}: write another one for one of the two, or take the link out"
 
@@ -190,19 +204,13 @@ def repeated_link(source: Source) -> Iterator[tuple[Unit, Attribute | None, str]
     """A link that was given before, perhaps the other way round."""
     seen: dict[tuple[str, str, str], Unit] = {}
     for tag in source.tags("TLINK"):
-        left, right = ends(source, tag)
+        left, right = source.ends(tag)
         relation = source.value(tag, "relType")
         first = seen.get((left, relation, right)) or seen.get((right, INVERSES.get(relation, ""), left))
         if first is None:
             seen[left, relation, right] = tag
         elif left != right:
             yield tag, None, f"{left} {relation} {right} is given at {source.at(first.start)} already: take one of the two out"
-
-
-def ends(source: Source, tag: Unit) -> tuple[str, str]:
-    """The identifiers of the two intervals of a TLINK."""
-    left, right = (next((value for name in pair if (value := source.value(tag, name))), "") for pair in (LEFT, RIGHT))
-    return left, right
 
 
 def date_with_points(source: Source) -> Iterator[tuple[Unit, Attribute | None, str]]:

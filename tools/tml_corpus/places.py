@@ -99,10 +99,9 @@ def caret_lines(text: str, column: int, count: int = 1) -> list[str]:
     """The line of the source, and below it a mark under so many characters from the column on; of a long line the part around it."""
     begin = max(0, column - 1 - SHOWN_WIDTH // 2) if len(text) > SHOWN_WIDTH else 0
     part = text[begin : begin + SHOWN_WIDTH]
-    shown = no_command("".join(drawn(character) for character in part))
-    blanks = sum(width(drawn(character)) for character in part[: column - 1 - begin])
-    under = sum(width(drawn(character)) for character in part[column - 1 - begin :][:count])
-    return ["    " + shown.rstrip(), "    " + " " * blanks + "^" + "~" * (under - 1)]
+    shown = drawn(part)
+    blanks, under = width(shown[: column - 1 - begin]), width(shown[column - 1 - begin :][:count])
+    return ["    " + no_command(shown).rstrip(), "    " + " " * blanks + "^" + "~" * (under - 1)]
 
 
 def no_command(line: str) -> str:
@@ -110,15 +109,15 @@ def no_command(line: str) -> str:
     return re.sub(r"^( *):(?=:)|#(?=#(?:\[|vso))", "\\g<1>\ufffd", line)
 
 
-def drawn(character: str) -> str:
-    """A character as it may stand on a terminal."""
-    if character == "\t":
-        return " "
-    return character if character.isprintable() else "\ufffd"
+def drawn(text: str) -> str:
+    """A text as it may stand on a terminal, with a character for each."""
+    if text.isprintable():
+        return text
+    return "".join(character if character.isprintable() else " " if character == "\t" else "\ufffd" for character in text)
 
 
-def width(character: str) -> int:
-    """How many columns of a terminal a character takes."""
-    if unicodedata.combining(character):
-        return 0
-    return 2 if unicodedata.east_asian_width(character) in "WF" else 1
+def width(text: str) -> int:
+    """How many columns of a terminal a text takes that may stand there."""
+    if text.isascii():
+        return len(text)
+    return sum(0 if unicodedata.combining(character) else 2 if unicodedata.east_asian_width(character) in "WF" else 1 for character in text)

@@ -2,6 +2,7 @@
 
 from __future__ import annotations
 
+import gc
 import multiprocessing
 import os
 import signal
@@ -129,6 +130,8 @@ def pool_of(workers: int) -> Iterator[ProcessPoolExecutor]:
 def prepare_worker(watched: int, held: int, lock: Lock) -> None:
     """Lets a worker leave Ctrl-C to the program, and end when the program is no more, with the `tml` that it has started."""
     signal.signal(signal.SIGINT, signal.SIG_IGN)
+    # What the program has by now stays to the end: no search for what can be freed goes over it in each worker.
+    gc.freeze()
     os.close(held)
     Room.share(lock)
 

@@ -64,14 +64,19 @@ class Program:
     def __init__(self, path: str) -> None:
         self.path = path
 
-    def ask(self, words: list[str], document: bytes | IO[bytes], folder: str | None = None) -> Reply:
-        """Runs `tml` with the words, in the folder, and with the document or an open file as its standard input.
+    def seen(self, document: bytes) -> bytes:
+        """The document as `tml` is asked about it; all places are the same in it."""
+        return document
 
-        So the names of documents are no words of `tml`, which takes none that is not UTF-8. A reply that is not believed is
-        raised as a problem.
+    def ask(self, words: list[str], document: bytes | IO[bytes], other: IO[bytes] | None = None) -> Reply:
+        """Runs `tml` with the words, and with the document or an open file as its standard input. Another open file is its last word.
+
+        So no names of files are words of `tml`, which takes none that is not UTF-8. A reply that is not believed is raised as a
+        problem.
         """
         size = len(document) if isinstance(document, bytes) else None
-        status, text = run([self.path, *words], document, folder, longest(words[0]))
+        last = [] if other is None else [f"/dev/fd/{other.fileno()}"]
+        status, text = run([self.path, *words, *last], document, longest(words[0]), other)
         problem = refusal(words, status, text, size)
         if problem is not None:
             raise CannotRun(problem)

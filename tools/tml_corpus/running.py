@@ -3,7 +3,7 @@
 from __future__ import annotations
 
 import os
-import selectors
+import select
 import signal
 import subprocess
 import time
@@ -27,8 +27,8 @@ class CannotRun(Exception):
     """A program could not be started, took too long, printed too much, or answered what it never should."""
 
 
-def run(words: Sequence[str], document: bytes | IO[bytes], folder: str | None, most: int) -> tuple[int, bytes]:
-    """The status of a program and what it printed: at most so many bytes. It reads the document or the open file.
+def run(words: Sequence[str], document: bytes | IO[bytes], most: int, other: IO[bytes] | None = None) -> tuple[int, bytes]:
+    """The status of a program and what it printed: at most so many bytes. It reads the document or the open file, and may read another one.
 
     No shell is used. The child gets a session of its own, so that Ctrl-C ends this program in its own way and does not end
     a judgement half-way.
@@ -40,8 +40,9 @@ def run(words: Sequence[str], document: bytes | IO[bytes], folder: str | None, m
             stdin=subprocess.PIPE if isinstance(document, bytes) else document,
             stdout=subprocess.PIPE,
             stderr=subprocess.DEVNULL,
-            cwd=folder,
+            bufsize=0,
             start_new_session=True,
+            pass_fds=() if other is None else (other.fileno(),),
         )
     except (OSError, ValueError) as error:
         raise CannotRun(f"tml could not be run: {error}") from None
@@ -49,7 +50,7 @@ def run(words: Sequence[str], document: bytes | IO[bytes], folder: str | None, m
     try:
         talk = Talk(child, memoryview(given or b""), most)
         talk.go_on()
-        status = child.wait(talk.seconds_left())
+        status = ended(child, talk.seconds_left())
     except BaseException as error:
         end(child)
         if isinstance(error, subprocess.TimeoutExpired):
@@ -64,6 +65,22 @@ def run(words: Sequence[str], document: bytes | IO[bytes], folder: str | None, m
     if status < 0:
         raise CannotRun(f"tml was ended by signal {-status}")
     return status, b"".join(talk.parts)
+
+
+def ended(child: subprocess.Popen[bytes], seconds: float) -> int:
+    """The status of a child that is about to end, within so many seconds.
+
+    Where the system has handles of processes, its end is waited for by one. `Popen.wait` alone sleeps between looks when it has a limit.
+    """
+    if child.poll() is None and hasattr(os, "pidfd_open"):
+        with suppress(OSError):
+            handle, poll = os.pidfd_open(child.pid), select.poll()
+            try:
+                poll.register(handle, select.POLLIN)
+                poll.poll(seconds * 1000)
+            finally:
+                os.close(handle)
+    return child.wait(seconds)
 
 
 def end(child: subprocess.Popen[bytes]) -> None:
@@ -96,21 +113,27 @@ class Talk:
         return max(self.late - time.monotonic(), 0.0)
 
     def go_on(self) -> None:
-        """Writes and reads by turns, until the child has closed its output."""
-        with selectors.PollSelector() as selector:
-            for stream, event in ((self.child.stdin, selectors.EVENT_WRITE), (self.child.stdout, selectors.EVENT_READ)):
-                if stream is not None:
-                    os.set_blocking(stream.fileno(), False)
-                    selector.register(stream, event)
-            while selector.get_map():
-                ready = selector.select(self.seconds_left())
-                if not ready:
-                    raise CannotRun(TOO_LONG)
-                for key, _ in ready:
-                    going_on = self.read(key.fd) if key.fileobj is self.child.stdout else self.write(key.fd)
-                    if not going_on:
-                        selector.unregister(key.fileobj)
-                        key.fileobj.close()  # type: ignore[union-attr]
+        """Writes and reads by turns, until the child has closed its output. What a pipe has room for is written without waiting."""
+        streams = {stream.fileno(): stream for stream in (self.child.stdin, self.child.stdout) if stream is not None}
+        poll = select.poll()
+        for handle, stream in list(streams.items()):
+            if stream is self.child.stdout:
+                poll.register(handle, select.POLLIN)
+                continue
+            os.set_blocking(handle, False)
+            if self.write(handle):
+                poll.register(handle, select.POLLOUT)
+            else:
+                streams.pop(handle).close()
+        while streams:
+            ready = poll.poll(self.seconds_left() * 1000)
+            if not ready:
+                raise CannotRun(TOO_LONG)
+            for handle, _ in ready:
+                going_on = self.read(handle) if streams[handle] is self.child.stdout else self.write(handle)
+                if not going_on:
+                    poll.unregister(handle)
+                    streams.pop(handle).close()
 
     def read(self, handle: int) -> bool:
         """Reads what there is; False at the end."""

@@ -4,7 +4,6 @@ from __future__ import annotations
 
 import os
 import re
-import tomllib
 from dataclasses import dataclass
 
 from .files import CannotRead, opened, read_open
@@ -53,6 +52,8 @@ def nearest_file(path: str) -> str | None:
 
 def read_settings(path: str) -> Settings:
     """The settings of a file."""
+    import tomllib
+
     try:
         with opened(path) as file:
             text = read_open(file).decode("utf-8")

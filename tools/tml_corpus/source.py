@@ -2,16 +2,20 @@
 
 from __future__ import annotations
 
+import re
 from collections.abc import Iterator
 from dataclasses import dataclass, field
 from functools import cached_property
 
 from .edits import Edit
 from .places import Places
-from .profile import IDENTIFIERS, TABLE
+from .profile import IDENTIFIERS, LEFT, RIGHT, ROOT, TABLE
 from .units import END, MANY_BYTES, START, TEXT, Attribute, Unit, Units
 
 LONGEST = 80
+VALUE = re.compile(r"""([^ \t\r\n=]++)[ \t\r\n]*+=[ \t\r\n]*+(?:"([^"]*+)"|'([^']*+)')""")
+"""An attribute of a tag: its name, and its value between quotes of either kind."""
+
 MANNERS = {"EVENT": "e", "MAKEINSTANCE": "ei", "TIMEX3": "t", "SIGNAL": "s"}
 """How identifiers mostly begin."""
 
@@ -55,25 +59,42 @@ class Source:
 
     def value(self, tag: Unit, name: str) -> str:
         """The value of an attribute; nothing where it is not there."""
-        if len(self.document) > MANY_BYTES:
-            return tag.value_of(name, self.document) or ""
         values = self.known_values.get(tag.start)
         if values is None:
-            values = {one.name: one.value(self.document).decode("utf-8", "surrogateescape") for one in reversed(tag.attributes)}
-            self.known_values[tag.start] = values
+            if len(self.document) > MANY_BYTES:
+                return tag.value_of(name, self.document) or ""
+            values = self.values(tag)
         return values.get(name, "")
+
+    def values(self, tag: Unit) -> dict[str, str]:
+        """The values of the attributes of a tag, which are kept; of several with one name the first one counts."""
+        values = self.known_values.get(tag.start)
+        if values is None:
+            written = self.document[tag.start : tag.end].decode("utf-8", "surrogateescape")
+            attributes = VALUE.findall(written, 1 + len(tag.name))
+            values = self.known_values[tag.start] = {one: first or second for one, first, second in reversed(attributes)}
+        return values
+
+    def ends(self, link: Unit) -> tuple[str, str]:
+        """The identifiers of the two intervals of a TLINK."""
+        return self.value(link, LEFT[0]) or self.value(link, LEFT[1]), self.value(link, RIGHT[0]) or self.value(link, RIGHT[1])
 
     def tags(self, kind: str) -> list[Unit]:
         """The start and empty tags of a kind."""
         return self.by_kind.get(kind, [])
 
     @cached_property
-    def by_kind(self) -> dict[str, list[Unit]]:
-        """The start and empty tags of the profile, by their kinds."""
+    def by_name(self) -> dict[str, list[Unit]]:
+        """The start and empty tags of the profile that are no wrappers, by their names."""
         found: dict[str, list[Unit]] = {}
-        for unit in self.units.opening(*TABLE):
+        for unit in self.units.opening(ROOT, *TABLE):
             found.setdefault(unit.name, []).append(unit)
         return found
+
+    @cached_property
+    def by_kind(self) -> dict[str, list[Unit]]:
+        """Those that have a meaning: all but the root."""
+        return {name: tags for name, tags in self.by_name.items() if name != ROOT}
 
     @cached_property
     def identifiers(self) -> dict[str, dict[str, Unit]]:

@@ -88,7 +88,7 @@ def links_of(program: Program, path: str, document: bytes, target: str, touching
 
 def verified(program: Program, path: str, document: bytes, reply: Reply) -> Timeline:
     """The rows of what `tml solve` printed, once `tml verify` said that it is a timeline of the document."""
-    verify_timeline(program, path, document, reply)
+    verify_timeline(program, document, reply)
     found = re.fullmatch(rb"tml-evidence 1\ntimeline \d+\n((?:at \d+ \d+\n)*)end\n", reply.text)
     if found is None:
         raise CannotRun("the answer of tml to `solve` cannot be read")
@@ -107,13 +107,13 @@ def in_rows(title: str, wording: Wording, ranks: list[tuple[int, int]]) -> Timel
     order = sorted(range(len(ranks)), key=lambda number: (ranks[number][0], -ranks[number][1], number))
     rows = [row_of(wording, number, ranks[number]) for number in order]
     places = {row.name: place for place, row in enumerate(rows)}
-    for link in wording.links:
+    for link in map(wording.link, range(len(wording.link_tags))):
         left, right = places[link.left], places[link.right]
         words = wording.in_words(link)
         for place, other in {left: right, right: left}.items():
             rows[place].links.append(words)
             rows[place].partners.append(other)
-    return Timeline(title, rows, len(wording.links))
+    return Timeline(title, rows, len(wording.link_tags))
 
 
 def row_of(wording: Wording, number: int, ranks: tuple[int, int]) -> Row:

@@ -23,16 +23,17 @@ import sys
 from collections.abc import Sequence
 from itertools import count
 
-from .faults import read_fault
+from .cutting import units_of_whole
+from .faults import BAD_MARKUP, read_fault
 from .files import CannotRead, read_document, shown
 from .output import Parser, complain, run, standard_input
 from .places import Places
 from .edits import Edit, applied, with_value
-from .program import ACCEPTED, DOCUMENT_LIMIT, FAULT, CannotRun, Program, Reply, find_program
-from .statuses import Status
+from .program import ACCEPTED, DOCUMENT_LIMIT, FAULT, MEANINGS, CannotRun, Program, find_program
+from .statuses import Status, TmlStatus
 from .tables import BadTable, Word, rows
-from .touching import Change, asks, touching_changes
-from .units import Attribute, Unit, read_units
+from .touching import Change, asks, touching_changes, with_changes
+from .units import Attribute, Unit
 from .words import Wording
 
 LINK_TAGS = ("TLINK", "ALINK", "SLINK")
@@ -57,26 +58,29 @@ class CannotEdit(Exception):
 
 
 class Document:
-    """A document and its units, as `tml spans` prints them; they are asked for anew after each change."""
+    """A document and its units. After each change `tml check` is asked whether it can be cut into units, and what else is at fault."""
 
     def __init__(self, program: Program, text: bytes) -> None:
         self.program, self.text = program, text
         self.cut()
 
     def cut(self) -> None:
-        """Asks for the units."""
-        self.units = read_units(self.without_fault(self.program.spans(self.text)))
+        """Cuts the document into units, whatever fault its tags have."""
+        self.reply = self.program.check(self.text)
+        fault = read_fault(self.reply.text) if self.reply.status == FAULT else None
+        if fault is None or fault.number <= BAD_MARKUP:
+            self.without_fault()
+        self.units = units_of_whole(self.program, self.text)
         self.ends: dict[int, int] | None = None
 
-    def without_fault(self, reply: Reply) -> Reply:
-        """A reply that has no fault."""
-        fault = read_fault(reply.text) if reply.status == FAULT else None
+    def without_fault(self) -> None:
+        """Refuses to go on where the document has a fault."""
+        fault = read_fault(self.reply.text) if self.reply.status == FAULT else None
         if fault is not None:
             place = Places(self.text).place(fault.offset)
             raise CannotEdit(f"fault {fault.title()} at {place.line}:{place.column}: mend it first")
-        if reply.status != ACCEPTED:
-            raise CannotEdit(reply.problem())
-        return reply
+        if self.reply.status != ACCEPTED:
+            raise CannotEdit(self.reply.problem())
 
     def change(self, edits: list[Edit]) -> None:
         """Makes some edits."""
@@ -268,10 +272,15 @@ def interval_of(word: Word, instances: dict[str, str], events: set[str], interva
 
 
 def touch_dates(document: Document) -> list[Change]:
-    """Gives links between dates that touch the relation that holds, as IBEFORE for BEFORE, and answers what was changed."""
-    document.without_fault(document.program.check(document.text))
+    """Gives links between dates that touch the relation that holds, as IBEFORE for BEFORE, and answers what was changed.
+
+    This is the last change, and so the document is not cut anew.
+    """
+    document.without_fault()
     changes = touching_changes(Wording(document.program, document.text, document.units))
-    document.change([edit for change in changes if (edit := change.edit(document.text)) is not None])
+    document.text = with_changes(document.text, changes)
+    if len(document.text) > DOCUMENT_LIMIT:
+        raise CannotEdit(MEANINGS[TmlStatus.TOO_LONG])
     return changes
 
 

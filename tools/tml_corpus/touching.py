@@ -50,10 +50,11 @@ def touching_changes(wording: Wording) -> list[Change]:
     """The links of a document between dates that touch, in their order."""
     bounds = exact_bounds(wording)
     changes: list[Change] = []
-    for link, tag in zip(wording.links, wording.link_tags, strict=True):
-        left, right = bounds.get(link.left), bounds.get(link.right)
-        relation = touching_relation(link.relation, left, right) if left and right else None
+    for number, tag in enumerate(wording.link_tags):
+        left, right = map(bounds.get, wording.source.ends(tag))
+        relation = touching_relation(wording.relation(number), left, right) if left and right else None
         if relation is not None:
+            link = wording.link(number)
             changes.append(Change(link, tag, relation, reason_of(wording, link, relation)))
     return changes
 

@@ -7,8 +7,8 @@ from array import array
 from bisect import bisect_left
 from collections.abc import Iterator, Sequence
 from contextlib import AbstractContextManager, contextmanager
-from dataclasses import dataclass
-from typing import overload
+from dataclasses import dataclass, field
+from typing import NamedTuple, overload
 
 from .program import CannotRun, Program, Reply
 
@@ -22,8 +22,7 @@ CODES = {kind.encode(): code for code, kind in enumerate(KINDS)}
 NAMELESS = tuple(b" %s\n" % kind.encode() for kind in KINDS[TEXT:])
 
 
-@dataclass(frozen=True, slots=True)
-class Attribute:
+class Attribute(NamedTuple):
     """An attribute of a tag: from the first byte of its name to past the closing quote."""
 
     name: str
@@ -48,8 +47,14 @@ class Unit:
     start: int
     end: int
     kind: str
-    name: str = ""
-    attributes: Sequence[Attribute] = ()
+    name: str
+    units: Units = field(repr=False, compare=False)
+    row: int = field(repr=False, compare=False)
+
+    @property
+    def attributes(self) -> Iterator[Attribute]:
+        """The attributes one by one: a tag may have hundreds of thousands, of which the first ones are asked for."""
+        return self.units.attributes(self.row) if self.opens() else iter(())
 
     def opens(self) -> bool:
         """Whether it is a start tag or an empty tag."""
@@ -131,16 +136,14 @@ class Units(Sequence[Unit]):
     def unit(self, row: int) -> Unit:
         """The unit of a row."""
         kind = self.kinds[row]
-        name = self.words[self.names[row]] if kind <= END else ""
-        attributes = self.attributes(row + 1) if kind <= EMPTY else ()
-        return Unit(self.starts[row], self.ends[row], KINDS[kind], name, attributes)
+        return Unit(self.starts[row], self.ends[row], KINDS[kind], self.words[self.names[row]] if kind <= END else "", self, row)
 
-    def attributes(self, row: int) -> Sequence[Attribute]:
-        """The attributes that stand from a row on."""
-        last = row
-        while last < len(self.kinds) and self.kinds[last] == ATTRIBUTE:
-            last += 1
-        return [Attribute(self.words[self.names[one]], self.starts[one], self.ends[one]) for one in range(row, last)]
+    def attributes(self, row: int) -> Iterator[Attribute]:
+        """The attributes of the tag of a row: those of the rows after it."""
+        for one in range(row + 1, len(self.kinds)):
+            if self.kinds[one] != ATTRIBUTE:
+                break
+            yield Attribute(self.words[self.names[one]], self.starts[one], self.ends[one])
 
     def opening(self, *names: str) -> list[Unit]:
         """The start and empty tags of these names."""

@@ -6,10 +6,13 @@ import html
 from dataclasses import dataclass
 from functools import cached_property
 
-from .places import Place, Places
+from .cutting import units_of_whole
+from .places import Place
+from .profile import IDENTIFIERS
 from .program import CannotRun, Program
+from .source import Source
 from .texts import cut, texts_of
-from .units import Unit, Units, units_of
+from .units import Unit, Units
 
 LONGEST = 40
 """So many characters of a text stand in a sentence."""
@@ -32,33 +35,32 @@ class Wording:
     """What can be said of the intervals and links of one accepted document."""
 
     def __init__(self, program: Program, document: bytes, units: Units | None = None) -> None:
-        self.document, self.places = document, Places(document)
-        self.units = units or units_of(program, document) or Units()
-        self.tags = {kind: self.tags_by(kind, key) for kind, key in (("EVENT", "eid"), ("MAKEINSTANCE", "eiid"), ("TIMEX3", "tid"))}
+        self.document = document
+        self.units = units or units_of_whole(program, document)
+        self.source = Source(document, self.units)
+        self.places = self.source.places
+        self.tags = self.source.identifiers
         self.texts: dict[str, str] = {}
-        self.intervals: list[str] = []
-        self.links: list[Link] = []
-        self.link_tags = self.units.opening("TLINK")
-        try:
-            self.read_check(program)
-        except (ValueError, IndexError):
-            raise CannotRun("the answer of tml to `check` cannot be read") from None
+        self.link_tags = self.source.tags("TLINK")
         self.dates = {words[0]: words[1:] for words in program.ask(["dates", "-"], document).lines() if len(words) > 1}
 
-    def tags_by(self, kind: str, key: str) -> dict[str, Unit]:
-        """The tags of a kind by their identifiers."""
-        return {unit.value_of(key, self.document) or "": unit for unit in self.units.opening(kind)}
+    @cached_property
+    def intervals(self) -> list[str]:
+        """The names of the intervals by their numbers: they are the instances and times in the order of their tags."""
+        tags = sorted(self.source.tags("MAKEINSTANCE") + self.source.tags("TIMEX3"), key=lambda tag: tag.start)
+        return [self.source.value(tag, IDENTIFIERS[tag.name]) for tag in tags]
 
-    def read_check(self, program: Program) -> None:
-        """Reads the intervals and the links from `tml check`; the links stand there in the order of the TLINK tags."""
-        for words in program.check(self.document).lines():
-            if words[0] == "interval":
-                self.intervals.append(words[2])
-            elif words[0] == "tlink":
-                tag = self.link_tags[int(words[1])]
-                self.links.append(Link(int(words[1]), self.places.place(tag.start), words[2], words[3], words[4]))
-        if len(self.link_tags) != len(self.links):
-            raise CannotRun("the answers of tml to `check` and `spans` do not belong together")
+    def link(self, number: int) -> Link:
+        """The link of a number: links have the numbers of their tags, and at each end one attribute with a value."""
+        if not 0 <= number < len(self.link_tags):
+            raise CannotRun("the answers of tml to `solve` and `check` do not belong together")
+        tag = self.link_tags[number]
+        left, right = self.source.ends(tag)
+        return Link(number, self.places.place(tag.start), left, self.relation(number), right)
+
+    def relation(self, number: int) -> str:
+        """The relation of a link."""
+        return self.source.value(self.link_tags[number], "relType")
 
     def text_of(self, name: str) -> str:
         """The text of the event or time that an interval is, cut where it is long, or its name where it has none."""
@@ -76,11 +78,11 @@ class Wording:
         instance = self.tags["MAKEINSTANCE"].get(name)
         if name in self.tags["TIMEX3"] or instance is None:
             return self.tags["TIMEX3"].get(name)
-        return self.tags["EVENT"].get(instance.value_of("eventID", self.document) or "")
+        return self.tags["EVENT"].get(self.source.value(instance, "eventID"))
 
     def value_of(self, tag: Unit) -> str:
         """The beginning of the value of an empty time, which stands for its text."""
-        return (tag.value_of("value", self.document) or "")[:MOST_OF_VALUE] if tag.kind == "empty" else ""
+        return self.source.value(tag, "value")[:MOST_OF_VALUE] if tag.kind == "empty" else ""
 
     @cached_property
     def inner_texts(self) -> dict[int, str]:

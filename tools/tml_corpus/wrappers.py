@@ -21,13 +21,22 @@ class Unwrapping(Program):
     def __init__(self, path: str, names: Iterable[str]) -> None:
         super().__init__(path)
         self.names = frozenset(names)
+        self.last = b"", b""
         self.opening = re.compile(b"|".join(b"<" + re.escape(name.encode()) for name in sorted(self.names)))
 
-    def ask(self, words: list[str], document: bytes | IO[bytes], folder: str | None = None) -> Reply:
+    def ask(self, words: list[str], document: bytes | IO[bytes], other: IO[bytes] | None = None) -> Reply:
         """Asks about the document without these tags; a document that is not cut into units is asked about as it is."""
         if not isinstance(document, bytes):
             document = read_open(document)
-        return super().ask(words, self.unwrapped(document), folder)
+        return super().ask(words, self.seen(document), other)
+
+    def seen(self, document: bytes) -> bytes:
+        """The document without these tags; that of the last document is kept, since several questions are asked about one."""
+        before, seen = self.last
+        if document != before:
+            seen = self.unwrapped(document)
+            self.last = document, seen
+        return seen
 
     def unwrapped(self, document: bytes) -> bytes:
         """The document with spaces in the place of these tags."""
