@@ -10,7 +10,7 @@ ghost use Rattle.order_closure.specs.Bits.{bit_of};
 ghost use Rattle.order_closure.specs.Tables.{cell_at};
 ghost use Rattle.order_closure.specs.declared.cell.Cell.TheVariants as cells;
 ghost use Rattle.std.specs.Int.{bit_at};
-ghost use Rattle.std.specs.Prelude.{IfOk, bit_and, length, map, true, ◌*◌, ◌+◌, ◌/◌, ◌<◌, ◌==◌, ◌^◌, ◌≡◌, ◌≢◌, ◌↔◌};
+ghost use Rattle.std.specs.Prelude.{IfOk, bit_and, length, map, true, ◌*◌, ◌+◌, ◌/◌, ◌<◌, ◌==◌, ◌≡◌, ◌≢◌, ◌↔◌};
 
 use named::Named;
 use net_core::{End, Memory, PairOrder, Rel, orders_of};

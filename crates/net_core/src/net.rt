@@ -1,8 +1,7 @@
 //! Nets of intervals.
 ghost use Rattle.net_core.specs.Bounds as calendar;
-ghost use Rattle.net_core.specs.Limits.{max_intervals, max_links};
 ghost use Rattle.net_core.specs.Nets as nets;
-ghost use Rattle.std.specs.Prelude.{◌≡◌, ◌<◌, ◌≤◌, length};
+ghost use Rattle.std.specs.Prelude.{◌≡◌, ◌<◌, length};
 
 use crate::{Bounds, List, Rel};
 use std::marker::Model;

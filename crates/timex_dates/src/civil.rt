@@ -1,5 +1,5 @@
 //! Texts of civil seconds.
-ghost use Rattle.std.specs.Prelude.{◌≡◌, ◌+◌, ◌/◌, ◌%◌, ◌<◌, ◌≤◌, ◌∷◌, ◌++◌};
+ghost use Rattle.std.specs.Prelude.{◌≡◌, ◌+◌, ◌/◌, ◌%◌, ◌<◌, ◌≤◌};
 ghost use Rattle.timex_dates.specs.Printed.{bytes_of, printed};
 ghost use Rattle.timex_value.specs.Text.{digit_byte};
 

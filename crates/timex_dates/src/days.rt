@@ -2,7 +2,7 @@
 ghost use Rattle.jiff_core.specs.Calendar.{IsEpochDay, IsBetween};
 ghost use Rattle.jiff_core.specs.Date.{epoch_day, IsYmd};
 ghost use Rattle.std.specs.Int.{IsInRange};
-ghost use Rattle.std.specs.Prelude.{◌≡◌, ◌+◌, ◌≤◌, pos, neg_ℤ, ◌+ℤ◌, ◌-ℤ◌};
+ghost use Rattle.std.specs.Prelude.{◌≡◌, ◌≤◌, pos};
 ghost use Rattle.timex_dates.specs.Seconds as seconds;
 ghost use Rattle.timex_dates.specs.Seconds.{IsDayNumber, monday_of};
 ghost use Rattle.timex_value.specs.Civil.{IsDate, day_index, month_length, weekday};

@@ -1,6 +1,6 @@
 //! Intervals of seconds.
 ghost use Rattle.std.specs.Int.{IsInRange};
-ghost use Rattle.std.specs.Prelude.{◌*◌, ◌*ℤ◌, ◌+◌, ◌+ℤ◌, ◌-◌, ◌↔◌, ◌≡◌, ◌≤◌, ◌≤ℤ◌, ◌<◌, pos, ℕ};
+ghost use Rattle.std.specs.Prelude.{◌*◌, ◌*ℤ◌, ◌+◌, ◌+ℤ◌, ◌-◌, ◌≡◌, ◌≤◌, ◌≤ℤ◌, ◌<◌, pos};
 ghost use Rattle.timex_dates.specs.Seconds.{Extent, IsCivilSecond, IsDayNumber};
 ghost use Rattle.timex_dates.specs.Sets.{InDay, InHour, InMinute, InMonth, InQuarter, InSecond, InWeek, InWeekYears, InWeekday, InYears};
 ghost use Rattle.timex_value.specs.Civil.{IsDate, weeks_of};

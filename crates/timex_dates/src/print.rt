@@ -1,5 +1,5 @@
 //! Printing civil texts.
-ghost use Rattle.std.specs.Prelude.{◌≡◌, ℕ, ◌+◌, ◌-◌, ◌/◌, ◌%◌, ◌<◌, ◌≤◌, pos, neg_ℤ, ◌+ℤ◌, ◌-ℤ◌, ◌≤ℤ◌};
+ghost use Rattle.std.specs.Prelude.{◌+◌, ◌-◌, ◌/◌, ◌%◌, ◌≤◌};
 ghost use Rattle.timex_dates.specs.Printed.{bytes_of, IsCivilText};
 ghost use Rattle.timex_dates.specs.Seconds.{IsCivilSecond};
 ghost use Rattle.timex_value.specs.Civil.{IsDateOf};

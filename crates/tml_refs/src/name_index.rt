@@ -1,7 +1,7 @@
 //! The names of a document: which tags have which identifiers.
 ghost use Rattle.std.specs.Option.{is_some, is_none};
 ghost use Rattle.std.specs.List.{list_any};
-ghost use Rattle.std.specs.Prelude.{◌≡◌, ◌<◌, ◌≤◌, ◌^◌, ◌||◌, ℕ, length, map, not, IfOk, IfSome};
+ghost use Rattle.std.specs.Prelude.{◌≡◌, ◌<◌, ◌^◌, length, map, IfOk, IfSome};
 ghost use Rattle.tml_refs.specs.NameIndex as index;
 ghost use Rattle.tml_refs.specs.NameIndex.{AreEntriesOf, HasNumber, HasIntervalNumber, IsFirstRepeat, IsKeyOf, is_either_unlisted, is_listed, is_unlisted};
 ghost use Rattle.tml_refs.specs.Rules as rules;

@@ -1,10 +1,9 @@
 //! Units that are checked and not kept, which takes no memory.
-ghost use Rattle.std.specs.Prelude.{◌≡◌, ◌≢◌, ◌+◌, ◌<◌, ◌≤◌, ◌^◌, ◌∷◌, ◌++◌, [], codes, slice_index, length, IfErr, IfSome, IsUtf8, MatchOption, OnOk};
+ghost use Rattle.std.specs.Prelude.{◌≡◌, ◌≢◌, ◌+◌, ◌<◌, ◌≤◌, ◌^◌, ◌++◌, [], codes, slice_index, length, IfErr, IfSome, IsUtf8, OnOk};
 ghost use Rattle.tml_span.specs.Bytes as kinds;
-ghost use Rattle.tml_span.specs.Checking.{AddsPiece, ChecksAttributes, ChecksUnit, FirstInOrder};
-ghost use Rattle.tml_span.specs.Cutting.{Stops};
+ghost use Rattle.tml_span.specs.Checking.{AddsPiece, ChecksAttributes, ChecksUnit};
 ghost use Rattle.tml_span.specs.Faults.{HasPlainFault};
-ghost use Rattle.tml_span.specs.References.{FirstBadIn, IsPlaced, IsWithin, Piece, pieces_of, value_piece};
+ghost use Rattle.tml_span.specs.References.{FirstBadIn, IsPlaced, IsWithin, pieces_of, value_piece};
 ghost use Rattle.tml_span.specs.View.{attribute_of, unit_of};
 ghost use Rattle.tml_span.specs.Whole.{CutsWhole};
 

@@ -1,10 +1,9 @@
 //! Units that run up to their first closing text: declarations, doctypes and comments.
-ghost use Rattle.std.specs.Prelude.{true, false, ◌≡◌, ◌+◌, ◌-◌, ◌<◌, ◌≤◌, ◌^◌, ◌++◌, ◌∷◌, codes, drop, take, length, nat_eq, slice_index, IfNone, IfSome, MatchOption, List, ℕ};
+ghost use Rattle.std.specs.Prelude.{true, false, ◌≡◌, ◌+◌, ◌-◌, ◌<◌, ◌≤◌, ◌^◌, ◌++◌, codes, drop, take, length, nat_eq, slice_index, IfNone, IfSome, List, ℕ};
 ghost use Rattle.memchr.specs.Find.{FindsNeedle};
 ghost use Rattle.std.specs.Bool.{Decides};
 ghost use Rattle.std.specs.List.{starts_with};
 ghost use Rattle.tml_span.specs.Bytes as kinds;
-ghost use Rattle.tml_span.specs.Cutting.{Stops, FindsUnit};
 ghost use Rattle.tml_span.specs.Units.{BeginsWithWord, Lacks};
 ghost use Rattle.tml_span.specs.View.{ReadsUnit};
 

@@ -1,6 +1,5 @@
 //! References in texts and values, and the first that is bad.
-ghost use Rattle.std.specs.Prelude.{◌≡◌, ◌↔◌, ◌+◌, ◌<◌, ◌≤◌, ◌^◌, ◌++◌, ℕ, List, [], ◌∷◌, length, Contains, IsTrue, IfSome, MatchOption, map, slice_get, nat_eq, Some, codes};
-ghost use Rattle.tml_span.specs.Bytes.{byte};
+ghost use Rattle.std.specs.Prelude.{◌≡◌, ◌↔◌, ◌+◌, ◌<◌, ◌≤◌, ◌^◌, ℕ, [], ◌∷◌, length, IsTrue, IfSome, MatchOption, map, nat_eq, Some};
 ghost use Rattle.std.specs.List.{AllByRecursion, list_any, starts_with};
 ghost use Rattle.tml_span.specs.References.{named_references, Begins, IsClosed, IsDecimalReference, IsHexReference, BeginsReference, FirstBadIn, IsBadAt, IsFirst, IsNowhere, IsPlaced, IsWithin, Follows, pieces_of, value_piece};
 ghost use Rattle.tml_span.specs.View.{unit_of, attribute_of};

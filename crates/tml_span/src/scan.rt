@@ -1,8 +1,8 @@
 //! The unit that some bytes begin with.
-ghost use Rattle.std.specs.Prelude.{true, false, ◌≡◌, ◌+◌, ◌<◌, ◌^◌, slice_index, codes, length, nat_eq, IfOk, IfSome, MatchOption};
+ghost use Rattle.std.specs.Prelude.{true, false, ◌≡◌, ◌+◌, ◌<◌, ◌^◌, slice_index, codes, length, nat_eq, IfOk, IfSome};
 ghost use Rattle.std.specs.List.{starts_with};
 ghost use Rattle.tml_span.specs.Bytes as kinds;
-ghost use Rattle.tml_span.specs.Cutting.{Stops, FindsUnit};
+ghost use Rattle.tml_span.specs.Cutting.{FindsUnit};
 ghost use Rattle.tml_span.specs.Units.{bom_bytes};
 ghost use Rattle.tml_span.specs.View.{ReadsUnit, unit_of};
 

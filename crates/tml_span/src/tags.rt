@@ -3,7 +3,6 @@ ghost use Rattle.std.specs.Prelude.{[], true, ◌≡◌, ◌≢◌, ◌+◌, ◌
 ghost use Rattle.tml_span.specs.Reading as reading;
 ghost use Rattle.tml_span.specs.View.{ReadsUnit, attribute_of, quote_byte};
 ghost use Rattle.tml_span.specs.Bytes as kinds;
-ghost use Rattle.tml_span.specs.Cutting.{Stops, FindsUnit};
 
 use crate::bytes::{is_name_start, name_len, value_len, white_len};
 use crate::{Attr, List, Memory, Quote, Span, Unit};

@@ -20,7 +20,7 @@ pub struct UnitList<'s> {
 }
 
 impl<'s> Model for UnitList<'s> {
-    ghost use Rattle.std.specs.Prelude.{map, length, ◌<◌, ◌^◌};
+    ghost use Rattle.std.specs.Prelude.{map};
     ghost use Rattle.tml_span.specs.Whole.{Cutting, IsSmallWhole};
     ghost use Rattle.tml_span.specs.View.{unit_of};
 

@@ -1,5 +1,5 @@
 //! The units of a source, one by one.
-ghost use Rattle.std.specs.Prelude.{◌≡◌, ◌<◌, ◌≤◌, ◌^◌, length, drop, IfOk, IfErr};
+ghost use Rattle.std.specs.Prelude.{◌≡◌, ◌<◌, ◌^◌, length, drop, IfOk, IfErr};
 ghost use Rattle.tml_span.specs.Faults.{HasPlainFault};
 ghost use Rattle.tml_span.specs.Reader.{Begins};
 

@@ -1,11 +1,9 @@
 //! Builds a tree from one unit after another.
-ghost use Rattle.std.specs.Prelude.{◌≡◌, ◌++◌, [], ◌∷◌, List as ListOf, map, OnOk, IfErr, MatchOption, IfSome, IsNone};
-ghost use Rattle.std.specs.List.{filter};
+ghost use Rattle.std.specs.Prelude.{◌≡◌, ◌++◌, [], ◌∷◌, List as ListOf, OnOk, IfErr, MatchOption, IfSome, IsNone};
 ghost use Rattle.tml_span.specs.Units as units;
 ghost use Rattle.tml_span.specs.Units.{PlainUnit};
-ghost use Rattle.tml_span.specs.View.{attribute_of, unit_of};
-ghost use Rattle.tml_tree.specs.Plain.{element, nodes_of};
-ghost use Rattle.tml_tree.specs.Nesting.{is_element};
+ghost use Rattle.tml_span.specs.View.{unit_of};
+ghost use Rattle.tml_tree.specs.Plain.{element};
 ghost use Rattle.tml_tree.specs.Trees.{Document, Unclosed};
 ghost use Rattle.tml_tree.specs.Roots.{EndsIn};
 ghost use Rattle.tml_tree.specs.Taking.{Agrees, HasTaken, RefusesUnit, TakesUnit};

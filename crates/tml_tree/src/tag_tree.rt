@@ -1,5 +1,5 @@
 //! A tree with its source.
-ghost use Rattle.std.specs.Prelude.{◌≡◌, ◌<◌, ◌^◌, length, IfOk, IfErr, OnOk};
+ghost use Rattle.std.specs.Prelude.{◌≡◌, ◌<◌, length, IfOk, IfErr, OnOk};
 ghost use Rattle.tml_tree.specs.Pulled.{IsAtEnd, Leaves};
 ghost use Rattle.tml_tree.specs.Whole.{IsTreeOf, HasFault, HasTreeFault};
 

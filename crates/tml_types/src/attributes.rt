@@ -1,7 +1,6 @@
 //! The attributes of one tag, read one by one.
-ghost use Rattle.named.specs.Texts.{named_of};
 ghost use Rattle.std.specs.List.{list_all};
-ghost use Rattle.std.specs.Prelude.{◌≡◌, false, true, Some, None, codes, map, IfOk, IfErr, IfSome, IsNone};
+ghost use Rattle.std.specs.Prelude.{◌≡◌, false, true, Some, None, map, IfOk, IfErr, IfSome, IsNone};
 ghost use Rattle.tml_span.specs.View.{attribute_of};
 ghost use Rattle.tml_types.specs.Reading.{AreMissing, IsBad, IsGood, IsListed, IsMissing, IsUnlisted};
 ghost use Rattle.tml_types.specs.Reading.{IsOneOf, IsPairOf, is_bad_pair, is_conflict_pair, value_at};

@@ -1,6 +1,6 @@
 //! Typed tags: each attribute that means something is read once, in the order of the table. What has to be there comes
 //! first, then what each value may be, then that not both of a pair are there, and last whether a date exists.
-ghost use Rattle.std.specs.Prelude.{◌≡◌, [], ◌∷◌, map, true, false, IfOk, IfErr, OnOk};
+ghost use Rattle.std.specs.Prelude.{[], ◌∷◌, map, true, false, IfOk, IfErr, OnOk};
 ghost use Rattle.tml_tree.specs.declared.tag_name.TagName.TheVariants as tag;
 ghost use Rattle.tml_types.specs.Reading.{attrs_of};
 ghost use Rattle.tml_types.specs.View.{typed_of};
