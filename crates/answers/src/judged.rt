@@ -1,9 +1,9 @@
 //! Replies by a document and another file.
 ghost use Rattle.answers.specs.Judged.{CannotJudge, judged_rows};
 ghost use Rattle.net_core.specs.Limits.{max_document};
-ghost use Rattle.std.specs.Prelude.{◌≡◌, ◌≢◌, ◌≤◌, length, IfErr, IfOk};
+ghost use Rattle.std.specs.Prelude.{◌≡◌, ◌≢◌, ◌+◌, ◌≤◌, length, IfErr, IfOk};
 ghost use Rattle.tml_accept.specs.Acceptance.{Says};
-ghost use Rattle.tml_io.specs.Faults.{HasRisen};
+ghost use Rattle.tml_io.specs.Faults.{HasRisen, RisesAtMost};
 ghost use Rattle.tml_run.specs.Replied.{IsReplyTo};
 ghost use Rattle.tml_run.specs.Roles.{IsRole, file_of};
 ghost use Rattle.tml_run.specs.View.{finding_status, status_of, text_of};
@@ -78,6 +78,7 @@ pub fn reply_of_judged<A: OfJudged, I: Inputs>(
     ensures fault { status_of result ≡ Status.ReadFault → HasRisen (I.faults inputs.old) (I.faults inputs.new) }
     ensures files { I.files inputs.new ≡ I.files inputs.old }
     ensures stays_sound { I.sound inputs.new ≡ I.sound inputs.old }
+    ensures calls { RisesAtMost (max_document + 2 + (role.limit + 2)) (I.calls inputs.old) (I.calls inputs.new) }
     ensures never_falls { I.faults inputs.old ≤ I.faults inputs.new }
 {
     let doc = match read(alloc, inputs, DOC, name) {

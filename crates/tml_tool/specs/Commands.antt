@@ -1,8 +1,9 @@
 -- The table of commands: of each form its word, its arguments and its rows. A further command adds a line to each.
-use Rattle.std.specs.Prelude.{◌≡◌, Bool, true, ℕ, List, [], ◌∷◌, codes, String, None, Some, is_some}
+use Rattle.std.specs.Prelude.{◌≡◌, ◌+◌, Bool, true, ℕ, List, [], ◌∷◌, codes, String, None, Some, is_some}
 use Rattle.std.specs.declared.alloc.Global.{Global}
 use Rattle.std.specs.declared.option.Option.{Option}
 use Rattle.named.specs.Texts.{named_of}
+use Rattle.net_core.specs.Limits.{max_document, max_evidence}
 use Rattle.document_answers.specs.Canon.{canon_rows}
 use Rattle.document_answers.specs.Check.{check_rows}
 use Rattle.document_answers.specs.Dates.{dates_rows}
@@ -16,7 +17,7 @@ use Rattle.order_answers.specs.Solve.{solve_rows}
 use Rattle.tml_run.specs.Answered.{Freedom, NeverFree}
 use Rattle.tml_run.specs.Rows.{Rows, answers}
 use Rattle.tml_run.specs.declared.status.Status.TheVariants.{Usage}
-use Rattle.tml_tool.specs.Forms.{argument, taken_by, texts_of, usage_of, with_arguments}
+use Rattle.tml_tool.specs.Forms.{argument, calls_for, taken_by, texts_of, usage_of, with_arguments}
 use Rattle.tml_tool.specs.declared.commands.Form.{Form}
 use Rattle.tml_tool.specs.declared.commands.Form.TheVariants.{Spans, Check, Dates, Solve, Ask, Relations, Canon, Verify, Drill}
 
@@ -47,6 +48,12 @@ arguments_of form = codes "DOC" ∷ []
 abbrev pub takes : Form → List (List ℕ) → Bool
 takes Drill arguments = is_some (drill_number (argument arguments 0))
 takes form arguments = true
+
+-- how long the files of a form may be, in the order of reading
+abbrev pub limits_of : Form → List ℕ
+limits_of Verify = max_document ∷ max_evidence ∷ []
+limits_of Drill = []
+limits_of form = max_document ∷ []
 
 -- what comes next, by the arguments of a form
 abbrev pub rows_with : Form → List (List ℕ) → Rows
@@ -80,6 +87,11 @@ taken form arguments = taken_by takes form arguments
 abbrev pub form_of : List (List ℕ) → Option (Form × List (List ℕ))
 form_of [] = Some (Spans, codes "-" ∷ [])
 form_of (word ∷ arguments) = with_arguments arguments_of takes arguments (named_of word_of all_forms word)
+
+-- How many calls the files of a form take at most, and none without a form.
+abbrev pub most_calls : Option (Form × List (List ℕ)) → ℕ
+most_calls None = 0
+most_calls (Some asked) = calls_for (limits_of asked.0)
 
 -- words that have no form are answered by the usage text
 abbrev pub usage_rows : Rows

@@ -5,7 +5,7 @@ use Rattle.tml_tool.proofs.top.run.Goals as goal
 pub returns-clause-outcome : goal.returns-clause-outcome
 returns-clause-outcome g c =
     let reply = c.reply_to.ensures.reply.replies in
-    record { text = text_of c.reply_to.result; replies = (reply.0, rw c.deliver.ensures.status reply.1, reply.2); written = c.deliver.ensures.written }
+    record { text = text_of c.reply_to.result; replies = (reply.0, rw c.deliver.ensures.status reply.1, reply.2); written = c.deliver.ensures.written; calls = c.deliver.ensures.calls }
 
 pub returns-clause-usage : goal.returns-clause-usage
 returns-clause-usage g c =
