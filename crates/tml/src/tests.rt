@@ -1,8 +1,7 @@
-//! What the rows of `tml_rows` do not say: calls that fail in turn, one of several answers, all relations of all pairs of
+//! What the rows of `tml_rows` do not say: one of several answers, all relations of all pairs of
 //! intervals, and real files.
 mod ask;
 mod clashes;
-mod failing;
 mod files;
 
 use std::alloc::{AllocError, Global};

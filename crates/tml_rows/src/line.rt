@@ -36,8 +36,16 @@ pub enum Line<'t> {
     },
     /// A line of the text of a file or an answer.
     Text(Piece<'t>),
-    /// The whole text of the file of that name.
-    TextOf(&'t str),
+    /// The text of the file of that name, or so many of its first bytes.
+    TextOf {
+        name: &'t str,
+        most: Option<u32>,
+    },
+    /// The next row stands for one with each number from the first to the last.
+    Each {
+        first: u32,
+        last: u32,
+    },
     /// The next row has such inputs, or such a sink.
     Setting {
         setting: Setting,
@@ -60,8 +68,11 @@ pub fn line_of(line: &str) -> Option<Line<'_>> {
     if let Some(name) = line.strip_prefix("== ") {
         return Some(Line::Section(name));
     }
-    if let Some(name) = line.strip_prefix("= ") {
-        return Some(Line::TextOf(name));
+    if let Some(rest) = line.strip_prefix('=') {
+        return text_of(rest);
+    }
+    if let Some(numbers) = line.strip_prefix("each ") {
+        return each(numbers);
     }
     if let Some(words) = line.strip_prefix("$ tml") {
         return Some(Line::Command(words));
@@ -74,6 +85,25 @@ pub fn line_of(line: &str) -> Option<Line<'_>> {
         Some((head, text)) => before_text(head, text),
         None => named(line),
     }
+}
+
+/// What follows the `=` of a text of a file: perhaps a number of bytes, and the name.
+fn text_of(rest: &str) -> Option<Line<'_>> {
+    let (number, name) = rest.split_once(' ')?;
+    let most = match number {
+        "" => None,
+        _ => Some(number.parse().ok()?),
+    };
+    Some(Line::TextOf { name, most })
+}
+
+/// The numbers of a row that stands for several, as `0..58`.
+fn each(numbers: &str) -> Option<Line<'_>> {
+    let (first, last) = numbers.split_once("..")?;
+    Some(Line::Each {
+        first: first.parse().ok()?,
+        last: last.parse().ok()?,
+    })
 }
 
 /// A line with a text: how often, or of which file it is.

@@ -5,6 +5,7 @@ mod answer;
 mod command;
 mod devices;
 mod line;
+mod repeated;
 mod report;
 mod section;
 mod table;

@@ -3,6 +3,7 @@ use crate::answer::{Answer, run_words};
 use crate::command::Command;
 use crate::devices::Devices;
 use crate::line::{Line, Piece, line_of};
+use crate::repeated::Repeated;
 use crate::report::report;
 use crate::section::Section;
 use crate::text::append;
@@ -43,6 +44,8 @@ pub struct Table {
     section: Option<Section>,
     devices: Devices,
     place: Place,
+    // The row that is read now, where it stands for several.
+    repeated: Option<Repeated>,
 }
 
 impl Table {
@@ -56,6 +59,7 @@ impl Table {
             section: None,
             devices: Devices::new(alloc),
             place: Place::Nothing,
+            repeated: None,
         }
     }
 
@@ -63,16 +67,42 @@ impl Table {
     pub fn take(&mut self, rt: &impl Print, text: &str) -> Result<()> {
         self.lines = self.lines.saturating_add(1);
         let number = self.lines;
-        self.take_line(rt, text)
+        self.take_or_keep(rt, text)
             .context(format_args!("line {number}"))
     }
 
     /// Ends the table, and prints how the rows of the last section went.
     pub fn close(&mut self, rt: &impl Print) -> Result<()> {
-        if let Place::Row(_) = &self.place {
+        if matches!(&self.place, Place::Row(_)) || self.repeated.is_some() {
             bail!("the last row has no status");
         }
         self.end_section(rt)
+    }
+
+    /// Takes the line, or keeps it where its row stands for several. At the end of such a row each of them is taken.
+    fn take_or_keep(&mut self, rt: &impl Print, text: &str) -> Result<()> {
+        let Some(mut repeated) = self.repeated.take() else {
+            return self.take_line(rt, text);
+        };
+        repeated.lines.push(String::from_str(self.alloc, text)?)?;
+        if !matches!(line_of(text), Some(Line::Status(_))) {
+            self.repeated = Some(repeated);
+            return Ok(());
+        }
+        for number in repeated.first..=repeated.last {
+            self.take_numbered(rt, repeated.lines.as_slice(), number)?;
+        }
+        Ok(())
+    }
+
+    /// Takes lines with a number for each `\#` in them.
+    fn take_numbered(&mut self, rt: &impl Print, lines: &[String], number: u32) -> Result<()> {
+        let digits = format!(in self.alloc; "{number}")?;
+        for line in lines {
+            let line = line.as_str().replace(self.alloc, "\\#", digits.as_str())?;
+            self.take_line(rt, line.as_str())?;
+        }
+        Ok(())
     }
 
     fn take_line(&mut self, rt: &impl Print, text: &str) -> Result<()> {
@@ -90,6 +120,9 @@ impl Table {
             Line::Section(name) => self.begin_section(rt, name)?,
             Line::File { name, first } => self.begin_file(name, first)?,
             Line::Setting { setting, number } => self.devices.set(setting, number)?,
+            Line::Each { first, last } => {
+                self.repeated = Some(Repeated::new(self.alloc, first, last));
+            }
             Line::Command(words) => {
                 let row = Row {
                     commands: Vec::new(self.alloc),
@@ -97,7 +130,7 @@ impl Table {
                 };
                 self.take_command(row, words)?;
             }
-            Line::Text(_) | Line::TextOf(_) => bail!("a text of no file and no row"),
+            Line::Text(_) | Line::TextOf { .. } => bail!("a text of no file and no row"),
             Line::Status(_) => bail!("a status of no row"),
         }
         Ok(())
@@ -106,7 +139,7 @@ impl Table {
     fn take_in_file(&mut self, rt: &impl Print, mut file: File, line: Line<'_>) -> Result<()> {
         match line {
             Line::Text(piece) => append(&mut file.text, piece)?,
-            Line::TextOf(name) => self.append_file(&mut file.text, name)?,
+            Line::TextOf { name, most } => self.append_file(&mut file.text, name, most)?,
             _ => {
                 self.files.push(file)?;
                 return self.take_outside(rt, line);
@@ -120,7 +153,7 @@ impl Table {
         match line {
             Line::Command(words) if row.wanted.is_empty() => return self.take_command(row, words),
             Line::Text(piece) => append(&mut row.wanted, piece)?,
-            Line::TextOf(name) => self.append_file(&mut row.wanted, name)?,
+            Line::TextOf { name, most } => self.append_file(&mut row.wanted, name, most)?,
             Line::Status(status) => return self.end_row(rt, &row, status),
             _ => bail!("the row above has no status"),
         }
@@ -136,11 +169,13 @@ impl Table {
         Ok(())
     }
 
-    /// Appends the text of the last file of that name.
-    fn append_file(&self, bytes: &mut Vec<u8>, name: &str) -> Result<()> {
+    /// Appends the text of the last file of that name, or so many of its first bytes.
+    fn append_file(&self, bytes: &mut Vec<u8>, name: &str, most: Option<u32>) -> Result<()> {
         for file in self.files.iter().rev() {
             if file.name.as_str() == name {
-                bytes.extend_from_slice(file.text.as_slice())?;
+                let text = file.text.as_slice();
+                let len = most.map_or(text.len(), |most| (most as usize).min(text.len()));
+                bytes.extend_from_slice(&text[..len])?;
                 return Ok(());
             }
         }
