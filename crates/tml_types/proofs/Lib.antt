@@ -1,5 +1,4 @@
 pub mod RepeatedNames
-pub mod NameEntries
 pub mod KindNames
 pub mod OneRule
 pub mod OneTag

@@ -9,7 +9,6 @@ pub mod View
 pub mod Places
 pub mod Whole
 pub mod Answers
-pub mod NameSets
 pub mod Reading
 pub mod Walking
 pub mod Pulled

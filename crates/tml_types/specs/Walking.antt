@@ -1,11 +1,13 @@
 -- How the tags of a tree are typed, one after another: what the private contracts say.
-use Rattle.std.specs.Prelude.{◌≡◌, ℕ, true, false, List, ◌++◌, map, codes, [], Option, Some, None, Result, Ok, Err}
+use Rattle.std.specs.Prelude.{◌≡◌, ℕ, true, false, List, ◌++◌, map, codes}
 use Rattle.std.specs.List.{All, list_any}
 use Rattle.tml_span.specs.Units.{Attribute}
 use Rattle.tml_tree.specs.declared.tag_name.TagName.{TagName}
 use Rattle.tml_tree.specs.declared.tag_name.TagName.TheVariants as tag
 use Rattle.tml_tree.specs.TagNames.{text_of}
 use Rattle.tml_tree.specs.Walking.{PlainTag}
+use Rattle.tml_types.specs.declared.typed.TagKind.{TagKind}
+use Rattle.tml_types.specs.declared.typed.TagKind.TheVariants as kind
 use Rattle.tml_types.specs.declared.typed.TypedTag.{TypedTag}
 use Rattle.tml_types.specs.declared.walk.TypeFault.{TypeFault}
 use Rattle.tml_types.specs.declared.walk.TypeFault.TheVariants as faults
@@ -22,6 +24,16 @@ use Rattle.tml_types.specs.Whole.{Types}
 -- a tag of a known name
 abbrev pub tag_at : ℕ → TagName → List Attribute → PlainTag
 tag_at place name attrs = record { place = place; name = text_of name; attrs = attrs }
+
+-- the name of the tags of a kind
+abbrev pub name_of : TagKind → TagName
+name_of kind.Event = tag.Event
+name_of kind.Instance = tag.MakeInstance
+name_of kind.Timex = tag.Timex3
+name_of kind.Signal = tag.Signal
+name_of kind.Tlink = tag.Tlink
+name_of kind.Alink = tag.Alink
+name_of kind.Slink = tag.Slink
 
 -- no rule is broken by a tag of this name with these attributes, but maybe that of repeated names, and this is its typed tag
 pub record Reads (name : TagName) (attrs : List Attribute) (place : ℕ) (t : PlainTyped) : Type 0 where
@@ -53,12 +65,6 @@ Refuses name attrs place (faults.BadDate at) =
     × (name ≡ tag.Timex3)
     × IsNoDate (value_of (codes "value") attrs)
 Refuses name attrs place fault = ⊥
-
--- a tag of this name that repeats no name of an attribute has a typed tag, or none where the table has no rows for it, or it breaks a rule
-abbrev pub TypesOne : TagName → PlainTag → Result (Option TypedTag) TypeFault → Type 0
-TypesOne name tag (Ok (Some t)) = Reads name tag.attrs tag.place (typed_of t)
-TypesOne name tag (Ok None) = rows_of name ≡ []
-TypesOne name tag (Err fault) = Refuses name tag.attrs tag.place fault
 
 -- the typed tags of some tags are added, and none of these tags breaks a rule
 abbrev pub Adds : List PlainTag → List TypedTag → List TypedTag → Type 0

@@ -1,12 +1,11 @@
 //! The typed tags of a source whose units are pulled one by one, without a tree.
-ghost use Rattle.std.specs.Prelude.{◌≡◌, [], ◌∷◌, length, IfOk, IfErr, OnOk};
+ghost use Rattle.std.specs.Prelude.{◌≡◌, [], ◌∷◌, length, map, IfOk, IfErr, OnOk};
 ghost use Rattle.tml_span.specs.Reader.{IsReading};
-ghost use Rattle.tml_span.specs.View.{unit_of};
+ghost use Rattle.tml_span.specs.View.{attribute_of, unit_of};
 ghost use Rattle.tml_tree.specs.Judging.{Refuses};
 ghost use Rattle.tml_tree.specs.Whole.{HasTreeFault};
 ghost use Rattle.tml_types.specs.Pulled as pulled;
 ghost use Rattle.tml_types.specs.Pulled.{HasSourceFault, HasWalked, HasWalkedSource, TypesMore, Walks};
-ghost use Rattle.tml_types.specs.Reading.{attrs_of};
 ghost use Rattle.tml_types.specs.Walking.{tag_at};
 ghost use Rattle.tml_types.specs.Whole.{OfTree, Types};
 
@@ -16,7 +15,7 @@ use crate::typing::type_one;
 use crate::{TypeFault, Typed};
 use faults::FaultKind;
 use std::alloc::Global;
-use tml_span::{List, Memory, Unit, UnitReader};
+use tml_span::{Attr, List, Memory, Unit, UnitReader};
 use tml_tree::{Nesting, TagName, TreeFault};
 
 /// Why a source that has no fault of the cut has no typed tags.
@@ -77,34 +76,27 @@ impl<'s> Walk<'s> {
             Unit::Text { span, text } => self.nesting.text(span.start, text),
             Unit::StartTag { span, name, attrs } => {
                 let name = self.nesting.start(span.start, name)?;
-                let of = Attributes {
-                    place: span.start,
-                    attrs: attrs.as_slice(),
-                };
-                self.tag(alloc, name, of);
+                self.tag(alloc, span.start, name, attrs.as_slice());
                 Ok(())
             }
             Unit::EndTag { span, name } => self.nesting.end(span.start, name),
             Unit::EmptyTag { span, name, attrs } => {
                 let name = self.nesting.empty(span.start, name)?;
-                let of = Attributes {
-                    place: span.start,
-                    attrs: attrs.as_slice(),
-                };
-                self.tag(alloc, name, of);
+                self.tag(alloc, span.start, name, attrs.as_slice());
                 Ok(())
             }
         }
     }
 
     /// Types one more tag, where none before it is at fault, and keeps its fault.
-    fn tag(&mut self, alloc: Global, name: TagName, of: Attributes<'_, 's>)
+    fn tag(&mut self, alloc: Global, place: u32, name: TagName, attrs: &[Attr<'s>])
         ensures nesting { self.new.nesting ≡ self.old.nesting }
-        ensures typed { TypesMore self.old (tag_at of.entry.place name (attrs_of of.entry) ∷ []) self.new }
+        ensures typed { TypesMore self.old (tag_at place name (map attribute_of attrs.now) ∷ []) self.new }
     {
         if self.fault.is_some() {
             return;
         }
+        let of = Attributes { place, attrs };
         if let Err(fault) = type_one(alloc, name, of, &mut self.typed) {
             self.fault = Some(fault);
         }
@@ -156,6 +148,6 @@ pub fn type_units<'s>(alloc: Global, reader: &mut UnitReader<'s>) -> Result<Type
     }
     match walk.fault {
         Some(fault) => Err(SourceFault::Tag(fault)),
-        None => Ok(Typed { tags: walk.typed }),
+        None => Ok(Typed::new(walk.typed)),
     }
 }

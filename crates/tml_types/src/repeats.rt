@@ -1,9 +1,12 @@
 //! Attributes of one name.
-ghost use Rattle.std.specs.Prelude.{◌≡◌, map, IfOk};
+ghost use Rattle.std.specs.Cmp.Lexicographic.{slice_cmp};
+ghost use Rattle.std.specs.List.{IsDistinct};
+ghost use Rattle.std.specs.Ordering.{nat_cmp};
+ghost use Rattle.std.specs.Prelude.{◌≡◌, ◌↔◌, map, IfOk, IsFalse, IsSorted};
+ghost use Rattle.std.specs.Str.{bytes_eq};
 ghost use Rattle.tml_span.specs.View.{attribute_of};
 ghost use Rattle.tml_types.specs.Rules as rules;
 
-use crate::name_set::NameSet;
 use std::alloc::Global;
 use tml_span::{Attr, Memory};
 
@@ -47,13 +50,37 @@ fn has_name(name: &[u8], attrs: &[Attr<'_>]) -> bool
 fn is_repeated_in_many(alloc: Global, attrs: &[Attr<'_>]) -> Result<bool, Memory>
     ensures { IfOk result (λ r. r ≡ rules.is_repeated (map attribute_of attrs.now)) }
 {
-    let mut seen = NameSet::new(alloc);
+    let Ok(mut names) = names_of(alloc, attrs) else {
+        return Err(Memory);
+    };
+    names.sort_unstable();
+    Ok(has_equal_neighbours(names.as_slice()))
+}
+
+/// The names of attributes, in their order.
+fn names_of<'s>(alloc: Global, attrs: &[Attr<'s>]) -> Result<Vec<&'s [u8]>, Memory>
+    ensures { IfOk result (λ names. names.items ≡ map (λ attr. attr.name) attrs.now) }
+{
+    let Ok(mut names) = Vec::with_capacity(alloc, attrs.len()) else {
+        return Err(Memory);
+    };
     for attr in attrs {
-        match seen.insert(attr.name) {
-            Ok(true) => {}
-            Ok(false) => return Ok(true),
-            Err(Memory) => return Err(Memory),
+        if names.push(attr.name).is_err() {
+            return Err(Memory);
         }
     }
-    Ok(false)
+    Ok(names)
+}
+
+/// Whether two names are equal. In a sorted list such names stand side by side.
+fn has_equal_neighbours(names: &[&[u8]]) -> bool
+    requires { IsSorted (λ a b. slice_cmp nat_cmp a.now b.now) names.now }
+    ensures { IsFalse result ↔ IsDistinct (λ a b. bytes_eq a.now b.now) names.now }
+{
+    for later in 1..names.len() {
+        if names[later - 1] == names[later] {
+            return true;
+        }
+    }
+    false
 }

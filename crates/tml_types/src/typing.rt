@@ -1,15 +1,17 @@
 //! Typed tags: each attribute that means something is read once, in the order of the table. What has to be there comes
 //! first, then what each value may be, then that not both of a pair are there, and last whether a date exists.
-ghost use Rattle.std.specs.Prelude.{[], ◌∷◌, map, true, false, IfOk, IfErr, OnOk};
+ghost use Rattle.std.specs.Prelude.{◌≡◌, [], ◌∷◌, map, true, false, IfOk, IfErr, IfSome, IsNone, OnOk};
 ghost use Rattle.tml_tree.specs.declared.tag_name.TagName.TheVariants as tag;
 ghost use Rattle.tml_types.specs.Reading.{attrs_of};
+ghost use Rattle.tml_types.specs.Rules as rules;
+ghost use Rattle.tml_types.specs.Table.{rows_of};
 ghost use Rattle.tml_types.specs.View.{typed_of};
-ghost use Rattle.tml_types.specs.Walking.{Adds, Reads, Refuses, TypesOne, tag_at};
+ghost use Rattle.tml_types.specs.Walking.{Adds, Reads, Refuses, name_of, tag_at};
 ghost use Rattle.tml_types.specs.Whole.{HasFault};
 
 use crate::attributes::Attributes;
 use crate::repeats::is_repeated;
-use crate::typed::TypedTag;
+use crate::typed::{TagKind, TypedTag};
 use crate::{AspectRel, EventClass, SubRel, TypeFault};
 use net_core::Rel;
 use std::alloc::Global;
@@ -168,19 +170,54 @@ fn slink<'s>(of: &Attributes<'_, 's>) -> Result<TypedTag<'s>, TypeFault>
     })
 }
 
-/// The typed tag of a tag of this name that repeats no name of an attribute. The root and the wrappers have none.
-fn typed_tag<'s>(name: TagName, of: &Attributes<'_, 's>) -> Result<Option<TypedTag<'s>>, TypeFault>
-    ensures { TypesOne name (tag_at of.now.place name (attrs_of of.now)) result }
+/// The kind of the typed tag that a tag of this name has. The root and the wrappers have none.
+fn kind_named(name: TagName) -> Option<TagKind>
+    ensures some { IfSome result (λ kind. name ≡ name_of kind) }
+    ensures none { IsNone result → rows_of name ≡ [] }
 {
     match name {
-        TagName::Event => event(of).map(Some),
-        TagName::MakeInstance => instance(of).map(Some),
-        TagName::Timex3 => timex(of).map(Some),
-        TagName::Signal => signal(of).map(Some),
-        TagName::Tlink => tlink(of).map(Some),
-        TagName::Alink => alink(of).map(Some),
-        TagName::Slink => slink(of).map(Some),
-        _ => Ok(None),
+        TagName::Event => Some(TagKind::Event),
+        TagName::MakeInstance => Some(TagKind::Instance),
+        TagName::Timex3 => Some(TagKind::Timex),
+        TagName::Signal => Some(TagKind::Signal),
+        TagName::Tlink => Some(TagKind::Tlink),
+        TagName::Alink => Some(TagKind::Alink),
+        TagName::Slink => Some(TagKind::Slink),
+        _ => None,
+    }
+}
+
+/// The typed tag of a tag of this kind that repeats no name of an attribute.
+fn typed_tag<'s>(kind: TagKind, of: &Attributes<'_, 's>) -> Result<TypedTag<'s>, TypeFault>
+    ensures ok { IfOk result (λ t. Reads (name_of kind) (attrs_of of.now) of.now.place (typed_of t)) }
+    ensures err { IfErr result (λ e. Refuses (name_of kind) (attrs_of of.now) of.now.place e) }
+{
+    match kind {
+        TagKind::Event => event(of),
+        TagKind::Instance => instance(of),
+        TagKind::Timex => timex(of),
+        TagKind::Signal => signal(of),
+        TagKind::Tlink => tlink(of),
+        TagKind::Alink => alink(of),
+        TagKind::Slink => slink(of),
+    }
+}
+
+/// Appends the typed tag of a tag of this kind. It is large, so no tag without one is to take the way over it.
+#[inline(never)]
+fn type_kind<'s>(
+    kind: TagKind,
+    of: &Attributes<'_, 's>,
+    typed: &mut List<TypedTag<'s>>,
+) -> Result<(), TypeFault>
+    requires { rules.is_repeated (attrs_of of.now) ≡ false }
+    ensures ok { OnOk result (Adds (tag_at of.now.place (name_of kind) (attrs_of of.now) ∷ []) typed.old typed.new) }
+    ensures err { IfErr result (λ e. HasFault (tag_at of.now.place (name_of kind) (attrs_of of.now) ∷ []) e) }
+{
+    let tag = typed_tag(kind, of)?;
+    match typed.push(tag) {
+        Ok(()) => Ok(()),
+        Err(Memory) => Err(TypeFault::Memory),
     }
 }
 
@@ -200,11 +237,8 @@ pub fn type_one<'s>(
         Ok(true) => return Err(TypeFault::RepeatedAttribute { place }),
         Err(Memory) => return Err(TypeFault::Memory),
     }
-    match typed_tag(name, &of)? {
+    match kind_named(name) {
+        Some(kind) => type_kind(kind, &of, typed),
         None => Ok(()),
-        Some(value) => match typed.push(value) {
-            Ok(()) => Ok(()),
-            Err(Memory) => Err(TypeFault::Memory),
-        },
     }
 }

@@ -19,7 +19,7 @@ use tml_tree::{Node, Tag, TagTree};
 /// fewer than 2^32 of them.
 #[derive(Drop)]
 pub struct Typed<'s> {
-    pub(crate) tags: List<TypedTag<'s>>,
+    tags: List<TypedTag<'s>>,
 }
 
 impl<'s> Model for Typed<'s> {
@@ -39,6 +39,14 @@ impl<'s> Typed<'s> {
     ghost use Rattle.std.specs.Prelude.{map};
     ghost use Rattle.tml_types.specs.Places.{ArePlaced};
     ghost use Rattle.tml_types.specs.View.{typed_of};
+
+    /// Typed tags in document order, at places that rise.
+    pub(crate) fn new(tags: List<TypedTag<'s>>) -> Typed<'s>
+        requires { ArePlaced (map typed_of tags) }
+        ensures { result ≡ map typed_of tags.entry }
+    {
+        Typed { tags }
+    }
 
     /// The typed tags, in document order.
     pub fn as_slice(&self) -> &[TypedTag<'s>]
@@ -96,7 +104,7 @@ pub fn type_tags<'s>(alloc: Global, tree: &TagTree<'s>) -> Result<Typed<'s>, Typ
 {
     let mut typed = List::new(alloc);
     type_tag(alloc, tree.root(), &mut typed)?;
-    Ok(Typed { tags: typed })
+    Ok(Typed::new(typed))
 }
 
 /// Types a tag and then the tags inside it.

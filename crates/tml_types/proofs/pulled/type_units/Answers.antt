@@ -20,8 +20,8 @@ returns-in-Some-clause-err c =
     let tree = walked_whole c.args.reader.now.source walk c.in-Ok.ensures.ok (sym c.is_whole.ensures ∙ c.if-not-is_whole.false) in
     (tree.0, tree.1, subst (λ (o : Option TypeFault). HasTyped (elements tree.0) o walk.typed) c.in-Some.is tree.2)
 
-pub invariant_of-result : goal.invariant_of-result
-invariant_of-result c =
+pub new-requires : goal.new-requires
+new-requires c =
     let walk = c.in-Ok.walk in
     let tree = walked_whole c.args.reader.now.source walk c.in-Ok.ensures.ok (sym c.is_whole.ensures ∙ c.if-not-is_whole.false) in
     let all = adds_all (elements tree.0) walk.typed (subst (λ (o : Option TypeFault). HasTyped (elements tree.0) o walk.typed) c.in-None.is tree.2) in
@@ -31,4 +31,4 @@ pub returns-clause-ok : goal.returns-clause-ok
 returns-clause-ok c =
     let walk = c.in-Ok.walk in
     let tree = walked_whole c.args.reader.now.source walk c.in-Ok.ensures.ok (sym c.is_whole.ensures ∙ c.if-not-is_whole.false) in
-    (tree.0, tree.1, (adds_all (elements tree.0) walk.typed (subst (λ (o : Option TypeFault). HasTyped (elements tree.0) o walk.typed) c.in-None.is tree.2)).0)
+    (tree.0, tree.1, rw c.new.ensures (adds_all (elements tree.0) walk.typed (subst (λ (o : Option TypeFault). HasTyped (elements tree.0) o walk.typed) c.in-None.is tree.2)).0)

@@ -1,7 +1,7 @@
-use Rattle.std.proofs.Common.{[], map, refl}
-use Rattle.tml_span.specs.View.{attribute_of}
-use Rattle.tml_types.proofs.RepeatedNames.{repeats_none}
+use Rattle.tml_types.proofs.RepeatedNames.{repeats_by_names}
 use Rattle.tml_types.proofs.repeats.is_repeated_in_many.Goals as goal
 
-pub loop-attr-init : goal.loop-attr-init
-loop-attr-init c = rw c.new-seen.ensures ([], λ q. refl, repeats_none (map attribute_of c.args.attrs.now))
+pub returns : goal.returns
+returns c =
+    let sort = c.sort_unstable in
+    repeats_by_names c.args.attrs.now c.as_slice.result.now c.has_equal_neighbours.result (rw (c.as_slice.ensures.value, ← c.in-Ok.ensures) sort.ensures.permutation) c.has_equal_neighbours.ensures

@@ -16,9 +16,9 @@ returns-in_err-type_tag-clause-least c =
 pub returns-clause-ok : goal.returns-clause-ok
 returns-clause-ok c =
     let added = c.in_ok-type_tag.ensures.ok in
-    (tag_node c.root.result.now, c.root.ensures.tree, rw (added.3, c.new-typed.ensures) added.1)
+    (tag_node c.root.result.now, c.root.ensures.tree, rw (c.new.ensures, added.3, c.new-typed.ensures) added.1)
 
-pub invariant_of-result : goal.invariant_of-result
-invariant_of-result c =
+pub new-requires : goal.new-requires
+new-requires c =
     let added = c.in_ok-type_tag.ensures.ok in
     rw (added.3, c.new-typed.ensures) (tree_placed c.args.tree.now _ _ c.root.ensures.tree added.1.typed_tags added.2)
