@@ -4,13 +4,14 @@ use Rattle.std.specs.List.{cons_option}
 use Rattle.std.specs.Option.{is_some, option_to_list}
 use Rattle.std.proofs.lemmas.List.Elements.{All-nil, filter_map-append}
 use Rattle.tml_span.specs.declared.unit.Unit.{Unit}
-use Rattle.tml_span.specs.Reader.{Reading, Divides, Gives}
+use Rattle.tml_span.specs.Reader.{Reading, Gives}
 use Rattle.tml_span.specs.Units.{PlainUnit}
 use Rattle.tml_span.specs.View.{unit_of}
 use Rattle.tml_tree.specs.Rules.{is_nil}
 use Rattle.tml_tree.specs.Walking.{PlainTag, tag_of, tags_of}
 use Rattle.tml_tree.proofs.Elements.{elements_are_tags}
 use Rattle.tml_tree.proofs.Passing.{passes_on, passed_whole}
+use Rattle.tml_tree.proofs.Pulling.{HasGiven, one_more}
 use Rattle.tml_types.specs.declared.pulled.Walk.{Walk}
 use Rattle.tml_types.specs.declared.typed.TypedTag.{TypedTag}
 use Rattle.tml_types.specs.declared.walk.TypeFault.{TypeFault}
@@ -48,17 +49,14 @@ one_tag (Some tag) = refl
 tags_more : (us : List PlainUnit) (u : PlainUnit) → tags_of us ++ option_to_list (tag_of u) ≡ tags_of (us ++ u ∷ [])
 tags_more us u = ap (λ (ts : List PlainTag). tags_of us ++ ts) (sym (one_tag (tag_of u))) ∙ sym (filter_map-append tag_of us (u ∷ []))
 
-pub walked_more : (us : List PlainUnit) (u : PlainUnit) (old new : Walk) → HasWalked us old → Walks old u new → HasWalked (us ++ u ∷ []) new
+walked_more : (us : List PlainUnit) (u : PlainUnit) (old new : Walk) → HasWalked us old → Walks old u new → HasWalked (us ++ u ∷ []) new
 walked_more us u old new h k =
     let next = passes_on us u h.0 h.1 old.nesting new.nesting h.2 k.0 in
     (next.0.tags, next.0.nodes, next.1, subst (λ (ts : List PlainTag). HasTyped ts new.fault new.typed) (tags_more us u) (k.1 (tags_of us) h.3))
 
 -- the same of a unit that is pulled
-pub walks_on : (old new : Reading) (u : Unit) (w v : Walk) → Gives old new (Ok (Some u)) → (given : List PlainUnit) × (left : List PlainUnit) × Divides old given left × HasWalked given w → Walks w (unit_of u) v
-    → (given : List PlainUnit) × (left : List PlainUnit) × Divides new given left × HasWalked given v
-walks_on old new u w v gives (given, left, divides, walked) k =
-    let next = gives.4 given left divides in
-    (given ++ unit_of u ∷ [], next.0, next.2, walked_more given (unit_of u) w v walked k)
+pub walks_on : {source : List ℕ} {r s : Reading} (u : Unit) (old new : Walk) → HasGiven source (λ us. HasWalked us old) r → Gives r s (Ok (Some u)) → Walks old (unit_of u) new → HasGiven source (λ us. HasWalked us new) s
+walks_on u old new h gives k = one_more u h gives (λ us walked. walked_more us (unit_of u) old new walked k)
 
 -- ---- all units
 
