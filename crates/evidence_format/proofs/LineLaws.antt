@@ -1,5 +1,5 @@
 -- Texts and their lines.
-use Rattle.std.proofs.Common.{◌≡◌, ℕ, ◌+◌, ◌-◌, ◌≤◌, true, false, cond, not, eqb, ◌&&◌, List, [], ◌∷◌, ◌++◌, length, map, take, refl, sym, ap, ◌∙◌, append_assoc, length-append, arith, rules}
+use Rattle.std.proofs.Common.{◌≡◌, ℕ, ◌+◌, ◌-◌, ◌≤◌, true, false, cond, not, eqb, ◌&&◌, List, [], ◌∷◌, ◌++◌, length, map, take, Option, Some, None, Ok, Err, refl, sym, ap, ◌∙◌, append_assoc, length-append, arith, rules}
 use Rattle.std.specs.Prelude.{decimal, codes}
 use Rattle.std.specs.List.{concat, flat_map, list_all, count_by, AllByRecursion}
 use Rattle.std.proofs.lemmas.List.{take_at}
@@ -11,9 +11,10 @@ use Rattle.net_core.specs.declared.rels.Rel.{Rel}
 use Rattle.net_core.specs.declared.step.Step.{Step}
 use Rattle.net_core.specs.declared.step.Step.TheVariants.{Link, Span, Calendar}
 use Rattle.evidence_format.specs.Lines.{Lines, is_lf, with_byte, lines_of}
-use Rattle.evidence_format.specs.Words.{is_not}
+use Rattle.evidence_format.specs.Words.{is_not, two_of, two_to}
+use Rattle.evidence_format.specs.Reading.{Read, taken, line_at}
 use Rattle.evidence_format.specs.Evidence.{PlainEvidence, timeline, entails, counter, clash, IsNumber, IsPair, AreRanks, HasNumbers, AreSteps, IsWellFormed, one_number, two_numbers, relation_line, at_line, timeline_lines, step_line, walk_lines, cite_line, body_lines, text_lines, last_line}
-use Rattle.evidence_format.proofs.WordLaws.{digits_differ}
+use Rattle.evidence_format.proofs.WordLaws.{digits_differ, pair_line, two_form, two_to_again, two_to_found}
 
 -- ---- the lines of a text are the text
 
@@ -67,6 +68,41 @@ two_is keyword m n h small_m small_n =
     let one = all_append (is_not 10) keyword (decimal m) h (digits_differ 10 m (omega arith) small_m) in
     let space = all_append (is_not 10) (keyword ++ decimal m) (codes " ") one refl in
     (keyword ++ decimal m ++ codes " " ++ decimal n, all_append (is_not 10) (keyword ++ decimal m ++ codes " ") (decimal n) space (digits_differ 10 n (omega arith) small_n), refl)
+
+-- a pair that is read at the start of a text, and what follows it
+abbrev given_at : Option ((ℕ × ℕ) × List ℕ) → List ℕ → Read (ℕ × ℕ)
+given_at (Some x) text = Ok (x.0, lines_of x.1)
+given_at None text = Err (lines_of text)
+
+-- a pair that is read is that of the first line
+pair_read : (keyword text : List ℕ) (p : ℕ × ℕ) (rest : List ℕ) → list_all (is_not 10) keyword ≡ true → two_to keyword text ≡ Some (p, rest) → line_at (two_of keyword) (lines_of text) ≡ Ok (p, lines_of rest)
+pair_read keyword text p rest h e =
+    let f = two_to_found keyword text p rest e in
+    let s = two_is keyword p.0 p.1 h f.1.0 f.1.1 in
+    let whole : text ≡ s.0 ++ 10 ∷ rest = sym f.0 ∙ ap (λ (x : List ℕ). x ++ rest) s.2 ∙ append_assoc s.0 (10 ∷ []) rest in
+    let cut : lines_of text ≡ pair_line keyword p ∷ lines_of rest = ap lines_of whole ∙ first_is s.0 rest s.1 ∙ ap (λ (l : List ℕ). l ∷ lines_of rest) (sym s.2) in
+    rw (cut, (two_form keyword).again p f.1) refl
+
+-- where no pair is read, the first line is that of none
+no_pair : (keyword text : List ℕ) (ls : Lines) → two_to keyword text ≡ None → lines_of text ≡ ls → line_at (two_of keyword) ls ≡ Err ls
+no_pair keyword text [] e k = refl
+no_pair keyword text (l ∷ ls) e k =
+    elim (two_of keyword l) as (λ o. two_of keyword l ≡ o → taken o l ls ≡ Err (l ∷ ls)) [
+      | None ↦ λ g. refl
+      | Some p ↦ λ g.
+          let f = (two_form keyword).found l p g in
+          let whole : pair_line keyword p ++ concat ls ≡ text = ap (λ (x : List ℕ). x ++ concat ls) f.0 ∙ ap concat (sym k) ∙ lines_concat text in
+          let read : two_to keyword text ≡ Some (p, concat ls) = ap (two_to keyword) (sym whole) ∙ two_to_again keyword p (concat ls) f.1 in
+          absurd cc
+    ] refl
+
+-- the pair of a line can be read before the line is cut off
+pub pair_at : (keyword text : List ℕ) → list_all (is_not 10) keyword ≡ true → line_at (two_of keyword) (lines_of text) ≡ given_at (two_to keyword text) text
+pair_at keyword text h =
+    elim (two_to keyword text) as (λ o. two_to keyword text ≡ o → line_at (two_of keyword) (lines_of text) ≡ given_at o text) [
+      | Some x ↦ λ e. pair_read keyword text x.0 x.1 h e
+      | None ↦ λ e. no_pair keyword text (lines_of text) e refl
+    ] refl
 
 -- the text of a relation has no LF
 rel_is : (r : Rel) → list_all (is_not 10) (rel_text r) ≡ true

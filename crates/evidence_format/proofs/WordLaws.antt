@@ -1,11 +1,11 @@
 -- What is read of a line is what stands there, and what stands there is read.
-use Rattle.std.proofs.Common.{◌≡◌, ℕ, ◌+◌, ◌%◌, ◌<◌, Bool, true, false, cond, not, eqb, ◌&&◌, List, [], ◌∷◌, ◌++◌, length, take, drop, Option, Some, refl, sym, ap, subst, ◌∙◌, append_assoc, one-add, arith, rules}
+use Rattle.std.proofs.Common.{◌≡◌, ℕ, ◌+◌, ◌%◌, ◌<◌, Bool, true, false, cond, not, eqb, ◌&&◌, List, [], ◌∷◌, ◌++◌, length, take, drop, Option, Some, None, refl, sym, ap, subst, ◌∙◌, append_assoc, one-add, arith, rules}
 use Rattle.std.specs.Prelude.{decimal}
 use Rattle.std.specs.List.{prefix_len, list_all}
 use Rattle.std.specs.Str.{bytes_eq}
 use Rattle.std.proofs.lemmas.Bool.{eqb-true}
 use Rattle.std.proofs.lemmas.Bool.Decides.{Decides-eqb}
-use Rattle.std.proofs.lemmas.List.{take_at, drop_at, take-append-drop}
+use Rattle.std.proofs.lemmas.List.{take_at, drop_at, take-append-drop, append-nil}
 use Rattle.std.proofs.lemmas.Fmt.{decimal_by_steps}
 use Rattle.std.proofs.lemmas.Option.{cond_some}
 use Rattle.std.proofs.lemmas.Slice.Eq.{starts_is, bytes_eq-Decides}
@@ -14,7 +14,7 @@ use Rattle.named.specs.Texts.{AreApart, named_of}
 use Rattle.named.proofs.Tables.{found_has}
 use Rattle.net_core.specs.Rels.{rel_text, all_rels}
 use Rattle.net_core.specs.declared.rels.Rel.{Rel}
-use Rattle.evidence_format.specs.Words.{◌>>=◌, is_not, number, number_to, word_to, after, after_one, alone, one_of, two_of, relation_of, same_of}
+use Rattle.evidence_format.specs.Words.{◌>>=◌, is_not, number, number_to, word_to, after, after_one, alone, one_of, two_of, two_to, relation_of, same_of}
 use Rattle.evidence_format.specs.Evidence.{IsNumber, IsPair, one_number, two_numbers, relation_line}
 use Rattle.evidence_format.proofs.Numbers.{some_bind, number_found, number_again}
 
@@ -145,26 +145,68 @@ one_form keyword = record {
 abbrev pub pair_line : List ℕ → ℕ × ℕ → List ℕ
 pair_line keyword p = two_numbers keyword p.0 p.1
 
--- a keyword, and what follows it: two numbers and LF
-two_grouped : (keyword : List ℕ) (m n : ℕ) → two_numbers keyword m n ≡ keyword ++ (decimal m ++ 32 ∷ (decimal n ++ 10 ∷ []))
-two_grouped keyword m n = simp append_assoc
+-- what follows a keyword, two numbers and LF
+two_before : (keyword : List ℕ) (m n : ℕ) (rest : List ℕ) → two_numbers keyword m n ++ rest ≡ keyword ++ (decimal m ++ 32 ∷ (decimal n ++ 10 ∷ rest))
+two_before keyword m n rest = simp append_assoc
+
+-- two numbers that stand after a keyword are read
+pub two_to_again : (keyword : List ℕ) (p : ℕ × ℕ) (rest : List ℕ) → IsPair p → two_to keyword (pair_line keyword p ++ rest) ≡ Some (p, rest)
+unfolding two_to
+two_to_again keyword p rest small = ap (two_to keyword) (two_before keyword p.0 p.1 rest) ∙ rw (after_again keyword (decimal p.0 ++ 32 ∷ (decimal p.1 ++ 10 ∷ rest)), number_to_again 32 p.0 (decimal p.1 ++ 10 ∷ rest) (omega arith) small.0, number_to_again 10 p.1 rest (omega arith) small.1) refl
+
+-- two numbers that are read after a keyword stand there
+pub two_to_found : (keyword bytes : List ℕ) (p : ℕ × ℕ) (rest : List ℕ) → two_to keyword bytes ≡ Some (p, rest) → (pair_line keyword p ++ rest ≡ bytes) × IsPair p
+unfolding two_to
+two_to_found keyword bytes p rest e =
+    let a = some_bind (after keyword bytes) (λ rest. number_to 32 rest >>= λ m. number_to 10 m.1 >>= λ n. Some ((m.0, n.0), n.1)) (p, rest) e in
+    let b = some_bind (number_to 32 a.0) (λ m. number_to 10 m.1 >>= λ n. Some ((m.0, n.0), n.1)) (p, rest) a.2 in
+    let c = some_bind (number_to 10 b.0.1) (λ n. Some ((b.0.0, n.0), n.1)) (p, rest) b.2 in
+    let same = some_is ((b.0.0, c.0.0), c.0.1) (p, rest) c.2 in
+    let f = number_to_found 32 a.0 b.0.0 b.0.1 b.1 in
+    let g = number_to_found 10 b.0.1 c.0.0 c.0.1 c.1 in
+    let whole : bytes ≡ keyword ++ (decimal b.0.0 ++ 32 ∷ (decimal c.0.0 ++ 10 ∷ c.0.1)) = after_found keyword bytes a.0 a.1 ∙ ap (λ (x : List ℕ). keyword ++ x) (f.0 ∙ ap (λ (x : List ℕ). decimal b.0.0 ++ 32 ∷ x) g.0) in
+    subst (λ (q : (ℕ × ℕ) × List ℕ). (pair_line keyword q.0 ++ q.1 ≡ bytes) × IsPair q.0) same (two_before keyword b.0.0 c.0.0 c.0.1 ∙ sym whole, (f.1, g.1))
+
+-- a pair of numbers, and what follows it
+abbrev pair_then : ℕ → ℕ → List ℕ → Option ((ℕ × ℕ) × List ℕ)
+pair_then m n rest = Some ((m, n), rest)
+
+-- the second number of a pair, and what follows it
+abbrev second_then : ℕ → Option (ℕ × List ℕ) → Option ((ℕ × ℕ) × List ℕ)
+second_then m second = second >>= λ n. pair_then m n.0 n.1
+
+-- the second number of a pair, with nothing after it
+abbrev second_alone : ℕ → Option (ℕ × List ℕ) → Option (ℕ × ℕ)
+second_alone m second = second >>= λ n. alone (m, n.0) n.1
+
+-- a pair, with nothing after it
+abbrev pair_alone : Option ((ℕ × ℕ) × List ℕ) → Option (ℕ × ℕ)
+pair_alone pair = pair >>= λ x. alone x.0 x.1
+
+-- a line of two numbers has nothing after them
+pub two_of_is : (keyword line : List ℕ) → two_of keyword line ≡ pair_alone (two_to keyword line)
+unfolding two_of two_to
+two_of_is keyword line =
+    elim (after keyword line) as (λ o. (o >>= λ rest. number_to 32 rest >>= λ m. second_alone m.0 (number_to 10 m.1)) ≡ pair_alone (o >>= λ rest. number_to 32 rest >>= λ m. second_then m.0 (number_to 10 m.1))) [
+      | None ↦ refl
+      | Some rest ↦ elim (number_to 32 rest) as (λ o. (o >>= λ m. second_alone m.0 (number_to 10 m.1)) ≡ pair_alone (o >>= λ m. second_then m.0 (number_to 10 m.1))) [
+        | None ↦ refl
+        | Some m ↦ elim (number_to 10 m.1) as (λ o. second_alone m.0 o ≡ pair_alone (second_then m.0 o)) [ None ↦ refl | Some n ↦ refl ]
+      ]
+    ]
 
 -- lines of a keyword and two numbers
 pub two_form : (keyword : List ℕ) → IsForm (pair_line keyword) IsPair (two_of keyword)
-unfolding two_of
 two_form keyword = record {
-  again = λ p small. ap (two_of keyword) (two_grouped keyword p.0 p.1) ∙ rw (after_again keyword (decimal p.0 ++ 32 ∷ (decimal p.1 ++ 10 ∷ [])), number_to_again 32 p.0 (decimal p.1 ++ 10 ∷ []) (omega arith) small.0, number_to_again 10 p.1 [] (omega arith) small.1) refl;
+  again = λ p small.
+      let whole : two_to keyword (pair_line keyword p) ≡ Some (p, []) = ap (two_to keyword) (sym (append-nil (pair_line keyword p))) ∙ two_to_again keyword p [] small in
+      two_of_is keyword (pair_line keyword p) ∙ rw whole refl;
   found = λ l p e.
-      let a = some_bind (after keyword l) (λ rest. number_to 32 rest >>= λ m. number_to 10 m.1 >>= λ n. alone (m.0, n.0) n.1) p e in
-      let b = some_bind (number_to 32 a.0) (λ m. number_to 10 m.1 >>= λ n. alone (m.0, n.0) n.1) p a.2 in
-      let c = some_bind (number_to 10 b.0.1) (λ n. alone (b.0.0, n.0) n.1) p b.2 in
-      let d = alone_is (b.0.0, c.0.0) p c.0.1 c.2 in
-      let f = number_to_found 32 a.0 b.0.0 b.0.1 b.1 in
-      let g = number_to_found 10 b.0.1 c.0.0 c.0.1 c.1 in
-      let k = after_found keyword l a.0 a.1 in
-      let second : b.0.1 ≡ decimal c.0.0 ++ 10 ∷ [] = g.0 ∙ ap (λ (x : List ℕ). decimal c.0.0 ++ 10 ∷ x) d.1 in
-      let whole : l ≡ keyword ++ (decimal b.0.0 ++ 32 ∷ (decimal c.0.0 ++ 10 ∷ [])) = k ∙ ap (λ (x : List ℕ). keyword ++ x) (f.0 ∙ ap (λ (x : List ℕ). decimal b.0.0 ++ 32 ∷ x) second) in
-      subst (λ (q : ℕ × ℕ). (pair_line keyword q ≡ l) × IsPair q) d.0 (two_grouped keyword b.0.0 c.0.0 ∙ sym whole, (f.1, g.1));
+      let a = some_bind (two_to keyword l) (λ x. alone x.0 x.1) p (sym (two_of_is keyword l) ∙ e) in
+      let b = alone_is a.0.0 p a.0.1 a.2 in
+      let f = two_to_found keyword l a.0.0 a.0.1 a.1 in
+      let whole : pair_line keyword a.0.0 ≡ l = sym (append-nil (pair_line keyword a.0.0)) ∙ ap (λ (x : List ℕ). pair_line keyword a.0.0 ++ x) (sym b.1) ∙ f.0 in
+      subst (λ (q : ℕ × ℕ). (pair_line keyword q ≡ l) × IsPair q) b.0 (whole, f.1);
 }
 
 -- each relation is found by its text

@@ -1,5 +1,5 @@
 -- The words of one line, read from left to right.
-use Rattle.std.specs.Prelude.{ℕ, ◌+◌, ◌*◌, ◌^◌, ◌&&◌, ◌||◌, not, nat_lt, nat_eq, Bool, false, List, [], ◌∷◌, length, take, drop, ◌==◌, Option, Some, None, option_and_then, if◌then◌else◌, decimal}
+use Rattle.std.specs.Prelude.{ℕ, ◌+◌, ◌*◌, ◌^◌, ◌&&◌, not, nat_lt, nat_eq, Bool, List, [], ◌∷◌, length, take, drop, ◌==◌, Option, Some, None, option_and_then, if◌then◌else◌, decimal}
 use Rattle.std.specs.List.{prefix_len, starts_with}
 use Rattle.std.specs.Str.{bytes_eq}
 use Rattle.std.specs.Str.Parse.{digits_value}
@@ -19,21 +19,14 @@ is_not stop b = not (b == stop)
 unfoldable pub number : List ℕ → Option ℕ
 number word = if nat_lt (digits_value 10 word) (2 ^ 32) && bytes_eq (decimal (digits_value 10 word)) word then Some (digits_value 10 word) else None
 
--- there is a first byte, and it is no zero, or stands alone
-abbrev pub begins_well : List ℕ → Bool
-begins_well [] = false
-begins_well (b ∷ bytes) = not (b == 48) || nat_eq (length bytes) 0
-
 -- the number below 2 ^ 32 that one digit more writes after a number
 unfoldable pub digit_after : ℕ → ℕ → Option ℕ
 digit_after n b = if nat_lt (digit_value b) 10 && nat_lt (n * 10 + digit_value b) (2 ^ 32) then Some (n * 10 + digit_value b) else None
 
--- the number below 2 ^ 32 that digits write after a number
-unfoldable pub digits_after : ℕ → List ℕ → Option ℕ
-digits_after n [] = Some n
-digits_after n (b ∷ bytes) = do
-  m ← digit_after n b
-  digits_after m bytes
+-- the number below 2 ^ 32 that digits write after a number, up to the byte that ends them, and what follows that byte
+unfoldable pub digits_to : ℕ → ℕ → List ℕ → Option (ℕ × List ℕ)
+digits_to stop n [] = None
+digits_to stop n (b ∷ bytes) = if b == stop then Some (n, bytes) else (digit_after n b >>= λ m. digits_to stop m bytes)
 
 -- what follows a keyword
 unfoldable pub after : List ℕ → List ℕ → Option (List ℕ)
@@ -43,6 +36,11 @@ after keyword bytes = if starts_with nat_eq bytes keyword then Some (drop (lengt
 abbrev pub after_one : List ℕ → Option (List ℕ)
 after_one [] = None
 after_one (b ∷ rest) = Some rest
+
+-- what follows a byte
+abbrev pub after_byte : ℕ → List ℕ → Option (List ℕ)
+after_byte byte [] = None
+after_byte byte (b ∷ rest) = if b == byte then Some rest else None
 
 -- the number up to the byte that ends it, and what follows that byte
 unfoldable pub number_to : ℕ → List ℕ → Option (ℕ × List ℕ)
@@ -76,6 +74,14 @@ two_of keyword line = do
   m ← number_to 32 rest
   n ← number_to 10 m.1
   alone (m.0, n.0) n.1
+
+-- the numbers after a keyword, up to the LF that ends them, and what follows it
+unfoldable pub two_to : List ℕ → List ℕ → Option ((ℕ × ℕ) × List ℕ)
+two_to keyword bytes = do
+  rest ← after keyword bytes
+  m ← number_to 32 rest
+  n ← number_to 10 m.1
+  Some ((m.0, n.0), n.1)
 
 -- the intervals and the relation of a line of a keyword and a relation between two intervals
 unfoldable pub relation_of : List ℕ → List ℕ → Option (ℕ × Rel × ℕ)

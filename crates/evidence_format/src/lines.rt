@@ -6,7 +6,7 @@ ghost use Rattle.evidence_format.specs.Words as words;
 ghost use Rattle.std.specs.Prelude.{MatchOption, [], ◌∷◌, ◌≡◌};
 
 use crate::stop::Stop;
-use crate::words::{len_to, one_of, two_of};
+use crate::words::{len_to, one_of};
 
 /// The first line with its LF, where it has one, and what follows it. None comes exactly where the text is empty.
 pub fn next_line(text: &[u8]) -> Option<(&[u8], &[u8])>
@@ -38,13 +38,4 @@ pub fn one_at<'t>(keyword: &[u8], text: &'t [u8]) -> Result<(u32, &'t [u8]), Sto
     let (line, rest) = next_line(text).ok_or(Stop::BadLine(text))?;
     let n = one_of(keyword, line).ok_or(Stop::BadLine(text))?;
     Ok((n, rest))
-}
-
-/// The numbers of a line of a keyword and two numbers.
-pub fn two_at<'t>(keyword: &[u8], text: &'t [u8]) -> Result<((u32, u32), &'t [u8]), Stop<'t>>
-    ensures { Gives (λ x. (x.0, lines_of x.1.now)) result (line_at (words.two_of keyword.now) (lines_of text.now)) }
-{
-    let (line, rest) = next_line(text).ok_or(Stop::BadLine(text))?;
-    let pair = two_of(keyword, line).ok_or(Stop::BadLine(text))?;
-    Ok((pair, rest))
 }

@@ -118,5 +118,11 @@ fn line_of(text: &[u8], rest: &[u8]) -> u32
     ensures { result ≡ count_by is_lf (take (length text.now - length rest.now) text.now) + 1 }
 {
     let read = &text[..text.len() - rest.len()];
-    read.iter().filter(|b| **b == b'\n').count() as u32 + 1
+    let mut line = 1;
+    for b in read {
+        if *b == b'\n' {
+            line += 1;
+        }
+    }
+    line
 }

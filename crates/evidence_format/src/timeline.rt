@@ -2,11 +2,14 @@
 ghost use Rattle.evidence_format.specs.Given.{Gives};
 ghost use Rattle.evidence_format.specs.Lines.{lines_of};
 ghost use Rattle.evidence_format.specs.Readers as readers;
+ghost use Rattle.evidence_format.specs.Reading.{line_at};
+ghost use Rattle.evidence_format.specs.Words as words;
 ghost use Rattle.net_core.specs.Ranks.{pairs_of};
-ghost use Rattle.std.specs.Prelude.{map};
+ghost use Rattle.std.specs.Prelude.{map, codes};
 
-use crate::lines::{one_at, two_at};
+use crate::lines::one_at;
 use crate::stop::Stop;
+use crate::words::two_to;
 use net_core::{List, Ranks};
 use std::alloc::Global;
 
@@ -50,9 +53,18 @@ pub fn ranks_at<'t>(
     let mut ranks = Ranks::new(alloc);
     let mut rest = text;
     for _ in 0..count {
-        let ((start, finish), after) = two_at(b"at ", rest)?;
+        let ((start, finish), after) = interval_at(rest)?;
         ranks.push(start, finish)?;
         rest = after;
     }
     Ok((ranks, rest))
+}
+
+/// The ranks of one interval, and what follows its line. The line is not cut off first: it ends where its second number
+/// does.
+#[tactic(auto, using(crate::proofs::LineLaws::pair_at))]
+fn interval_at(text: &[u8]) -> Result<((u32, u32), &[u8]), Stop<'_>>
+    ensures { Gives (λ x. (x.0, lines_of x.1.now)) result (line_at (words.two_of (codes "at ")) (lines_of text.now)) }
+{
+    two_to(b"at ", text).ok_or(Stop::BadLine(text))
 }

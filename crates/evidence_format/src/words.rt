@@ -13,39 +13,44 @@ pub fn len_to(stop: u8, bytes: &[u8]) -> usize
     bytes.iter().take_while(|b| **b != stop).count()
 }
 
-/// The number that a word writes, in decimal, without sign and without leading zeros. None comes exactly where it
-/// writes none below 2^32.
-#[tactic(auto, using(crate::proofs::Digits::number_is))]
-fn number(word: &[u8]) -> Option<u32>
-    ensures { result ≡ words.number word.now }
+/// The number up to the byte that ends it, and what follows that byte: in decimal, without sign and without leading
+/// zeros, and below 2^32.
+#[tactic(auto, using(crate::proofs::Digits::number_to_is))]
+fn number_to(stop: u8, bytes: &[u8]) -> Option<(u32, &[u8])>
+    ensures { option_map (λ r. (r.0, r.1.now)) result ≡ words.number_to stop bytes.now }
 {
-    if begins_well(word) {
-        digits(word)
-    } else {
-        None
+    match bytes {
+        [first, ..] if *first == stop => None,
+        [b'0', rest @ ..] => Some((0, after_byte(stop, rest)?)),
+        _ => digits_to(stop, bytes),
     }
 }
 
-/// Whether there is a first byte, and it is no zero, or stands alone.
-fn begins_well(word: &[u8]) -> bool
-    ensures { result ≡ words.begins_well word.now }
+/// What follows a byte.
+fn after_byte(byte: u8, bytes: &[u8]) -> Option<&[u8]>
+    ensures { option_map (λ r. r.now) result ≡ words.after_byte byte bytes.now }
 {
-    match word {
-        [] => false,
-        [first, more @ ..] => *first != b'0' || more.is_empty(),
+    match bytes {
+        [first, rest @ ..] if *first == byte => Some(rest),
+        _ => None,
     }
 }
 
-/// The number that digits write. None comes exactly where another byte is among them, or the number is not below 2^32.
-#[tactic(auto, unfolding(crate::specs::Words::digits_after))]
-fn digits(word: &[u8]) -> Option<u32>
-    ensures { result ≡ words.digits_after 0 word.now }
+/// The number that digits write, up to the byte that ends them, and what follows that byte.
+#[tactic(auto, unfolding(crate::specs::Words::digits_to))]
+fn digits_to(stop: u8, bytes: &[u8]) -> Option<(u32, &[u8])>
+    ensures { option_map (λ r. (r.0, r.1.now)) result ≡ words.digits_to stop 0 bytes.now }
 {
     let mut n = 0;
-    for b in word {
+    let mut rest = bytes;
+    while let [b, more @ ..] = rest {
+        if *b == stop {
+            return Some((n, more));
+        }
         n = digit_after(n, *b)?;
+        rest = more;
     }
-    Some(n)
+    None
 }
 
 /// The number that one digit more writes after a number.
@@ -56,19 +61,6 @@ fn digit_after(n: u32, b: u8) -> Option<u32>
     match b {
         b'0'..=b'9' => n.checked_mul(10)?.checked_add((b - b'0') as u32),
         _ => None,
-    }
-}
-
-/// The number up to the byte that ends it, and what follows that byte.
-#[tactic(auto, unfolding(crate::specs::Words::number_to))]
-fn number_to(stop: u8, bytes: &[u8]) -> Option<(u32, &[u8])>
-    ensures { option_map (λ r. (r.0, r.1.now)) result ≡ words.number_to stop bytes.now }
-{
-    let (word, rest) = bytes.split_at(len_to(stop, bytes));
-    let n = number(word)?;
-    match rest {
-        [] => None,
-        [_, rest @ ..] => Some((n, rest)),
     }
 }
 
@@ -84,7 +76,8 @@ fn word_to(stop: u8, bytes: &[u8]) -> Option<(&[u8], &[u8])>
     }
 }
 
-/// What follows a keyword.
+/// What follows a keyword. It stands in its callers, where the keyword is a constant.
+#[inline(always)]
 #[tactic(auto, unfolding(crate::specs::Words::after))]
 fn after<'t>(keyword: &[u8], line: &'t [u8]) -> Option<&'t [u8]>
     ensures { option_map (λ r. r.now) result ≡ words.after keyword.now line.now }
@@ -103,14 +96,25 @@ pub fn one_of(keyword: &[u8], line: &[u8]) -> Option<u32>
 }
 
 /// The numbers of a line of a keyword and two numbers.
-#[tactic(auto, unfolding(crate::specs::Words::two_of))]
+#[tactic(auto, using(crate::proofs::WordLaws::two_of_is))]
 pub fn two_of(keyword: &[u8], line: &[u8]) -> Option<(u32, u32)>
     ensures { result ≡ words.two_of keyword.now line.now }
 {
-    let rest = after(keyword, line)?;
+    let (pair, rest) = two_to(keyword, line)?;
+    if rest.is_empty() { Some(pair) } else { None }
+}
+
+/// The numbers after a keyword, up to the LF that ends them, and what follows it. It stands in its callers, where the
+/// keyword is a constant.
+#[inline(always)]
+#[tactic(auto, unfolding(crate::specs::Words::two_to))]
+pub fn two_to<'t>(keyword: &[u8], text: &'t [u8]) -> Option<((u32, u32), &'t [u8])>
+    ensures { option_map (λ r. (r.0, r.1.now)) result ≡ words.two_to keyword.now text.now }
+{
+    let rest = after(keyword, text)?;
     let (m, rest) = number_to(b' ', rest)?;
     let (n, rest) = number_to(b'\n', rest)?;
-    if rest.is_empty() { Some((m, n)) } else { None }
+    Some(((m, n), rest))
 }
 
 /// The intervals and the relation of a line of a keyword and a relation between two intervals.
