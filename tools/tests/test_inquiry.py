@@ -71,6 +71,9 @@ class Both(InquiryTest):
         touching = '<TIMEX3 tid="a" type="DATE" value="1998"/><TIMEX3 tid="b" type="DATE" value="1999"/><TLINK timeID="a" relatedToTime="b" relType="BEFORE"/>'
         self.write("t.xml", document(touching))
         self.write("w.xml", document('<TIMEX3 tid="a" type="DATE" value="1998-1-7">x</TIMEX3>'))
+        happened = "".join(f'<EVENT eid="e{one}" class="STATE">x</EVENT><MAKEINSTANCE eiid="i{one}" eventID="e{one}"/>' for one in "ab")
+        between = '<TLINK eventInstanceID="ia" relatedToEventInstance="ib" relType="{}"/>'
+        self.write("e.xml", document(happened + between.format("BEFORE") + between.format("AFTER")))
         both = ("clashes", "check --clashes", "check --lint --clashes")
         rows = [
             (("check", "check --lint"), "a.xml", ["check"]),
@@ -78,6 +81,7 @@ class Both(InquiryTest):
             (both, "c.xml", ["solve"]),
             (both, "b.xml", ["solve", "dates", "verify"]),
             (both, "t.xml", ["solve", "dates", "solve"]),
+            (both, "e.xml", ["solve", "verify"]),
             (("check --clashes --format json", "clashes --evidence kept"), "t.xml", ["solve", "dates", "solve", "verify"]),
             (("check --lint",), "w.xml", ["check", "dates"]),
         ]
@@ -88,6 +92,17 @@ class Both(InquiryTest):
                     self.run_it(*command.split(" "), name, tml=self.path("fake"))
                     with open(self.path("asked"), encoding="utf-8") as file:
                         self.assertEqual(file.read().split(), asked)
+
+    def test_the_same_dates_are_asked_about_once(self):
+        self.write("fake", f'#!/bin/sh\necho "$1" >> "{self.path("asked")}"\nexec {TML} "$@"\n')
+        os.chmod(self.path("fake"), stat.S_IRWXU)
+        for name, left, right in (("t.xml", 1998, 1999), ("u.xml", 1999, 1998), ("v.xml", 1997, 1998)):
+            times = f'<TIMEX3 tid="{name}" type="DATE" value="{left}"/><TIMEX3 tid="b" type="DATE" value="{right}"/>'
+            self.write(name, document(times + link(name, "BEFORE" if left < right else "AFTER", "b")))
+        status, lines, _ = self.run_it("check", "--clashes", "--jobs", "1", "t.xml", "u.xml", "v.xml", tml=self.path("fake"))
+        self.assertEqual((status, lines[-1][:48]), (1, "      3  links between dates that touch, in 3 fi"))
+        with open(self.path("asked"), encoding="utf-8") as file:
+            self.assertEqual(file.read().split(), ["solve", "dates", "solve", "solve", "solve", "solve", "dates", "solve"])
 
     def test_warnings_in_the_same_run(self):
         self.write("w.xml", document('<TIMEX3 tid="a" type="DATE" value="1998-1-7">x</TIMEX3>'))

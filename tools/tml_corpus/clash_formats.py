@@ -25,6 +25,8 @@ class Text:
 
     def lines(self, report: ClashReport) -> list[str]:
         """The lines of the clashes of one file."""
+        if not (report.clashes or report.touching or report.repair):
+            return []
         path = shown(report.judgement.path)
         lines: list[str] = []
         for number, clash in enumerate(report.shown_clashes(), 1):

@@ -17,34 +17,33 @@ from .program import ACCEPTED, CannotRun, Program
 from .units import EMPTY, END, KINDS, START, TEXT, Attribute, Units, read_units
 
 NAME = rb"[A-Za-z_:\x80-\xff][A-Za-z0-9_:.\x80-\xff-]*+"
-UNIT = re.compile(rb"[^<]++|</?+%s(?:[^<>\"']++|\"[^\"]*+\"|'[^']*+')*+>|<!--(?s:.*?)-->|<!DOCTYPE[^<>]*+>|<\?xml(?s:.*?)\?>" % NAME)
+UNIT = re.compile(rb"[^<]++|</?+%s[^<>\"']*+(?:(?:\"[^\"]*+\"|'[^']*+')[^<>\"']*+)*+>|<!--(?s:.*?)-->|<!DOCTYPE[^<>]*+>|<\?xml(?s:.*?)\?>" % NAME)
 TAG_NAME = re.compile(rb"</?+(%s)" % NAME)
 ATTRIBUTE = re.compile(rb"(%s)[ \t\r\n]*+=[ \t\r\n]*+(?:\"[^\"]*+\"|'[^']*+')" % NAME)
 BOM, COMMENT, DECLARATION, DOCTYPE = map(KINDS.index, ("bom", "comment", "declaration", "doctype"))
 
 MARKUP, SLASH = b"</"
 
-MOST_REMEMBERED = 4096
-"""Of so many different pieces the kind and the name are remembered: in a long document most tags come again and again."""
+MOST_REMEMBERED, LONGEST_REMEMBERED = 4096, 64
+"""The kind and the name of so many beginnings of pieces are remembered, of at most so many bytes: they come again in all documents."""
+
+Shape = tuple[int, bytes]
 
 
-class Shapes(dict[bytes, int]):
-    """The kinds and names of pieces of a document, each pair with a number."""
+class Shapes(dict[bytes, Shape]):
+    """The kinds and names of pieces of markup, by what stands in them up to a space, and their last two bytes."""
 
-    def __init__(self) -> None:
-        super().__init__()
-        self.pairs: dict[tuple[int, bytes], int] = {}
-
-    def number(self, kind: int, name: bytes = b"-") -> int:
-        """The number of a kind with a name."""
-        return self.pairs.setdefault((kind, name), len(self.pairs))
-
-    def __missing__(self, piece: bytes) -> int:
+    def __missing__(self, piece: bytes) -> Shape:
         found = TAG_NAME.match(piece)
-        shape = self.number(kind_of_markup(piece)) if found is None else self.number(kind_of_tag(piece), found[1])
-        if len(self) < MOST_REMEMBERED:
+        shape = (kind_of_markup(piece), NAMELESS) if found is None else (kind_of_tag(piece), found[1])
+        if len(self) < MOST_REMEMBERED and len(piece) <= LONGEST_REMEMBERED:
             self[piece] = shape
         return shape
+
+
+NAMELESS = b"-"
+TEXTS: Shape = TEXT, NAMELESS
+SHAPES = Shapes()
 
 
 def kind_of_tag(tag: bytes) -> int:
@@ -66,12 +65,10 @@ class Cut(Units):
         self.ends = array("I", accumulate(map(len, pieces)))
         self.starts = self.places = array("I", [0]) + self.ends[:-1]
         self.rows = range(len(pieces))
-        shapes = Shapes()
-        text = shapes.number(TEXT)
-        numbers = [shapes[piece] if piece[0] == MARKUP else text for piece in pieces]
-        kinds, names = zip(*shapes.pairs, strict=True)
-        self.kinds = bytearray(map(kinds.__getitem__, numbers))
-        self.names = array("I", map([self.ids[name] for name in names].__getitem__, numbers))
+        # The name of a tag ends before its first space, and where there is one, the last byte but one is of no name.
+        shapes = [SHAPES[piece.split(b" ", 1)[0] + piece[-2:]] if piece[0] == MARKUP else TEXTS for piece in pieces]
+        self.kinds = bytearray([kind for kind, _ in shapes])
+        self.names = array("I", [self.ids[name] for _, name in shapes])
         self.words = [word.decode("utf-8", "surrogateescape") for word in self.ids]
         if pieces[0] == BYTE_ORDER_MARK:
             self.kinds[0] = BOM

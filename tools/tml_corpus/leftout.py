@@ -28,13 +28,9 @@ class Copies:
     def __init__(self, program: Program, document: bytes, units: Units, relations: Mapping[int, str]) -> None:
         self.program, self.document = program, document
         self.renew()
-        self.parts: list[bytes] = []
-        self.links: dict[int, int] = {}
         self.tags = units.opening(*INTERVAL_TAGS)
-        for place, tag in enumerate(self.tags):
-            if tag.name == "TLINK":
-                self.links[place] = len(self.links)
-            self.parts.append(written(document, tag, None))
+        self.links = {place: number for number, place in enumerate(place for place, tag in enumerate(self.tags) if tag.name == "TLINK")}
+        self.parts = [document[tag.start : tag.end] if tag.kind == "empty" else written(document, tag, None) for tag in self.tags]
         self.whole = enclosed(self.parts)
         """All links as they are in the document: by this, clashes are verified."""
         for place, number in self.links.items():

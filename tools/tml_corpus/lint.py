@@ -2,13 +2,12 @@
 
 from __future__ import annotations
 
-from collections import Counter
 from collections.abc import Callable, Iterable, Iterator
 from dataclasses import dataclass
-from itertools import chain
 
+from .dates import dates_of
 from .profile import CARRIED, ROOT, TABLE
-from .program import ACCEPTED, CannotRun, Program
+from .program import Program
 from .similar import one_letter_apart
 from .source import Source, attribute_of, cut
 from .units import MANY_BYTES, Attribute, Unit
@@ -69,13 +68,13 @@ def warnings_of(program: Program, source: Source, lint: Lint) -> Iterator[Findin
     for name, kind in KINDS.items():
         if name not in lint.names:
             continue
-        counts = Counter[str]()
+        counts: dict[str, int] = {}
         for tag, attribute, text in kind.finder(source):
             if kind.of_free_times:
                 free = free_times(program, source) if free is None else free
                 if source.value(tag, "tid") not in free:
                     continue
-            counts[tag.name] += 1
+            counts[tag.name] = counts.get(tag.name, 0) + 1
             if counts[tag.name] <= MOST_WARNINGS:
                 yield finding(source, name, tag, attribute, text)
 
@@ -89,10 +88,7 @@ def finding(source: Source, name: str, tag: Unit, attribute: Attribute | None, t
 
 def free_times(program: Program, source: Source) -> set[str]:
     """The times of which the calendar says nothing."""
-    reply = program.ask(["dates", "-"], source.document)
-    if reply.status != ACCEPTED:
-        raise CannotRun("the answers of tml to `check` and `dates` do not belong together")
-    return {words[0] for words in reply.lines() if words[1:] == ["free"]}
+    return {name for name, words in dates_of(program, source).items() if words == ["free"]}
 
 
 def misspelled_attribute(source: Source) -> Iterator[tuple[Unit, Attribute | None, str]]:
@@ -115,18 +111,17 @@ def unknown_attribute(source: Source) -> Iterator[tuple[Unit, Attribute | None, 
 def unknown_attributes(source: Source) -> Iterator[tuple[Unit, Attribute]]:
     """The attributes of tags of TimeML that are not known."""
     is_short = len(source.document) <= MANY_BYTES
-    for tag in chain(*source.by_name.values()):
-        known = KNOWN[tag.name]
-        if is_short and source.values(tag).keys() <= known:
-            continue
-        for attribute in tag.attributes:
-            if attribute.name not in known:
-                yield tag, attribute
+    for name, tags in source.by_name.items():
+        known = KNOWN[name]
+        for tag in [one for one in tags if not (is_short and known.issuperset(source.values(one)))]:
+            for attribute in tag.attributes:
+                if attribute.name not in known:
+                    yield tag, attribute
 
 
 def value_form(source: Source) -> Iterator[tuple[Unit, Attribute | None, str]]:
     """A value of a TIMEX3 that has none of the forms."""
-    for tag, value in values(source):
+    for tag, _, value in source.odd_times:
         if not has_form(value) and not LOOKS_LIKE_DATE.fullmatch(value):
             meant = better(value)
             hint = f"; did you mean {meant}?" if meant else ": a date is written as 1998-03-11"
@@ -135,8 +130,7 @@ def value_form(source: Source) -> Iterator[tuple[Unit, Attribute | None, str]]:
 
 def free_date(source: Source) -> Iterator[tuple[Unit, Attribute | None, str]]:
     """A value that looks like a date, of a time that has none."""
-    for tag, value in values(source):
-        kind = source.value(tag, "type")
+    for tag, kind, value in source.odd_times:
         if kind == "DURATION" and CALENDAR.fullmatch(value):
             yield tag, attribute_of(tag, "value"), f'value="{value}" is a date, and a DURATION has none; did you mean type="DATE"?'
         elif kind in ("DATE", "TIME") and DURATION.fullmatch(value):
@@ -156,19 +150,14 @@ def why_free(value: str) -> str:
 
 def part_of_day(source: Source) -> Iterator[tuple[Unit, Attribute | None, str]]:
     """A part of a day, which no calendar places."""
-    for tag, value in values(source):
+    for tag, _, value in source.odd_times:
         if PART_OF_DAY.fullmatch(value):
             yield tag, attribute_of(tag, "value"), f'value="{value}" is a part of a day, which the calendar does not place: nothing says when it is but links'
 
 
-def values(source: Source) -> Iterator[tuple[Unit, str]]:
-    """The times with a value."""
-    return ((tag, value) for tag in source.tags("TIMEX3") if (value := source.value(tag, "value")))
-
-
 def event_without_instance(source: Source) -> Iterator[tuple[Unit, Attribute | None, str]]:
     """An event that no MAKEINSTANCE names, so that no link can."""
-    for name, tag in source.identifiers["EVENT"].items():
+    for name, tag in source.identified("EVENT").items():
         if name not in source.instances:
             yield tag, None, f'{name} has no instance, so no link can name it: add <MAKEINSTANCE eiid="{source.fresh("MAKEINSTANCE")}" eventID="{name}"/>'
 
@@ -177,7 +166,7 @@ def empty_tag(source: Source) -> Iterator[tuple[Unit, Attribute | None, str]]:
     """A tag of the text that has no text, and is none that TimeML wants to be empty."""
     for kind in ("EVENT", "SIGNAL", "TIMEX3"):
         for tag in source.tags(kind):
-            if tag.start not in source.with_text and not is_meant_to_be_empty(source, tag):
+            if not source.has_text(tag) and not is_meant_to_be_empty(source, tag):
                 yield tag, None, f"this {kind} has no text: put the tag around its words"
 
 
@@ -194,8 +183,7 @@ def is_meant_to_be_empty(source: Source, tag: Unit) -> bool:
 
 def self_link(source: Source) -> Iterator[tuple[Unit, Attribute | None, str]]:
     """A link from an interval to itself."""
-    for tag in source.tags("TLINK"):
-        left, right = source.ends(tag)
+    for tag, (left, _, right) in zip(source.tags("TLINK"), source.links, strict=True):
         if left == right:
             yield tag, None, f"this link is from {left} to {left}: write another one for one of the two, or take the link out"
 
@@ -203,9 +191,7 @@ def self_link(source: Source) -> Iterator[tuple[Unit, Attribute | None, str]]:
 def repeated_link(source: Source) -> Iterator[tuple[Unit, Attribute | None, str]]:
     """A link that was given before, perhaps the other way round."""
     seen: dict[tuple[str, str, str], Unit] = {}
-    for tag in source.tags("TLINK"):
-        left, right = source.ends(tag)
-        relation = source.value(tag, "relType")
+    for tag, (left, relation, right) in zip(source.tags("TLINK"), source.links, strict=True):
         first = seen.get((left, relation, right)) or seen.get((right, INVERSES.get(relation, ""), left))
         if first is None:
             seen[left, relation, right] = tag
@@ -215,9 +201,9 @@ def repeated_link(source: Source) -> Iterator[tuple[Unit, Attribute | None, str]
 
 def date_with_points(source: Source) -> Iterator[tuple[Unit, Attribute | None, str]]:
     """A date with a begin and an end, which say nothing of when it is."""
-    for tag in source.tags("TIMEX3"):
-        names = [name for name in ("beginPoint", "endPoint") if source.value(tag, name)]
-        kind = source.value(tag, "type")
+    for tag, values in source.valued("TIMEX3"):
+        names = [name for name in ("beginPoint", "endPoint") if values.get(name, "")]
+        kind = values.get("type", "")
         if names and kind in ("DATE", "TIME"):
             text = f"{' and '.join(names)} of a {kind} {'say' if len(names) > 1 else 'says'} nothing of its time: only its value and links do"
             yield tag, attribute_of(tag, names[0]), text
@@ -226,15 +212,18 @@ def date_with_points(source: Source) -> Iterator[tuple[Unit, Attribute | None, s
 def unlinked_instance(source: Source) -> Iterator[tuple[Unit, Attribute | None, str]]:
     """An instance that no link names."""
     names = ("eventInstanceID", "relatedToEventInstance", "subordinatedEventInstance")
-    linked = {source.value(tag, name) for kind in ("TLINK", "ALINK", "SLINK") for tag in source.tags(kind) for name in names}
-    for name, tag in source.identifiers["MAKEINSTANCE"].items():
+    linked = {values.get(name, "") for kind in ("ALINK", "SLINK") for _, values in source.valued(kind) for name in names}
+    linked.update(values.get(names[2], "") for _, values in source.valued("TLINK"))
+    for left, _, right in source.links:
+        linked.update((left, right))
+    for name, tag in source.identified("MAKEINSTANCE").items():
         if name not in linked:
             yield tag, None, f"no link names {name}, so nothing says when it is: add a TLINK"
 
 
 def no_creation_time(source: Source) -> Iterator[tuple[Unit, Attribute | None, str]]:
     """A document of which no time says when it was made."""
-    if not any(source.value(tag, "functionInDocument") == "CREATION_TIME" for tag in source.tags("TIMEX3")):
+    if not any(values.get("functionInDocument", "") == "CREATION_TIME" for _, values in source.valued("TIMEX3")):
         root = source.units.first_tag()
         if root is not None:
             yield root, None, 'the document has no creation time: add functionInDocument="CREATION_TIME" to the TIMEX3 that says when it was made'

@@ -14,9 +14,10 @@ from collections.abc import Callable, Iterable, Iterator, Sequence
 from concurrent.futures import Future, ProcessPoolExecutor, wait
 from concurrent.futures.process import BrokenProcessPool
 from contextlib import contextmanager
+from dataclasses import dataclass
 from itertools import islice
 from multiprocessing.synchronize import Lock
-from typing import TypeVar
+from typing import Any, Generic, TypeVar
 
 from .running import CannotRun, end_all
 from .units import Room
@@ -26,6 +27,12 @@ Result = TypeVar("Result")
 
 AHEAD = 256
 """So many results may wait for one that comes before them; more are not begun, so that memory stays bounded."""
+
+TOGETHER = 16
+"""So many items go to a process at once at most."""
+
+MOMENT, LEAST = 0.05, 1e-6
+"""They are so many that they probably take no more seconds than this; no time that is measured counts as less than the least one."""
 
 PATIENCE = 0.5
 """So many seconds pass at most until an interruption is seen."""
@@ -89,35 +96,101 @@ def in_order(
 
 def at_once(work: Callable[[Item], Result], items: Iterable[Item], workers: int, stop: Interruption) -> Iterator[Result]:
     """The same by so many processes, as long as none of them is ended from outside."""
-    waiting: deque[Future[Result]] = deque()
-    rest = iter(list(items))
-    with pool_of(workers) as pool:
+    with pool_of(workers, work) as pool:
+        groups: Groups[Item, Result] = Groups(pool, items, workers)
         try:
             while True:
-                for item in islice(rest, 0 if stop.happened.is_set() else AHEAD - len(waiting)):
-                    waiting.append(pool.submit(work, item))
-                if not waiting:
+                if not stop.happened.is_set():
+                    groups.begin()
+                if not groups.waiting:
                     return
                 if stop.happened.is_set():
-                    # All that was not begun is cancelled before what was begun is waited for, so that no more is begun meanwhile.
-                    begun = [future for future in waiting if not future.cancel()]
-                    yield from [future.result() for future in begun]
+                    yield from groups.begun()
                     return
-                if wait([waiting[0]], PATIENCE).done:
-                    yield waiting.popleft().result()
+                if wait([groups.waiting[0].future], PATIENCE).done:
+                    yield from groups.first()
         finally:
-            for future in waiting:
-                future.cancel()
+            groups.cancel()
+
+
+@dataclass
+class Group(Generic[Item, Result]):
+    """Items that went to a process together, and what will come back: the results of the first ones, and how many seconds they took."""
+
+    items: list[Item]
+    future: Future[tuple[list[Result], float]]
+
+
+class Groups(Generic[Item, Result]):
+    """Items on their way through a pool, in their order. Those that are quick go together, since each way takes as long as some of them."""
+
+    def __init__(self, pool: ProcessPoolExecutor, items: Iterable[Item], workers: int) -> None:
+        self.pool, self.rest = pool, iter(list(items))
+        self.waiting: deque[Group[Item, Result]] = deque()
+        self.most_together = max(min(AHEAD // (2 * workers), TOGETHER), 1)
+        # Until it is known how long an item takes, each goes alone, and only some of them.
+        self.together, self.room, self.under_way = 1, min(4 * workers, AHEAD), 0
+
+    def submit(self, items: list[Item]) -> Group[Item, Result]:
+        """Gives items to the pool."""
+        return Group(items, self.pool.submit(do_group, items))
+
+    def begin(self) -> None:
+        """Gives the pool as many items as there is room for."""
+        while self.under_way + self.together <= self.room and (items := list(islice(self.rest, self.together))):
+            self.waiting.append(self.submit(items))
+            self.under_way += len(items)
+
+    def first(self) -> list[Result]:
+        """The results of the first group, which is done. Items of it that were not begun are given to the pool again."""
+        group = self.waiting.popleft()
+        results, seconds = group.future.result()
+        left = group.items[len(results) :]
+        if left:
+            self.waiting.appendleft(self.submit(left))
+        self.under_way -= len(results)
+        quick = int(MOMENT * len(results) / max(seconds, LEAST))
+        self.together, self.room = max(min(quick, self.most_together), 1), AHEAD
+        return results
+
+    def begun(self) -> Iterator[Result]:
+        """The results of what was begun, up to the first item that was not. First all others are cancelled, so that no more is begun."""
+        are_begun = [not group.future.cancel() for group in self.waiting]
+        for group, is_begun in zip(self.waiting, are_begun, strict=True):
+            results = group.future.result()[0] if is_begun else []
+            yield from results
+            if len(results) < len(group.items):
+                return
+
+    def cancel(self) -> None:
+        """Takes back what was not begun."""
+        for group in self.waiting:
+            group.future.cancel()
+
+
+GIVEN: list[Callable[[Any], Any]] = []
+"""The work of a process of the pool, which is given once, before the first item."""
+
+
+def do_group(items: list[Any]) -> tuple[list[Any], float]:
+    """The results of the first items of some, as many as take two moments, and the seconds that they took."""
+    [work], results, seconds, begun = GIVEN, [], 0.0, time.monotonic()
+    for item in items:
+        results.append(work(item))
+        seconds = time.monotonic() - begun
+        if seconds > 2 * MOMENT:
+            break
+    return results, seconds
 
 
 @contextmanager
-def pool_of(workers: int) -> Iterator[ProcessPoolExecutor]:
-    """So many processes, which leave Ctrl-C to the program, and end at once where it is no more: then the pipe that it holds is closed."""
+def pool_of(workers: int, work: Callable[[Item], Result]) -> Iterator[ProcessPoolExecutor]:
+    """So many processes for some work. They leave Ctrl-C to the program, and end where it is no more: the pipe that it holds is closed."""
     context = multiprocessing.get_context("fork")
     watched, held = os.pipe()
     try:
         try:
-            pool = ProcessPoolExecutor(workers, context, prepare_worker, (watched, held, context.Lock()))
+            pool = ProcessPoolExecutor(workers, context, prepare_worker, (work, watched, held, context.Lock()))
         except OSError as error:
             raise CannotRun(f"processes of Python cannot share a lock here, which needs some room in /dev/shm: {error}") from None
         with pool:
@@ -127,8 +200,9 @@ def pool_of(workers: int) -> Iterator[ProcessPoolExecutor]:
         os.close(held)
 
 
-def prepare_worker(watched: int, held: int, lock: Lock) -> None:
-    """Lets a worker leave Ctrl-C to the program, and end when the program is no more, with the `tml` that it has started."""
+def prepare_worker(work: Callable[[Any], Any], watched: int, held: int, lock: Lock) -> None:
+    """Gives a worker its work. It leaves Ctrl-C to the program, and ends when that is no more, with the `tml` that it has started."""
+    GIVEN[:] = [work]
     signal.signal(signal.SIGINT, signal.SIG_IGN)
     # What the program has by now stays to the end: no search for what can be freed goes over it in each worker.
     gc.freeze()

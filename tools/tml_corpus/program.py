@@ -63,6 +63,8 @@ class Program:
 
     def __init__(self, path: str) -> None:
         self.path = path
+        self.dates: dict[tuple[str, str, str], list[str]] = {}
+        """What it answered on times, by their type, modifier and value."""
 
     def seen(self, document: bytes) -> bytes:
         """The document as `tml` is asked about it; all places are the same in it."""

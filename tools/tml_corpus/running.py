@@ -42,6 +42,8 @@ def run(words: Sequence[str], document: bytes | IO[bytes], most: int, other: IO[
             stderr=subprocess.DEVNULL,
             bufsize=0,
             start_new_session=True,
+            # What Python opens is closed where another program begins, so that nothing has to be closed one by one.
+            close_fds=other is not None,
             pass_fds=() if other is None else (other.fileno(),),
         )
     except (OSError, ValueError) as error:

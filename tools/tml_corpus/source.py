@@ -3,18 +3,24 @@
 from __future__ import annotations
 
 import re
-from collections.abc import Iterator
+from collections.abc import Iterable, Iterator
 from dataclasses import dataclass, field
 from functools import cached_property
+from typing import Protocol
 
 from .edits import Edit
 from .places import Places
 from .profile import IDENTIFIERS, LEFT, RIGHT, ROOT, TABLE
 from .units import END, MANY_BYTES, START, TEXT, Attribute, Unit, Units
+from .values import CALENDAR
 
 LONGEST = 80
+SINGLE, DOUBLE = "'", '"'
 VALUE = re.compile(r"""([^ \t\r\n=]++)[ \t\r\n]*+=[ \t\r\n]*+(?:"([^"]*+)"|'([^']*+)')""")
 """An attribute of a tag: its name, and its value between quotes of either kind."""
+
+MOST_REMEMBERED, LONGEST_REMEMBERED = 4096, 256
+"""So many tags are remembered as they are written, of at most so many bytes: many of them come again in other documents."""
 
 MANNERS = {"EVENT": "e", "MAKEINSTANCE": "ei", "TIMEX3": "t", "SIGNAL": "s"}
 """How identifiers mostly begin."""
@@ -43,14 +49,75 @@ class Explanation:
     units: Units | None = None
 
 
+class Names(dict[tuple[str, ...], tuple[str, ...] | None]):
+    """The names of the attributes of a tag, by what stands between the values where all have double quotes; None where one stands twice."""
+
+    def __missing__(self, between: tuple[str, ...]) -> tuple[str, ...] | None:
+        names = tuple(name for name, _, _ in VALUE.findall((DOUBLE + DOUBLE).join(between)))
+        found = names if len(set(names)) == len(names) == len(between) - 1 else None
+        if len(self) < MOST_REMEMBERED and sum(map(len, between)) <= LONGEST_REMEMBERED:
+            self[between] = found
+        return found
+
+
+class ValuesAsWritten(dict[bytes, dict[str, str]]):
+    """The values of the attributes of tags as they are written; of several attributes with one name the first one counts."""
+
+    def __init__(self) -> None:
+        super().__init__()
+        self.names = Names()
+
+    def __missing__(self, tag: bytes) -> dict[str, str]:
+        written = tag.decode("utf-8", "surrogateescape")
+        parts = written.split(DOUBLE)
+        names = self.names[tuple(parts[::2])] if SINGLE not in written else None
+        if names is None:
+            values = {one: first or second for one, first, second in reversed(VALUE.findall(written))}
+        else:
+            values = dict(zip(names, parts[1::2], strict=True))
+        if len(self) < MOST_REMEMBERED and len(tag) <= LONGEST_REMEMBERED:
+            self[tag] = values
+        return values
+
+
+VALUES = ValuesAsWritten()
+
+
+class Values(Protocol):
+    """The values of the attributes of a tag."""
+
+    def get(self, name: str, other: str, /) -> str:
+        """The value of an attribute, or another text where it is not there."""
+
+
+@dataclass(frozen=True)
+class SoughtValues:
+    """Those of a tag of a long document, each of which is looked for where it is asked for."""
+
+    tag: Unit
+    document: bytes
+
+    def get(self, name: str, other: str, /) -> str:
+        """The value of an attribute, or another text where it is not there."""
+        value = self.tag.value_of(name, self.document)
+        return other if value is None else value
+
+
 class Source:
     """A document, and its units where it could be cut into units."""
 
     def __init__(self, document: bytes, units: Units | None, places: Places | None = None) -> None:
-        self.document, self.places = document, places or Places(document)
+        self.document, self.given_places = document, places
         self.units = Units() if units is None else units
         self.fresh_names: dict[str, str] = {}
         self.known_values: dict[int, dict[str, str]] = {}
+        self.known_rows: dict[str, list[tuple[Unit, Values]]] = {}
+        self.known_identifiers: dict[str, dict[str, Unit]] = {}
+
+    @cached_property
+    def places(self) -> Places:
+        """The places of the document."""
+        return self.given_places or Places(self.document)
 
     def at(self, offset: int) -> str:
         """A place, as it is written in a sentence."""
@@ -67,17 +134,30 @@ class Source:
         return values.get(name, "")
 
     def values(self, tag: Unit) -> dict[str, str]:
-        """The values of the attributes of a tag, which are kept; of several with one name the first one counts."""
+        """The values of the attributes of a tag, which are kept."""
         values = self.known_values.get(tag.start)
         if values is None:
-            written = self.document[tag.start : tag.end].decode("utf-8", "surrogateescape")
-            attributes = VALUE.findall(written, 1 + len(tag.name))
-            values = self.known_values[tag.start] = {one: first or second for one, first, second in reversed(attributes)}
+            values = self.known_values[tag.start] = VALUES[self.document[tag.start : tag.end]]
         return values
 
-    def ends(self, link: Unit) -> tuple[str, str]:
-        """The identifiers of the two intervals of a TLINK."""
-        return self.value(link, LEFT[0]) or self.value(link, LEFT[1]), self.value(link, RIGHT[0]) or self.value(link, RIGHT[1])
+    def valued(self, kind: str) -> Iterable[tuple[Unit, Values]]:
+        """The tags of a kind with their values."""
+        found = self.known_rows.get(kind)
+        if found is None:
+            tags = self.tags(kind)
+            if len(self.document) > MANY_BYTES:
+                return ((tag, SoughtValues(tag, self.document)) for tag in tags)
+            found = self.known_rows[kind] = [(tag, self.values(tag)) for tag in tags]
+        return found
+
+    @cached_property
+    def links(self) -> list[tuple[str, str, str]]:
+        """Of each TLINK the identifier of the one interval, the relation, and the identifier of the other interval."""
+        (instance, time), (other_instance, other_time) = LEFT, RIGHT
+        return [
+            (one.get(instance, "") or one.get(time, ""), one.get("relType", ""), one.get(other_instance, "") or one.get(other_time, ""))
+            for _, one in self.valued("TLINK")
+        ]
 
     def tags(self, kind: str) -> list[Unit]:
         """The start and empty tags of a kind."""
@@ -99,22 +179,28 @@ class Source:
     @cached_property
     def identifiers(self) -> dict[str, dict[str, Unit]]:
         """The tags of each kind by their identifiers; of several with one identifier the first one counts."""
-        found: dict[str, dict[str, Unit]] = {kind: {} for kind in TABLE}
-        for kind, tags in self.by_kind.items():
-            for tag in tags:
-                name = self.value(tag, IDENTIFIERS[kind])
+        return {kind: self.identified(kind) for kind in TABLE}
+
+    def identified(self, kind: str) -> dict[str, Unit]:
+        """The tags of one kind by their identifiers, which are kept."""
+        found = self.known_identifiers.get(kind)
+        if found is None:
+            attribute, found = IDENTIFIERS[kind], {}
+            for tag, values in self.valued(kind):
+                name = values.get(attribute, "")
                 if name:
-                    found[kind].setdefault(name, tag)
+                    found.setdefault(name, tag)
+            self.known_identifiers[kind] = found
         return found
 
     @cached_property
     def instances(self) -> dict[str, list[str]]:
         """The identifiers of the instances of each event."""
         found: dict[str, list[str]] = {}
-        for tag in self.tags("MAKEINSTANCE"):
-            name = self.value(tag, "eiid")
+        for _, values in self.valued("MAKEINSTANCE"):
+            name = values.get("eiid", "")
             if name:
-                found.setdefault(self.value(tag, "eventID"), []).append(name)
+                found.setdefault(values.get("eventID", ""), []).append(name)
         return found
 
     def bearer(self, name: str) -> Unit | None:
@@ -126,6 +212,20 @@ class Source:
     def points(self) -> set[str]:
         """The identifiers of the times that other times name."""
         return {value for tag in self.tags("TIMEX3") for name in ("anchorTimeID", "beginPoint", "endPoint") if (value := self.value(tag, name))}
+
+    @cached_property
+    def odd_times(self) -> list[tuple[Unit, str, str]]:
+        """The times with a value, of which that is no date of a DATE or TIME, with their types and values."""
+        times = ((tag, values.get("type", ""), values.get("value", "")) for tag, values in self.valued("TIMEX3"))
+        return [(tag, kind, value) for tag, kind, value in times if value and not (kind in ("DATE", "TIME") and CALENDAR.fullmatch(value))]
+
+    def has_text(self, tag: Unit) -> bool:
+        """Whether a start tag has some text inside; mostly it follows at once."""
+        units, after = self.units, tag.row + 1
+        if tag.kind == "start" and after < len(units.kinds) and units.kinds[after] == TEXT:
+            if not self.document[units.starts[after] : units.ends[after]].isspace():
+                return True
+        return tag.start in self.with_text
 
     @cached_property
     def with_text(self) -> set[int]:

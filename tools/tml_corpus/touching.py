@@ -48,20 +48,22 @@ def asks(relation: str) -> str:
 
 def touching_changes(wording: Wording) -> list[Change]:
     """The links of a document between dates that touch, in their order."""
-    bounds = exact_bounds(wording)
-    changes: list[Change] = []
-    for number, tag in enumerate(wording.link_tags):
-        left, right = map(bounds.get, wording.source.ends(tag))
-        relation = touching_relation(wording.relation(number), left, right) if left and right else None
+    times, changes = wording.tags["TIMEX3"], []
+    for number, (left, written, right) in enumerate(wording.source.links):
+        if left not in times or right not in times or (written not in GAP and written not in INCLUSIONS):
+            continue
+        first, second = exact_bounds(wording, left), exact_bounds(wording, right)
+        relation = touching_relation(written, first, second) if first and second else None
         if relation is not None:
             link = wording.link(number)
-            changes.append(Change(link, tag, relation, reason_of(wording, link, relation)))
+            changes.append(Change(link, wording.link_tags[number], relation, reason_of(wording, link, relation)))
     return changes
 
 
-def exact_bounds(wording: Wording) -> dict[str, Bounds]:
-    """The start and the end of each time that the calendar fixes."""
-    return {name: (int(words[1]), int(words[2])) for name, words in wording.dates.items() if words[0] == "exact"}
+def exact_bounds(wording: Wording, name: str) -> Bounds | None:
+    """The start and the end of a time that the calendar fixes."""
+    words = wording.dates[name]
+    return (int(words[1]), int(words[2])) if words[0] == "exact" else None
 
 
 def touching_relation(relation: str, left: Bounds, right: Bounds) -> str | None:

@@ -148,8 +148,12 @@ class Units(Sequence[Unit]):
     def opening(self, *names: str) -> list[Unit]:
         """The start and empty tags of these names."""
         wanted = {number for number, word in enumerate(self.words) if word in names}
-        kinds, rows = self.kinds, self.names
-        return [self.unit(row) for row, name in enumerate(rows) if name in wanted and kinds[row] <= EMPTY]
+        starts, ends, kinds, words = self.starts, self.ends, self.kinds, self.words
+        return [
+            Unit(starts[row], ends[row], KINDS[kinds[row]], words[name], self, row)
+            for row, name in enumerate(self.names)
+            if name in wanted and kinds[row] <= EMPTY
+        ]
 
     def named(self, *names: str) -> list[Unit]:
         """The tags of these names, end tags included."""

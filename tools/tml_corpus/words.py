@@ -7,12 +7,13 @@ from dataclasses import dataclass
 from functools import cached_property
 
 from .cutting import units_of_whole
+from .dates import dates_of
 from .places import Place
 from .profile import IDENTIFIERS
 from .program import CannotRun, Program
 from .source import Source
 from .texts import cut, texts_of
-from .units import Unit, Units
+from .units import MANY_BYTES, Unit, Units
 
 LONGEST = 40
 """So many characters of a text stand in a sentence."""
@@ -35,14 +36,18 @@ class Wording:
     """What can be said of the intervals and links of one accepted document."""
 
     def __init__(self, program: Program, document: bytes, units: Units | None = None) -> None:
-        self.document = document
+        self.program, self.document = program, document
         self.units = units or units_of_whole(program, document)
         self.source = Source(document, self.units)
         self.places = self.source.places
-        self.tags = self.source.identifiers
+        self.tags = {kind: self.source.identified(kind) for kind in ("EVENT", "MAKEINSTANCE", "TIMEX3")}
         self.texts: dict[str, str] = {}
         self.link_tags = self.source.tags("TLINK")
-        self.dates = {words[0]: words[1:] for words in program.ask(["dates", "-"], document).lines() if len(words) > 1}
+
+    @cached_property
+    def dates(self) -> dict[str, list[str]]:
+        """What the calendar says of each time, by its name."""
+        return dates_of(self.program, self.source)
 
     @cached_property
     def intervals(self) -> list[str]:
@@ -54,13 +59,12 @@ class Wording:
         """The link of a number: links have the numbers of their tags, and at each end one attribute with a value."""
         if not 0 <= number < len(self.link_tags):
             raise CannotRun("the answers of tml to `solve` and `check` do not belong together")
-        tag = self.link_tags[number]
-        left, right = self.source.ends(tag)
-        return Link(number, self.places.place(tag.start), left, self.relation(number), right)
+        left, relation, right = self.source.links[number]
+        return Link(number, self.places.place(self.link_tags[number].start), left, relation, right)
 
     def relation(self, number: int) -> str:
         """The relation of a link."""
-        return self.source.value(self.link_tags[number], "relType")
+        return self.source.links[number][1]
 
     def text_of(self, name: str) -> str:
         """The text of the event or time that an interval is, cut where it is long, or its name where it has none."""
@@ -70,7 +74,7 @@ class Wording:
         """The text of the event or time that an interval is, cut only where it is very long; it may be empty. It is found once."""
         if name not in self.texts:
             tag = self.tag_of(name)
-            self.texts[name] = "" if tag is None else self.inner_texts[tag.start] or cut(html.unescape(self.value_of(tag)))
+            self.texts[name] = "" if tag is None else self.inner_text(tag) or cut(html.unescape(self.value_of(tag)))
         return self.texts[name]
 
     def tag_of(self, name: str) -> Unit | None:
@@ -83,6 +87,12 @@ class Wording:
     def value_of(self, tag: Unit) -> str:
         """The beginning of the value of an empty time, which stands for its text."""
         return self.source.value(tag, "value")[:MOST_OF_VALUE] if tag.kind == "empty" else ""
+
+    def inner_text(self, tag: Unit) -> str:
+        """The text inside a tag. In a short document it is looked for alone, in a long one with all others."""
+        if len(self.document) > MANY_BYTES:
+            return self.inner_texts[tag.start]
+        return texts_of(self.units, self.document, {tag.start})[tag.start]
 
     @cached_property
     def inner_texts(self) -> dict[int, str]:
