@@ -249,8 +249,8 @@ def drill(count: int) -> Outcome:
     net = accepted.document.net()
     ranks = least_timeline(net, all_links(net))
     assert ranks is not None
-    numbers = (count, len(text), len(net.links), max(ranks), len(entailed_rows(net)))
-    return done(lines(*map(b"%s %d".__mod__, zip((b"drill", b"bytes", b"links", b"greatest", b"relations"), numbers)), b"verified timeline"))
+    numbers = [b"drill %d" % count, b"bytes %d" % len(text), b"links %d" % len(net.links)]
+    return done(lines(*numbers, b"greatest %d" % max(ranks), b"relations %d" % len(entailed_rows(net)), b"verified timeline"))
 
 
 ABOUT_DOCUMENTS: Mapping[bytes, Callable[[Accepted], Answer]] = {
@@ -278,6 +278,16 @@ def files_of(words: Sequence[bytes]) -> list[bytes] | None:
     return None
 
 
+def about_document(words: Sequence[bytes], accepted: Accepted, files: Files) -> Answer:
+    """What comes next after an accepted document."""
+    if words[0] == b"ask":
+        return ask(accepted, *words[2:])
+    if words[0] == b"verify":
+        text = read(files, words[2], LONGEST_EVIDENCE, b"EVIDENCE")
+        return text if isinstance(text, Outcome) else verify(accepted, text)
+    return ABOUT_DOCUMENTS[words[0]](accepted)
+
+
 def answer(words: Sequence[bytes], files: Files) -> Answer:
     """*Rows*: the answer to words over known files, where no device fails and memory suffices."""
     names = files_of(words)
@@ -291,11 +301,4 @@ def answer(words: Sequence[bytes], files: Files) -> Answer:
     if not words or words[0] == b"spans":
         return spans(source)
     accepted = judge_document(source)
-    if isinstance(accepted, Fault):
-        return Outcome(Status.DOC_FAULT, accepted.line())
-    if words[0] == b"ask":
-        return ask(accepted, *words[2:])
-    if words[0] == b"verify":
-        text = read(files, names[1], LONGEST_EVIDENCE, b"EVIDENCE")
-        return text if isinstance(text, Outcome) else verify(accepted, text)
-    return ABOUT_DOCUMENTS[words[0]](accepted)
+    return Outcome(Status.DOC_FAULT, accepted.line()) if isinstance(accepted, Fault) else about_document(words, accepted, files)

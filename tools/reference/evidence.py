@@ -131,8 +131,10 @@ class Reading:
     def step(self) -> Step:
         """Takes a step."""
         form, words = self.take(b"via " + NUMBER + b" " + NUMBER, b"span " + NUMBER, b"calendar " + NUMBER + b" " + NUMBER)
-        first, second = int(words[0]), int(words[-1])
-        return (Via(first, second), Span(first), Calendar(first, second))[form]
+        numbers = [int(word) for word in words]
+        if form == 0:
+            return Via(numbers[0], numbers[1])
+        return Span(numbers[0]) if form == 1 else Calendar(numbers[0], numbers[1])
 
     def walk(self) -> tuple[Step, ...]:
         """Takes the lines of a list of steps."""

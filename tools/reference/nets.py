@@ -90,7 +90,8 @@ def fits(net: Net, ranks: Ranks, links: Iterable[int]) -> bool:
     if len(ranks) != net.points():
         return False
     start_first = all(ranks[2 * one] < ranks[2 * one + 1] for one in range(net.intervals()))
-    return start_first and all(keeps_link(net, ranks, link) for link in links) and all(order.is_true(ranks) for order in net.calendar_orders())
+    in_calendar = all(order.is_true(ranks) for order in net.calendar_orders())
+    return start_first and in_calendar and all(keeps_link(net, ranks, link) for link in links)
 
 
 @dataclass(frozen=True)

@@ -37,7 +37,7 @@ class Document:
 
     def net(self) -> Net:
         """*The net of a document*."""
-        return Net(tuple(one.time and bounds_of(one.time) for one in self.intervals), self.links)
+        return Net(tuple(bounds_of(one.time) if one.time else None for one in self.intervals), self.links)
 
 
 def judged(tags: Sequence[TypedTag]) -> Iterator[tuple[int, set[Kind]]]:

@@ -5,7 +5,7 @@ What a relation says is written down twice, as the page has it: where it holds o
 
 from __future__ import annotations
 
-from collections.abc import Mapping
+from collections.abc import Mapping, Sequence
 from dataclasses import dataclass
 
 Interval = tuple[int, int]
@@ -20,7 +20,7 @@ class Order:
     second: int
     strict: bool
 
-    def is_true(self, ranks: Mapping[int, int] | tuple[int, ...]) -> bool:
+    def is_true(self, ranks: Sequence[int]) -> bool:
         """Whether it is true of a timeline."""
         first, second = ranks[self.first], ranks[self.second]
         return first < second if self.strict else first <= second

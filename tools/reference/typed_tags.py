@@ -143,7 +143,8 @@ class TypedTag:
 
     def identifier(self) -> bytes | None:
         """Its identifier, if it has one."""
-        return next((self.fields[name] for name, value in TABLE[self.name].values.items() if isinstance(value, Identifier) and name in self.fields), None)
+        values = TABLE[self.name].values
+        return next((text for name, text in self.fields.items() if isinstance(values[name], Identifier)), None)
 
     def references(self) -> list[tuple[bytes, bytes]]:
         """Its references: of each the tag that it asks for, and the identifier."""
