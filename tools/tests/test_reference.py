@@ -38,8 +38,9 @@ def page(name):
 def samples():
     """The files that the pages speak of: the samples, and what the tour makes of one of them."""
     files = {f"samples/{name}".encode(): page(f"samples/{name}").encode() for name in os.listdir(os.path.join(TOP, "samples"))}
-    mended = [line.replace("DURING", "AFTER") if 'lid="l6"' in line else line for line in page("samples/port.xml").splitlines(keepends=True)]
-    return {**files, b"mended.xml": "".join(mended).encode()}
+    lines = page("samples/port.xml").splitlines(keepends=True)
+    mended = "".join(line.replace("DURING", "AFTER") if 'lid="l6"' in line else line for line in lines)
+    return {**files, b"mended.xml": mended.encode()}
 
 
 def blocks(text):
@@ -168,12 +169,13 @@ class Pages(unittest.TestCase):
             self.assertRegex(wanted.text.decode(), re.compile(f"^{pattern}$", re.DOTALL))
 
     def test_a_clash_that_a_page_prints_and_others_that_are_wrong(self):
-        files = samples()
-        right = next(printed for command, printed in blocks(page("docs/CLASHES.md")) if command == "tml solve samples/talks.xml").encode()
-        for words in ([b"solve", b"samples/talks.xml"], [b"relations", b"samples/talks.xml"], [b"ask", b"samples/talks.xml", b"t1", b"ENDS", b"t2"]):
+        files, talks = samples(), b"samples/talks.xml"
+        right = dict(blocks(page("docs/CLASHES.md")))["tml solve samples/talks.xml"].encode()
+        slips = ((b"at 4 5\n", b"at 4 6\n"), (b"cite 2\n", b""), (b"clash 3", b"clash 2"), (b"via 2 1", b"via 2 0"), (b"end\n", b"end"))
+        for words in ([b"solve", talks], [b"relations", talks], [b"ask", talks, b"t1", b"ENDS", b"t2"]):
             self.assertIsNone(judge(words, files, Outcome(2, right)))
             self.assertIsNotNone(judge(words, files, Outcome(0, right)))
-            for old, new in ((b"at 4 5\n", b"at 4 6\n"), (b"cite 2\n", b""), (b"clash 3", b"clash 2"), (b"via 2 1", b"via 2 0"), (b"end\n", b"end")):
+            for old, new in slips:
                 self.assertIn(old, right)
                 self.assertIsNotNone(judge(words, files, Outcome(2, right.replace(old, new, 1))), old)
 
@@ -212,7 +214,8 @@ class Program(CorpusTest):
         """Runs the program over files of these contents."""
         for name, content in files.items():
             self.write(name.decode(), content)
-        run = subprocess.run([os.path.abspath(TML).encode(), *words], cwd=self.folder, capture_output=True, stdin=subprocess.DEVNULL, check=False)
+        program = os.path.abspath(TML).encode()
+        run = subprocess.run([program, *words], cwd=self.folder, capture_output=True, stdin=subprocess.DEVNULL, check=False)
         self.assertEqual(run.stderr, b"")
         self.assertIsNone(judge(words, files, Outcome(run.returncode, run.stdout)), words)
         return run.stdout
@@ -234,9 +237,9 @@ class Program(CorpusTest):
 
     def test_words(self):
         files = {b"d": document(EVENT + INSTANCE).encode()}
-        for words in ([], ["spans"], ["check", "e"], ["drill", "0"], ["drill", "7"], ["ask", "d", "i1", "LATER", "i2"], ["verify", "d", "e"]):
-            if words:
-                self.is_right([word.encode() for word in words], files)
+        lines = ("spans", "check e", "drill 0", "drill 7", "drill 07", "ask d i1 LATER i2", "ask d i2 LATER i1", "verify d e", "canon d d")
+        for line in lines:
+            self.is_right([word.encode() for word in line.split()], files)
 
 
 class Texts(unittest.TestCase):
