@@ -1,5 +1,6 @@
 """The reference of `tools/reference`: against the worked examples of the documentation, against itself, and against `tml`."""
 
+import datetime
 import itertools
 import os
 import random
@@ -11,7 +12,8 @@ from corpus import EVENT, INSTANCE, TML, TOP, CorpusTest, document
 
 from reference import Free, Outcome, expected, judge, judge_failing
 from reference.checking import is_supported, refusal
-from reference.dates import Bounds
+from reference.civil import date_of, day_of, first_week, weeks_of_year
+from reference.dates import Bounds, extent
 from reference.evidence import Clash, Counterexample, Entailment, Timeline, read_evidence, text_of
 from reference.nets import Calendar, Link, Net, Span, Via
 from reference.relations import RELATIONS, Order, holds, orders_of
@@ -86,6 +88,30 @@ class Definitions(unittest.TestCase):
             self.assertEqual(rows_of_closure(net), rows_tried(net), net)
             self.assertEqual(says(closure(net), order), least_tried(net, every, [order.negation()]) is None, (net, order))
         self.assertGreater(fitting, 50)
+
+    def test_days_and_weeks_are_those_of_python(self):
+        draw = random.Random(0)
+        for number in [*range(2000), *(draw.randrange(3_652_059) for _ in range(2000)), 3_652_058]:
+            day = datetime.date.fromordinal(number + 1)
+            year, week, weekday = day.isocalendar()
+            self.assertEqual((date_of(number), day_of(day.year, day.month, day.day)), ((day.year, day.month, day.day), number))
+            self.assertEqual(first_week(year) + 7 * (week - 1) + weekday - 1, number)
+            self.assertIn(week, range(1, weeks_of_year(year) + 1))
+        self.assertEqual(date_of(3_652_059), (10_000, 1, 1))
+
+    def test_extents_are_those_of_sets_of_days(self):
+        days = [datetime.date(1979, 1, 1) + datetime.timedelta(one) for one in range(8800)]
+        texts = {shape: [day.strftime(shape) for day in days] for shape in ("%Y", "%Y-%m", "%Y-%m-%d", "%G", "%G-W%V", "%G-W%V-%u")}
+        texts["quarter"] = [f"{day.year}-Q{(day.month + 2) // 3}" for day in days]
+        chosen = {shape: random.Random(shape).sample(of_days[800:-800], 15) for shape, of_days in texts.items() if shape != "%G"}
+        values = [(value, value, shape) for shape, some in chosen.items() for value in some]
+        values += [("198X", "198", "%Y"), ("199X-02-29", "199", "%Y"), ("1988-XX-03", "1988", "%Y"), ("1988-QX", "1988", "%Y")]
+        values += [("1988-02-XX", "1988-02", "%Y-%m"), ("1988-02-03TXX", "1988-02-03", "%Y-%m-%d"), ("1988-W03-X", "1988-W03", "%G-W%V")]
+        values += [("198X-WXX", "198", "%G"), ("198X-W01-1", "198", "%G"), ("1988-WXX-3", "1988", "%G")]
+        for value, known, shape in values:
+            belonging = [day.toordinal() for day, text in zip(days, texts[shape], strict=True) if text.startswith(known)]
+            low, high = ((one - 719_163) * 86_400 for one in (min(belonging), max(belonging) + 1))
+            self.assertEqual(extent(value.encode()), (low, high), value)
 
     def test_evidence_is_supported_where_it_is_not_refused(self):
         for number in range(800):
