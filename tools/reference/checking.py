@@ -73,7 +73,7 @@ def why_no_timeline(net: Net, ranks: Ranks, links: Iterable[int]) -> Reason | No
     for link in sorted(links):
         if not keeps_link(net, ranks, link):
             return Reason("Link", (link,))
-    for order in net.calendar_orders():
+    for order in net.calendar_orders:
         if not order.is_true(ranks):
             return Reason("Calendar", (order.first, order.second))
     return None

@@ -2,6 +2,7 @@
 
 from __future__ import annotations
 
+import functools
 from collections.abc import Iterable, Sequence
 from dataclasses import dataclass
 
@@ -61,12 +62,13 @@ class Net:
             return None
         return Order(first, second, upper < lower)
 
-    def calendar_orders(self) -> list[Order]:
+    @functools.cached_property
+    def calendar_orders(self) -> tuple[Order, ...]:
         """The orders that the calendar gives to all points, by the first point and then by the second."""
         uppers = [point for point in range(self.points()) if self.upper(point) is not None]
         lowers = [point for point in range(self.points()) if self.lower(point) is not None]
         found = [self.calendar_order(first, second) for first in uppers for second in lowers]
-        return [order for order in found if order is not None]
+        return tuple(order for order in found if order is not None)
 
     def link_orders(self, link: int) -> tuple[Order, ...]:
         """The orders of the relation of a link, between its two intervals."""
@@ -90,7 +92,7 @@ def fits(net: Net, ranks: Ranks, links: Iterable[int]) -> bool:
     if len(ranks) != net.points():
         return False
     start_first = all(ranks[2 * one] < ranks[2 * one + 1] for one in range(net.intervals()))
-    in_calendar = all(order.is_true(ranks) for order in net.calendar_orders())
+    in_calendar = all(order.is_true(ranks) for order in net.calendar_orders)
     return start_first and in_calendar and all(keeps_link(net, ranks, link) for link in links)
 
 

@@ -51,15 +51,17 @@ def fitting(net: Net, links: Iterable[int], further: Sequence[Order] = ()) -> li
 def least_tried(net: Net, links: Iterable[int], further: Sequence[Order] = ()) -> Ranks | None:
     """The least one of those: it has the property, and is at each point at most every one that has it."""
     found = fitting(net, links, further)
-    least = [ranks for ranks in found if all(mine <= others for other in found for mine, others in zip(ranks, other, strict=True))]
-    assert bool(least) == bool(found)
-    return least[0] if least else None
+    if not found:
+        return None
+    least = tuple(min(ranks) for ranks in zip(*found, strict=True))
+    assert least in found
+    return least
 
 
 def orders_that_fit(net: Net, links: Iterable[int]) -> list[Order]:
     """The orders of all steps over spans, over a set of links and in the calendar."""
     spans = [Order(2 * one, 2 * one + 1, True) for one in range(net.intervals())]
-    return spans + [order for link in links for order in net.link_orders(link)] + net.calendar_orders()
+    return [*spans, *(order for link in links for order in net.link_orders(link)), *net.calendar_orders]
 
 
 def least_raised(points: int, orders: Sequence[Order]) -> Ranks | None:
