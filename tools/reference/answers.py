@@ -18,7 +18,7 @@ from .nets import Net
 from .references import Document
 from .relations import RELATIONS, orders_of
 from .timelines import all_links, entailed_rows, false_timeline, is_minimal_clash, least_timeline
-from .units import cut, source_fault, table_of
+from .units import cut, longest_utf8, source_fault, table_of
 
 LONGEST_DOCUMENT = 4_194_304
 LONGEST_EVIDENCE = 16_777_216
@@ -262,14 +262,19 @@ ABOUT_DOCUMENTS: Mapping[bytes, Callable[[Accepted], Answer]] = {
 }
 
 
+def are_texts(words: Sequence[bytes]) -> bool:
+    """Whether all words are UTF-8. The page does not say that others have no form; docs/DECISIONS.md does."""
+    return all(longest_utf8(word) == len(word) for word in words)
+
+
 def files_of(words: Sequence[bytes]) -> list[bytes] | None:
     """*Words*: the names of the files that words of a form may come to reading, in order; none where they have no form."""
+    if not are_texts(words):
+        return None
     match list(words):
         case []:
             return [b"-"]
-        case [b"spans" | b"check" | b"dates" | b"solve" | b"relations" | b"canon", name]:
-            return [name]
-        case [b"ask", name, _, _, _]:
+        case [b"spans" | b"check" | b"dates" | b"solve" | b"relations" | b"canon", name] | [b"ask", name, _, _, _]:
             return [name]
         case [b"verify", name, evidence]:
             return [name, evidence]
@@ -278,12 +283,17 @@ def files_of(words: Sequence[bytes]) -> list[bytes] | None:
     return None
 
 
+def after_document(words: Sequence[bytes], files: Files) -> Files:
+    """What files hold once the document was read: nothing is left of standard input. The page does not say so."""
+    return {**files, b"-": b""} if words[1] == b"-" else files
+
+
 def about_document(words: Sequence[bytes], accepted: Accepted, files: Files) -> Answer:
     """What comes next after an accepted document."""
     if words[0] == b"ask":
         return ask(accepted, *words[2:])
     if words[0] == b"verify":
-        text = read(files, words[2], LONGEST_EVIDENCE, b"EVIDENCE")
+        text = read(after_document(words, files), words[2], LONGEST_EVIDENCE, b"EVIDENCE")
         return text if isinstance(text, Outcome) else verify(accepted, text)
     return ABOUT_DOCUMENTS[words[0]](accepted)
 

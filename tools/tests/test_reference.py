@@ -255,14 +255,14 @@ class Program(CorpusTest):
                 self.is_right([b"verify", name, b"evidence"], {**files, b"evidence": text})
 
     def test_questions(self):
-        files = samples()
-        names = [b"t0", b"t1", b"ei1", b"ei2"]
-        for left, right, relation in itertools.product(names, names, RELATIONS):
-            text = self.is_right([b"ask", b"samples/rates.xml", left, relation, right], files)
-            self.is_right([b"verify", b"samples/rates.xml", b"evidence"], {**files, b"evidence": text})
+        files = {b"d": samples()[b"samples/rates.xml"]}
+        for left, right, relation in itertools.product([b"ei1", b"t1"], [b"t0", b"ei1", b"ei2"], RELATIONS[::2]):
+            text = self.is_right([b"ask", b"d", left, relation, right], files)
+            self.is_right([b"verify", b"d", b"evidence"], {**files, b"evidence": text})
 
     def test_words(self):
         files = {b"d": document(EVENT + INSTANCE).encode()}
+        self.is_right([b"check", b"\xff"], files)
         lines = ("spans", "check e", "drill 0", "drill 7", "drill 07", "ask d i1 LATER i2", "ask d i2 LATER i1", "verify d e", "canon d d")
         for line in lines:
             self.is_right([word.encode() for word in line.split()], files)
