@@ -1,0 +1,314 @@
+"""What comes next in each command, and the texts of answers: the section *The answer* of docs/DEFINITIONS.md."""
+
+from __future__ import annotations
+
+import functools
+from collections.abc import Callable, Mapping, Sequence
+from dataclasses import dataclass, field
+from enum import IntEnum
+
+from .acceptance import Accepted, judge_document
+from .canonical import canonical_text
+from .checking import Reason, is_supported, refusal
+from .dates import bounds_of, line_of
+from .drill import drill_text
+from .evidence import Clash, Counterexample, Entailment, Evidence, Timeline, read_evidence, text_of
+from .faults import Fault
+from .nets import Net
+from .references import Document
+from .relations import RELATIONS, orders_of
+from .timelines import all_links, entailed_rows, false_timeline, is_minimal_clash, least_timeline
+from .units import cut, longest_utf8, source_fault, table_of
+
+LONGEST_DOCUMENT = 4_194_304
+LONGEST_EVIDENCE = 16_777_216
+LONGEST_PRINTED = 14_000_000
+
+FORMS = (
+    "spans DOC",
+    "check DOC",
+    "dates DOC",
+    "solve DOC",
+    "ask DOC X REL Y",
+    "relations DOC",
+    "canon DOC",
+    "verify DOC EVIDENCE",
+    "drill N",
+)
+DRILLS = {b"%d" % number: number for number in range(1, 513)}
+
+
+class Status(IntEnum):
+    """The statuses of *The outcome of a run*."""
+
+    DONE = 0
+    DOC_FAULT = 1
+    CLASH = 2
+    USAGE = 3
+    READ_FAULT = 4
+    WRITE_FAULT = 5
+    NO_MEMORY = 6
+    EVIDENCE_FAULT = 7
+    UNKNOWN_NAME = 8
+    TOO_LONG = 9
+
+
+@dataclass(frozen=True)
+class Outcome:
+    """How a run ends: its status, and what was written to standard output."""
+
+    status: int
+    text: bytes
+
+
+@dataclass(frozen=True)
+class Free:
+    """An outcome whose text is free: its status, and what is wrong with a text, if something is."""
+
+    status: int
+    complaint: Callable[[bytes], str | None] = field(compare=False)
+
+    def is_right(self, text: bytes) -> bool:
+        """Whether it may be the text."""
+        return self.complaint(text) is None
+
+
+Answer = Outcome | Free
+Files = Mapping[bytes, bytes]
+
+
+def lines(*texts: bytes) -> bytes:
+    """Lines, each of which ends with a line feed."""
+    return b"".join(text + b"\n" for text in texts)
+
+
+def done(text: bytes) -> Outcome:
+    """Done, with a text."""
+    return Outcome(Status.DONE, text)
+
+
+USAGE = Outcome(Status.USAGE, lines(b"usage:", *(b"tml " + form.encode() for form in FORMS)))
+READ_FAULT = Outcome(Status.READ_FAULT, b"read fault\n")
+
+
+def read(files: Files, name: bytes, limit: int, word: bytes) -> bytes | Outcome:
+    """What a file holds; or the reply where it is not there, or has more bytes than it may."""
+    if name not in files:
+        return READ_FAULT
+    return files[name] if len(files[name]) <= limit else Outcome(Status.TOO_LONG, b"too long " + word + b"\n")
+
+
+def spans(source: bytes) -> Outcome:
+    """`spans DOC`, after a document."""
+    fault = source_fault(source)
+    return Outcome(Status.DOC_FAULT, fault.line()) if fault else done(table_of(cut(source)[0]))
+
+
+def check(accepted: Accepted) -> Outcome:
+    """`check DOC`: the counts, the intervals and the links."""
+    document = accepted.document
+    words = zip((b"events", b"instances", b"timex", b"signals", b"tlinks", b"alinks", b"slinks"), document.counts.values(), strict=True)
+    counts = [b"%s %d" % pair for pair in words]
+    intervals = [b"interval %d %s" % (number, one.name) for number, one in enumerate(document.intervals)]
+    links = [b"tlink %d %s" % (number, related(document, one.left, one.relation, one.right)) for number, one in enumerate(document.links)]
+    return done(lines(b"accepted", *counts, *intervals, *links))
+
+
+def related(document: Document, left: int, relation: bytes, right: int) -> bytes:
+    """A relation between the names of two intervals."""
+    return b"%s %s %s" % (document.intervals[left].name, relation, document.intervals[right].name)
+
+
+def dates(accepted: Accepted) -> Outcome:
+    """`dates DOC`: the line of each time."""
+    times = [(one.name, one.time) for one in accepted.document.intervals if one.time]
+    return done(b"".join(line_of(name, bounds_of(time)) for name, time in times))
+
+
+def canon(accepted: Accepted) -> Outcome:
+    """`canon DOC`: the canonical text of the tree."""
+    return done(canonical_text(accepted.tree))
+
+
+def wrong_evidence(net: Net, text: bytes) -> Evidence | str:
+    """The evidence whose text it is, where a net supports it and it may be printed; else what is wrong."""
+    if len(text) > LONGEST_PRINTED:
+        return f"the text has {len(text)} bytes"
+    evidence = read_evidence(text)
+    if isinstance(evidence, int):
+        return f"it is the text of no evidence: line {evidence} is bad"
+    if not is_supported(net, evidence):
+        return f"the net does not support the evidence: {refusal(net, evidence)}"
+    return evidence
+
+
+def wrong_walk(net: Net, steps: Sequence[object]) -> str | None:
+    """What is wrong with the length of a walk."""
+    return f"a walk has {len(steps)} steps, and there are {net.points()} points" if len(steps) > 2 * net.points() else None
+
+
+def wrong_clash(net: Net, text: bytes) -> str | None:
+    """What is wrong with the text of a minimal clash (*Proved clashes*)."""
+    evidence = wrong_evidence(net, text)
+    if isinstance(evidence, str):
+        return evidence
+    if not isinstance(evidence, Clash):
+        return "it is not the text of a clash"
+    if not is_minimal_clash(net, evidence.cites):
+        return f"the links {evidence.cites} are no minimal clash"
+    for cite, spare in zip(evidence.cites, evidence.spares, strict=True):
+        if spare != least_timeline(net, [other for other in evidence.cites if other != cite]):
+            return f"the spare of link {cite} is not the least one"
+    return wrong_walk(net, evidence.walk)
+
+
+def clash(net: Net) -> Free:
+    """Clash, the text of a minimal clash, which is free."""
+    return Free(Status.CLASH, functools.partial(wrong_clash, net))
+
+
+def solve(accepted: Accepted) -> Answer:
+    """`solve DOC`: the least timeline that fits, or a minimal clash."""
+    net = accepted.document.net()
+    ranks = least_timeline(net, all_links(net))
+    return clash(net) if ranks is None else done(text_of(Timeline(ranks)))
+
+
+def relations(accepted: Accepted) -> Answer:
+    """`relations DOC`: all relations that follow, or a minimal clash."""
+    net = accepted.document.net()
+    if least_timeline(net, all_links(net)) is None:
+        return clash(net)
+    return done(lines(*(related(accepted.document, *row) for row in entailed_rows(net))))
+
+
+def wrong_proof(net: Net, left: int, relation: bytes, right: int, text: bytes) -> str | None:
+    """What is wrong with the text of a proof that a relation follows."""
+    evidence = wrong_evidence(net, text)
+    if isinstance(evidence, str):
+        return evidence
+    if not isinstance(evidence, Entailment):
+        return "it is not the text of an entailment"
+    if (evidence.left, evidence.relation, evidence.right) != (left, relation, right):
+        return "it is the proof of another relation"
+    return next((wrong for walk in evidence.walks if (wrong := wrong_walk(net, walk))), None)
+
+
+def ask(accepted: Accepted, first: bytes, relation: bytes, second: bytes) -> Answer:
+    """*What `ask` answers*: the first of the five lines that applies."""
+    left, right = accepted.document.number_of(first), accepted.document.number_of(second)
+    if left is None:
+        return Outcome(Status.UNKNOWN_NAME, b"unknown X\n")
+    if relation not in RELATIONS:
+        return Outcome(Status.UNKNOWN_NAME, b"unknown REL\n")
+    if right is None:
+        return Outcome(Status.UNKNOWN_NAME, b"unknown Y\n")
+    net = accepted.document.net()
+    if least_timeline(net, all_links(net)) is None:
+        return clash(net)
+    for order in orders_of(left, relation, right):
+        ranks = false_timeline(net, order)
+        if ranks is not None:
+            return done(text_of(Counterexample(left, relation, right, ranks)))
+    return Free(Status.DONE, functools.partial(wrong_proof, net, left, relation, right))
+
+
+def verify(accepted: Accepted, text: bytes) -> Outcome:
+    """`verify DOC EVIDENCE`: what the evidence shows, its bad line, or the part and the reason."""
+    net = accepted.document.net()
+    evidence = read_evidence(text)
+    if isinstance(evidence, int):
+        return Outcome(Status.EVIDENCE_FAULT, b"evidence line %d\n" % evidence)
+    refused = refusal(net, evidence)
+    assert (refused is None) == is_supported(net, evidence)
+    if refused:
+        return Outcome(Status.EVIDENCE_FAULT, refused_line(*refused))
+    return done(b"verified " + shown(accepted.document, evidence) + b"\n")
+
+
+def refused_line(part: int, reason: Reason) -> bytes:
+    """The line of evidence that is refused."""
+    return b"evidence part %d %s\n" % (part, reason.text())
+
+
+def shown(document: Document, evidence: Evidence) -> bytes:
+    """What supported evidence shows."""
+    if isinstance(evidence, Timeline):
+        return b"timeline"
+    if isinstance(evidence, Clash):
+        return b" ".join([b"clash", *(b"%d" % cite for cite in evidence.cites)])
+    word = b"entails " if isinstance(evidence, Entailment) else b"counter "
+    return word + related(document, evidence.left, evidence.relation, evidence.right)
+
+
+def drill(count: int) -> Outcome:
+    """*The summary of a drill*."""
+    text = drill_text(count)
+    accepted = judge_document(text)
+    assert isinstance(accepted, Accepted)
+    net = accepted.document.net()
+    ranks = least_timeline(net, all_links(net))
+    assert ranks is not None
+    numbers = [b"drill %d" % count, b"bytes %d" % len(text), b"links %d" % len(net.links)]
+    return done(lines(*numbers, b"greatest %d" % max(ranks), b"relations %d" % len(entailed_rows(net)), b"verified timeline"))
+
+
+ABOUT_DOCUMENTS: Mapping[bytes, Callable[[Accepted], Answer]] = {
+    b"check": check,
+    b"dates": dates,
+    b"solve": solve,
+    b"relations": relations,
+    b"canon": canon,
+}
+
+
+def are_texts(words: Sequence[bytes]) -> bool:
+    """Whether all words are UTF-8. The page does not say that others have no form; docs/DECISIONS.md does."""
+    return all(longest_utf8(word) == len(word) for word in words)
+
+
+def files_of(words: Sequence[bytes]) -> list[bytes] | None:
+    """*Words*: the names of the files that words of a form may come to reading, in order; none where they have no form."""
+    if not are_texts(words):
+        return None
+    match list(words):
+        case []:
+            return [b"-"]
+        case [b"spans" | b"check" | b"dates" | b"solve" | b"relations" | b"canon", name] | [b"ask", name, _, _, _]:
+            return [name]
+        case [b"verify", name, evidence]:
+            return [name, evidence]
+        case [b"drill", number] if number in DRILLS:
+            return []
+    return None
+
+
+def after_document(words: Sequence[bytes], files: Files) -> Files:
+    """What files hold once the document was read: nothing is left of standard input. The page does not say so."""
+    return {**files, b"-": b""} if words[1] == b"-" else files
+
+
+def about_document(words: Sequence[bytes], accepted: Accepted, files: Files) -> Answer:
+    """What comes next after an accepted document."""
+    if words[0] == b"ask":
+        return ask(accepted, *words[2:])
+    if words[0] == b"verify":
+        text = read(after_document(words, files), words[2], LONGEST_EVIDENCE, b"EVIDENCE")
+        return text if isinstance(text, Outcome) else verify(accepted, text)
+    return ABOUT_DOCUMENTS[words[0]](accepted)
+
+
+def answer(words: Sequence[bytes], files: Files) -> Answer:
+    """*Rows*: the answer to words over known files, where no device fails and memory suffices."""
+    names = files_of(words)
+    if names is None:
+        return USAGE
+    if not names:
+        return drill(DRILLS[words[1]])
+    source = read(files, names[0], LONGEST_DOCUMENT, b"DOC")
+    if isinstance(source, Outcome):
+        return source
+    if not words or words[0] == b"spans":
+        return spans(source)
+    accepted = judge_document(source)
+    return Outcome(Status.DOC_FAULT, accepted.line()) if isinstance(accepted, Fault) else about_document(words, accepted, files)

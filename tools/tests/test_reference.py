@@ -1,0 +1,298 @@
+"""The reference of `tools/reference`: against the worked examples of the documentation, against itself, and against `tml`."""
+
+import datetime
+import itertools
+import os
+import random
+import re
+import subprocess
+import unittest
+
+from corpus import EVENT, INSTANCE, TML, TOP, CorpusTest, document
+
+from reference import Free, Outcome, expected, judge, judge_failing
+from reference.checking import is_supported, refusal
+from reference.civil import date_of, day_of, first_week, weeks_of_year
+from reference.dates import Bounds, extent
+from reference.evidence import Clash, Counterexample, Entailment, Timeline, read_evidence, text_of
+from reference.nets import Calendar, Link, Net, Span, Via
+from reference.relations import RELATIONS, Order, holds, orders_of
+from reference.timelines import (
+    all_timelines,
+    closure,
+    least_raised,
+    least_tried,
+    orders_that_fit,
+    rows_of_closure,
+    rows_tried,
+    says,
+)
+
+COMMANDS = ("spans", "check", "dates", "solve", "relations", "canon")
+
+
+def page(name):
+    """The text of a page of the repository."""
+    with open(os.path.join(TOP, name), encoding="utf-8") as file:
+        return file.read()
+
+
+def samples():
+    """The files that the pages speak of: the samples, and what the tour makes of one of them."""
+    files = {f"samples/{name}".encode(): page(f"samples/{name}").encode() for name in os.listdir(os.path.join(TOP, "samples"))}
+    lines = page("samples/port.xml").splitlines(keepends=True)
+    mended = "".join(line.replace("DURING", "AFTER") if 'lid="l6"' in line else line for line in lines)
+    return {**files, b"mended.xml": mended.encode()}
+
+
+def blocks(text):
+    """Of each command of the examples of a page its words after `$`, and the lines that it prints."""
+    for block in re.findall(r"^```console\n(.*?)^```$", text, re.MULTILINE | re.DOTALL):
+        for example in re.split(r"^\$ ", block, flags=re.MULTILINE)[1:]:
+            command, _, printed = example.partition("\n")
+            yield command, printed
+
+
+def random_net(draw, intervals):
+    """A net of so many intervals, with few dates and links, so that some clash and some don't."""
+    bounds = []
+    for _ in range(intervals):
+        low = draw.randrange(4)
+        bounds.append(draw.choice([None, Bounds(draw.randrange(2) == 0, low, low + draw.randint(1, 3))]))
+    links = [Link(draw.randrange(intervals), draw.choice(RELATIONS), draw.randrange(intervals)) for _ in range(draw.randrange(5))]
+    return Net(tuple(bounds), tuple(links))
+
+
+class Definitions(unittest.TestCase):
+    """What the reference says in two ways is the same."""
+
+    def test_orders_say_the_relation(self):
+        for ranks, relation, (left, right) in itertools.product(all_timelines(2), RELATIONS, itertools.product(range(2), repeat=2)):
+            wanted = holds(ranks[2 * left : 2 * left + 2], relation, ranks[2 * right : 2 * right + 2])
+            self.assertEqual(all(order.is_true(ranks) for order in orders_of(left, relation, right)), wanted)
+
+    def test_timelines_that_are_tried_and_walks_say_the_same(self):
+        fitting = 0
+        for number in range(200):
+            draw = random.Random(number)
+            net = random_net(draw, draw.randint(1, 3))
+            links = [link for link in range(len(net.links)) if draw.randrange(4)]
+            order = Order(draw.randrange(net.points()), draw.randrange(net.points()), draw.randrange(2) == 0)
+            for further in ([], [order], [order.negation()]):
+                raised = least_raised(net.points(), orders_that_fit(net, links) + further)
+                self.assertEqual(raised, least_tried(net, links, further), net)
+            every = range(len(net.links))
+            if least_tried(net, every) is None:
+                continue
+            fitting += 1
+            self.assertEqual(rows_of_closure(net), rows_tried(net), net)
+            self.assertEqual(says(closure(net), order), least_tried(net, every, [order.negation()]) is None, (net, order))
+        self.assertGreater(fitting, 50)
+
+    def test_days_and_weeks_are_those_of_python(self):
+        draw = random.Random(0)
+        for number in [*range(2000), *(draw.randrange(3_652_059) for _ in range(2000)), 3_652_058]:
+            day = datetime.date.fromordinal(number + 1)
+            year, week, weekday = day.isocalendar()
+            self.assertEqual((date_of(number), day_of(day.year, day.month, day.day)), ((day.year, day.month, day.day), number))
+            self.assertEqual(first_week(year) + 7 * (week - 1) + weekday - 1, number)
+            self.assertIn(week, range(1, weeks_of_year(year) + 1))
+        self.assertEqual(date_of(3_652_059), (10_000, 1, 1))
+
+    def test_extents_are_those_of_sets_of_days(self):
+        days = [datetime.date(1979, 1, 1) + datetime.timedelta(one) for one in range(8800)]
+        texts = {shape: [day.strftime(shape) for day in days] for shape in ("%Y", "%Y-%m", "%Y-%m-%d", "%G", "%G-W%V", "%G-W%V-%u")}
+        texts["quarter"] = [f"{day.year}-Q{(day.month + 2) // 3}" for day in days]
+        chosen = {shape: random.Random(shape).sample(of_days[800:-800], 15) for shape, of_days in texts.items() if shape != "%G"}
+        values = [(value, value, shape) for shape, some in chosen.items() for value in some]
+        values += [("198X", "198", "%Y"), ("199X-02-29", "199", "%Y"), ("1988-XX-03", "1988", "%Y"), ("1988-QX", "1988", "%Y")]
+        values += [("1988-02-XX", "1988-02", "%Y-%m"), ("1988-02-03TXX", "1988-02-03", "%Y-%m-%d"), ("1988-W03-X", "1988-W03", "%G-W%V")]
+        values += [("198X-WXX", "198", "%G"), ("198X-W01-1", "198", "%G"), ("1988-WXX-3", "1988", "%G")]
+        for value, known, shape in values:
+            belonging = [day.toordinal() for day, text in zip(days, texts[shape], strict=True) if text.startswith(known)]
+            low, high = ((one - 719_163) * 86_400 for one in (min(belonging), max(belonging) + 1))
+            self.assertEqual(extent(value.encode()), (low, high), value)
+
+    def test_evidence_is_supported_where_it_is_not_refused(self):
+        for number in range(800):
+            draw = random.Random(number)
+            net = random_net(draw, draw.randint(1, 3))
+            evidence = self.evidence(draw, net)
+            self.assertEqual(is_supported(net, evidence), refusal(net, evidence) is None, (net, evidence))
+            self.assertEqual(read_evidence(text_of(evidence)), evidence)
+
+    def evidence(self, draw, net):
+        """Evidence of a random kind, which is often nearly right."""
+        ranks = draw.choice([*all_timelines(net.intervals())[:40], (0, 1), least_tried(net, range(len(net.links))) or (1, 0)])
+        left, right, relation = draw.randrange(4), draw.randrange(3), draw.choice(RELATIONS)
+        kind = draw.randrange(4)
+        if kind == 0:
+            return Timeline(ranks)
+        if kind == 1:
+            return Entailment(left, relation, right, tuple(self.steps(draw, net) for _ in orders_of(left, relation, right)))
+        if kind == 2:
+            return Counterexample(left, relation, right, ranks)
+        cites = tuple(sorted(draw.sample(range(len(net.links) + 1), draw.randrange(len(net.links) + 2))))
+        return Clash(cites, self.steps(draw, net), tuple(ranks for _ in cites))
+
+    def steps(self, draw, net):
+        """A few steps."""
+        points = net.points() + 1
+        made = (
+            lambda: Via(draw.randrange(4), draw.randrange(3)),
+            lambda: Span(draw.randrange(4)),
+            lambda: Calendar(draw.randrange(points), draw.randrange(points)),
+        )
+        return tuple(draw.choice(made)() for _ in range(draw.randrange(4)))
+
+
+class Pages(unittest.TestCase):
+    """What the pages print of their examples."""
+
+    def test_smallest_documents_of_the_page_on_faults(self):
+        found = re.findall(r"^Smallest: `([^`\n]+)`\s\(`(fault .*?)`\)", page("docs/FAULTS.md"), re.MULTILINE)
+        times = "".join(f'<TIMEX3 tid="t{one:03}" type="DATE"/>' for one in range(513))
+        links = 4097 * '<TLINK timeID="t000" relatedToTime="t000" relType="IDENTITY"/>'
+        made = [
+            ("\N{LATIN SMALL LETTER Y WITH DIAERESIS}", "fault 1 NotUtf8 0"),
+            ("", "fault 6 Unclosed 0"),
+            ("<TimeML>" + 32 * "<P>", "fault 8 TooDeep 101"),
+            (f"<TimeML>{times}</TimeML>", "fault 16 TooManyIntervals 16392"),
+            (f'<TimeML><TIMEX3 tid="t000" type="DATE"/>{links}</TimeML>', "fault 17 TooManyLinks 253992"),
+        ]
+        self.assertEqual(len({line.split()[1] for _, line in found + made}), 17)
+        for text, line in found + made:
+            self.assertEqual(expected([b"check", b"-"], {b"-": text.encode("latin-1")}), Outcome(1, f"{line}\n".encode()), text)
+
+    def test_values_of_the_page_on_dates(self):
+        rows = re.findall(r"^\| `([^`]+)` \| (.*?) \| `((?:exact|within|free|fault) ?.*?)` \|", page("docs/DATES.md"), re.MULTILINE)
+        self.assertGreater(len(rows), 50)
+        for value, words, printed in rows:
+            kind = words if words in ("TIME", "DURATION", "SET") else "DATE"
+            modifier = f' mod="{words.strip("`")}"' if "`" in words else ""
+            text = f'<TimeML><TIMEX3 tid="t" type="{kind}" value="{value}"{modifier}/></TimeML>'.encode()
+            wanted = Outcome(1, f"{printed}\n".encode()) if printed.startswith("fault") else Outcome(0, f"t {printed}\n".encode())
+            self.assertEqual(expected([b"dates", b"-"], {b"-": text}), wanted, value)
+
+    def test_commands_of_the_pages(self):
+        files, asked = samples(), 0
+        for name in ("README.md", "docs/TOUR.md", "docs/CLASHES.md"):
+            for command, printed in blocks(page(name)):
+                words = command.split()
+                if words[0] != "tml" or "|" in words or ">" in words or (words[1] != "drill" and words[2].encode() not in files):
+                    continue
+                asked += 1
+                self.is_printed([word.encode() for word in words[1:]], files, printed)
+        self.assertGreater(asked, 8)
+
+    def is_printed(self, words, files, printed):
+        """What a page prints is right; where it leaves lines out, these are not asked."""
+        wanted = expected(words, files)
+        if "...\n" not in printed:
+            self.assertIsNone(judge(words, files, Outcome(wanted.status, printed.encode())))
+        elif isinstance(wanted, Outcome):
+            pattern = ".*\n".join(map(re.escape, printed.split("...\n")))
+            self.assertRegex(wanted.text.decode(), re.compile(f"^{pattern}$", re.DOTALL))
+
+    def test_a_clash_that_a_page_prints_and_others_that_are_wrong(self):
+        files, talks = samples(), b"samples/talks.xml"
+        right = dict(blocks(page("docs/CLASHES.md")))["tml solve samples/talks.xml"].encode()
+        slips = ((b"at 4 5\n", b"at 4 6\n"), (b"cite 2\n", b""), (b"clash 3", b"clash 2"), (b"via 2 1", b"via 2 0"), (b"end\n", b"end"))
+        for words in ([b"solve", talks], [b"relations", talks], [b"ask", talks, b"t1", b"ENDS", b"t2"]):
+            self.assertIsNone(judge(words, files, Outcome(2, right)))
+            self.assertIsNotNone(judge(words, files, Outcome(0, right)))
+            for old, new in slips:
+                self.assertIn(old, right)
+                self.assertIsNotNone(judge(words, files, Outcome(2, right.replace(old, new, 1))), old)
+
+
+class Failing(unittest.TestCase):
+    """Reads that fail, and sinks with little room."""
+
+    def test_reads(self):
+        files = {b"d": b"<TimeML/>"}
+        fault = Outcome(4, b"read fault\n")
+        self.assertEqual(expected([b"check", b"e"], files), fault)
+        self.assertIsNone(judge_failing([b"spans", b"d"], files, fault, reads_failed=True, room=None))
+        self.assertIsNone(judge_failing([b"spans", b"d"], files, Outcome(0, b"0 9 empty TimeML\n"), reads_failed=True, room=None))
+        self.assertIsNotNone(judge_failing([b"spans", b"d"], files, fault, reads_failed=False, room=None))
+        self.assertIsNotNone(judge_failing([b"drill", b"1"], files, fault, reads_failed=True, room=None))
+
+    def test_room(self):
+        words, files, text = [b"spans", b"d"], {b"d": b"<TimeML/>"}, b"0 9 empty TimeML\n"
+        for room, outcome, right in (
+            (17, Outcome(0, text), True),
+            (16, Outcome(5, text[:16]), True),
+            (16, Outcome(5, text[:15]), False),
+            (16, Outcome(0, text[:16]), False),
+            (16, Outcome(0, text), False),
+            (0, Outcome(5, b""), True),
+        ):
+            self.assertEqual(judge_failing(words, files, outcome, reads_failed=False, room=room) is None, right, (room, outcome))
+        self.assertIsNone(judge_failing(words, {b"d": b"<"}, Outcome(1, b"fault"), reads_failed=False, room=5))
+        self.assertIsNone(judge_failing([b"dates", b"d"], files, Outcome(0, b""), reads_failed=False, room=0))
+
+
+class Program(CorpusTest):
+    """What `tml` prints is what the reference says."""
+
+    def is_right(self, words, files):
+        """Runs the program over files of these contents."""
+        for name, content in files.items():
+            self.write(name.decode(), content)
+        program = os.path.abspath(TML).encode()
+        run = subprocess.run([program, *words], cwd=self.folder, capture_output=True, stdin=subprocess.DEVNULL, check=False)
+        self.assertEqual(run.stderr, b"")
+        self.assertIsNone(judge(words, files, Outcome(run.returncode, run.stdout)), words)
+        return run.stdout
+
+    def test_samples(self):
+        files = samples()
+        names = sorted(name for name in files if name.endswith(b".xml"))
+        for name, command in itertools.product(names, COMMANDS):
+            text = self.is_right([command.encode(), name], files)
+            if command == "solve":
+                self.is_right([b"verify", name, b"evidence"], {**files, b"evidence": text})
+
+    def test_questions(self):
+        files = {b"d": samples()[b"samples/rates.xml"]}
+        for left, right, relation in itertools.product([b"ei1", b"t1"], [b"t0", b"ei1", b"ei2"], RELATIONS[::2]):
+            text = self.is_right([b"ask", b"d", left, relation, right], files)
+            self.is_right([b"verify", b"d", b"evidence"], {**files, b"evidence": text})
+
+    def test_words(self):
+        files = {b"d": document(EVENT + INSTANCE).encode()}
+        self.is_right([b"check", b"\xff"], files)
+        lines = ("spans", "check e", "drill 0", "drill 7", "drill 07", "ask d i1 LATER i2", "ask d i2 LATER i1", "verify d e", "canon d d")
+        for line in lines:
+            self.is_right([word.encode() for word in line.split()], files)
+
+
+class Texts(unittest.TestCase):
+    """The bad lines of texts that are evidence but for a line."""
+
+    def test_bad_lines(self):
+        right = text_of(Clash((1, 2), (Span(0), Via(1, 0)), ((0, 1), (0, 1))))
+        self.assertIsInstance(read_evidence(right), Clash)
+        lines = right.splitlines(keepends=True)
+        for number in range(len(lines)):
+            before, line, after = b"".join(lines[:number]), lines[number], b"".join(lines[number + 1 :])
+            self.assertEqual(read_evidence(before), number + 1)
+            for wrong in (line[:-1] + b"\r\n", b" " + line, b"\n" + line, line.upper() if line != line.upper() else b"x\n"):
+                self.assertEqual(read_evidence(before + wrong + after), number + 1, wrong)
+        self.assertEqual(read_evidence(right[:-1]), len(lines))
+        self.assertEqual(read_evidence(right + b"\n"), len(lines) + 1)
+        self.assertEqual(read_evidence(b"tml-evidence 1\nclash 2\ncite 4294967295\n"), 3)
+        self.assertEqual(read_evidence(b"tml-evidence 1\nclash 2\ncite 4294967294\ncite 4294967295\n"), 5)
+        self.assertEqual(read_evidence(b"tml-evidence 1\ntimeline 4294967296\n"), 2)
+        self.assertEqual(read_evidence(b"tml-evidence 1\ntimeline 01\n"), 2)
+
+    def test_free_answers_say_so(self):
+        wanted = expected([b"ask", b"d", b"i1", b"IDENTITY", b"i1"], {b"d": document(EVENT + INSTANCE).encode()})
+        self.assertIsInstance(wanted, Free)
+        self.assertTrue(wanted.is_right(b"tml-evidence 1\nentails 0 IDENTITY 0\nwalk 0\nwalk 0\nwalk 0\nwalk 0\nend\n"))
+        self.assertFalse(wanted.is_right(b"tml-evidence 1\nentails 0 SIMULTANEOUS 0\nwalk 0\nwalk 0\nwalk 0\nwalk 0\nend\n"))
+
+
+if __name__ == "__main__":
+    unittest.main()
