@@ -263,7 +263,7 @@ ABOUT_DOCUMENTS: Mapping[bytes, Callable[[Accepted], Answer]] = {
 
 
 def are_texts(words: Sequence[bytes]) -> bool:
-    """Whether all words are UTF-8. The page does not say that others have no form; docs/DECISIONS.md does."""
+    """Whether all words are UTF-8. Others have no form."""
     return all(longest_utf8(word) == len(word) for word in words)
 
 
