@@ -1,5 +1,6 @@
 //! `tml`: answers questions about TimeML documents.
 #![tactic(auto)]
+
 ghost use Rattle.std.specs.Prelude.{◌≡◌, drop};
 
 #[cfg(test)]
