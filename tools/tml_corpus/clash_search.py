@@ -62,7 +62,7 @@ class ClashSearch:
     def copies(self) -> Copies:
         """Copies of the document without some links, in which links between dates that touch are changed."""
         relations = {change.link.number: change.relation for change in self.changes}
-        return Copies(self.program, self.document, self.wording.units, relations)
+        return Copies(self.program, self.wording.source, relations)
 
     def report(self, first: Clash) -> ClashReport:
         """All that was asked for."""

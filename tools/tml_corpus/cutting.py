@@ -17,7 +17,10 @@ from .program import ACCEPTED, CannotRun, Program
 from .units import EMPTY, END, KINDS, START, TEXT, Attribute, Units, read_units
 
 NAME = rb"[A-Za-z_:\x80-\xff][A-Za-z0-9_:.\x80-\xff-]*+"
-UNIT = re.compile(rb"[^<]++|</?+%s[^<>\"']*+(?:(?:\"[^\"]*+\"|'[^']*+')[^<>\"']*+)*+>|<!--(?s:.*?)-->|<!DOCTYPE[^<>]*+>|<\?xml(?s:.*?)\?>" % NAME)
+UNIT = re.compile(
+    rb"[^<]++|</?+%s[^<>\"']*+(?:(?:\"[^\"]*+\"|'[^']*+')[^<>\"']*+)*+>"
+    rb"|<!--(?s:.*?)-->|<!DOCTYPE[^<>]*+>|<\?xml(?s:.*?)\?>" % NAME
+)
 TAG_NAME = re.compile(rb"</?+(%s)" % NAME)
 ATTRIBUTE = re.compile(rb"(%s)[ \t\r\n]*+=[ \t\r\n]*+(?:\"[^\"]*+\"|'[^']*+')" % NAME)
 BOM, COMMENT, DECLARATION, DOCTYPE = map(KINDS.index, ("bom", "comment", "declaration", "doctype"))

@@ -7,14 +7,18 @@ numbers in it; what `tml` answers is given by the numbers of the document.
 from __future__ import annotations
 
 from collections.abc import Collection, Mapping
+from functools import cached_property
+from operator import attrgetter
 
 from .clashes import Clash, is_timeline, read_clash, verify_clash, verify_timeline
 from .hitting import TooMuch
 from .edits import with_value
 from .program import CLASH, CannotRun, Program
+from .source import Source
 from .touching import relation_of
-from .units import Unit, Units
+from .units import Unit
 
+START_OF_TAG = attrgetter("start")
 INTERVAL_TAGS = ("EVENT", "SIGNAL", "MAKEINSTANCE", "TIMEX3", "TLINK")
 
 QUESTIONS = 400
@@ -25,17 +29,21 @@ BYTES = 64 * 1024 * 1024
 class Copies:
     """Copies of one accepted document, with other relations for some links, and without some links."""
 
-    def __init__(self, program: Program, document: bytes, units: Units, relations: Mapping[int, str]) -> None:
-        self.program, self.document = program, document
+    def __init__(self, program: Program, source: Source, relations: Mapping[int, str]) -> None:
+        self.program, self.document = program, source.document
         self.renew()
-        self.tags = units.opening(*INTERVAL_TAGS)
+        self.tags = sorted((tag for kind in INTERVAL_TAGS for tag in source.tags(kind)), key=START_OF_TAG)
         self.links = {place: number for number, place in enumerate(place for place, tag in enumerate(self.tags) if tag.name == "TLINK")}
-        self.parts = [document[tag.start : tag.end] if tag.kind == "empty" else written(document, tag, None) for tag in self.tags]
-        self.whole = enclosed(self.parts)
-        """All links as they are in the document: by this, clashes are verified."""
+        self.as_written = [written(self.document, tag, None) for tag in self.tags]
+        self.parts = list(self.as_written)
         for place, number in self.links.items():
             if number in relations:
-                self.parts[place] = written(document, self.tags[place], relations[number])
+                self.parts[place] = written(self.document, self.tags[place], relations[number])
+
+    @cached_property
+    def whole(self) -> bytes:
+        """All links as they are in the document: by this, clashes are verified."""
+        return enclosed(self.as_written)
 
     def renew(self) -> None:
         """Sets the bound anew."""
@@ -105,7 +113,7 @@ def written(document: bytes, tag: Unit, relation: str | None) -> bytes:
     """A tag without what it holds, and with another relation where one is given."""
     start = tag.start
     text = document[start : tag.end]
-    attribute = relation_of(tag) if relation is not None else None
+    attribute = None if relation is None else relation_of(tag)
     if attribute is not None and relation is not None:
         edit = with_value(attribute, document, relation.encode())
         text = document[start : edit.start] + edit.text + document[edit.end : tag.end]

@@ -4,6 +4,7 @@ from __future__ import annotations
 
 from collections.abc import Callable, Iterable, Iterator
 from dataclasses import dataclass
+from itertools import chain
 
 from .dates import dates_of
 from .profile import CARRIED, ROOT, TABLE
@@ -113,7 +114,9 @@ def unknown_attributes(source: Source) -> Iterator[tuple[Unit, Attribute]]:
     is_short = len(source.document) <= MANY_BYTES
     for name, tags in source.by_name.items():
         known = KNOWN[name]
-        for tag in [one for one in tags if not (is_short and known.issuperset(source.values(one)))]:
+        if is_short and known.issuperset(chain.from_iterable(map(source.values, tags))):
+            continue
+        for tag in tags:
             for attribute in tag.attributes:
                 if attribute.name not in known:
                     yield tag, attribute

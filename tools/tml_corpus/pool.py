@@ -174,7 +174,9 @@ GIVEN: list[Callable[[Any], Any]] = []
 
 def do_group(items: list[Any]) -> tuple[list[Any], float]:
     """The results of the first items of some, as many as take two moments, and the seconds that they took."""
-    [work], results, seconds, begun = GIVEN, [], 0.0, time.monotonic()
+    [work], begun = GIVEN, time.monotonic()
+    results: list[Any] = []
+    seconds = 0.0
     for item in items:
         results.append(work(item))
         seconds = time.monotonic() - begun

@@ -185,7 +185,8 @@ class Source:
         """The tags of one kind by their identifiers, which are kept."""
         found = self.known_identifiers.get(kind)
         if found is None:
-            attribute, found = IDENTIFIERS[kind], {}
+            found = {}
+            attribute = IDENTIFIERS[kind]
             for tag, values in self.valued(kind):
                 name = values.get(attribute, "")
                 if name:

@@ -48,7 +48,8 @@ def asks(relation: str) -> str:
 
 def touching_changes(wording: Wording) -> list[Change]:
     """The links of a document between dates that touch, in their order."""
-    times, changes = wording.tags["TIMEX3"], []
+    times = wording.tags["TIMEX3"]
+    changes: list[Change] = []
     for number, (left, written, right) in enumerate(wording.source.links):
         if left not in times or right not in times or (written not in GAP and written not in INCLUSIONS):
             continue
