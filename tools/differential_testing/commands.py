@@ -1,0 +1,119 @@
+"""The command line of `tools/differential`."""
+
+from __future__ import annotations
+
+import argparse
+import os
+import sys
+import tempfile
+import time
+from collections.abc import Sequence
+from pathlib import Path
+from random import Random
+
+from differential_testing import reals
+from differential_testing.keeping import keep, kept
+from differential_testing.programs import Programs, program_path, rows_path
+from differential_testing.reducing import reduced
+from differential_testing.rows import Rows
+from differential_testing.trying import Difference, Trial, batches, said_of
+
+LONG = 2000
+REDUCING_SECONDS = 8.0
+SHOWN = 20
+
+
+def parsed(words: Sequence[str]) -> argparse.Namespace:
+    """The words of the command line."""
+    parser = argparse.ArgumentParser(
+        prog="differential",
+        description="Draws cases, runs tml over them and compares what it answers with the reference. The program is that of TML, and that"
+        " of TML_ROWS for tables of cases, or those that were built. The status is 1 where there is a difference.",
+    )
+    parser.add_argument("seconds", type=float, nargs="?", default=20.0, help="how long to go on (20)")
+    parser.add_argument("seed", type=int, nargs="?", default=1, help="what decides the cases (1); their number depends on time alone")
+    parser.add_argument("--count", type=int, help="end after so many cases, in place of so many seconds")
+    parser.add_argument("--evidence", action="store_true", help="only evidence that was written and damaged, for verify")
+    parser.add_argument("--processes", action="store_true", help="a process for each case, and no tables")
+    parser.add_argument("--keep", type=Path, help="the folder for differences (a new one)")
+    parser.add_argument("--small", type=int, default=3, metavar="N", help="how many differences are reduced at once (3)")
+    parser.add_argument("--reduce", type=Path, metavar="FOLDER", help="reduce the difference that is kept in this folder, and no more")
+    return parser.parse_args(words)
+
+
+def said(difference: Difference) -> str:
+    """A difference in lines."""
+    case = difference.case
+    parts = [f"difference ({case.subject}): {difference.said}", f"  words: {list(case.words)!r}"]
+    for name, content in case.files.items():
+        parts.append(f"  file {name!r}: {content!r}" if len(content) <= LONG else f"  file {name!r}: {len(content)} bytes")
+    parts += [f"  {device!r}" for device in (case.memory, case.real) if device is not None]
+    text = difference.outcome.text
+    parts.append(f"  answered: {difference.outcome.status} {text if len(text) <= LONG else text[:LONG]!r}")
+    return "\n".join(parts)
+
+
+def report(trial: Trial, folder: Path, count: int) -> None:
+    """Keeps and prints the differences; so many of them are made small."""
+    for number, difference in enumerate(trial.tally.differences[:SHOWN]):
+        keep(difference.case, folder / str(number))
+        small = difference
+        if number < count:
+            case = reduced(difference.case, trial.differs, REDUCING_SECONDS)
+            outcome = trial.outcome(case)
+            small = Difference(case, outcome, said_of(case, outcome) or difference.said)
+            keep(case, folder / str(number) / "reduced")
+        print(f"{said(small)}\n  kept in {folder / str(number)}", flush=True)
+
+
+def reduce_kept(trial: Trial, folder: Path) -> int:
+    """Reduces the difference that a folder keeps, and prints it."""
+    case = kept(folder)
+    if not trial.differs(case):
+        print("no difference")
+        return 0
+    small = reduced(case, trial.differs, REDUCING_SECONDS * 2)
+    keep(small, folder / "reduced")
+    outcome = trial.outcome(small)
+    print(f"{said(Difference(small, outcome, said_of(small, outcome) or ''))}\n  kept in {folder / 'reduced'}")
+    return 1
+
+
+def go_on(trial: Trial, given: argparse.Namespace) -> None:
+    """Tries batch after batch until the time is over or there are cases enough."""
+    late = time.monotonic() + given.seconds
+    for number, batch in enumerate(batches(trial, given.evidence)):
+        if trial.tally.cases >= given.count if given.count is not None else time.monotonic() >= late:
+            return
+        batch(Random(f"{given.seed}/{number}"))
+
+
+def main(words: Sequence[str] | None = None) -> int:
+    """Runs the command; the status is 1 where there is a difference, and 2 where there is no program."""
+    given = parsed(sys.argv[1:] if words is None else words)
+    program, tables = program_path(), rows_path()
+    if not os.access(program, os.X_OK):
+        print(f"differential: no program {program}: build it as README.md says, or name one by TML=PROGRAM", file=sys.stderr)
+        return 2
+    has_rows = os.access(tables, os.X_OK) and not given.processes
+    if not has_rows and not given.processes:
+        print(f"no program {tables}: each case is a process, and cases of devices in memory are left out")
+    if not reals.IS_THERE:
+        print("no module z3: relations and clashes are not compared with it")
+    begun = time.monotonic()
+    with Programs(program) as programs:
+        trial = Trial(programs, Rows(tables) if has_rows else None)
+        if given.reduce is not None:
+            return reduce_kept(trial, given.reduce)
+        try:
+            go_on(trial, given)
+        except KeyboardInterrupt:
+            print("interrupted")
+        tally, seconds = trial.tally, time.monotonic() - begun
+        if tally.differences:
+            report(trial, given.keep or Path(tempfile.mkdtemp(prefix="differences-")), given.small)
+    print("; ".join(f"{subject} {number}" for subject, number in sorted(tally.subjects.items())))
+    print("statuses: " + ", ".join(f"{number} of {status}" for status, number in sorted(tally.statuses.items())))
+    speed = tally.cases / max(seconds, 0.001)
+    print(f"{tally.cases} cases, {len(tally.differences)} differences, seed {given.seed}, {speed:.0f} cases a second")
+    return 1 if tally.differences else 0

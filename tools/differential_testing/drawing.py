@@ -1,0 +1,143 @@
+"""Draws cases of all subjects. A batch of cases is decided by a seed and its number."""
+
+from __future__ import annotations
+
+import re
+from collections.abc import Callable, Sequence
+from dataclasses import dataclass, replace
+from random import Random
+
+from differential_testing.cases import DOCUMENT_LIMIT, EVIDENCE_LIMIT, STANDARD_INPUT, Case
+from differential_testing.chances import chance
+from differential_testing.devices import draw_memory, draw_real, with_memory
+from differential_testing.documents import draw_document
+from differential_testing.evidence import draw_damaged, draw_invented
+from differential_testing.faulty import draw_faulty
+from differential_testing.hostile import draw_hostile
+from differential_testing.mutated import draw_mutated, draw_noise
+from differential_testing.words import DOCUMENT, EVIDENCE, draw_ask, draw_question, draw_words
+
+
+@dataclass(frozen=True)
+class Written:
+    """Evidence that the program wrote, and the document that it is of."""
+
+    document: bytes
+    text: bytes
+
+
+def of_document(random: Random, subject: str, document: bytes) -> Case:
+    """A question about a document, which is sometimes standard input."""
+    return redirected(random, Case(subject, draw_question(random, document), {DOCUMENT: document}))
+
+
+def redirected(random: Random, case: Case) -> Case:
+    """The same, where one of its files is standard input in one case of ten."""
+    if not chance(random, 0.1) or not case.files:
+        return case
+    name = random.choice(list(case.files))
+    words = tuple(STANDARD_INPUT if word == name else word for word in case.words)
+    if case.words == (b"spans", name) and chance(random, 0.5):
+        words = ()
+    return replace(case, words=words, files={STANDARD_INPUT if key == name else key: content for key, content in case.files.items()})
+
+
+def draw_right(random: Random) -> Case:
+    """A question about a document without a fault."""
+    return of_document(random, "right", draw_document(random))
+
+
+def draw_canonical(random: Random) -> Case:
+    """The canonical text, the dates or the relations of a document without a fault."""
+    return Case("right", (random.choice((b"canon", b"dates", b"dates", b"relations")), DOCUMENT), {DOCUMENT: draw_document(random)})
+
+
+def draw_wrong(random: Random) -> Case:
+    """A question about a document with a fault that was made."""
+    document = draw_faulty(random, draw_document(random))
+    command = random.choice((b"check", b"check", b"check", b"solve", b"spans", b"canon"))
+    return redirected(random, Case("faulty", (command, DOCUMENT), {DOCUMENT: document}))
+
+
+def draw_mutation(random: Random) -> Case:
+    """A question about a document with bytes that were changed."""
+    document = draw_noise(random) if chance(random, 0.2) else draw_mutated(random, draw_document(random, random.randrange(5)))
+    command = b"spans" if chance(random, 0.4) else random.choice((b"check", b"canon", b"dates", b"solve", b"relations"))
+    return redirected(random, Case("mutated", (command, DOCUMENT), {DOCUMENT: document}))
+
+
+def draw_hard(random: Random) -> Case:
+    """A question about a hostile document."""
+    return of_document(random, "hostile", draw_hostile(random))
+
+
+def draw_long(random: Random) -> Case:
+    """A document or evidence of about as many bytes as it may have: it is one text, or white space after the root."""
+    before, after = random.choice(((b"<TimeML>", b"</TimeML>"), (b"<TimeML/>", b""), (b"", b"")))
+    fill = b"\n" if before and not after else random.choice((b"x", b" "))
+    more = random.choice((-1, 0, 1, 2))
+    if chance(random, 0.3):
+        files = {DOCUMENT: b"<TimeML/>", EVIDENCE: fill * (EVIDENCE_LIMIT + more)}
+        return redirected(random, Case("long", (b"verify", DOCUMENT, EVIDENCE), files))
+    document = before + fill * (DOCUMENT_LIMIT + more - len(before + after)) + after
+    return redirected(random, Case("long", (random.choice((b"spans", b"check", b"solve", b"dates")), DOCUMENT), {DOCUMENT: document}))
+
+
+def draw_worded(random: Random) -> Case:
+    """Words of any kind."""
+    document = draw_document(random)
+    files = {DOCUMENT: document, EVIDENCE: draw_invented(random, 3), STANDARD_INPUT: draw_noise(random)}
+    return Case("words", draw_words(random, document), files)
+
+
+SUBJECTS: Sequence[tuple[float, Callable[[Random], Case]]] = (
+    (30, draw_right),
+    (10, draw_canonical),
+    (25, draw_wrong),
+    (20, draw_mutation),
+    (6, draw_hard),
+    (6, draw_worded),
+    (0.1, draw_long),
+)
+
+
+def draw_case(random: Random) -> Case:
+    """A case of a drawn subject, which no output of the program is part of; one in twenty has devices that fail."""
+    case = random.choices([draw for _, draw in SUBJECTS], [weight for weight, _ in SUBJECTS])[0](random)
+    if chance(random, 0.07) and case.subject != "long":
+        return with_memory(case, draw_memory(random)) if all(is_utf8(word) for word in case.words) else case
+    return draw_real(random, case) if chance(random, 0.01) else case
+
+
+def is_utf8(word: bytes) -> bool:
+    """Whether a word is UTF-8, as those of a table have to be."""
+    try:
+        word.decode()
+    except UnicodeDecodeError:
+        return False
+    return True
+
+
+def draw_writing(random: Random) -> Case:
+    """A question whose answer is mostly evidence, about a small document."""
+    document = draw_document(random, random.choice((1, 2, 2, 3, 3, 3, 4, 4, 5, 6)))
+    words = (b"solve", DOCUMENT) if chance(random, 0.4) else draw_ask(random, document, right=True)
+    return Case("writing", words, {DOCUMENT: document})
+
+
+def draw_verifying(random: Random, written: Sequence[Written]) -> Case:
+    """A question to `verify`: evidence that was written, mostly damaged, of the document or of another one."""
+    one = random.choice(written)
+    document = one.document if chance(random, 0.95) else random.choice(written).document
+    if chance(random, 0.04):
+        text = one.text
+    elif chance(random, 0.08):
+        text = draw_invented(random, len(re.findall(rb"\s(?:eiid|tid)\s*=", document)))
+    else:
+        text = draw_damaged(random, one.text, [random.choice(written).text for _ in range(3)])
+    if chance(random, 0.02):
+        document = draw_faulty(random, document)
+    case = redirected(random, Case("evidence", (b"verify", DOCUMENT, EVIDENCE), {DOCUMENT: document, EVIDENCE: text}))
+    if chance(random, 0.03):
+        return with_memory(case, draw_memory(random))
+    return draw_real(random, case) if chance(random, 0.003) else case

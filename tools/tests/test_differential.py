@@ -1,0 +1,231 @@
+"""The differential tester: its cases are decided by the seed, a program that lies is found out, and differences are made small."""
+
+from __future__ import annotations
+
+import itertools
+import os
+import stat
+import subprocess
+import sys
+import tempfile
+import unittest
+from collections import Counter
+from dataclasses import replace
+from pathlib import Path
+from random import Random
+
+from corpus import TML, TOOLS
+
+sys.path.insert(0, TOOLS)
+
+from differential_testing import reals
+from differential_testing.cases import Case, Memory, Output, Real
+from differential_testing.comparing import complaint
+from differential_testing.datetimes import bounds
+from differential_testing.documents import draw_document
+from differential_testing.drawing import Written, draw_case, draw_verifying, draw_writing, draw_wrong
+from differential_testing.evidence import blocks_of, text_of
+from differential_testing.faulty import draw_too_many
+from differential_testing.keeping import keep, kept
+from differential_testing.programs import Programs, rows_path
+from differential_testing.reducing import reduced
+from differential_testing.rows import Rows, answers_of, is_for_rows, row_of
+from differential_testing.trees import tree_of
+from reference import Outcome, expected
+
+DIFFERENTIAL = os.path.join(TOOLS, "differential")
+EVIDENCE = (
+    b"tml-evidence 1\nclash 2\ncite 0\ncite 1\nwalk 4\nvia 0 0\nspan 1\nvia 1 0\nspan 0\n"
+    b"timeline 2\nat 2 3\nat 0 1\ntimeline 2\nat 0 1\nat 2 3\nend\n"
+)
+WRITTEN = [Written(b"<TimeML/>\n", EVIDENCE), Written(b"<TimeML></TimeML>", b"tml-evidence 1\ntimeline 0\nend\n")]
+KINDS = 17
+NOTHING = "no difference"
+DATES = {
+    "1998-01-07": "t exact 884131200 884217600 1998-01-07T00:00:00 1998-01-08T00:00:00",
+    "1998-01-08T18:30:00": "t exact 884284200 884284201 1998-01-08T18:30:00 1998-01-08T18:30:01",
+    "9999-12-31T24:00:00": "t exact 253402300800 253402300801 10000-01-01T00:00:00 10000-01-01T00:00:01",
+    "000X": "t within -62135596800 -61851600000 0001-01-01T00:00:00 0010-01-01T00:00:00",
+    "1998-W53-7": "t exact 915321600 915408000 1999-01-03T00:00:00 1999-01-04T00:00:00",
+    "19XX-12": "t within -2208988800 946684800 1900-01-01T00:00:00 2000-01-01T00:00:00",
+}
+
+
+class Drawing(unittest.TestCase):
+    def test_a_seed_decides_the_cases(self) -> None:
+        def drawn(seed: int) -> list[Case]:
+            random = Random(f"{seed}/0")
+            cases = [draw_case(random) for _ in range(60)] + [draw_writing(random) for _ in range(10)]
+            return cases + [draw_verifying(random, WRITTEN) for _ in range(60)]
+
+        self.assertEqual(drawn(1), drawn(1))
+        self.assertNotEqual(drawn(1), drawn(2))
+
+    def test_all_kinds_of_fault_are_drawn(self) -> None:
+        random, kinds = Random(3), Counter[bytes]()
+        many = (Case("", (b"check", b"d"), {b"d": draw_too_many(random)}) for _ in range(100))
+        for case in itertools.chain((draw_wrong(random) for _ in range(700)), many):
+            found = expected(case.words, case.files)
+            if isinstance(found, Outcome) and found.status == 1:
+                kinds[found.text.split()[2]] += 1
+            if len(kinds) == KINDS:
+                break
+        self.assertEqual(len(kinds), KINDS, kinds)
+
+    def test_documents_without_a_fault_are_mostly_accepted(self) -> None:
+        accepted = [expected((b"check", b"d"), {b"d": draw_document(Random(number))}).status == 0 for number in range(200)]
+        self.assertGreater(sum(accepted), 180)
+
+    def test_the_blocks_of_evidence_are_its_text(self) -> None:
+        self.assertEqual(text_of(blocks_of(EVIDENCE)), EVIDENCE)
+
+
+class Referees(unittest.TestCase):
+    def test_the_calendar_of_datetime(self) -> None:
+        for value, line in DATES.items():
+            found = bounds("DATE", "", value)
+            self.assertEqual(found and found.line("t"), line)
+        for kind, modifier, value in (("SET", "", "1998"), ("DATE", "APPROX", "1998"), ("DATE", "", "P3D"), ("DATE", "", "XXXX-12-25")):
+            self.assertIsNone(bounds(kind, modifier, value))
+
+    def test_trees_of_expat(self) -> None:
+        first, second = b"<!-- a --><TimeML b='\"' a=''>x&amp;<P/></TimeML>\n", b'<TimeML a="" b="&quot;">x&amp;<P></P></TimeML>'
+        self.assertEqual(tree_of(first), tree_of(second))
+        self.assertNotEqual(tree_of(first), tree_of(second.replace(b"x", b"y")))
+        self.assertIsNone(tree_of(b"<TimeML>&#0;</TimeML>"))
+
+    def test_real_numbers_of_z3(self) -> None:
+        if not reals.IS_THERE:
+            self.skipTest("no module z3")
+        document = b'<TimeML><TIMEX3 tid="a" type="SET"/><TIMEX3 tid="b" type="SET"/>%s</TimeML>'
+        link = b'<TLINK timeID="a" relatedToTime="b" relType="%s"/>'
+        case = Case("", (b"relations", b"d"), {b"d": document % (link % b"IBEFORE")})
+        self.assertIsNone(reals.complaint(case, Outcome(0, b"a IBEFORE b\n")))
+        self.assertIsNotNone(reals.complaint(case, Outcome(0, b"a BEFORE b\n")))
+        clash = replace(case, files={b"d": document % (link % b"BEFORE" + link % b"AFTER" + link % b"AFTER")})
+        self.assertIsNone(reals.complaint(clash, Outcome(2, b"cite 0\ncite 2\n")))
+        for cites in (b"cite 1\ncite 2\n", b"cite 0\ncite 1\ncite 2\n"):
+            self.assertIsNotNone(reals.complaint(clash, Outcome(2, cites)))
+
+    def test_wrong_answers_are_found(self) -> None:
+        document = b"<TimeML><P b='' a=''/></TimeML>"
+        rows = [
+            ((b"check", b"d"), Outcome(1, b"fault 3 BadMarkup 0\n")),
+            ((b"canon", b"d"), Outcome(0, b'<TimeML><P b="" a=""/></TimeML>\n')),
+            ((b"spans", b"d"), Outcome(0, b"")),
+            ((b"solve", b"d"), Outcome(0, b"tml-evidence 1\ntimeline 1\nat 0 1\nend\n")),
+            ((b"drill", b"0"), Outcome(6, b"")),
+        ]
+        for words, outcome in rows:
+            self.assertIsNotNone(complaint(Case("", words, {b"d": document}), outcome), words)
+        self.assertIsNone(complaint(Case("", (b"canon", b"d"), {b"d": document}), Outcome(0, b'<TimeML><P a="" b=""/></TimeML>\n')))
+
+    def test_devices_in_memory(self) -> None:
+        case = Case("", (b"spans", b"d"), {b"d": b"xy"})
+        rows = [
+            (Memory(reads_of=1, failing_reads=(3,)), Outcome(4, b"read fault\n"), Outcome(0, b"0 2 text\n")),
+            (Memory(reads_of=1, failing_reads=(4,)), Outcome(0, b"0 2 text\n"), Outcome(4, b"read fault\n")),
+            (Memory(room=3), Outcome(5, b"0 2"), Outcome(5, b"0 2 ")),
+            (Memory(writes_of=2, failing_writes=(2,)), Outcome(5, b"0 2 "), Outcome(0, b"0 2 text\n")),
+        ]
+        for memory, right, wrong in rows:
+            self.assertIsNone(complaint(replace(case, memory=memory), right), memory)
+            self.assertIsNotNone(complaint(replace(case, memory=memory), wrong), memory)
+
+
+class Keeping(unittest.TestCase):
+    def test_a_case_is_kept(self) -> None:
+        cases = (
+            Case("a", (b"verify", b"\xff", b""), {b"d": b"\0\xff\n", b"\xe9": b""}),
+            Case("b", (), {b"-": b""}, memory=Memory(1, 2, (3,), (4, 5), 6)),
+            Case("c", (b"check", b"d"), {}, real=Real(Output.GONE, True, (b"d",))),
+        )
+        for case in cases:
+            with tempfile.TemporaryDirectory() as folder:
+                keep(case, Path(folder) / "kept")
+                self.assertEqual(kept(Path(folder) / "kept"), case)
+
+    def test_a_case_is_made_small(self) -> None:
+        document = draw_document(Random(5), 8) + b"<TLINK needle/>" + draw_document(Random(6), 8)
+        case = Case("", (b"check", b"d"), {b"d": document, b"e": b"x"})
+        small = reduced(case, lambda other: b"needle" in other.files.get(b"d", b""), 20)
+        self.assertEqual(small.files, {b"d": b"needle"})
+
+    def test_rows_and_answers(self) -> None:
+        case = Case("", (b"ask", b"d", b"", b"a b"), {b"d": b"#x \n\xff| \n\n y", b"-": b""}, memory=Memory(room=7))
+        table = row_of(case)
+        self.assertIn(b"file d\n|\\x23x\\x20\n|\\xFF|\\x20\n|\n| y\\\nfile -\n", table)
+        self.assertIn(b"room 7\n$ tml ask d '' a\\x20b\n[255]\n", table)
+        printed = (
+            b"line 1, $ tml\nwanted\n[255]\nanswered\n|a\n|[5]\\\n[5]\ncase: 0 right, 1 WRONG\n"
+            b"line 9, $ tml x\nwanted\n[255]\nanswered\n[6]\ncase: 0 right, 1 WRONG\n"
+        )
+        self.assertEqual(answers_of(printed), [Outcome(5, b"a\n[5]"), Outcome(6, b"")])
+
+
+class Runs(unittest.TestCase):
+    def setUp(self) -> None:
+        if not os.access(TML, os.X_OK):
+            self.skipTest(f"no program {TML}: build it as README.md says, or name one by TML=PROGRAM")
+        held = tempfile.TemporaryDirectory()
+        self.addCleanup(held.cleanup)
+        self.folder = Path(held.name)
+
+    def differential(self, *words: str, tml: str = TML) -> tuple[int, str]:
+        """Runs the tool over a program, and gives its status and what it printed."""
+        environment = {**os.environ, "TML": tml, "PYTHONDONTWRITEBYTECODE": "1"}
+        command = [sys.executable, DIFFERENTIAL, "--keep", str(self.folder / "kept"), *words]
+        done = subprocess.run(command, env=environment, capture_output=True, text=True, check=False, timeout=300)
+        return done.returncode, done.stdout + done.stderr
+
+    def lying(self, body: str) -> str:
+        """A program that answers as `tml` does, but for a lie."""
+        path = self.folder / "lying"
+        path.write_text(f'#!/bin/sh\nT="{os.path.abspath(TML)}"\n{body}\nexec "$T" "$@"\n', encoding="utf-8")
+        path.chmod(stat.S_IRWXU)
+        return str(path)
+
+    def test_two_seconds_without_a_difference(self) -> None:
+        status, said = self.differential("2", "7")
+        self.assertEqual(status, 0, said)
+        self.assertRegex(said, r"(?m)^\d\d+ cases, 0 differences, seed 7,")
+
+    def test_evidence_without_a_difference(self) -> None:
+        status, said = self.differential("--evidence", "--count", "100", "2", "8")
+        self.assertEqual(status, 0, said)
+
+    def test_a_lie_about_a_fault_is_found_and_made_small(self) -> None:
+        lie = self.lying('if [ "$1" = check ]; then "$T" "$@" > out; S=$?; sed "s/^fault [4-9] /fault 3 /" out; exit $S; fi')
+        status, said = self.differential("--processes", "--count", "100", "--small", "1", "2", "1", tml=lie)
+        self.assertEqual(status, 1, said)
+        self.assertRegex(said, "fault 3 (UnknownTag|Unbalanced|Unclosed|Misplaced|TooDeep|RepeatedAttribute) ")
+        kept_files = sorted((self.folder / "kept" / "0" / "reduced").glob("file*"))
+        drawn = self.folder / "kept" / "0" / kept_files[0].name
+        self.assertLessEqual(kept_files[0].stat().st_size, drawn.stat().st_size / 2)
+        self.assertEqual(self.differential("--processes", "--reduce", str(self.folder / "kept" / "0"), tml=lie)[0], 1)
+        status, said = self.differential("--processes", "--reduce", str(self.folder / "kept" / "0"))
+        self.assertEqual((status, said.splitlines()[-1]), (0, NOTHING))
+
+    def test_a_verifier_that_believes_all_is_found(self) -> None:
+        lie = self.lying('if [ "$1" = verify ]; then echo verified timeline; exit 0; fi')
+        status, said = self.differential("--processes", "--evidence", "--count", "100", "--small", "0", "2", "1", tml=lie)
+        self.assertEqual(status, 1, said)
+        self.assertIn("verified timeline", said)
+
+    def test_another_least_timeline_is_found(self) -> None:
+        lie = self.lying('if [ "$1" = solve ]; then "$T" "$@" > out; S=$?; sed "s/^at 0 1$/at 0 2/" out; exit $S; fi')
+        status, said = self.differential("--processes", "--evidence", "--count", "100", "--small", "0", "2", "1", tml=lie)
+        self.assertEqual(status, 1, said)
+        self.assertIn("at 0 2", said)
+
+    def test_tables_and_processes_agree(self) -> None:
+        if not os.access(rows_path(), os.X_OK):
+            self.skipTest(f"no program {rows_path()}")
+        random = Random(9)
+        cases = [case for case in (draw_case(random) for _ in range(150)) if case.memory is None and is_for_rows(case)]
+        with Programs(Path(TML).absolute()) as programs:
+            self.assertEqual(Rows(rows_path()).outcomes(cases), programs.outcomes(cases))
+
+
+if __name__ == "__main__":
+    unittest.main()
