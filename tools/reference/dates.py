@@ -4,6 +4,7 @@ from __future__ import annotations
 
 from collections.abc import Mapping
 from dataclasses import dataclass
+from functools import cache
 
 from .civil import date_of, day_of, days_of_month, first_week
 from .values import fields_of
@@ -42,6 +43,7 @@ def known_part(fields: Mapping[str, bytes]) -> tuple[bytes, dict[str, int]]:
     return fields["year"], known
 
 
+@cache
 def years_that_begin(digits: bytes) -> tuple[int, int]:
     """The least and the greatest of the years from 1 to 9999 that begin with these digits."""
     years = [year for year in range(1, 10_000) if (b"%04d" % year).startswith(digits)]
