@@ -4,6 +4,7 @@ pub mod ClosedWalks
 pub mod Marks
 pub mod Soundness
 pub mod Verdicts
+pub mod Bundles
 pub mod Spares
 pub mod Cites
 pub mod Deciding
