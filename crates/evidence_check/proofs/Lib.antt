@@ -4,7 +4,6 @@ pub mod ClosedWalks
 pub mod Marks
 pub mod Soundness
 pub mod Verdicts
-pub mod Bundles
 pub mod Spares
 pub mod Cites
 pub mod Deciding
@@ -12,3 +11,4 @@ pub mod Reasons
 pub mod RanksJudged
 pub mod WalksJudged
 pub mod Judged
+pub mod Bundles
