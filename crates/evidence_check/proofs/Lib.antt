@@ -11,3 +11,4 @@ pub mod Reasons
 pub mod RanksJudged
 pub mod WalksJudged
 pub mod Judged
+pub mod Bundles

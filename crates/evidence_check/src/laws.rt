@@ -1,4 +1,5 @@
 //! Laws of the checker: public functions that do nothing, each with the law as its contract.
+ghost use Rattle.evidence_check.specs.Bundles.{OneBundleVerdict};
 ghost use Rattle.evidence_check.specs.Claims.{ShowsTruth};
 ghost use Rattle.evidence_check.specs.Refusals.{OneVerdict, SupportedOrRefused};
 ghost use Rattle.evidence_check.specs.Supported.{IsSupported};
@@ -18,4 +19,9 @@ pub fn supported_is_true()
 /// Whatever the net and the evidence are, the evidence is supported or refused.
 pub fn supported_or_refused()
     ensures { (net : PlainNet) (e : PlainEvidence) → SupportedOrRefused net e }
+{}
+
+/// Several claims are all supported, or one of them is the first whose evidence is refused, for one reason, and not both.
+pub fn one_bundle_verdict()
+    ensures { OneBundleVerdict }
 {}

@@ -47,3 +47,10 @@ pub struct Refused {
     pub part: u32,
     pub reason: Reason,
 }
+
+/// The first of several claims whose evidence is refused, counted from 0, and why it is refused.
+#[derive(Clone, Copy)]
+pub struct RefusedClaim {
+    pub claim: u32,
+    pub refused: Refused,
+}

@@ -1,4 +1,4 @@
--- The reader of whole evidence is exact.
+-- The reader of a body is exact.
 use Rattle.std.proofs.Common.{◌≡◌, ℕ, List, [], ◌∷◌, ◌++◌, length, map, Ok, refl, sym, ap, subst, ◌∙◌, arith}
 use Rattle.std.specs.Prelude.{codes}
 use Rattle.std.specs.List.{flat_map}
@@ -12,12 +12,11 @@ use Rattle.evidence_format.specs.declared.head.Head.TheVariants.{Timeline, Entai
 use Rattle.evidence_format.specs.Lines.{Lines}
 use Rattle.evidence_format.specs.Reading.{◌>>=◌, line_at}
 use Rattle.evidence_format.specs.Grammar.{Then}
-use Rattle.evidence_format.specs.Evidence.{PlainEvidence, timeline, entails, counter, clash, IsNumber, IsPair, AreRanks, AreSteps, IsWellFormed, at_line, timeline_lines, walk_lines, cite_line, body_lines, text_lines, first_line, last_line}
-use Rattle.evidence_format.specs.Words.{two_of, same_of}
+use Rattle.evidence_format.specs.Evidence.{PlainEvidence, timeline, entails, counter, clash, IsNumber, IsPair, AreRanks, AreSteps, IsWellFormed, at_line, timeline_lines, walk_lines, cite_line, body_lines}
+use Rattle.evidence_format.specs.Words.{two_of}
 use Rattle.evidence_format.specs.Forms.{head_of}
-use Rattle.evidence_format.specs.Readers.{many_at, ranks_at, timeline_at, walk_at, cites_at, rest_at, body_at, text_at}
+use Rattle.evidence_format.specs.Readers.{many_at, ranks_at, timeline_at, walk_at, cites_at, rest_at, body_at}
 use Rattle.evidence_format.proofs.Exact.{Exact, exact_then, exact_same}
-use Rattle.evidence_format.proofs.WordLaws.{same_form}
 use Rattle.evidence_format.proofs.FormLaws.{head_line, IsHead, head_form}
 use Rattle.evidence_format.proofs.ReaderLaws.{Has, AreMany, exact_form, exact_map, exact_many, exact_at, exact_timeline, exact_walk}
 use Rattle.evidence_format.proofs.CiteLaws.{HasCites, exact_cites}
@@ -178,7 +177,7 @@ exact_rest (Clash n) h = exact_clash n h
 -- ---- a body
 
 -- what stands between the first line and the last one
-exact_body : Exact (Has IsWellFormed body_lines) body_at
+pub exact_body : Exact (Has IsWellFormed body_lines) body_at
 unfolding body_at
 exact_body =
     exact_same (Then (Has IsHead (λ h. head_line h ∷ [])) HasRest) (Has IsWellFormed body_lines) (λ ls. line_at head_of ls >>= λ head. rest_at head.0 head.1)
@@ -189,37 +188,3 @@ exact_body =
     (exact_then (Has IsHead (λ h. head_line h ∷ [])) HasRest (line_at head_of) rest_at
     (exact_form head_line IsHead head_of (Timeline 0) (omega arith) head_form)
     (λ h prefix g. exact_rest h g.0))
-
--- ---- a text
-
--- one line that is known
-abbrev Fixed : List ℕ → Unit {0} → Lines → Type 0
-Fixed text = Has (λ u. Unit {0}) (λ u. text ∷ [])
-
--- a line that is known
-exact_fixed : (text : List ℕ) → Exact (Fixed text) (line_at (same_of text))
-exact_fixed text = exact_form (λ (u : Unit {0}). text) (λ u. Unit {0}) (same_of text) tt tt (same_form text)
-
--- evidence, and after its body the last line
-abbrev Closed : PlainEvidence → PlainEvidence → Lines → Type 0
-Closed e b ls = (u : Unit {0}) × Fixed last_line u ls × (b ≡ e)
-
--- evidence, and after the first line its body and the last line
-abbrev Opened : Unit {0} → PlainEvidence → Lines → Type 0
-Opened u = Then (Has IsWellFormed body_lines) Closed
-
--- evidence from its first line to its last one
-pub exact_text : Exact (Has IsWellFormed text_lines) text_at
-unfolding text_at
-exact_text =
-    exact_same (Then (Fixed first_line) Opened) (Has IsWellFormed text_lines) (λ ls. line_at (same_of first_line) ls >>= λ first. body_at first.1 >>= λ e. line_at (same_of last_line) e.1 >>= λ last. Ok (e.0, last.1))
-    (λ e ls t.
-    let c = t.4 in
-    let l = c.4 in
-    let whole : ls ≡ text_lines c.0 = t.5 ∙ ap (λ (x : Lines). x ++ t.2) t.3.1 ∙ ap (λ (x : Lines). first_line ∷ x) (c.5 ∙ ap (λ (x : Lines). x ++ c.2) c.3.1 ∙ ap (λ (x : Lines). body_lines c.0 ++ x) l.1.1) in
-    subst (λ (b : PlainEvidence). Has IsWellFormed text_lines b ls) (sym l.2) (c.3.0, whole))
-    (λ e ls h. (tt, first_line ∷ [], body_lines e ++ last_line ∷ [], (tt, refl), (e, body_lines e, last_line ∷ [], (h.0, refl), (tt, (tt, refl), refl), refl), h.1))
-    (exact_then (Fixed first_line) Opened (line_at (same_of first_line)) (λ u ls. body_at ls >>= λ e. line_at (same_of last_line) e.1 >>= λ last. Ok (e.0, last.1))
-    (exact_fixed first_line)
-    (λ u prefix g. exact_then (Has IsWellFormed body_lines) Closed body_at (λ e ls. line_at (same_of last_line) ls >>= λ last. Ok (e, last.1)) exact_body
-    (λ e prefix g. exact_map (λ u. e) (Fixed last_line) (line_at (same_of last_line)) (exact_fixed last_line))))

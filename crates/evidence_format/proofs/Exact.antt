@@ -193,7 +193,7 @@ exact_same G H p to from P = record {
 }
 
 -- all lines are read
-abbrev all_of : {A : Type 0} → (Lines → Read A) → Lines → Result A Lines
+abbrev pub all_of : {A : Type 0} → (Lines → Read A) → Lines → Result A Lines
 all_of p ls = p ls >>= λ x. ended x.0 x.1
 
 -- a value with no line after it

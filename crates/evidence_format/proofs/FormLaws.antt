@@ -13,12 +13,12 @@ use Rattle.evidence_format.specs.Evidence.{IsNumber, HasNumbers, one_number, two
 use Rattle.evidence_format.proofs.WordLaws.{IsForm, one_form, two_form, relation_form, some_is}
 
 -- a value made of another one
-some_mapped : {A B : Type 0} (f : A → B) (o : Option A) (b : B) → option_map f o ≡ Some b → (a : A) × (o ≡ Some a) × (f a ≡ b)
+pub some_mapped : {A B : Type 0} (f : A → B) (o : Option A) (b : B) → option_map f o ≡ Some b → (a : A) × (o ≡ Some a) × (f a ≡ b)
 some_mapped f (Some a) b e = (a, refl, some_is (f a) b e)
 some_mapped f None b e = absurd cc
 
 -- a value of one of two
-either : {A : Type 0} (o p : Option A) (a : A) → option_or o p ≡ Some a → (o ≡ Some a) ⊎ (p ≡ Some a)
+pub either : {A : Type 0} (o p : Option A) (a : A) → option_or o p ≡ Some a → (o ≡ Some a) ⊎ (p ≡ Some a)
 either (Some b) p a e = inl e
 either None p a e = inr e
 

@@ -9,9 +9,13 @@ pub mod Loops
 pub mod Rising
 pub mod CiteLaws
 pub mod BodyLaws
+pub mod TextLaws
+pub mod BundleLaws
 pub mod LineLaws
 pub mod Reading
 pub mod EveryText
+pub mod Claims
 pub mod Writing
 pub mod PartLaws
+pub mod BundleParts
 pub mod SmallRanks

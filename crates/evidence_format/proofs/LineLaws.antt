@@ -1,5 +1,5 @@
 -- Texts and their lines.
-use Rattle.std.proofs.Common.{◌≡◌, ℕ, ◌+◌, ◌-◌, ◌≤◌, true, false, cond, not, eqb, ◌&&◌, List, [], ◌∷◌, ◌++◌, length, map, take, Option, Some, None, Ok, Err, refl, sym, ap, ◌∙◌, append_assoc, length-append, arith, rules}
+use Rattle.std.proofs.Common.{◌≡◌, ℕ, ◌+◌, ◌-◌, ◌≤◌, true, false, cond, not, eqb, ◌&&◌, List, [], ◌∷◌, ◌++◌, length, map, take, Option, Some, None, Ok, Err, inl, inr, refl, sym, ap, subst, ◌∙◌, append_assoc, length-append, arith, rules}
 use Rattle.std.specs.Prelude.{decimal, codes}
 use Rattle.std.specs.List.{concat, flat_map, list_all, count_by, AllByRecursion}
 use Rattle.std.proofs.lemmas.List.{take_at}
@@ -15,6 +15,7 @@ use Rattle.evidence_format.specs.Words.{is_not, two_of, two_to}
 use Rattle.evidence_format.specs.Reading.{Read, taken, line_at}
 use Rattle.evidence_format.specs.Evidence.{PlainEvidence, timeline, entails, counter, clash, IsNumber, IsPair, AreRanks, HasNumbers, AreSteps, IsWellFormed, one_number, two_numbers, relation_line, at_line, timeline_lines, step_line, walk_lines, cite_line, body_lines, text_lines, last_line}
 use Rattle.evidence_format.proofs.WordLaws.{digits_differ, pair_line, two_form, two_to_again, two_to_found}
+use Rattle.evidence_format.proofs.BundleLaws.{HasEither}
 
 -- ---- the lines of a text are the text
 
@@ -153,6 +154,13 @@ body_is (clash cites walk spares) h =
 -- the lines of a text are whole
 pub text_is : (e : PlainEvidence) → IsWellFormed e → AllByRecursion IsLine (text_lines e)
 text_is e h = ((codes "tml-evidence 1", refl, refl), each_joined IsLine (body_lines e) (last_line ∷ []) (body_is e h) ((codes "end", refl, refl), tt))
+
+-- the lines of one of the versions are whole
+pub either_is : (es : List PlainEvidence) (ls : Lines) → HasEither es ls → AllByRecursion IsLine ls
+either_is es ls (inl h) =
+    let bodies = flat_are IsWellFormed body_lines body_is es (recursion_from_All IsWellFormed es h.0.0) in
+    subst (AllByRecursion IsLine) (sym h.1) ((codes "tml-evidence 2", refl, refl), (one_is (codes "claims ") (length es) refl h.0.1.1, each_joined IsLine (flat_map body_lines es) (last_line ∷ []) bodies ((codes "end", refl, refl), tt)))
+either_is es ls (inr h) = subst (AllByRecursion IsLine) (sym h.2.1) (text_is h.0 h.2.0)
 
 -- ---- the number of a line
 

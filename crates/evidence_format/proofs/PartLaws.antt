@@ -43,7 +43,7 @@ prefix_map f (v ∷ vs) (x ∷ xs) ys e =
     (v ∷ more.0, more.1, ap (λ us. v ∷ us) more.2, (let rest = more.3 in cc))
 
 -- the first lines have the first line, or are none
-prefix_cons : (xs ys : Lines) (l : List ℕ) (rest : Lines) → xs ++ ys ≡ l ∷ rest → (xs ≡ []) ⊎ ((more : Lines) × (xs ≡ l ∷ more) × (more ++ ys ≡ rest))
+pub prefix_cons : (xs ys : Lines) (l : List ℕ) (rest : Lines) → xs ++ ys ≡ l ∷ rest → (xs ≡ []) ⊎ ((more : Lines) × (xs ≡ l ∷ more) × (more ++ ys ≡ rest))
 prefix_cons [] ys l rest e = inl refl
 prefix_cons (x ∷ xs) ys l rest e = inr (xs, (let k = e in cc), (let k = e in cc))
 
@@ -78,7 +78,7 @@ one_more IsWhole lines IsBegunPart a n ls fit h = (
 )
 
 -- the first lines of parts, where those of a part may begin
-many_prefix : {A : Type 0} (IsWhole : A → Type 0) (lines : A → Lines) (IsBegunPart : Lines → Type 0) → ((a : A) (xs ys : Lines) → IsWhole a → xs ++ ys ≡ lines a → MayBegin IsBegunPart xs)
+pub many_prefix : {A : Type 0} (IsWhole : A → Type 0) (lines : A → Lines) (IsBegunPart : Lines → Type 0) → ((a : A) (xs ys : Lines) → IsWhole a → xs ++ ys ≡ lines a → MayBegin IsBegunPart xs)
     → (parts : List A) (xs ys : Lines) → AllByRecursion IsWhole parts → xs ++ ys ≡ flat_map lines parts → AreBegunParts IsWhole lines IsBegunPart (length parts) xs
 many_prefix IsWhole lines IsBegunPart each [] [] ys fit e = ([], [], All-nil IsWhole, refl, inr (refl, refl))
 many_prefix IsWhole lines IsBegunPart each [] (x ∷ xs) ys fit e = absurd cc
@@ -116,7 +116,7 @@ clash_prefix cites walk spares xs ys h e =
     ]
 
 -- the first lines of a body
-body_prefix : (e : PlainEvidence) (xs ys : Lines) → IsWellFormed e → xs ++ ys ≡ body_lines e → MayBegin IsBegunBody xs
+pub body_prefix : (e : PlainEvidence) (xs ys : Lines) → IsWellFormed e → xs ++ ys ≡ body_lines e → MayBegin IsBegunBody xs
 body_prefix (timeline ranks) xs ys h e = elim (timeline_prefix ranks xs ys h e) [ inl none ↦ inl none | inr begun ↦ inr (inl begun) ]
 body_prefix (entails a r b walks) xs ys h e =
     elim (prefix_cons xs ys (relation_line (codes "entails ") a r b) (flat_map walk_lines walks) e) [
@@ -145,18 +145,26 @@ prefix_one [] ys l e = inl refl
 prefix_one (x ∷ []) ys l e = inr cc
 prefix_one (x ∷ y ∷ xs) ys l e = absurd cc
 
+-- the first lines of lines and the last line: the first of those lines, or all
+pub closed_prefix : (xs ys ls : Lines) → xs ++ ys ≡ ls ++ last_line ∷ [] → ((m : Lines) × (xs ++ m ≡ ls)) ⊎ (xs ≡ ls ++ last_line ∷ [])
+closed_prefix xs ys ls e =
+    elim (parted xs ys ls (last_line ∷ []) e) [
+      | inl k ↦ inl (k.0, sym k.1)
+      | inr k ↦ elim (prefix_one k.0 ys last_line (sym k.2)) [
+        | inl none ↦ inl ([], append-nil xs ∙ k.1 ∙ ap (λ (x : Lines). ls ++ x) none ∙ append-nil ls)
+        | inr all ↦ inr (k.1 ∙ ap (λ (x : Lines). ls ++ x) all)
+      ]
+    ]
+
 -- lines that begin a text are begun by their parts
 begun_by_parts : (ls : Lines) → IsBegun ls → IsBegunByParts ls
 begun_by_parts ls h =
     let e = h.0 in
     elim (prefix_cons ls h.1 first_line (body_lines e ++ last_line ∷ []) h.2.1) [
       | inl none ↦ inl none
-      | inr m ↦ elim (parted m.0 h.1 (body_lines e) (last_line ∷ []) m.2) [
-        | inl k ↦ opened ls m.0 m.1 (body_prefix e m.0 k.0 h.2.0 (sym k.1))
-        | inr k ↦ elim (prefix_one k.0 h.1 last_line (sym k.2)) [
-          | inl none ↦ opened ls m.0 m.1 (body_prefix e m.0 [] h.2.0 (append-nil m.0 ∙ k.1 ∙ ap (λ (x : Lines). body_lines e ++ x) none ∙ append-nil (body_lines e)))
-          | inr all ↦ inr (inr (inr (e, h.2.0, m.1 ∙ ap (λ (x : Lines). first_line ∷ x) (k.1 ∙ ap (λ (x : Lines). body_lines e ++ x) all))))
-        ]
+      | inr m ↦ elim (closed_prefix m.0 h.1 (body_lines e) m.2) [
+        | inl k ↦ opened ls m.0 m.1 (body_prefix e m.0 k.0 h.2.0 k.1)
+        | inr all ↦ inr (inr (inr (e, h.2.0, m.1 ∙ ap (λ (x : Lines). first_line ∷ x) all)))
       ]
     ]
 
@@ -177,7 +185,7 @@ may_begin G IsBegunPart empty part ls (inl none) = subst (Begins G) (sym none) e
 may_begin G IsBegunPart empty part ls (inr begun) = part ls begun
 
 -- no intervals are a timeline
-no_intervals : AreRanks []
+pub no_intervals : AreRanks []
 no_intervals = (All-nil IsPair, omega arith)
 
 -- a begun timeline goes on to a whole one
@@ -204,7 +212,7 @@ many_fill {A} IsWhole lines some fits n parts rest whole few p =
     (parts ++ p.0 ∷ more, p.1 ++ flat_map lines more, (recursion_from_All IsWhole (parts ++ p.0 ∷ more) all, len, joined))
 
 -- begun parts go on to so many, where a begun one goes on to a whole one
-many_begin : {A : Type 0} (IsWhole : A → Type 0) (lines : A → Lines) (IsBegunPart : Lines → Type 0) (some : A) → IsWhole some → ((ls : Lines) → IsBegunPart ls → Begins (Has IsWhole lines) ls)
+pub many_begin : {A : Type 0} (IsWhole : A → Type 0) (lines : A → Lines) (IsBegunPart : Lines → Type 0) (some : A) → IsWhole some → ((ls : Lines) → IsBegunPart ls → Begins (Has IsWhole lines) ls)
     → (n : ℕ) (ls : Lines) → AreBegunParts IsWhole lines IsBegunPart n ls → Begins (AreMany IsWhole lines n) ls
 many_begin IsWhole lines IsBegunPart some fits part n ls h =
     elim h.4 [
@@ -246,7 +254,7 @@ clash_begins n ls small (inr (inr h)) =
     subst (Begins (HasClash n)) (sym h.5) (then_begins (HasCites n) (HasWalkAndSpares n) h.0 (map cite_line h.0) h.1 (h.2, h.3, refl) proof)
 
 -- a begun body goes on to a whole one
-body_begins : (ls : Lines) → IsBegunBody ls → Begins (Has IsWellFormed body_lines) ls
+pub body_begins : (ls : Lines) → IsBegunBody ls → Begins (Has IsWellFormed body_lines) ls
 body_begins ls (inl h) =
     let t = timeline_begins ls h in
     (timeline t.0, t.1, (t.2.0, t.2.1))

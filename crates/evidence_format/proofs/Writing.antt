@@ -1,10 +1,14 @@
 -- The bytes that are written are those of the lines.
-use Rattle.std.proofs.Common.{◌≡◌, ℕ, List, [], ◌∷◌, ◌++◌, length, map, refl, ap, ◌∙◌}
+use Rattle.std.proofs.Common.{◌≡◌, ℕ, List, [], ◌∷◌, ◌++◌, length, map, refl, sym, ap, subst, ◌∙◌}
 use Rattle.std.specs.Prelude.{codes}
-use Rattle.std.specs.List.{concat, flat_map}
+use Rattle.std.specs.List.{All, concat, flat_map}
+use Rattle.std.proofs.lemmas.List.{length-map}
 use Rattle.net_core.specs.declared.step.Step.{Step}
+use Rattle.evidence_format.specs.declared.evidence.Evidence.{Evidence}
+use Rattle.evidence_format.specs.View.{plain}
 use Rattle.evidence_format.specs.Lines.{Lines}
-use Rattle.evidence_format.specs.Evidence.{PlainEvidence, timeline, entails, counter, clash, at_line, timeline_lines, step_line, walk_lines, cite_line, body_lines, text_lines, one_number, first_line, last_line}
+use Rattle.evidence_format.specs.Evidence.{PlainEvidence, timeline, entails, counter, clash, IsWellFormed, at_line, timeline_lines, step_line, walk_lines, cite_line, body_lines, text_lines, one_number, first_line, last_line}
+use Rattle.evidence_format.specs.Bundles.{IsBundleText, IsCount, bundle_line, claims_line, bundle_lines}
 use Rattle.evidence_format.specs.Written.{timeline_bytes, walk_bytes, body_bytes}
 use Rattle.evidence_format.proofs.LineLaws.{concat_append}
 
@@ -39,6 +43,20 @@ body_is (clash cites walk spares) =
     let proof = joined (walk_lines walk) (flat_map timeline_lines spares) (walk_bytes walk) (flat_map timeline_bytes spares) (walk_is walk) (flat timeline_lines timeline_bytes timeline_is spares) in
     let all = joined (map cite_line cites) (walk_lines walk ++ flat_map timeline_lines spares) (flat_map cite_line cites) (walk_bytes walk ++ flat_map timeline_bytes spares) (mapped cite_line cites) proof in
     ap (λ (x : List ℕ). one_number (codes "clash ") (length cites) ++ x) all
+
+-- the lines of a text of version 2, joined
+pub bundle_is : (es : List PlainEvidence) → concat (bundle_lines es) ≡ bundle_line ++ (claims_line (length es) ++ (flat_map body_bytes es ++ last_line))
+bundle_is es = rw (concat_append (flat_map body_lines es) (last_line ∷ []), flat body_lines body_bytes body_is es) refl
+
+-- the bytes of claims are their text of version 2
+pub bundle_text : (claims slice : List Evidence) (out : List ℕ) → All IsWellFormed (map plain claims) → IsCount (length claims) → slice ≡ claims
+    → out ≡ bundle_line ++ (claims_line (length slice) ++ (flat_map body_bytes (map plain slice) ++ last_line)) → IsBundleText (map plain claims) out
+bundle_text claims slice out good count same bytes =
+    let es = map plain claims in
+    let len : length es ≡ length claims = length-map claims plain in
+    let all : out ≡ bundle_line ++ (claims_line (length claims) ++ (flat_map body_bytes es ++ last_line)) =
+    subst (λ (xs : List Evidence). out ≡ bundle_line ++ (claims_line (length xs) ++ (flat_map body_bytes (map plain xs) ++ last_line))) same bytes in
+    ((good, subst IsCount (sym len) count), all ∙ ap (λ (k : ℕ). bundle_line ++ (claims_line k ++ (flat_map body_bytes es ++ last_line))) (sym len) ∙ sym (bundle_is es))
 
 -- the lines of a text, joined
 pub text_is : (e : PlainEvidence) → concat (text_lines e) ≡ first_line ++ (body_bytes e ++ last_line)

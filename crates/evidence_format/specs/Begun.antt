@@ -16,8 +16,12 @@ abbrev pub IsBegun : Lines → Type 0
 IsBegun ls = Begins HasLines ls
 
 -- the lines before it are begun; with it they are not, or there is no further line
+abbrev pub IsBadLineBy : (Lines → Type 0) → List ℕ → ℕ → Type 0
+IsBadLineBy AreBegun text line = (good : Lines) × (rest : Lines) × (lines_of text ≡ good ++ rest) × (line ≡ length good + 1) × AreBegun good × ((l : List ℕ) (more : Lines) → rest ≡ l ∷ more → AreBegun (good ++ l ∷ []) → ⊥)
+
+-- the first line with which the lines so far begin no text of evidence
 abbrev pub IsBadLine : List ℕ → ℕ → Type 0
-IsBadLine text line = (good : Lines) × (rest : Lines) × (lines_of text ≡ good ++ rest) × (line ≡ length good + 1) × IsBegun good × ((l : List ℕ) (more : Lines) → rest ≡ l ∷ more → IsBegun (good ++ l ∷ []) → ⊥)
+IsBadLine text line = IsBadLineBy IsBegun text line
 
 -- this evidence was read, unless out of memory
 abbrev pub Reads : PlainEvidence → Result Evidence ReadEvidence → Type 0

@@ -1,11 +1,15 @@
--- What a line says: a step, a cite, or the kind of evidence.
+-- What a line says: a step, a cite, the kind of evidence, how many claims there are, or the version.
 use Rattle.std.specs.Prelude.{ℕ, ◌+◌, ◌^◌, ◌&&◌, nat_le, nat_lt, List, Option, Some, None, option_map, if◌then◌else◌, codes}
 use Rattle.std.specs.Option.{option_or}
 use Rattle.net_core.specs.declared.step.Step.{Step}
 use Rattle.net_core.specs.declared.step.Step.TheVariants as step
 use Rattle.evidence_format.specs.declared.head.Head.{Head}
 use Rattle.evidence_format.specs.declared.head.Head.TheVariants as head
-use Rattle.evidence_format.specs.Words.{◌>>=◌, one_of, two_of, relation_of}
+use Rattle.evidence_format.specs.declared.versions.Version.{Version}
+use Rattle.evidence_format.specs.declared.versions.Version.TheVariants as version
+use Rattle.evidence_format.specs.Evidence.{first_line}
+use Rattle.evidence_format.specs.Bundles.{bundle_line}
+use Rattle.evidence_format.specs.Words.{◌>>=◌, one_of, two_of, relation_of, same_of}
 
 -- the step of a line
 unfoldable pub step_of : List ℕ → Option Step
@@ -27,3 +31,15 @@ head_of line =
     (option_or (option_map (λ x. head.Entails x.0 x.1 x.2) (relation_of (codes "entails ") line))
     (option_or (option_map (λ x. head.Counter x.0 x.1 x.2) (relation_of (codes "counter ") line))
     (option_map (λ n. head.Clash n) (one_of (codes "clash ") line))))
+
+-- how many claims there are, one at least, by the line that says it
+unfoldable pub claims_of : List ℕ → Option ℕ
+claims_of line = do
+  n ← one_of (codes "claims ") line
+  if nat_lt 0 n then Some n else None
+
+-- the version, by the line that names it
+unfoldable pub version_of : List ℕ → Option Version
+version_of line =
+    option_or (option_map (λ u. version.One) (same_of first_line line))
+    (option_map (λ u. version.Two) (same_of bundle_line line))

@@ -4,6 +4,7 @@ pub mod Forms
 pub mod Evidence
 pub mod Begun
 pub mod Parts
+pub mod Bundles
 pub mod Grammar
 pub mod Reading
 pub mod Readers

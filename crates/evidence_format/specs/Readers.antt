@@ -4,10 +4,12 @@ use Rattle.net_core.specs.Atoms.{atom_count}
 use Rattle.net_core.specs.declared.step.Step.{Step}
 use Rattle.evidence_format.specs.declared.head.Head.{Head}
 use Rattle.evidence_format.specs.declared.head.Head.TheVariants.{Timeline, Entails, Counter, Clash}
+use Rattle.evidence_format.specs.declared.versions.Version.{Version}
+use Rattle.evidence_format.specs.declared.versions.Version.TheVariants.{One, Two}
 use Rattle.evidence_format.specs.Lines.{Lines}
 use Rattle.evidence_format.specs.Evidence.{PlainEvidence, timeline, entails, counter, clash, first_line, last_line}
 use Rattle.evidence_format.specs.Words.{one_of, two_of, same_of}
-use Rattle.evidence_format.specs.Forms.{step_of, cite_of, head_of}
+use Rattle.evidence_format.specs.Forms.{step_of, cite_of, head_of, claims_of, version_of}
 use Rattle.evidence_format.specs.Reading.{Read, ◌>>=◌, line_at, ended}
 
 -- n values, one after another
@@ -66,14 +68,35 @@ body_at ls = do
   head ← line_at head_of ls
   rest_at head.0 head.1
 
-unfoldable pub text_at : Lines → Read PlainEvidence
-text_at ls = do
-  first ← line_at (same_of first_line) ls
-  e ← body_at first.1
-  last ← line_at (same_of last_line) e.1
-  Ok (e.0, last.1)
+-- the last line, with nothing after it
+unfoldable pub end_at : Lines → Result (Unit {0}) Lines
+end_at ls = do
+  last ← line_at (same_of last_line) ls
+  ended last.0 last.1
 
+-- a text of version 1
 unfoldable pub evidence_at : Lines → Result PlainEvidence Lines
 evidence_at ls = do
-  e ← text_at ls
-  ended e.0 e.1
+  first ← line_at (same_of first_line) ls
+  e ← body_at first.1
+  end ← end_at e.1
+  Ok e.0
+
+-- how many bodies there are: in version 2 a line says it
+unfoldable pub count_at : Version → Lines → Read ℕ
+count_at One ls = Ok (1, ls)
+count_at Two ls = line_at claims_of ls
+
+-- how many bodies there are, by the lines before them
+unfoldable pub opening_at : Lines → Read ℕ
+opening_at ls = do
+  version ← line_at version_of ls
+  count_at version.0 version.1
+
+-- a text of either version
+unfoldable pub bundle_at : Lines → Result (List PlainEvidence) Lines
+bundle_at ls = do
+  n ← opening_at ls
+  es ← many_at body_at n.0 n.1
+  end ← end_at es.1
+  Ok es.0

@@ -1,12 +1,13 @@
 //! The lines of a text.
 ghost use Rattle.evidence_format.specs.Given.{Gives};
 ghost use Rattle.evidence_format.specs.Lines.{lines_of};
+ghost use Rattle.evidence_format.specs.Readers as readers;
 ghost use Rattle.evidence_format.specs.Reading.{line_at};
 ghost use Rattle.evidence_format.specs.Words as words;
 ghost use Rattle.std.specs.Prelude.{MatchOption, [], ◌∷◌, ◌≡◌};
 
 use crate::stop::Stop;
-use crate::words::{len_to, one_of};
+use crate::words::{is_same, len_to, one_of};
 
 /// The first line with its LF, where it has one, and what follows it. None comes exactly where the text is empty.
 pub fn next_line(text: &[u8]) -> Option<(&[u8], &[u8])>
@@ -24,10 +25,22 @@ pub fn same_at<'t>(wanted: &[u8], text: &'t [u8]) -> Result<((), &'t [u8]), Stop
     ensures { Gives (λ x. (x.0, lines_of x.1.now)) result (line_at (words.same_of wanted.now) (lines_of text.now)) }
 {
     let (line, rest) = next_line(text).ok_or(Stop::BadLine(text))?;
-    if line == wanted {
+    if is_same(line, wanted) {
         Ok(((), rest))
     } else {
         Err(Stop::BadLine(text))
+    }
+}
+
+/// Passes the last line, with nothing after it.
+#[tactic(auto, unfolding(crate::specs::Readers::end_at))]
+pub fn end_at(text: &[u8]) -> Result<(), Stop<'_>>
+    ensures { Gives (λ x. x) result (readers.end_at (lines_of text.now)) }
+{
+    let (_, rest) = same_at(b"end\n", text)?;
+    match next_line(rest) {
+        None => Ok(()),
+        Some(_) => Err(Stop::BadLine(rest)),
     }
 }
 

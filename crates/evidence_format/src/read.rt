@@ -11,7 +11,7 @@ ghost use Rattle.std.specs.Prelude.{◌≡◌, ◌≤◌, ◌+◌, ◌-◌, leng
 use crate::Evidence;
 use crate::cites::cites_at;
 use crate::head::{Head, head_at};
-use crate::lines::{next_line, same_at};
+use crate::lines::{end_at, same_at};
 use crate::stop::Stop;
 use crate::timeline::{ranks_at, timeline_at, timelines_at};
 use crate::walks::{walk_at, walks_at};
@@ -52,27 +52,15 @@ pub fn read_evidence(alloc: Global, text: &[u8]) -> Result<Evidence, ReadEvidenc
 fn evidence_at(alloc: Global, text: &[u8]) -> Result<Evidence, Stop<'_>>
     ensures { Gives plain result (readers.evidence_at (lines_of text.now)) }
 {
-    let (evidence, rest) = text_at(alloc, text)?;
-    match next_line(rest) {
-        None => Ok(evidence),
-        Some(_) => Err(Stop::BadLine(rest)),
-    }
-}
-
-/// Evidence from its first line to its last one, and what follows it.
-#[tactic(auto, unfolding(crate::specs::Readers::text_at))]
-fn text_at<'t>(alloc: Global, text: &'t [u8]) -> Result<(Evidence, &'t [u8]), Stop<'t>>
-    ensures { Gives (λ x. (plain x.0, lines_of x.1.now)) result (readers.text_at (lines_of text.now)) }
-{
     let (_, rest) = same_at(b"tml-evidence 1\n", text)?;
     let (evidence, rest) = body_at(alloc, rest)?;
-    let (_, rest) = same_at(b"end\n", rest)?;
-    Ok((evidence, rest))
+    end_at(rest)?;
+    Ok(evidence)
 }
 
 /// What stands between the first line and the last one.
 #[tactic(auto, unfolding(crate::specs::Readers::body_at))]
-fn body_at<'t>(alloc: Global, text: &'t [u8]) -> Result<(Evidence, &'t [u8]), Stop<'t>>
+pub fn body_at<'t>(alloc: Global, text: &'t [u8]) -> Result<(Evidence, &'t [u8]), Stop<'t>>
     ensures { Gives (λ x. (plain x.0, lines_of x.1.now)) result (readers.body_at (lines_of text.now)) }
 {
     let (head, rest) = head_at(text)?;
@@ -112,7 +100,7 @@ fn rest_at<'t>(alloc: Global, head: Head, text: &'t [u8]) -> Result<(Evidence, &
 }
 
 /// The number, counted from 1, of the line at which the rest of a text begins.
-fn line_of(text: &[u8], rest: &[u8]) -> u32
+pub fn line_of(text: &[u8], rest: &[u8]) -> u32
     requires within { length rest.now ≤ length text.now }
     requires limit { length text.now ≤ 67108864 }
     ensures { result ≡ count_by is_lf (take (length text.now - length rest.now) text.now) + 1 }

@@ -1,6 +1,7 @@
 //! The words of one line.
 ghost use Rattle.evidence_format.specs.Words as words;
 ghost use Rattle.std.specs.List.{prefix_len};
+ghost use Rattle.std.specs.Str.{bytes_eq};
 ghost use Rattle.std.specs.Prelude.{◌≡◌, ◌≤◌, length, option_map};
 
 use net_core::{Rel, rel_of};
@@ -74,6 +75,13 @@ fn word_to(stop: u8, bytes: &[u8]) -> Option<(&[u8], &[u8])>
         [] => None,
         [_, rest @ ..] => Some((word, rest)),
     }
+}
+
+/// Whether a line is this one.
+pub fn is_same(line: &[u8], wanted: &[u8]) -> bool
+    ensures { result ≡ bytes_eq line.now wanted.now }
+{
+    line == wanted
 }
 
 /// What follows a keyword. It stands in its callers, where the keyword is a constant.

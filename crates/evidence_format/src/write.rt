@@ -1,4 +1,5 @@
 //! Writing evidence.
+ghost use Rattle.evidence_format.specs.Bundles.{IsBundleText, IsCount, bundle_line, claims_line};
 ghost use Rattle.evidence_format.specs.Evidence as lines;
 ghost use Rattle.evidence_format.specs.Evidence.{AreRanks, IsNumber, IsText, IsWellFormed, first_line, last_line};
 ghost use Rattle.evidence_format.specs.View.{plain};
@@ -7,7 +8,7 @@ ghost use Rattle.net_core.specs.Ranks.{pairs_of};
 ghost use Rattle.std.specs.List.{All, flat_map};
 ghost use Rattle.std.specs.Prelude.{◌≡◌, ◌++◌, ◌∷◌, [], codes, decimal, length, map, IfOk, OnOk};
 
-use crate::Evidence;
+use crate::{Bundle, Evidence};
 use itoa::write_digits;
 use net_core::{List, Memory, Ranks, Rel, Step, Walk};
 use std::alloc::{AllocError, Global};
@@ -30,6 +31,21 @@ pub fn write_evidence(alloc: Global, evidence: &Evidence) -> Result<List<u8>, Me
     }
 }
 
+/// The text of version 2 of well-formed claims.
+///
+/// # Errors
+///
+/// Out of memory.
+pub fn write_bundle(alloc: Global, bundle: &Bundle) -> Result<List<u8>, Memory>
+    requires { All IsWellFormed (map plain bundle.now) }
+    ensures { IfOk result (λ out. IsBundleText (map plain bundle.now) out) }
+{
+    match bundle_bytes(alloc, bundle.as_slice()) {
+        Ok(out) => Ok(List::from_vec(out)),
+        Err(_) => Err(Memory),
+    }
+}
+
 fn text_bytes(alloc: Global, evidence: &Evidence) -> Result<Vec<u8>, AllocError>
     requires { IsWellFormed (plain evidence.now) }
     ensures { IfOk result (λ out. out.items ≡ first_line ++ (body_bytes (plain evidence.now) ++ last_line)) }
@@ -38,6 +54,28 @@ fn text_bytes(alloc: Global, evidence: &Evidence) -> Result<Vec<u8>, AllocError>
     push_body(&mut out, evidence)?;
     out.extend_from_slice(b"end\n")?;
     Ok(out)
+}
+
+fn bundle_bytes(alloc: Global, claims: &[Evidence]) -> Result<Vec<u8>, AllocError>
+    requires good { All IsWellFormed (map plain claims.now) }
+    requires count { IsCount (length claims.now) }
+    ensures { IfOk result (λ out. out.items ≡ bundle_line ++ (claims_line (length claims.now) ++ (flat_map body_bytes (map plain claims.now) ++ last_line))) }
+{
+    let mut out = Vec::from_slice(alloc, b"tml-evidence 2\n")?;
+    push_one(&mut out, b"claims ", claims.len() as u32)?;
+    push_bodies(&mut out, claims)?;
+    out.extend_from_slice(b"end\n")?;
+    Ok(out)
+}
+
+fn push_bodies(out: &mut Vec<u8>, claims: &[Evidence]) -> Result<(), AllocError>
+    requires { All IsWellFormed (map plain claims.now) }
+    ensures { OnOk result (out.new.items ≡ out.old.items ++ flat_map body_bytes (map plain claims.now)) }
+{
+    for evidence in claims {
+        push_body(out, evidence)?;
+    }
+    Ok(())
 }
 
 /// Appends what stands between the first line and the last one.

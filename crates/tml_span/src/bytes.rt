@@ -53,8 +53,8 @@ pub fn white_len(bytes: &[u8]) -> usize
     bytes.iter().take_while(|b| is_white(**b)).count()
 }
 
-/// Kept out of line: inlined, it makes `check` 5 to 8 parts in a hundred slower on deepest nesting of long names.
-#[inline(never)]
+/// It stands in its callers: most names are short, and a call would take as long as the name.
+#[inline(always)]
 pub fn name_len(bytes: &[u8]) -> usize
     ensures within { result ≤ length bytes.now }
     ensures len { result ≡ prefix_len kinds.is_name_byte bytes.now }

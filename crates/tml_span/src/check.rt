@@ -67,7 +67,8 @@ fn check_tag(place: u32, bytes: &[u8]) -> Option<Checked<'_>>
     Some(Checked { bad, rest })
 }
 
-/// A unit and what follows it.
+/// A unit and what follows it. It stands in its callers, so that of most units nothing is made.
+#[inline(always)]
 fn check_found<'s>(found: (Unit<'s>, &'s [u8])) -> Checked<'s>
     requires { IsPlaced (unit_of found.0) }
     ensures bad { FirstBadIn (pieces_of (unit_of found.entry.0)) result.bad }

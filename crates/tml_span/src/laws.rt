@@ -31,7 +31,8 @@ pub fn slices_are_in_source()
     ensures { SlicesAreInSource }
 {}
 
-/// Each name, value, text and comment of a source that has no fault is UTF-8 itself, and no reference in it is bad.
+/// Each name, value, text and comment of a source that has no fault is UTF-8 itself, and no reference in a value or a text
+/// is bad.
 pub fn units_are_good()
     ensures { UnitsAreGood }
 {}

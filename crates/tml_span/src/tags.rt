@@ -72,7 +72,9 @@ fn value_at(bytes: &[u8]) -> Option<(Quote, &[u8], &[u8])>
     Some((quote, value, rest))
 }
 
-/// An attribute after white space, and what follows it.
+/// An attribute after white space, and what follows it. It stands in its callers, so that what it answers need not be
+/// copied from it.
+#[inline(always)]
 #[tactic(auto, unfolding(crate::specs::Reading::attribute_at))]
 pub fn attribute_at<'s>(place: u32, bytes: &'s [u8]) -> Option<(Attr<'s>, &'s [u8])>
     requires { place + length bytes.now < 2 ^ 32 }
@@ -177,7 +179,8 @@ pub fn tag_at<'s>(
     Ok(Some((Unit::StartTag { span, name, attrs }, rest)))
 }
 
-/// An end tag after its `</`.
+/// An end tag after its `</`. It stands in its callers, of which one wants only where the tag ends.
+#[inline(always)]
 pub fn end_tag_at<'s>(place: u32, bytes: &'s [u8]) -> Option<(Unit<'s>, &'s [u8])>
     requires { place + length bytes.now + 2 < 2 ^ 32 }
     ensures unit { ReadsUnit place (codes "</" ++ bytes.now) result }

@@ -47,13 +47,13 @@ both_false r false to from = to refl
 both_false false true to from = absurd (true≢false (from refl))
 both_false true true to from = refl
 
--- names in another order tell whether one is repeated
+-- names in another order repeat one exactly where these do
 pub repeats_by_names : (attrs : List Attr) (sorted : List Name) (r : Bool) → IsPermutation (map name_of attrs) sorted → (r ≡ false) ↔ IsDistinct are_equal sorted → r ≡ is_repeated (map attribute_of attrs)
-repeats_by_names attrs sorted r moved told =
+repeats_by_names attrs sorted r moved distinct =
     let names = map name_of attrs in
     let flips : (a b : Name) → are_equal a b ≡ are_equal b a = λ a b. nat_list_eq_equiv.symm a.now b.now in
-    both_false r (is_repeated (map attribute_of attrs)) (λ h. told.1 (IsDistinct-IsPermutation are_equal flips names sorted moved (distinct_names attrs h)))
-    (λ h. distinct_names_back attrs (IsDistinct-IsPermutation are_equal flips sorted names (IsPermutation-sym names sorted moved) (told.0 h)))
+    both_false r (is_repeated (map attribute_of attrs)) (λ h. distinct.1 (IsDistinct-IsPermutation are_equal flips names sorted moved (distinct_names attrs h)))
+    (λ h. distinct_names_back attrs (IsDistinct-IsPermutation are_equal flips sorted names (IsPermutation-sym names sorted moved) (distinct.0 h)))
 
 -- ---- a sorted list
 

@@ -1,5 +1,7 @@
 //! Typed tags: each attribute that means something is read once, in the order of the table. What has to be there comes
-//! first, then what each value may be, then that not both of a pair are there, and last whether a date exists.
+//! first, then what each value may be, then that not both of a pair are there, and last whether a date exists. The tags
+//! of each kind are typed by a function that is kept out of line, since in one frame they would pay for each other's
+//! values.
 ghost use Rattle.std.specs.Prelude.{◌≡◌, [], ◌∷◌, map, true, false, IfOk, IfErr, IfSome, IsNone, OnOk};
 ghost use Rattle.tml_tree.specs.declared.tag_name.TagName.TheVariants as tag;
 ghost use Rattle.tml_types.specs.Reading.{attrs_of};
@@ -19,6 +21,7 @@ use timex_value::TimexKind;
 use tml_span::{List, Memory};
 use tml_tree::TagName;
 
+#[inline(never)]
 fn event<'s>(of: &Attributes<'_, 's>) -> Result<TypedTag<'s>, TypeFault>
     ensures ok { IfOk result (λ t. Reads tag.Event (attrs_of of.now) of.now.place (typed_of t)) }
     ensures err { IfErr result (λ e. Refuses tag.Event (attrs_of of.now) of.now.place e) }
@@ -35,6 +38,7 @@ fn event<'s>(of: &Attributes<'_, 's>) -> Result<TypedTag<'s>, TypeFault>
     })
 }
 
+#[inline(never)]
 fn instance<'s>(of: &Attributes<'_, 's>) -> Result<TypedTag<'s>, TypeFault>
     ensures ok { IfOk result (λ t. Reads tag.MakeInstance (attrs_of of.now) of.now.place (typed_of t)) }
     ensures err { IfErr result (λ e. Refuses tag.MakeInstance (attrs_of of.now) of.now.place e) }
@@ -56,6 +60,7 @@ fn instance<'s>(of: &Attributes<'_, 's>) -> Result<TypedTag<'s>, TypeFault>
     })
 }
 
+#[inline(never)]
 fn timex<'s>(of: &Attributes<'_, 's>) -> Result<TypedTag<'s>, TypeFault>
     ensures ok { IfOk result (λ t. Reads tag.Timex3 (attrs_of of.now) of.now.place (typed_of t)) }
     ensures err { IfErr result (λ e. Refuses tag.Timex3 (attrs_of of.now) of.now.place e) }
@@ -87,6 +92,7 @@ fn timex<'s>(of: &Attributes<'_, 's>) -> Result<TypedTag<'s>, TypeFault>
     })
 }
 
+#[inline(never)]
 fn signal<'s>(of: &Attributes<'_, 's>) -> Result<TypedTag<'s>, TypeFault>
     ensures ok { IfOk result (λ t. Reads tag.Signal (attrs_of of.now) of.now.place (typed_of t)) }
     ensures err { IfErr result (λ e. Refuses tag.Signal (attrs_of of.now) of.now.place e) }
@@ -100,6 +106,7 @@ fn signal<'s>(of: &Attributes<'_, 's>) -> Result<TypedTag<'s>, TypeFault>
     })
 }
 
+#[inline(never)]
 fn tlink<'s>(of: &Attributes<'_, 's>) -> Result<TypedTag<'s>, TypeFault>
     ensures ok { IfOk result (λ t. Reads tag.Tlink (attrs_of of.now) of.now.place (typed_of t)) }
     ensures err { IfErr result (λ e. Refuses tag.Tlink (attrs_of of.now) of.now.place e) }
@@ -130,6 +137,7 @@ fn tlink<'s>(of: &Attributes<'_, 's>) -> Result<TypedTag<'s>, TypeFault>
     })
 }
 
+#[inline(never)]
 fn alink<'s>(of: &Attributes<'_, 's>) -> Result<TypedTag<'s>, TypeFault>
     ensures ok { IfOk result (λ t. Reads tag.Alink (attrs_of of.now) of.now.place (typed_of t)) }
     ensures err { IfErr result (λ e. Refuses tag.Alink (attrs_of of.now) of.now.place e) }
@@ -151,6 +159,7 @@ fn alink<'s>(of: &Attributes<'_, 's>) -> Result<TypedTag<'s>, TypeFault>
     })
 }
 
+#[inline(never)]
 fn slink<'s>(of: &Attributes<'_, 's>) -> Result<TypedTag<'s>, TypeFault>
     ensures ok { IfOk result (λ t. Reads tag.Slink (attrs_of of.now) of.now.place (typed_of t)) }
     ensures err { IfErr result (λ e. Refuses tag.Slink (attrs_of of.now) of.now.place e) }
@@ -203,7 +212,8 @@ fn typed_tag<'s>(kind: TagKind, of: &Attributes<'_, 's>) -> Result<TypedTag<'s>,
     }
 }
 
-/// Appends the typed tag of a tag of this kind. It is large, so no tag without one is to take the way over it.
+/// Appends the typed tag of a tag of this kind that repeats no name of an attribute. A typed tag is large, so this is
+/// kept apart from the way of the tags that have none.
 #[inline(never)]
 fn type_kind<'s>(
     kind: TagKind,

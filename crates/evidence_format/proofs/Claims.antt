@@ -1,0 +1,42 @@
+-- Claims that have a text are well formed, and are no more than its bytes.
+use Rattle.std.proofs.Common.{inl, inr, ℕ, ◌≤◌, List, [], ◌∷◌, length, ap, subst, sym, length-append, arith}
+use Rattle.std.specs.List.{All, AllByRecursion, concat, flat_map}
+use Rattle.std.proofs.lemmas.List.Elements.{All-nil, All-cons}
+use Rattle.evidence_format.specs.Lines.{Lines}
+use Rattle.evidence_format.specs.Evidence.{PlainEvidence, IsWellFormed, body_lines, last_line}
+use Rattle.evidence_format.specs.Bundles.{IsCount, IsTextOfEither}
+use Rattle.evidence_format.proofs.BodyLaws.{body_is}
+use Rattle.evidence_format.proofs.BundleLaws.{HasEither, one_claim}
+use Rattle.evidence_format.proofs.LineLaws.{IsLine, either_is}
+use Rattle.evidence_format.proofs.Reading.{from_text}
+
+-- so many can stand in a text
+pub count_of : (es : List PlainEvidence) (text : List ℕ) → IsTextOfEither es text → IsCount (length es)
+count_of es text (inl h) = h.0.1
+count_of es text (inr h) = subst (λ (es : List PlainEvidence). IsCount (length es)) (sym h.1) one_claim
+
+-- each is well formed
+pub well_formed_claims : (es : List PlainEvidence) (text : List ℕ) → IsTextOfEither es text → All IsWellFormed es
+well_formed_claims es text (inl h) = h.0.0
+well_formed_claims es text (inr h) = subst (All IsWellFormed) (sym h.1) (All-cons IsWellFormed h.0 [] h.2.0 (All-nil IsWellFormed))
+
+-- each claim has a line of its own
+few_bodies : (es : List PlainEvidence) → length es ≤ length (flat_map body_lines es)
+few_bodies [] = omega arith
+few_bodies (e ∷ es) = omega (arith, few_bodies es, length-append (body_lines e) (flat_map body_lines es), ap length (body_is e))
+
+-- there are no more claims than lines
+few_lines : (es : List PlainEvidence) (ls : Lines) → HasEither es ls → length es ≤ length ls
+few_lines es ls (inl h) = omega (arith, few_bodies es, ap length h.1, length-append (flat_map body_lines es) (last_line ∷ []))
+few_lines es ls (inr h) = omega (arith, ap length h.1, ap length h.2.1)
+
+-- there are no more whole lines than bytes
+few_bytes : (ls : Lines) → AllByRecursion IsLine ls → length ls ≤ length (concat ls)
+few_bytes [] h = omega arith
+few_bytes (l ∷ ls) h = omega (arith, few_bytes ls h.1, length-append l (concat ls), ap length h.0.2, length-append h.0.0 (10 ∷ []))
+
+-- there are no more claims than bytes
+pub few_claims : (es : List PlainEvidence) (text : List ℕ) → IsTextOfEither es text → length es ≤ length text
+few_claims es text h =
+    let f = from_text es text h in
+    omega (arith, few_lines es f.0 f.1, few_bytes f.0 (either_is es f.0 f.1), ap length f.2)
