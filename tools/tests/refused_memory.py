@@ -30,6 +30,7 @@ from differential_testing.programs import STANDARD_ERROR, Programs, program_path
 from reference import Outcome
 
 LIBRARY = Path(__file__).resolve().parent / "refused_memory.c"
+SAMPLES = Path(__file__).resolve().parent.parent.parent / "samples"
 NO_MEMORY = 6
 ALL = (1 << 64) - 1
 EVENTS = '<EVENT eid="e" class="STATE">x</EVENT>' + "".join(f'<MAKEINSTANCE eiid="{name}" eventID="e"/>' for name in "abc")
@@ -74,6 +75,23 @@ DOCUMENTS = {
     "calendar": document(EVENTS, DATES, '<TLINK timeID="u" relatedToTime="t" relType="BEFORE"/>'),
     "links": document(EVENTS, '<SIGNAL sid="s"/><SLINK subordinatedEventInstance="a" relType="MODAL" signalID="s"/>'),
 }
+THREE = '<EVENT eid="e" class="OCCURRENCE"/>' + "".join(f'<MAKEINSTANCE eiid="{name}" eventID="e"/>' for name in "abc")
+BY_THE_CALENDAR = (
+    '<TIMEX3 tid="t1" type="DATE" value="1998-01-08"/><TIMEX3 tid="t2" type="DATE" value="1998-01-09"/><EVENT eid="e" class="STATE"/>'
+    '<MAKEINSTANCE eiid="i1" eventID="e"/><MAKEINSTANCE eiid="i2" eventID="e"/>'
+    '<TLINK eventInstanceID="i1" relatedToTime="t2" relType="IS_INCLUDED"/>'
+    '<TLINK eventInstanceID="i1" relatedToEventInstance="i2" relType="BEFORE"/>'
+    '<TLINK eventInstanceID="i2" relatedToTime="t1" relType="IS_INCLUDED"/>'
+)
+WORKED = (
+    ("check d", (SAMPLES / "rates.xml").read_bytes()),
+    ("solve d", (SAMPLES / "rates.xml").read_bytes()),
+    ("ask d a BEFORE c", document(THREE, AB, BC)),
+    ("ask d a IS_INCLUDED b", document(THREE, AB.replace("BEFORE", "DURING"))),
+    ("solve d", document(BY_THE_CALENDAR)),
+    ("canon d", b"<?xml version=\"1.0\"?><TimeML ><SIGNAL x='a\"b'   sid='s1'></SIGNAL></TimeML>"),
+)
+"""Worked examples: a sample, a proof, a counterexample, a clash by the calendar, and a canonical text."""
 QUESTIONS = {
     "fits": ("a BEFORE c", "a SIMULTANEOUS b", "t BEFORE u", "n BEFORE a", "a X b", "a BEFORE n", "b DURING t"),
     "clash": ("a BEFORE c", "n BEFORE a"),
@@ -125,6 +143,8 @@ def runs() -> Iterator[Case]:
         yield verifying(name, "fits", text)
     for name, text in CLASHES.items():
         yield verifying(name, "clash", text)
+    for line, content in WORKED:
+        yield Case(f"worked, {line}", tuple(line.encode().split(b" ")), {b"d": content})
     for number in (b"1", b"2", b"12"):
         yield Case(f"drill {number.decode()}", (b"drill", number))
     yield Case("no words", (), {b"-": DOCUMENTS["units"]})
