@@ -12,3 +12,5 @@ pub mod RanksJudged
 pub mod WalksJudged
 pub mod Judged
 pub mod Bundles
+pub mod Calendars
+pub mod LinkSets

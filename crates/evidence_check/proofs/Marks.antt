@@ -1,12 +1,15 @@
 -- Marks of links: which are set once some links were marked.
-use Rattle.std.proofs.Common.{◌≡◌, ◌↔◌, ◌⊎◌, inl, inr, ℕ, ◌<◌, Bool, true, false, List, replicate, slice_index_or, refl, sym, ◌∙◌}
-use Rattle.std.specs.List.{Contains}
+use Rattle.std.proofs.Common.{◌≡◌, ◌↔◌, ◌⊎◌, inl, inr, ℕ, ◌<◌, Bool, true, false, List, replicate, slice_index_or, Some, refl, sym, subst, ◌∙◌}
+use Rattle.std.specs.List.{All, Contains}
 use Rattle.std.proofs.Math.Bool.{beq, not}
 use Rattle.std.proofs.lemmas.Bool.Decides.{same_from_decides}
 use Rattle.std.proofs.lemmas.List.{get_or-replicate}
+use Rattle.std.proofs.lemmas.List.Elements.{All-contains}
 use Rattle.net_core.specs.Limits.{max_links}
-use Rattle.net_core.specs.Walks.{GoesOver}
+use Rattle.net_core.specs.Steps.{Uses, link_of}
+use Rattle.net_core.specs.Walks.{GoesOver, Kept}
 use Rattle.net_core.specs.declared.step.Step.{Step}
+use Rattle.net_core.specs.declared.step.Step.TheVariants.{Link, Span, Calendar}
 use Rattle.net_core.specs.Clashes.{Agrees}
 
 -- exactly the links of a set are marked
@@ -49,6 +52,20 @@ alike cited gone_over cites steps marked walked k below = (there, back)
     back : Agrees cites steps k → slice_index_or cited k false ≡ slice_index_or gone_over k false
     back agrees = same_from_decides (slice_index_or cited k false) (slice_index_or gone_over k false)
         (λ e. (walked k below).1 (agrees.1 ((marked k below).0 e)), λ e. (marked k below).1 (agrees.0 ((walked k below).0 e))) (λ e. e, λ e. e)
+
+-- the link that a step goes over is one of a set where the step uses no other
+uses_link : (Chosen : ℕ → Type 0) (step : Step) (k : ℕ) → link_of step ≡ Some k → Uses Chosen step → Chosen k
+uses_link Chosen (Link link atom) k e uses = let same : link ≡ k = cc in subst Chosen same uses
+uses_link Chosen (Span i) k e uses = absurd cc
+uses_link Chosen (Calendar p q) k e uses = absurd cc
+
+-- a walk agrees with cites that it all goes over, where it goes over them alone
+pub all_agree : (cited gone_over : List Bool) (cites : List ℕ) (steps : List Step) → AreMarked cited (Contains cites) → AreMarked gone_over (GoesOver steps)
+    → All (Kept gone_over) cites → All (Uses (Kept cited)) steps → (k : ℕ) → k < max_links → Agrees cites steps k
+all_agree cited gone_over cites steps marked walked over alone k below = (
+  λ goes. (marked k below).0 (uses_link (Kept cited) goes.0 k goes.2 (All-contains (Uses (Kept cited)) steps goes.0 alone goes.1)),
+  λ cite. (walked k below).0 (All-contains (Kept gone_over) cites k over cite),
+)
 
 -- of two marks
 pub are_apart : (a b : Bool) → not (beq a b) ≡ true → a ≡ b → ⊥

@@ -14,7 +14,7 @@ use Rattle.net_core.specs.declared.rels.Rel.{Rel}
 use Rattle.net_core.specs.declared.step.Step.{Step as StepOf}
 use Rattle.net_core.proofs.AtomLaws.{atoms_say_the_relation}
 use Rattle.net_core.proofs.WalkLaws.{over_links, round_clashes, round_over, walk_kept}
-use Rattle.net_core.specs.Entailment.{Follows}
+use Rattle.net_core.specs.Entailment.{CanFail, Follows}
 use Rattle.evidence_format.specs.Evidence.{PlainEvidence, timeline, entails, counter, clash}
 use Rattle.evidence_check.specs.Claims.{ShowsTruth}
 use Rattle.evidence_check.specs.Refusals.{ranks_at}
@@ -50,6 +50,11 @@ pub follows_where_ok : {C E : Type 0} (result : Result C E) (net : PlainNet) (e 
     → (a b : ℕ) (r : Rel) (walks : List (List StepOf)) → e ≡ entails a r b walks → IfOk result (λ claim. Follows net a r b)
 follows_where_ok (Ok claim) net e holds a b r walks same = subst (ShowsTruth net) same holds
 follows_where_ok (Err refused) net e holds a b r walks same = tt
+
+pub can_fail_where_ok : {C E : Type 0} (result : Result C E) (net : PlainNet) (e : PlainEvidence) → IfOk result (λ claim. ShowsTruth net e)
+    → (a b : ℕ) (r : Rel) (ranks : List (ℕ × ℕ)) → e ≡ counter a r b ranks → IfOk result (λ claim. CanFail net a r b)
+can_fail_where_ok (Ok claim) net e holds a b r ranks same = subst (ShowsTruth net) same holds
+can_fail_where_ok (Err refused) net e holds a b r ranks same = tt
 
 pub clashes_where_ok : {C E : Type 0} (result : Result C E) (net : PlainNet) (e : PlainEvidence) → IfOk result (λ claim. ShowsTruth net e)
     → (cites : List ℕ) (walk : List StepOf) (spares : List (List (ℕ × ℕ))) → e ≡ clash cites walk spares → IfOk result (λ claim. IsMinimalClash net cites)

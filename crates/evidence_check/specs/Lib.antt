@@ -3,4 +3,7 @@ pub mod Claims
 pub mod Refusals
 pub mod Bundles
 pub mod Asked
+pub mod Calendar
+pub mod Links
+pub mod Demands
 pub mod Following

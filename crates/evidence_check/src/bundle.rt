@@ -6,7 +6,8 @@ ghost use Rattle.evidence_format.specs.View.{plain};
 ghost use Rattle.std.specs.List.{All};
 ghost use Rattle.std.specs.Prelude.{◌↔◌, map, IfErr, IsOk, OnOk};
 
-use crate::checker::verify;
+use crate::checker::verify_by;
+use crate::demands::Demands;
 use crate::refusal::RefusedClaim;
 use evidence_format::Bundle;
 use net_core::Net;
@@ -23,8 +24,9 @@ pub fn verify_all(net: &Net, bundle: &Bundle) -> Result<(), RefusedClaim>
     // What the evidence of each claim shows is true.
     ensures sound { OnOk result (All (ShowsTruth net.now) (map plain bundle.now)) }
 {
+    let demands = Demands::of(net);
     for k in 0..bundle.count() {
-        if let Err(refused) = verify(net, bundle.claim(k)) {
+        if let Err(refused) = verify_by(net, &demands, bundle.claim(k)) {
             return Err(RefusedClaim { claim: k, refused });
         }
     }

@@ -1,6 +1,7 @@
 //! Checking evidence.
 ghost use Rattle.evidence_check.specs.Claims.{ShowsTruth, claim_of};
 ghost use Rattle.evidence_check.specs.Asked.{AreRisingLinks};
+ghost use Rattle.evidence_check.specs.Demands.{AreDemands};
 ghost use Rattle.evidence_check.specs.Refusals.{AreSparesRefused, IsCiteRefused, IsNumberRefused, IsRefused};
 ghost use Rattle.evidence_check.specs.Supported.{AllFitOthers, AreLinks, IsSupported};
 ghost use Rattle.evidence_format.specs.Evidence.{AreRanks, IsWellFormed, clash, counter, entails, timeline};
@@ -15,6 +16,7 @@ ghost use Rattle.net_core.specs.declared.step.Step.{Step as StepOf};
 ghost use Rattle.std.specs.List.{All};
 ghost use Rattle.std.specs.Prelude.{IfErr, IfOk, IsOk, List, OnOk, length, map, ℕ, ◌≡◌, ◌≤◌, ◌↔◌};
 
+use crate::demands::Demands;
 use crate::refusal::{Claim, Reason, Refused};
 use crate::rounds::check_closed;
 use crate::timeline::{Asked, fit};
@@ -41,29 +43,53 @@ pub fn verify(net: &Net, evidence: &Evidence) -> Result<Claim, Refused>
     // A clash: its links cannot all be true, and any one of them left out, they can.
     ensures clashes { (cites : List ℕ) (walk : List StepOf) (spares : List (List (ℕ × ℕ))) → plain evidence.now ≡ clash cites walk spares → IfOk result (λ claim. IsMinimalClash net.now cites) }
 {
+    // Walks alone are checked without what the net asks of a timeline.
+    if let Evidence::Entails { a, rel, b, walks } = evidence {
+        return check_entailment(net, *a, *rel, *b, walks.as_slice());
+    }
+    verify_by(net, &Demands::of(net), evidence)
+}
+
+/// The same by what the net asks of a timeline, which is made once for several claims.
+pub fn verify_by(net: &Net, demands: &Demands, evidence: &Evidence) -> Result<Claim, Refused>
+    requires demands { AreDemands net.now demands.now }
+    requires well_formed { IsWellFormed (plain evidence.now) }
+    ensures claim { IfOk result (λ claim. claim ≡ claim_of (plain evidence.now)) }
+    ensures ok { OnOk result (IsSupported net.now (plain evidence.now)) }
+    ensures err { IfErr result (IsRefused net.now (plain evidence.now)) }
+{
     match evidence {
-        Evidence::Timeline { ranks } => check_timeline(net, ranks),
+        Evidence::Timeline { ranks } => check_timeline(net, demands, ranks),
         Evidence::Entails { a, rel, b, walks } => {
             check_entailment(net, *a, *rel, *b, walks.as_slice())
         }
-        Evidence::Counter { a, rel, b, ranks } => check_counterexample(net, *a, *rel, *b, ranks),
+        Evidence::Counter { a, rel, b, ranks } => {
+            check_counterexample(net, demands, *a, *rel, *b, ranks)
+        }
         Evidence::Clash {
             cites,
             walk,
             spares,
-        } => check_clash(net, cites.as_slice(), walk.as_slice(), spares.as_slice()),
+        } => check_clash(
+            net,
+            demands,
+            cites.as_slice(),
+            walk.as_slice(),
+            spares.as_slice(),
+        ),
     }
 }
 
 /// A timeline that is to fit the net.
 #[tactic(auto, using(net_core::proofs::RankLaws::ranks_again))]
-fn check_timeline(net: &Net, ranks: &Ranks) -> Result<Claim, Refused>
-    requires { IsWellFormed (timeline (pairs_of ranks.now)) }
+fn check_timeline(net: &Net, demands: &Demands, ranks: &Ranks) -> Result<Claim, Refused>
+    requires demands { AreDemands net.now demands.now }
+    requires well_formed { IsWellFormed (timeline (pairs_of ranks.now)) }
     ensures claim { IfOk result (λ claim. claim ≡ Claim.Fits) }
     ensures ok { OnOk result (IsSupported net.now (timeline (pairs_of ranks.now))) }
     ensures err { IfErr result (IsRefused net.now (timeline (pairs_of ranks.now))) }
 {
-    match fit(net, ranks.as_slice(), Asked::All) {
+    match fit(net, demands, ranks.as_slice(), Asked::All) {
         Ok(()) => Ok(Claim::Fits),
         Err(reason) => Err(Refused { part: 1, reason }),
     }
@@ -85,18 +111,20 @@ fn check_entailment(net: &Net, a: u32, rel: Rel, b: u32, walks: &[Walk]) -> Resu
 #[tactic(auto, using(net_core::proofs::RankLaws::ranks_again))]
 fn check_counterexample(
     net: &Net,
+    demands: &Demands,
     a: u32,
     rel: Rel,
     b: u32,
     ranks: &Ranks,
 ) -> Result<Claim, Refused>
-    requires { IsWellFormed (counter a rel b (pairs_of ranks.now)) }
+    requires demands { AreDemands net.now demands.now }
+    requires well_formed { IsWellFormed (counter a rel b (pairs_of ranks.now)) }
     ensures claim { IfOk result (λ claim. claim ≡ Claim.CanFail) }
     ensures ok { OnOk result (IsSupported net.now (counter a rel b (pairs_of ranks.now))) }
     ensures err { IfErr result (IsRefused net.now (counter a rel b (pairs_of ranks.now))) }
 {
     check_numbers(net, a, b)?;
-    if let Err(reason) = fit(net, ranks.as_slice(), Asked::All) {
+    if let Err(reason) = fit(net, demands, ranks.as_slice(), Asked::All) {
         return Err(Refused { part: 1, reason });
     }
     if holds(
@@ -131,8 +159,15 @@ fn check_numbers(net: &Net, a: u32, b: u32) -> Result<(), Refused>
 
 /// Links that are to clash, a walk that is to be closed and to go over exactly these, and timelines that are to fit with
 /// all but one.
-fn check_clash(net: &Net, cites: &[u32], walk: &[Step], spares: &[Ranks]) -> Result<Claim, Refused>
-    requires { IsWellFormed (clash cites.now walk.now (map pairs_of spares.now)) }
+fn check_clash(
+    net: &Net,
+    demands: &Demands,
+    cites: &[u32],
+    walk: &[Step],
+    spares: &[Ranks],
+) -> Result<Claim, Refused>
+    requires demands { AreDemands net.now demands.now }
+    requires well_formed { IsWellFormed (clash cites.now walk.now (map pairs_of spares.now)) }
     ensures claim { IfOk result (λ claim. claim ≡ Claim.Clashes) }
     ensures ok { OnOk result (IsSupported net.now (clash cites.now walk.now (map pairs_of spares.now))) }
     ensures err { IfErr result (IsRefused net.now (clash cites.now walk.now (map pairs_of spares.now))) }
@@ -141,7 +176,7 @@ fn check_clash(net: &Net, cites: &[u32], walk: &[Step], spares: &[Ranks]) -> Res
     if let Err(reason) = check_closed(net, cites, walk) {
         return Err(Refused { part: 1, reason });
     }
-    check_spares(net, cites, spares)?;
+    check_spares(net, demands, cites, spares)?;
     Ok(Claim::Clashes)
 }
 
@@ -164,7 +199,13 @@ fn check_cites(net: &Net, cites: &[u32]) -> Result<(), Refused>
 }
 
 /// Ok where each timeline fits with all cited links but its own.
-fn check_spares(net: &Net, cites: &[u32], spares: &[Ranks]) -> Result<(), Refused>
+fn check_spares(
+    net: &Net,
+    demands: &Demands,
+    cites: &[u32],
+    spares: &[Ranks],
+) -> Result<(), Refused>
+    requires demands { AreDemands net.now demands.now }
     requires cites { AreRisingLinks net.now cites.now }
     requires few { length cites.now ≤ max_links }
     requires one_each { length spares.now ≡ length cites.now }
@@ -174,7 +215,12 @@ fn check_spares(net: &Net, cites: &[u32], spares: &[Ranks]) -> Result<(), Refuse
 {
     for i in 0..cites.len() {
         let own = cites[i];
-        if let Err(reason) = fit(net, spares[i].as_slice(), Asked::Others { cites, own }) {
+        if let Err(reason) = fit(
+            net,
+            demands,
+            spares[i].as_slice(),
+            Asked::Others { cites, own },
+        ) {
             return Err(Refused {
                 part: i as u32 + 2,
                 reason,

@@ -5,9 +5,10 @@ ghost use Rattle.evidence_format.specs.Evidence.{IsNumber};
 ghost use Rattle.net_core.specs.Clashes.{Agrees, IsClosedOver};
 ghost use Rattle.net_core.specs.Firsts.{IsFirst};
 ghost use Rattle.net_core.specs.Limits.{max_links};
-ghost use Rattle.net_core.specs.Walks.{GoesOver};
-ghost use Rattle.std.specs.List.{Contains};
-ghost use Rattle.std.specs.Prelude.{IfErr, OnOk, length, slice_index_or, true, false, ℕ, ◌<◌, ◌≡◌, ◌↔◌};
+ghost use Rattle.net_core.specs.Steps.{Uses};
+ghost use Rattle.net_core.specs.Walks.{GoesOver, Kept};
+ghost use Rattle.std.specs.List.{All, Contains};
+ghost use Rattle.std.specs.Prelude.{IfErr, IsTrue, OnOk, length, slice_index_or, true, false, ℕ, ◌<◌, ◌≡◌, ◌↔◌};
 
 use crate::refusal::Reason;
 use crate::walks::follow;
@@ -45,13 +46,18 @@ pub fn check_closed(net: &Net, cites: &[u32], steps: &[Step]) -> Result<(), Reas
     }
 }
 
-/// The first link that is cited and not gone over, or gone over and not cited.
+/// The first link that is cited and not gone over, or gone over and not cited. The links of the net are gone over only
+/// where there is one.
 fn first_disagreement(net: &Net, cites: &[u32], steps: &[Step]) -> Option<u32>
     ensures { IsFirst (length net.now.links) (Agrees cites.now steps.now) result }
 {
+    let count = net.links();
     let cited = marks_of_cites(cites);
     let gone_over = marks_of_steps(steps);
-    for k in 0..net.links() {
+    if are_marked(&gone_over, cites) && use_marked(&cited, steps) {
+        return None;
+    }
+    for k in 0..count {
         if cited[k as usize] != gone_over[k as usize] {
             return Some(k);
         }
@@ -77,4 +83,35 @@ fn marks_of_steps(steps: &[Step]) -> Marks
     let mut marks = [false; MAX_LINKS as usize];
     mark_steps(&mut marks, steps);
     marks
+}
+
+/// Whether links are all marked.
+fn are_marked(marks: &Marks, links: &[u32]) -> bool
+    ensures { IsTrue result ↔ All (Kept marks.now) links.now }
+{
+    links.iter().all(|link| is_marked(marks, *link))
+}
+
+/// Whether steps go over marked links alone.
+fn use_marked(marks: &Marks, steps: &[Step]) -> bool
+    ensures { IsTrue result ↔ All (Uses (Kept marks.now)) steps.now }
+{
+    steps.iter().all(|step| uses_marked(marks, *step))
+}
+
+/// Whether a step goes over a marked link, or over none.
+fn uses_marked(marks: &Marks, step: Step) -> bool
+    ensures { IsTrue result ↔ Uses (Kept marks.now) step }
+{
+    match step {
+        Step::Link { link, .. } => is_marked(marks, link),
+        Step::Span { .. } | Step::Calendar { .. } => true,
+    }
+}
+
+/// Whether a link is marked.
+fn is_marked(marks: &Marks, link: u32) -> bool
+    ensures { IsTrue result ↔ Kept marks.now link }
+{
+    (link as usize) < marks.len() && marks[link as usize]
 }

@@ -5,8 +5,8 @@ use Rattle.evidence_check.specs.Supported.{IsSupported}
 use Rattle.evidence_check.proofs.Bundles.{claim_is, claim_fits, claim_refused, not_supported, all_supported, all_true}
 use Rattle.evidence_check.proofs.bundle.verify_all.Goals as goal
 
-pub verify-requires : goal.verify-requires
-verify-requires c = claim_fits c.args.bundle.now c.loop-k.k c.claim.result.now (omega (arith, c.loop-k-test.true, c.loop-k.invariant.end)) c.claim.ensures c.requires
+pub verify_by-requires-clause-well_formed : goal.verify_by-requires-clause-well_formed
+verify_by-requires-clause-well_formed c = claim_fits c.args.bundle.now c.loop-k.k c.claim.result.now (omega (arith, c.loop-k-test.true, c.loop-k.invariant.end)) c.claim.ensures c.requires
 
 -- the claim that is refused is the first
 first_refused : (c : goal.In-Err) → IsFirstRefused c.args.net.now (map plain c.args.bundle.now) (record { claim = c.loop-k.k; refused = c.in-Err.refused })
@@ -23,7 +23,7 @@ returns-in-Err-clause-err c = first_refused c
 pub loop-k-preserved : goal.loop-k-preserved
 loop-k-preserved c =
     let is = claim_is c.args.bundle.now c.loop-k.k c.claim.result.now (omega (arith, c.loop-k-test.true, c.loop-k.invariant.end)) c.claim.ensures in
-    let supported = (rw c.in_default.is at c.verify.ensures.supported).0 refl in
+    let supported = rw c.in_default.is at c.verify_by.ensures.ok in
     record {
       end = c.loop-k.invariant.end;
       so_far = below_more (IsSupportedAt c.args.net.now (map plain c.args.bundle.now)) c.loop-k.k c.loop-k.invariant.so_far (subst (IsSupported c.args.net.now) (sym is) supported);

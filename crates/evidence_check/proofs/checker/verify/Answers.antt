@@ -1,11 +1,9 @@
-use Rattle.std.proofs.Common.{◌≡◌, ◌↔◌, List, map, IsOk, OnOk, ap, sym, subst, ◌∙◌}
+use Rattle.std.proofs.Common.{◌≡◌, ◌↔◌, List, IsOk, OnOk, ap, sym, subst, ◌∙◌}
 use Rattle.net_core.specs.declared.step.Step.{Step}
-use Rattle.evidence_format.specs.Evidence.{PlainEvidence, clash, entails}
+use Rattle.evidence_format.specs.Evidence.{PlainEvidence, entails}
 use Rattle.evidence_format.specs.View.{plain}
 use Rattle.evidence_check.specs.Supported.{IsSupported}
-use Rattle.net_core.specs.Ranks.{pairs_of}
-use Rattle.evidence_check.proofs.Cites.{same_clash}
-use Rattle.evidence_check.proofs.Soundness.{clashes_where_ok, follows_where_ok, true_where_ok}
+use Rattle.evidence_check.proofs.Soundness.{can_fail_where_ok, clashes_where_ok, follows_where_ok, true_where_ok}
 use Rattle.evidence_check.proofs.Verdicts.{ok_exactly}
 use Rattle.evidence_check.proofs.checker.verify.Goals as goal
 
@@ -27,23 +25,17 @@ pub returns-in-Entails-clause-follows : goal.returns-in-Entails-clause-follows
 returns-in-Entails-clause-follows c =
     follows_where_ok c.check_entailment.result c.args.net.now (plain c.args.evidence.now) (returns-in-Entails-clause-sound c)
 
--- the clash that was checked is that of the evidence
-same_evidence : (c : goal.After-check_clash) → clash c.as_slice-in-Clash.result.now c.as_slice-in-Clash-2.result.now (map pairs_of c.as_slice-in-Clash-3.result.now) ≡ plain c.args.evidence.now
-same_evidence c =
-    same_clash c.in-Clash.cites c.as_slice-in-Clash.result.now c.in-Clash.walk c.as_slice-in-Clash-2.result.now c.in-Clash.spares c.as_slice-in-Clash-3.result.now
-    c.as_slice-in-Clash.ensures c.as_slice-in-Clash-2.ensures c.as_slice-in-Clash-3.ensures ∙ sym (ap plain c.in-Clash.is)
+pub returns-clause-supported : goal.returns-clause-supported
+returns-clause-supported c = ok_exactly c.verify_by.result c.args.net.now (plain c.args.evidence.now) c.verify_by.ensures.ok c.verify_by.ensures.err
 
-pub returns-in-Clash-clause-supported : goal.returns-in-Clash-clause-supported
-returns-in-Clash-clause-supported c =
-    subst (λ (e : PlainEvidence). IsOk c.check_clash.result ↔ IsSupported c.args.net.now e) (same_evidence c)
-    (ok_exactly c.check_clash.result c.args.net.now (clash c.as_slice-in-Clash.result.now c.as_slice-in-Clash-2.result.now (map pairs_of c.as_slice-in-Clash-3.result.now))
-    c.check_clash.ensures.ok c.check_clash.ensures.err)
+pub returns-clause-sound : goal.returns-clause-sound
+returns-clause-sound c = true_where_ok c.verify_by.result c.args.net.now (plain c.args.evidence.now) c.verify_by.ensures.ok
 
-pub returns-in-Clash-clause-sound : goal.returns-in-Clash-clause-sound
-returns-in-Clash-clause-sound c =
-    true_where_ok c.check_clash.result c.args.net.now (plain c.args.evidence.now)
-    (subst (λ (e : PlainEvidence). OnOk c.check_clash.result (IsSupported c.args.net.now e)) (same_evidence c) c.check_clash.ensures.ok)
+pub returns-clause-follows : goal.returns-clause-follows
+returns-clause-follows c = follows_where_ok c.verify_by.result c.args.net.now (plain c.args.evidence.now) (returns-clause-sound c)
 
-pub returns-in-Clash-clause-clashes : goal.returns-in-Clash-clause-clashes
-returns-in-Clash-clause-clashes c =
-    clashes_where_ok c.check_clash.result c.args.net.now (plain c.args.evidence.now) (returns-in-Clash-clause-sound c)
+pub returns-clause-can_fail : goal.returns-clause-can_fail
+returns-clause-can_fail c = can_fail_where_ok c.verify_by.result c.args.net.now (plain c.args.evidence.now) (returns-clause-sound c)
+
+pub returns-clause-clashes : goal.returns-clause-clashes
+returns-clause-clashes c = clashes_where_ok c.verify_by.result c.args.net.now (plain c.args.evidence.now) (returns-clause-sound c)

@@ -5,6 +5,6 @@ use Rattle.evidence_check.proofs.rounds.first_disagreement.Given as goal
 -- the walk agrees with the cites on the links so far
 abbrev pub invariant-loop-k : goal.invariant-loop-k
 invariant-loop-k l = record {
-  end : l.k-end ≡ length l.net.links;
+  end : l.count ≡ length l.net.links;
   so_far : (j : ℕ) → j < l.k → Agrees l.cites l.steps j;
 }
