@@ -1,5 +1,5 @@
 -- What the rows of a document have, by what its contents are answered; and those of a document and another file.
-use Rattle.std.proofs.Common.{◌≡◌, ◌≤◌, ◌<◌, ℕ, List, [], ◌∷◌, false, length, refl, sym, ap, subst, ◌∙◌, inl, inr, arith}
+use Rattle.std.proofs.Common.{◌≡◌, ℕ, List, [], ◌∷◌, false, refl, sym, ap, subst, ◌∙◌, inl, inr}
 use Rattle.net_core.specs.Limits.{max_document}
 use Rattle.tml_accept.specs.Acceptance.{Says}
 use Rattle.tml_accept.proofs.Judged.{every_document}
@@ -8,13 +8,14 @@ use Rattle.tml_refs.specs.Documents.{PlainDocument}
 use Rattle.tml_run.specs.declared.status.Status.{Status}
 use Rattle.tml_run.specs.declared.status.Status.TheVariants.{DocFault}
 use Rattle.tml_run.specs.Answered.{AreAnswered as RowsAreAnswered, NeverFree}
-use Rattle.tml_run.specs.EveryReply.{HasNext}
 use Rattle.tml_run.specs.OneFile.{IsAnswered, of_its_bytes}
 use Rattle.tml_run.proofs.OneFile.{answered, freer}
-use Rattle.tml_run.specs.OneReply.{Agree, HasOneText, is_broken_off}
-use Rattle.tml_run.specs.Rows.{File, Next, answers, reads}
+use Rattle.tml_run.specs.OneReply.{is_broken_off}
+use Rattle.tml_run.specs.Rows.{File}
+use Rattle.tml_run.specs.TwoFiles.{IsJudged}
+use Rattle.tml_run.proofs.TwoFiles.{both_answered}
 use Rattle.answers.specs.Documents.{AreAnswered, Contents, doc_file, document_rows, of_contents, of_its_contents}
-use Rattle.answers.specs.Judged.{AreJudged, Judgements, judged_rows}
+use Rattle.answers.specs.Judged.{AreJudged, Judgements, documents, judged_rows}
 use Rattle.answers.specs.Lines.{fault_line}
 use Rattle.answers.proofs.Refusals.{one_refusal}
 
@@ -65,47 +66,20 @@ document_answered Of are name = freer (document_rows Of name) (of_its_bytes Neve
 
 -- ---- a document and another file
 
-module _ (name : List ℕ) (file : File) (Of : Judgements) (are : AreJudged file.limit Of) where
-  agree : (contents : List (List ℕ)) (next other : Next) → judged_rows name file Of contents next → judged_rows name file Of contents other → Agree next other
-  agree [] (reads a) (reads b) h k = h ∙ sym k
-  agree [] (reads a) other h k = absurd k
-  agree (doc ∷ []) (answers status text) (answers other line) h k = h.0 ∙ sym k.0
-  agree (doc ∷ []) (answers status text) (reads b) h k = absurd (accepted_or_fault doc h.1.0 h.1.1 k.0 h.1.2)
-  agree (doc ∷ []) (reads a) (answers status line) h k = absurd (accepted_or_fault doc k.1.0 k.1.1 h.0 k.1.2)
-  agree (doc ∷ []) (reads a) (reads b) h k = h.1 ∙ sym k.1
-  agree (doc ∷ bytes ∷ []) (answers status text) (answers other line) h k =
-      are.one_status k.0 bytes status other text line (subst (λ (c : PlainDocument). Of c bytes status text) (one_document doc h.0 k.0 h.1 k.1) h.2) k.2
-  agree (doc ∷ bytes ∷ []) (answers status text) other h k = absurd k
-  agree contents next other h k = absurd h
+-- a document is accepted, or has one refusal
+documents_judged : IsJudged max_document documents
+documents_judged = record {
+  some = λ doc short. elim (every_document doc) [
+    | inl accepted ↦ inl accepted
+    | inr fault ↦ inr (DocFault, fault_line fault.0 fault.1, (refl, (fault.0, fault.1, fault.2, refl)))
+  ];
+  not_both = λ doc status text accepted refused. accepted_or_fault doc refused.1.0 refused.1.1 accepted refused.1.2;
+  one_said = λ doc contents other says too. one_document doc contents other says too;
+  one_status = λ doc status other text line h k. h.0 ∙ sym k.0;
+  whole = λ doc status text refused. ap is_broken_off refused.0;
+  one_text = λ doc status text line h k. one_refusal doc status status text line h k;
+}
 
-  every_next : HasNext (judged_rows name file Of)
-  every_next [] reading = (reads (doc_file name), refl)
-  every_next (doc ∷ []) reading = elim (every_document doc) [
-    | inl accepted ↦ (reads file, (accepted, refl))
-    | inr fault ↦ (answers DocFault (fault_line fault.0 fault.1), (refl, (fault.0, fault.1, fault.2, refl)))
-  ]
-  every_next (doc ∷ bytes ∷ []) (first, is, gives, (other, (accepted, same), short, rest)) =
-      let within = subst (λ (f : File). length bytes ≤ f.limit) same short.1 in
-      let answer = are.some doc accepted.0 accepted.1 bytes within in
-      (answers answer.0 answer.1, (accepted.0, accepted.1, answer.2))
-  every_next (doc ∷ bytes ∷ more ∷ rest) reading = absurd reading.3.3.1
-
-  few : (contents : List (List ℕ)) (other : File) → judged_rows name file Of contents (reads other) → length contents < 2
-  few [] other row = omega arith
-  few (doc ∷ []) other row = omega arith
-  few (doc ∷ bytes ∷ []) other row = absurd row
-  few (doc ∷ bytes ∷ more ∷ rest) other row = absurd row
-
-  whole_row : (contents : List (List ℕ)) (status : Status) (text : List ℕ) → judged_rows name file Of contents (answers status text) → is_broken_off status ≡ false
-  whole_row (doc ∷ []) status text row = ap is_broken_off row.0
-  whole_row (doc ∷ bytes ∷ []) status text row = are.whole row.0 bytes status text row.2
-  whole_row contents status text row = absurd row
-
-  line_of : (contents : List (List ℕ)) (status : Status) → (NeverFree contents status → ⊥) → HasOneText (judged_rows name file Of) contents status
-  line_of (doc ∷ []) status determined text line h k = one_refusal doc status status text line h k
-  line_of (doc ∷ bytes ∷ []) status determined text line h k =
-      are.one_text k.0 bytes status text line (subst (λ (c : PlainDocument). Of c bytes status text) (one_document doc h.0 k.0 h.1 k.1) h.2) k.2
-  line_of contents status determined text line h k = absurd h
-
-  pub judged_answered : RowsAreAnswered (judged_rows name file Of) NeverFree
-  judged_answered = record { one_next = agree; next = every_next; most = 2; few = few; whole = whole_row; one_text = line_of }
+-- the rows of a command that is asked of a document and another file
+pub judged_answered : (name : List ℕ) (file : File) (Of : Judgements) → AreJudged file.limit Of → RowsAreAnswered (judged_rows name file Of) NeverFree
+judged_answered name file Of are = both_answered documents (doc_file name) file Of documents_judged are

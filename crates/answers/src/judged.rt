@@ -1,11 +1,12 @@
 //! Replies by a document and another file.
-ghost use Rattle.answers.specs.Judged.{CannotJudge, judged_rows};
+ghost use Rattle.answers.specs.Judged.{documents, judged_rows};
 ghost use Rattle.net_core.specs.Limits.{max_document};
 ghost use Rattle.std.specs.Prelude.{◌≡◌, ◌≢◌, ◌+◌, ◌≤◌, length, IfErr, IfOk};
 ghost use Rattle.tml_accept.specs.Acceptance.{Says};
 ghost use Rattle.tml_io.specs.Faults.{HasRisen, RisesAtMost};
 ghost use Rattle.tml_run.specs.Replied.{IsReplyTo};
 ghost use Rattle.tml_run.specs.Roles.{IsRole, file_of};
+ghost use Rattle.tml_run.specs.TwoFiles.{CannotJudge};
 ghost use Rattle.tml_run.specs.View.{finding_status, status_of, text_of};
 
 use crate::refusing::refusal;
@@ -51,7 +52,7 @@ pub trait OfJudged {
 fn document_of(alloc: Global, doc: &[u8]) -> Result<Document<'_>, Reply>
     requires { length doc.now ≤ max_document }
     ensures ok { IfOk result (Says doc.now) }
-    ensures err { IfErr result (λ reply. CannotJudge doc.now (status_of reply) (text_of reply)) }
+    ensures err { IfErr result (λ reply. CannotJudge documents doc.now (status_of reply) (text_of reply)) }
 {
     match accept(alloc, doc) {
         Ok(document) => Ok(document),

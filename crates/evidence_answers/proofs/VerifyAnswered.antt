@@ -1,14 +1,12 @@
 -- Evidence of a document has one answer: one status, and one text.
-use Rattle.std.proofs.Common.{◌≡◌, ◌⊎◌, ℕ, List, false, refl, sym, ap, subst, ◌∙◌, inl, inr}
+use Rattle.std.proofs.Common.{◌≡◌, ◌⊎◌, ℕ, List, codes, false, refl, sym, ap, subst, ◌∙◌, inl, inr}
 use Rattle.answers.specs.Judged.{AreJudged}
+use Rattle.answers.specs.Lines.{numbered}
 use Rattle.answers.proofs.Answered.{judged_answered}
-use Rattle.evidence_check.specs.Refusals.{IsRefused}
-use Rattle.evidence_check.proofs.Judged.{supported_or_refused}
-use Rattle.evidence_check.proofs.Soundness.{supported_is_true}
-use Rattle.evidence_check.proofs.Verdicts.{one_verdict}
+use Rattle.evidence_check.specs.Bundles.{IsFirstRefused}
+use Rattle.evidence_check.proofs.Bundles.{all_true, one_bundle_verdict}
 use Rattle.evidence_format.specs.Evidence.{PlainEvidence}
-use Rattle.evidence_format.proofs.EveryText.{text_or_bad_line}
-use Rattle.evidence_format.proofs.Reading.{one_bad, one_value}
+use Rattle.evidence_format.proofs.EveryText.{bundle_or_bad_line}
 use Rattle.net_answers.proofs.Nets.{its_net}
 use Rattle.net_build.specs.Built.{IsNetOf}
 use Rattle.net_build.proofs.OneNet.{one_net}
@@ -20,53 +18,55 @@ use Rattle.tml_run.specs.Answered.{AreAnswered, NeverFree}
 use Rattle.tml_run.specs.OneReply.{is_broken_off}
 use Rattle.tml_run.specs.declared.status.Status.{Status}
 use Rattle.tml_run.specs.declared.status.Status.TheVariants.{Done, EvidenceFault}
-use Rattle.evidence_answers.specs.Texts.{bad_line_text, claim_line, refusal_line}
-use Rattle.evidence_answers.specs.Verify.{OfEvidence, OfVerify, ReportsClaim, ReportsLine, ReportsRefusal, evidence_file, verify_rows}
+use Rattle.evidence_answers.specs.Files.{ReportsEvidenceLine, evidence_file}
+use Rattle.evidence_answers.specs.Texts.{claim_lines, refusal_line}
+use Rattle.evidence_answers.specs.Verify.{OfEvidence, OfVerify, ReportsClaims, ReportsRefusal, verify_rows}
+use Rattle.evidence_answers.proofs.Files.{one_bundle, one_report}
 
--- evidence that is refused by the net does not have its support
-claim_or_refusal : (contents : PlainDocument) (net : PlainNet) (evidence text line : List ℕ) → ReportsClaim contents net evidence text → ReportsRefusal net evidence line → ⊥
-claim_or_refusal contents net evidence text line h k =
-    let same = one_value k.0 h.0 evidence k.2 h.1 in
-    (one_verdict net h.0).not_both k.1 h.2 (subst (λ (e : PlainEvidence). IsRefused net e k.1) same k.3)
+-- claims of which one is refused by the net do not all have its support
+claims_or_refusal : (contents : PlainDocument) (net : PlainNet) (bytes text line : List ℕ) → ReportsClaims contents net bytes text → ReportsRefusal net bytes line → ⊥
+claims_or_refusal contents net bytes text line h k =
+    let same = one_bundle k.0 h.0 bytes k.2 h.1 in
+    (one_bundle_verdict net h.0).not_both k.1 h.2 (subst (λ (es : List PlainEvidence). IsFirstRefused net es k.1) same k.3)
 
 -- evidence has one status
 pub same_status : (contents : PlainDocument) (net : PlainNet) (evidence : List ℕ) (status other : Status) (text line : List ℕ) → OfEvidence contents net evidence status text → OfEvidence contents net evidence other line → status ≡ other
 same_status contents net evidence Done Done text line h k = refl
 same_status contents net evidence Done EvidenceFault text line h (inl k) = absurd (k.0 h.0 h.1)
-same_status contents net evidence Done EvidenceFault text line h (inr k) = absurd (claim_or_refusal contents net evidence text line h k)
+same_status contents net evidence Done EvidenceFault text line h (inr k) = absurd (claims_or_refusal contents net evidence text line h k)
 same_status contents net evidence EvidenceFault Done text line (inl h) k = absurd (h.0 k.0 k.1)
-same_status contents net evidence EvidenceFault Done text line (inr h) k = absurd (claim_or_refusal contents net evidence line text k h)
+same_status contents net evidence EvidenceFault Done text line (inr h) k = absurd (claims_or_refusal contents net evidence line text k h)
 same_status contents net evidence EvidenceFault EvidenceFault text line h k = refl
 same_status contents net evidence Done other text line h k = absurd k
 same_status contents net evidence EvidenceFault other text line h k = absurd k
 same_status contents net evidence status other text line h k = absurd h
 
 -- one fault of it is reported
-same_fault : (net : PlainNet) (evidence : List ℕ) (text line : List ℕ) → ReportsLine evidence text ⊎ ReportsRefusal net evidence text → ReportsLine evidence line ⊎ ReportsRefusal net evidence line → text ≡ line
-same_fault net evidence text line (inl h) (inl k) = h.3 ∙ ap bad_line_text (one_bad evidence h.1 k.1 h.2 k.2) ∙ sym k.3
-same_fault net evidence text line (inl h) (inr k) = absurd (h.0 k.0 k.2)
-same_fault net evidence text line (inr h) (inl k) = absurd (k.0 h.0 h.2)
-same_fault net evidence text line (inr h) (inr k) =
-    let same = one_value h.0 k.0 evidence h.2 k.2 in
-    h.4 ∙ ap refusal_line ((one_verdict net k.0).one_refusal h.1 k.1 (subst (λ (e : PlainEvidence). IsRefused net e h.1) same h.3) k.3) ∙ sym k.4
+same_fault : (net : PlainNet) (bytes : List ℕ) (text line : List ℕ) → ReportsEvidenceLine bytes text ⊎ ReportsRefusal net bytes text → ReportsEvidenceLine bytes line ⊎ ReportsRefusal net bytes line → text ≡ line
+same_fault net bytes text line (inl h) (inl k) = one_report (codes "evidence line ") bytes text line h k
+same_fault net bytes text line (inl h) (inr k) = absurd (h.0 k.0 k.2)
+same_fault net bytes text line (inr h) (inl k) = absurd (k.0 h.0 h.2)
+same_fault net bytes text line (inr h) (inr k) =
+    let same = one_bundle h.0 k.0 bytes h.2 k.2 in
+    h.4 ∙ ap refusal_line ((one_bundle_verdict net k.0).one_refusal h.1 k.1 (subst (λ (es : List PlainEvidence). IsFirstRefused net es h.1) same h.3) k.3) ∙ sym k.4
 
 -- and one text for it
-pub same_text : (contents : PlainDocument) (net : PlainNet) (evidence : List ℕ) (status : Status) (text line : List ℕ) → OfEvidence contents net evidence status text → OfEvidence contents net evidence status line → text ≡ line
-same_text contents net evidence Done text line h k = h.4 ∙ ap (claim_line contents) (one_value h.0 k.0 evidence h.1 k.1) ∙ sym k.4
-same_text contents net evidence EvidenceFault text line h k = same_fault net evidence text line h k
-same_text contents net evidence status text line h k = absurd h
+pub same_text : (contents : PlainDocument) (net : PlainNet) (bytes : List ℕ) (status : Status) (text line : List ℕ) → OfEvidence contents net bytes status text → OfEvidence contents net bytes status line → text ≡ line
+same_text contents net bytes Done text line h k = h.4 ∙ ap (claim_lines contents) (one_bundle h.0 k.0 bytes h.1 k.1) ∙ sym k.4
+same_text contents net bytes EvidenceFault text line h k = same_fault net bytes text line h k
+same_text contents net bytes status text line h k = absurd h
 
 -- a document has one net
 along : (contents : PlainDocument) (evidence : List ℕ) (status : Status) (text : List ℕ) (net other : PlainNet) → IsNetOf contents net → IsNetOf contents other → OfEvidence contents net evidence status text → OfEvidence contents other evidence status text
 along contents evidence status text net other built too h = subst (λ (n : PlainNet). OfEvidence contents n evidence status text) (one_net contents net other built too) h
 
-some : (doc : List ℕ) (contents : PlainDocument) → Says doc contents → (evidence : List ℕ) → (status : Status) × (text : List ℕ) × OfVerify contents evidence status text
-some doc contents says evidence =
+some : (doc : List ℕ) (contents : PlainDocument) → Says doc contents → (bytes : List ℕ) → (status : Status) × (text : List ℕ) × OfVerify contents bytes status text
+some doc contents says bytes =
     let has = its_net doc contents says in
-    elim (text_or_bad_line evidence) [
-      | inr bad ↦ (EvidenceFault, bad_line_text bad.1, (has.net, has.built, inl (bad.0, bad.1, bad.2, refl)))
-      | inl e ↦ elim (supported_or_refused has.net e.0) [
-        | inl supported ↦ (Done, claim_line contents e.0, (has.net, has.built, (e.0, e.1, supported, supported_is_true has.net e.0 supported, refl)))
+    elim (bundle_or_bad_line bytes) [
+      | inr bad ↦ (EvidenceFault, numbered (codes "evidence line ") bad.1, (has.net, has.built, inl (bad.0, bad.1, bad.2, refl)))
+      | inl e ↦ elim ((one_bundle_verdict has.net e.0).supported_or_refused) [
+        | inl supported ↦ (Done, claim_lines contents e.0, (has.net, has.built, (e.0, e.1, supported, all_true has.net e.0 supported, refl)))
         | inr refused ↦ (EvidenceFault, refusal_line refused.0, (has.net, has.built, inr (e.0, refused.0, e.1, refused.1, refl)))
       ]
     ]
@@ -78,7 +78,7 @@ whole_of contents net evidence status text h = absurd h
 
 judged : AreJudged max_evidence OfVerify
 judged = record {
-  some = λ doc contents says evidence short. some doc contents says evidence;
+  some = λ doc short contents says bytes few. some doc contents says bytes;
   one_status = λ contents evidence status other text line h k. same_status contents k.0 evidence status other text line (along contents evidence status text h.0 k.0 h.1 k.1 h.2) k.2;
   whole = λ contents evidence status text h. whole_of contents h.0 evidence status text h.2;
   one_text = λ contents evidence status text line h k. same_text contents k.0 evidence status text line (along contents evidence status text h.0 k.0 h.1 k.1 h.2) k.2;

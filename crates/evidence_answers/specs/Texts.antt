@@ -5,7 +5,7 @@ use Rattle.net_core.specs.declared.rels.Rel.{Rel}
 use Rattle.evidence_format.specs.Evidence.{PlainEvidence, timeline, entails, counter, clash}
 use Rattle.evidence_check.specs.declared.refusal.Reason.{Reason}
 use Rattle.evidence_check.specs.declared.refusal.Reason.TheVariants.{Number, Size, Order, Link, Calendar, Step, End, Weak, Cited, Holds}
-use Rattle.evidence_check.specs.declared.refusal.Refused.{Refused}
+use Rattle.evidence_check.specs.declared.refusal.RefusedClaim.{RefusedClaim}
 use Rattle.tml_refs.specs.Documents.{PlainDocument}
 use Rattle.answers.specs.Lines.{line_prefix, name_at, numbered, related}
 
@@ -28,16 +28,16 @@ claim_line doc (entails a r b walks) = relation_claim (codes "verified entails "
 claim_line doc (counter a r b ranks) = relation_claim (codes "verified counter ") doc a r b
 claim_line doc (clash cites walk spares) = clash_claim (codes "verified clash") cites
 
+-- what supported claims of a document show, a line each
+abbrev pub claim_lines : PlainDocument → List PlainEvidence → List ℕ
+claim_lines doc es = flat_map (claim_line doc) es
+
 -- the numbers of the intervals in evidence are those of intervals of a document
 abbrev pub NamesIntervals : PlainDocument → PlainEvidence → Type 0
 NamesIntervals doc (timeline ranks) = ⊤
 NamesIntervals doc (entails a r b walks) = (a < length doc.intervals) × (b < length doc.intervals)
 NamesIntervals doc (counter a r b ranks) = (a < length doc.intervals) × (b < length doc.intervals)
 NamesIntervals doc (clash cites walk spares) = ⊤
-
--- the line of malformed evidence
-abbrev pub bad_line_text : ℕ → List ℕ
-bad_line_text line = numbered (codes "evidence line ") line
 
 -- why evidence is refused, with the numbers of the reason
 abbrev pub reason_text : Reason → List ℕ
@@ -52,6 +52,6 @@ reason_text Weak = codes "Weak\n"
 reason_text (Cited link) = numbered (codes "Cited ") link
 reason_text Holds = codes "Holds\n"
 
--- the line of refused evidence: the part, and why
-abbrev pub refusal_line : Refused → List ℕ
-refusal_line refused = line_prefix (codes "evidence part ") refused.part ++ reason_text refused.reason
+-- the line of refused evidence: the claim, the part, and why
+abbrev pub refusal_line : RefusedClaim → List ℕ
+refusal_line refused = line_prefix (codes "evidence claim ") refused.claim ++ line_prefix (codes "part ") refused.refused.part ++ reason_text refused.refused.reason

@@ -1,8 +1,15 @@
 //! The commands about evidence. Each stands in a file of its own name.
 #![tactic(auto)]
 
+mod join;
 mod laws;
+mod malformed;
+mod renew;
+mod role;
 mod verify;
 
+pub use join::reply_of_join;
 pub use laws::verify_judges_first;
-pub use verify::{EVIDENCE, EVIDENCE_WORD, Verify, verdict};
+pub use renew::Renew;
+pub use role::{EVIDENCE, EVIDENCE_WORD, SECOND, SECOND_WORD};
+pub use verify::{Verify, verdict};

@@ -4,28 +4,19 @@ ghost use Rattle.evidence_answers.specs.Texts.{NamesIntervals};
 ghost use Rattle.evidence_answers.specs.Verify.{OfVerify};
 ghost use Rattle.evidence_format.specs.View.{plain};
 ghost use Rattle.net_core.specs.Limits.{max_evidence};
-ghost use Rattle.std.specs.List.{flat_map};
-ghost use Rattle.std.specs.Prelude.{◌≡◌, ◌<◌, ◌≤◌, ◌++◌, length, IfOk, OnOk};
+ghost use Rattle.std.specs.List.{All, flat_map};
+ghost use Rattle.std.specs.Prelude.{◌≡◌, ◌<◌, ◌≤◌, ◌++◌, length, map, IfOk, OnOk};
 ghost use Rattle.tml_run.specs.View.{finding_status};
 
+use crate::malformed::malformed_answer;
 use answers::{OfJudged, push_number, push_numbered, push_prefix, push_related};
-use evidence_check::{Reason, Refused, verify};
-use evidence_format::{Evidence, ReadEvidence, read_evidence};
+use evidence_check::{Reason, RefusedClaim, verify_all};
+use evidence_format::{Evidence, ReadEvidence, read_bundle};
 use net_build::net_of;
-use net_core::{MAX_EVIDENCE, Memory, Rel};
+use net_core::{Memory, Rel};
 use std::alloc::{AllocError, Global};
 use tml_refs::Document;
-use tml_run::{Answer, Finding, Role};
-
-/// The word for evidence in texts.
-pub const EVIDENCE_WORD: &[u8] = b"EVIDENCE";
-
-/// Evidence of what is true of a document.
-pub const EVIDENCE: Role = Role {
-    word: EVIDENCE_WORD,
-    limit: MAX_EVIDENCE,
-    line: b"too long EVIDENCE\n",
-};
+use tml_run::{Answer, Finding};
 
 /// The command `verify`.
 #[derive(Clone, Copy)]
@@ -59,40 +50,54 @@ pub fn verdict(alloc: Global, document: &Document<'_>, text: &[u8]) -> Result<An
         Ok(net) => net,
         Err(Memory) => return Err(AllocError),
     };
-    let evidence = match read_evidence(alloc, text) {
-        Ok(evidence) => evidence,
-        Err(ReadEvidence::BadLine { line }) => return malformed_answer(alloc, line),
+    let bundle = match read_bundle(alloc, text) {
+        Ok(bundle) => bundle,
+        Err(ReadEvidence::BadLine { line }) => {
+            return malformed_answer(alloc, b"evidence line ", line);
+        }
         Err(ReadEvidence::Memory) => return Err(AllocError),
     };
-    match verify(&net, &evidence) {
-        Ok(_) => Ok(Answer::done(claim_text(alloc, document, &evidence)?)),
+    match verify_all(&net, &bundle) {
+        Ok(()) => Ok(Answer::done(claims_text(alloc, document, bundle.as_slice())?)),
         Err(refused) => refused_answer(alloc, refused),
     }
 }
 
-/// What supported evidence of a document shows.
-fn claim_text(
+/// What supported claims of a document show, a line each.
+fn claims_text(
     alloc: Global,
     document: &Document<'_>,
-    evidence: &Evidence,
+    claims: &[Evidence],
 ) -> Result<Vec<u8>, AllocError>
-    requires { NamesIntervals document.now (plain evidence.now) }
-    ensures { IfOk result (λ text. text.items ≡ texts.claim_line document.now (plain evidence.now)) }
+    requires { All (NamesIntervals document.now) (map plain claims.now) }
+    ensures { IfOk result (λ text. text.items ≡ texts.claim_lines document.now (map plain claims.now)) }
 {
     let mut text = Vec::new(alloc);
-    match evidence {
-        Evidence::Timeline { .. } => text.extend_from_slice(b"verified timeline\n")?,
-        Evidence::Entails { a, rel, b, .. } => {
-            push_relation(&mut text, b"verified entails ", document, *a, *rel, *b)?
-        }
-        Evidence::Counter { a, rel, b, .. } => {
-            push_relation(&mut text, b"verified counter ", document, *a, *rel, *b)?
-        }
-        Evidence::Clash { cites, .. } => {
-            push_clash(&mut text, b"verified clash", cites.as_slice())?
-        }
+    for claim in claims {
+        push_claim(&mut text, document, claim)?;
     }
     Ok(text)
+}
+
+/// Appends what a supported claim of a document shows.
+fn push_claim(
+    out: &mut Vec<u8>,
+    document: &Document<'_>,
+    evidence: &Evidence,
+) -> Result<(), AllocError>
+    requires { NamesIntervals document.now (plain evidence.now) }
+    ensures { OnOk result (out.new.items ≡ out.old.items ++ texts.claim_line document.now (plain evidence.now)) }
+{
+    match evidence {
+        Evidence::Timeline { .. } => out.extend_from_slice(b"verified timeline\n"),
+        Evidence::Entails { a, rel, b, .. } => {
+            push_relation(out, b"verified entails ", document, *a, *rel, *b)
+        }
+        Evidence::Counter { a, rel, b, .. } => {
+            push_relation(out, b"verified counter ", document, *a, *rel, *b)
+        }
+        Evidence::Clash { cites, .. } => push_clash(out, b"verified clash", cites.as_slice()),
+    }
 }
 
 /// A relation between two intervals of a document, by their names.
@@ -138,27 +143,15 @@ fn push_cited(out: &mut Vec<u8>, cites: &[u32]) -> Result<(), AllocError>
     Ok(())
 }
 
-/// The answer to malformed evidence: its bad line.
-fn malformed_answer(alloc: Global, line: u32) -> Result<Answer, AllocError>
-    ensures finding { IfOk result (λ answer. answer.finding ≡ Finding.EvidenceFault) }
-    ensures text { IfOk result (λ answer. answer.text.items ≡ texts.bad_line_text line) }
-{
-    let mut text = Vec::new(alloc);
-    push_numbered(&mut text, b"evidence line ", u64::from(line))?;
-    Ok(Answer {
-        finding: Finding::EvidenceFault,
-        text,
-    })
-}
-
-/// The answer to refused evidence: the part, and the reason.
-fn refused_answer(alloc: Global, refused: Refused) -> Result<Answer, AllocError>
+/// The answer to refused evidence: the claim, the part, and the reason.
+fn refused_answer(alloc: Global, refused: RefusedClaim) -> Result<Answer, AllocError>
     ensures finding { IfOk result (λ answer. answer.finding ≡ Finding.EvidenceFault) }
     ensures text { IfOk result (λ answer. answer.text.items ≡ texts.refusal_line refused) }
 {
     let mut text = Vec::new(alloc);
-    push_prefix(&mut text, b"evidence part ", refused.part)?;
-    push_reason(&mut text, refused.reason)?;
+    push_prefix(&mut text, b"evidence claim ", refused.claim)?;
+    push_prefix(&mut text, b"part ", refused.refused.part)?;
+    push_reason(&mut text, refused.refused.reason)?;
     Ok(Answer {
         finding: Finding::EvidenceFault,
         text,

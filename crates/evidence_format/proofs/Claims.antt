@@ -1,10 +1,10 @@
--- Claims that have a text are well formed, and are no more than its bytes.
-use Rattle.std.proofs.Common.{inl, inr, ℕ, ◌≤◌, List, [], ◌∷◌, length, ap, subst, sym, length-append, arith}
+-- Claims that have a text are well formed, and are no more than its bytes; and every claim that is well formed has one.
+use Rattle.std.proofs.Common.{◌≡◌, inl, inr, ℕ, ◌+◌, ◌^◌, ◌<◌, ◌≤◌, List, [], ◌++◌, ◌∷◌, length, refl, ap, subst, sym, length-append, arith}
 use Rattle.std.specs.List.{All, AllByRecursion, concat, flat_map}
-use Rattle.std.proofs.lemmas.List.Elements.{All-nil, All-cons}
+use Rattle.std.proofs.lemmas.List.Elements.{All-nil, All-cons, All-append}
 use Rattle.evidence_format.specs.Lines.{Lines}
 use Rattle.evidence_format.specs.Evidence.{PlainEvidence, IsWellFormed, body_lines, last_line}
-use Rattle.evidence_format.specs.Bundles.{IsCount, IsTextOfEither}
+use Rattle.evidence_format.specs.Bundles.{IsBundleText, IsClaimText, IsCount, IsTextOfEither, bundle_lines}
 use Rattle.evidence_format.proofs.BodyLaws.{body_is}
 use Rattle.evidence_format.proofs.BundleLaws.{HasEither, one_claim}
 use Rattle.evidence_format.proofs.LineLaws.{IsLine, either_is}
@@ -15,10 +15,14 @@ pub count_of : (es : List PlainEvidence) (text : List ℕ) → IsTextOfEither es
 count_of es text (inl h) = h.0.1
 count_of es text (inr h) = subst (λ (es : List PlainEvidence). IsCount (length es)) (sym h.1) one_claim
 
+-- what is true of a claim is true of each of one
+pub all_of_one : (P : PlainEvidence → Type 0) (e : PlainEvidence) → P e → All P (e ∷ [])
+all_of_one P e holds = All-cons P e [] holds (All-nil P)
+
 -- each is well formed
 pub well_formed_claims : (es : List PlainEvidence) (text : List ℕ) → IsTextOfEither es text → All IsWellFormed es
 well_formed_claims es text (inl h) = h.0.0
-well_formed_claims es text (inr h) = subst (All IsWellFormed) (sym h.1) (All-cons IsWellFormed h.0 [] h.2.0 (All-nil IsWellFormed))
+well_formed_claims es text (inr h) = subst (All IsWellFormed) (sym h.1) (all_of_one IsWellFormed h.0 h.2.0)
 
 -- each claim has a line of its own
 few_bodies : (es : List PlainEvidence) → length es ≤ length (flat_map body_lines es)
@@ -40,3 +44,26 @@ pub few_claims : (es : List PlainEvidence) (text : List ℕ) → IsTextOfEither 
 few_claims es text h =
     let f = from_text es text h in
     omega (arith, few_lines es f.0 f.1, few_bytes f.0 (either_is es f.0 f.1), ap length f.2)
+
+-- the text of one claim, as it is written
+abbrev pub claim_text : PlainEvidence → List ℕ
+claim_text e = concat (bundle_lines (e ∷ []))
+
+-- one claim that is well formed has a text
+pub has_claim_text : (e : PlainEvidence) → IsWellFormed e → IsClaimText e (claim_text e)
+has_claim_text e well = ((all_of_one IsWellFormed e well, one_claim), refl)
+
+-- claims that have a text have one of version 2
+pub has_text : (es : List PlainEvidence) (text : List ℕ) → IsTextOfEither es text → IsBundleText es (concat (bundle_lines es))
+has_text es text h = ((well_formed_claims es text h, count_of es text h), refl)
+
+-- claims of two texts together have one
+pub both_have_text : (es ds : List PlainEvidence) (text other : List ℕ) → IsTextOfEither es text → IsTextOfEither ds other → length text + length other < 2 ^ 32 → IsBundleText (es ++ ds) (concat (bundle_lines (es ++ ds)))
+both_have_text es ds text other h k short =
+    let count = count_of es text h in (
+      (
+        All-append IsWellFormed es ds (well_formed_claims es text h) (well_formed_claims ds other k),
+        (omega (arith, length-append es ds, count.0), omega (arith, length-append es ds, few_claims es text h, few_claims ds other k, short)),
+      ),
+      refl,
+    )

@@ -37,6 +37,10 @@ bundle_lines es = bundle_line ∷ claims_line (length es) ∷ (flat_map body_lin
 abbrev pub IsBundleText : List PlainEvidence → List ℕ → Type 0
 IsBundleText es text = AreClaims es × (text ≡ concat (bundle_lines es))
 
+-- the text of version 2 of one claim
+abbrev pub IsClaimText : PlainEvidence → List ℕ → Type 0
+IsClaimText e text = IsBundleText (e ∷ []) text
+
 -- the text of version 2, or the text of version 1, which has one claim
 abbrev pub IsTextOfEither : List PlainEvidence → List ℕ → Type 0
 IsTextOfEither es text = IsBundleText es text ⊎ ((e : PlainEvidence) × (es ≡ e ∷ []) × IsText e text)

@@ -1,4 +1,4 @@
--- What a line says: a step, a cite, the kind of evidence, how many claims there are, or the version.
+-- Serves the code: what a line says, which is a step, a cite, the kind of evidence, how many claims there are, or the version.
 use Rattle.std.specs.Prelude.{ℕ, ◌+◌, ◌^◌, ◌&&◌, nat_le, nat_lt, List, Option, Some, None, option_map, if◌then◌else◌, codes}
 use Rattle.std.specs.Option.{option_or}
 use Rattle.net_core.specs.declared.step.Step.{Step}

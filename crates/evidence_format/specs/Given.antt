@@ -1,4 +1,4 @@
--- What the code answers, beside what reading lines gives.
+-- Serves the code: what it answers, beside what reading lines gives.
 use Rattle.std.specs.Prelude.{◌≡◌, ⊤, Result, Ok, Err}
 use Rattle.evidence_format.specs.declared.stop.Stop.{Stop}
 use Rattle.evidence_format.specs.declared.stop.Stop.TheVariants.{BadLine, Memory}

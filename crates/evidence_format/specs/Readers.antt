@@ -1,4 +1,4 @@
--- Reading evidence, line by line.
+-- Serves the code: reading evidence, line by line.
 use Rattle.std.specs.Prelude.{ℕ, zero, suc, ◌+◌, List, [], ◌∷◌, Result, Ok, codes}
 use Rattle.net_core.specs.Atoms.{atom_count}
 use Rattle.net_core.specs.declared.step.Step.{Step}

@@ -1,4 +1,4 @@
--- Reading lines in their order: a value and the lines that follow it, or the lines from the bad one on.
+-- Serves the code: reading lines in their order, which gives a value and the lines that follow it, or the lines from the bad one on.
 use Rattle.std.specs.Prelude.{ℕ, List, [], ◌∷◌, Option, Some, None, Result, Ok, Err}
 use Rattle.evidence_format.specs.Lines.{Lines}
 

@@ -1,4 +1,4 @@
--- The words of one line, read from left to right.
+-- Serves the code: the words of one line, read from left to right.
 use Rattle.std.specs.Prelude.{ℕ, ◌+◌, ◌*◌, ◌^◌, ◌&&◌, not, nat_lt, nat_eq, Bool, List, [], ◌∷◌, length, take, drop, ◌==◌, Option, Some, None, option_and_then, if◌then◌else◌, decimal}
 use Rattle.std.specs.List.{prefix_len, starts_with}
 use Rattle.std.specs.Str.{bytes_eq}

@@ -1,4 +1,4 @@
--- The bytes of evidence, as they are written.
+-- Serves the code: the bytes of evidence, as they are written.
 use Rattle.std.specs.Prelude.{ℕ, List, ◌++◌, length, codes}
 use Rattle.std.specs.List.{flat_map}
 use Rattle.net_core.specs.declared.step.Step.{Step}

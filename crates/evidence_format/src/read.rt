@@ -5,6 +5,7 @@ ghost use Rattle.evidence_format.specs.Given.{Gives};
 ghost use Rattle.evidence_format.specs.Lines.{is_lf, lines_of};
 ghost use Rattle.evidence_format.specs.Readers as readers;
 ghost use Rattle.evidence_format.specs.View.{plain};
+ghost use Rattle.net_core.specs.Limits.{max_evidence};
 ghost use Rattle.std.specs.List.{count_by};
 ghost use Rattle.std.specs.Prelude.{◌≡◌, ◌≤◌, ◌+◌, ◌-◌, length, take, IfOk, IfErr};
 
@@ -33,7 +34,7 @@ pub enum ReadEvidence {
 ///
 /// `BadLine` comes exactly where it is the text of no evidence.
 pub fn read_evidence(alloc: Global, text: &[u8]) -> Result<Evidence, ReadEvidence>
-    requires { length text.now ≤ 67108864 }
+    requires { length text.now ≤ max_evidence }
     ensures ok { IfOk result (λ evidence. IsText (plain evidence) text.now) }
     ensures only { (e : PlainEvidence) → IsText e text.now → Reads e result }
     ensures err { IfErr result (TellsBadLine text.now) }
@@ -102,7 +103,7 @@ fn rest_at<'t>(alloc: Global, head: Head, text: &'t [u8]) -> Result<(Evidence, &
 /// The number, counted from 1, of the line at which the rest of a text begins.
 pub fn line_of(text: &[u8], rest: &[u8]) -> u32
     requires within { length rest.now ≤ length text.now }
-    requires limit { length text.now ≤ 67108864 }
+    requires limit { length text.now ≤ max_evidence }
     ensures { result ≡ count_by is_lf (take (length text.now - length rest.now) text.now) + 1 }
 {
     let read = &text[..text.len() - rest.len()];

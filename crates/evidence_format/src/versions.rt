@@ -7,6 +7,7 @@ ghost use Rattle.evidence_format.specs.Lines.{lines_of};
 ghost use Rattle.evidence_format.specs.Readers as readers;
 ghost use Rattle.evidence_format.specs.Reading.{line_at};
 ghost use Rattle.evidence_format.specs.View.{plain};
+ghost use Rattle.net_core.specs.Limits.{max_evidence};
 ghost use Rattle.std.specs.List.{All};
 ghost use Rattle.std.specs.Prelude.{◌≡◌, ◌≤◌, List as ListOf, length, map, IfOk, IfErr};
 
@@ -35,7 +36,7 @@ pub enum Version {
 /// `BadLine` comes exactly where it is the text of no claims, in neither version. Its line is the first one with which
 /// the lines so far begin no text of either version.
 pub fn read_bundle(alloc: Global, text: &[u8]) -> Result<Bundle, ReadEvidence>
-    requires { length text.now ≤ 67108864 }
+    requires { length text.now ≤ max_evidence }
     ensures ok { IfOk result (λ bundle. IsTextOfEither (map plain bundle) text.now) }
     ensures only { (es : ListOf PlainEvidence) → IsTextOfEither es text.now → ReadsBundle es result }
     ensures err { IfErr result (TellsBadLineOfEither text.now) }

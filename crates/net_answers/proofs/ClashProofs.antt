@@ -12,7 +12,8 @@ use Rattle.net_core.proofs.RankLaws.{even_length, ranks_again}
 use Rattle.net_core.specs.Entailment.{HasNoTimeline}
 use Rattle.clash.specs.Minimal.{IsProvedClash}
 use Rattle.clash.specs.declared.minimal.Clash.{Clash}
-use Rattle.evidence_format.specs.Evidence.{AreRanks, IsText, IsWellFormed, clash}
+use Rattle.evidence_format.specs.Bundles.{IsClaimText}
+use Rattle.evidence_format.specs.Evidence.{AreRanks, IsWellFormed, clash}
 use Rattle.evidence_format.proofs.SmallRanks.{small_ranks}
 use Rattle.evidence_check.specs.Refusals.{cite_at, ranks_at}
 use Rattle.evidence_check.specs.Supported.{FitsOthers, IsSupported}
@@ -54,7 +55,7 @@ module _ (net : PlainNet) (is : IsNet net) (found : Clash) (proved : IsProvedCla
       subst (RanksFitWith net (Others (Contains found.cites) (cite_at found.cites i))) (sym here) (spare.size, spare.least.holds)
 
   -- and its text tells it
-  pub shows_clash : (text : List ℕ) → HasNoTimeline net → IsText (clash found.cites found.walk (map pairs_of found.spares)) text → ShowsClash net text
+  pub shows_clash : (text : List ℕ) → HasNoTimeline net → IsClaimText (clash found.cites found.walk (map pairs_of found.spares)) text → ShowsClash net text
   shows_clash text none is_text =
       let supported : IsSupported net (clash found.cites found.walk (map pairs_of found.spares)) = (proved.minimal.links, proved.round, zip_from (FitsOthers net found.cites) 0 [] found.cites (map pairs_of found.spares) (length-map found.spares pairs_of ∙ count) spare_fits) in
       record {

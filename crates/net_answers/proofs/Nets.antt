@@ -7,7 +7,8 @@ use Rattle.answers.proofs.Answered.{contents_answered}
 use Rattle.clash.specs.Minimal.{IsProvedClash}
 use Rattle.clash.specs.declared.minimal.Clash.{Clash as ClashOf}
 use Rattle.clash.proofs.Answered.{every_net as answered_net}
-use Rattle.evidence_format.specs.Evidence.{clash, text_lines}
+use Rattle.evidence_format.proofs.Claims.{claim_text, has_claim_text}
+use Rattle.evidence_format.specs.Evidence.{PlainEvidence, clash}
 use Rattle.net_build.specs.Built.{IntervalBounds, IsNetOf}
 use Rattle.net_build.proofs.EveryNet.{every_net}
 use Rattle.net_build.proofs.OneNet.{one_net}
@@ -62,8 +63,8 @@ fits_or_clash net is = elim (answered_net net is) [
     shown : (found : ClashOf) → IsProvedClash net found → (text : List ℕ) × ShowsClash net text
     shown found proved =
         let none : HasNoTimeline net = λ t fits. proved.minimal.clashes t (fits_fewer net EveryLink (Contains found.cites) t (λ k below among. tt) fits) in
-        let text = concat (text_lines (clash found.cites found.walk (map pairs_of found.spares))) in
-        (text, shows_clash net is found proved text none (clash_well_formed net is found proved, refl))
+        let e : PlainEvidence = clash found.cites found.walk (map pairs_of found.spares) in
+        (claim_text e, shows_clash net is found proved (claim_text e) none (has_claim_text e (clash_well_formed net is found proved)))
 
 -- ---- what is asked of a net
 

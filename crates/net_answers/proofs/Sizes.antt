@@ -1,5 +1,5 @@
 -- How long the text of printed evidence is.
-use Rattle.std.proofs.Common.{◌≡◌, ℕ, suc, ◌+◌, ◌-◌, ◌*◌, ◌<◌, ◌≤◌, List, [], ◌∷◌, ◌++◌, length, map, get_or, codes, slice_index, None, ap, arith}
+use Rattle.std.proofs.Common.{◌≡◌, ℕ, suc, ◌+◌, ◌-◌, ◌*◌, ◌<◌, ◌≤◌, List, [], ◌∷◌, ◌++◌, length, map, get_or, codes, slice_index, None, refl, ap, arith}
 use Rattle.std.specs.List.{All, AllByRecursion, Contains, concat, flat_map}
 use Rattle.std.specs.List.Sorted.{IsStrictlyIncreasing}
 use Rattle.std.proofs.lemmas.List.{length-append, length-map}
@@ -14,7 +14,8 @@ use Rattle.net_core.specs.Walks.{IsJoined}
 use Rattle.net_core.specs.declared.rels.Rel.{Rel}
 use Rattle.net_core.specs.declared.step.Step.{Step}
 use Rattle.net_core.specs.Least.{AreSpares}
-use Rattle.evidence_format.specs.Evidence.{PlainEvidence, IsText, at_line, body_lines, clash, cite_line, counter, entails, one_number, relation_line, step_line, text_lines, timeline, timeline_lines, walk_lines}
+use Rattle.evidence_format.specs.Bundles.{IsClaimText, bundle_line, bundle_lines, claims_line}
+use Rattle.evidence_format.specs.Evidence.{PlainEvidence, at_line, body_lines, clash, cite_line, counter, entails, one_number, relation_line, last_line, step_line, timeline, timeline_lines, walk_lines}
 use Rattle.evidence_format.specs.Lines.{Lines}
 use Rattle.net_core.specs.Entailment.{AreIntervals}
 use Rattle.evidence_check.specs.Refusals.{Proves, atom_at, walk_at}
@@ -34,16 +35,24 @@ abbrev walk_room : ℕ
 walk_room = 19 * (2 * max_points) + 10
 
 abbrev body_room : ℕ
-body_room = max_printed - 19
+body_room = max_printed - 31
 
 -- ---- the parts of evidence
 
--- the first line and the last one besides the body
-text_size : (e : PlainEvidence) (text : List ℕ) (size : ℕ) → IsText e text → length (concat (body_lines e)) ≤ size → length text ≤ size + 19
+-- a line, and others after it
+concat_cons : (line : List ℕ) (lines : Lines) → length (concat (line ∷ lines)) ≡ length line + length (concat lines)
+concat_cons line lines = length-append line (concat lines)
+
+-- the first two lines and the last one besides the body
+text_size : (e : PlainEvidence) (text : List ℕ) (size : ℕ) → IsClaimText e text → length (concat (body_lines e)) ≤ size → length text ≤ size + 31
 text_size e text size is body =
-    let all : length text ≡ length (concat (text_lines e)) = ap (λ (bytes : List ℕ). length bytes) is.1 in
-    let parts : length (concat (text_lines e)) ≡ 15 + length (concat (body_lines e ++ codes "end\n" ∷ [])) = omega arith in
-    omega (arith, all, parts, concat_append (body_lines e) (codes "end\n" ∷ []), body)
+    let after : Lines = (body_lines e ++ []) ++ last_line ∷ [] in
+    let all : length text ≡ length (concat (bundle_lines (e ∷ []))) = ap (λ (bytes : List ℕ). length bytes) is.1 in
+    let first : length (concat (bundle_lines (e ∷ []))) ≡ length bundle_line + length (concat (claims_line 1 ∷ after)) = concat_cons bundle_line (claims_line 1 ∷ after) in
+    let fifteen : length bundle_line ≡ 15 = refl in
+    let few : length (claims_line 1) ≤ 12 = one_size (codes "claims ") 1 (omega arith) in
+    let four : length (concat (last_line ∷ [])) ≡ 4 = refl in
+    omega (arith, all, first, fifteen, concat_cons (claims_line 1) after, few, concat_append (body_lines e ++ []) (last_line ∷ []), four, concat_append (body_lines e) [], body)
 
 -- no more than one pair for two ranks
 half_pairs : (ranks : List ℕ) → 2 * length (pairs_of ranks) ≤ length ranks
@@ -57,10 +66,6 @@ at_sizes [] small = tt
 at_sizes (start ∷ []) small = tt
 at_sizes (start ∷ finish ∷ ranks) small =
     (at_size (start, finish) (small 0 (omega arith), small 1 (omega arith)), at_sizes ranks (λ p less. small (suc (suc p)) (omega (arith, less))))
-
--- a line, and others after it
-concat_cons : (line : List ℕ) (lines : Lines) → length (concat (line ∷ lines)) ≡ length line + length (concat lines)
-concat_cons line lines = length-append line (concat lines)
 
 -- the lines of a timeline
 ranks_size : (ranks : List ℕ) → AreSmallRanks ranks → length (concat (timeline_lines (pairs_of ranks))) ≤ ranks_room
@@ -90,11 +95,11 @@ module _ (net : PlainNet) (is : IsNet net) where
 -- ---- the four kinds of evidence
 
 -- the text of a timeline of small ranks
-pub timeline_size : (ranks text : List ℕ) → AreSmallRanks ranks → IsText (timeline (pairs_of ranks)) text → length text ≤ max_printed
+pub timeline_size : (ranks text : List ℕ) → AreSmallRanks ranks → IsClaimText (timeline (pairs_of ranks)) text → length text ≤ max_printed
 timeline_size ranks text small is = omega (arith, text_size (timeline (pairs_of ranks)) text ranks_room is (ranks_size ranks small))
 
 -- the text of a counterexample of small ranks
-pub counter_size : (a b : ℕ) (r : Rel) (ranks text : List ℕ) → a < max_points → b < max_points → AreSmallRanks ranks → IsText (counter a r b (pairs_of ranks)) text → length text ≤ max_printed
+pub counter_size : (a b : ℕ) (r : Rel) (ranks text : List ℕ) → a < max_points → b < max_points → AreSmallRanks ranks → IsClaimText (counter a r b (pairs_of ranks)) text → length text ≤ max_printed
 counter_size a b r ranks text la lb small is =
     let line = relation_line (codes "counter ") a r b in
     let head = relation_size (codes "counter ") a r b (omega (arith, la)) (omega (arith, lb)) in
@@ -104,7 +109,7 @@ counter_size a b r ranks text la lb small is =
 -- the text of a relation that is proved by short walks
 pub entails_size : (net : PlainNet) (a b : ℕ) (r : Rel) (walks : List (List Step)) (text : List ℕ) → IsNet net → AreIntervals net a b → length walks ≡ length (atoms_of r a b)
     → IsFirst (length (atoms_of r a b)) (Proves net (atoms_of r a b) walks) None → All (λ steps. length steps ≤ 2 * points net) walks
-    → IsText (entails a r b walks) text → length text ≤ max_printed
+    → IsClaimText (entails a r b walks) text → length text ≤ max_printed
 entails_size net a b r walks text is range one_each proofs short text_is =
     let few = is.few_intervals in
     let line = relation_line (codes "entails ") a r b in
@@ -143,7 +148,7 @@ module _ (net : PlainNet) (is : IsNet net) where
 
 -- the text of a clash: each link that it cites is gone over by a step, so there are no more spares than steps
 pub clash_size : (net : PlainNet) (cites : List ℕ) (walk : List Step) (spares : List (List ℕ)) (text : List ℕ) → IsNet net → IsStrictlyIncreasing cites → All (λ k. k < length net.links) cites
-    → IsClosedOver net cites walk → length walk ≤ 2 * points net → AreSpares net (Contains cites) cites spares → IsText (clash cites walk (map pairs_of spares)) text → length text ≤ max_printed
+    → IsClosedOver net cites walk → length walk ≤ 2 * points net → AreSpares net (Contains cites) cites spares → IsClaimText (clash cites walk (map pairs_of spares)) text → length text ≤ max_printed
 clash_size net cites walk spares text is rising links round short are text_is =
     let few = is.few_intervals in
     let cited = cites_size net is cites links in

@@ -4,9 +4,10 @@ ghost use Rattle.clash.specs.Minimal.{IsProvedClash};
 ghost use Rattle.std.specs.Prelude.{◌≡◌, IfOk};
 ghost use Rattle.net_answers.specs.Showing.{ShowsClash};
 
+use crate::printing::evidence_text;
 use clash::Clash;
-use evidence_format::{Evidence, write_evidence};
-use net_core::{MAX_INTERVALS, Memory, Net};
+use evidence_format::Evidence;
+use net_core::{MAX_INTERVALS, Net};
 use std::alloc::{AllocError, Global};
 use tml_run::{Answer, Finding};
 
@@ -28,11 +29,9 @@ pub fn clash_answer(alloc: Global, net: &Net, clash: Clash) -> Result<Answer, Al
         walk,
         spares,
     };
-    match write_evidence(alloc, &evidence) {
-        Ok(text) => Ok(Answer {
-            finding: Finding::Clash,
-            text: text.into_vec(),
-        }),
-        Err(Memory) => Err(AllocError),
-    }
+    let text = evidence_text(alloc, evidence)?;
+    Ok(Answer {
+        finding: Finding::Clash,
+        text,
+    })
 }

@@ -3,6 +3,8 @@
 
 mod clashing;
 mod closing;
+mod printing;
 
 pub use clashing::clash_answer;
 pub use closing::{OfNet, answer_of_net};
+pub use printing::evidence_text;

@@ -3,7 +3,7 @@ use Rattle.std.specs.Prelude.{ℕ, ◌*◌}
 
 -- the most intervals of a document
 abbrev pub max_intervals : ℕ
-max_intervals = 512
+max_intervals = 1024
 
 -- the most links of a document
 abbrev pub max_links : ℕ
@@ -19,8 +19,8 @@ max_document = 4194304
 
 -- the most bytes of evidence that is read
 abbrev pub max_evidence : ℕ
-max_evidence = 16777216
+max_evidence = 67108864
 
 -- the most bytes of evidence that is printed, which is less
 abbrev pub max_printed : ℕ
-max_printed = 14000000
+max_printed = 55000000

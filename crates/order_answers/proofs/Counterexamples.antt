@@ -23,7 +23,8 @@ use Rattle.derive_rel.specs.Entailed.{Gives}
 use Rattle.evidence_check.specs.Refusals.{atom_at}
 use Rattle.evidence_check.specs.Supported.{IsFalse, IsSupported}
 use Rattle.evidence_check.proofs.Soundness.{supported_is_true}
-use Rattle.evidence_format.specs.Evidence.{IsText, counter}
+use Rattle.evidence_format.specs.Bundles.{IsClaimText}
+use Rattle.evidence_format.specs.Evidence.{counter}
 use Rattle.order_answers.specs.Ask.{IsCounterText, IsFirstNotGiven, IsFirstOpen, ShowsCounterexample}
 
 module _ (net : PlainNet) (table : Table) (closure : IsClosureOf net table) where
@@ -84,7 +85,7 @@ false_by ranks a r b k lt fails = λ holds.
 
 -- the text of the least timeline that fits and makes the first open order false tells a counterexample
 pub counter_shows : (net : PlainNet) (a : ℕ) (r : Rel) (b : ℕ) (atom : Atom) (ranks text : List ℕ) → AreIntervals net a b → IsFirstOpen net (atoms_of r a b) atom → length ranks ≡ points net
-    → IsLeast (points net) (λ u. Fits net u × (Satisfies u atom → ⊥)) (timeline_of ranks) → IsText (counter a r b (pairs_of ranks)) text → length text ≤ max_printed → ShowsCounterexample net a r b text
+    → IsLeast (points net) (λ u. Fits net u × (Satisfies u atom → ⊥)) (timeline_of ranks) → IsClaimText (counter a r b (pairs_of ranks)) text → length text ≤ max_printed → ShowsCounterexample net a r b text
 counter_shows net a r b atom ranks text both first size least is_text short =
     let again : ranks_of (pairs_of ranks) ≡ ranks = ranks_again ranks (even_length (length net.bounds) ranks size) in
     let fails = subst (λ (x : Atom). Satisfies (timeline_of ranks) x → ⊥) first.2 least.holds.1 in

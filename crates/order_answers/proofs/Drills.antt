@@ -1,5 +1,5 @@
 -- The document of a drill is accepted, its links can all be true, and it has one summary.
-use Rattle.std.proofs.Common.{◌≡◌, ℕ, ◌*◌, ◌≤◌, List, ◌++◌, length, codes, refl, sym, ap, subst, ◌∙◌, arith, le_antisymm}
+use Rattle.std.proofs.Common.{◌≡◌, inl, ℕ, ◌*◌, ◌≤◌, List, [], ◌∷◌, ◌++◌, length, codes, refl, sym, ap, subst, ◌∙◌, arith, le_antisymm}
 use Rattle.std.specs.List.{All, Contains}
 use Rattle.std.proofs.lemmas.List.Elements.{All-get_or}
 use Rattle.std.proofs.lemmas.List.FromFn.{length-map-range_with_len}
@@ -13,8 +13,12 @@ use Rattle.derive_rel.specs.declared.all_rows.Row.{Row}
 use Rattle.drill.specs.Laws.{IsDrill}
 use Rattle.drill.specs.Texts.{drill_contents, drill_document, instance_name}
 use Rattle.drill.proofs.Accepted.{drill_is_accepted}
+use Rattle.evidence_check.specs.Claims.{ShowsTruth}
+use Rattle.evidence_check.specs.Supported.{IsSupported}
 use Rattle.evidence_check.proofs.Soundness.{supported_is_true}
-use Rattle.evidence_format.specs.Evidence.{IsText, timeline}
+use Rattle.evidence_format.proofs.Claims.{all_of_one}
+use Rattle.evidence_format.specs.Bundles.{IsClaimText}
+use Rattle.evidence_format.specs.Evidence.{timeline}
 use Rattle.tml_refs.specs.Documents.{PlainDocument, instance}
 use Rattle.tml_accept.specs.Acceptance.{FirstFault, Says}
 use Rattle.order_answers.specs.Drill.{AreFigures, IsGreatest, IsSummary, figure_lines}
@@ -54,13 +58,13 @@ finding_done findings.Done e = refl
 finding_done finding e = absurd cc
 
 -- the verdict on the text of a timeline that fits the net of a document
-pub timeline_verdict : (contents : PlainDocument) (net : PlainNet) (ranks text : List ℕ) (finding : Finding) (line : List ℕ) → IsNetOf contents net → RanksFit net ranks → IsText (timeline (pairs_of ranks)) text
+pub timeline_verdict : (contents : PlainDocument) (net : PlainNet) (ranks text : List ℕ) (finding : Finding) (line : List ℕ) → IsNetOf contents net → RanksFit net ranks → IsClaimText (timeline (pairs_of ranks)) text
     → OfVerify contents text (finding_status finding) line → (finding ≡ findings.Done) × (line ≡ codes "verified timeline\n")
 timeline_verdict contents net ranks text finding line built fit is (other, is_net, told) =
     let verdict = subst (λ (n : PlainNet). OfEvidence contents n text (finding_status finding) line) (one_net contents other net is_net built) told in
     let e = timeline (pairs_of ranks) in
     let shows = timeline_supported net ranks fit in
-    let done : OfEvidence contents net text Done (codes "verified timeline\n") = (e, is, shows, supported_is_true net e shows, refl) in
+    let done : OfEvidence contents net text Done (codes "verified timeline\n") = (e ∷ [], inl is, all_of_one (IsSupported net) e shows, all_of_one (ShowsTruth net) e (supported_is_true net e shows), refl) in
     let status = same_status contents net text (finding_status finding) Done line (codes "verified timeline\n") verdict done in
     (finding_done finding status, same_text contents net text Done line (codes "verified timeline\n") (subst (λ (s : Status). OfEvidence contents net text s line) status verdict) done)
 

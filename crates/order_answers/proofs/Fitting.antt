@@ -26,7 +26,8 @@ use Rattle.derive_rel.specs.declared.all_rows.Row.{Row}
 use Rattle.derive_rel.proofs.AllThere.{all_there}
 use Rattle.net_core.specs.Entailment.{AlwaysHolds, AreIntervals, Follows, HasTimeline}
 use Rattle.evidence_check.specs.Refusals.{Proves, atom_at}
-use Rattle.evidence_format.specs.Evidence.{AreRanks, PlainEvidence, counter, entails, text_lines, timeline}
+use Rattle.evidence_format.specs.Evidence.{AreRanks, PlainEvidence, counter, entails, timeline}
+use Rattle.evidence_format.proofs.Claims.{claim_text, has_claim_text}
 use Rattle.evidence_format.proofs.SmallRanks.{small_ranks}
 use Rattle.tml_run.specs.declared.status.Status.TheVariants.{Done}
 use Rattle.order_answers.specs.Ask.{AreWalks, OfRelation, ShowsCounterexample, ShowsProof}
@@ -37,10 +38,6 @@ use Rattle.order_answers.proofs.Counterexamples.{counter_shows}
 use Rattle.net_answers.proofs.Sizes.{counter_size, timeline_size}
 use Rattle.order_answers.proofs.Timelines.{timeline_supported}
 use Rattle.order_answers.proofs.WalkProofs.{proof_well_formed, shows_proof}
-
--- the text of evidence
-abbrev text_of : PlainEvidence → List ℕ
-text_of e = concat (text_lines e)
 
 module _ (net : PlainNet) (is : IsNet net) where
   -- ---- a timeline
@@ -65,12 +62,12 @@ module _ (net : PlainNet) (is : IsNet net) where
       let size = are.size in
       let holds = are.least.holds in
       let written = ranks_written (Fits net) ranks are in (
-        text_of e,
+        claim_text e,
         (
-          (written, refl),
+          has_claim_text e written,
           timeline_supported net ranks (size, holds),
           (timeline_of ranks, holds),
-          timeline_size ranks (text_of e) (omega arith, ranks_small (Fits net) ranks are) (written, refl),
+          timeline_size ranks (claim_text e) (omega arith, ranks_small (Fits net) ranks are) (has_claim_text e written),
         ),
       )
 
@@ -118,8 +115,8 @@ module _ (net : PlainNet) (is : IsNet net) where
       proof_of : AllByRecursion (AlwaysHolds net) (atoms_of r a b) → (text : List ℕ) × ShowsProof net a r b text
       proof_of always =
           let found = walks_for (atoms_of r a b) orders_in_range always in
-          let text = text_of (entails a r b found.0) in
-          (text, shows_proof net a r b is both found.0 found.1 text (proof_well_formed net a r b is both found.0 found.1, refl))
+          let e : PlainEvidence = entails a r b found.0 in
+          (claim_text e, shows_proof net a r b is both found.0 found.1 (claim_text e) (has_claim_text e (proof_well_formed net a r b is both found.0 found.1)))
 
       counter_of : (k : ℕ) → IsFirst (length (atoms_of r a b)) (λ k. AlwaysHolds net (atom_at (atoms_of r a b) k)) (Some k) → (text : List ℕ) × ShowsCounterexample net a r b text
       counter_of k first =
@@ -129,16 +126,17 @@ module _ (net : PlainNet) (is : IsNet net) where
             | inl walk ↦ absurd (first.1 (λ t other. walk_kept net EveryLink t walk.0 atom.from atom.to atom.strict other walk.1))
             | inr found ↦
                 let P : Timeline → Type 0 = λ t. Fits net t × (Satisfies t atom → ⊥) in
-                let text = text_of (counter a r b (pairs_of found.0)) in
+                let e : PlainEvidence = counter a r b (pairs_of found.0) in
                 let few = is.few_intervals in
                 let small_points = few_points in
                 let size = found.1.size in
                 let written = ranks_written P found.0 found.1 in
                 let left = both.0 in
-                let right = both.1 in (
-                  text,
-                  counter_shows net a r b atom found.0 text both (k, first, refl) size found.1.least ((omega arith, omega arith, written), refl)
-                      (counter_size a b r found.0 text (omega arith) (omega arith) (omega arith, ranks_small P found.0 found.1) ((omega arith, omega arith, written), refl)),
+                let right = both.1 in
+                let shown = has_claim_text e (omega arith, omega arith, written) in (
+                  claim_text e,
+                  counter_shows net a r b atom found.0 (claim_text e) both (k, first, refl) size found.1.least shown
+                      (counter_size a b r found.0 (claim_text e) (omega arith) (omega arith) (omega arith, ranks_small P found.0 found.1) shown),
                 )
           ]
 

@@ -10,7 +10,8 @@ use Rattle.net_core.specs.declared.rels.Rel.{Rel}
 use Rattle.net_core.proofs.FirstLaws.{one_first}
 use Rattle.net_core.specs.Least.{IsLeast}
 use Rattle.evidence_check.specs.Refusals.{atom_at}
-use Rattle.evidence_format.specs.Evidence.{counter, text_lines}
+use Rattle.evidence_format.specs.Evidence.{counter}
+use Rattle.evidence_format.proofs.Claims.{claim_text}
 use Rattle.net_core.specs.Entailment.{AlwaysHolds}
 use Rattle.order_answers.specs.Ask.{IsFirstOpen, OneCounterexample, ShowsCounterexample}
 use Rattle.order_answers.proofs.Timelines.{one_least_of}
@@ -27,7 +28,7 @@ one_counter : (net : PlainNet) (a : ℕ) (r : Rel) (b : ℕ) (text line : List �
 one_counter net a r b text line h k =
     let least = subst (λ (x : Atom). IsLeast (points net) (λ t. Fits net t × (Satisfies t x → ⊥)) (timeline_of h.1)) (one_open net (atoms_of r a b) h.0 k.0 h.2 k.2) h.4 in
     let ranks = one_least_of (points net) (λ t. Fits net t × (Satisfies t k.0 → ⊥)) h.1 k.1 h.3 k.3 least k.4 in
-    h.5.0.1 ∙ ap (λ (rs : List ℕ). concat (text_lines (counter a r b (pairs_of rs)))) ranks ∙ sym k.5.0.1
+    h.5.0.1 ∙ ap (λ (rs : List ℕ). claim_text (counter a r b (pairs_of rs))) ranks ∙ sym k.5.0.1
 
 -- and no proof beside it, since both show what is true
 pub one_counterexample : OneCounterexample

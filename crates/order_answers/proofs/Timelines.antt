@@ -8,7 +8,8 @@ use Rattle.net_core.specs.Relations.{Timeline}
 use Rattle.net_core.proofs.RankLaws.{even_length, ranks_again}
 use Rattle.clash.specs.Closures.{IsClosureOf}
 use Rattle.evidence_check.specs.Supported.{IsSupported}
-use Rattle.evidence_format.specs.Evidence.{IsText, timeline}
+use Rattle.evidence_format.specs.Bundles.{IsClaimText}
+use Rattle.evidence_format.specs.Evidence.{timeline}
 use Rattle.order_closure.specs.Tables.{Keeps, Table}
 use Rattle.net_core.specs.Least.{AreLeastRanks, IsLeast}
 use Rattle.order_answers.specs.Solve.{IsLeastText, ShowsTimeline}
@@ -45,5 +46,5 @@ one_least net a b (la, h) (lb, k) = one_least_of (points net) (Fits net) a b la 
 pub one_timeline : (net : PlainNet) (text other : List ℕ) → ShowsTimeline net text → ShowsTimeline net other → text ≡ other
 one_timeline net text other h k =
     let ranks = one_least net h.0 k.0 h.1 k.1 in
-    let same = subst (λ (rs : List ℕ). IsText (timeline (pairs_of rs)) text) ranks h.2.0 in
+    let same = subst (λ (rs : List ℕ). IsClaimText (timeline (pairs_of rs)) text) ranks h.2.0 in
     same.1 ∙ sym k.2.0.1

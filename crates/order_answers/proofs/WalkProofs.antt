@@ -19,7 +19,8 @@ use Rattle.net_core.specs.Entailment.{AlwaysHolds, AreIntervals, HasTimeline}
 use Rattle.evidence_check.specs.Refusals.{Proves, atom_at, walk_at}
 use Rattle.evidence_check.specs.Supported.{IsProof, IsSupported}
 use Rattle.evidence_check.proofs.Soundness.{supported_is_true}
-use Rattle.evidence_format.specs.Evidence.{AreSteps, IsText, IsWellFormed, entails}
+use Rattle.evidence_format.specs.Bundles.{IsClaimText}
+use Rattle.evidence_format.specs.Evidence.{AreSteps, IsWellFormed, entails}
 use Rattle.order_answers.specs.Ask.{AreWalks, ShowsProof}
 use Rattle.net_answers.proofs.StepNumbers.{walk_numbers}
 use Rattle.net_answers.proofs.Sizes.{entails_size}
@@ -72,7 +73,7 @@ module _ (net : PlainNet) (a : ℕ) (r : Rel) (b : ℕ) (is : IsNet net) (both :
       )
 
   -- their text tells a proof
-  pub shows_proof : (text : List ℕ) → IsText (entails a r b walks) text → ShowsProof net a r b text
+  pub shows_proof : (text : List ℕ) → IsClaimText (entails a r b walks) text → ShowsProof net a r b text
   shows_proof text is_text =
       let supported : IsSupported net (entails a r b walks) = (both, zip_from (IsProof net) (record { from = 0; to = 0; strict = false }) [] (atoms_of r a b) walks are.one_each are.proofs) in (
         walks,

@@ -4,7 +4,8 @@ use Rattle.std.specs.List.{All}
 use Rattle.std.specs.declared.option.Option.{Option}
 use Rattle.answers.specs.Documents.{Contents, document_rows, of_its_contents}
 use Rattle.evidence_check.specs.Refusals.{Proves, atom_at}
-use Rattle.evidence_format.specs.Evidence.{IsText, entails, counter}
+use Rattle.evidence_format.specs.Bundles.{IsClaimText}
+use Rattle.evidence_format.specs.Evidence.{entails, counter}
 use Rattle.named.specs.Texts.{NoneHas}
 use Rattle.net_answers.specs.Nets.{NetAnswers, of_net}
 use Rattle.net_answers.specs.Showing.{ShowsEvidence}
@@ -120,7 +121,7 @@ AskIsFree x rel y = of_its_bytes (of_its_contents (IsFreeAsk x rel y))
 abbrev pub IsCounterText : Table → ℕ → Rel → ℕ → Atom → List ℕ → Type 0
 IsCounterText table a r b atom text =
     (ranks : List ℕ) × (length ranks ≡ table.points) × IsLeast table.points (λ t. Keeps table t × (Satisfies t atom → ⊥)) (timeline_of ranks)
-    × IsText (counter a r b (pairs_of ranks)) text × (length text ≤ max_printed)
+    × IsClaimText (counter a r b (pairs_of ranks)) text × (length text ≤ max_printed)
 
 -- the first of some atoms that a table does not give, if any
 abbrev pub IsFirstNotGiven : Table → List Atom → Option Atom → Type 0

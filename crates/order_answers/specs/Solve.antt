@@ -1,7 +1,8 @@
 -- The command `solve`: in what order the intervals of a document can lie.
 use Rattle.std.specs.Prelude.{◌≡◌, ◌≤◌, ℕ, List, length}
 use Rattle.answers.specs.Documents.{document_rows}
-use Rattle.evidence_format.specs.Evidence.{IsText, timeline}
+use Rattle.evidence_format.specs.Bundles.{IsClaimText}
+use Rattle.evidence_format.specs.Evidence.{timeline}
 use Rattle.net_answers.specs.Nets.{NetAnswers, of_net}
 use Rattle.net_answers.specs.Showing.{ShowsEvidence}
 use Rattle.net_core.specs.Limits.{max_printed}
@@ -27,4 +28,4 @@ solve_rows name = document_rows (of_net OfSolve) name
 
 -- the text is that of the least ranks that keep the table
 abbrev pub IsLeastText : Table → List ℕ → Type 0
-IsLeastText table text = (ranks : List ℕ) × (length ranks ≡ table.points) × IsLeast table.points (Keeps table) (timeline_of ranks) × IsText (timeline (pairs_of ranks)) text × (length text ≤ max_printed)
+IsLeastText table text = (ranks : List ℕ) × (length ranks ≡ table.points) × IsLeast table.points (Keeps table) (timeline_of ranks) × IsClaimText (timeline (pairs_of ranks)) text × (length text ≤ max_printed)

@@ -1,13 +1,14 @@
 //! The command `solve`: in what order the intervals of a document can lie.
-ghost use Rattle.evidence_format.specs.Evidence.{IsText, timeline};
+ghost use Rattle.evidence_format.specs.Bundles.{IsClaimText};
+ghost use Rattle.evidence_format.specs.Evidence.{timeline};
 ghost use Rattle.net_core.specs.Limits.{max_points, max_printed};
 ghost use Rattle.net_core.specs.Ranks.{pairs_of};
 ghost use Rattle.order_answers.specs.Solve.{IsLeastText};
 ghost use Rattle.std.specs.Prelude.{◌≡◌, ◌<◌, ◌≤◌, ◌%◌, length, slice_index, IfOk, ℕ};
 
 use answers::OfDocument;
-use evidence_format::{Evidence, write_evidence};
-use net_answers::{OfNet, answer_of_net};
+use evidence_format::Evidence;
+use net_answers::{OfNet, answer_of_net, evidence_text};
 use net_core::{MAX_INTERVALS, Memory, Net, Ranks};
 use order_closure::Closed;
 use std::alloc::{AllocError, Global};
@@ -68,11 +69,8 @@ fn least_text(alloc: Global, table: &Closed) -> Result<Vec<u8>, AllocError>
 pub fn timeline_text(alloc: Global, ranks: Ranks) -> Result<Vec<u8>, AllocError>
     requires few { length ranks ≤ max_points }
     requires small { (p : ℕ) → p < length ranks → slice_index ranks p < length ranks }
-    ensures text { IfOk result (λ text. IsText (timeline (pairs_of ranks)) text.items) }
+    ensures text { IfOk result (λ text. IsClaimText (timeline (pairs_of ranks)) text.items) }
     ensures short { IfOk result (λ text. length text.items ≤ max_printed) }
 {
-    match write_evidence(alloc, &Evidence::Timeline { ranks }) {
-        Ok(text) => Ok(text.into_vec()),
-        Err(Memory) => Err(AllocError),
-    }
+    evidence_text(alloc, Evidence::Timeline { ranks })
 }

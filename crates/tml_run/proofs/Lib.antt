@@ -2,3 +2,4 @@ pub mod EveryReply
 pub mod HowItEnds
 pub mod OneFile
 pub mod OneReply
+pub mod TwoFiles

@@ -9,4 +9,5 @@ pub mod Replies
 pub mod Roles
 pub mod Rows
 pub mod Status
+pub mod TwoFiles
 pub mod View

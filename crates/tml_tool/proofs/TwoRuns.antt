@@ -1,10 +1,14 @@
 -- What is printed as evidence, `verify` accepts.
 use Rattle.std.proofs.Common.{◌≡◌, ◌≤◌, ◌+◌, true, false, ℕ, List, map, [], ◌∷◌, length, refl, Some, inl, inr, arith}
 use Rattle.answers.specs.Documents.{Contents, doc_file, document_rows, of_contents}
-use Rattle.evidence_answers.specs.Texts.{claim_line}
-use Rattle.evidence_answers.specs.Verify.{evidence_file, verify_rows}
+use Rattle.evidence_answers.specs.Texts.{claim_lines}
+use Rattle.evidence_answers.specs.Files.{evidence_file}
+use Rattle.evidence_answers.specs.Verify.{verify_rows}
 use Rattle.evidence_answers.proofs.VerifyAnswered.{verify_answered}
+use Rattle.evidence_check.specs.Claims.{ShowsTruth}
+use Rattle.evidence_check.specs.Supported.{IsSupported}
 use Rattle.evidence_format.specs.Evidence.{clash, counter, entails, timeline}
+use Rattle.evidence_format.proofs.Claims.{all_of_one}
 use Rattle.net_answers.specs.Nets.{HasEvidence, NetAnswers, of_net}
 use Rattle.net_core.specs.Nets.{PlainNet}
 use Rattle.net_core.specs.Ranks.{pairs_of}
@@ -87,12 +91,12 @@ accepted : (files : Files) (name other text : List ℕ) → HasShown files name 
 accepted files name other text (doc, holds, short, has) held_text =
     let shows = has.shows in
     let few : length text ≤ (evidence_file other).limit = omega (arith, shows.3) in
-    let line = claim_line has.contents has.evidence in
+    let line = claim_lines has.contents (has.evidence ∷ []) in
     let reply : Replies (Some files) (verify_rows name other) Done line (total (doc ∷ text ∷ []) + 0) = record {
       contents = doc ∷ text ∷ [];
       reading = (doc_file name, refl, (holds, short), (evidence_file other, ((has.contents, has.says), refl), (held_text, few), tt));
       part = 0;
-      ends = inl ((has.contents, has.says, (has.net, has.built, (has.evidence, shows.0, shows.1, shows.2, refl))), refl);
+      ends = inl ((has.contents, has.says, (has.net, has.built, (has.evidence ∷ [], inl shows.0, all_of_one (IsSupported has.net) has.evidence shows.1, all_of_one (ShowsTruth has.net) has.evidence shows.2, refl))), refl);
       bytes = refl;
     } in
     record {

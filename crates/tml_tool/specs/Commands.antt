@@ -8,6 +8,8 @@ use Rattle.document_answers.specs.Canon.{canon_rows}
 use Rattle.document_answers.specs.Check.{check_rows}
 use Rattle.document_answers.specs.Dates.{dates_rows}
 use Rattle.document_answers.specs.Spans.{spans_rows}
+use Rattle.evidence_answers.specs.Join.{join_rows}
+use Rattle.evidence_answers.specs.Renew.{renew_rows}
 use Rattle.evidence_answers.specs.Verify.{verify_rows}
 use Rattle.net_answers.specs.Nets.{ClashIsFree}
 use Rattle.order_answers.specs.Ask.{AskIsFree, ask_rows}
@@ -19,12 +21,12 @@ use Rattle.tml_run.specs.Rows.{Rows, answers}
 use Rattle.tml_run.specs.declared.status.Status.TheVariants.{Usage}
 use Rattle.tml_tool.specs.Forms.{argument, calls_for, taken_by, texts_of, usage_of, with_arguments}
 use Rattle.tml_tool.specs.declared.commands.Form.{Form}
-use Rattle.tml_tool.specs.declared.commands.Form.TheVariants.{Spans, Check, Dates, Solve, Ask, Relations, Canon, Verify, Drill}
+use Rattle.tml_tool.specs.declared.commands.Form.TheVariants.{Spans, Check, Dates, Solve, Ask, Relations, Canon, Verify, Drill, Renew, Join}
 
 -- ---- the table
 
 abbrev pub all_forms : List Form
-all_forms = Spans ∷ Check ∷ Dates ∷ Solve ∷ Ask ∷ Relations ∷ Canon ∷ Verify ∷ Drill ∷ []
+all_forms = Spans ∷ Check ∷ Dates ∷ Solve ∷ Ask ∷ Relations ∷ Canon ∷ Verify ∷ Drill ∷ Renew ∷ Join ∷ []
 
 abbrev pub word_of : Form → List ℕ
 word_of Spans = codes "spans"
@@ -36,12 +38,16 @@ word_of Relations = codes "relations"
 word_of Canon = codes "canon"
 word_of Verify = codes "verify"
 word_of Drill = codes "drill"
+word_of Renew = codes "renew"
+word_of Join = codes "join"
 
 -- the names of the arguments, of most forms that of a document alone
 abbrev pub arguments_of : Form → List (List ℕ)
 arguments_of Ask = codes "DOC" ∷ codes "X" ∷ codes "REL" ∷ codes "Y" ∷ []
 arguments_of Verify = codes "DOC" ∷ codes "EVIDENCE" ∷ []
 arguments_of Drill = codes "N" ∷ []
+arguments_of Renew = codes "EVIDENCE" ∷ []
+arguments_of Join = codes "EVIDENCE" ∷ codes "SECOND" ∷ []
 arguments_of form = codes "DOC" ∷ []
 
 -- whether a form takes so many arguments with these texts: a drill has a number
@@ -53,6 +59,8 @@ takes form arguments = true
 abbrev pub limits_of : Form → List ℕ
 limits_of Verify = max_document ∷ max_evidence ∷ []
 limits_of Drill = []
+limits_of Renew = max_evidence ∷ []
+limits_of Join = max_evidence ∷ max_evidence ∷ []
 limits_of form = max_document ∷ []
 
 -- what comes next, by the arguments of a form
@@ -66,6 +74,8 @@ rows_with Relations arguments = relations_rows (argument arguments 0)
 rows_with Canon arguments = canon_rows (argument arguments 0)
 rows_with Verify arguments = verify_rows (argument arguments 0) (argument arguments 1)
 rows_with Drill arguments = drill_rows (argument arguments 0)
+rows_with Renew arguments = renew_rows (argument arguments 0)
+rows_with Join arguments = join_rows (argument arguments 0) (argument arguments 1)
 
 -- after which contents the text of an answer is free: which clash is printed, and which walks prove a relation
 abbrev pub is_free_with : Form → List (List ℕ) → Freedom

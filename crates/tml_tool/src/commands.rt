@@ -10,7 +10,7 @@ ghost use Rattle.tml_tool.specs.Forms.{argument, texts_of};
 
 use answers::{DOC, reply_of_document, reply_of_judged};
 use document_answers::{Canon, Check, Dates, Spans};
-use evidence_answers::{EVIDENCE, Verify};
+use evidence_answers::{EVIDENCE, Renew, Verify, reply_of_join};
 use named::Named;
 use order_answers::{Ask, Relations, Solve, drill_number, drill_summary};
 use std::alloc::Global;
@@ -38,6 +38,10 @@ pub enum Form {
     Verify,
     /// The summary of a drill.
     Drill,
+    /// Evidence as a text of version 2.
+    Renew,
+    /// The claims of two files of evidence as one text.
+    Join,
 }
 
 impl Named for Form {
@@ -60,6 +64,8 @@ impl Named for Form {
             Form::Canon,
             Form::Verify,
             Form::Drill,
+            Form::Renew,
+            Form::Join,
         ]
     }
 
@@ -74,6 +80,8 @@ impl Named for Form {
             Form::Canon => b"canon",
             Form::Verify => b"verify",
             Form::Drill => b"drill",
+            Form::Renew => b"renew",
+            Form::Join => b"join",
         }
     }
 }
@@ -85,7 +93,7 @@ impl Form {
     {
         match self {
             Form::Ask => 4,
-            Form::Verify => 2,
+            Form::Verify | Form::Join => 2,
             _ => 1,
         }
     }
@@ -105,6 +113,8 @@ tml relations DOC
 tml canon DOC
 tml verify DOC EVIDENCE
 tml drill N
+tml renew EVIDENCE
+tml join EVIDENCE SECOND
 "
 }
 
@@ -149,6 +159,8 @@ pub fn reply_with<I: Inputs>(
             Some(n) => Reply::from_answer(drill_summary(alloc, n)),
             None => Reply::Usage(usage_text()),
         },
+        Form::Renew => reply_of_file(alloc, &Renew, EVIDENCE, first, inputs),
+        Form::Join => reply_of_join(alloc, first, word(arguments, 1), inputs),
     }
 }
 

@@ -9,9 +9,9 @@ ghost use Rattle.order_closure.specs.Tables.{AreInRange, cell_at};
 ghost use Rattle.std.specs.Prelude.{◌%◌, ◌<◌, ◌≡◌, ◌≤◌, IfOk};
 
 use crate::ask::proving::proof_text;
-use evidence_format::{Evidence, write_evidence};
-use net_answers::OfNet;
-use net_core::{Atom, Atoms, MAX_INTERVALS, Memory, Net, Rel, atoms_of};
+use evidence_format::Evidence;
+use net_answers::{OfNet, evidence_text};
+use net_core::{Atom, Atoms, MAX_INTERVALS, Net, Rel, atoms_of};
 use order_closure::Closed;
 use std::alloc::{AllocError, Global};
 use timeline::counter;
@@ -102,8 +102,5 @@ fn counterexample_text(
     let Ok(ranks) = counter(alloc, table, atom) else {
         return Err(AllocError);
     };
-    match write_evidence(alloc, &Evidence::Counter { a, rel, b, ranks }) {
-        Ok(text) => Ok(text.into_vec()),
-        Err(Memory) => Err(AllocError),
-    }
+    evidence_text(alloc, Evidence::Counter { a, rel, b, ranks })
 }

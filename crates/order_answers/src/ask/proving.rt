@@ -9,7 +9,8 @@ ghost use Rattle.order_closure.specs.Tables.{AreInRange};
 ghost use Rattle.std.specs.Prelude.{◌*◌, ◌≡◌, ◌≤◌, IfOk, None, length, replicate, true};
 ghost use Rattle.order_answers.specs.Ask.{AreWalks, ShowsProof};
 
-use evidence_format::{Evidence, write_evidence};
+use evidence_format::Evidence;
+use net_answers::evidence_text;
 use net_core::{Atom, Atoms, List, MAX_INTERVALS, Memory, Net, Rel, Walk, atoms_of};
 use std::alloc::{AllocError, Global};
 use walks::walk;
@@ -23,10 +24,7 @@ pub fn proof_text(alloc: Global, net: &Net, a: u32, rel: Rel, b: u32) -> Result<
 {
     prove!(net.intervals() <= MAX_INTERVALS);
     let walks = walks_for(alloc, net, atoms_of(rel, a, b))?;
-    match write_evidence(alloc, &Evidence::Entails { a, rel, b, walks }) {
-        Ok(text) => Ok(text.into_vec()),
-        Err(Memory) => Err(AllocError),
-    }
+    evidence_text(alloc, Evidence::Entails { a, rel, b, walks })
 }
 
 /// A walk for each of some orders that hold in every timeline that fits.

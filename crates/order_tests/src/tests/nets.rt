@@ -32,7 +32,7 @@ fn is_ordered(bounds: &Bounds) -> bool
 
 pub fn net_of(rt: &(impl Abort + AllocGlobal), bounds: &[Bounds], links: &[NetLink]) -> Net {
     let count = bounds.len();
-    assert!(rt; count <= 512 && links.len() <= 4096);
+    assert!(rt; count <= 1024 && links.len() <= 4096);
     assert!(rt; bounds.iter().all(is_ordered));
     assert!(rt; links.iter().all(|link| (link.a as usize) < count && (link.b as usize) < count));
     let bounds = Vec::from_slice(rt.alloc(), bounds);

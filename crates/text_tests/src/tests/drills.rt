@@ -14,7 +14,7 @@ fn small_documents_are_as_drawn(rt: HostRuntime) {
         ),
     ];
     for (n, document) in documents {
-        assert!(&rt; 1 <= n && n <= 512);
+        assert!(&rt; 1 <= n && n <= 1024);
         let Ok(text) = drill_text(rt.alloc(), n) else {
             panic!(&rt; "out of memory");
         };

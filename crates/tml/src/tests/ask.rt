@@ -51,7 +51,7 @@ fn claim(
     rel: &'static str,
     y: &'static str,
 ) -> Result<Vec<u8>, AllocError> {
-    let word: &[u8] = if answer.starts_with(b"tml-evidence 1\nentails ") {
+    let word: &[u8] = if answer.starts_with(b"tml-evidence 2\nclaims 1\nentails ") {
         b"verified entails "
     } else {
         b"verified counter "

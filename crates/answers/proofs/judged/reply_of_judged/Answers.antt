@@ -3,12 +3,13 @@ use Rattle.std.proofs.Common.{[], ◌∷◌, ◌+◌, ◌∙◌, sym, subst, ref
 use Rattle.std.proofs.lemmas.Result.{IfOk-weaker}
 use Rattle.tml_io.specs.Files.{Files, IsThere}
 use Rattle.tml_accept.specs.Acceptance.{Accepted}
-use Rattle.answers.specs.Judged.{after_document, judged_rows}
+use Rattle.answers.specs.Judged.{documents, judged_rows}
 use Rattle.tml_run.specs.Roles.{file_of}
 use Rattle.tml_run.specs.Rows.{Rows}
 use Rattle.tml_run.specs.View.{finding_status}
 use Rattle.tml_run.proofs.HowItEnds.{answered_or_not, counted_on, stopped}
-use Rattle.answers.proofs.Refusals.{refused_or_not}
+use Rattle.tml_run.proofs.TwoFiles.{refused_or_not}
+use Rattle.tml_run.specs.TwoFiles.{after_first}
 use Rattle.answers.proofs.judged.reply_of_judged.Goals as goal
 
 pub returns-in-Err-clause-reply : goal.returns-in-Err-clause-reply
@@ -27,7 +28,7 @@ returns-in-Err-document_of-clause-reply g c =
     let read = c.in-Ok.ensures.gives in
     let refusal = rw c.as_slice.ensures at c.in-Err-document_of.ensures.err in
     record {
-      replies = (read.0, refused_or_not _ rows _ _ _ read.0 (doc_file c.args.name.now, refl, read.1.0, tt) (λ line. line) refusal (omega (arith, read.1.1)), read.2);
+      replies = (read.0, refused_or_not documents _ rows _ _ _ read.0 (doc_file c.args.name.now, refl, read.1.0, tt) (λ line. line) refusal (omega (arith, read.1.1)), read.2);
       no_fault = λ sound there. c.in-Ok.ensures.no_fault sound (there (doc_file c.args.name.now) ([], tt, refl));
       untouched = λ none. absurd (none (doc_file c.args.name.now) ([], tt, refl));
     }
@@ -39,7 +40,7 @@ returns-in-Ok-read-clause-reply g c =
     let second = rw c.in-Ok.ensures.files at c.in-Ok-read.ensures.gives in
     let contents = rw c.as_slice.ensures at c.in-Ok-document_of.ensures.ok in
     let verdict = rw c.as_slice-in-Ok-read.ensures at c.answer.ensures in
-    let answer = IfOk-weaker c.answer.result _ (λ answer. after_document (g.A.OfJudged.says c.args.asked.now) c.in-Ok.doc c.in-Ok-read.text (finding_status answer.finding) answer.text.items) (λ answer says. (_, contents, says)) verdict in
+    let answer = IfOk-weaker c.answer.result _ (λ answer. after_first documents (g.A.OfJudged.says c.args.asked.now) c.in-Ok.doc c.in-Ok-read.text (finding_status answer.finding) answer.text.items) (λ answer says. (_, contents, says)) verdict in
     let replies = answered_or_not _ rows (_ ∷ _ ∷ []) c.answer.result (first.0 + second.0)
     (doc_file c.args.name.now, refl, first.1.0, (file_of c.args.role c.args.other.now, ((_, contents), refl), second.1.0, tt))
     answer (omega (arith, first.1.1, second.1.1)) in

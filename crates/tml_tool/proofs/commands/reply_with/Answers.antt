@@ -39,3 +39,9 @@ pub returns-in-None-clause-reply : goal.returns-in-None-clause-reply
 returns-in-None-clause-reply g c =
     let none = no_drill (texts_of c.args.arguments.now) (sym c.in-None.is ∙ c.drill_number.ensures.number ∙ ap drill_number c.word-first.ensures) in
     rw c.in-Drill.is (usage_replied _ _ _ _ _ _ _ none c.usage_text.ensures refl)
+
+pub returns-in-Renew-clause-reply : goal.returns-in-Renew-clause-reply
+returns-in-Renew-clause-reply g c = rw c.in-Renew.is (rw c.word-first.ensures at c.reply_of_file-in-Renew.ensures.reply)
+
+pub returns-in-Join-clause-reply : goal.returns-in-Join-clause-reply
+returns-in-Join-clause-reply g c = rw c.in-Join.is (rw (c.word-first.ensures, c.word-in-Join.ensures) at c.reply_of_join.ensures.reply)

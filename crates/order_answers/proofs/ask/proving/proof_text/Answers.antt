@@ -1,5 +1,6 @@
 use Rattle.std.proofs.Common.{List, sym, subst, arith}
 use Rattle.std.proofs.lemmas.List.Elements.{All-from_recursion}
+use Rattle.std.proofs.lemmas.Result.{IfOk-weaker}
 use Rattle.net_core.specs.Atoms.{IsInRange, atoms_of}
 use Rattle.net_core.specs.Nets.{intervals, points}
 use Rattle.net_core.specs.declared.atom.Atom.{Atom}
@@ -21,13 +22,13 @@ walks_for-requires-clause-range c =
     (All-from_recursion (IsInRange (points c.args.net.now)) (atoms_of c.args.rel c.args.a c.args.b)
     (atoms_in_range (intervals c.args.net.now) c.args.rel c.args.a c.args.b c.requires.intervals.0 c.requires.intervals.1))
 
-pub write_evidence-requires : goal.write_evidence-requires
-write_evidence-requires c =
+pub evidence_text-requires : goal.evidence_text-requires
+evidence_text-requires c =
     let are = subst (λ (atoms : List Atom). AreWalks c.args.net.now atoms c.in_ok-walks.walks) c.atoms_of.ensures c.in_ok-walks.ensures in
     proof_well_formed c.args.net.now c.args.a c.args.rel c.args.b c.intervals.ensures.net c.requires.intervals c.in_ok-walks.walks are
 
-pub returns-in-Ok : goal.returns-in-Ok
-returns-in-Ok c =
+pub returns : goal.returns
+returns c =
     let are = subst (λ (atoms : List Atom). AreWalks c.args.net.now atoms c.in_ok-walks.walks) c.atoms_of.ensures c.in_ok-walks.ensures in
-    subst (ShowsProof c.args.net.now c.args.a c.args.rel c.args.b) (sym c.into_vec.ensures)
-    (shows_proof c.args.net.now c.args.a c.args.rel c.args.b c.intervals.ensures.net c.requires.intervals c.in_ok-walks.walks are c.in-Ok.text c.in-Ok.ensures)
+    IfOk-weaker c.evidence_text.result _ (λ text. ShowsProof c.args.net.now c.args.a c.args.rel c.args.b text.items)
+    (λ text is. shows_proof c.args.net.now c.args.a c.args.rel c.args.b c.intervals.ensures.net c.requires.intervals c.in_ok-walks.walks are text.items is) c.evidence_text.ensures

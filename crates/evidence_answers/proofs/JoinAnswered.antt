@@ -1,0 +1,63 @@
+-- Two files of evidence have one text of all their claims, or the first one that is malformed has one bad line.
+use Rattle.std.proofs.Common.{◌≡◌, ◌≤◌, ℕ, List, ◌++◌, codes, false, length, refl, sym, ap, ◌∙◌, inl, inr, arith}
+use Rattle.std.specs.List.{concat}
+use Rattle.evidence_format.specs.Bundles.{IsTextOfEither, bundle_lines}
+use Rattle.evidence_format.specs.Evidence.{PlainEvidence}
+use Rattle.evidence_format.proofs.Claims.{both_have_text}
+use Rattle.evidence_format.proofs.EveryText.{bundle_or_bad_line}
+use Rattle.net_core.specs.Limits.{max_evidence}
+use Rattle.tml_run.specs.Answered.{AreAnswered, NeverFree}
+use Rattle.tml_run.specs.OneReply.{is_broken_off}
+use Rattle.tml_run.specs.TwoFiles.{IsAnsweredAfter, IsJudged}
+use Rattle.tml_run.specs.declared.status.Status.{Status}
+use Rattle.tml_run.specs.declared.status.Status.TheVariants.{Done, EvidenceFault}
+use Rattle.tml_run.proofs.TwoFiles.{both_answered}
+use Rattle.answers.specs.Lines.{numbered}
+use Rattle.evidence_answers.specs.Files.{evidence_file, second_file}
+use Rattle.evidence_answers.specs.Join.{OfSecond, evidence, join_rows}
+use Rattle.evidence_answers.proofs.Files.{one_bundle, one_report}
+
+-- a first file is evidence, or has one bad line
+evidence_judged : IsJudged max_evidence evidence
+evidence_judged = record {
+  some = λ bytes short. elim (bundle_or_bad_line bytes) [
+    | inl e ↦ inl e
+    | inr bad ↦ inr (EvidenceFault, numbered (codes "evidence line ") bad.1, (refl, (bad.0, bad.1, bad.2, refl)))
+  ];
+  not_both = λ bytes status text says refused. refused.1.0 says.0 says.1;
+  one_said = λ bytes es ds h k. one_bundle es ds bytes h k;
+  one_status = λ bytes status other text line h k. h.0 ∙ sym k.0;
+  whole = λ bytes status text h. ap is_broken_off h.0;
+  one_text = λ bytes status text line h k. one_report (codes "evidence line ") bytes text line h.1 k.1;
+}
+
+some : (one : List ℕ) → length one ≤ max_evidence → (es : List PlainEvidence) → IsTextOfEither es one → (other : List ℕ) → length other ≤ max_evidence → (status : Status) × (text : List ℕ) × OfSecond es other status text
+some one short es says other few = elim (bundle_or_bad_line other) [
+  | inl e ↦ (Done, concat (bundle_lines (es ++ e.0)), (e.0, e.1, both_have_text es e.0 one other says e.1 (omega (arith, short, few))))
+  | inr bad ↦ (EvidenceFault, numbered (codes "second line ") bad.1, (bad.0, bad.1, bad.2, refl))
+]
+
+one_status : (es : List PlainEvidence) (bytes : List ℕ) (status other : Status) (text line : List ℕ) → OfSecond es bytes status text → OfSecond es bytes other line → status ≡ other
+one_status es bytes Done Done text line h k = refl
+one_status es bytes Done EvidenceFault text line h k = absurd (k.0 h.0 h.1)
+one_status es bytes EvidenceFault Done text line h k = absurd (h.0 k.0 k.1)
+one_status es bytes EvidenceFault EvidenceFault text line h k = refl
+one_status es bytes Done other text line h k = absurd k
+one_status es bytes EvidenceFault other text line h k = absurd k
+one_status es bytes status other text line h k = absurd h
+
+whole : (es : List PlainEvidence) (bytes : List ℕ) (status : Status) (text : List ℕ) → OfSecond es bytes status text → is_broken_off status ≡ false
+whole es bytes Done text h = refl
+whole es bytes EvidenceFault text h = refl
+whole es bytes status text h = absurd h
+
+one_text : (es : List PlainEvidence) (bytes : List ℕ) (status : Status) (text line : List ℕ) → OfSecond es bytes status text → OfSecond es bytes status line → text ≡ line
+one_text es bytes Done text line h k = h.2.1 ∙ ap (λ (more : List PlainEvidence). concat (bundle_lines (es ++ more))) (one_bundle h.0 k.0 bytes h.1 k.1) ∙ sym k.2.1
+one_text es bytes EvidenceFault text line h k = one_report (codes "second line ") bytes text line h k
+one_text es bytes status text line h k = absurd h
+
+second_answered : IsAnsweredAfter evidence max_evidence max_evidence OfSecond
+second_answered = record { some = some; one_status = one_status; whole = whole; one_text = one_text }
+
+pub join_answered : (name other : List ℕ) → AreAnswered (join_rows name other) NeverFree
+join_answered name other = both_answered evidence (evidence_file name) (second_file other) OfSecond evidence_judged second_answered

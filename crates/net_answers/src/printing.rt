@@ -1,0 +1,27 @@
+//! Evidence as it is printed.
+ghost use Rattle.evidence_format.specs.Bundles.{IsClaimText};
+ghost use Rattle.evidence_format.specs.Evidence.{IsWellFormed};
+ghost use Rattle.evidence_format.specs.View.{plain};
+ghost use Rattle.std.specs.Prelude.{IfOk};
+
+use evidence_format::{Bundle, Evidence, write_bundle};
+use net_core::Memory;
+use std::alloc::{AllocError, Global};
+
+/// The text of well-formed evidence, of version 2, with one claim.
+///
+/// # Errors
+///
+/// Out of memory.
+pub fn evidence_text(alloc: Global, evidence: Evidence) -> Result<Vec<u8>, AllocError>
+    requires { IsWellFormed (plain evidence) }
+    ensures { IfOk result (λ text. IsClaimText (plain evidence) text.items) }
+{
+    let Ok(bundle) = Bundle::one(alloc, evidence) else {
+        return Err(AllocError);
+    };
+    match write_bundle(alloc, &bundle) {
+        Ok(text) => Ok(text.into_vec()),
+        Err(Memory) => Err(AllocError),
+    }
+}

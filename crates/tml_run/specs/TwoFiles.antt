@@ -1,0 +1,48 @@
+-- Commands that read a file, judge it by itself, and read a second one only where the first is not refused.
+use Rattle.std.specs.Prelude.{◌≡◌, ◌⊎◌, ◌≤◌, false, ℕ, List, [], ◌∷◌, length}
+use Rattle.tml_run.specs.declared.status.Status.{Status}
+use Rattle.tml_run.specs.declared.status.Status.TheVariants.{NoMemory}
+use Rattle.tml_run.specs.OneFile.{Answers}
+use Rattle.tml_run.specs.OneReply.{is_broken_off}
+use Rattle.tml_run.specs.Rows.{File, Rows, reads, answers}
+
+-- how a first file is judged: what it says, and how it is answered where it is refused
+pub record Judging (C : Type 0) : Type 1 where
+  pub Says : List ℕ → C → Type 0
+  pub IsRefused : Answers
+
+-- the first file is not refused
+abbrev pub IsPassed : {C : Type 0} → Judging C → List ℕ → Type 0
+IsPassed {C} judging one = (c : C) × judging.Says one c
+
+-- the first file is not refused, and the second one is answered by what the first one says
+abbrev pub after_first : {C : Type 0} → Judging C → (C → Answers) → List ℕ → Answers
+after_first {C} judging Of one other status text = (c : C) × judging.Says one c × Of c other status text
+
+-- the first file is read and judged, and where it is not refused the second one is read
+abbrev pub of_two_files : {C : Type 0} → Judging C → File → File → (C → Answers) → Rows
+of_two_files judging first second Of [] (reads file) = file ≡ first
+of_two_files judging first second Of (one ∷ []) (answers status text) = judging.IsRefused one status text
+of_two_files judging first second Of (one ∷ []) (reads file) = IsPassed judging one × (file ≡ second)
+of_two_files judging first second Of (one ∷ other ∷ []) (answers status text) = after_first judging Of one other status text
+of_two_files judging first second Of contents next = ⊥
+
+-- the first file is refused, or out of memory
+abbrev pub CannotJudge : {C : Type 0} → Judging C → List ℕ → Status → List ℕ → Type 0
+CannotJudge judging one status text = judging.IsRefused one status text ⊎ ((status ≡ NoMemory) × (text ≡ []))
+
+-- A first file within its limit says something or is refused, and not both. It says one thing, or is refused with one status, which is none that is broken off, and one text.
+pub record IsJudged {C : Type 0} (limit : ℕ) (judging : Judging C) : Type 0 where
+  pub some : (one : List ℕ) → length one ≤ limit → IsPassed judging one ⊎ ((status : Status) × (text : List ℕ) × judging.IsRefused one status text)
+  pub not_both : (one : List ℕ) (status : Status) (text : List ℕ) → IsPassed judging one → judging.IsRefused one status text → ⊥
+  pub one_said : (one : List ℕ) (c d : C) → judging.Says one c → judging.Says one d → c ≡ d
+  pub one_status : (one : List ℕ) (status other : Status) (text line : List ℕ) → judging.IsRefused one status text → judging.IsRefused one other line → status ≡ other
+  pub whole : (one : List ℕ) (status : Status) (text : List ℕ) → judging.IsRefused one status text → is_broken_off status ≡ false
+  pub one_text : (one : List ℕ) (status : Status) (text line : List ℕ) → judging.IsRefused one status text → judging.IsRefused one status line → text ≡ line
+
+-- Two files within their limits have an answer, by what the first one says: one status, which is none that is broken off, and one text.
+pub record IsAnsweredAfter {C : Type 0} (judging : Judging C) (first second : ℕ) (Of : C → Answers) : Type 0 where
+  pub some : (one : List ℕ) → length one ≤ first → (c : C) → judging.Says one c → (other : List ℕ) → length other ≤ second → (status : Status) × (text : List ℕ) × Of c other status text
+  pub one_status : (c : C) (other : List ℕ) (status found : Status) (text line : List ℕ) → Of c other status text → Of c other found line → status ≡ found
+  pub whole : (c : C) (other : List ℕ) (status : Status) (text : List ℕ) → Of c other status text → is_broken_off status ≡ false
+  pub one_text : (c : C) (other : List ℕ) (status : Status) (text line : List ℕ) → Of c other status text → Of c other status line → text ≡ line
