@@ -7,7 +7,7 @@ from dataclasses import dataclass, field
 from enum import Enum
 
 DOCUMENT_LIMIT = 4_194_304
-EVIDENCE_LIMIT = 16_777_216
+EVIDENCE_LIMIT = 67_108_864
 STANDARD_INPUT = b"-"
 
 
@@ -64,6 +64,8 @@ class Case:
                 return [name]
             case (b"ask", name, _, _, _):
                 return [name]
-            case (b"verify", name, evidence):
-                return [name, evidence]
+            case (b"verify" | b"join", name, other):
+                return [name, other]
+            case (b"renew", name):
+                return [name]
         return []

@@ -11,11 +11,11 @@ from differential_testing.cases import DOCUMENT_LIMIT, EVIDENCE_LIMIT, STANDARD_
 from differential_testing.chances import chance
 from differential_testing.devices import draw_memory, draw_real, with_memory
 from differential_testing.documents import draw_document
-from differential_testing.evidence import draw_damaged, draw_invented
+from differential_testing.evidence import draw_claims, draw_damaged, draw_invented, older_text
 from differential_testing.faulty import draw_faulty
 from differential_testing.hostile import draw_hostile
 from differential_testing.mutated import draw_mutated, draw_noise
-from differential_testing.words import DOCUMENT, EVIDENCE, draw_ask, draw_question, draw_words
+from differential_testing.words import DOCUMENT, EVIDENCE, SECOND, draw_ask, draw_question, draw_words
 
 
 @dataclass(frozen=True)
@@ -77,8 +77,10 @@ def draw_long(random: Random) -> Case:
     fill = b"\n" if before and not after else random.choice((b"x", b" "))
     more = random.choice((-1, 0, 1, 2))
     if chance(random, 0.3):
-        files = {DOCUMENT: b"<TimeML/>", EVIDENCE: fill * (EVIDENCE_LIMIT + more)}
-        return redirected(random, Case("long", (b"verify", DOCUMENT, EVIDENCE), files))
+        commands = ((b"verify", DOCUMENT, EVIDENCE), (b"renew", EVIDENCE), (b"join", EVIDENCE, SECOND), (b"join", SECOND, EVIDENCE))
+        words = random.choice(commands)
+        files = {DOCUMENT: b"<TimeML/>", EVIDENCE: fill * (EVIDENCE_LIMIT + more), SECOND: b"tml-evidence 1\ntimeline 0\nend\n"}
+        return redirected(random, Case("long", words, {name: content for name, content in files.items() if name in words}))
     document = before + fill * (DOCUMENT_LIMIT + more - len(before + after)) + after
     return redirected(random, Case("long", (random.choice((b"spans", b"check", b"solve", b"dates")), DOCUMENT), {DOCUMENT: document}))
 
@@ -86,7 +88,7 @@ def draw_long(random: Random) -> Case:
 def draw_worded(random: Random) -> Case:
     """Words of any kind."""
     document = draw_document(random)
-    files = {DOCUMENT: document, EVIDENCE: draw_invented(random, 3), STANDARD_INPUT: draw_noise(random)}
+    files = {DOCUMENT: document, EVIDENCE: draw_invented(random, 3), SECOND: draw_invented(random, 1), STANDARD_INPUT: draw_noise(random)}
     return Case("words", draw_words(random, document), files)
 
 
@@ -125,19 +127,59 @@ def draw_writing(random: Random) -> Case:
     return Case("writing", words, {DOCUMENT: document})
 
 
+def draw_text(random: Random, one: Written, written: Sequence[Written]) -> bytes:
+    """Evidence that was written, mostly damaged, or that is invented: one claim or several, of either version."""
+    others = [random.choice(written).text for _ in range(3)]
+    text = older_text(one.text) if chance(random, 0.3) else one.text
+    if chance(random, 0.04):
+        return text
+    if chance(random, 0.08):
+        return draw_invented(random, len(re.findall(rb"\s(?:eiid|tid)\s*=", one.document)))
+    if chance(random, 0.2):
+        text = draw_claims(random, [text, text, *(draw_damaged(random, text, others) for _ in range(2))])
+        return draw_damaged(random, text, others) if chance(random, 0.3) else text
+    return draw_damaged(random, text, others)
+
+
 def draw_verifying(random: Random, written: Sequence[Written]) -> Case:
     """A question to `verify`: evidence that was written, mostly damaged, of the document or of another one."""
     one = random.choice(written)
     document = one.document if chance(random, 0.95) else random.choice(written).document
-    if chance(random, 0.04):
-        text = one.text
-    elif chance(random, 0.08):
-        text = draw_invented(random, len(re.findall(rb"\s(?:eiid|tid)\s*=", document)))
-    else:
-        text = draw_damaged(random, one.text, [random.choice(written).text for _ in range(3)])
+    text = draw_text(random, one, written)
     if chance(random, 0.02):
         document = draw_faulty(random, document)
     case = redirected(random, Case("evidence", (b"verify", DOCUMENT, EVIDENCE), {DOCUMENT: document, EVIDENCE: text}))
+    return with_devices(random, case, 0.03)
+
+
+def draw_joining(random: Random, written: Sequence[Written]) -> Case:
+    """A question to `renew` or `join`: evidence that was written, as it is or damaged, of any documents."""
+
+    def text() -> bytes:
+        one = random.choice(written)
+        if chance(random, 0.5):
+            return older_text(one.text) if chance(random, 0.5) else one.text
+        return draw_text(random, one, written)
+
+    if chance(random, 0.4):
+        case = Case("joining", (b"renew", EVIDENCE), {EVIDENCE: text()})
+    elif chance(random, 0.05):
+        case = Case("joining", (b"join", EVIDENCE, EVIDENCE), {EVIDENCE: text()})
+    else:
+        case = Case("joining", (b"join", EVIDENCE, SECOND), {EVIDENCE: text(), SECOND: text()})
     if chance(random, 0.03):
+        gone = random.choice(case.words[1:])
+        case = replace(case, files={name: content for name, content in case.files.items() if name != gone})
+    return with_devices(random, redirected(random, case), 0.1)
+
+
+def draw_of_evidence(random: Random, written: Sequence[Written]) -> Case:
+    """A question to `verify`, `renew` or `join`."""
+    return draw_joining(random, written) if chance(random, 0.25) else draw_verifying(random, written)
+
+
+def with_devices(random: Random, case: Case, share: float) -> Case:
+    """The same, where in such a share of all cases devices in memory fail, and in a tenth of it those of the machine."""
+    if chance(random, share):
         return with_memory(case, draw_memory(random))
-    return draw_real(random, case) if chance(random, 0.003) else case
+    return draw_real(random, case) if chance(random, share / 10) else case

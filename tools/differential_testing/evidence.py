@@ -17,18 +17,23 @@ NUMBERS = (
     b"4294967295", b"4294967294", b"4294967296", b"18446744073709551616", b"18446744073709551615", b"00", b"", b"-1", b"+1", b"1e1",
     b"\xd9\xa1", b"9" * 100,
 )  # fmt: skip
-AFTER = (b"\n", b" ", b"\0", b"end\n", b"x", b"end", b"tml-evidence 1\n", b"\r\n")
+AFTER = (
+    b"\n", b" ", b"\0", b"end\n", b"x", b"end", b"tml-evidence 1\n", b"tml-evidence 2\n", b"claims 1\n", b"timeline 0\n", b"\r\n",
+)  # fmt: skip
+BETWEEN = (b"end\n", b"\n", b"claims 1\n", b"tml-evidence 2\n", b"tml-evidence 1\n", b"end\ntml-evidence 1\n")
 KEYWORDS = (
     b"at", b"via", b"span", b"calendar", b"cite", b"walk", b"timeline", b"clash", b"entails", b"counter", b"end", b"END", b"tml-evidence",
-    b"",
+    b"claims", b"",
 )  # fmt: skip
 Lines = list[bytes]
 ORDERS = {"SIMULTANEOUS": 4, "IDENTITY": 4, "BEFORE": 1, "AFTER": 1, "BEGINS": 3, "BEGUN_BY": 3, "ENDS": 3, "ENDED_BY": 3}
 """How many orders relations have, where these are not two."""
 AT = re.compile(rb"at (\d{1,12}) (\d{1,12})")
 GREATEST = (1 << 32) - 1
-PARTS = 3
-"""How many blocks the shortest evidence has: the first line, a part, and the last line."""
+PARTS = 4
+"""How many blocks the shortest text of version 2 has: its first two lines, a part, and the last line."""
+WHOLE = re.compile(rb"tml-evidence (?:1|2\nclaims ([0-9]{1,9}))\n(.*)end\n", re.DOTALL)
+"""A text of evidence: the number of its claims, where that is written, and their bodies."""
 
 
 class Block:
@@ -287,6 +292,57 @@ def draw_damaged(random: Random, text: bytes, others: Sequence[bytes]) -> bytes:
     return text
 
 
+# Several claims.
+
+
+def text_of_bodies(bodies: Sequence[bytes], count: int | None = None, older: bool = False) -> bytes:
+    """The text of some bodies: of version 1 or 2, and of the latter perhaps with another number of claims."""
+    number = len(bodies) if count is None else count
+    head = b"tml-evidence 1\n" if older else b"tml-evidence 2\nclaims %d\n" % number
+    return head + b"".join(bodies) + b"end\n"
+
+
+def older_text(text: bytes) -> bytes:
+    """The text of version 1, where there is one claim."""
+    found = WHOLE.fullmatch(text)
+    return text_of_bodies([found[2]], older=True) if found and found[1] in (None, b"1") else text
+
+
+def joined(texts: Sequence[bytes]) -> bytes:
+    """The text of the claims of all that are texts of evidence, at least by their first lines and the last one."""
+    found = [one for one in map(WHOLE.fullmatch, texts) if one]
+    return text_of_bodies([one[2] for one in found], sum(int(one[1] or 1) for one in found))
+
+
+def change_claims(random: Random, texts: Sequence[bytes]) -> bytes:
+    """Texts joined with a damage: a wrong number of claims, lines between bodies, or a body that is cut, left out or twice."""
+    bodies = [found[2] for found in map(WHOLE.fullmatch, texts) if found]
+    right, at = len(bodies), random.randrange(len(bodies) + 1)
+    kind = random.choice(("none", "number", "number", "line", "cut", "drop", "double", "older"))
+    if kind == "none":
+        return text_of_bodies([], 0)
+    if kind == "number":
+        return text_of_bodies(bodies, random.choice((0, max(right - 1, 0), right + 1, right + 1, GREATEST, GREATEST + 1)))
+    if kind == "line":
+        bodies.insert(at, random.choice(BETWEEN))
+    elif kind == "cut" and at < right:
+        lines = bodies[at].splitlines(keepends=True)
+        bodies[at] = b"".join(lines[: random.randrange(len(lines) + 1)])
+    elif kind == "drop" and at < right:
+        del bodies[at]
+    elif kind == "double" and at < right:
+        bodies.insert(at, bodies[at])
+    return text_of_bodies(bodies, right, older=kind == "older")
+
+
+def draw_claims(random: Random, texts: Sequence[bytes]) -> bytes:
+    """Several claims of some texts of evidence, perhaps the same one again, sometimes damaged."""
+    chosen = [random.choice(texts) for _ in range(random.choice((1, 2, 2, 3, 5)))]
+    if chance(random, 0.3):
+        return change_claims(random, chosen)
+    return joined(chosen)
+
+
 def draw_invented(random: Random, intervals: int) -> bytes:
     """Evidence that no program wrote: few ranks for so many intervals, or steps that are drawn."""
     count = max(intervals + random.choice((0, 0, 0, 0, -1, 1)), 0)
@@ -306,4 +362,5 @@ def draw_invented(random: Random, intervals: int) -> bytes:
         b"entails %d %s %d\n" % (a, relation, b) + walk * lists,
         b"clash %d\n" % len(cites) + b"".join(b"cite %d\n" % cite for cite in cites) + walk + timeline * len(cites),
     )
-    return b"tml-evidence 1\n" + random.choice(forms) + b"end\n"
+    bodies = [random.choice(forms) for _ in range(random.choice((1, 1, 1, 2, 3)))]
+    return text_of_bodies(bodies, older=len(bodies) == 1 and chance(random, 0.5))

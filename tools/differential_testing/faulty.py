@@ -212,7 +212,7 @@ CHANGES: Mapping[str, Change] = {
     "UnknownReference": on_attribute(other_reference, rb"[A-Z]\w+", rb"eventID|signalID|\w+TimeID|\w+Point|" + REFERENCES),
 }
 LIMITS: Mapping[str, Change] = {
-    "TooManyIntervals": inside_root(lambda number: b"<TIMEX3 tid='many%d' type='SET'/>" % number, 510),
+    "TooManyIntervals": inside_root(lambda number: b"<TIMEX3 tid='many%d' type='SET'/>" % number, 1022),
     "TooManyLinks": inside_root(lambda number: b"<TLINK relType='DURING' timeID='t0' relatedToTime='t0'/>", 4094),
 }
 

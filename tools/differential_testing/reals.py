@@ -107,7 +107,7 @@ def complaint(case: Case, outcome: Outcome) -> str | None:
     if case.words[0] == b"ask":
         x, relation, y = (word.decode() for word in case.words[2:])
         follows = reals.follows(Link(x, relation, y))
-        proved = outcome.text.split(b"\n")[1].startswith(b"entails ")
+        proved = b"\nentails " in outcome.text
         return None if follows == proved else f"By real numbers it is {follows} that {x} {relation} {y} follows."
     return None
 

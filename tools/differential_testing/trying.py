@@ -12,14 +12,14 @@ from reference import Outcome
 from differential_testing.cases import Case
 from differential_testing.chances import chance
 from differential_testing.comparing import complaint
-from differential_testing.drawing import Written, draw_case, draw_verifying, draw_writing
+from differential_testing.drawing import Written, draw_case, draw_of_evidence, draw_writing
 from differential_testing.programs import Programs
 from differential_testing.rows import Rows, is_for_rows
 from differential_testing.words import DOCUMENT
 
 CASES = 100
 WRITINGS = 20
-VERIFYINGS = 80
+OF_EVIDENCE = 80
 THROUGH_PROCESSES = 0.05
 """How many of the cases that a table can have are run by a process each nevertheless."""
 
@@ -99,7 +99,7 @@ class Trial:
         done = self.try_all([draw_writing(random) for _ in range(WRITINGS)], random)
         written = [Written(case.files[DOCUMENT], outcome.text) for case, outcome in done if outcome.status in (0, 2) and outcome.text]
         if written:
-            self.try_all([draw_verifying(random, written) for _ in range(VERIFYINGS)], random)
+            self.try_all([draw_of_evidence(random, written) for _ in range(OF_EVIDENCE)], random)
 
 
 def said_of(case: Case, outcome: Outcome) -> str | None:

@@ -20,10 +20,10 @@ WEAKER = {
     b"ENDED_BY": (b"DURING_INV",),
 }  # fmt: skip
 OTHER_NAME = re.compile(rb"""\s(?:eid|sid|lid|value)\s*=\s*["']([^"'<]{1,64})["']""")
-DOCUMENT, EVIDENCE = b"d.xml", b"e"
+DOCUMENT, EVIDENCE, SECOND = b"d.xml", b"e", b"f"
 INVERSES = {**INVERSE, **{inverse: relation for relation, inverse in INVERSE.items()}}
 DRILLS = (
-    "0", "1", "2", "3", "5", "8", "17", "00", "01", "002", "513", "1000", "-1", "+1", " 1", "1 ", "1.0", "1e1", "0x1", "\u0661",
+    "0", "1", "2", "3", "5", "8", "17", "00", "01", "002", "1025", "2000", "10240", "-1", "+1", " 1", "1 ", "1.0", "1e1", "0x1", "\u0661",
     "4294967297", "4294967296",
     "18446744073709551617", "340282366920938463463374607431768211457", "1" * 400, "", "a", "five", "1\n", "\uff11", "5\u0301",
 )  # fmt: skip
@@ -36,6 +36,9 @@ STRANGE = (
     (b"canon", DOCUMENT, b""),
     (b"chec", DOCUMENT), (b"checks", DOCUMENT), (b"dates",), (b"\xc3\xa9", DOCUMENT), (b"spans", b"--", DOCUMENT),
     (b"check", b"--", DOCUMENT), (b"verify",),
+    (b"renew",), (b"renew", EVIDENCE, SECOND), (b"renew ", EVIDENCE), (b"renews", EVIDENCE), (b"join",), (b"join", EVIDENCE),
+    (b"join", EVIDENCE, SECOND, EVIDENCE), (b"Join", EVIDENCE, SECOND), (b"join", b"--", EVIDENCE, SECOND),
+    (b"join", EVIDENCE, SECOND, b""),
 )  # fmt: skip
 NOT_UTF8 = ((b"\xff",), (b"check", b"\xff"), (b"\xc3", DOCUMENT), (b"ask", DOCUMENT, b"a", b"\xe9", b"b"), (b"drill", b"1\x80"))
 MISSING = (b"none", b"d", b"d.xml ", b"D.XML", b"", b"./none", b"a/b", b"--", b"n" * 300, b"\xc3\xa9", b"d.xml/x")
@@ -80,7 +83,7 @@ def draw_following(random: Random, document: bytes) -> tuple[bytes, bytes, bytes
 
 def draw_words(random: Random, document: bytes) -> tuple[bytes, ...]:
     """Words of any kind: drills, words of no form, files that are not there."""
-    kind = random.choice(("drill", "drill", "drill", "strange", "strange", "strange", "not UTF-8", "missing", "missing", "verify"))
+    kind = random.choice(("drill", "drill", "drill", "strange", "strange", "strange", "not UTF-8", "missing", "missing", "files"))
     if kind == "drill":
         return b"drill", random.choice(DRILLS).encode() if chance(random, 0.7) else b"%d" % random.randrange(1, 40)
     if kind == "strange":
@@ -90,4 +93,5 @@ def draw_words(random: Random, document: bytes) -> tuple[bytes, ...]:
     if kind == "missing":
         question = draw_question(random, document)
         return question[0], random.choice(MISSING), *question[2:]
-    return (b"verify", *(random.choice((DOCUMENT, EVIDENCE, b"none", b"-")) for _ in range(2)))
+    command, count = random.choice(((b"verify", 2), (b"join", 2), (b"renew", 1)))
+    return (command, *(random.choice((DOCUMENT, EVIDENCE, SECOND, b"none", b"-")) for _ in range(count)))

@@ -9,10 +9,10 @@ from enum import IntEnum
 
 from .acceptance import Accepted, judge_document
 from .canonical import canonical_text
-from .checking import Reason, is_supported, refusal
+from .checking import Reason, are_supported, first_refusal, refusal
 from .dates import bounds_of, line_of
 from .drill import drill_text
-from .evidence import Clash, Counterexample, Entailment, Evidence, Timeline, read_evidence, text_of
+from .evidence import Claims, Clash, Counterexample, Entailment, Evidence, Timeline, read_claims, text_of_claims
 from .faults import Fault
 from .nets import Net
 from .references import Document
@@ -21,8 +21,8 @@ from .timelines import all_links, entailed_rows, false_timeline, is_minimal_clas
 from .units import cut, longest_utf8, source_fault, table_of
 
 LONGEST_DOCUMENT = 4_194_304
-LONGEST_EVIDENCE = 16_777_216
-LONGEST_PRINTED = 14_000_000
+LONGEST_EVIDENCE = 67_108_864
+LONGEST_PRINTED = 55_000_000
 
 FORMS = (
     "spans DOC",
@@ -34,8 +34,10 @@ FORMS = (
     "canon DOC",
     "verify DOC EVIDENCE",
     "drill N",
+    "renew EVIDENCE",
+    "join EVIDENCE SECOND",
 )
-DRILLS = {b"%d" % number: number for number in range(1, 513)}
+DRILLS = {b"%d" % number: number for number in range(1, 1025)}
 
 
 class Status(IntEnum):
@@ -130,16 +132,22 @@ def canon(accepted: Accepted) -> Outcome:
     return done(canonical_text(accepted.tree))
 
 
+def printed(evidence: Evidence) -> bytes:
+    """The text of evidence as it is printed: that of one claim."""
+    return text_of_claims((evidence,))
+
+
 def wrong_evidence(net: Net, text: bytes) -> Evidence | str:
     """The evidence whose text it is, where a net supports it and it may be printed; else what is wrong."""
     if len(text) > LONGEST_PRINTED:
         return f"the text has {len(text)} bytes"
-    evidence = read_evidence(text)
-    if isinstance(evidence, int):
-        return f"it is the text of no evidence: line {evidence} is bad"
-    if not is_supported(net, evidence):
-        return f"the net does not support the evidence: {refusal(net, evidence)}"
-    return evidence
+    claims = read_claims(text)
+    if isinstance(claims, int):
+        return f"it is the text of no evidence: line {claims} is bad"
+    if text != printed(claims[0]):
+        return "it is not the text of one claim, of version 2"
+    refused = refusal(net, claims[0])
+    return f"the net does not support the evidence: {refused}" if refused else claims[0]
 
 
 def wrong_walk(net: Net, steps: Sequence[object]) -> str | None:
@@ -171,7 +179,7 @@ def solve(accepted: Accepted) -> Answer:
     """`solve DOC`: the least timeline that fits, or a minimal clash."""
     net = accepted.document.net()
     ranks = least_timeline(net, all_links(net))
-    return clash(net) if ranks is None else done(text_of(Timeline(ranks)))
+    return clash(net) if ranks is None else done(printed(Timeline(ranks)))
 
 
 def relations(accepted: Accepted) -> Answer:
@@ -209,26 +217,32 @@ def ask(accepted: Accepted, first: bytes, relation: bytes, second: bytes) -> Ans
     for order in orders_of(left, relation, right):
         ranks = false_timeline(net, order)
         if ranks is not None:
-            return done(text_of(Counterexample(left, relation, right, ranks)))
+            return done(printed(Counterexample(left, relation, right, ranks)))
     return Free(Status.DONE, functools.partial(wrong_proof, net, left, relation, right))
 
 
+def claims_of(text: bytes, word: bytes) -> Claims | Outcome:
+    """The claims of a text; or the reply where it has none, with the word that stands before its bad line."""
+    claims = read_claims(text)
+    return Outcome(Status.EVIDENCE_FAULT, b"%s line %d\n" % (word, claims)) if isinstance(claims, int) else claims
+
+
 def verify(accepted: Accepted, text: bytes) -> Outcome:
-    """`verify DOC EVIDENCE`: what the evidence shows, its bad line, or the part and the reason."""
+    """`verify DOC EVIDENCE`: what each claim shows, the bad line, or the first claim that is refused."""
+    claims = claims_of(text, b"evidence")
+    if isinstance(claims, Outcome):
+        return claims
     net = accepted.document.net()
-    evidence = read_evidence(text)
-    if isinstance(evidence, int):
-        return Outcome(Status.EVIDENCE_FAULT, b"evidence line %d\n" % evidence)
-    refused = refusal(net, evidence)
-    assert (refused is None) == is_supported(net, evidence)
+    refused = first_refusal(net, claims)
+    assert (refused is None) == are_supported(net, claims)
     if refused:
         return Outcome(Status.EVIDENCE_FAULT, refused_line(*refused))
-    return done(b"verified " + shown(accepted.document, evidence) + b"\n")
+    return done(lines(*(b"verified " + shown(accepted.document, evidence) for evidence in claims)))
 
 
-def refused_line(part: int, reason: Reason) -> bytes:
-    """The line of evidence that is refused."""
-    return b"evidence part %d %s\n" % (part, reason.text())
+def refused_line(claim: int, part: int, reason: Reason) -> bytes:
+    """The line of a claim that is refused."""
+    return b"evidence claim %d part %d %s\n" % (claim, part, reason.text())
 
 
 def shown(document: Document, evidence: Evidence) -> bytes:
@@ -239,6 +253,19 @@ def shown(document: Document, evidence: Evidence) -> bytes:
         return b" ".join([b"clash", *(b"%d" % cite for cite in evidence.cites)])
     word = b"entails " if isinstance(evidence, Entailment) else b"counter "
     return word + related(document, evidence.left, evidence.relation, evidence.right)
+
+
+def renew(names: Sequence[bytes], files: Files) -> Outcome:
+    """`renew EVIDENCE` and `join EVIDENCE SECOND`: the claims of all files, in order. Each file is judged before the next is started."""
+    joined: Claims = ()
+    for name, word, bad in zip(names, (b"EVIDENCE", b"SECOND"), (b"evidence", b"second"), strict=False):
+        text = read(files, name, LONGEST_EVIDENCE, word)
+        claims = text if isinstance(text, Outcome) else claims_of(text, bad)
+        if isinstance(claims, Outcome):
+            return claims
+        joined += claims
+        files = after_reading(name, files)
+    return done(text_of_claims(joined))
 
 
 def drill(count: int) -> Outcome:
@@ -276,16 +303,18 @@ def files_of(words: Sequence[bytes]) -> list[bytes] | None:
             return [b"-"]
         case [b"spans" | b"check" | b"dates" | b"solve" | b"relations" | b"canon", name] | [b"ask", name, _, _, _]:
             return [name]
-        case [b"verify", name, evidence]:
-            return [name, evidence]
+        case [b"verify" | b"join", name, other]:
+            return [name, other]
+        case [b"renew", name]:
+            return [name]
         case [b"drill", number] if number in DRILLS:
             return []
     return None
 
 
-def after_document(words: Sequence[bytes], files: Files) -> Files:
-    """What files hold once the document was read: nothing is left of standard input. The page does not say so."""
-    return {**files, b"-": b""} if words[1] == b"-" else files
+def after_reading(name: bytes, files: Files) -> Files:
+    """What files hold once a first one was read: nothing is left of standard input."""
+    return {**files, b"-": b""} if name == b"-" else files
 
 
 def about_document(words: Sequence[bytes], accepted: Accepted, files: Files) -> Answer:
@@ -293,7 +322,7 @@ def about_document(words: Sequence[bytes], accepted: Accepted, files: Files) -> 
     if words[0] == b"ask":
         return ask(accepted, *words[2:])
     if words[0] == b"verify":
-        text = read(after_document(words, files), words[2], LONGEST_EVIDENCE, b"EVIDENCE")
+        text = read(after_reading(words[1], files), words[2], LONGEST_EVIDENCE, b"EVIDENCE")
         return text if isinstance(text, Outcome) else verify(accepted, text)
     return ABOUT_DOCUMENTS[words[0]](accepted)
 
@@ -305,6 +334,8 @@ def answer(words: Sequence[bytes], files: Files) -> Answer:
         return USAGE
     if not names:
         return drill(DRILLS[words[1]])
+    if words and words[0] in (b"renew", b"join"):
+        return renew(names, files)
     source = read(files, names[0], LONGEST_DOCUMENT, b"DOC")
     if isinstance(source, Outcome):
         return source

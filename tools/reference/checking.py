@@ -5,8 +5,21 @@ from __future__ import annotations
 from collections.abc import Iterable, Sequence
 from dataclasses import dataclass
 
-from .evidence import Clash, Counterexample, Entailment, Evidence, Timeline
-from .nets import Net, Ranks, Step, fits, has_strict, interval_at, is_closed_walk, keeps_link, links_of, order_of_step, proves
+from .evidence import Claims, Clash, Counterexample, Entailment, Evidence, Timeline
+from .nets import (
+    Net,
+    Ranks,
+    Step,
+    fits,
+    has_strict,
+    interval_at,
+    is_closed_walk,
+    keeps_calendar,
+    keeps_link,
+    links_of,
+    order_of_step,
+    proves,
+)
 from .relations import Order, holds, orders_of
 from .timelines import all_links
 
@@ -73,10 +86,10 @@ def why_no_timeline(net: Net, ranks: Ranks, links: Iterable[int]) -> Reason | No
     for link in sorted(links):
         if not keeps_link(net, ranks, link):
             return Reason("Link", (link,))
-    for order in net.calendar_orders:
-        if not order.is_true(ranks):
-            return Reason("Calendar", (order.first, order.second))
-    return None
+    if keeps_calendar(net, ranks):
+        return None
+    order = next(order for order in net.calendar_orders() if not order.is_true(ranks))
+    return Reason("Calendar", (order.first, order.second))
 
 
 def first_unjoined(net: Net, steps: Sequence[Step], start: int | None) -> int | None:
@@ -150,3 +163,14 @@ def parts_of(net: Net, evidence: Evidence) -> list[tuple[int, Reason | None]]:
 def refusal(net: Net, evidence: Evidence) -> tuple[int, Reason] | None:
     """*Why evidence is refused*: the first part that has a reason, and the reason."""
     return next(((part, reason) for part, reason in parts_of(net, evidence) if reason), None)
+
+
+def are_supported(net: Net, claims: Claims) -> bool:
+    """*Several claims*: whether each of them is supported."""
+    return all(is_supported(net, evidence) for evidence in claims)
+
+
+def first_refusal(net: Net, claims: Claims) -> tuple[int, int, Reason] | None:
+    """*Several claims*: the first one that is refused, counted from 0, with its part and the reason."""
+    refusals = ((number, refusal(net, evidence)) for number, evidence in enumerate(claims))
+    return next(((number, *refused) for number, refused in refusals if refused), None)

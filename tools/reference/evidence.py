@@ -13,6 +13,7 @@ BOUND = 2**32
 """All numbers are below it."""
 
 NUMBER = rb"(0|[1-9][0-9]{0,9})"
+RANKS = rb"at " + NUMBER + rb" " + NUMBER
 RELATION = rb"(" + rb"|".join(ORDERS) + rb")"
 
 
@@ -53,6 +54,8 @@ class Clash:
 
 
 Evidence = Timeline | Entailment | Counterexample | Clash
+Claims = tuple[Evidence, ...]
+"""*Several claims*: one at least."""
 
 
 class BadLineError(Exception):
@@ -78,8 +81,8 @@ def walk_lines(steps: Sequence[Step]) -> list[bytes]:
     return [b"walk %d" % len(steps)] + [step_line(step) for step in steps]
 
 
-def lines_of(evidence: Evidence) -> list[bytes]:
-    """The lines between the first and the last one."""
+def body_of(evidence: Evidence) -> list[bytes]:
+    """The *body* of evidence: the lines between the first one of version 1 and the last one."""
     if isinstance(evidence, Timeline):
         return timeline_lines(evidence.ranks)
     if isinstance(evidence, Clash):
@@ -92,41 +95,65 @@ def lines_of(evidence: Evidence) -> list[bytes]:
 
 
 def text_of(evidence: Evidence) -> bytes:
-    """The text of evidence."""
-    return b"".join(line + b"\n" for line in [b"tml-evidence 1", *lines_of(evidence), b"end"])
+    """The text of evidence, of version 1."""
+    return b"".join(line + b"\n" for line in [b"tml-evidence 1", *body_of(evidence), b"end"])
+
+
+def text_of_claims(claims: Claims) -> bytes:
+    """The text of several claims, of version 2."""
+    bodies = [line for evidence in claims for line in body_of(evidence)]
+    return b"".join(line + b"\n" for line in [b"tml-evidence 2", b"claims %d" % len(claims), *bodies, b"end"])
 
 
 class Reading:
     """The lines of a text as they are taken one after another, each of a form that keeps the lines so far begun."""
 
     def __init__(self, text: bytes) -> None:
-        """Cuts the text into lines; one without a line feed, at the end, keeps a mark that no form has."""
-        *self.lines, rest = text.split(b"\n")
-        if rest:
-            self.lines.append(rest + b"\0")
+        """Begins before the first line."""
+        self.text = text
+        self.place = 0
         self.taken = 0
+
+    def line(self) -> bytes | None:
+        """Takes a line, without its line feed; none where it has none, or where there is no further line."""
+        self.taken += 1
+        end = self.text.find(b"\n", self.place)
+        if end < 0:
+            return None
+        begin, self.place = self.place, end + 1
+        return self.text[begin:end]
 
     def take(self, *forms: bytes) -> tuple[int, tuple[bytes, ...]]:
         """Takes a line: which of the forms it has, and the words that the form asks for; its numbers are below the bound."""
-        line = self.lines[self.taken] if self.taken < len(self.lines) else None
-        self.taken += 1
+        line = self.line()
         for number, form in enumerate(forms):
             found = re.fullmatch(form, line) if line is not None else None
             if found and all(int(word) < BOUND for word in found.groups() if word.isdigit()):
                 return number, found.groups()
         raise BadLineError
 
+    def end(self) -> None:
+        """Takes the last line; a further one is bad."""
+        self.take(b"end")
+        if self.place < len(self.text):
+            self.taken += 1
+            raise BadLineError
+
     def numbers(self, form: bytes) -> tuple[int, ...]:
         """Takes a line of a form that asks for numbers."""
         return tuple(int(word) for word in self.take(form)[1])
 
+    def ranks(self, intervals: int) -> Ranks:
+        """Takes the lines of a timeline after its first one."""
+        ranks: list[int] = []
+        for _ in range(intervals):
+            ranks += self.numbers(RANKS)
+        return tuple(ranks)
+
     def timeline(self) -> Ranks:
         """Takes the lines of a timeline."""
         [intervals] = self.numbers(b"timeline " + NUMBER)
-        ranks: list[int] = []
-        for _ in range(intervals):
-            ranks += self.numbers(b"at " + NUMBER + b" " + NUMBER)
-        return tuple(ranks)
+        return self.ranks(intervals)
 
     def step(self) -> Step:
         """Takes a step."""
@@ -156,8 +183,7 @@ class Reading:
         relation = NUMBER + b" " + RELATION + b" " + NUMBER
         form, words = self.take(b"timeline " + NUMBER, b"entails " + relation, b"counter " + relation, b"clash " + NUMBER)
         if form == 0:
-            self.taken -= 1
-            return Timeline(self.timeline())
+            return Timeline(self.ranks(int(words[0])))
         if form == 1:
             walks = tuple(self.walk() for _ in ORDERS[words[1]])
             return Entailment(int(words[0]), words[1], int(words[2]), walks)
@@ -167,13 +193,21 @@ class Reading:
         return Clash(cites, self.walk(), tuple(self.timeline() for _ in cites))
 
 
-def read_evidence(text: bytes) -> Evidence | int:
-    """The evidence whose text it is; or else its *bad line*, counted from 1."""
+    def claims(self) -> Claims:
+        """Takes a whole text, of the version that its first line says."""
+        version, _ = self.take(b"tml-evidence 1", b"tml-evidence 2")
+        count = self.numbers(b"claims " + NUMBER)[0] if version == 1 else 1
+        if count == 0:
+            raise BadLineError
+        claims = tuple(self.body() for _ in range(count))
+        self.end()
+        return claims
+
+
+def read_claims(text: bytes) -> Claims | int:
+    """The claims whose text it is, of either version; or else its *bad line*, counted from 1."""
     reading = Reading(text)
     try:
-        reading.take(b"tml-evidence 1")
-        evidence = reading.body()
-        reading.take(b"end")
+        return reading.claims()
     except BadLineError:
         return reading.taken
-    return evidence if reading.taken == len(reading.lines) else reading.taken + 1

@@ -3,7 +3,7 @@
 from __future__ import annotations
 
 import functools
-from collections.abc import Iterable, Sequence
+from collections.abc import Iterable, Iterator, Sequence
 from dataclasses import dataclass
 
 from .dates import Bounds
@@ -62,13 +62,21 @@ class Net:
             return None
         return Order(first, second, upper < lower)
 
-    @functools.cached_property
-    def calendar_orders(self) -> tuple[Order, ...]:
+    def calendar_orders(self) -> Iterator[Order]:
         """The orders that the calendar gives to all points, by the first point and then by the second."""
-        uppers = [point for point in range(self.points()) if self.upper(point) is not None]
-        lowers = [point for point in range(self.points()) if self.lower(point) is not None]
-        found = [self.calendar_order(first, second) for first in uppers for second in lowers]
-        return tuple(order for order in found if order is not None)
+        uppers = [(point, number) for point in range(self.points()) if (number := self.upper(point)) is not None]
+        lowers = [(point, number) for point in range(self.points()) if (number := self.lower(point)) is not None]
+        return (Order(first, second, upper < lower) for first, upper in uppers for second, lower in lowers if upper <= lower)
+
+    @functools.cached_property
+    def calendar(self) -> tuple[tuple[list[int], list[int]], ...]:
+        """Of each number of the calendar, from the least one on: the points of which it is the upper number, and the lower one."""
+        points: dict[int, tuple[list[int], list[int]]] = {}
+        for point in range(self.points()):
+            for place, number in enumerate((self.upper(point), self.lower(point))):
+                if number is not None:
+                    points.setdefault(number, ([], []))[place].append(point)
+        return tuple(points[number] for number in sorted(points))
 
     def link_orders(self, link: int) -> tuple[Order, ...]:
         """The orders of the relation of a link, between its two intervals."""
@@ -87,13 +95,23 @@ def keeps_link(net: Net, ranks: Sequence[int], link: int) -> bool:
     return holds(interval_at(ranks, one.left), one.relation, interval_at(ranks, one.right))
 
 
+def keeps_calendar(net: Net, ranks: Ranks) -> bool:
+    """Whether all orders that the calendar gives are true of ranks: its numbers are gone through once, and no pairs are asked."""
+    before = -1
+    for uppers, lowers in net.calendar:
+        until = max((before, *(ranks[point] for point in uppers)))
+        if any(ranks[point] <= before or ranks[point] < until for point in lowers):
+            return False
+        before = until
+    return True
+
+
 def fits(net: Net, ranks: Ranks, links: Iterable[int]) -> bool:
     """*Fits*: whether ranks fit a net with a set of its links."""
     if len(ranks) != net.points():
         return False
     start_first = all(ranks[2 * one] < ranks[2 * one + 1] for one in range(net.intervals()))
-    in_calendar = all(order.is_true(ranks) for order in net.calendar_orders)
-    return start_first and in_calendar and all(keeps_link(net, ranks, link) for link in links)
+    return start_first and keeps_calendar(net, ranks) and all(keeps_link(net, ranks, link) for link in links)
 
 
 @dataclass(frozen=True)

@@ -10,7 +10,7 @@ from .faults import Fault, Kind, first_fault
 from .nets import Link, Net
 from .typed_tags import TypedTag
 
-MOST_INTERVALS = 512
+MOST_INTERVALS = 1_024
 MOST_LINKS = 4_096
 INTERVAL_TAGS = (b"MAKEINSTANCE", b"TIMEX3")
 

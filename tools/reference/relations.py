@@ -47,6 +47,8 @@ ORDERS: Mapping[bytes, tuple[str, ...]] = {
     b"ENDED_BY": ("a.finish <= b.finish", "b.finish <= a.finish", "a.start < b.start"),
 }
 """The table of *Atoms*. Its order is that of the table of relations."""
+PARSED = {relation: tuple(text.split() for text in texts) for relation, texts in ORDERS.items()}
+"""The same, with each order cut into a point, a sign and a point."""
 
 RELATIONS = tuple(ORDERS)
 INVERSES = {
@@ -62,8 +64,7 @@ INVERSES = {
 def orders_of(left: int, relation: bytes, right: int) -> tuple[Order, ...]:
     """The orders of a relation between two intervals: interval i starts at point 2i and ends at point 2i + 1."""
     points = {"a.start": 2 * left, "a.finish": 2 * left + 1, "b.start": 2 * right, "b.finish": 2 * right + 1}
-    cut = [text.split() for text in ORDERS[relation]]
-    return tuple(Order(points[first], points[second], sign == "<") for first, sign, second in cut)
+    return tuple(Order(points[first], points[second], sign == "<") for first, sign, second in PARSED[relation])
 
 
 def holds(left: Interval, relation: bytes, right: Interval) -> bool:

@@ -9,11 +9,14 @@ from __future__ import annotations
 
 import functools
 import itertools
-from collections.abc import Iterable, Sequence
+import operator
+from collections import deque
+from collections.abc import Iterable, Iterator, Sequence
+from dataclasses import dataclass
 from enum import Enum
 
 from .nets import Net, Ranks, fits, interval_at
-from .relations import RELATIONS, Order, holds, orders_of
+from .relations import PARSED, RELATIONS, Order, holds
 
 SMALL = 3
 """The greatest number of intervals of a net whose timelines are tried one by one."""
@@ -58,25 +61,59 @@ def least_tried(net: Net, links: Iterable[int], further: Sequence[Order] = ()) -
     return least
 
 
+def orders_of_calendar(net: Net) -> list[Order]:
+    """Orders that say what the calendar gives, by a *mark* for each of its numbers: a point after those of the net.
+
+    The mark is not before the points whose upper number is its own or a lesser one. So points whose lower number is its own
+    are not before the mark, and they are after the mark of the number before it. The first mark is of an upper number.
+    """
+    numbers = list(itertools.dropwhile(lambda points: not points[0], net.calendar))
+    orders = []
+    for mark, (uppers, lowers) in enumerate(numbers, net.points()):
+        orders += [Order(point, mark, False) for point in uppers] + [Order(mark, point, False) for point in lowers]
+        if mark > net.points():
+            orders += [Order(mark - 1, mark, False), *(Order(mark - 1, point, True) for point in lowers)]
+    return orders
+
+
 def orders_that_fit(net: Net, links: Iterable[int]) -> list[Order]:
-    """The orders of all steps over spans, over a set of links and in the calendar."""
+    """The orders of all steps over spans, over a set of links and in the calendar, the latter by marks."""
     spans = [Order(2 * one, 2 * one + 1, True) for one in range(net.intervals())]
-    return [*spans, *(order for link in links for order in net.link_orders(link)), *net.calendar_orders]
+    return [*spans, *(order for link in links for order in net.link_orders(link)), *orders_of_calendar(net)]
+
+
+def by_first(points: int, orders: Sequence[Order]) -> list[list[Order]]:
+    """Of each point, and of each mark, the orders that go from it to another one."""
+    table: list[list[Order]] = [[] for _ in range(max([points - 1, *(max(order.first, order.second) for order in orders)]) + 1)]
+    for order in orders:
+        table[order.first].append(order)
+    return table
 
 
 def least_raised(points: int, orders: Sequence[Order]) -> Ranks | None:
     """The least ranks of which orders are true; none where a rank would not be below the number of points."""
-    ranks = [0] * points
-    changed = True
-    while changed:
-        changed = False
-        for order in orders:
-            wanted = ranks[order.first] + (1 if order.strict else 0)
-            if wanted > ranks[order.second]:
-                if wanted >= points:
-                    return None
-                ranks[order.second] = wanted
-                changed = True
+    ranks = raised_with_marks(points, by_first(points, orders))
+    return None if ranks is None else ranks[:points]
+
+
+def raised_with_marks(points: int, orders_from: Sequence[Sequence[Order]]) -> Ranks | None:
+    """The same with the ranks of the marks after those of the points."""
+    ranks = [0] * len(orders_from)
+    raised = deque(range(len(orders_from)))
+    waiting = [True] * len(orders_from)
+    while raised:
+        first = raised.popleft()
+        waiting[first] = False
+        for order in orders_from[first]:
+            wanted = ranks[first] + (1 if order.strict else 0)
+            if wanted <= ranks[order.second]:
+                continue
+            if wanted >= points:
+                return None
+            ranks[order.second] = wanted
+            if not waiting[order.second]:
+                waiting[order.second] = True
+                raised.append(order.second)
     return tuple(ranks)
 
 
@@ -108,38 +145,72 @@ def false_timeline(net: Net, order: Order) -> Ranks | None:
     return least_timeline(net, all_links(net), [order.negation()])
 
 
-def reached(points: int, orders: Sequence[Order], start: int) -> tuple[set[int], set[int]]:
-    """The points to which walks lead from a point, and those to which strict ones do."""
-    steps: list[list[Order]] = [[] for _ in range(points)]
-    for order in orders:
-        steps[order.first].append(order)
-    seen = {(start, False)}
-    left = [(start, False)]
-    while left:
-        point, strict = left.pop()
-        for order in steps[point]:
-            there = (order.second, strict or order.strict)
-            if there not in seen:
-                seen.add(there)
-                left.append(there)
-    return {point for point, _ in seen}, {point for point, strict in seen if strict}
+@dataclass(frozen=True)
+class Closure:
+    """*The closure* of a net. Of each point the points that are never before it, and of these the ones that are always after it.
+
+    A set of points is a number: point p is in it where bit p of the number is set.
+    """
+
+    weak: tuple[int, ...]
+    strict: tuple[int, ...]
+
+    def cell(self, first: int, second: int) -> Cell:
+        """What is known of two points."""
+        if self.strict[first] >> second & 1:
+            return Cell.STRICT
+        return Cell.WEAK if self.weak[first] >> second & 1 else Cell.FREE
+
+    def says(self, order: Order) -> bool:
+        """Whether its cells give an order."""
+        cell = self.cell(order.first, order.second)
+        return cell == Cell.STRICT or (cell == Cell.WEAK and not order.strict)
+
+    def turned(self) -> Closure:
+        """The same of each point as the second one: the points that are never after it, and those that are always before it."""
+        return Closure(turned(self.weak), turned(self.strict))
 
 
-def closure(net: Net) -> list[list[Cell]]:
-    """*The closure* of a net that some timeline fits: what walks say of each two points."""
-    orders = sorted(set(orders_that_fit(net, all_links(net))), key=lambda order: (order.first, order.second, order.strict))
-    table = []
-    for first in range(net.points()):
-        weak, strict = reached(net.points(), orders, first)
-        row = [Cell.STRICT if second in strict else Cell.WEAK if second in weak else Cell.FREE for second in range(net.points())]
-        table.append(row)
-    return table
+def turned(table: Sequence[int]) -> tuple[int, ...]:
+    """Sets of points turned: point p is in that of point q where q was in that of p."""
+    rows = [f"{points:0{len(table)}b}" for points in reversed(table)]
+    return tuple(int("".join(column), 2) for column in zip(*rows, strict=True))[::-1]
 
 
-def says(table: Sequence[Sequence[Cell]], order: Order) -> bool:
-    """Whether the cells of a table give an order."""
-    cell = table[order.first][order.second]
-    return cell == Cell.STRICT or (cell == Cell.WEAK and not order.strict)
+def members(points: int) -> Iterator[int]:
+    """The points of a set, in order."""
+    while points:
+        lowest = points & -points
+        yield lowest.bit_length() - 1
+        points ^= lowest
+
+
+def closure(net: Net) -> Closure:
+    """*The closure* of a net that some timeline fits: to which points walks lead from each, and to which strict ones do.
+
+    Walks grow at their beginning until no further point is met. No walk leads to a lesser rank, so the greatest ranks come first.
+    """
+    orders_from = by_first(net.points(), orders_that_fit(net, all_links(net)))
+    ranks = raised_with_marks(net.points(), orders_from)
+    assert ranks is not None
+    weak, strict = [1 << point for point in range(len(ranks))], [0] * len(ranks)
+    for points in of_one_rank(ranks):
+        changed = True
+        while changed:
+            before = [(weak[point], strict[point]) for point in points]
+            for point in points:
+                for order in orders_from[point]:
+                    weak[point] |= weak[order.second]
+                    strict[point] |= weak[order.second] if order.strict else strict[order.second]
+            changed = before != [(weak[point], strict[point]) for point in points]
+    no_marks = (1 << net.points()) - 1
+    return Closure(*(tuple(cells & no_marks for cells in table[: net.points()]) for table in (weak, strict)))
+
+
+def of_one_rank(ranks: Ranks) -> list[list[int]]:
+    """The points and marks of each rank, of the greatest rank first."""
+    points = sorted(range(len(ranks)), key=lambda point: -ranks[point])
+    return [list(some) for _, some in itertools.groupby(points, key=lambda point: ranks[point])]
 
 
 def rows_tried(net: Net) -> list[tuple[int, bytes, int]]:
@@ -156,14 +227,31 @@ def rows_tried(net: Net) -> list[tuple[int, bytes, int]]:
 
 def rows_of_closure(net: Net) -> list[tuple[int, bytes, int]]:
     """The rows of the closure of a net: a row is an interval, a relation that its cells give, and an interval after it."""
-    table = closure(net)
-    pairs = itertools.combinations(range(net.intervals()), 2)
-    return [
-        (left, relation, right)
-        for left, right in pairs
-        for relation in RELATIONS
-        if all(says(table, order) for order in orders_of(left, relation, right))
-    ]
+    after = closure(net)
+    before = after.turned()
+    rows = []
+    starts = sum(1 << point for point in range(0, net.points(), 2))
+    for left in range(net.intervals()):
+        later = starts >> 2 * left + 2 << 2 * left + 2
+        rights = [members(later & related(after, before, left, relation)) for relation in RELATIONS]
+        found = sorted((start // 2, number) for number, points in enumerate(rights) for start in points)
+        rows += [(left, RELATIONS[number], right) for right, number in found]
+    return rows
+
+
+def related(after: Closure, before: Closure, left: int, relation: bytes) -> int:
+    """A set of points, of which the starts are those of the intervals to which the relation follows from an interval.
+
+    All orders of the relation have to be given: each of them is one of a point of the interval and of the start or the end of
+    the other one.
+    """
+    points = {"a.start": 2 * left, "a.finish": 2 * left + 1, "b.start": 0, "b.finish": 1}
+    rights = []
+    for first, sign, second in PARSED[relation]:
+        cells, own, other = (after, first, second) if first.startswith("a.") else (before, second, first)
+        table = cells.strict if sign == "<" else cells.weak
+        rights.append(table[points[own]] >> points[other])
+    return functools.reduce(operator.and_, rights)
 
 
 def entailed_rows(net: Net) -> list[tuple[int, bytes, int]]:

@@ -56,7 +56,7 @@ FAULTY = {
     "BadDate": b'<TimeML><TIMEX3 tid="t" type="DATE" value="1999-02-29"/></TimeML>',
     "DuplicateId": b'<TimeML><SIGNAL sid="s"/><SIGNAL sid="s"/></TimeML>',
     "UnknownReference": b'<TimeML><EVENT eid="e" class="STATE"/><MAKEINSTANCE eiid="i" eventID="f"/></TimeML>',
-    "TooManyIntervals": b"<TimeML>" + b"".join(b'<TIMEX3 tid="t%d" type="SET"/>' % number for number in range(513)) + b"</TimeML>",
+    "TooManyIntervals": b"<TimeML>" + b"".join(b'<TIMEX3 tid="t%d" type="SET"/>' % number for number in range(1025)) + b"</TimeML>",
     "TooManyLinks": b'<TimeML><TIMEX3 tid="t" type="SET"/>%s</TimeML>' % (b'<TLINK timeID="t" relatedToTime="t" relType="DURING"/>' * 4097),
 }
 """A small document of each fault."""
@@ -126,6 +126,31 @@ def verifying(name: str, of: str, text: bytes) -> Case:
     return Case(f"verify, {name}", (b"verify", b"d", b"-"), {b"d": DOCUMENTS[of], b"-": b"tml-evidence 1\n" + text + b"end\n"})
 
 
+def bundle(*bodies: bytes) -> bytes:
+    """The text of several claims."""
+    return b"tml-evidence 2\nclaims %d\n%send\n" % (len(bodies), b"".join(bodies))
+
+
+TWO, ENTAILS = bundle(EVIDENCE["timeline"], EVIDENCE["counter"]), b"tml-evidence 1\n" + EVIDENCE["entails"] + b"end\n"
+ONES = (*EVIDENCE.values(), *CLASHES.values())
+OF_EVIDENCE = (
+    Case("verify, two claims", (b"verify", b"d", b"e"), {b"d": DOCUMENTS["fits"], b"e": TWO}),
+    Case(
+        "verify, a second claim that is refused",
+        (b"verify", b"d", b"e"),
+        {b"d": DOCUMENTS["fits"], b"e": bundle(EVIDENCE["entails"], EVIDENCE["link"], EVIDENCE["order"])},
+    ),
+    *(Case(f"renew, {text[:8]!r}", (b"renew", b"e"), {b"e": b"tml-evidence 1\n" + text + b"end\n"}) for text in ONES),
+    Case("renew, two claims", (b"renew", b"-"), {b"-": TWO}),
+    Case("renew, nothing there", (b"renew", b"none")),
+    Case("join", (b"join", b"e", b"-"), {b"e": TWO, b"-": ENTAILS}),
+    Case("join, a first one that is bad", (b"join", b"e", b"f"), {b"e": TWO + b"end\n", b"f": ENTAILS}),
+    Case("join, a second one that is bad", (b"join", b"e", b"f"), {b"e": ENTAILS, b"f": TWO.replace(b"claims 2", b"claims 3")}),
+    Case("join, nothing second", (b"join", b"e", b"none"), {b"e": ENTAILS}),
+)
+"""Texts of several claims, and what `renew` and `join` make of texts."""
+
+
 def runs() -> Iterator[Case]:
     """Runs that take every path: each command over each document, each fault, each kind of evidence, and words of no form."""
     for name, content in DOCUMENTS.items():
@@ -143,6 +168,7 @@ def runs() -> Iterator[Case]:
         yield verifying(name, "fits", text)
     for name, text in CLASHES.items():
         yield verifying(name, "clash", text)
+    yield from OF_EVIDENCE
     for line, content in WORKED:
         yield Case(f"worked, {line}", tuple(line.encode().split(b" ")), {b"d": content})
     for number in (b"1", b"2", b"12"):

@@ -208,10 +208,10 @@ def is_running(number):
 
 
 LIMIT = 4_194_304
-INSTANCES = b"".join(b'<MAKEINSTANCE eiid="i%d" eventID="e%d"/>' % (number, number % 30) for number in range(512))
+INSTANCES = b"".join(b'<MAKEINSTANCE eiid="i%d" eventID="e%d"/>' % (number, number % 30) for number in range(1024))
 LINK = b'<TLINK eventInstanceID="i%d" relatedToEventInstance="i%d" relType="%s"/>'
-LINKS = b"".join(LINK % (number % 512, number * 7 % 512, b"SIMULTANEOUS") for number in range(4096))
-CIRCLE = b"".join(LINK % (number, (number + 1) % 512, b"BEFORE") for number in range(512))
+LINKS = b"".join(LINK % (number % 1024, number * 7 % 1024, b"SIMULTANEOUS") for number in range(4096))
+CIRCLE = b"".join(LINK % (number, (number + 1) % 1024, b"BEFORE") for number in range(1024))
 TOUCHING = (
     b'<TimeML><TIMEX3 tid="a" type="DATE" value="1998"/><TIMEX3 tid="b" type="DATE" value="1999"/><TLINK timeID="a" relatedToTime="b" relType="BEFORE"/>'
 )
@@ -224,7 +224,7 @@ def filled(before, part, after):
 
 
 def one_event(links):
-    """One event with 512 instances and a text of some million characters."""
+    """One event with 1,024 instances and a text of some million characters."""
     instances = re.sub(b'eventID="e[0-9]+"', b'eventID="e0"', INSTANCES)
     return filled(b'<TimeML><EVENT eid="e0" class="STATE">', b"word ", b"</EVENT>" + instances + links + b"</TimeML>\n")
 

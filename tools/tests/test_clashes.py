@@ -73,7 +73,7 @@ class Clashes(CorpusTest):
         os.chmod(self.path("fake"), stat.S_IRWXU)
         status, lines, _ = self.run_it("clashes", "plant.xml", tml=self.path("fake"))
         self.assertEqual(status, 2)
-        self.assertEqual(lines[0], "plant.xml: not judged: tml verify refused the evidence of tml solve: evidence part 1 Step 3")
+        self.assertEqual(lines[0], "plant.xml: not judged: tml verify refused the evidence of tml solve: evidence claim 0 part 1 Step 3")
 
     def test_faults_and_files_that_are_not_there(self):
         self.write("a.xml", document(EVENT + "<EVENT/>"))

@@ -23,8 +23,8 @@ from differential_testing.cases import Case, Memory, Output, Real
 from differential_testing.comparing import complaint
 from differential_testing.datetimes import bounds
 from differential_testing.documents import draw_document
-from differential_testing.drawing import Written, draw_case, draw_verifying, draw_writing, draw_wrong
-from differential_testing.evidence import blocks_of, text_of
+from differential_testing.drawing import Written, draw_case, draw_joining, draw_of_evidence, draw_writing, draw_wrong
+from differential_testing.evidence import blocks_of, joined, older_text, text_of
 from differential_testing.faulty import draw_too_many
 from differential_testing.keeping import keep, kept
 from differential_testing.programs import Programs, rows_path
@@ -35,10 +35,11 @@ from reference import Outcome, expected
 
 DIFFERENTIAL = os.path.join(TOOLS, "differential")
 EVIDENCE = (
-    b"tml-evidence 1\nclash 2\ncite 0\ncite 1\nwalk 4\nvia 0 0\nspan 1\nvia 1 0\nspan 0\n"
+    b"tml-evidence 2\nclaims 1\nclash 2\ncite 0\ncite 1\nwalk 4\nvia 0 0\nspan 1\nvia 1 0\nspan 0\n"
     b"timeline 2\nat 2 3\nat 0 1\ntimeline 2\nat 0 1\nat 2 3\nend\n"
 )
-WRITTEN = [Written(b"<TimeML/>\n", EVIDENCE), Written(b"<TimeML></TimeML>", b"tml-evidence 1\ntimeline 0\nend\n")]
+NO_INTERVALS = b"tml-evidence 2\nclaims 1\ntimeline 0\nend\n"
+WRITTEN = [Written(b"<TimeML/>\n", EVIDENCE), Written(b"<TimeML></TimeML>", NO_INTERVALS)]
 KINDS = 17
 NOTHING = "no difference"
 DATES = {
@@ -56,7 +57,7 @@ class Drawing(unittest.TestCase):
         def drawn(seed: int) -> list[Case]:
             random = Random(f"{seed}/0")
             cases = [draw_case(random) for _ in range(60)] + [draw_writing(random) for _ in range(10)]
-            return cases + [draw_verifying(random, WRITTEN) for _ in range(60)]
+            return cases + [draw_of_evidence(random, WRITTEN) for _ in range(60)]
 
         self.assertEqual(drawn(1), drawn(1))
         self.assertNotEqual(drawn(1), drawn(2))
@@ -78,6 +79,41 @@ class Drawing(unittest.TestCase):
 
     def test_the_blocks_of_evidence_are_its_text(self) -> None:
         self.assertEqual(text_of(blocks_of(EVIDENCE)), EVIDENCE)
+
+    def test_texts_of_several_claims(self) -> None:
+        both = b"tml-evidence 2\nclaims 2\n" + NO_INTERVALS[24:-4] + EVIDENCE[24:]
+        self.assertEqual(joined([NO_INTERVALS, b"x", older_text(EVIDENCE)]), both)
+        self.assertEqual((older_text(NO_INTERVALS), older_text(both)), (b"tml-evidence 1\ntimeline 0\nend\n", both))
+        self.assertEqual(joined([both, NO_INTERVALS])[:24], b"tml-evidence 2\nclaims 3\n")
+
+    def test_all_answers_about_evidence_are_drawn(self) -> None:
+        random, beginnings = Random(4), Counter[tuple[bytes, bytes]]()
+        for case in (draw_of_evidence(random, WRITTEN) for _ in range(1500)):
+            found = expected(case.words, case.files)
+            if isinstance(found, Outcome):
+                several = b" and more" if found.text.startswith(b"verified") and found.text.count(b"\n") > 1 else b""
+                beginnings[case.words[0], b" ".join(found.text.split()[:2]) + several] += 1
+        for command, text in (
+            (b"verify", b"verified timeline"),
+            (b"verify", b"verified timeline and more"),
+            (b"verify", b"evidence line"),
+            (b"verify", b"evidence claim"),
+            (b"renew", b"tml-evidence 2"),
+            (b"renew", b"evidence line"),
+            (b"renew", b"read fault"),
+            (b"join", b"tml-evidence 2"),
+            (b"join", b"evidence line"),
+            (b"join", b"second line"),
+            (b"join", b"read fault"),
+        ):
+            self.assertGreater(beginnings[command, text], 0, (command, text))
+
+    def test_a_second_file_that_fails_is_drawn(self) -> None:
+        random, failing = Random(5), 0
+        for case in (draw_joining(random, WRITTEN) for _ in range(1500)):
+            if case.words[0] == b"join" and case.real is not None and case.words[2] in case.real.folders and case.words[1] in case.files:
+                failing += 1
+        self.assertGreater(failing, 0)
 
 
 class Referees(unittest.TestCase):
@@ -113,7 +149,7 @@ class Referees(unittest.TestCase):
             ((b"check", b"d"), Outcome(1, b"fault 3 BadMarkup 0\n")),
             ((b"canon", b"d"), Outcome(0, b'<TimeML><P b="" a=""/></TimeML>\n')),
             ((b"spans", b"d"), Outcome(0, b"")),
-            ((b"solve", b"d"), Outcome(0, b"tml-evidence 1\ntimeline 1\nat 0 1\nend\n")),
+            ((b"solve", b"d"), Outcome(0, b"tml-evidence 2\nclaims 1\ntimeline 1\nat 0 1\nend\n")),
             ((b"drill", b"0"), Outcome(6, b"")),
         ]
         for words, outcome in rows:
@@ -129,6 +165,20 @@ class Referees(unittest.TestCase):
             (Memory(writes_of=2, failing_writes=(2,)), Outcome(5, b"0 2 "), Outcome(0, b"0 2 text\n")),
         ]
         for memory, right, wrong in rows:
+            self.assertIsNone(complaint(replace(case, memory=memory), right), memory)
+            self.assertIsNotNone(complaint(replace(case, memory=memory), wrong), memory)
+
+    def test_a_second_file_that_fails(self) -> None:
+        fault, whole = Outcome(4, b"read fault\n"), Outcome(0, joined([NO_INTERVALS, NO_INTERVALS]))
+        bad = Outcome(7, b"evidence line 1\n")
+        good = Case("", (b"join", b"e", b"f"), {b"e": NO_INTERVALS, b"f": NO_INTERVALS})
+        for memory, case, right, wrong in (
+            (Memory(), good, whole, fault),
+            (Memory(failing_reads=(2,)), good, fault, whole),
+            (Memory(failing_reads=(3,)), good, fault, whole),
+            (Memory(failing_reads=(6,)), good, whole, fault),
+            (Memory(failing_reads=(3,)), replace(good, files={b"e": b"x", b"f": NO_INTERVALS}), bad, fault),
+        ):
             self.assertIsNone(complaint(replace(case, memory=memory), right), memory)
             self.assertIsNotNone(complaint(replace(case, memory=memory), wrong), memory)
 
@@ -211,6 +261,13 @@ class Runs(unittest.TestCase):
         status, said = self.differential("--processes", "--evidence", "--count", "100", "--small", "0", "2", "1", tml=lie)
         self.assertEqual(status, 1, said)
         self.assertIn("verified timeline", said)
+
+    def test_joining_that_is_wrong_is_found(self) -> None:
+        for lie in ('join ]; then exec "$T" join "$3" "$2"; fi', 'renew ]; then exec cat "$2"; fi'):
+            program = self.lying(f'if [ "$1" = {lie}')
+            status, said = self.differential("--processes", "--evidence", "--count", "200", "--small", "0", "2", "1", tml=program)
+            self.assertEqual(status, 1, said)
+            self.assertIn("difference (joining)", said)
 
     def test_another_least_timeline_is_found(self) -> None:
         lie = self.lying('if [ "$1" = solve ]; then "$T" "$@" > out; S=$?; sed "s/^at 0 1$/at 0 2/" out; exit $S; fi')

@@ -130,8 +130,8 @@ class Explanations(CorpusTest):
         )
 
     def test_limits(self):
-        times = "".join(f'<TIMEX3 tid="t{number}" type="DATE"/>' for number in range(520))
-        self.assertEqual(self.firsts([document(times)]), ["2:16275 the document has 520 MAKEINSTANCE and TIMEX3, and tml takes 512: split it here or before"])
+        times = "".join(f'<TIMEX3 tid="t{number}" type="DATE"/>' for number in range(1030))
+        self.assertEqual(self.firsts([document(times)]), ["2:32683 the document has 1,030 MAKEINSTANCE and TIMEX3, and tml takes 1,024: split it here or before"])
 
     def test_nesting(self):
         self.check(
@@ -252,7 +252,7 @@ class Further(CorpusTest):
             (document('<MAKEINSTANCE eiid="i" eventID="e"/>' + EVENT + '<SIGNAL sid="e1"/>'), ["2:1 15", "2:76 14"], []),
             (document('<MAKEINSTANCE eiid="i" eventID="e"/><TLINK eventInstanceID="i" relatedToTime="x" relType="ENDS"/>'), ["2:1 15", "2:37 15"], [1]),
             (document('<MAKEINSTANCE eiid="i" eventID="e"/>' + TIME + '<TLINK timeID="t1" relatedToTime="x" relType="ENDS"/>'), ["2:1 15", "2:67 15"], []),
-            (document("".join(f'<TIMEX3 tid="t{number}" type="DATE"/>' for number in range(520))), ["2:16275 16"], []),
+            (document("".join(f'<TIMEX3 tid="t{number}" type="DATE"/>' for number in range(1030))), ["2:32683 16"], []),
             (document(f"<p><Event eid='e1' class='STATE'>x</P>{INSTANCE}"), ["2:4 4", "2:35 5", "2:77 5", "3:1 6"], [2, 3]),
             (document(EVENT + INSTANCE + TIME), [], []),
         ]

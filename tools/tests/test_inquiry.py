@@ -120,7 +120,7 @@ class Both(InquiryTest):
         self.assertEqual((status, lines[-1]), (0, "1 warning of the baseline not shown"))
 
     def test_answers_that_are_none(self):
-        for body in ("exit 0", "exit 2", "echo tml-evidence 1; exit 0", "echo accepted; exit 0", "printf 'tml-evidence 1\\nclash 1\\n'; exit 2"):
+        for body in ("exit 0", "exit 2", "echo tml-evidence 2; exit 0", "echo accepted; exit 0", "printf 'tml-evidence 2\\nclaims 1\\nclash 1\\n'; exit 2"):
             with self.subTest(body):
                 self.write("fake", f"#!/bin/sh\ncat > /dev/null\n{body}\n")
                 os.chmod(self.path("fake"), stat.S_IRWXU)

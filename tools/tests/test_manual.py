@@ -12,7 +12,7 @@ from corpus import TML, TOP
 from test_scripts import RELATIONS
 
 PAGES = ("tml.1", "tml-corpus.1", "tml-tools.1")
-LIMITS = ("4,194,304", "16,777,216", "512", "4,096")
+LIMITS = ("4,194,304", "67,108,864", "1,024", "4,096")
 
 
 def page(name):

@@ -11,11 +11,11 @@ import unittest
 from corpus import EVENT, INSTANCE, TML, TOP, CorpusTest, document
 
 from reference import Free, Outcome, expected, judge, judge_failing
-from reference.checking import is_supported, refusal
+from reference.checking import first_refusal, is_supported, refusal
 from reference.civil import date_of, day_of, first_week, weeks_of_year
 from reference.dates import Bounds, extent
-from reference.evidence import Clash, Counterexample, Entailment, Timeline, read_evidence, text_of
-from reference.nets import Calendar, Link, Net, Span, Via
+from reference.evidence import Clash, Counterexample, Entailment, Timeline, read_claims, text_of, text_of_claims
+from reference.nets import Calendar, Link, Net, Span, Via, keeps_calendar
 from reference.relations import RELATIONS, Order, holds, orders_of
 from reference.timelines import (
     all_timelines,
@@ -25,7 +25,6 @@ from reference.timelines import (
     orders_that_fit,
     rows_of_closure,
     rows_tried,
-    says,
 )
 
 COMMANDS = ("spans", "check", "dates", "solve", "relations", "canon")
@@ -79,6 +78,8 @@ class Definitions(unittest.TestCase):
             links = [link for link in range(len(net.links)) if draw.randrange(4)]
             order = Order(draw.randrange(net.points()), draw.randrange(net.points()), draw.randrange(2) == 0)
             for further in ([], [order], [order.negation()]):
+                ranks = draw.choice(all_timelines(net.intervals()))
+                self.assertEqual(keeps_calendar(net, ranks), all(order.is_true(ranks) for order in net.calendar_orders()), (net, ranks))
                 raised = least_raised(net.points(), orders_that_fit(net, links) + further)
                 self.assertEqual(raised, least_tried(net, links, further), net)
             every = range(len(net.links))
@@ -86,7 +87,7 @@ class Definitions(unittest.TestCase):
                 continue
             fitting += 1
             self.assertEqual(rows_of_closure(net), rows_tried(net), net)
-            self.assertEqual(says(closure(net), order), least_tried(net, every, [order.negation()]) is None, (net, order))
+            self.assertEqual(closure(net).says(order), least_tried(net, every, [order.negation()]) is None, (net, order))
         self.assertGreater(fitting, 50)
 
     def test_days_and_weeks_are_those_of_python(self):
@@ -119,7 +120,10 @@ class Definitions(unittest.TestCase):
             net = random_net(draw, draw.randint(1, 3))
             evidence = self.evidence(draw, net)
             self.assertEqual(is_supported(net, evidence), refusal(net, evidence) is None, (net, evidence))
-            self.assertEqual(read_evidence(text_of(evidence)), evidence)
+            claims = (evidence, *(self.evidence(draw, net) for _ in range(draw.randrange(3))))
+            refusals = [(claim, *found) for claim, one in enumerate(claims) if (found := refusal(net, one))]
+            self.assertEqual(first_refusal(net, claims), refusals[0] if refusals else None)
+            self.assertEqual((read_claims(text_of(evidence)), read_claims(text_of_claims(claims))), ((evidence,), claims))
 
     def evidence(self, draw, net):
         """Evidence of a random kind, which is often nearly right."""
@@ -151,14 +155,14 @@ class Pages(unittest.TestCase):
 
     def test_smallest_documents_of_the_page_on_faults(self):
         found = re.findall(r"^Smallest: `([^`\n]+)`\s\(`(fault .*?)`\)", page("docs/FAULTS.md"), re.MULTILINE)
-        times = "".join(f'<TIMEX3 tid="t{one:03}" type="DATE"/>' for one in range(513))
-        links = 4097 * '<TLINK timeID="t000" relatedToTime="t000" relType="IDENTITY"/>'
+        times = "".join(f'<TIMEX3 tid="t{one:04}" type="DATE"/>' for one in range(1025))
+        links = 4097 * '<TLINK timeID="t0000" relatedToTime="t0000" relType="IDENTITY"/>'
         made = [
             ("\N{LATIN SMALL LETTER Y WITH DIAERESIS}", "fault 1 NotUtf8 0"),
             ("", "fault 6 Unclosed 0"),
             ("<TimeML>" + 32 * "<P>", "fault 8 TooDeep 101"),
-            (f"<TimeML>{times}</TimeML>", "fault 16 TooManyIntervals 16392"),
-            (f'<TimeML><TIMEX3 tid="t000" type="DATE"/>{links}</TimeML>', "fault 17 TooManyLinks 253992"),
+            (f"<TimeML>{times}</TimeML>", "fault 16 TooManyIntervals 33800"),
+            (f'<TimeML><TIMEX3 tid="t0000" type="DATE"/>{links}</TimeML>', "fault 17 TooManyLinks 262185"),
         ]
         self.assertEqual(len({line.split()[1] for _, line in found + made}), 17)
         for text, line in found + made:
@@ -268,30 +272,153 @@ class Program(CorpusTest):
             self.is_right([word.encode() for word in line.split()], files)
 
 
+PROOF = b"tml-evidence 1\nentails 0 BEFORE 2\nwalk 3\nvia 0 0\nspan 1\nvia 1 0\nend\n"
+TIMELINE = b"tml-evidence 1\ntimeline 3\nat 0 1\nat 2 3\nat 4 5\nend\n"
+BOTH = b"tml-evidence 2\nclaims 2\n" + PROOF[15:-4] + TIMELINE[15:-4] + b"end\n"
+CHAIN = document(
+    EVENT
+    + "".join(f'<MAKEINSTANCE eiid="{name}" eventID="e1"/>' for name in "abc")
+    + "".join(f'<TLINK eventInstanceID="{a}" relatedToEventInstance="{b}" relType="BEFORE"/>' for a, b in ("ab", "bc"))
+).encode()
+
+
+def claims(number, *bodies):
+    """A text of version 2."""
+    return b"tml-evidence 2\nclaims %d\n%send\n" % (number, b"".join(bodies))
+
+
 class Texts(unittest.TestCase):
     """The bad lines of texts that are evidence but for a line."""
 
     def test_bad_lines(self):
-        right = text_of(Clash((1, 2), (Span(0), Via(1, 0)), ((0, 1), (0, 1))))
-        self.assertIsInstance(read_evidence(right), Clash)
-        lines = right.splitlines(keepends=True)
-        for number in range(len(lines)):
-            before, line, after = b"".join(lines[:number]), lines[number], b"".join(lines[number + 1 :])
-            self.assertEqual(read_evidence(before), number + 1)
-            for wrong in (line[:-1] + b"\r\n", b" " + line, b"\n" + line, line.upper() if line != line.upper() else b"x\n"):
-                self.assertEqual(read_evidence(before + wrong + after), number + 1, wrong)
-        self.assertEqual(read_evidence(right[:-1]), len(lines))
-        self.assertEqual(read_evidence(right + b"\n"), len(lines) + 1)
-        self.assertEqual(read_evidence(b"tml-evidence 1\nclash 2\ncite 4294967295\n"), 3)
-        self.assertEqual(read_evidence(b"tml-evidence 1\nclash 2\ncite 4294967294\ncite 4294967295\n"), 5)
-        self.assertEqual(read_evidence(b"tml-evidence 1\ntimeline 4294967296\n"), 2)
-        self.assertEqual(read_evidence(b"tml-evidence 1\ntimeline 01\n"), 2)
+        clash = Clash((1, 2), (Span(0), Via(1, 0)), ((0, 1), (0, 1)))
+        proof = Entailment(0, b"ENDS", 1, ((), (Via(0, 0),), (Calendar(0, 1), Span(0))))
+        counter = Counterexample(0, b"AFTER", 1, (0, 1))
+        ones = (Timeline(()), Timeline((0, 1)), clash, proof, counter)
+        self.assertEqual(read_claims(text_of_claims(ones)), ones)
+        for right in (text_of(clash), text_of_claims((clash,)), text_of_claims(ones)):
+            lines = right.splitlines(keepends=True)
+            for number in range(len(lines)):
+                before, line, after = b"".join(lines[:number]), lines[number], b"".join(lines[number + 1 :])
+                self.assertEqual(read_claims(before), number + 1)
+                for wrong in (line[:-1] + b"\r\n", b" " + line, b"\n" + line, line.upper() if line != line.upper() else b"x\n"):
+                    self.assertEqual(read_claims(before + wrong + after), number + 1, wrong)
+            self.assertEqual(read_claims(right[:-1]), len(lines))
+            self.assertEqual(read_claims(right + b"\n"), len(lines) + 1)
+            self.assertEqual(read_claims(right + b"x"), len(lines) + 1)
+
+    def test_bad_numbers(self):
+        for head, before in ((b"tml-evidence 1\n", 1), (b"tml-evidence 2\nclaims 2\ntimeline 0\n", 3)):
+            self.assertEqual(read_claims(head + b"clash 2\ncite 4294967295\n"), before + 2)
+            self.assertEqual(read_claims(head + b"clash 2\ncite 4294967294\ncite 4294967295\n"), before + 4)
+            self.assertEqual(read_claims(head + b"timeline 4294967296\n"), before + 1)
+            self.assertEqual(read_claims(head + b"timeline 01\n"), before + 1)
+        for number in (b"0", b"01", b"", b"-1", b"+1", b"4294967296", b"1 ", b" 1", b"1.0", b"99999999999"):
+            self.assertEqual(read_claims(b"tml-evidence 2\nclaims %s\ntimeline 0\nend\n" % number), 2, number)
+        self.assertEqual(read_claims(b"tml-evidence 2\nclaims 4294967295\ntimeline 0\n"), 4)
+
+    def test_bad_claims(self):
+        body = b"timeline 1\nat 0 1\n"
+        rows = [
+            (b"", 1),
+            (b"tml-evidence 2\n", 2),
+            (b"tml-evidence 2", 1),
+            (b"tml-evidence 3\n", 1),
+            (b"tml-evidence 2\n" + body + b"end\n", 2),
+            (b"tml-evidence 1\nclaims 1\n" + body + b"end\n", 2),
+            (claims(1), 3),
+            (claims(2, body), 5),
+            (claims(1, body, body), 5),
+            (claims(2, b"tml-evidence 1\n", body, body), 3),
+            (claims(2, body, b"tml-evidence 1\n", body), 5),
+            (claims(2, body, b"end\n", body), 5),
+            (claims(2, body, b"claims 1\n", body), 5),
+            (claims(2, body, body[:-7]), 6),
+            (claims(2, body[:-7], body), 4),
+        ]
+        for text, line in rows:
+            self.assertEqual(read_claims(text), line, text)
 
     def test_free_answers_say_so(self):
         wanted = expected([b"ask", b"d", b"i1", b"IDENTITY", b"i1"], {b"d": document(EVENT + INSTANCE).encode()})
         self.assertIsInstance(wanted, Free)
-        self.assertTrue(wanted.is_right(b"tml-evidence 1\nentails 0 IDENTITY 0\nwalk 0\nwalk 0\nwalk 0\nwalk 0\nend\n"))
-        self.assertFalse(wanted.is_right(b"tml-evidence 1\nentails 0 SIMULTANEOUS 0\nwalk 0\nwalk 0\nwalk 0\nwalk 0\nend\n"))
+        body = b"entails 0 IDENTITY 0\nwalk 0\nwalk 0\nwalk 0\nwalk 0\n"
+        self.assertTrue(wanted.is_right(claims(1, body)))
+        wrong = (b"tml-evidence 1\n" + body + b"end\n", claims(2, body, body), claims(1, body.replace(b"IDENTITY", b"SIMULTANEOUS")))
+        for text in wrong:
+            self.assertFalse(wanted.is_right(text), text)
+
+    def test_free_answers_that_are_cut_off(self):
+        words, files = [b"ask", b"d", b"i1", b"IDENTITY", b"i1"], {b"d": document(EVENT + INSTANCE).encode()}
+        whole = claims(1, b"entails 0 IDENTITY 0\nwalk 0\nwalk 0\nwalk 0\nwalk 0\n")
+        others = (whole.replace(b"2", b"1", 1), whole.replace(b"claims 1", b"claims 2"))
+        for room, text in itertools.product((0, 15, 20, 24, 40, len(whole) - 1), (whole, *others)):
+            wrong = judge_failing(words, files, Outcome(5, text[:room]), reads_failed=False, room=room)
+            self.assertEqual(wrong is None, text[:room] in whole, (room, text))
+
+
+class SeveralClaims(unittest.TestCase):
+    """What `renew`, `join` and `verify` say of texts of both versions."""
+
+    def is_answered(self, line, status, text, **files):
+        """What is answered to words."""
+        named = {name.encode(): content for name, content in files.items()}
+        self.assertEqual(expected([word.encode() for word in line.split()], named), Outcome(status, text), line)
+
+    def test_renew(self):
+        self.is_answered("renew e", 0, claims(1, PROOF[15:-4]), e=PROOF)
+        self.is_answered("renew e", 0, claims(1, PROOF[15:-4]), e=claims(1, PROOF[15:-4]))
+        self.is_answered("renew e", 0, BOTH, e=BOTH)
+        self.is_answered("renew e", 7, b"evidence line 2\n", e=b"tml-evidence 2\nclaims 0\n")
+        self.is_answered("renew e", 7, b"evidence line 1\n", e=b"tml-evidence 3\n")
+        self.is_answered("renew e", 4, b"read fault\n")
+
+    def test_join(self):
+        self.is_answered("join e f", 0, BOTH, e=PROOF, f=TIMELINE)
+        self.is_answered("join e e", 0, claims(4, BOTH[24:-4], BOTH[24:-4]), e=BOTH)
+        self.is_answered("join e f", 7, b"evidence line 1\n", e=b"x", f=b"y")
+        self.is_answered("join e f", 7, b"second line 2\n", e=PROOF, f=b"tml-evidence 2\nclaims 0\n")
+        self.is_answered("join e f", 4, b"read fault\n", f=TIMELINE)
+        self.is_answered("join e f", 4, b"read fault\n", e=PROOF)
+        self.is_answered("join e f", 7, b"evidence line 8\n", e=PROOF + b"\n")
+        for line in ("join e", "join", "join e f g", "renew", "renew e f"):
+            self.assertEqual(expected([word.encode() for word in line.split()], {b"e": PROOF, b"f": PROOF}).status, 3, line)
+        standard = {b"-": PROOF, b"e": TIMELINE}
+        self.assertEqual(expected([b"join", b"-", b"e"], standard), Outcome(0, BOTH))
+        self.assertEqual(expected([b"join", b"-", b"-"], standard), Outcome(7, b"second line 1\n"))
+
+    def test_limits(self):
+        long, least = b" " * 67_108_865, b" " * 67_108_864
+        self.is_answered("renew e", 9, b"too long EVIDENCE\n", e=long)
+        self.is_answered("renew e", 7, b"evidence line 1\n", e=least)
+        self.is_answered("join e f", 9, b"too long EVIDENCE\n", e=long, f=long)
+        self.is_answered("join e f", 9, b"too long SECOND\n", e=PROOF, f=long)
+        self.is_answered("join e f", 7, b"evidence line 1\n", e=least, f=long)
+        self.is_answered("join e f", 7, b"second line 1\n", e=PROOF, f=least)
+        self.is_answered("verify d e", 9, b"too long EVIDENCE\n", d=CHAIN, e=long)
+
+    def test_verify(self):
+        shown = b"verified entails a BEFORE c\nverified timeline\n"
+        self.is_answered("verify d e", 0, shown, d=CHAIN, e=BOTH)
+        self.is_answered("verify d e", 0, b"verified timeline\n", d=CHAIN, e=TIMELINE)
+        self.is_answered("verify d e", 7, b"evidence claim 1 part 1 Link 1\n", d=CHAIN, e=BOTH.replace(b"at 4", b"at 3"))
+        self.is_answered("verify d e", 7, b"evidence claim 0 part 1 Step 1\n", d=CHAIN, e=BOTH.replace(b"span 1", b"span 2"))
+        self.is_answered("verify d e", 7, b"evidence claim 0 part 1 Link 1\n", d=CHAIN, e=TIMELINE.replace(b"at 4", b"at 3"))
+        self.is_answered("verify d e", 7, b"evidence line 8\n", d=CHAIN, e=BOTH.replace(b"claims 2", b"claims 1"))
+
+    def test_what_is_printed(self):
+        self.is_answered("solve d", 0, claims(1, TIMELINE[15:-4]), d=CHAIN)
+        counter = claims(1, b"counter 2 BEFORE 0\n", TIMELINE[15:-4])
+        self.is_answered("ask d c BEFORE a", 0, counter, d=CHAIN)
+        proof = expected([b"ask", b"d", b"a", b"BEFORE", b"c"], {b"d": CHAIN})
+        self.assertTrue(proof.is_right(claims(1, PROOF[15:-4])))
+        self.assertFalse(proof.is_right(PROOF))
+
+    def test_drills(self):
+        text = "drill 1024\nbytes 309328\nlinks 2694\ngreatest 25\nrelations 28167\nverified timeline\n"
+        self.assertEqual(expected([b"drill", b"1024"], {}), Outcome(0, text.encode()))
+        for number in (b"0", b"1025", b"01024", b"+1", b"1024 ", b""):
+            self.assertEqual(expected([b"drill", number], {}).status, 3, number)
 
 
 if __name__ == "__main__":

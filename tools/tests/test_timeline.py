@@ -148,7 +148,7 @@ class Rows(TimelineTest):
             self.assertIn(words, said)
 
     def test_numbers_of_intervals(self):
-        for count in (0, 1, 2, 100, 512):
+        for count in (0, 1, 2, 100, 1024):
             with self.subTest(count):
                 events = "".join(event(number) for number in range(count))
                 picture = self.drawn(document(events + "".join(link(number, "AFTER", number - 1) for number in range(1, count))))
@@ -227,8 +227,8 @@ class NotDrawn(TimelineTest):
     def test_only_what_verify_accepts_is_drawn(self):
         content = document(event(1) + event(2) + link(1, "BEFORE", 2))
         rows = [
-            ("s/^at 0 1$/at 2 3/", "tml verify did not accept the timeline of tml solve: evidence part 1 Link 0"),
-            ("s/^timeline 2$/timeline 1/", "tml verify did not accept the timeline of tml solve: evidence line 4"),
+            ("s/^at 0 1$/at 2 3/", "tml verify did not accept the timeline of tml solve: evidence claim 0 part 1 Link 0"),
+            ("s/^timeline 2$/timeline 1/", "tml verify did not accept the timeline of tml solve: evidence line 5"),
             ("s/^timeline 2$/counter 1 BEFORE 0\\ntimeline 2/", "tml answered status 0 to `solve`, and a text that does not go with it"),
             ("s/^at 2 3$/at 4 5/", "the timeline that tml solve printed is not the least one"),
             ("s/^at 2 3$/at 2 4294967295/", "the timeline that tml solve printed is not the least one"),

@@ -13,6 +13,7 @@ from typing import IO
 
 from .files import CannotRead, reason, written
 from .program import ACCEPTED, CannotRun, Program, Reply
+from .replies import kind_of
 
 
 STRICT_ORDERS = {
@@ -49,14 +50,14 @@ def read_clash(reply: Reply) -> Clash:
     """The clash that an answer of `tml solve` with status 2 has."""
     links = tuple(int(number) for number in re.findall(rb"^cite (\d+)$", reply.text, re.MULTILINE))
     steps = re.findall(rb"^(via|span|calendar) (\d+)(?: (\d+))?$", reply.text, re.MULTILINE)
-    if not reply.text.startswith(b"tml-evidence 1\nclash ") or not links or not steps:
+    if kind_of(reply.text) != b"clash" or not links or not steps:
         raise CannotRun("the answer of tml to `solve` cannot be read")
     return Clash(links, tuple(Step(kind.decode(), int(first), int(second or 0)) for kind, first, second in steps), reply.text)
 
 
 def is_timeline(reply: Reply) -> bool:
     """Whether an answer of `tml solve` says that a timeline fits."""
-    return reply.status == ACCEPTED and reply.text.startswith(b"tml-evidence 1\ntimeline ")
+    return reply.status == ACCEPTED and kind_of(reply.text) == b"timeline"
 
 
 def verify_clash(program: Program, document: bytes, clash: Clash, kept: str | None = None) -> None:

@@ -25,7 +25,7 @@ SENTENCES = {
     "exists, even with any digits for its `X`.",
     14: "The identifier of a tag (`eid`, `eiid`, `tid`, `sid` or `lid`) is that of a tag before it, be it of another kind.",
     15: "A reference is not the identifier of a tag of the kind that it asks for, anywhere in the document.",
-    16: "The tag is the 513th among MAKEINSTANCE and TIMEX3.",
+    16: "The tag is the 1,025th among MAKEINSTANCE and TIMEX3.",
     17: "The tag is the 4,097th TLINK.",
 }
 """The first sentence on each fault in docs/FAULTS.md. A test compares the two."""

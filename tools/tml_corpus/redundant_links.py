@@ -23,6 +23,7 @@ from .output import Parser, run
 from .places import Places
 from .pool import Interruption, in_order, processors
 from .program import ACCEPTED, CLASH, FAULT, CannotRun, Program, Reply, find_program
+from .replies import kind_of
 from .statuses import ENDED, Status
 from .units import Units, units_of
 
@@ -118,7 +119,7 @@ def ask_all(program: Program, together: bool, path: str, document: bytes) -> Rep
         problem = problem_of(answer, document)
         if problem is not None:
             return Report(path, problem=problem)
-        if answer.text.startswith(b"tml-evidence 1\nentails "):
+        if kind_of(answer.text) == b"entails":
             place = places.place(link.start)
             report.follows.append(f"{place.line}:{place.column}: follows: {' '.join(link.words)} (link {number})")
             copy = asked if together else copy

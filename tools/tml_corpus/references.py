@@ -99,7 +99,7 @@ def many_intervals(source: Source, tag: Unit, found: Explanation) -> None:
     """Fault 16: more intervals than `tml` takes."""
     found.start, found.end = tag.start, tag.end
     count = len(source.tags("MAKEINSTANCE")) + len(source.tags("TIMEX3"))
-    found.text = f"the document has {count:,} MAKEINSTANCE and TIMEX3, and tml takes {MOST_INTERVALS}: split it here or before"
+    found.text = f"the document has {count:,} MAKEINSTANCE and TIMEX3, and tml takes {MOST_INTERVALS:,}: split it here or before"
 
 
 def many_links(source: Source, tag: Unit, found: Explanation) -> None:

@@ -16,21 +16,27 @@ COUNTS = b"".join(rb"%s (\d+)\n" % name for name in (b"events", b"instances", b"
 ACCEPTED = re.compile(rb"accepted\n%s((?:interval \d+ %s\n)*)((?:tlink \d+ %s (?:%s) %s\n)*)" % (COUNTS, NAME, NAME, RELATION, NAME))
 FAULT = re.compile(rb"fault (\d{1,2}) (\w+) (\d{1,7})\n")
 
+EVIDENCE = rb"tml-evidence (?:1|2\nclaims 1)\n"
+"""How the text of one claim begins, of either version."""
+
+KIND = re.compile(EVIDENCE + rb"(timeline|entails|counter|clash) ")
+CLAIM = rb"verified (?:timeline|(?:entails|counter) %s (?:%s) %s|clash \d+(?: \d+)*)\n" % (NAME, RELATION, NAME)
+
 DONE = {
     "dates": re.compile(rb"(?:%s (?:free|(?:exact|within) -?\d+ -?\d+ [\dT:-]+ [\dT:-]+)\n)*" % NAME),
-    "solve": re.compile(rb"tml-evidence 1\ntimeline \d+\n(?s:.*)(?<=\n)end\n"),
-    "ask": re.compile(rb"tml-evidence 1\n(?:entails|counter) \d+ (%s) \d+\n(?s:.*)(?<=\n)end\n" % RELATION),
+    "solve": re.compile(EVIDENCE + rb"timeline \d+\n(?s:.*)(?<=\n)end\n"),
+    "ask": re.compile(EVIDENCE + rb"(?:entails|counter) \d+ (%s) \d+\n(?s:.*)(?<=\n)end\n" % RELATION),
     "relations": re.compile(rb"(?:%s (?:%s) %s\n)*" % (NAME, RELATION, NAME)),
     "canon": re.compile(rb"<(?s:.*)\n"),
-    "verify": re.compile(rb"verified (?:timeline|(?:entails|counter) %s (?:%s) %s|clash \d+(?: \d+)*)\n" % (NAME, RELATION, NAME)),
+    "verify": re.compile(rb"(?:%s)+" % CLAIM),
 }
 """The texts with status 0; of `check` and `spans` more is asked."""
 
 OTHER = {
-    TmlStatus.CLASH: (("solve", "ask", "relations"), re.compile(rb"tml-evidence 1\nclash \d+\ncite \d+\n(?s:.*)(?<=\n)end\n")),
+    TmlStatus.CLASH: (("solve", "ask", "relations"), re.compile(EVIDENCE + rb"clash \d+\ncite \d+\n(?s:.*)(?<=\n)end\n")),
     TmlStatus.READ_FAULT: (None, re.compile(rb"read fault\n")),
     TmlStatus.NO_MEMORY: (None, re.compile(rb"")),
-    TmlStatus.EVIDENCE_FAULT: (("verify",), re.compile(rb"evidence (?:line|part) \d+[ \w]*\n")),
+    TmlStatus.EVIDENCE_FAULT: (("verify",), re.compile(rb"evidence (?:line \d+|claim \d+ part \d+ [ \w]+)\n")),
     TmlStatus.UNKNOWN_NAME: (("ask",), re.compile(rb"unknown (?:X|REL|Y)\n")),
     TmlStatus.TOO_LONG: (None, re.compile(rb"too long (?:DOC|EVIDENCE)\n")),
 }
@@ -44,6 +50,12 @@ LONGEST = {"solve": EVIDENCE_LIMIT, "ask": EVIDENCE_LIMIT, "relations": 64 * MEB
 def longest(command: str) -> int:
     """So many bytes a reply to a command may have."""
     return LONGEST.get(command, MEBIBYTE)
+
+
+def kind_of(text: bytes) -> bytes:
+    """The kind of the one claim that a text of evidence has, by its first word; nothing where it does not begin so."""
+    found = KIND.match(text)
+    return found[1] if found else b""
 
 
 def refusal(words: Sequence[str], status: int, text: bytes, size: int | None) -> str | None:

@@ -7,10 +7,10 @@ from enum import IntEnum
 DOCUMENT_LIMIT = 4_194_304
 """So many bytes `tml` takes of a document."""
 
-EVIDENCE_LIMIT = 16_777_216
+EVIDENCE_LIMIT = 67_108_864
 """So many bytes `tml` takes of evidence."""
 
-INTERVAL_LIMIT, LINK_LIMIT = 512, 4096
+INTERVAL_LIMIT, LINK_LIMIT = 1024, 4096
 """So many intervals and links a document may have."""
 
 IDENTIFIER_LIMIT = 64

@@ -16,6 +16,7 @@ from .formats import make_format
 from .page import page
 from .picture import svg
 from .program import ACCEPTED, CLASH, FAULT, CannotRun, Program, Reply
+from .replies import EVIDENCE
 from .rows import Row, Timeline
 from .touching import touching_copy
 from .units import room_for
@@ -89,7 +90,7 @@ def links_of(program: Program, path: str, document: bytes, target: str, touching
 def verified(program: Program, path: str, document: bytes, reply: Reply) -> Timeline:
     """The rows of what `tml solve` printed, once `tml verify` said that it is a timeline of the document."""
     verify_timeline(program, document, reply)
-    found = re.fullmatch(rb"tml-evidence 1\ntimeline \d+\n((?:at \d+ \d+\n)*)end\n", reply.text)
+    found = re.fullmatch(EVIDENCE + rb"timeline \d+\n((?:at \d+ \d+\n)*)end\n", reply.text)
     if found is None:
         raise CannotRun("the answer of tml to `solve` cannot be read")
     ranks = [(int(line[1]), int(line[2])) for line in map(bytes.split, found[1].splitlines())]
