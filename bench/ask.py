@@ -1,5 +1,5 @@
 #!/usr/bin/env python3
-"""Measures `tml ask` over documents of 512 intervals beside `tml solve` of the same document, and `tml verify` of what
+"""Measures `tml ask` over documents of 1,024 intervals beside `tml solve` of the same document, and `tml verify` of what
 `ask` printed beside `tml check`.
 
 The documents are those of solve.py, with dates in several orders and kinds of links. Each is asked for a relation that

@@ -1,5 +1,5 @@
 #!/usr/bin/env python3
-"""Measures `tml solve` over documents of 512 intervals whose links clash beside `tml check` of the same document, and
+"""Measures `tml solve` over documents of 1,024 intervals whose links clash beside `tml check` of the same document, and
 `tml verify` of the clash that it printed.
 
 Prints, for each document, how many links the clash cites, how many steps its walk has, how many bytes were printed, and

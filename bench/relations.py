@@ -1,5 +1,5 @@
 #!/usr/bin/env python3
-"""Measures `tml relations` over documents of 512 intervals beside `tml solve` of the same document, and `tml drill`.
+"""Measures `tml relations` over documents of 1,024 intervals beside `tml solve` of the same document, and `tml drill`.
 
 Prints, for each document, the least time of five runs of both, of `cat` of what `relations` printed, how much was printed,
 and how many times as long as `solve` it took without that of `cat`. Build the program first, as README.md says.
@@ -15,7 +15,7 @@ import tempfile
 from measure import least
 from solve import DOCUMENTS, clash_at_the_last
 
-DRILLS = ["1", "64", "512"]
+DRILLS = ["1", "64", "1024"]
 
 
 def measure(program, make, folder):

@@ -1,5 +1,5 @@
 #!/usr/bin/env python3
-"""Measures `tml solve` over documents of 512 intervals beside `tml check` of the same document.
+"""Measures `tml solve` over documents of 1,024 intervals beside `tml check` of the same document.
 
 Prints, for each document, the least time of five runs of both, their difference, and how much more memory `solve` takes.
 The difference is to be at most 10 ms. Build the program first, as README.md says.

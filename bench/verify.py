@@ -1,8 +1,8 @@
 #!/usr/bin/env python3
 """Measures `tml verify` beside `tml check` of the same document.
 
-The first table has documents of 512 intervals and 4,096 links with a timeline that fits: `verify` is to take at most
-twice the time of `check`. The second one has evidence of 16 MiB over a small document, refused at its last line or at its
+The first table has documents of 1,024 intervals and 4,096 links with a timeline that fits: `verify` is to take at most
+twice the time of `check`. The second one has evidence of 64 MiB over a small document, refused at its last line or at its
 first: a byte of it is to take no longer than a byte of `check` over the shortest tags, and memory at most three times
 the evidence. Build the program first, as README.md says.
 
@@ -17,8 +17,8 @@ import tempfile
 
 from measure import MIB, least, peak_memory, shortest_tags
 
-INTERVALS, LINKS = 512, 4096
-EVIDENCE = 16 * MIB
+INTERVALS, LINKS = 1024, 4096
+EVIDENCE = 64 * MIB
 
 
 def relation(a, b):
@@ -106,7 +106,7 @@ def main():
                 file.write(content)
 
         print(f"{'dates':>5} {'check ms':>8} {'verify ms':>9} {'ratio':>5}")
-        for dates in (0, 256, 512):
+        for dates in (0, 512, 1024):
             doc, timeline = annotated(dates, dates + 1)
             write(document, doc)
             write(evidence, timeline)
