@@ -6,10 +6,9 @@ use Rattle.std.proofs.lemmas.List.FromFn.{length-range_with_len}
 use Rattle.std.proofs.lemmas.Option.{IfSome_then}
 use Rattle.named.proofs.Lists.{each_flat_map}
 use Rattle.net_core.specs.Relations.{Holds}
-use Rattle.net_core.specs.Rels.{all_rels}
 use Rattle.net_core.specs.declared.rels.Rel.{Rel}
 use Rattle.tml_refs.specs.declared.document.DocLink.{DocLink}
-use Rattle.drill.specs.Numbers.{does_hold, first_relation, hidden, link_between, links_from, links_of, partner}
+use Rattle.drill.specs.Numbers.{does_hold, drill_rels, first_relation, hidden, link_between, links_from, links_of, partner}
 use Rattle.drill.proofs.Lists.{all_filter_map, all_range, filter_map_length, flat_map_length, found_passes, if_some_made}
 use Rattle.drill.proofs.Relations.{holds_decided}
 
@@ -23,7 +22,7 @@ pub record IsTrueLink (n : ℕ) (link : DocLink) : Type 0 where
 true_link : (n i j : ℕ) → i < n → j < n → IfSome (link_between n i j) (IsTrueLink n)
 true_link n i j from to =
     if_some_made (IsTrueLink n) (λ (r : Rel). record { a = i; rel = r; b = j }) (first_relation (hidden n i) (hidden n j))
-    (IfSome_then (first_relation (hidden n i) (hidden n j)) (found_passes (does_hold (hidden n i) (hidden n j)) all_rels)
+    (IfSome_then (first_relation (hidden n i) (hidden n j)) (found_passes (does_hold (hidden n i) (hidden n j)) drill_rels)
     (λ r h. record { a = from; b = to; holds = (holds_decided r (hidden n i) (hidden n j)).0 h }))
 
 -- the links from an interval are true

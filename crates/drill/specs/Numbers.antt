@@ -1,5 +1,5 @@
 -- The numbers of a drill: hidden intervals and links between them, all drawn from its number.
-use Rattle.std.specs.Prelude.{ℕ, zero, suc, ◌+◌, ◌-◌, ◌*◌, ◌%◌, ◌/◌, ◌==◌, nat_lt, nat_le, Bool, List, [], ◌∷◌, map, Option, option_map, if◌then◌else◌}
+use Rattle.std.specs.Prelude.{ℕ, zero, suc, ◌+◌, ◌-◌, ◌*◌, ◌%◌, ◌/◌, ◌==◌, nat_lt, nat_le, Bool, List, [], ◌∷◌, map, take, Option, option_map, if◌then◌else◌}
 use Rattle.std.specs.List.{filter_map, find, flat_map, list_all, range_with_len}
 use Rattle.net_core.specs.Atoms.{atoms_between}
 use Rattle.net_core.specs.Relations.{Timeline}
@@ -46,9 +46,13 @@ is_in_order order = if order.strict then nat_lt order.from order.to else nat_le 
 abbrev pub does_hold : Ends → Ends → Rel → Bool
 does_hold a b r = list_all is_in_order (atoms_between r a b)
 
--- the first relation of the table that holds of two intervals, if one does
+-- the relations of a drill: the first fourteen of the table, which are those of TimeML
+abbrev pub drill_rels : List Rel
+drill_rels = take 14 all_rels
+
+-- the first of them that holds of two intervals, if one does
 abbrev pub first_relation : Ends → Ends → Option Rel
-first_relation a b = find (does_hold a b) all_rels
+first_relation a b = find (does_hold a b) drill_rels
 
 -- the link from interval i to interval j, where a relation holds between the hidden ones
 abbrev pub link_between : ℕ → ℕ → ℕ → Option DocLink

@@ -11,6 +11,9 @@ use tml_refs::DocLink;
 /// Every number drawn is below this prime.
 const MODULUS: u32 = 65_537;
 
+/// So many relations can be linked by, the first of the table: those of TimeML.
+const RELATIONS: usize = 14;
+
 /// The last number that was drawn.
 #[derive(Clone, Copy)]
 pub struct Draws {
@@ -55,7 +58,7 @@ pub fn hidden_intervals(alloc: Global, n: u32, draws: &mut Draws) -> Result<Vec<
     Ok(hidden)
 }
 
-/// The link from an interval to one before it, by the first relation of the table that holds of the hidden ones.
+/// The link from an interval to one before it, by the first relation of a drill that holds of the hidden ones.
 pub fn link_between(hidden: &[Ends], i: u32, j: u32) -> Option<DocLink>
     requires hidden { hidden.now ≡ spec.hidden_intervals (length hidden.now) }
     requires i { i < length hidden.now }
@@ -66,9 +69,10 @@ pub fn link_between(hidden: &[Ends], i: u32, j: u32) -> Option<DocLink>
     Some(DocLink { a: i, rel, b: j })
 }
 
-/// The first relation of the table that holds of two intervals, if one does.
+/// The first relation of a drill that holds of two intervals, if one does.
 fn first_relation(a: Ends, b: Ends) -> Option<Rel>
     ensures { result ≡ spec.first_relation a b }
 {
-    Rel::all().iter().copied().find(|rel| holds(*rel, a, b))
+    let rels = &Rel::all()[..RELATIONS];
+    rels.iter().copied().find(|rel| holds(*rel, a, b))
 }

@@ -36,6 +36,8 @@ relation_by_orders rel.Begins a b = (λ h. let s = split _ _ h.0 in (s.0, (s.1, 
 relation_by_orders rel.BegunBy a b = (λ h. let s = split _ _ h.0 in (s.1, (s.0, (h.1, tt))), λ k. (le_antisymm k.1.0 k.0, k.1.1.0))
 relation_by_orders rel.Ends a b = (λ h. let s = split _ _ h.0 in (s.0, (s.1, (h.1, tt))), λ k. (le_antisymm k.0 k.1.0, k.1.1.0))
 relation_by_orders rel.EndedBy a b = (λ h. let s = split _ _ h.0 in (s.1, (s.0, (h.1, tt))), λ k. (le_antisymm k.1.0 k.0, k.1.1.0))
+relation_by_orders rel.Overlaps a b = (λ h. (h.0, (h.1, (h.2, tt))), λ k. (k.0, k.1.0, k.1.1.0))
+relation_by_orders rel.OverlappedBy a b = (λ h. (h.0, (h.1, (h.2, tt))), λ k. (k.0, k.1.0, k.1.1.0))
 
 -- the same of the list of orders
 pub orders_say_the_relation : (r : Rel) (a b : Ends) → All (IsTrueOf a b) (orders_of r) ↔ Holds r a b

@@ -1,4 +1,5 @@
 pub mod AtomLaws
+pub mod BaseRelations
 pub mod Deciding
 pub mod FirstLaws
 pub mod MarkLaws

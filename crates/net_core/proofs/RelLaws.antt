@@ -11,7 +11,7 @@ pub rels_apart : AreApart rel_text all_rels
 rels_apart = search rules
 
 -- what is found by its text is one of these
-found_is_there : {T : Type 0} (text_of : T → List ℕ) (vs : List T) (text : List ℕ) (v : T) → named_of text_of vs text ≡ Some v → Contains vs v
+pub found_is_there : {T : Type 0} (text_of : T → List ℕ) (vs : List T) (text : List ℕ) (v : T) → named_of text_of vs text ≡ Some v → Contains vs v
 found_is_there text_of [] text v e = absurd cc
 found_is_there text_of (w ∷ vs) text v e = elim (bytes_eq (text_of w) text) as (λ b. cond b (Some w) (named_of text_of vs text) ≡ Some v → Contains (w ∷ vs) v) [
   | true ↦ λ is. (0, omega arith, cc)

@@ -52,6 +52,8 @@ orders_of rel.Begins = together Start Start ++ ABefore Finish Finish ∷ []
 orders_of rel.BegunBy = together Start Start ++ BBefore Finish Finish ∷ []
 orders_of rel.Ends = together Finish Finish ++ BBefore Start Start ∷ []
 orders_of rel.EndedBy = together Finish Finish ++ ABefore Start Start ∷ []
+orders_of rel.Overlaps = ABefore Start Start ∷ BBefore Start Finish ∷ ABefore Finish Finish ∷ []
+orders_of rel.OverlappedBy = BBefore Start Start ∷ ABefore Start Finish ∷ BBefore Finish Finish ∷ []
 
 -- the same by the points of two intervals
 abbrev pub atoms_between : Rel → Ends → Ends → List Atom

@@ -1,6 +1,7 @@
 pub mod Limits
 pub mod Rels
 pub mod Relations
+pub mod BaseRelations
 pub mod Atoms
 pub mod Bounds
 pub mod Nets

@@ -32,6 +32,10 @@ Finishes a b = (a.finish ≡ b.finish) × (b.start < a.start)
 abbrev pub Equals : Ends → Ends → Type 0
 Equals a b = (a.start ≡ b.start) × (a.finish ≡ b.finish)
 
+-- `a` starts first and overlaps `b`, which ends last
+abbrev pub Overlaps : Ends → Ends → Type 0
+Overlaps a b = (a.start < b.start) × (b.start < a.finish) × (a.finish < b.finish)
+
 -- The relation holds of two intervals. An inverse holds of `a` and `b` where its relation holds of `b` and `a`.
 abbrev pub Holds : Rel → Ends → Ends → Type 0
 Holds rel.Before a b = Precedes a b
@@ -48,6 +52,8 @@ Holds rel.Begins a b = Starts a b
 Holds rel.BegunBy a b = Starts b a
 Holds rel.Ends a b = Finishes a b
 Holds rel.EndedBy a b = Finishes b a
+Holds rel.Overlaps a b = Overlaps a b
+Holds rel.OverlappedBy a b = Overlaps b a
 
 -- A timeline gives a number to each point. Interval i starts at point 2 i, and ends at point 2 i + 1.
 abbrev pub Timeline : Type 0

@@ -109,6 +109,16 @@ pub fn orders_of(rel: Rel) -> &'static [PairOrder]
             BNoLater(Finish, Finish),
             ABefore(Start, Start),
         ],
+        Rel::Overlaps => &[
+            ABefore(Start, Start),
+            BBefore(Start, Finish),
+            ABefore(Finish, Finish),
+        ],
+        Rel::OverlappedBy => &[
+            BBefore(Start, Start),
+            ABefore(Start, Finish),
+            BBefore(Finish, Finish),
+        ],
     }
 }
 

@@ -22,7 +22,7 @@ pub use list::{List, Memory};
 pub use marks::{mark_link, mark_steps};
 pub use net::{Ends, Net, NetLink};
 pub use ranks::Ranks;
-pub use rels::{Rel, rel_of, rels_are_apart};
+pub use rels::{Rel, one_base_relation_holds, rel_of, rels_are_apart};
 pub use step::{Step, step_atom, steps_say_what_fits};
 pub use timeline::{
     ends_at, first_broken_link, first_broken_pair, first_unordered, keeps_link, satisfies,

@@ -1,6 +1,7 @@
 //! The relations of TLINK.
 ghost use Rattle.named.specs.Texts.{AreApart, NoneHas, named_of};
 ghost use Rattle.net_core.specs.Atoms.{atom_count};
+ghost use Rattle.net_core.specs.BaseRelations.{OneBaseRelationHolds};
 ghost use Rattle.net_core.specs.Rels as names;
 ghost use Rattle.std.proofs.Common.{rules};
 ghost use Rattle.std.specs.Prelude.{IfSome, IsNone, ◌≡◌, ◌≤◌, ◌↔◌};
@@ -8,8 +9,9 @@ ghost use Rattle.std.specs.Prelude.{IfSome, IsNone, ◌≡◌, ◌≤◌, ◌↔
 use crate::orders_of;
 use named::{Named, named_by};
 
-/// How an interval of time `a` is related to an interval `b`: the values of `relType` of TLINK in TimeML 1.2.1. What
-/// they say of starts and ends is the reading of this project.
+/// How an interval of time `a` is related to an interval `b`: the values of `relType` of TLINK in TimeML 1.2.1, and
+/// after them OVERLAPS and its inverse, by which this project extends them. What they say of starts and ends is the
+/// reading of this project.
 #[derive(Clone, Copy, PartialEq, Eq)]
 pub enum Rel {
     /// `a` ends before `b` begins.
@@ -40,6 +42,10 @@ pub enum Rel {
     Ends,
     /// Both end together, and `a` begins first.
     EndedBy,
+    /// `a` begins before `b`, and ends after `b` begins and before it ends.
+    Overlaps,
+    /// `b` begins before `a`, and ends after `a` begins and before it ends.
+    OverlappedBy,
 }
 
 impl Rel {
@@ -62,6 +68,8 @@ impl Rel {
             Rel::BegunBy => b"BEGUN_BY",
             Rel::Ends => b"ENDS",
             Rel::EndedBy => b"ENDED_BY",
+            Rel::Overlaps => b"OVERLAPS",
+            Rel::OverlappedBy => b"OVERLAPPED_BY",
         }
     }
 
@@ -98,6 +106,8 @@ impl Named for Rel {
             Rel::BegunBy,
             Rel::Ends,
             Rel::EndedBy,
+            Rel::Overlaps,
+            Rel::OverlappedBy,
         ]
     }
 
@@ -118,4 +128,10 @@ pub fn rel_of(text: &[u8]) -> Option<Rel>
 /// A law: each relation is found by its own text, so `rel_of(rel.text())` is `Some(rel)`.
 pub fn rels_are_apart()
     ensures { AreApart names.rel_text names.all_rels }
+{}
+
+/// A law: of any two intervals, each of which starts before it ends, exactly one of Allen's thirteen base relations
+/// holds.
+pub fn one_base_relation_holds()
+    ensures { OneBaseRelationHolds }
 {}

@@ -10,7 +10,7 @@ use std::alloc::AllocGlobal;
 use std::process::Abort;
 use std::test::Fail;
 
-pub const RELATIONS: [Rel; 14] = [
+pub const RELATIONS: [Rel; 16] = [
     Rel::Before,
     Rel::After,
     Rel::Includes,
@@ -25,6 +25,8 @@ pub const RELATIONS: [Rel; 14] = [
     Rel::BegunBy,
     Rel::Ends,
     Rel::EndedBy,
+    Rel::Overlaps,
+    Rel::OverlappedBy,
 ];
 
 /// What is known of the order of two points in every timeline that fits, or none where no timeline fits. Four points
@@ -72,17 +74,17 @@ fn agrees(rt: &(impl Abort + AllocGlobal), net: &Net) -> Result<(), Fail> {
     Ok(())
 }
 
-/// The link of a number below 56: its relation, and which of two intervals it is between.
+/// The link of a number below 64: its relation, and which of two intervals it is between.
 fn link_of(k: usize) -> NetLink
-    requires { k < 56 }
+    requires { k < 64 }
 {
     link((k % 2) as u32, RELATIONS[k / 4], (k / 2 % 2) as u32)
 }
 
 #[test]
 fn two_links_between_two_intervals_close_as_defined(rt: HostRuntime) -> Result<(), Fail> {
-    for first in 0..56usize {
-        for second in 0..56usize {
+    for first in 0..64usize {
+        for second in 0..64usize {
             let links = [link_of(first), link_of(second)];
             agrees(&rt, &net_of(&rt, &[FREE; 2], &links))?;
         }
@@ -105,7 +107,7 @@ pub fn bounds(k: usize) -> Bounds {
 fn a_link_between_dates_closes_as_defined(rt: HostRuntime) -> Result<(), Fail> {
     for first in 0..5usize {
         for second in 0..5usize {
-            for number in 0..56usize {
+            for number in 0..64usize {
                 let dates = [bounds(first), bounds(second)];
                 agrees(&rt, &net_of(&rt, &dates, &[link_of(number)]))?;
             }

@@ -10,9 +10,9 @@ use std::alloc::{AllocError, AllocGlobal};
 use std::process::Abort;
 use std::test::Fail;
 
-/// The link of a number below 84, between two of three intervals.
+/// The link of a number below 96, between two of three intervals.
 fn link_of(number: usize) -> NetLink
-    requires { number < 84 }
+    requires { number < 96 }
 {
     let a = (number % 3) as u32;
     let b = (a + 1 + (number / 3 % 2) as u32) % 3;
@@ -42,7 +42,7 @@ fn sampled(
     ];
     let mut links = Vec::new(rt.alloc());
     for _ in 0..3 + number / 2 % 2 {
-        links.push(link_of(next(seed, 84)))?;
+        links.push(link_of(next(seed, 96)))?;
     }
     Ok(net_of(rt, &days, &links))
 }

@@ -14,8 +14,8 @@ fn relations_hold_as_in_the_algebra_of_intervals(rt: HostRuntime) {
         (ends(3, 4), ends(1, 2), &[Rel::After]),
         (ends(1, 2), ends(2, 3), &[Rel::Ibefore]),
         (ends(2, 3), ends(1, 2), &[Rel::Iafter]),
-        (ends(1, 3), ends(2, 4), &[]),
-        (ends(2, 4), ends(1, 3), &[]),
+        (ends(1, 3), ends(2, 4), &[Rel::Overlaps]),
+        (ends(2, 4), ends(1, 3), &[Rel::OverlappedBy]),
         (ends(1, 2), ends(1, 3), &[Rel::Begins, Rel::During]),
         (ends(1, 3), ends(1, 2), &[Rel::BegunBy, Rel::DuringInv]),
         (ends(2, 3), ends(1, 4), &[Rel::IsIncluded, Rel::During]),
@@ -63,7 +63,7 @@ fn relations_are_orders_of_points(rt: HostRuntime) {
     let same_finish = [no_later(3, 7), no_later(7, 3)];
     let [s, t] = same_start;
     let [f, g] = same_finish;
-    let cases: [(Rel, &[Atom]); 14] = [
+    let cases: [(Rel, &[Atom]); 16] = [
         (Rel::Before, &[before(3, 6)]),
         (Rel::After, &[before(7, 2)]),
         (Rel::Includes, &[before(2, 6), before(7, 3)]),
@@ -78,6 +78,11 @@ fn relations_are_orders_of_points(rt: HostRuntime) {
         (Rel::BegunBy, &[s, t, before(7, 3)]),
         (Rel::Ends, &[f, g, before(6, 2)]),
         (Rel::EndedBy, &[f, g, before(2, 6)]),
+        (Rel::Overlaps, &[before(2, 6), before(6, 3), before(3, 7)]),
+        (
+            Rel::OverlappedBy,
+            &[before(6, 2), before(2, 7), before(7, 3)],
+        ),
     ];
     for (rel, wanted) in cases {
         let atoms = atoms_of(rel, 1, 3);

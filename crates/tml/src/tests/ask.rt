@@ -26,7 +26,7 @@ const BEFORE: &[u8] =
     b"<TimeML><EVENT eid='e' class='OCCURRENCE'/><MAKEINSTANCE eiid='a' eventID='e'/><MAKEINSTANCE eiid='b' eventID='e'/><MAKEINSTANCE eiid='c' eventID='e'/><TLINK eventInstanceID='a' relatedToEventInstance='b' relType='BEFORE'/></TimeML>";
 
 /// The texts of the relations.
-const RELATIONS: [&str; 14] = [
+const RELATIONS: [&str; 16] = [
     "BEFORE",
     "AFTER",
     "INCLUDES",
@@ -41,6 +41,8 @@ const RELATIONS: [&str; 14] = [
     "BEGUN_BY",
     "ENDS",
     "ENDED_BY",
+    "OVERLAPS",
+    "OVERLAPPED_BY",
 ];
 
 /// The line that `verify` prints of an answer.
