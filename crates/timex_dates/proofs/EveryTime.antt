@@ -16,12 +16,12 @@ use Rattle.timex_value.specs.Civil.{day_index, month_length, IsDate}
 use Rattle.timex_value.specs.Filling.{HasYear, IsYearOf}
 use Rattle.timex_value.specs.Values.{year_of, shape_of}
 use Rattle.timex_dates.specs.Seconds.{Extent, IsCivilSecond, second_number, monday_of}
-use Rattle.timex_dates.specs.Sets.{InYears, InWeekYears, InMonth, InQuarter, InDay, InWeek, InWeekday, InHour, InMinute, InSecond}
-use Rattle.timex_dates.specs.KnownParts.{InDate, InWeekDate, InQuarterDate, InShape, InAllYears, Belongs}
-use Rattle.timex_dates.specs.Valid.{HasDateParts, HasWeekParts, HasQuarterPart, HasShapeParts, HasParts}
+use Rattle.timex_dates.specs.Sets.{InYears, InWeekYears, InMonth, InQuarter, InHalf, InDay, InWeek, InWeekday, InHour, InMinute, InSecond}
+use Rattle.timex_dates.specs.KnownParts.{InDate, InWeekDate, InQuarterDate, InHalfDate, InShape, InAllYears, Belongs}
+use Rattle.timex_dates.specs.Valid.{HasDateParts, HasWeekParts, HasQuarterPart, HasHalfPart, HasShapeParts, HasParts}
 use Rattle.timex_dates.specs.Answers.{Precision, exact, within, unspecified, precision_of, HasBounds, IsCivil, EveryBounds}
 use Rattle.timex_dates.proofs.Intervals.{year_days, year_end, week_end, december, month_length_bounds}
-use Rattle.timex_dates.proofs.Extents.{extent_order, years_extent, week_years_extent, month_extent, quarter_extent, day_extent, week_extent, weekday_extent, hour_extent, minute_extent, second_extent}
+use Rattle.timex_dates.proofs.Extents.{extent_order, years_extent, week_years_extent, month_extent, quarter_extent, half_extent, day_extent, week_extent, weekday_extent, hour_extent, minute_extent, second_extent}
 use Rattle.timex_dates.proofs.Fillings.{has_year, has_parts}
 
 -- the set has an extent, whose ends have civil texts
@@ -120,6 +120,14 @@ every_quarter y (Known q) year h =
     from_first (InQuarter y q) (day_index y (last - 2) 1 * 86_400) ((day_index y last (month_length y last) + 1) * 86_400) (omega (arith, month_end y last year (omega arith, omega arith)))
     (quarter_extent y q _ _ year.0 h (omega (arith, signed_arith)) (omega (arith, signed_arith)))
 
+-- those of what comes before the first X in a half
+every_half : (y : ℕ) (half : Part) → IsInRange 1 9999 y → HasHalfPart half → HasExtent (InHalfDate y half)
+every_half y Unknown year h = every_year (YearOf.Known y) year
+every_half y (Known k) year h =
+    let last = 6 * k in
+    from_first (InHalf y k) (day_index y (last - 5) 1 * 86_400) ((day_index y last (month_length y last) + 1) * 86_400) (omega (arith, month_end y last year (omega arith, omega arith)))
+    (half_extent y k _ _ year.0 h (omega (arith, signed_arith)) (omega (arith, signed_arith)))
+
 -- those of a value whose year is known
 every_shape : (y : ℕ) (shape : Shape) → IsInRange 1 9999 y → HasShapeParts y shape → HasExtent (InShape y shape)
 every_shape y ShapeOf.Year year h = every_year (YearOf.Known y) year
@@ -131,6 +139,9 @@ every_shape y (ShapeOf.Quarter q) year h = every_quarter y q year h
 every_shape y (ShapeOf.Hour m d k) year h = every_date y m d k Unknown Unknown year h
 every_shape y (ShapeOf.Minute m d k i) year h = every_date y m d k i Unknown year h
 every_shape y (ShapeOf.Second m d k i s) year h = every_date y m d k i s year h
+every_shape y (ShapeOf.Half h) year parts = every_half y h year parts
+every_shape y ShapeOf.Decade year h = every_year (YearOf.Known y) year
+every_shape y ShapeOf.Century year h = every_year (YearOf.Known y) year
 
 -- those of all years that a year can be
 all_years : (year : Year) (shape : Shape) → HasYear year → HasExtent (InAllYears year shape)

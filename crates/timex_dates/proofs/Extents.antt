@@ -5,11 +5,11 @@ use Rattle.jiff_core.proofs.SignedLemmas.{signed_arith}
 use Rattle.timex_value.specs.declared.shape.Year.{Year}
 use Rattle.timex_value.specs.Filling.{IsYearOf}
 use Rattle.timex_dates.specs.Seconds.{day_number, second_number, day_of, Extent, monday_of}
-use Rattle.timex_dates.specs.Sets.{InYears, InMonth, InDay, InHour, InMinute, InSecond, InWeek, InWeekYears, InQuarter, InWeekday}
+use Rattle.timex_dates.specs.Sets.{InYears, InMonth, InDay, InHour, InMinute, InSecond, InWeek, InWeekYears, InQuarter, InHalf, InWeekday}
 use Rattle.timex_value.specs.Civil.{year_start, year_length, month_start, month_length, day_index, IsDate, IsDateOf, IsInYear, IsInMonth, IsInWeek, weeks_of, thursday_of, weekday}
 use Rattle.timex_value.proofs.Days.{total-zero, year_length_bounds}
 use Rattle.timex_dates.proofs.Totals.{total_grows}
-use Rattle.timex_dates.proofs.Intervals.{months_all, next_month, month_days, years_days, year_start_grows, month_length_bounds, week_days, week_years_days, quarter_days, weekday_days, january, december}
+use Rattle.timex_dates.proofs.Intervals.{months_all, next_month, month_days, years_days, year_start_grows, month_length_bounds, week_days, week_years_days, months_days, weekday_days, january, december}
 
 -- a set that has the seconds from a to b, without b
 pub interval_extent : (P : ℕ → Type 0) (a b : ℕ) → a < b → ((t : ℕ) → P t ↔ ((a ≤ t) × (t < b)))
@@ -101,15 +101,28 @@ second_extent y m d hour minute second lo hi date h k l e f =
     clock_extent (InSecond y m d hour minute second) (day_index y m d) (hour * 3600 + minute * 60 + second) 1 lo hi (omega arith)
     (λ t. (λ at. (omega arith, omega arith), λ at. (((date, omega arith, omega arith), omega arith), omega arith))) e f
 
+months_extent : (M : ℕ → Type 0) (y first last : ℕ) (lo hi : ℤ) → 1 ≤ y → 1 ≤ first → first ≤ last → last ≤ 12
+    → ((m : ℕ) → M m ↔ IsInRange first last m) → IsStart lo (day_index y first 1)
+    → IsEnd hi (day_index y last (month_length y last)) → Extent (λ t. (m : ℕ) × M m × IsInMonth (day_of t) y m) lo hi
+months_extent M y first last lo hi year low order high is e f =
+    let long = month_length_bounds y last in
+    days_extent (λ n. (m : ℕ) × M m × IsInMonth n y m) (month_start y first) (month_start y last + month_length y last) lo hi
+    (omega (arith, total_grows (month_length y) (first - 1) (last - 1) (omega arith)))
+    (λ n. months_days M n y first last year low order high is)
+    (omega (arith, signed_arith))
+    (omega (arith, signed_arith))
+
 pub quarter_extent : (y q : ℕ) (lo hi : ℤ) → 1 ≤ y → IsInRange 1 4 q → IsStart lo (day_index y (3 * q - 2) 1)
     → IsEnd hi (day_index y (3 * q) (month_length y (3 * q))) → Extent (InQuarter y q) lo hi
 quarter_extent y q lo hi low quarter e f =
-    let long = month_length_bounds y (3 * q) in
-    days_extent (λ n. (m : ℕ) × ((m + 2) / 3 ≡ q) × IsInMonth n y m) (month_start y (3 * q - 2)) (month_start y (3 * q) + month_length y (3 * q)) lo hi
-    (omega (arith, total_grows (month_length y) (3 * q - 2 - 1) (3 * q - 1) (omega arith)))
-    (λ n. quarter_days n y q low quarter)
-    (omega (arith, signed_arith))
-    (omega (arith, signed_arith))
+    months_extent (λ m. (m + 2) / 3 ≡ q) y (3 * q - 2) (3 * q) lo hi low (omega arith) (omega arith) (omega arith)
+    (λ m. (λ is. (omega arith, omega arith), λ is. omega arith)) e f
+
+pub half_extent : (y h : ℕ) (lo hi : ℤ) → 1 ≤ y → IsInRange 1 2 h → IsStart lo (day_index y (6 * h - 5) 1)
+    → IsEnd hi (day_index y (6 * h) (month_length y (6 * h))) → Extent (InHalf y h) lo hi
+half_extent y h lo hi low half e f =
+    months_extent (λ m. (m + 5) / 6 ≡ h) y (6 * h - 5) (6 * h) lo hi low (omega arith) (omega arith) (omega arith)
+    (λ m. (λ is. (omega arith, omega arith), λ is. omega arith)) e f
 
 pub weekday_extent : (y w d : ℕ) (lo hi : ℤ) → 1 ≤ y → IsInRange 1 (weeks_of y) w → IsInRange 1 7 d
     → lo ≡ (day_number (monday_of (day_index y 1 4)) +ℤ pos (7 * (w - 1) + (d - 1))) *ℤ pos 86_400

@@ -62,6 +62,9 @@ parts_filled y (ShapeOf.Quarter q) w f = filled_digit q _ f.0 w f.1 f.2
 parts_filled y (ShapeOf.Hour m d h) w f = date_filled y m d h Unknown Unknown w.0 w.1 f.0 (hour_filled h (Known 0) (Known 0) w.2 f.1)
 parts_filled y (ShapeOf.Minute m d h i) w f = date_filled y m d h i Unknown w.0 w.1 f.0 (minute_filled h i (Known 0) w.2 w.3 f.1)
 parts_filled y (ShapeOf.Second m d h i s) w f = date_filled y m d h i s w.0 w.1 f.0 (second_filled h i s w.2 w.3 w.4 f.1)
+parts_filled y (ShapeOf.Half h) w f = filled_digit h _ f.0 w f.1 f.2
+parts_filled y ShapeOf.Decade w f = tt
+parts_filled y ShapeOf.Century w f = tt
 
 year_has : (year : Year) (s : Shape) → IsYearWritten year → HasFilling year s → HasYear year
 year_has (YearOf.Known y) s h f = subst (IsInRange 1 9999) (year_is y f.0 h f.1.1) f.1.0
@@ -93,6 +96,9 @@ shape_prop y (ShapeOf.Quarter q) = hlevel (props, if_prop)
 shape_prop y (ShapeOf.Hour m d h) = date_prop y m d h Unknown Unknown
 shape_prop y (ShapeOf.Minute m d h i) = date_prop y m d h i Unknown
 shape_prop y (ShapeOf.Second m d h i s) = date_prop y m d h i s
+shape_prop y (ShapeOf.Half h) = hlevel (props, if_prop)
+shape_prop y ShapeOf.Decade = hlevel props
+shape_prop y ShapeOf.Century = hlevel props
 
 year_prop : (year : Year) → IsProp (HasYear year)
 year_prop (YearOf.Known y) = hlevel props

@@ -86,19 +86,20 @@ week_years_days Y n first last low order run =
     let is = years_days Y (thursday_of n) first last low order run in
     (λ h. let at = is.0 h in (omega arith, omega arith), λ h. is.1 (omega arith, omega arith))
 
--- a quarter is the days of its three months
-pub quarter_days : (n y q : ℕ) → 1 ≤ y → IsInRange 1 4 q → ((m : ℕ) × ((m + 2) / 3 ≡ q) × IsInMonth n y m) ↔ ((month_start y (3 * q - 2) ≤ n) × (n < month_start y (3 * q) + month_length y (3 * q)))
-quarter_days n y q year quarter =
+-- months from a first to a last one are the days from the first one's first up to those of the month after the last
+pub months_days : (M : ℕ → Type 0) (n y first last : ℕ) → 1 ≤ y → 1 ≤ first → first ≤ last → last ≤ 12 → ((m : ℕ) → M m ↔ IsInRange first last m) → ((m : ℕ) × M m × IsInMonth n y m) ↔ ((month_start y first ≤ n) × (n < month_start y last + month_length y last))
+months_days M n y first last year low order high is =
     let f = month_length y in (
-      λ h. let at = (month_days n y h.0 year (omega arith, omega arith)).0 h.2 in
-          (omega (arith, total_grows f (3 * q - 2 - 1) (h.0 - 1) (omega arith)), omega (arith, total_grows f h.0 (3 * q) (omega arith), next_month y h.0 (omega arith), next_month y (3 * q) (omega arith))),
-      λ h. let p = located f (3 * q) (n - year_start y) (omega (arith, next_month y (3 * q) (omega arith))) in
+      λ h. let in_run = (is h.0).0 h.1 in
+          let at = (month_days n y h.0 year (omega arith, omega arith)).0 h.2 in
+          (omega (arith, total_grows f (first - 1) (h.0 - 1) (omega arith)), omega (arith, total_grows f h.0 last (omega arith), next_month y h.0 (omega arith), next_month y last (omega arith))),
+      λ h. let p = located f last (n - year_start y) (omega (arith, next_month y last (omega arith))) in
           let back : suc p.0 - 1 ≡ p.0 = omega arith in
-          let above : 3 * q - 2 ≤ suc p.0 = elim (cases_lt (suc p.0) (3 * q - 2)) [
-            | inl lt ↦ absurd (omega (arith, total-suc f p.0, total_grows f (suc p.0) (3 * q - 2 - 1) (omega arith)))
+          let above : first ≤ suc p.0 = elim (cases_lt (suc p.0) first) [
+            | inl lt ↦ absurd (omega (arith, total-suc f p.0, total_grows f (suc p.0) (first - 1) (omega arith)))
             | inr le ↦ le
           ] in
-          (suc p.0, omega arith, (month_days n y (suc p.0) year (omega arith, omega arith)).1 (rw back (omega arith, omega arith))),
+          (suc p.0, (is (suc p.0)).1 (above, omega arith), (month_days n y (suc p.0) year (omega arith, omega arith)).1 (rw back (omega arith, omega arith))),
     )
 
 -- the nth day of a week

@@ -6,7 +6,7 @@ use Rattle.timex_value.specs.declared.shape.Part.{Part}
 use Rattle.timex_value.specs.declared.shape.Part.TheVariants.{Known, Unknown}
 use Rattle.timex_value.specs.declared.shape.Shape.{Shape}
 use Rattle.timex_value.specs.declared.shape.Shape.TheVariants as ShapeOf
-use Rattle.timex_dates.specs.Sets.{InYears, InWeekYears, InMonth, InQuarter, InDay, InWeek, InWeekday, InHour, InMinute, InSecond}
+use Rattle.timex_dates.specs.Sets.{InYears, InWeekYears, InMonth, InQuarter, InHalf, InDay, InWeek, InWeekday, InHour, InMinute, InSecond}
 
 -- the seconds of what comes before the first X in a month, a day, an hour, a minute and a second of the year
 abbrev pub InDate : ℕ → Part → Part → Part → Part → Part → ℕ → Type 0
@@ -28,7 +28,13 @@ abbrev pub InQuarterDate : ℕ → Part → ℕ → Type 0
 InQuarterDate y Unknown = InYears (YearOf.Known y)
 InQuarterDate y (Known q) = InQuarter y q
 
--- the seconds that belong to a value with this year; a field that its shape does not have counts as X
+-- the seconds of what comes before the first X in a half of the year
+abbrev pub InHalfDate : ℕ → Part → ℕ → Type 0
+InHalfDate y Unknown = InYears (YearOf.Known y)
+InHalfDate y (Known h) = InHalf y h
+
+-- the seconds that belong to a value with this year; a field that its shape does not have counts as X. No decade and no
+-- century has a year of four digits (`IsYearFor`), so what is said of them here is said of no value
 abbrev pub InShape : ℕ → Shape → ℕ → Type 0
 InShape y ShapeOf.Year = InYears (YearOf.Known y)
 InShape y (ShapeOf.Month m) = InDate y m Unknown Unknown Unknown Unknown
@@ -39,6 +45,9 @@ InShape y (ShapeOf.Quarter q) = InQuarterDate y q
 InShape y (ShapeOf.Hour m d h) = InDate y m d h Unknown Unknown
 InShape y (ShapeOf.Minute m d h i) = InDate y m d h i Unknown
 InShape y (ShapeOf.Second m d h i s) = InDate y m d h i s
+InShape y (ShapeOf.Half h) = InHalfDate y h
+InShape y ShapeOf.Decade = InYears (YearOf.Known y)
+InShape y ShapeOf.Century = InYears (YearOf.Known y)
 
 -- the seconds of all years that the year can be, which are years of weeks where the shape has a week
 abbrev pub InAllYears : Year → Shape → ℕ → Type 0
@@ -67,8 +76,19 @@ is_full (ShapeOf.Quarter q) = is_known q
 is_full (ShapeOf.Hour m d h) = is_known m && is_known d && is_known h
 is_full (ShapeOf.Minute m d h i) = is_known m && is_known d && is_known h && is_known i
 is_full (ShapeOf.Second m d h i s) = is_known m && is_known d && is_known h && is_known i && is_known s
+is_full (ShapeOf.Half h) = is_known h
+is_full ShapeOf.Decade = true
+is_full ShapeOf.Century = true
 
--- the value has no X
+-- the shape is a decade or a century
+abbrev pub is_years : Shape → Bool
+is_years ShapeOf.Decade = true
+is_years ShapeOf.Century = true
+is_years shape = false
+
+-- the value has no X: fewer than four digits of a year are all of it where the shape is a decade or a century
 abbrev pub is_whole : Year → Shape → Bool
 is_whole (YearOf.Known y) shape = is_full shape
+is_whole (YearOf.Decade d) shape = is_years shape
+is_whole (YearOf.Century c) shape = is_years shape
 is_whole year shape = false

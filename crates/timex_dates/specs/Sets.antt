@@ -5,7 +5,7 @@ use Rattle.timex_value.specs.Civil.{IsDate, day_index, weekday, IsInYear, IsInMo
 use Rattle.timex_value.specs.Filling.{IsYearOf}
 use Rattle.timex_dates.specs.Seconds.{day_of, clock_of}
 
--- the days of the years that a year with X can be
+-- the days of the years that a year with X can be, and so of the decade or the century that shares its digits
 abbrev pub InYears : Year → ℕ → Type 0
 InYears year t = (y : ℕ) × IsYearOf year y × IsInYear (day_of t) y
 
@@ -20,6 +20,10 @@ InMonth y m t = IsInMonth (day_of t) y m
 -- the days of a quarter, of which the first has the months 1 to 3
 abbrev pub InQuarter : ℕ → ℕ → ℕ → Type 0
 InQuarter y q t = (m : ℕ) × ((m + 2) / 3 ≡ q) × IsInMonth (day_of t) y m
+
+-- the days of a half of TimeML, of which the first has the months 1 to 6
+abbrev pub InHalf : ℕ → ℕ → ℕ → Type 0
+InHalf y h t = (m : ℕ) × ((m + 5) / 6 ≡ h) × IsInMonth (day_of t) y m
 
 -- the day of the date
 abbrev pub InDay : ℕ → ℕ → ℕ → ℕ → Type 0

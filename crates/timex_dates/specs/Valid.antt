@@ -32,6 +32,10 @@ HasWeekParts y week day = IfKnown week (λ w. IsInRange 1 (weeks_of y) w × IfKn
 abbrev pub HasQuarterPart : Part → Type 0
 HasQuarterPart quarter = IfKnown quarter (λ q. IsInRange 1 4 q)
 
+-- a year has the half
+abbrev pub HasHalfPart : Part → Type 0
+HasHalfPart half = IfKnown half (λ h. IsInRange 1 2 h)
+
 -- the year has the known part of the shape
 abbrev pub HasShapeParts : ℕ → Shape → Type 0
 HasShapeParts y ShapeOf.Year = Unit {0}
@@ -43,6 +47,9 @@ HasShapeParts y (ShapeOf.Quarter q) = HasQuarterPart q
 HasShapeParts y (ShapeOf.Hour m d h) = HasDateParts y m d h Unknown Unknown
 HasShapeParts y (ShapeOf.Minute m d h i) = HasDateParts y m d h i Unknown
 HasShapeParts y (ShapeOf.Second m d h i s) = HasDateParts y m d h i s
+HasShapeParts y (ShapeOf.Half h) = HasHalfPart h
+HasShapeParts y ShapeOf.Decade = Unit {0}
+HasShapeParts y ShapeOf.Century = Unit {0}
 
 -- the same for a year that is known
 abbrev pub HasParts : Year → Shape → Type 0

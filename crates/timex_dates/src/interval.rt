@@ -1,9 +1,10 @@
 //! Intervals of seconds.
 ghost use Rattle.std.specs.Int.{IsInRange};
 ghost use Rattle.std.specs.Prelude.{◌*◌, ◌*ℤ◌, ◌+◌, ◌+ℤ◌, ◌-◌, ◌≡◌, ◌≤◌, ◌≤ℤ◌, ◌<◌, pos};
+ghost use Rattle.timex_dates.specs.Seconds as seconds;
 ghost use Rattle.timex_dates.specs.Seconds.{Extent, IsCivilSecond, IsDayNumber};
-ghost use Rattle.timex_dates.specs.Sets.{InDay, InHour, InMinute, InMonth, InQuarter, InSecond, InWeek, InWeekYears, InWeekday, InYears};
-ghost use Rattle.timex_value.specs.Civil.{IsDate, weeks_of};
+ghost use Rattle.timex_dates.specs.Sets.{InDay, InHalf, InHour, InMinute, InMonth, InQuarter, InSecond, InWeek, InWeekYears, InWeekday, InYears};
+ghost use Rattle.timex_value.specs.Civil.{IsDate, day_index, month_length, weeks_of};
 ghost use Rattle.timex_value.specs.Filling.{HasYear};
 
 use crate::days::{day_number, last_of_month, monday_number};
@@ -85,6 +86,19 @@ pub(crate) fn week_years(year: Year) -> Interval
     days_to(monday_number(first, 1, 4), monday_number(last, 12, 28), 7)
 }
 
+/// The days of the months from a first to a last one.
+fn months(year: u16, first: u8, last: u8) -> Interval
+    requires year { IsInRange 1 9999 year }
+    requires first { IsInRange 1 last first }
+    requires last { last ≤ 12 }
+    ensures lo { result.lo ≡ seconds.day_number (day_index year first 1) *ℤ pos 86_400 }
+    ensures hi { result.hi ≡ (seconds.day_number (day_index year last (month_length year last)) +ℤ pos 1) *ℤ pos 86_400 }
+    ensures range { IsCivilSecond result.lo × IsCivilSecond result.hi }
+{
+    let end = last_of_month(year, last);
+    days_to(day_number(year, first, 1), day_number(year, last, end), 1)
+}
+
 /// The days of a month.
 #[tactic(auto, using(crate::proofs::Extents::month_extent))]
 pub(crate) fn month(year: u16, month: u8) -> Interval
@@ -93,8 +107,7 @@ pub(crate) fn month(year: u16, month: u8) -> Interval
     ensures extent { Extent (InMonth year month) result.lo result.hi }
     ensures range { IsCivilSecond result.lo × IsCivilSecond result.hi }
 {
-    let last = last_of_month(year, month);
-    days_to(day_number(year, month, 1), day_number(year, month, last), 1)
+    months(year, month, month)
 }
 
 /// The days of the three months of a quarter.
@@ -105,13 +118,18 @@ pub(crate) fn quarter(year: u16, quarter: u8) -> Interval
     ensures extent { Extent (InQuarter year quarter) result.lo result.hi }
     ensures range { IsCivilSecond result.lo × IsCivilSecond result.hi }
 {
-    let month = 3 * quarter;
-    let last = last_of_month(year, month);
-    days_to(
-        day_number(year, month - 2, 1),
-        day_number(year, month, last),
-        1,
-    )
+    months(year, 3 * quarter - 2, 3 * quarter)
+}
+
+/// The days of the six months of a half.
+#[tactic(auto, using(crate::proofs::Extents::half_extent))]
+pub(crate) fn half(year: u16, half: u8) -> Interval
+    requires year { IsInRange 1 9999 year }
+    requires half { IsInRange 1 2 half }
+    ensures extent { Extent (InHalf year half) result.lo result.hi }
+    ensures range { IsCivilSecond result.lo × IsCivilSecond result.hi }
+{
+    months(year, 6 * half - 5, 6 * half)
 }
 
 /// A whole day.

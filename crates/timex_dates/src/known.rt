@@ -2,10 +2,10 @@
 ghost use Rattle.std.specs.Int.{IsInRange};
 ghost use Rattle.std.specs.Prelude.{◌≡◌, ◌<ℤ◌};
 ghost use Rattle.timex_dates.specs.KnownParts as parts;
-ghost use Rattle.timex_dates.specs.KnownParts.{Belongs, InAllYears, InDate, InQuarterDate, InShape, InWeekDate};
+ghost use Rattle.timex_dates.specs.KnownParts.{Belongs, InAllYears, InDate, InHalfDate, InQuarterDate, InShape, InWeekDate};
 ghost use Rattle.timex_dates.specs.Seconds.{Extent, IsCivilSecond};
 ghost use Rattle.timex_value.specs.Filling.{HasYear};
-ghost use Rattle.timex_dates.specs.Valid.{HasDateParts, HasParts, HasQuarterPart, HasShapeParts, HasWeekParts};
+ghost use Rattle.timex_dates.specs.Valid.{HasDateParts, HasHalfPart, HasParts, HasQuarterPart, HasShapeParts, HasWeekParts};
 
 use crate::interval;
 use crate::interval::Interval;
@@ -68,6 +68,19 @@ fn quarter_date(year: u16, quarter: Part) -> Interval
     interval::quarter(year, q)
 }
 
+/// The interval of what comes before the first `X` in a half.
+fn half_date(year: u16, half: Part) -> Interval
+    requires year { IsInRange 1 9999 year }
+    requires parts { HasHalfPart half }
+    ensures extent { Extent (InHalfDate year half) result.lo result.hi }
+    ensures range { IsCivilSecond result.lo × IsCivilSecond result.hi }
+{
+    let Part::Known(h) = half else {
+        return interval::years(Year::Known(year));
+    };
+    interval::half(year, h)
+}
+
 /// The interval of a value whose year is known.
 fn in_year(year: u16, shape: Shape) -> Interval
     requires year { IsInRange 1 9999 year }
@@ -76,7 +89,7 @@ fn in_year(year: u16, shape: Shape) -> Interval
     ensures range { IsCivilSecond result.lo × IsCivilSecond result.hi }
 {
     match shape {
-        Shape::Year => interval::years(Year::Known(year)),
+        Shape::Year | Shape::Decade | Shape::Century => interval::years(Year::Known(year)),
         Shape::Month { month } => date(year, month, X, X, X, X),
         Shape::Day { month, day } => date(year, month, day, X, X, X),
         Shape::Week { week } => week_date(year, week, X),
@@ -96,6 +109,7 @@ fn in_year(year: u16, shape: Shape) -> Interval
             minute,
             second,
         } => date(year, month, day, hour, minute, second),
+        Shape::Half { half } => half_date(year, half),
     }
 }
 
@@ -113,7 +127,10 @@ fn all_years(year: Year, shape: Shape) -> Interval
         | Shape::Quarter { .. }
         | Shape::Hour { .. }
         | Shape::Minute { .. }
-        | Shape::Second { .. } => interval::years(year),
+        | Shape::Second { .. }
+        | Shape::Half { .. }
+        | Shape::Decade
+        | Shape::Century => interval::years(year),
     }
 }
 
@@ -147,12 +164,13 @@ fn is_full(shape: Shape) -> bool
     ensures { result ≡ parts.is_full shape }
 {
     match shape {
-        Shape::Year => true,
+        Shape::Year | Shape::Decade | Shape::Century => true,
         Shape::Month { month } => is_known(month),
         Shape::Day { month, day } => is_known(month) && is_known(day),
         Shape::Week { week } => is_known(week),
         Shape::Weekday { week, day } => is_known(week) && is_known(day),
         Shape::Quarter { quarter } => is_known(quarter),
+        Shape::Half { half } => is_known(half),
         Shape::Hour { month, day, hour } => is_known(month) && is_known(day) && is_known(hour),
         Shape::Minute {
             month,
@@ -173,12 +191,32 @@ fn is_full(shape: Shape) -> bool
     }
 }
 
+/// Whether a shape is a decade or a century.
+fn is_years(shape: Shape) -> bool
+    ensures { result ≡ parts.is_years shape }
+{
+    match shape {
+        Shape::Decade | Shape::Century => true,
+        Shape::Year
+        | Shape::Month { .. }
+        | Shape::Day { .. }
+        | Shape::Week { .. }
+        | Shape::Weekday { .. }
+        | Shape::Quarter { .. }
+        | Shape::Hour { .. }
+        | Shape::Minute { .. }
+        | Shape::Second { .. }
+        | Shape::Half { .. } => false,
+    }
+}
+
 /// Whether a value with this year and this shape has no `X`.
 pub(crate) fn is_whole(year: Year, shape: Shape) -> bool
     ensures { result ≡ parts.is_whole year shape }
 {
     match year {
         Year::Known(_) => is_full(shape),
-        Year::Decade(_) | Year::Century(_) | Year::Unknown => false,
+        Year::Decade(_) | Year::Century(_) => is_years(shape),
+        Year::Unknown => false,
     }
 }

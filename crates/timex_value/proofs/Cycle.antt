@@ -44,6 +44,9 @@ valid_again y z (ShapeOf.Quarter quarter) leap weeks first h = h
 valid_again y z (ShapeOf.Hour month day hour) leap weeks first h = (date_again y z month day leap first h.0, h.1)
 valid_again y z (ShapeOf.Minute month day hour minute) leap weeks first h = (date_again y z month day leap first h.0, h.1)
 valid_again y z (ShapeOf.Second month day hour minute second) leap weeks first h = (date_again y z month day leap first h.0, h.1)
+valid_again y z (ShapeOf.Half half) leap weeks first h = h
+valid_again y z ShapeOf.Decade leap weeks first h = h
+valid_again y z ShapeOf.Century leap weeks first h = h
 
 -- what is valid in a year from a first one on is valid in one of 400
 pub valid_early : (first y : ℕ) (shape : Shape) → 1 ≤ first → first ≤ y → IsValidIn y shape → (z : ℕ) × IsInRange first (first + 399) z × (z ≤ y) × IsValidIn z shape

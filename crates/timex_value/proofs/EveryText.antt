@@ -10,7 +10,7 @@ use Rattle.timex_value.proofs.Lasting.{is_length_of}
 pub every_text : (text : List ℕ) → HasValueOrNoFilling text
 every_text text = elim (is_spelled text) [
   | yes s ↦ elim (has_filling s.0 s.1) [
-    | yes filling ↦ inl (Calendar (record { year = s.0; shape = s.1; written = merely (s.2.0, s.2.1); valid = merely filling }), s.2)
+    | yes filling ↦ inl (Calendar (record { year = s.0; shape = s.1; written = merely (s.2.0, s.2.1, s.2.3); valid = merely filling }), s.2)
     | no never ↦ inr (s.0, s.1, s.2, never)
   ]
   | no none ↦ elim (is_length_of text) [

@@ -77,6 +77,9 @@ is_valid_in y (ShapeOf.Quarter quarter) = digit_up_to quarter 4
 is_valid_in y (ShapeOf.Hour month day hour) = Dec.and (has_date y month day) (has_clock hour (Known 0) (Known 0))
 is_valid_in y (ShapeOf.Minute month day hour minute) = Dec.and (has_date y month day) (has_clock hour minute (Known 0))
 is_valid_in y (ShapeOf.Second month day hour minute second) = Dec.and (has_date y month day) (has_clock hour minute second)
+is_valid_in y (ShapeOf.Half half) = digit_up_to half 2
+is_valid_in y ShapeOf.Decade = yes tt
+is_valid_in y ShapeOf.Century = yes tt
 
 pub has_filling : (year : Year) (shape : Shape) → Dec (HasFilling year shape)
 has_filling year shape =

@@ -6,11 +6,12 @@ use Rattle.std.specs.Str.{byte}
 use Rattle.timex_value.specs.declared.shape.Year.{Year}
 use Rattle.timex_value.specs.declared.shape.Year.TheVariants as YearOf
 use Rattle.timex_value.specs.declared.shape.Shape.{Shape}
+use Rattle.timex_value.specs.declared.shape.Shape.TheVariants as ShapeOf
 use Rattle.timex_value.specs.declared.length.Length.{Length}
 use Rattle.timex_value.specs.declared.value.Calendar.{Calendar as CalendarOf}
 use Rattle.timex_value.specs.declared.value.Value.TheVariants.{Calendar, Duration, Other}
-use Rattle.timex_value.specs.Text.{Spells, IsYearWritten, IsShapeWritten}
-use Rattle.timex_value.specs.Places.{YearFirst}
+use Rattle.timex_value.specs.Text.{Spells, IsYearFor, IsYearWritten, IsShapeWritten}
+use Rattle.timex_value.specs.Places.{YearFirst, DecadeFirst, CenturyFirst, YearIn}
 use Rattle.timex_value.specs.Filling.{HasFilling}
 use Rattle.timex_value.specs.Durations.{SpellsLength}
 use Rattle.timex_value.specs.Values.{year_of, shape_of, OneValue, ValueOrBad}
@@ -25,15 +26,32 @@ year_no_p (YearOf.Decade y) rest h = grind arith
 year_no_p (YearOf.Century y) rest h = grind arith
 year_no_p YearOf.Unknown rest h = grind arith
 
+decade_no_p : (y : Year) (rest : List ℕ) → DecadeFirst y (byte "P" ∷ rest) → ⊥
+decade_no_p (YearOf.Known y) rest h = h.2
+decade_no_p (YearOf.Decade y) rest h = grind arith
+decade_no_p (YearOf.Century y) rest h = h.2
+decade_no_p YearOf.Unknown rest h = h.2
+
+century_no_p : (y : Year) (rest : List ℕ) → CenturyFirst y (byte "P" ∷ rest) → ⊥
+century_no_p (YearOf.Known y) rest h = h.2
+century_no_p (YearOf.Decade y) rest h = h.2
+century_no_p (YearOf.Century y) rest h = grind arith
+century_no_p YearOf.Unknown rest h = h.2
+
+no_p : (s : Shape) (y : Year) (rest : List ℕ) → YearIn s y (byte "P" ∷ rest) → ⊥
+no_p ShapeOf.Decade y rest h = decade_no_p y rest h
+no_p ShapeOf.Century y rest h = century_no_p y rest h
+no_p s y rest h = year_no_p y rest h
+
 pub no_both : (y : Year) (s : Shape) (l : Length) (text : List ℕ) → Spells y s text → SpellsLength l text → ⊥
-no_both y s l text h k = year_no_p y k.0 (subst (λ (x : List ℕ). YearFirst y x) k.2 (by_place y s text h).0)
+no_both y s l text h k = no_p s y k.0 (subst (λ (x : List ℕ). YearIn s y x) k.2 (by_place y s text h).0)
 
 -- a calendar value is its year and its shape
 one_calendar : (c d : CalendarOf) → year_of c ≡ year_of d → shape_of c ≡ shape_of d → c ≡ d
 one_calendar c d e f = λ i. record {
   year = e i;
   shape = f i;
-  written = is_prop→PathP (λ j. ∥ IsYearWritten (e j) × IsShapeWritten (f j) ∥₁) (λ j. ∥∥₁_prop) c.written d.written i;
+  written = is_prop→PathP (λ j. ∥ IsYearWritten (e j) × IsShapeWritten (f j) × IsYearFor (f j) (e j) ∥₁) (λ j. ∥∥₁_prop) c.written d.written i;
   valid = is_prop→PathP (λ j. ∥ HasFilling (e j) (f j) ∥₁) (λ j. ∥∥₁_prop) c.valid d.valid i;
 }
 

@@ -17,7 +17,7 @@ use Rattle.timex_value.specs.declared.value.Value.{Value}
 use Rattle.timex_value.specs.declared.value.Value.TheVariants.{Calendar, Duration, Other}
 use Rattle.timex_value.specs.Durations.{ClockText, CountText, CountsThen, SpellsLength}
 use Rattle.timex_value.specs.Filling.{NoFilling}
-use Rattle.timex_value.specs.Text.{Spells, calendar_text, date_text, digit_byte, digit_text, part_text, week_text, year_text}
+use Rattle.timex_value.specs.Text.{Spells, calendar_text, date_text, digit_byte, digit_text, part_text, week_text, year_digits, year_text}
 use Rattle.timex_value.specs.Values.{ValueOf, shape_of, year_of}
 use Rattle.tml_types.specs.Rules.{IsNoDate}
 use Rattle.tml_types.specs.Typing.{IsValueOf}
@@ -36,6 +36,13 @@ year_from_dash (YearOf.Known y) = simp digit_from_dash
 year_from_dash (YearOf.Decade y) = simp digit_from_dash
 year_from_dash (YearOf.Century y) = simp digit_from_dash
 year_from_dash YearOf.Unknown = refl
+
+-- and those of its digits alone
+digits_of_year_from_dash : (year : Year) → are_from_dash (year_digits year) ≡ true
+digits_of_year_from_dash (YearOf.Known y) = simp digit_from_dash
+digits_of_year_from_dash (YearOf.Decade y) = simp digit_from_dash
+digits_of_year_from_dash (YearOf.Century y) = simp digit_from_dash
+digits_of_year_from_dash YearOf.Unknown = refl
 
 -- those of a field of two bytes
 part_from_dash : (part : Part) → are_from_dash (part_text part) ≡ true
@@ -80,6 +87,9 @@ calendar_from_dash y (ShapeOf.Hour m d h) = hour_from_dash y m d h
 calendar_from_dash y (ShapeOf.Minute m d h i) = minute_from_dash y m d h i
 calendar_from_dash y (ShapeOf.Second m d h i s) =
     between (date_text y m d ++ codes "T" ++ part_text h ++ codes ":" ++ part_text i) (codes ":") (part_text s) refl (minute_from_dash y m d h i) (part_from_dash s)
+calendar_from_dash y (ShapeOf.Half h) = between (year_text y) (codes "-H") (digit_text h) refl (year_from_dash y) (one_from_dash h)
+calendar_from_dash y ShapeOf.Decade = digits_of_year_from_dash y
+calendar_from_dash y ShapeOf.Century = digits_of_year_from_dash y
 
 -- a text that spells a calendar value has such bytes
 spelled_from_dash : (year : Year) (shape : Shape) (text : List ℕ) → Spells year shape text → are_from_dash text ≡ true

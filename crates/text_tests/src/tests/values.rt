@@ -1,6 +1,6 @@
-//! What values of times say beside their bounds: which are durations, of how much, and the fields that bound no time.
+//! What values of times say beside their bounds: which are durations, of how much, and the fields of calendar values.
 use timex_dates::civil_text;
-use timex_value::{Count, Part, Shape, Value, Year, read_value};
+use timex_value::{BadDate, Count, Part, Shape, Value, Year, read_value};
 
 /// A count as a number, where -1 is X and -2 is none.
 fn number(count: Count) -> i64 {
@@ -116,6 +116,68 @@ fn fields_stand_after_an_x(rt: HostRuntime) {
         )
     );
     assert_eq!(rt; Year::Unknown.range(), (1, 9999));
+}
+
+#[test]
+fn decades_and_centuries_have_their_digits(rt: HostRuntime) {
+    for text in [b"199".as_slice(), b"000", b"999"] {
+        assert!(rt; matches!(fields_of(text), Some((Year::Decade(_), Shape::Decade))));
+    }
+    for text in [b"19".as_slice(), b"00", b"99"] {
+        assert!(rt; matches!(fields_of(text), Some((Year::Century(_), Shape::Century))));
+    }
+    assert!(rt; matches!(fields_of(b"199"), Some((Year::Decade(199), _))));
+    assert!(rt; matches!(fields_of(b"19"), Some((Year::Century(19), _))));
+    assert!(rt; matches!(fields_of(b"199X"), Some((Year::Decade(199), Shape::Year))));
+    assert!(rt; matches!(fields_of(b"19XX"), Some((Year::Century(19), Shape::Year))));
+    assert_eq!(rt; Year::Decade(0).range(), (1, 9));
+    assert_eq!(rt; Year::Century(0).range(), (1, 99));
+    assert_eq!(rt; Year::Century(19).range(), (1900, 1999));
+    let others: [&[u8]; 8] = [b"XX", b"XXX", b"1X", b"X1", b"19X", b"1X9", b"X", b"1"];
+    for text in others {
+        assert!(rt; matches!(read_value(text), Ok(Value::Other)));
+    }
+}
+
+#[test]
+fn halves_are_one_digit_or_x(rt: HostRuntime) {
+    assert!(rt;
+        matches!(
+            fields_of(b"1998-H2"),
+            Some((
+                Year::Known(1998),
+                Shape::Half {
+                    half: Part::Known(2)
+                }
+            ))
+        )
+    );
+    assert!(rt;
+        matches!(
+            fields_of(b"199X-HX"),
+            Some((
+                Year::Decade(199),
+                Shape::Half {
+                    half: Part::Unknown
+                }
+            ))
+        )
+    );
+    let others: [&[u8]; 6] = [
+        b"1998-H1X",
+        b"1998-HX1",
+        b"1998-HXX",
+        b"19X8-H1",
+        b"1998-H",
+        b"199-H1",
+    ];
+    for text in others {
+        assert!(rt; matches!(read_value(text), Ok(Value::Other)));
+    }
+    let bad: [&[u8]; 5] = [b"1998-H3", b"1998-H0", b"0000-H1", b"0000-HX", b"XXXX-H3"];
+    for text in bad {
+        assert!(rt; matches!(read_value(text), Err(BadDate)));
+    }
 }
 
 #[test]
