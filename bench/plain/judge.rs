@@ -11,7 +11,7 @@ use crate::values::date;
 use crate::{Fault, Kind};
 
 const MOST_OPEN: usize = 32;
-const MOST_INTERVALS: usize = 512;
+const MOST_INTERVALS: usize = 1024;
 const MOST_LINKS: usize = 4_096;
 
 /// An identifier of a tag, or a reference of one to a tag of this kind.

@@ -109,7 +109,7 @@ static SIGNAL: [(&str, Rule); 1] = [("sid", Rule::Identifier)];
 static TIME_LINK: [(&str, Rule); 7] = [
     ("relType", Rule::OneOf(&[
         "BEFORE", "AFTER", "INCLUDES", "IS_INCLUDED", "DURING", "DURING_INV", "SIMULTANEOUS", "IDENTITY", "IBEFORE",
-        "IAFTER", "BEGINS", "BEGUN_BY", "ENDS", "ENDED_BY",
+        "IAFTER", "BEGINS", "BEGUN_BY", "ENDS", "ENDED_BY", "OVERLAPS", "OVERLAPPED_BY",
     ])),
     ("eventInstanceID", Rule::Reference(Tag::Instance)),
     ("timeID", Rule::Reference(Tag::Time)),

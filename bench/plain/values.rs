@@ -61,6 +61,7 @@ pub fn date(text: &[u8]) -> Option<bool> {
     let in_year = match rest {
         [] => true,
         [b'-', b'Q', quarter] => meets(&numbers(&[*quarter])?, 1, 4),
+        [b'-', b'H', half] => meets(&numbers(&[*half])?, 1, 2),
         [b'-', b'W', week @ ..] => {
             let (week, day) = match week {
                 [week @ .., b'-', day] => (week, numbers(&[*day])?),

@@ -4,7 +4,7 @@
 _tml_commands=(spans check dates solve ask relations canon verify drill renew join)
 _tml_relations=(
     BEFORE AFTER INCLUDES IS_INCLUDED DURING DURING_INV SIMULTANEOUS IDENTITY
-    IBEFORE IAFTER BEGINS BEGUN_BY ENDS ENDED_BY
+    IBEFORE IAFTER BEGINS BEGUN_BY ENDS ENDED_BY OVERLAPS OVERLAPPED_BY
 )
 
 # Offers those of some words that begin with the word at the cursor, and no names of files.

@@ -16,19 +16,22 @@ DAY = 86400
 MODIFIERS = ("START", "MID", "END")
 YEARS = r"(?P<year>\d{4}|\d{3}X|\d\dXX|XXXX)"
 SHAPES = tuple(
-    re.compile(YEARS + rest, re.ASCII)
-    for rest in (
-        "",
-        r"-(?P<month>\d\d|XX)",
-        r"-(?P<month>\d\d|XX)-(?P<day>\d\d|XX)",
-        r"-W(?P<week>\d\d|XX)",
-        r"-W(?P<week>\d\d|XX)-(?P<weekday>\d|X)",
-        r"-Q(?P<quarter>\d|X)",
-        r"-(?P<month>\d\d|XX)-(?P<day>\d\d|XX)T(?P<hour>\d\d|XX)",
-        r"-(?P<month>\d\d|XX)-(?P<day>\d\d|XX)T(?P<hour>\d\d|XX):(?P<minute>\d\d|XX)",
-        r"-(?P<month>\d\d|XX)-(?P<day>\d\d|XX)T(?P<hour>\d\d|XX):(?P<minute>\d\d|XX):(?P<second>\d\d|XX)",
+    re.compile(shape, re.ASCII)
+    for shape in (
+        r"(?P<year>\d{2,3})",
+        YEARS,
+        YEARS + r"-(?P<month>\d\d|XX)",
+        YEARS + r"-(?P<month>\d\d|XX)-(?P<day>\d\d|XX)",
+        YEARS + r"-W(?P<week>\d\d|XX)",
+        YEARS + r"-W(?P<week>\d\d|XX)-(?P<weekday>\d|X)",
+        YEARS + r"-Q(?P<quarter>\d|X)",
+        YEARS + r"-H(?P<half>\d|X)",
+        YEARS + r"-(?P<month>\d\d|XX)-(?P<day>\d\d|XX)T(?P<hour>\d\d|XX)",
+        YEARS + r"-(?P<month>\d\d|XX)-(?P<day>\d\d|XX)T(?P<hour>\d\d|XX):(?P<minute>\d\d|XX)",
+        YEARS + r"-(?P<month>\d\d|XX)-(?P<day>\d\d|XX)T(?P<hour>\d\d|XX):(?P<minute>\d\d|XX):(?P<second>\d\d|XX)",
     )
 )
+"""The first shape is that of centuries and decades, by the digits that their years have in common."""
 
 
 @dataclass(frozen=True)
@@ -75,8 +78,8 @@ def bounds(kind: str, modifier: str, value: str) -> Bounds | None:
 
 def extent(known: dict[str, int], year: str, weeks: bool) -> tuple[int, int]:
     """The seconds that belong to the known fields: the first one, and one past the last."""
-    first_year = max(int(year.replace("X", "0")), 1)
-    last_year = int(year.replace("X", "9"))
+    first_year = max(int(year.replace("X", "0").ljust(4, "0")), 1)
+    last_year = int(year.replace("X", "9").ljust(4, "9"))
     if "week" in known:
         first = date.fromisocalendar(first_year, known["week"], 1).toordinal() + known.get("weekday", 1) - 1
         return seconds(first), seconds(first + (1 if "weekday" in known else 7))
@@ -90,6 +93,8 @@ def extent(known: dict[str, int], year: str, weeks: bool) -> tuple[int, int]:
         first_month = last_month = known["month"]
     if "quarter" in known:
         first_month, last_month = known["quarter"] * 3 - 2, known["quarter"] * 3
+    if "half" in known:
+        first_month, last_month = known["half"] * 6 - 5, known["half"] * 6
     last = date(last_year, last_month, monthrange(last_year, last_month)[1])
     return seconds(date(first_year, first_month, 1).toordinal()), seconds(last.toordinal() + 1)
 

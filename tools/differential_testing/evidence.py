@@ -26,7 +26,10 @@ KEYWORDS = (
     b"claims", b"",
 )  # fmt: skip
 Lines = list[bytes]
-ORDERS = {"SIMULTANEOUS": 4, "IDENTITY": 4, "BEFORE": 1, "AFTER": 1, "BEGINS": 3, "BEGUN_BY": 3, "ENDS": 3, "ENDED_BY": 3}
+ORDERS = {
+    "SIMULTANEOUS": 4, "IDENTITY": 4, "BEFORE": 1, "AFTER": 1, "BEGINS": 3, "BEGUN_BY": 3, "ENDS": 3, "ENDED_BY": 3, "OVERLAPS": 3,
+    "OVERLAPPED_BY": 3,
+}  # fmt: skip
 """How many orders relations have, where these are not two."""
 AT = re.compile(rb"at (\d{1,12}) (\d{1,12})")
 GREATEST = (1 << 32) - 1

@@ -15,11 +15,11 @@ from differential_testing.datetimes import bounds
 RELATIONS = (
     "BEFORE", "AFTER", "INCLUDES", "IS_INCLUDED", "DURING", "DURING_INV", "SIMULTANEOUS", "IDENTITY", "IBEFORE", "IAFTER", "BEGINS",
     "BEGUN_BY", "ENDS",
-    "ENDED_BY",
+    "ENDED_BY", "OVERLAPS", "OVERLAPPED_BY",
 )  # fmt: skip
 INVERSE = {
     "BEFORE": "AFTER", "IBEFORE": "IAFTER", "IS_INCLUDED": "INCLUDES", "DURING": "DURING_INV", "BEGINS": "BEGUN_BY", "ENDS": "ENDED_BY",
-    "SIMULTANEOUS": "SIMULTANEOUS", "IDENTITY": "IDENTITY",
+    "SIMULTANEOUS": "SIMULTANEOUS", "IDENTITY": "IDENTITY", "OVERLAPS": "OVERLAPPED_BY",
 }  # fmt: skip
 WAYS = ("fits", "fits", "drawn", "slip", "ring")
 
@@ -39,10 +39,11 @@ def holding(a: tuple[int, int], b: tuple[int, int]) -> list[str]:
     holds = {
         "BEFORE": e < t, "IBEFORE": e == t, "IS_INCLUDED": t < s and e < f, "DURING": t <= s and e <= f, "BEGINS": s == t and e < f,
         "ENDS": e == f and t < s, "SIMULTANEOUS": (s, e) == (t, f), "IDENTITY": (s, e) == (t, f),
+        "OVERLAPS": s < t < e < f,
     }  # fmt: skip
     inverse = {
         "AFTER": f < s, "IAFTER": f == s, "INCLUDES": s < t and f < e, "DURING_INV": s <= t and f <= e, "BEGUN_BY": s == t and f < e,
-        "ENDED_BY": e == f and s < t,
+        "ENDED_BY": e == f and s < t, "OVERLAPPED_BY": t < s < f < e,
     }  # fmt: skip
     return [name for name, true in {**holds, **inverse}.items() if true]
 
@@ -97,7 +98,7 @@ def is_plain(value: str) -> bool:
 
 
 def draw_link(random: Random, hidden: tuple[tuple[int, int], ...], at_random: bool) -> tuple[int, str, int] | None:
-    """A link of a relation that holds, or of any; None where two intervals overlap otherwise."""
+    """A link of a relation that holds, or of any; None where an interval is linked to itself and that was not drawn."""
     a, b = random.randrange(len(hidden)), random.randrange(len(hidden))
     if at_random:
         return a, random.choice(RELATIONS), b
@@ -108,7 +109,7 @@ def draw_link(random: Random, hidden: tuple[tuple[int, int], ...], at_random: bo
 def ring(random: Random, count: int) -> list[tuple[int, str, int]]:
     """Links of which each goes on where the one before it ended, back to the first interval, in either direction."""
     order = random.sample(range(count), random.randint(2, count))
-    name = random.choice(("BEFORE", "IBEFORE", "IS_INCLUDED", "BEGINS", "ENDS", "SIMULTANEOUS", "DURING"))
+    name = random.choice(("BEFORE", "IBEFORE", "IS_INCLUDED", "BEGINS", "ENDS", "SIMULTANEOUS", "DURING", "OVERLAPS"))
     links = []
     for place, a in enumerate(order):
         b = order[(place + 1) % len(order)]

@@ -63,7 +63,7 @@ def draw_ask(random: Random, document: bytes, right: bool = False) -> tuple[byte
         return b"ask", DOCUMENT, *following
     relation = random.choice(RELATIONS).encode()
     if not right and chance(random, 0.05):
-        relation = random.choice((relation.lower(), relation + b" ", b"OVERLAPS", b"", names[0], b"VAGUE", b"DURING_", b"BEFORE&#69;"))
+        relation = random.choice((relation.lower(), relation + b" ", b"OVERLAP", b"", names[0], b"VAGUE", b"DURING_", b"BEFORE&#69;"))
     return b"ask", DOCUMENT, name(), relation, name()
 
 

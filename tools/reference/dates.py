@@ -33,7 +33,7 @@ class Bounds:
 
 
 def known_part(fields: Mapping[str, bytes]) -> tuple[bytes, dict[str, int]]:
-    """*The known part*: the digits of the year and the fields that stand before the first `X`."""
+    """*The known part*: the digits of the year, century or decade and the fields that stand before the first `X`."""
     known: dict[str, int] = {}
     for name, field in fields.items():
         if b"X" in field:
@@ -63,6 +63,8 @@ def days_of(digits: bytes, known: Mapping[str, int], in_weeks: bool) -> tuple[in
     months = (known["month"], known["month"]) if "month" in known else (1, 12)
     if "quarter" in known:
         months = (3 * known["quarter"] - 2, 3 * known["quarter"])
+    if "half" in known:
+        months = (6 * known["half"] - 5, 6 * known["half"])
     if "day" in known:
         return day_of(first, known["month"], known["day"]), day_of(first, known["month"], known["day"]) + 1
     return day_of(first, months[0], 1), day_of(last, months[1], days_of_month(last, months[1])) + 1

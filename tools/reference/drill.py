@@ -6,6 +6,10 @@ from .nets import Link
 from .relations import RELATIONS, holds
 
 
+DRAWN = RELATIONS[:14]
+"""The relations that links of a drill have."""
+
+
 def draw(number: int) -> int:
     """The number that comes after another one."""
     return (75 * number + 74) % 65_537
@@ -25,7 +29,7 @@ def hidden(count: int) -> tuple[list[tuple[int, int]], list[Link]]:
         for _ in range(3):
             number = draw(number)
             other = number % one
-            true = [relation for relation in RELATIONS if holds(intervals[one], relation, intervals[other])]
+            true = [relation for relation in DRAWN if holds(intervals[one], relation, intervals[other])]
             links += [Link(one, relation, other) for relation in true[:1]]
     return intervals, links
 

@@ -45,6 +45,8 @@ ORDERS: Mapping[bytes, tuple[str, ...]] = {
     b"BEGUN_BY": ("a.start <= b.start", "b.start <= a.start", "b.finish < a.finish"),
     b"ENDS": ("a.finish <= b.finish", "b.finish <= a.finish", "b.start < a.start"),
     b"ENDED_BY": ("a.finish <= b.finish", "b.finish <= a.finish", "a.start < b.start"),
+    b"OVERLAPS": ("a.start < b.start", "b.start < a.finish", "a.finish < b.finish"),
+    b"OVERLAPPED_BY": ("b.start < a.start", "a.start < b.finish", "b.finish < a.finish"),
 }
 """The table of *Atoms*. Its order is that of the table of relations."""
 PARSED = {relation: tuple(text.split() for text in texts) for relation, texts in ORDERS.items()}
@@ -58,6 +60,7 @@ INVERSES = {
     b"DURING_INV": b"DURING",
     b"BEGUN_BY": b"BEGINS",
     b"ENDED_BY": b"ENDS",
+    b"OVERLAPPED_BY": b"OVERLAPS",
 }
 
 
@@ -81,4 +84,5 @@ def holds(left: Interval, relation: bytes, right: Interval) -> bool:
         b"ENDS": finish == other_finish and other_start < start,
         b"SIMULTANEOUS": start == other_start and finish == other_finish,
         b"IDENTITY": start == other_start and finish == other_finish,
+        b"OVERLAPS": start < other_start and other_start < finish and finish < other_finish,
     }[relation]

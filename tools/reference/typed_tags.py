@@ -102,7 +102,8 @@ TABLE: Mapping[bytes, Row] = {
         (b"relType",),
         {
             b"relType": listed(
-                "BEFORE AFTER INCLUDES IS_INCLUDED DURING DURING_INV SIMULTANEOUS IDENTITY IBEFORE IAFTER BEGINS BEGUN_BY ENDS ENDED_BY"
+                "BEFORE AFTER INCLUDES IS_INCLUDED DURING DURING_INV SIMULTANEOUS IDENTITY IBEFORE IAFTER BEGINS BEGUN_BY ENDS ENDED_BY "
+                "OVERLAPS OVERLAPPED_BY"
             ),
             b"eventInstanceID": INSTANCE,
             b"timeID": TIME,

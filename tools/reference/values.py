@@ -19,18 +19,21 @@ HOUR, MINUTE, SECOND = rb"T(?P<hour>[0-9]{2}|XX)", rb":(?P<minute>[0-9]{2}|XX)",
 SHAPES = tuple(
     re.compile(shape)
     for shape in (
+        rb"(?P<year>[0-9]{2})",
+        rb"(?P<year>[0-9]{3})",
         YEAR,
         YEAR + rb"-(?P<month>[0-9]{2}|XX)",
         DATE,
         WEEK,
         WEEK + rb"-(?P<weekday>[0-9]|X)",
         YEAR + rb"-Q(?P<quarter>[0-9]|X)",
+        YEAR + rb"-H(?P<half>[0-9]|X)",
         DATE + HOUR,
         DATE + HOUR + MINUTE,
         DATE + HOUR + MINUTE + SECOND,
     )
 )
-"""*Shapes*: the year and then the fields, with what separates them."""
+"""*Shapes*: a century, a decade, or the year and then the fields, with what separates them."""
 
 Fields = Mapping[str, bytes]
 """The year and the fields of a text with a calendar shape, by their names, in the order in which they stand."""
@@ -52,7 +55,12 @@ def fillings(field: bytes) -> list[int]:
 
 
 def some_date_is_valid(fields: Fields) -> bool:
-    """Whether a filling of the year, the month and the day, the week and the weekday, or the quarter is in range."""
+    """Whether a filling of the year, the month and the day, the week and the weekday, the quarter or the half is in range.
+
+    A century and a decade are their own fillings, and always valid.
+    """
+    if len(fields["year"]) < 4:
+        return True
     years = [year for year in fillings(fields["year"]) if 1 <= year <= 9999]
     if "month" in fields:
         months = [month for month in fillings(fields["month"]) if 1 <= month <= 12]
@@ -64,6 +72,8 @@ def some_date_is_valid(fields: Fields) -> bool:
         return in_range and any(1 <= weekday <= 7 for weekday in weekdays)
     if "quarter" in fields:
         return bool(years) and any(1 <= quarter <= 4 for quarter in fillings(fields["quarter"]))
+    if "half" in fields:
+        return bool(years) and any(1 <= half <= 2 for half in fillings(fields["half"]))
     return bool(years)
 
 

@@ -14,7 +14,7 @@ from tml_corpus.source import Source
 
 VALUES = (
     "1998", "1998-Q1", "1998-01-08T18:30", "199X", "1998-XX", "XXXX-12-25", "P3D", "1998-SU", "", " ", "1998-01-08 ", "&#49;998", "a'b",
-    "é\u2003𝄞", "19980108", "1998-W53", "x" * 300,
+    "é\u2003𝄞", "19980108", "1998-W53", "x" * 300, "1998-H1", "1998-HX", "199", "19",
 )  # fmt: skip
 TYPES, MODIFIERS = ("DATE", "TIME", "DURATION", "SET"), ("", "START", "MID", "END", "BEFORE", "APPROX")
 

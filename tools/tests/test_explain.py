@@ -6,6 +6,7 @@ import re
 import unittest
 
 from corpus import EVENT, INSTANCE, CorpusTest, document
+from test_scripts import RELATIONS
 
 TIME = '<TIMEX3 tid="t1" type="DATE"/>'
 
@@ -53,7 +54,21 @@ class Explanations(CorpusTest):
                 (
                     '<TLINK timeID="t" relatedToTime="t" relType="MODAL"/>',
                     '2:37 relType="MODAL" is not a relation of TLINK but a relation of SLINK: BEFORE, AFTER, INCLUDES, IS_INCLUDED, DURING, '
-                    "DURING_INV, SIMULTANEOUS, IDENTITY, IBEFORE, IAFTER, BEGINS, BEGUN_BY, ENDS, ENDED_BY",
+                    "DURING_INV, SIMULTANEOUS, IDENTITY, IBEFORE, IAFTER, BEGINS, BEGUN_BY, ENDS, ENDED_BY, OVERLAPS, OVERLAPPED_BY",
+                ),
+                (
+                    '<TLINK timeID="t" relatedToTime="t" relType="OVERLAP"/>',
+                    '2:37 relType="OVERLAP" is not a relation of TLINK, and none of the sixteen says only that some time is shared: write OVERLAPS where '
+                    "the first one begins first and ends inside the second, OVERLAPPED_BY the other way round, or another one that is meant; `tml-edit "
+                    "--overlaps` says it by more intervals, or leave the link out",
+                ),
+                (
+                    '<TLINK timeID="t" relatedToTime="t" relType="overlap"/>',
+                    f'2:37 relType="overlap" is not a relation of TLINK: {", ".join(RELATIONS)}',
+                ),
+                (
+                    '<TLINK timeID="t" relatedToTime="t" relType="overlaps"/>',
+                    f'2:37 relType="overlaps" is not a relation of TLINK: {", ".join(RELATIONS)}; did you mean OVERLAPS?',
                 ),
                 (
                     '<MAKEINSTANCE eiid=":" eventID="e1" polarity="pos" pos="VERB"/>',
@@ -87,7 +102,10 @@ class Explanations(CorpusTest):
             ("1998-W00", "the first week of a year is W01"),
             ("1998-W01-8", "the days of a week are 1 to 7"),
             ("1998-Q5", "the quarters are 1 to 4"),
+            ("1998-H3", "the halves of a year are 1 and 2"),
+            ("199X-H0", "the halves of a year are 1 and 2"),
             ("0000", "the first year is 0001"),
+            ("0000-H1", "the first year is 0001"),
             ("1998-01-08T24:01", "at 24:00 the day is over: write 00 and the next day"),
             ("1998-01-08T25", "the hours are 00 to 24"),
             ("1998-01-08T23:60", "the minutes are 00 to 59"),

@@ -58,6 +58,10 @@ class Warnings(CorpusTest):
             ("31-12-1999", "value-form", f"{no_form}; did you mean 1999-12-31?"),
             ("11-03-1999", "value-form", f"{no_form}: a date is written as 1998-03-11"),
             ("1999Q1", "value-form", f"{no_form}; did you mean 1999-Q1?"),
+            ("1999h2", "value-form", f"{no_form}; did you mean 1999-H2?"),
+            ("1990s", "value-form", f"{no_form}; did you mean 199?"),
+            ("1900s", "value-form", f"{no_form}: a date is written as 1998-03-11"),
+            ("199-H1", "value-form", f"{no_form}: a date is written as 1998-03-11"),
             ("1999-w02", "value-form", f"{no_form}; did you mean 1999-W02?"),
             ("Wednesday", "value-form", f"{no_form}: a date is written as 1998-03-11"),
             ("present_ref", "value-form", f"{no_form}; did you mean PRESENT_REF?"),
@@ -67,7 +71,7 @@ class Warnings(CorpusTest):
             ("P3D", "free-date", 'is a duration, so this DATE has no date; did you mean type="DURATION"?'),
             ("1998-01-08TEV", "part-of-day", "is a part of a day, which the calendar does not place: nothing says when it is but links"),
         ]
-        known = ["1998", "1998-03", "199X", "1998-XX-XX", "1998-W02-3", "1998-Q1", "1998-SU", "1998-W02-WE", "PRESENT_REF", "XXXX-12-25", "199", "FY1998", "1998-H1"]
+        known = ["1998", "1998-03", "199X", "1998-XX-XX", "1998-W02-3", "1998-Q1", "1998-SU", "1998-W02-WE", "PRESENT_REF", "XXXX-12-25", "199", "19", "FY1998", "FY1998-H1", "1998-H1", "1998-HX"]
         self.check(
             [(time(f'type="DATE" value="{value}"'), [f'3:30 {name}: value="{value}" {text}']) for value, name, text in rows]
             + [(time(f'type="DATE" value="{value}"'), []) for value in known]
@@ -75,7 +79,9 @@ class Warnings(CorpusTest):
                 (time('type="DURATION" value="3D"'), [f'3:34 value-form: value="3D" {no_form}; did you mean P3D?']),
                 (time('type="DURATION" value="P1.5Y"'), []),
                 (time('type="DURATION" value="1998-01-08"'), ['3:34 free-date: value="1998-01-08" is a date, and a DURATION has none; did you mean type="DATE"?']),
+                (time('type="DURATION" value="30"'), ['3:34 free-date: value="30" is a century, and a DURATION has none; did you mean a length, as P30D?']),
                 (time('type="SET" value="XXXX-W01"'), []),
+                (time('type="SET" value="199"'), []),
             ]
         )
 
@@ -108,6 +114,8 @@ class Warnings(CorpusTest):
                 (link("ENDS", "i1", "i1"), ["3:1 self-link: this link is from i1 to i1: write another one for one of the two, or take the link out"]),
                 (link("DURING"), [f"3:1 repeated-link: i1 DURING t0 is {given}"]),
                 (link("DURING_INV", "t0", "i1"), [f"3:1 repeated-link: t0 DURING_INV i1 is {given}"]),
+                (link("OVERLAPS") + link("OVERLAPPED_BY", "t0", "i1"), ["3:68 repeated-link: t0 OVERLAPPED_BY i1 is given at 3:1 already: take one of the two out"]),
+                (link("OVERLAPS") + link("OVERLAPPED_BY"), []),
                 (link("DURING", "t0", "i1"), []),
                 (link("ENDS"), []),
             ]

@@ -13,7 +13,7 @@ from unittest import mock
 
 from corpus import TOOLS, TOP
 
-from tml_corpus import places, running, statuses
+from tml_corpus import places, profile, running, statuses
 from tml_corpus.files import shown, written
 from tml_corpus.places import Places, caret_lines
 from tml_corpus.program import CannotRun, Reply
@@ -53,6 +53,9 @@ class Numbers(unittest.TestCase):
         printed = re.findall(r"^\.It (\d+)$", self.page("tml-corpus.1"), re.MULTILINE)
         self.assertEqual([int(number) for number in printed], list(statuses.Status))
         self.assertEqual(set(re.findall(r"^\.Ql ([A-Z_]{4,})", self.page("tml.1"), re.MULTILINE)) & set(statuses.RELATIONS), set(statuses.RELATIONS))
+
+    def test_relations_are_those_of_the_profile(self):
+        self.assertEqual(statuses.RELATIONS, profile.RELATION.values)
 
 
 class PlacesOfBlocks(unittest.TestCase):

@@ -70,6 +70,14 @@ class Definitions(unittest.TestCase):
             wanted = holds(ranks[2 * left : 2 * left + 2], relation, ranks[2 * right : 2 * right + 2])
             self.assertEqual(all(order.is_true(ranks) for order in orders_of(left, relation, right)), wanted)
 
+    def test_exactly_one_base_relation_holds(self):
+        base = set(RELATIONS) - {b"IDENTITY", b"DURING", b"DURING_INV"}
+        self.assertEqual(len(base), 13)
+        for first, second in itertools.product(itertools.combinations(range(5), 2), repeat=2):
+            true = [relation for relation in RELATIONS if holds(first, relation, second)]
+            self.assertEqual(len(base.intersection(true)), 1, (first, second))
+            self.assertEqual(b"OVERLAPS" in true, first[0] < second[0] < first[1] < second[1])
+
     def test_timelines_that_are_tried_and_walks_say_the_same(self):
         fitting = 0
         for number in range(200):
@@ -104,8 +112,10 @@ class Definitions(unittest.TestCase):
         days = [datetime.date(1979, 1, 1) + datetime.timedelta(one) for one in range(8800)]
         texts = {shape: [day.strftime(shape) for day in days] for shape in ("%Y", "%Y-%m", "%Y-%m-%d", "%G", "%G-W%V", "%G-W%V-%u")}
         texts["quarter"] = [f"{day.year}-Q{(day.month + 2) // 3}" for day in days]
+        texts["half"] = [f"{day.year}-H{1 if day.month < 7 else 2}" for day in days]
         chosen = {shape: random.Random(shape).sample(of_days[800:-800], 15) for shape, of_days in texts.items() if shape != "%G"}
         values = [(value, value, shape) for shape, some in chosen.items() for value in some]
+        values += [("198", "198", "%Y"), ("199", "199", "%Y"), ("1988-HX", "1988", "%Y"), ("198X-H2", "198", "%Y")]
         values += [("198X", "198", "%Y"), ("199X-02-29", "199", "%Y"), ("1988-XX-03", "1988", "%Y"), ("1988-QX", "1988", "%Y")]
         values += [("1988-02-XX", "1988-02", "%Y-%m"), ("1988-02-03TXX", "1988-02-03", "%Y-%m-%d"), ("1988-W03-X", "1988-W03", "%G-W%V")]
         values += [("198X-WXX", "198", "%G"), ("198X-W01-1", "198", "%G"), ("1988-WXX-3", "1988", "%G")]
@@ -148,6 +158,32 @@ class Definitions(unittest.TestCase):
             lambda: Calendar(draw.randrange(points), draw.randrange(points)),
         )
         return tuple(draw.choice(made)() for _ in range(draw.randrange(4)))
+
+
+class Overlaps(unittest.TestCase):
+    """The relations that TimeML does not have."""
+
+    DOCUMENT = document('<TIMEX3 tid="a" type="SET"/><TIMEX3 tid="b" type="SET"/><TLINK timeID="a" relatedToTime="b" relType="OVERLAPS"/>').encode()
+
+    def test_answers(self):
+        proof = b"entails 1 OVERLAPPED_BY 0\nwalk 1\nvia 0 0\nwalk 1\nvia 0 1\nwalk 1\nvia 0 2\n"
+        rows = [
+            ([b"relations", b"-"], b"a OVERLAPS b\n"),
+            ([b"solve", b"-"], b"tml-evidence 2\nclaims 1\ntimeline 2\nat 0 2\nat 1 3\nend\n"),
+            ([b"ask", b"-", b"b", b"OVERLAPPED_BY", b"a"], b"tml-evidence 2\nclaims 1\n" + proof + b"end\n"),
+        ]
+        for words, text in rows:
+            self.assertIsNone(judge(words, {b"-": self.DOCUMENT}, Outcome(0, text)), words)
+
+    def test_overlap_is_no_relation(self):
+        refused = self.DOCUMENT.replace(b"OVERLAPS", b"OVERLAP")
+        self.assertEqual(expected([b"check", b"-"], {b"-": refused}).text.split()[:3], [b"fault", b"11", b"BadValue"])
+        self.assertEqual(expected([b"ask", b"-", b"a", b"OVERLAP", b"b"], {b"-": self.DOCUMENT}), Outcome(8, b"unknown REL\n"))
+
+    def test_drills_are_those_of_fourteen_relations(self):
+        for number, figures in {3: (736, 6, 5, 3), 10: (2634, 23, 7, 22)}.items():
+            printed = expected([b"drill", b"%d" % number], {}).text.split()
+            self.assertEqual(tuple(map(int, printed[3:10:2])), figures)
 
 
 class Pages(unittest.TestCase):

@@ -8,7 +8,11 @@ import unittest
 from corpus import EVENT, INSTANCE, TML, TOOLS, CorpusTest, document
 
 A, B = '<TIMEX3 tid="a" type="SET"/>', '<TIMEX3 tid="b" type="SET"/>'
-RELATIONS = "BEFORE AFTER INCLUDES IS_INCLUDED DURING DURING_INV SIMULTANEOUS IDENTITY IBEFORE IAFTER BEGINS BEGUN_BY ENDS ENDED_BY".split()
+RELATIONS = [
+    *"BEFORE AFTER INCLUDES IS_INCLUDED DURING DURING_INV SIMULTANEOUS IDENTITY IBEFORE IAFTER BEGINS BEGUN_BY ENDS ENDED_BY".split(),
+    "OVERLAPS",
+    "OVERLAPPED_BY",
+]
 
 
 def link(a, relation, b, rest="/>"):
@@ -149,7 +153,7 @@ class Edits(ScriptTest):
                 with self.subTest(overlap=overlap, relation=relation):
                     made = self.edit(document(A + B + link("a", overlap, "b") + link("a", relation, "b")), "--overlaps")
                     self.assertEqual(self.tml("solve", "-", given=made.encode())[0], 2 if relation in excluded else 0)
-            # Nothing of the fourteen follows: what is left of Allen's thirteen has no relation in common.
+            # Nothing of the sixteen follows: what is left of Allen's thirteen has no relation in common.
             made = self.edit(document(A + B + link("a", overlap, "b", "> </TLINK>")), "--overlaps")
             printed = self.tml("relations", "-", given=made.encode())[1]
             self.assertEqual([line for line in printed.splitlines() if "o." not in line], [])

@@ -126,12 +126,24 @@ class Rows(TimelineTest):
         links = ["waited AFTER closed (link 5: ei5 AFTER ei4)", "turned IS_INCLUDED waited (link 6: ei6 IS_INCLUDED ei5)"]
         self.assertEqual(printed, ["waited (ei5): event, ranks 8 to 11", *links, "waited IBEFORE reopened (link 11: ei5 IBEFORE ei9)"])
 
+    def test_intervals_that_overlap(self):
+        times = '<TIMEX3 tid="a" type="SET"/>\n<TIMEX3 tid="b" type="SET"/>\n'
+        picture = self.drawn(document(times + '<TLINK timeID="b" relatedToTime="a" relType="OVERLAPPED_BY"/>'))
+        (_, first, *left), (_, second, *right) = self.rows(picture)
+        self.assertEqual((first, second), ("a", "b"))
+        self.assertTrue(left[0] < right[0] < left[1] < right[1], (left, right))
+        self.assertIn("b OVERLAPPED_BY a (link 0: b OVERLAPPED_BY a)", self.titles(picture)[0])
+
     def test_kinds_and_dates(self):
         times = [
             ("a", "DATE", "1998-01-08", "exact", "1998-01-08T00:00 – 1998-01-09T00:00"),
             ("b", "TIME", "1998-01-08T18:30:05", "exact", "1998-01-08T18:30:05 – 1998-01-08T18:30:06"),
             ("c", "DATE", "1998-01-XX", "within", "within 1998-01-01T00:00 – 1998-02-01T00:00"),
             ("d", "DURATION", "P3D", "free", "no date"),
+            ("e", "DATE", "1998-H2", "exact", "1998-07-01T00:00 – 1999-01-01T00:00"),
+            ("f", "DATE", "199", "exact", "1990-01-01T00:00 – 2000-01-01T00:00"),
+            ("g", "DATE", "19", "exact", "1900-01-01T00:00 – 2000-01-01T00:00"),
+            ("h", "DATE", "1998-HX", "within", "within 1998-01-01T00:00 – 1999-01-01T00:00"),
         ]
         picture = self.drawn(document("".join(f'<TIMEX3 tid="{name}" type="{kind}" value="{value}"/>\n' for name, kind, value, _, _ in times) + EVENT + INSTANCE))
         kinds = {text: kind for kind, text, _, _ in self.rows(picture)}

@@ -9,7 +9,7 @@ import ordinary
 from corpus import EVENT, INSTANCE, TML, CorpusTest, document
 from test_scripts import RELATIONS, ScriptTest, link
 
-VALUES = ("1998", "1998-Q1", "1998-01", "1998-12", "1998-01-01", "1998-01-02", "1998-12-31", "1999-01-01")
+VALUES = ("1998", "1998-H1", "199", "1998-Q1", "1998-01", "1998-12", "1998-01-01", "1998-01-02", "1998-12-31", "1999-01-01")
 SISTERS = {
     "BEFORE": ("IBEFORE",),
     "AFTER": ("IAFTER",),

@@ -13,10 +13,12 @@ from .source import Explanation, Source, attribute_of, attributes_of, cut
 from .units import Attribute, Unit
 from .values import no_date
 
+MORE_INTERVALS = "`tml-edit --overlaps` says it by more intervals, or leave the link out"
 OTHER_RELATIONS = {
-    "OVERLAP": "none of the fourteen relations says it: `tml-edit --overlaps` says it by more intervals, or leave the link out",
-    "BEFORE-OR-OVERLAP": "none of the fourteen relations says it: `tml-edit --overlaps` says it by more intervals, or leave the link out",
-    "OVERLAP-OR-AFTER": "none of the fourteen relations says it: `tml-edit --overlaps` says it by more intervals, or leave the link out",
+    "OVERLAP": "none of the sixteen says only that some time is shared: write OVERLAPS where the first one begins first and ends inside the "
+    f"second, OVERLAPPED_BY the other way round, or another one that is meant; {MORE_INTERVALS}",
+    "BEFORE-OR-OVERLAP": f"none of the sixteen relations says it: {MORE_INTERVALS}",
+    "OVERLAP-OR-AFTER": f"none of the sixteen relations says it: {MORE_INTERVALS}",
     "VAGUE": "it says nothing of the order: `tml-edit --drop-links VAGUE` leaves such links out",
     "NONE": "it says nothing of the order: `tml-edit --drop-links NONE` leaves such links out",
     "UNKNOWN": "it says nothing of the order: `tml-edit --drop-links UNKNOWN` leaves such links out",
@@ -129,11 +131,13 @@ def misfit(source: Source, attribute: Attribute, row: Row, found: Explanation) -
     about(found, attribute)
     if row.form.kind is not Kind.LISTED:
         return f"{written} {not_identifier(value)}"
-    meant = nearest(value, row.form.values)
-    if meant is not None:
-        return f"{written} is not {row.form.noun}: {listing(row)}; did you mean {meant}?"
     if row.tag == "TLINK" and value in OTHER_RELATIONS:
         return f"{written} is not {row.form.noun}, and {OTHER_RELATIONS[value]}"
+    # OVERLAP is nearly OVERLAPS, and says something else.
+    of_others = row.tag == "TLINK" and same_but_for_case(value, OTHER_RELATIONS) is not None
+    meant = None if of_others else nearest(value, row.form.values)
+    if meant is not None:
+        return f"{written} is not {row.form.noun}: {listing(row)}; did you mean {meant}?"
     other = next((one.form.noun for rows in (TABLE[row.tag], *TABLE.values()) for one in rows.values() if value in one.form.values), None)
     return f"{written} is not {row.form.noun}{f' but {other}' if other else ''}: {listing(row)}"
 

@@ -18,6 +18,7 @@ from .replies import kind_of
 
 STRICT_ORDERS = {
     "BEFORE": (0,), "AFTER": (0,), "INCLUDES": (0, 1), "IS_INCLUDED": (0, 1), "BEGINS": (2,), "BEGUN_BY": (2,), "ENDS": (2,), "ENDED_BY": (2,),
+    "OVERLAPS": (0, 1, 2), "OVERLAPPED_BY": (0, 1, 2),
 }  # fmt: skip
 """The orders of a relation that are strict, by their numbers in docs/DEFINITIONS.md; all others allow for equal points."""
 

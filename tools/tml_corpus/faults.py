@@ -21,8 +21,8 @@ SENTENCES = {
     11: "An attribute has a value that is not in its list (upper and lower case differ, and no reference is decoded), or an identifier "
     "or a reference is not of the form of one: 1 to 64 letters, digits, `_`, `-` or `.`.",
     12: "A TLINK names both an event instance and a time as the same end.",
-    13: "The `value` of a TIMEX3, of whatever type, has the form of a date, a week, a quarter or a time of a day, and no such date "
-    "exists, even with any digits for its `X`.",
+    13: "The `value` of a TIMEX3, of whatever type, has the form of a date, a week, a quarter, a half or a time of a day, and no such "
+    "date exists, even with any digits for its `X`.",
     14: "The identifier of a tag (`eid`, `eiid`, `tid`, `sid` or `lid`) is that of a tag before it, be it of another kind.",
     15: "A reference is not the identifier of a tag of the kind that it asks for, anywhere in the document.",
     16: "The tag is the 1,025th among MAKEINSTANCE and TIMEX3.",

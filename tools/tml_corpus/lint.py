@@ -19,7 +19,7 @@ MOST_WARNINGS = 1000
 
 INVERSES = {
     "BEFORE": "AFTER", "IBEFORE": "IAFTER", "IS_INCLUDED": "INCLUDES", "DURING": "DURING_INV", "BEGINS": "BEGUN_BY", "ENDS": "ENDED_BY",
-    "SIMULTANEOUS": "SIMULTANEOUS", "IDENTITY": "IDENTITY",
+    "SIMULTANEOUS": "SIMULTANEOUS", "IDENTITY": "IDENTITY", "OVERLAPS": "OVERLAPPED_BY",
 }  # fmt: skip
 KNOWN = {name: frozenset((*TABLE.get(name, ()), *CARRIED.get(name, ()))) for name in (ROOT, *TABLE)}
 INVERSES |= {inverse: relation for relation, inverse in INVERSES.items()}
@@ -135,11 +135,21 @@ def free_date(source: Source) -> Iterator[tuple[Unit, Attribute | None, str]]:
     """A value that looks like a date, of a time that has none."""
     for tag, kind, value in source.odd_times:
         if kind == "DURATION" and CALENDAR.fullmatch(value):
-            yield tag, attribute_of(tag, "value"), f'value="{value}" is a date, and a DURATION has none; did you mean type="DATE"?'
+            yield tag, attribute_of(tag, "value"), f'value="{value}" is {a_date(value)}, and a DURATION has none; did you mean {not_a_date(value)}?'
         elif kind in ("DATE", "TIME") and DURATION.fullmatch(value):
             yield tag, attribute_of(tag, "value"), f'value="{value}" is a duration, so this {kind} has no date; did you mean type="DURATION"?'
         elif kind in ("DATE", "TIME") and not CALENDAR.fullmatch(value) and LOOKS_LIKE_DATE.fullmatch(value):
             yield tag, attribute_of(tag, "value"), f'value="{cut(value)}" looks like a date, and the calendar does not place it: {why_free(value)}'
+
+
+def a_date(value: str) -> str:
+    """What a value is that the calendar places."""
+    return {2: "a century", 3: "a decade"}.get(len(value), "a date")
+
+
+def not_a_date(value: str) -> str:
+    """What was probably meant by such a value of a DURATION: a few digits are rather a length than a decade."""
+    return f"a length, as P{int(value)}D" if len(value) < 4 else 'type="DATE"'
 
 
 def why_free(value: str) -> str:

@@ -12,10 +12,11 @@ MONTH_NAMES = calendar.month_name
 CALENDAR = re.compile(
     r"(?P<year>\d{4}|\d{3}X|\d\dXX|XXXX)"
     r"(?:-(?P<month>\d\d|XX)(?:-(?P<day>\d\d|XX)(?:T(?P<hour>\d\d|XX)(?::(?P<minute>\d\d|XX)(?::(?P<second>\d\d|XX))?)?)?)?"
-    r"|-W(?P<week>\d\d|XX)(?:-(?P<weekday>\d|X))?|-Q(?P<quarter>\d|X))?",
+    r"|-W(?P<week>\d\d|XX)(?:-(?P<weekday>\d|X))?|-Q(?P<quarter>\d|X)|-H(?P<half>\d|X))?"
+    r"|\d{2,3}",
     re.ASCII,
 )
-"""The shapes that the calendar places."""
+"""The shapes that the calendar places. Two digits are a century, and three a decade."""
 
 NUMBER = r"(?:\d{1,9}|X)"
 DURATION = re.compile(
@@ -29,12 +30,12 @@ OTHER_FORMS = re.compile(
     r"(?:PAST|PRESENT|FUTURE)_REF"
     rf"|(?:FY)?{YEAR}(?:-(?:SP|SU|FA|WI|H[12X]|Q[1-4X]))?"
     rf"|{YEAR}-W{FIELD}-WE"
-    r"|\d{2,3}|BC[\dX]{2,4}|[KMG]A[\dX]+"
+    r"|BC[\dX]{2,4}|[KMG]A[\dX]+"
     r"|PT?(?:\d+(?:\.\d+)?|X+)[A-Z]{1,2}"
     rf"|T{FIELD}(?::{FIELD}(?::{FIELD})?)?",
     re.ASCII,
 )
-"""Forms of TimeML that no calendar places: references, seasons, halves, weekends, decades, fiscal years, other durations, hours."""
+"""Forms of TimeML that no calendar places: references, seasons, weekends, fiscal years, other durations, hours."""
 
 LOOKS_LIKE_DATE = re.compile(r"[\dX]{4}-[\dX]{2}(?:-[\dX]{2}(?:T[\dX]{2}(?:[:\dX.,]*)(?:Z|[+-]\d\d(?::?\d\d)?)?)?)?", re.ASCII)
 """A date or time with a zone, with parts of a second, or with a field of which only a part is X."""
@@ -52,6 +53,10 @@ def better(value: str) -> str | None:
     plain = value.strip().upper()
     if plain != value and has_form(plain):
         return plain
+    decade = re.fullmatch(r"(\d{3})0'?S", plain, re.ASCII)
+    if decade:
+        # The 1900s may be ten years or a hundred.
+        return None if decade[1].endswith("0") else decade[1]
     if has_form("P" + plain) and not CALENDAR.fullmatch(plain):
         return "P" + plain
     quarter = re.fullmatch(r"(\d{4})-?(Q[1-4]|W\d\d|H[12])", plain, re.ASCII)
@@ -91,6 +96,7 @@ def no_date(value: str) -> str | None:
         ("month", 1, 12, "the months are 01 to 12"),
         ("weekday", 1, 7, "the days of a week are 1 to 7"),
         ("quarter", 1, 4, "the quarters are 1 to 4"),
+        ("half", 1, 2, "the halves of a year are 1 and 2"),
         ("hour", 0, 24, "the hours are 00 to 24"),
         ("minute", 0, 59, "the minutes are 00 to 59"),
         ("second", 0, 59, "the seconds are 00 to 59"),
