@@ -87,7 +87,7 @@ def main():
             write(half, make(EVIDENCE // 2))
             told = []
             for words in (["renew", whole], ["join", half, half], ["verify", document, whole]):
-                taken, memory = least([program, *words], 3), peak_memory([program, *words])
+                taken, memory = least([program, *words]), peak_memory([program, *words])
                 used = "" if memory is None else f"{memory * 1024 / EVIDENCE:6.2f}"
                 told.append(f"{taken * 1e3:9.1f} {taken / EVIDENCE * 1e9:7.2f} {used:>6}")
             print(f"{name:30} {' '.join(told)}", flush=True)
