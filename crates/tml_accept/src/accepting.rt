@@ -2,21 +2,22 @@
 ghost use Rattle.std.specs.Prelude.{◌≡◌, ◌≤◌, length, IfOk, IfErr, IfSome};
 ghost use Rattle.tml_tree.specs.Plain.{PlainNode};
 ghost use Rattle.tml_accept.specs.Acceptance.{Accepted, AreTypedTags, FirstFault, Says};
+ghost use Rattle.tml_accept.specs.Taking.{HasTakenAll};
 ghost use Rattle.net_core.specs.Limits.{max_document};
 
 use faults::FaultKind;
 use std::alloc::Global;
-use tml_refs::{Document, resolve};
-use tml_span::reader;
+use tml_refs::{Document, Resolver, resolve};
+use tml_span::{UnitReader, reader};
 use tml_tree::{TagTree, tree_from};
-use tml_types::{Typed, type_tags, type_units};
+use tml_types::{TagReader, Typed, type_tags};
 
 /// The kind and the place of a fault of a document. Out of memory there is none.
 pub type Fault = Option<(FaultKind, u32)>;
 
 /// What a document says that has no fault in any of the five phases: that its bytes are UTF-8 and are cut into units,
-/// that the units nest, that the attributes are right, and the identifiers, references and limits. No tree is built: the
-/// tags are typed as the units are read.
+/// that the units nest, that the attributes are right, and the identifiers, references and limits. No tree is built and no
+/// list of the tags: they are typed as the units are read, and taken as they come.
 ///
 /// # Errors
 ///
@@ -27,11 +28,15 @@ pub fn accept<'s>(alloc: Global, doc: &'s [u8]) -> Result<Document<'s>, Fault>
     ensures ok { IfOk result (Says doc.now) }
     ensures err { IfErr result (λ fault. IfSome fault (λ f. FirstFault doc.now f.0 f.1)) }
 {
-    let typed = match typed(alloc, doc) {
-        Ok(typed) => typed,
+    let units = match reader(doc) {
+        Ok(units) => units,
+        Err(fault) => return Err(Some(fault.kind_and_place())),
+    };
+    let resolver = match resolver(alloc, units) {
+        Ok(resolver) => resolver,
         Err(fault) => return Err(fault),
     };
-    match resolve(alloc, &typed) {
+    match resolver.finish() {
         Ok(document) => Ok(document),
         Err(fault) => Err(fault.kind_and_place()),
     }
@@ -62,19 +67,24 @@ pub fn accepted_tree<'s>(alloc: Global, doc: &'s [u8]) -> Result<TagTree<'s>, Fa
     }
 }
 
-/// The typed tags of a document, or the first fault of its bytes, its units, their nesting or their attributes.
-fn typed<'s>(alloc: Global, doc: &'s [u8]) -> Result<Typed<'s>, Fault>
-    requires { length doc.now ≤ max_document }
-    ensures ok { IfOk result (λ tags. (root : PlainNode) × AreTypedTags doc.now root tags) }
-    ensures err { IfErr result (λ fault. IfSome fault (λ f. FirstFault doc.now f.0 f.1)) }
+/// A resolver that has taken all tags of a reader, which has given no unit.
+fn resolver<'s>(alloc: Global, units: UnitReader<'s>) -> Result<Resolver<'s>, Fault>
+    requires { units.place ≡ 0 }
+    ensures ok { IfOk result (HasTakenAll units.entry.source) }
+    ensures err { IfErr result (λ fault. IfSome fault (λ f. FirstFault units.entry.source f.0 f.1)) }
 {
-    let mut reader = match reader(doc) {
-        Ok(reader) => reader,
-        Err(fault) => return Err(Some(fault.kind_and_place())),
-    };
-    match type_units(alloc, &mut reader) {
-        Ok(typed) => Ok(typed),
-        Err(fault) => Err(fault.kind_and_place()),
+    let mut tags = TagReader::new(alloc, units);
+    let mut resolver = Resolver::new(alloc);
+    loop {
+        match tags.pull(alloc) {
+            Ok(Some(tag)) => {
+                if resolver.take(&tag).is_err() {
+                    return Err(None);
+                }
+            }
+            Ok(None) => return Ok(resolver),
+            Err(fault) => return Err(fault.kind_and_place()),
+        }
     }
 }
 

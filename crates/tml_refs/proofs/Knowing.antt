@@ -16,7 +16,9 @@ use Rattle.tml_types.specs.References as references
 use Rattle.tml_refs.specs.declared.document.DocLink.{DocLink}
 use Rattle.tml_refs.specs.declared.name_index.Entry.{Entry}
 use Rattle.tml_refs.specs.Documents.{IsLinkOf, PlainInterval, RefersTo, instance, interval_of, intervals_of, kind_of, name_of, time}
-use Rattle.tml_refs.specs.Gathering.{IsLinkBy, has_unlisted}
+use Rattle.tml_refs.specs.declared.links.NamedLink.{NamedLink}
+use Rattle.tml_types.specs.View.{end_of}
+use Rattle.tml_refs.specs.Linking.{IsLinked, IsNamedLink}
 use Rattle.tml_refs.specs.NameIndex.{AreEntriesOf, HasNumber, HasIntervalNumber, IsEntryIn, IsEntryOf, IsIndexOf, IsOfIntervals, entry_name, is_for, is_listed, is_unlisted, rank_of}
 use Rattle.tml_refs.specs.Rules.{has_id, is_target, is_unknown}
 use Rattle.tml_refs.proofs.Lists.{any_inside, filter_map_at, passes_at}
@@ -94,8 +96,8 @@ module _ (all : List PlainTyped) (names : List Entry) (known : AreEntriesOf all 
   unlisted_unknown : (r : Reference) → is_unlisted names r ≡ is_unknown all r
   unlisted_unknown r = ap not (same_from_decides (is_listed names r) (list_any (is_target r) all) (listed_target r, target_listed r) (λ e. e, λ e. e))
 
-  pub unknown_by_names : (tag : PlainTyped) → has_unlisted names tag ≡ list_any (is_unknown all) (references_of tag.content)
-  unknown_by_names tag = any_agree (is_unlisted names) (is_unknown all) unlisted_unknown (references_of tag.content)
+  pub unknown_by_names : (refs : List Reference) → list_any (is_unlisted names) refs ≡ list_any (is_unknown all) refs
+  unknown_by_names refs = any_agree (is_unlisted names) (is_unknown all) unlisted_unknown refs
 
   -- ---- numbers of intervals
 
@@ -120,8 +122,8 @@ module _ (all : List PlainTyped) (names : List Entry) (known : AreEntriesOf all 
   index_is = record { each = each_found; only = finds_refers }
 
   -- a link by names is a link of the document
-  pub link_named : (tag : PlainTyped) (link : DocLink) → IsLinkBy names tag link → IsLinkOf (intervals_of all) tag link
-  link_named tag link = elim tag.content as (λ c. IsLinkBy names (with_content tag c) link → IsLinkOf (intervals_of all) (with_content tag c) link) [
-    | content.tlink l ↦ λ h. (finds_refers l.left link.a h.0, h.1, finds_refers l.right link.b h.2)
-    | _ ↦ λ h. absurd h
+  pub link_named : (tag : PlainTyped) (n : NamedLink) (link : DocLink) → IsNamedLink tag n → IsLinked names n link → IsLinkOf (intervals_of all) tag link
+  link_named tag n link = elim tag.content as (λ c. IsNamedLink (with_content tag c) n → IsLinked names n link → IsLinkOf (intervals_of all) (with_content tag c) link) [
+    | content.tlink l ↦ λ is h. (subst (λ (r : Reference). RefersTo (intervals_of all) r link.a) is.1.0 (finds_refers (end_of n.left) link.a h.0), h.1 ∙ is.1.1, subst (λ (r : Reference). RefersTo (intervals_of all) r link.b) is.1.2 (finds_refers (end_of n.right) link.b h.2))
+    | _ ↦ λ is h. absurd is.1
   ]

@@ -1,4 +1,5 @@
 pub mod Heads
+pub mod Placing
 pub mod Orders
 pub mod Searches
 pub mod Indexes
@@ -8,11 +9,13 @@ pub mod Listing
 pub mod Sorting
 pub mod Knowing
 pub mod Repeating
-pub mod Making
-pub mod Ruling
-pub mod Steps
 pub mod Lists
 pub mod Locating
 pub mod Documents
+pub mod Earliest
+pub mod Failing
+pub mod Referring
+pub mod Taken
+pub mod Finishing
 pub mod OneAnswer
 pub mod DocumentOrFault

@@ -7,12 +7,6 @@ use Rattle.std.proofs.lemmas.List.Sums.{sum_by-append}
 
 -- ---- pairs
 
-pub zip_weaker : {A B : Type 0} (R S : A → B → Type 0) → ((x : A) (y : B) → R x y → S x y) → (xs : List A) (ys : List B) → AllZip R xs ys → AllZip S xs ys
-zip_weaker R S w [] [] h = tt
-zip_weaker R S w [] (y ∷ ys) h = absurd h
-zip_weaker R S w (x ∷ xs) [] h = absurd h
-zip_weaker R S w (x ∷ xs) (y ∷ ys) h = (w x y h.0, zip_weaker R S w xs ys h.1)
-
 -- each element of the second list has one of the first
 pub all_paired : {A B : Type 0} (R : A → B → Type 0) (xs : List A) (ys : List B) → AllZip R xs ys → All (λ y. (x : A) × R x y) ys
 all_paired R [] [] h = All-nil _

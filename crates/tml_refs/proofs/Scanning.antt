@@ -1,4 +1,4 @@
--- The first position at which a name is repeated.
+-- The first place at which a name is repeated.
 use Rattle.std.proofs.Common.{◌≡◌, ◌⊎◌, ℕ, suc, zero, ◌+◌, ◌-◌, ◌<◌, ◌≤◌, min, max, Bool, true, false, cond, List, [], ◌∷◌, ◌++◌, length, take, drop, drop-cons, get_or, refl, sym, ap, subst, ◌∙◌, inl, inr, arith, eq-eqb}
 use mathlib.Core.Bool.{true≢false}
 use Rattle.std.specs.List.{Contains, count_by}
@@ -15,10 +15,10 @@ use Rattle.tml_refs.proofs.Runs.{place_in, side_by_side}
 -- Of the first entries, this many: no name is repeated at a position before `first`, a name is repeated there, if it is no end, and `least` is the first position of the entries of this name.
 pub record IsScanned (entries : List Entry) (tags first least i : ℕ) (name : List ℕ) : Type 0 where
   pub at_most : first ≤ tags
-  pub none_before : (e other : Entry) → Contains (take i entries) e → Contains (take i entries) other → entry_name e ≡ entry_name other → e.at < other.at → first ≤ other.at
+  pub none_before : (e other : Entry) → Contains (take i entries) e → Contains (take i entries) other → entry_name e ≡ entry_name other → e.place < other.place → first ≤ other.place
   pub here : first < tags → Repeats entries first
-  pub low : (e : Entry) → Contains (take i entries) e → entry_name e ≡ name → least ≤ e.at
-  pub least_is : (e : Entry) × Contains (take i entries) e × (entry_name e ≡ name) × (e.at ≡ least)
+  pub low : (e : Entry) → Contains (take i entries) e → entry_name e ≡ name → least ≤ e.place
+  pub least_is : (e : Entry) × Contains (take i entries) e × (entry_name e ≡ name) × (e.place ≡ least)
 
 -- ---- positions
 
@@ -33,22 +33,22 @@ count_at p (y ∷ xs) (suc i) d h t = omega (arith, count_at p xs i d (omega (ar
 
 module _ (entries : List Entry) (order : AreInOrder entries) where
   -- an entry before another has another position
-  apart_from : (i : ℕ) (e d : Entry) → i < length entries → Contains (take i entries) e → e.at ≡ (get_or entries i d).at → ⊥
+  apart_from : (i : ℕ) (e d : Entry) → i < length entries → Contains (take i entries) e → e.place ≡ (get_or entries i d).place → ⊥
   apart_from i e d below h same =
-      let test = is_at e.at in
-      let own : test e ≡ true = eq-eqb e.at e.at refl in
-      let its : test (get_or entries i d) ≡ true = eq-eqb (get_or entries i d).at e.at (sym same) in
+      let test = is_at e.place in
+      let own : test e ≡ true = eq-eqb e.place e.place refl in
+      let its : test (get_or entries i d) ≡ true = eq-eqb (get_or entries i d).place e.place (sym same) in
       let stands : test (get_or (take i entries) h.0 e) ≡ true = ap test h.2 ∙ own in
       let before = count_at test (take i entries) h.0 e h.1 stands in
       let after : 1 ≤ count_by test (get_or entries i d ∷ drop (suc i) entries) = count_at test (get_or entries i d ∷ drop (suc i) entries) 0 d (omega arith) its in
       let whole : count_by test entries ≡ count_by test (take i entries) + count_by test (get_or entries i d ∷ drop (suc i) entries) =
       ap (count_by test) (sym (take-append-drop i entries) ∙ ap (λ (xs : List Entry). take i entries ++ xs) (drop-cons entries i d below))
       ∙ sum_by-append (λ (x : Entry). cond (test x) 1 0) (take i entries) (get_or entries i d ∷ drop (suc i) entries) in
-      absurd (omega (arith, before, after, whole, order.apart e.at))
+      absurd (omega (arith, before, after, whole, order.apart e.place))
 
   -- two entries of one name, of which the positions are two
-  repeats_at : (e other : Entry) (place : ℕ) → Contains entries e → Contains entries other → entry_name e ≡ entry_name other → (e.at ≡ other.at → ⊥) → place ≡ max e.at other.at → Repeats entries place
-  repeats_at e other place x y n apart m = elim (cases_lt e.at other.at) [
+  repeats_at : (e other : Entry) (place : ℕ) → Contains entries e → Contains entries other → entry_name e ≡ entry_name other → (e.place ≡ other.place → ⊥) → place ≡ max e.place other.place → Repeats entries place
+  repeats_at e other place x y n apart m = elim (cases_lt e.place other.place) [
     | inl before ↦ (e, other, x, y, n, before, omega (arith, m, before))
     | inr after ↦ (other, e, y, x, sym n, omega (arith, after, apart), omega (arith, m, after))
   ]
@@ -66,8 +66,8 @@ module _ (entries : List Entry) (order : AreInOrder entries) where
   kept_in : (i : ℕ) (e d : Entry) → i < length entries → Contains (take i entries) e → Contains (take (i + 1) entries) e
   kept_in i e d below h = subst (λ (xs : List Entry). Contains xs e) (sym (take_more entries i d below)) (Contains-append_left (take i entries) (get_or entries i d ∷ []) e h)
 
-  at_of : (e other : Entry) → e ≡ other → e.at ≡ other.at
-  at_of e other h = ap (λ (f : Entry). f.at) h
+  place_of : (e other : Entry) → e ≡ other → e.place ≡ other.place
+  place_of e other h = ap (λ (f : Entry). f.place) h
 
   -- ---- one entry more
 
@@ -79,20 +79,20 @@ module _ (entries : List Entry) (order : AreInOrder entries) where
     last = entry_name (get_or entries (i - 1) d)
 
     -- of the name of the last one
-    same_name : (now low : ℕ) → last ≡ entry_name entry → now ≡ min first (max least entry.at) → low ≡ min least entry.at → IsScanned entries tags now low (i + 1) (entry_name entry)
+    same_name : (now low : ℕ) → last ≡ entry_name entry → now ≡ min first (max least entry.place) → low ≡ min least entry.place → IsScanned entries tags now low (i + 1) (entry_name entry)
     same_name now low n f l = record {
       at_most = omega (arith, scanned.at_most, f);
       none_before = λ e other x y same less. elim (one_of i e d below x) [
         | inl old ↦ elim (one_of i other d below y) [
           | inl older ↦ omega (arith, scanned.none_before e other old older same less, f)
-          | inr new ↦ omega (arith, scanned.low e old (same ∙ ap entry_name (sym new) ∙ sym n), at_of entry other new, less, f)
+          | inr new ↦ omega (arith, scanned.low e old (same ∙ ap entry_name (sym new) ∙ sym n), place_of entry other new, less, f)
         ]
         | inr new ↦ elim (one_of i other d below y) [
-          | inl older ↦ omega (arith, scanned.low other older (sym same ∙ ap entry_name (sym new) ∙ sym n), at_of entry e new, less, f)
-          | inr newer ↦ absurd (omega (arith, at_of entry e new, at_of entry other newer, less))
+          | inl older ↦ omega (arith, scanned.low other older (sym same ∙ ap entry_name (sym new) ∙ sym n), place_of entry e new, less, f)
+          | inr newer ↦ absurd (omega (arith, place_of entry e new, place_of entry other newer, less))
         ]
       ];
-      here = λ less. elim (cases_lt (max least entry.at) first) [
+      here = λ less. elim (cases_lt (max least entry.place) first) [
         | inl earlier ↦
             let e = scanned.least_is.0 in
             let stands = scanned.least_is.1 in
@@ -101,9 +101,9 @@ module _ (entries : List Entry) (order : AreInOrder entries) where
       ];
       low = λ e x same. elim (one_of i e d below x) [
         | inl old ↦ omega (arith, scanned.low e old (same ∙ sym n), l)
-        | inr new ↦ omega (arith, at_of entry e new, l)
+        | inr new ↦ omega (arith, place_of entry e new, l)
       ];
-      least_is = elim (cases_lt entry.at least) [
+      least_is = elim (cases_lt entry.place least) [
         | inl lower ↦ (entry, last_of i d below, refl, omega (arith, l, lower))
         | inr higher ↦
             let e = scanned.least_is.0 in
@@ -115,7 +115,7 @@ module _ (entries : List Entry) (order : AreInOrder entries) where
     new_name e other x same = other (sym (side_by_side entries order i e d from below x same) ∙ same)
 
     -- of another name
-    other_name : (low : ℕ) → (last ≡ entry_name entry → ⊥) → low ≡ entry.at → IsScanned entries tags first low (i + 1) (entry_name entry)
+    other_name : (low : ℕ) → (last ≡ entry_name entry → ⊥) → low ≡ entry.place → IsScanned entries tags first low (i + 1) (entry_name entry)
     other_name low n l = record {
       at_most = scanned.at_most;
       none_before = λ e other x y same less. elim (one_of i e d below x) [
@@ -125,13 +125,13 @@ module _ (entries : List Entry) (order : AreInOrder entries) where
         ]
         | inr new ↦ elim (one_of i other d below y) [
           | inl older ↦ absurd (new_name other n older (sym same ∙ ap entry_name (sym new)))
-          | inr newer ↦ absurd (omega (arith, at_of entry e new, at_of entry other newer, less))
+          | inr newer ↦ absurd (omega (arith, place_of entry e new, place_of entry other newer, less))
         ]
       ];
       here = scanned.here;
       low = λ e x same. elim (one_of i e d below x) [
         | inl old ↦ absurd (new_name e n old same)
-        | inr new ↦ omega (arith, at_of entry e new, l)
+        | inr new ↦ omega (arith, place_of entry e new, l)
       ];
       least_is = (entry, last_of i d below, refl, sym l);
     }
@@ -149,11 +149,11 @@ module _ (entries : List Entry) (order : AreInOrder entries) where
         subst (λ (x : Entry). IsScanned entries tags now low (i + 1) (entry_name x)) same h
 
     pub scanned_same : (now low : ℕ) → bytes_eq (entry_name (get_or entries (i - 1) e)) (entry_name (get_or entries i e)) ≡ true
-        → now ≡ min first (max least (get_or entries i e).at) → low ≡ min least (get_or entries i e).at → IsScannedTo tags now low (i + 1)
+        → now ≡ min first (max least (get_or entries i e).place) → low ≡ min least (get_or entries i e).place → IsScannedTo tags now low (i + 1)
     scanned_same now low t f l = moved now low (same_name tags first least i e from below (scanned e) now low ((bytes_eq-Decides _ _).0 t) f l)
 
     pub scanned_other : (now low : ℕ) → bytes_eq (entry_name (get_or entries (i - 1) e)) (entry_name (get_or entries i e)) ≡ false
-        → now ≡ first → low ≡ (get_or entries i e).at → IsScannedTo tags now low (i + 1)
+        → now ≡ first → low ≡ (get_or entries i e).place → IsScannedTo tags now low (i + 1)
     scanned_other now low t f l =
         let other : entry_name (get_or entries (i - 1) e) ≡ entry_name (get_or entries i e) → ⊥ = λ n. true≢false (sym ((bytes_eq-Decides _ _).1 n) ∙ t) in
         moved now low (subst (λ (n : ℕ). IsScanned entries tags n low (i + 1) (entry_name (get_or entries i e))) (sym f) (other_name tags first least i e from below (scanned e) low other l))

@@ -44,7 +44,7 @@ module _ {entries slice : List Entry} {r : Reference} {key : Key} (same : slice 
 
   pub found_listed : (at : ℕ) → at < length slice → IsBinarySearchResult (entry_order key) slice (Ok at) → true ≡ is_listed entries r
   found_listed at below h =
-      let d : Entry = record { key = key; at = 0; number = 0 } in
+      let d : Entry = record { key = key; place = 0; number = 0 } in
       sym (ap (λ (es : List Entry). is_listed es r) (sym same) ∙ list_any_at (is_for r) slice at d below (found at d below h))
 
   pub found_number : (at : ℕ) (d : Entry) → at < length slice → IsBinarySearchResult (entry_order key) slice (Ok at) → HasNumber entries r (get_or slice at d).number

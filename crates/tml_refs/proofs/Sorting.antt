@@ -11,7 +11,7 @@ use Rattle.tml_refs.proofs.Orders.{first_not_less}
 
 -- the order of entries: by their keys, and then by their positions and numbers
 abbrev pub entry_order : Entry → Entry → Ordering
-entry_order x y = ordering_then (key_order x.key y.key) (ordering_then (nat_cmp x.at y.at) (nat_cmp x.number y.number))
+entry_order x y = ordering_then (key_order x.key y.key) (ordering_then (nat_cmp x.place y.place) (nat_cmp x.number y.number))
 
 pub entries_sorted : (tags : List PlainTyped) (xs ys : List Entry) → AreEntriesOf tags xs → IsPermutation xs ys → AreEntriesOf tags ys
 entries_sorted tags xs ys names moved = record {

@@ -3,5 +3,8 @@ pub mod Documents
 pub mod Answers
 pub mod View
 pub mod Counting
+pub mod Firsts
 pub mod NameIndex
-pub mod Gathering
+pub mod Asking
+pub mod Linking
+pub mod Taking

@@ -41,25 +41,29 @@ pub record IsEntryOf (before : List PlainTyped) (tag : PlainTyped) (e : Entry) :
   pub head : e.key.head ≡ head_of (entry_name e)
   pub name : id_of tag.content ≡ Some (entry_name e)
   pub rank : e.key.rank ≡ rank_of (kind_of tag.content)
-  pub at : e.at ≡ length before
+  pub place : e.place ≡ tag.place
   pub number : e.number ≡ length (intervals_of before)
+
+-- an entry is that of a tag after any tags with this many intervals
+abbrev pub IsEntryAfter : ℕ → PlainTyped → Entry → Type 0
+IsEntryAfter number tag e = (before : List PlainTyped) → number ≡ length (intervals_of before) → IsEntryOf before tag e
 
 abbrev pub IsEntryIn : List PlainTyped → Entry → Type 0
 IsEntryIn tags e =
     (before after : List PlainTyped) × (tag : PlainTyped) × (tags ≡ before ++ tag ∷ after) × IsEntryOf before tag e
 
 abbrev pub is_at : ℕ → Entry → Bool
-is_at position e = e.at == position
+is_at place e = e.place == place
 
 abbrev pub HasEntry : List Entry → List PlainTyped → PlainTyped → Type 0
 HasEntry entries before tag = (e : Entry) × Contains entries e × IsEntryOf before tag e
 
--- Each tag that has an identifier has an entry, each entry is that of a tag, and no two have one position.
+-- Each tag that has an identifier has an entry, each entry is that of a tag, and no two have one place.
 pub record AreEntriesOf (tags : List PlainTyped) (entries : List Entry) : Type 0 where
   pub each : (before after : List PlainTyped) (tag : PlainTyped)
       → tags ≡ before ++ tag ∷ after → IsSome (id_of tag.content) → HasEntry entries before tag
   pub only : All (IsEntryIn tags) entries
-  pub apart : (position : ℕ) → count_by (is_at position) entries ≤ 1
+  pub apart : (place : ℕ) → count_by (is_at place) entries ≤ 1
 
 -- ---- the order
 
@@ -73,24 +77,24 @@ key_of e = e.key
 abbrev pub HasHead : Entry → Type 0
 HasHead e = e.key.head ≡ head_of (entry_name e)
 
--- Entries are ordered by their keys, the head of each is that of its name, and no two have one position.
+-- Entries are ordered by their keys, the head of each is that of its name, and no two have one place.
 pub record AreInOrder (entries : List Entry) : Type 0 where
   pub sorted : IsSortedByKey key_of key_order entries
   pub heads : All HasHead entries
-  pub apart : (position : ℕ) → count_by (is_at position) entries ≤ 1
+  pub apart : (place : ℕ) → count_by (is_at place) entries ≤ 1
 
 -- ---- what entries say
 
--- the tag at a position has the name of a tag before it
+-- the tag at a place has the name of a tag before it
 abbrev pub Repeats : List Entry → ℕ → Type 0
-Repeats entries position =
+Repeats entries place =
     (e other : Entry) × Contains entries e × Contains entries other
-    × (entry_name e ≡ entry_name other) × (e.at < other.at) × (other.at ≡ position)
+    × (entry_name e ≡ entry_name other) × (e.place < other.place) × (other.place ≡ place)
 
--- the first position before an end at which a name is repeated, or the end where there is none
+-- the first place before an end at which a name is repeated, or the end where there is none
 pub record IsFirstRepeat (entries : List Entry) (end first : ℕ) : Type 0 where
   pub at_most : first ≤ end
-  pub none_before : (position : ℕ) → Repeats entries position → first ≤ position
+  pub none_before : (place : ℕ) → Repeats entries place → first ≤ place
   pub here : first < end → Repeats entries first
 
 -- an entry is that of a tag that a reference asks for

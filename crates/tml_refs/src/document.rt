@@ -1,6 +1,6 @@
 //! The intervals and links of a document, and the names of its intervals.
 ghost use Rattle.std.specs.List.{slice_get};
-ghost use Rattle.std.specs.Prelude.{◌≡◌, ◌<◌, ℕ, length, Some, IfSome, IsNone};
+ghost use Rattle.std.specs.Prelude.{◌≡◌, ◌+◌, ◌<◌, ◌^◌, ℕ, length, Some, IfSome, IsNone};
 ghost use Rattle.tml_refs.specs.Counting.{AreFew, IsOneMore};
 ghost use Rattle.tml_refs.specs.Documents.{IsDocument, IsNamed, name_of};
 ghost use Rattle.tml_refs.specs.View.{plain_interval};
@@ -34,6 +34,14 @@ impl Counts {
         alinks: 0,
         slinks: 0,
     };
+
+    /// How many tags are intervals.
+    pub(crate) fn intervals(&self) -> u32
+        requires { self.now.instances + self.now.timex < 2 ^ 32 }
+        ensures { result ≡ self.now.instances + self.now.timex }
+    {
+        self.instances + self.timex
+    }
 
     /// Counts a tag of this kind.
     pub(crate) fn add(&mut self, kind: TagKind)

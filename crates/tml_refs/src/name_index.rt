@@ -1,16 +1,18 @@
 //! The names of a document: which tags have which identifiers.
 ghost use Rattle.std.specs.Option.{is_some, is_none};
 ghost use Rattle.std.specs.List.{list_any};
-ghost use Rattle.std.specs.Prelude.{◌≡◌, ◌<◌, ◌^◌, length, map, IfOk, IfSome};
+ghost use Rattle.std.specs.Prelude.{◌≡◌, List as ListOf, None, IfSome, IsNone};
+ghost use Rattle.tml_refs.specs.Firsts.{bound, nowhere};
 ghost use Rattle.tml_refs.specs.NameIndex as index;
-ghost use Rattle.tml_refs.specs.NameIndex.{AreEntriesOf, HasNumber, HasIntervalNumber, IsFirstRepeat, IsKeyOf, is_either_unlisted, is_listed, is_unlisted};
-ghost use Rattle.tml_refs.specs.Rules as rules;
-ghost use Rattle.tml_types.specs.References.{optional_reference, reference};
+ghost use Rattle.tml_refs.specs.NameIndex.{AreEntriesOf, HasIntervalNumber, HasNumber, IsEntryAfter, IsFirstRepeat};
+ghost use Rattle.tml_refs.specs.NameIndex.{IsKeyOf, is_either_unlisted, is_listed, is_unlisted};
+ghost use Rattle.tml_types.specs.Content.{PlainTyped};
+ghost use Rattle.tml_types.specs.References.{id_of, optional_reference, reference};
 ghost use Rattle.tml_types.specs.View.{end_of, text_of, typed_of};
 
 use crate::document::DocLink;
-use net_core::{Memory, Rel};
-use std::alloc::Global;
+use crate::firsts::earlier;
+use net_core::{List, Rel};
 use std::marker::Model;
 use tml_types::{LinkEnd, TagKind, TypedTag};
 
@@ -57,8 +59,8 @@ fn rank_of(kind: TagKind) -> u8
 #[derive(Clone, Copy, PartialEq, Eq, PartialOrd, Ord)]
 pub struct Entry<'s> {
     key: Key<'s>,
-    /// How many tags stand before it.
-    at: u32,
+    /// Where it begins.
+    place: u32,
     /// How many intervals stand before it. Where it is an interval, this is its number.
     number: u32,
 }
@@ -82,37 +84,34 @@ impl<'s> Model for NameIndex<'s> {
 }
 
 impl<'s> NameIndex<'s> {
-    /// The names of some tags, in n log n for n tags.
-    pub fn of_tags(alloc: Global, tags: &[TypedTag<'s>]) -> Result<NameIndex<'s>, Memory>
-        requires { length tags.now < 2 ^ 32 }
-        ensures { IfOk result (AreEntriesOf (map typed_of tags.now)) }
+    /// The names of some tags by their entries, in n log n for n entries.
+    pub fn new(entries: List<Entry<'s>>) -> NameIndex<'s>
+        requires { (tags : ListOf PlainTyped) × AreEntriesOf tags entries }
+        ensures { (tags : ListOf PlainTyped) → AreEntriesOf tags entries.entry → AreEntriesOf tags result }
     {
-        let Ok(mut entries) = entries_of(alloc, tags) else {
-            return Err(Memory);
-        };
+        let mut entries = entries.into_vec();
         entries.sort_unstable();
-        Ok(NameIndex { entries })
+        NameIndex { entries }
     }
 
-    /// The first position in the list of tags at which a tag has the identifier of a tag before it, or the number of
-    /// tags where there is none.
-    pub fn first_repeat(&self, tags: usize) -> usize
-        ensures { IsFirstRepeat self.now tags result }
+    /// The first place at which a tag begins that has the identifier of a tag before it.
+    pub fn first_repeat(&self) -> Option<u32>
+        ensures { IsFirstRepeat self.now nowhere (bound result) }
     {
         let entries = self.entries.as_slice();
         let [entry, ..] = entries else {
-            return tags;
+            return None;
         };
-        let mut first = tags;
-        // The first position of a tag that has the identifier of the last entry.
-        let mut least = entry.at as usize;
+        let mut first = None;
+        // The first place of a tag that has the identifier of the last entry.
+        let mut least = entry.place;
         for i in 1..entries.len() {
-            let at = entries[i].at as usize;
+            let place = entries[i].place;
             if entries[i - 1].key.name == entries[i].key.name {
-                first = first.min(least.max(at));
-                least = least.min(at);
+                first = earlier(first, Some(least.max(place)));
+                least = least.min(place);
             } else {
-                least = at;
+                least = place;
             }
         }
         first
@@ -173,35 +172,15 @@ impl<'s> NameIndex<'s> {
     }
 }
 
-/// An entry for each tag that has an identifier.
-fn entries_of<'s>(alloc: Global, tags: &[TypedTag<'s>]) -> Result<Vec<Entry<'s>>, Memory>
-    requires { length tags.now < 2 ^ 32 }
-    ensures { IfOk result (λ entries. AreEntriesOf (map typed_of tags.now) entries.items) }
+/// The entry of a tag that stands after this many intervals, where it has an identifier.
+pub fn entry_of<'s>(tag: &TypedTag<'s>, number: u32) -> Option<Entry<'s>>
+    ensures some { IfSome result (IsEntryAfter number (typed_of tag.now)) }
+    ensures none { IsNone result → id_of (typed_of tag.now).content ≡ None }
 {
-    let Ok(mut entries) = Vec::with_capacity(alloc, tags.len()) else {
-        return Err(Memory);
-    };
-    let mut number = 0;
-    for (at, tag) in tags.iter().enumerate() {
-        if let Some(name) = tag.id() {
-            let key = Key::new(tag.kind(), name);
-            let entry = Entry {
-                key,
-                at: at as u32,
-                number,
-            };
-            if entries.push(entry).is_err() {
-                return Err(Memory);
-            }
-        }
-        number += u32::from(is_interval(tag));
-    }
-    Ok(entries)
-}
-
-/// The tag stands for an interval of time.
-fn is_interval(tag: &TypedTag<'_>) -> bool
-    ensures { result ≡ rules.is_interval (typed_of tag.now) }
-{
-    matches!(tag, TypedTag::Instance { .. } | TypedTag::Timex { .. })
+    let name = tag.id()?;
+    Some(Entry {
+        key: Key::new(tag.kind(), name),
+        place: tag.place(),
+        number,
+    })
 }

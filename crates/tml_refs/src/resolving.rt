@@ -4,9 +4,8 @@ ghost use Rattle.tml_refs.specs.Documents.{Resolved};
 ghost use Rattle.tml_refs.specs.Rules as rules;
 ghost use Rattle.tml_refs.specs.Rules.{HasFault};
 
-use crate::contents::Contents;
 use crate::document::Document;
-use crate::name_index::NameIndex;
+use crate::resolver::Resolver;
 use faults::FaultKind;
 use std::alloc::Global;
 use tml_types::Typed;
@@ -41,7 +40,7 @@ impl RefFault {
     }
 }
 
-/// Resolves the references of typed tags.
+/// Resolves the references of typed tags, which are taken one by one.
 ///
 /// # Errors
 ///
@@ -51,17 +50,11 @@ pub fn resolve<'s>(alloc: Global, typed: &Typed<'s>) -> Result<Document<'s>, Ref
     ensures ok { IfOk result (λ d. Resolved typed.now d) }
     ensures err { IfErr result (λ e. HasFault typed.now e) }
 {
-    let tags = typed.as_slice();
-    let Ok(names) = NameIndex::of_tags(alloc, tags) else {
-        return Err(RefFault::Memory);
-    };
-    let repeat = names.first_repeat(tags.len());
-    let mut contents = Contents::new(alloc);
-    for (at, tag) in tags.iter().enumerate() {
-        if at == repeat {
-            return Err(RefFault::DuplicateId { place: tag.place() });
+    let mut resolver = Resolver::new(alloc);
+    for tag in typed.as_slice() {
+        if resolver.take(tag).is_err() {
+            return Err(RefFault::Memory);
         }
-        contents.add(&names, tag)?;
     }
-    Ok(Document { contents, names })
+    resolver.finish()
 }

@@ -1,5 +1,5 @@
 -- One tag more, with its typed tag or without one.
-use Rattle.std.proofs.Common.{◌≡◌, ℕ, Bool, true, false, cond, List, [], ◌∷◌, ◌++◌, codes, refl, sym, ap, ◌∙◌}
+use Rattle.std.proofs.Common.{◌≡◌, ℕ, Bool, true, false, cond, List, [], ◌∷◌, ◌++◌, codes, sym, ap, ◌∙◌, Some, None}
 use Rattle.std.specs.List.{AllZip, list_any}
 use Rattle.std.proofs.lemmas.List.{append-nil}
 use Rattle.std.proofs.lemmas.List.Elements.{All-nil, All-cons}
@@ -19,7 +19,7 @@ use Rattle.tml_types.specs.Rules.{IsSound, is_bad, is_conflict, is_missing, is_r
 use Rattle.tml_types.specs.Table.{Row, rows_at, rows_of}
 use Rattle.tml_types.specs.Typing.{TypedAs}
 use Rattle.tml_types.specs.View.{typed_of}
-use Rattle.tml_types.specs.Walking.{Adds, Reads, tag_at}
+use Rattle.tml_types.specs.Walking.{Adds, Reads, Yields, tag_at}
 use Rattle.tml_types.specs.Whole.{AreTyped, has_rows}
 use Rattle.tml_types.proofs.OneRule.{known, rows_known, sound_by, read_sound, read_typed}
 
@@ -49,26 +49,29 @@ no_timex_row name e n = cons_nil _ _ (sym (ap rows_of (texts_tell text_of all_ta
 
 module _ (name : TagName) (attrs : List Attribute) (place : ℕ) where
   -- a tag without rows has no typed tag
-  pub adds_none : (old : List TypedTag) → is_repeated attrs ≡ false → rows_of name ≡ [] → Adds (tag_at place name attrs ∷ []) old old
-  adds_none old r e =
+  pub yields_none : is_repeated attrs ≡ false → rows_of name ≡ [] → Yields (tag_at place name attrs) None
+  yields_none r e =
       let sound = sound_by name attrs place r (ap (list_any (is_missing attrs)) e) (ap (list_any (is_bad attrs)) e) (ap (list_any (is_conflict attrs)) e) (λ b. no_timex_row name e b.0) in (
-        [],
         record {
           sound = All-cons IsSound (tag_at place name attrs) [] sound (All-nil IsSound);
           typed_tags = typed_alone (tag_at place name attrs) [] false (ap any_row (rows_known name ∙ e)) tt;
         },
         All-nil IsPlaceSmall,
-        sym (append-nil old),
       )
 
   -- another has the one that is read
-  pub adds_one : (old : List TypedTag) (t : TypedTag) → is_repeated attrs ≡ false → Reads name attrs place (typed_of t) → Adds (tag_at place name attrs ∷ []) old (old ++ t ∷ [])
-  adds_one old t r h = (
-    t ∷ [],
+  pub yields_one : (t : TypedTag) → is_repeated attrs ≡ false → Reads name attrs place (typed_of t) → Yields (tag_at place name attrs) (Some t)
+  yields_one t r h = (
     record {
       sound = All-cons IsSound (tag_at place name attrs) [] (read_sound name attrs place (typed_of t) r h) (All-nil IsSound);
       typed_tags = typed_alone (tag_at place name attrs) (typed_of t ∷ []) true (ap (λ (n : List ℕ). any_row (rows_at n)) h.kind ∙ kind_rows (kind_of (typed_of t).content)) (read_typed name attrs place (typed_of t) h, tt);
     },
     All-cons IsPlaceSmall (typed_of t) [] h.small (All-nil IsPlaceSmall),
-    refl,
   )
+
+-- what a tag yields is added
+pub adds_one : (tag : PlainTag) (old new : List TypedTag) (t : TypedTag) → Yields tag (Some t) → new ≡ old ++ t ∷ [] → Adds (tag ∷ []) old new
+adds_one tag old new t h e = (t ∷ [], h.0, h.1, e)
+
+pub adds_none : (tag : PlainTag) (old new : List TypedTag) → Yields tag None → new ≡ old → Adds (tag ∷ []) old new
+adds_none tag old new h e = ([], h.0, h.1, e ∙ sym (append-nil old))

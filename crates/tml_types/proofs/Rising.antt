@@ -2,11 +2,12 @@
 use Rattle.std.proofs.Common.{◌≡◌, ℕ, suc, true, false, cond, ◌+◌, ◌<◌, ◌≤◌, ◌^◌, List, [], ◌∷◌, ◌++◌, length, map, ap, ◌∙◌, length-append, arith, rules, codes, All, subst, Some, None}
 use Rattle.std.specs.Option.{IfSome}
 use Rattle.std.specs.List.{AllZip, filter}
-use Rattle.std.proofs.lemmas.List.Elements.{All-nil, All-cons, All-head, All-tail}
+use Rattle.std.proofs.lemmas.List.Elements.{All-nil, All-cons, All-head, All-tail, filter_map-append}
+use Rattle.std.proofs.lemmas.List.{map-append}
 use Rattle.tml_span.specs.Cutting.{CutsFrom}
 use Rattle.tml_span.specs.Units.{Attribute, Kind, PlainUnit, SpelledTag, Spelled, bom, declaration, doctype, comment, text, start_tag, end_tag, empty_tag}
 use Rattle.tml_tree.specs.Plain.{PlainNode, unit}
-use Rattle.tml_tree.specs.Walking.{PlainTag, elements, tags_of}
+use Rattle.tml_tree.specs.Walking.{PlainTag, elements, tag_of, tags_of}
 use Rattle.tml_tree.specs.Whole.{IsTreeOf}
 use Rattle.tml_tree.proofs.Elements.{elements_are_tags}
 use Rattle.tml_types.specs.Content.{PlainTyped}
@@ -87,10 +88,23 @@ spaced_few low high (t ∷ ts) h k f =
 half : (n high : ℕ) → 0 + (n + n) ≤ high + 1 → 1 < high → n < high
 half n high h k = omega arith
 
-pub tree_placed : (source : List ℕ) (root : PlainNode) (typed : List PlainTyped) → IsTreeOf source root → AreTyped (elements root) typed → All IsPlaceSmall typed → ArePlaced typed
-tree_placed source root typed t a f =
-    let spaced = typed_spaced 0 (filter has_rows (elements root)) typed a (filter_spaced 0 (elements root) (tree_spaced source root t)) in
+spaced_placed : (tags : List PlainTag) (typed : List PlainTyped) → Spaced 0 (map at tags) → AreTyped tags typed → All IsPlaceSmall typed → ArePlaced typed
+spaced_placed tags typed s a f =
+    let spaced = typed_spaced 0 (filter has_rows tags) typed a (filter_spaced 0 tags s) in
     record { rising = spaced_rises 0 (map place_of typed) spaced; small = f; few = half (length typed) (2 ^ 32) (spaced_few 0 (2 ^ 32) typed spaced (search rules) f) (search rules) }
+
+pub tree_placed : (source : List ℕ) (root : PlainNode) (typed : List PlainTyped) → IsTreeOf source root → AreTyped (elements root) typed → All IsPlaceSmall typed → ArePlaced typed
+tree_placed source root typed t a f = spaced_placed (elements root) typed (tree_spaced source root t) a f
+
+spaced_prefix : (low : ℕ) (ns ms : List ℕ) → Spaced low (ns ++ ms) → Spaced low ns
+spaced_prefix low [] ms h = tt
+spaced_prefix low (n ∷ ns) ms h = (h.0, spaced_prefix (n + 2) ns ms h.1)
+
+-- the same of the first units of a source
+pub units_placed : (source : List ℕ) (given left : List PlainUnit) (typed : List PlainTyped) → CutsFrom 0 source (given ++ left) [] → AreTyped (tags_of given) typed → All IsPlaceSmall typed → ArePlaced typed
+units_placed source given left typed c a f =
+    let parts : map at (tags_of (given ++ left)) ≡ map at (tags_of given) ++ map at (tags_of left) = ap (map at) (filter_map-append tag_of given left) ∙ map-append at (tags_of given) (tags_of left) in
+    spaced_placed (tags_of given) typed (spaced_prefix 0 (map at (tags_of given)) (map at (tags_of left)) (subst (Spaced 0) parts (cut_spaced 0 source (given ++ left) [] c))) a f
 
 -- ---- the first tag at fault is the one at the least place
 

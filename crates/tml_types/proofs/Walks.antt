@@ -1,5 +1,6 @@
 -- Typed tags and faults of tags one after another.
-use Rattle.std.proofs.Common.{◌≡◌, ℕ, suc, ◌+◌, ◌<◌, add-one, drop-cons, drop, get_or, length, List, ◌∷◌, ◌++◌, map, sym, ap, ◌∙◌, append_assoc, Some, None, All}
+use Rattle.std.proofs.Common.{◌≡◌, ℕ, suc, ◌+◌, ◌<◌, add-one, drop-cons, drop, get_or, length, List, ◌∷◌, ◌++◌, map, sym, ap, ◌∙◌, append_assoc, Some, None, All, Result, Ok, Err, OnOk, false}
+use Rattle.std.specs.Result.{is_err}
 use Rattle.std.specs.List.{filter}
 use Rattle.std.specs.Option.{IfSome}
 use Rattle.std.proofs.lemmas.List.{map-append}
@@ -26,7 +27,7 @@ use Rattle.tml_types.specs.View.{typed_of}
 use Rattle.tml_types.specs.Walking.{Adds, tag_at}
 use Rattle.tml_types.specs.Whole.{FaultAt, HasFault, Types, has_rows, kind_and_place, place_of}
 
-types_append : (tags others : List PlainTag) (ts us : List PlainTyped) → Types tags ts → Types others us → Types (tags ++ others) (ts ++ us)
+pub types_append : (tags others : List PlainTag) (ts us : List PlainTyped) → Types tags ts → Types others us → Types (tags ++ others) (ts ++ us)
 types_append tags others ts us h k = record {
   sound = All-append IsSound tags others h.sound k.sound;
   typed_tags = rw (filter-append has_rows tags others) (zip_append TypedAs (filter has_rows tags) (filter has_rows others) ts us h.typed_tags k.typed_tags);
@@ -37,6 +38,11 @@ pub adds_more : (tags others : List PlainTag) (a b c : List TypedTag) → Adds t
 adds_more tags others a b c h k =
     let both : map typed_of (h.0 ++ k.0) ≡ map typed_of h.0 ++ map typed_of k.0 = map-append typed_of h.0 k.0 in
     (h.0 ++ k.0, rw both (types_append tags others (map typed_of h.0) (map typed_of k.0) h.1 k.1), rw both (All-append IsPlaceSmall (map typed_of h.0) (map typed_of k.0) h.2 k.2), k.3 ∙ ap (λ (ts : List TypedTag). ts ++ k.0) h.3 ∙ append_assoc a h.0 k.0)
+
+-- what is said of a result that is no error
+pub when_ok : {T E P : Type 0} (r : Result T E) → false ≡ is_err r → OnOk r P → P
+when_ok (Ok x) e h = h
+when_ok (Err x) e h = absurd cc
 
 -- the first fault of some tags is that of more, where those before them have none
 pub fault_of_more : (before tags after all : List PlainTag) (fault : TypeFault) → before ++ tags ++ after ≡ all → All IsSound before → HasFault tags fault → HasFault all fault

@@ -11,4 +11,4 @@ pub mod Whole
 pub mod Answers
 pub mod Reading
 pub mod Walking
-pub mod Pulled
+pub mod TagReader

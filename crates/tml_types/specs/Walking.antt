@@ -1,5 +1,6 @@
 -- How the tags of a tree are typed, one after another: what the private contracts say.
-use Rattle.std.specs.Prelude.{◌≡◌, ℕ, true, false, List, ◌++◌, map, codes}
+use Rattle.std.specs.Prelude.{◌≡◌, ℕ, true, false, List, [], ◌∷◌, ◌++◌, map, codes, Option}
+use Rattle.std.specs.Option.{option_to_list}
 use Rattle.std.specs.List.{All, list_any}
 use Rattle.tml_span.specs.Units.{Attribute}
 use Rattle.tml_tree.specs.declared.tag_name.TagName.{TagName}
@@ -65,6 +66,10 @@ Refuses name attrs place (faults.BadDate at) =
     × (name ≡ tag.Timex3)
     × IsNoDate (value_of (codes "value") attrs)
 Refuses name attrs place fault = ⊥
+
+-- a tag breaks no rule, and this is its typed tag, if it has one
+abbrev pub Yields : PlainTag → Option TypedTag → Type 0
+Yields tag t = Types (tag ∷ []) (map typed_of (option_to_list t)) × All IsPlaceSmall (map typed_of (option_to_list t))
 
 -- the typed tags of some tags are added, and none of these tags breaks a rule
 abbrev pub Adds : List PlainTag → List TypedTag → List TypedTag → Type 0

@@ -2,13 +2,12 @@
 //! first, then what each value may be, then that not both of a pair are there, and last whether a date exists. The tags
 //! of each kind are typed by a function that is kept out of line, since in one frame they would pay for each other's
 //! values.
-ghost use Rattle.std.specs.Prelude.{◌≡◌, [], ◌∷◌, map, true, false, IfOk, IfErr, IfSome, IsNone, OnOk};
+ghost use Rattle.std.specs.Prelude.{◌≡◌, [], ◌∷◌, IfOk, IfErr, IfSome, IsNone};
 ghost use Rattle.tml_tree.specs.declared.tag_name.TagName.TheVariants as tag;
 ghost use Rattle.tml_types.specs.Reading.{attrs_of};
-ghost use Rattle.tml_types.specs.Rules as rules;
 ghost use Rattle.tml_types.specs.Table.{rows_of};
 ghost use Rattle.tml_types.specs.View.{typed_of};
-ghost use Rattle.tml_types.specs.Walking.{Adds, Reads, Refuses, name_of, tag_at};
+ghost use Rattle.tml_types.specs.Walking.{Reads, Refuses, Yields, name_of, tag_at};
 ghost use Rattle.tml_types.specs.Whole.{HasFault};
 
 use crate::attributes::Attributes;
@@ -18,7 +17,7 @@ use crate::{AspectRel, EventClass, SubRel, TypeFault};
 use net_core::Rel;
 use std::alloc::Global;
 use timex_value::TimexKind;
-use tml_span::{List, Memory};
+use tml_span::Memory;
 use tml_tree::TagName;
 
 #[inline(never)]
@@ -197,6 +196,7 @@ fn kind_named(name: TagName) -> Option<TagKind>
 }
 
 /// The typed tag of a tag of this kind that repeats no name of an attribute.
+#[inline(always)]
 fn typed_tag<'s>(kind: TagKind, of: &Attributes<'_, 's>) -> Result<TypedTag<'s>, TypeFault>
     ensures ok { IfOk result (λ t. Reads (name_of kind) (attrs_of of.now) of.now.place (typed_of t)) }
     ensures err { IfErr result (λ e. Refuses (name_of kind) (attrs_of of.now) of.now.place e) }
@@ -212,33 +212,15 @@ fn typed_tag<'s>(kind: TagKind, of: &Attributes<'_, 's>) -> Result<TypedTag<'s>,
     }
 }
 
-/// Appends the typed tag of a tag of this kind that repeats no name of an attribute. A typed tag is large, so this is
-/// kept apart from the way of the tags that have none.
-#[inline(never)]
-fn type_kind<'s>(
-    kind: TagKind,
-    of: &Attributes<'_, 's>,
-    typed: &mut List<TypedTag<'s>>,
-) -> Result<(), TypeFault>
-    requires { rules.is_repeated (attrs_of of.now) ≡ false }
-    ensures ok { OnOk result (Adds (tag_at of.now.place (name_of kind) (attrs_of of.now) ∷ []) typed.old typed.new) }
-    ensures err { IfErr result (λ e. HasFault (tag_at of.now.place (name_of kind) (attrs_of of.now) ∷ []) e) }
-{
-    let tag = typed_tag(kind, of)?;
-    match typed.push(tag) {
-        Ok(()) => Ok(()),
-        Err(Memory) => Err(TypeFault::Memory),
-    }
-}
-
-/// Appends the typed tag of a tag of this name, where it has one.
+/// The typed tag of a tag of this name, where it has one. A typed tag is large, and each call that hands it on copies it,
+/// so this one and `typed_tag` stand in their callers.
+#[inline(always)]
 pub fn type_one<'s>(
     alloc: Global,
     name: TagName,
     of: Attributes<'_, 's>,
-    typed: &mut List<TypedTag<'s>>,
-) -> Result<(), TypeFault>
-    ensures ok { OnOk result (Adds (tag_at of.entry.place name (attrs_of of.entry) ∷ []) typed.old typed.new) }
+) -> Result<Option<TypedTag<'s>>, TypeFault>
+    ensures ok { IfOk result (λ t. Yields (tag_at of.entry.place name (attrs_of of.entry)) t) }
     ensures err { IfErr result (λ e. HasFault (tag_at of.entry.place name (attrs_of of.entry) ∷ []) e) }
 {
     let place = of.place;
@@ -248,7 +230,7 @@ pub fn type_one<'s>(
         Err(Memory) => return Err(TypeFault::Memory),
     }
     match kind_named(name) {
-        Some(kind) => type_kind(kind, &of, typed),
-        None => Ok(()),
+        Some(kind) => Ok(Some(typed_tag(kind, &of)?)),
+        None => Ok(None),
     }
 }

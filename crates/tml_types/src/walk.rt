@@ -121,7 +121,11 @@ fn type_tag<'s>(
         place: tag.span.start,
         attrs: tag.attrs.as_slice(),
     };
-    type_one(alloc, tag.name, of, typed)?;
+    if let Some(own) = type_one(alloc, tag.name, of)? {
+        if typed.push(own).is_err() {
+            return Err(TypeFault::Memory);
+        }
+    }
     for child in &tag.children {
         type_node(alloc, child, typed)?;
     }

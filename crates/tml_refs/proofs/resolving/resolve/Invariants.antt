@@ -1,6 +1,8 @@
-use Rattle.tml_refs.specs.View.{document_of}
-use Rattle.tml_refs.proofs.Steps.{HasRead}
+use Rattle.std.proofs.Common.{map, take}
+use Rattle.tml_types.specs.View.{typed_of}
+use Rattle.tml_refs.specs.Taking.{HasTaken}
 use Rattle.tml_refs.proofs.resolving.resolve.Given as goal
 
-abbrev pub invariant-loop-at : goal.invariant-loop-at
-invariant-loop-at l = HasRead l.typed l.tags l.repeat l.at (document_of l.contents)
+-- the tags so far were taken
+abbrev pub invariant-loop-tag : goal.invariant-loop-tag
+invariant-loop-tag l = HasTaken (map typed_of (take l.tag-index l.tag-items)) l.resolver

@@ -1,5 +1,6 @@
 use Rattle.std.proofs.Common.{◌∙◌, List, sym, ap, subst, min, arith}
 use Rattle.tml_refs.specs.declared.name_index.Entry.{Entry}
+use Rattle.tml_refs.specs.Firsts.{bound, nowhere}
 use Rattle.tml_refs.specs.NameIndex.{AreInOrder, IsFirstRepeat}
 use Rattle.tml_refs.proofs.Scanning.{scanned_other, scanned_same, scanned_to_end}
 use Rattle.tml_refs.proofs.name_index.NameIndex.first_repeat.Goals as goal
@@ -13,8 +14,8 @@ loop-i-preserved c =
     record {
       from = omega arith;
       scanned = elim c.if-eq.branch [
-        | then-eq w ↦ scanned_same slice.result.now order c.args.tags loop.first loop.least loop.i _ loop.invariant.from c.loop-i-test.true loop.invariant.scanned c.if-eq.first c.if-eq.least (sym c.eq.ensures ∙ w.if-eq.true) (w.first-is ∙ w.min-first.ensures ∙ ap (λ n. min loop.first n) w.max.ensures) (w.least-is ∙ w.min-least.ensures)
-        | else-eq w ↦ scanned_other slice.result.now order c.args.tags loop.first loop.least loop.i _ loop.invariant.from c.loop-i-test.true loop.invariant.scanned c.if-eq.first c.if-eq.least (sym c.eq.ensures ∙ w.if-eq.false) w.first-is w.least-is
+        | then-eq w ↦ scanned_same slice.result.now order nowhere (bound loop.first) loop.least loop.i _ loop.invariant.from c.loop-i-test.true loop.invariant.scanned (bound c.if-eq.first) c.if-eq.least (sym c.eq.ensures ∙ w.if-eq.true) (ap bound w.first-is ∙ w.earlier-first.ensures ∙ ap (λ n. min (bound loop.first) n) w.max.ensures) (w.least-is ∙ w.min-least.ensures)
+        | else-eq w ↦ scanned_other slice.result.now order nowhere (bound loop.first) loop.least loop.i _ loop.invariant.from c.loop-i-test.true loop.invariant.scanned (bound c.if-eq.first) c.if-eq.least (sym c.eq.ensures ∙ w.if-eq.false) (ap bound w.first-is) w.least-is
       ];
     }
 
@@ -22,5 +23,5 @@ pub returns : goal.returns
 returns c =
     let slice = c.as_slice-entries in
     let loop = c.loop-i in
-    subst (λ (entries : List Entry). IsFirstRepeat entries c.args.tags loop.first) (slice.ensures.value ∙ c.self.view_is)
-    (scanned_to_end slice.result.now c.args.tags loop.first loop.least loop.i c.in-len1-up.len_at_least c.loop-i-test.false loop.invariant.scanned)
+    subst (λ (entries : List Entry). IsFirstRepeat entries nowhere (bound loop.first)) (slice.ensures.value ∙ c.self.view_is)
+    (scanned_to_end slice.result.now nowhere (bound loop.first) loop.least loop.i c.in-len1-up.len_at_least c.loop-i-test.false loop.invariant.scanned)

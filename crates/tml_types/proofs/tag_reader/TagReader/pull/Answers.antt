@@ -1,0 +1,86 @@
+use Rattle.std.proofs.Common.{◌∷◌, ◌++◌, [], List, Some, option_map, sym, ap, ◌∙◌, arith}
+use Rattle.tml_span.specs.View.{unit_of}
+use Rattle.tml_tree.specs.Walking.{PlainTag, tag_of}
+use Rattle.tml_types.specs.TagReader.{AreTypedSo, begun_tag}
+use Rattle.tml_types.specs.View.{typed_of}
+use Rattle.tml_types.specs.Whole.{HasFault}
+use Rattle.tml_types.proofs.Pulling.{fault_comes, fewer_left, given_placed, no_tag, reads_on, typed_more, typed_same, unclosed_read, unit_fault, whole_read}
+use Rattle.tml_types.proofs.tag_reader.TagReader.pull.Goals as goal
+use Rattle.tml_types.proofs.tag_reader.TagReader.pull.Goals.{in-Some+in-Ok-None-type_one, in_default}
+
+pub returns-in-Ok-clause-gives : goal.returns-in-Ok-clause-gives
+returns-in-Ok-clause-gives c = λ source typed given.
+    let gives = rw c.in-Ok-None.field-0-is at c.in-Ok-None.ensures.gives in
+    let tree = whole_read c.loop-unit.self (c.loop-unit.invariant.stays source typed given) c.pull.new.self gives c.in-Ok.ensures.ok in
+    (tree.0, tree.1, tree.2.0)
+
+pub returns-in-Err-end-clause-gives : goal.returns-in-Err-end-clause-gives
+returns-in-Err-end-clause-gives c = λ source typed given.
+    let gives = rw c.in-Ok-None.field-0-is at c.in-Ok-None.ensures.gives in
+    rw c.in-Err-end.ensures.err.0 (unclosed_read c.loop-unit.self (c.loop-unit.invariant.stays source typed given) c.pull.new.self gives c.in-Err-end.ensures.err.1)
+
+pub returns-in-Err-judge-clause-gives : goal.returns-in-Err-judge-clause-gives
+returns-in-Err-judge-clause-gives c = λ source typed given.
+    let gives = rw c.in-Ok-Some.field-0-is at c.in-Ok-Some.ensures.gives in
+    unit_fault c.loop-unit.self (c.loop-unit.invariant.stays source typed given) c.pull.new.self c.in-Ok-Some.unit gives c.in-Err-judge.fault c.in-Err-judge.ensures.err
+
+pub returns-in-Ok-Some-type_one-clause-gives : goal.returns-in-Ok-Some-type_one-clause-gives
+returns-in-Ok-Some-type_one-clause-gives c = λ source typed given.
+    let gives = rw c.in-Ok-Some.field-0-is at c.in-Ok-Some.ensures.gives in
+    let begun = ap (option_map begun_tag) (sym c.in-Some.is) ∙ c.in-Ok-judge.ensures.begun in
+    let yields = rw c.in-Ok-Some-type_one.field-0-is at c.in-Ok-Some-type_one.ensures.ok in
+    let t = c.in-Ok-Some-type_one.typed in
+    let more = typed_more typed (begun_tag c.in-Some.tag) (Some t) (tag_of (unit_of c.in-Ok-Some.unit)) begun yields in
+    let read = reads_on c.loop-unit.self (c.loop-unit.invariant.stays source typed given) c.pull.new.self c.in-Ok-Some.unit gives (AreTypedSo (typed ++ typed_of t ∷ [])) c.judge.new.nesting c.in-Ok-judge.ensures.ok more in
+    (read, given_placed source _ _ read)
+
+pub returns-in-Err-type_one-clause-gives : goal.returns-in-Err-type_one-clause-gives
+returns-in-Err-type_one-clause-gives c = λ source typed given.
+    let gives = rw c.in-Ok-Some.field-0-is at c.in-Ok-Some.ensures.gives in
+    let begun = ap (option_map begun_tag) (sym c.in-Some.is) ∙ c.in-Ok-judge.ensures.begun in
+    let fault = c.in-Err-type_one.fault in
+    let comes = fault_comes typed (begun_tag c.in-Some.tag) fault (tag_of (unit_of c.in-Ok-Some.unit)) begun c.in-Err-type_one.ensures.err in
+    c.fault_with.ensures source
+    (reads_on c.loop-unit.self (c.loop-unit.invariant.stays source typed given) c.pull.new.self c.in-Ok-Some.unit gives (λ (tags : List PlainTag). HasFault tags fault) c.judge.new.nesting c.in-Ok-judge.ensures.ok comes)
+
+pub loop-unit-preserved-after-begun : goal.loop-unit-preserved-after-begun
+loop-unit-preserved-after-begun c =
+    let gives = rw c.in-Ok-Some.field-0-is at c.in-Ok-Some.ensures.gives in
+    let tag = tag_of (unit_of c.in-Ok-Some.unit) in
+    let fewer = fewer_left c.loop-unit.self c.pull.new.self c.judge.new.nesting c.in-Ok-Some.unit gives in
+    record {
+      stays = λ source typed given. reads_on c.loop-unit.self (c.loop-unit.invariant.stays source typed given) c.pull.new.self c.in-Ok-Some.unit gives (AreTypedSo typed) c.judge.new.nesting c.in-Ok-judge.ensures.ok
+          (elim c.match-begun.branch [
+            | in-Some+in-Ok-None-type_one w ↦ typed_same typed (begun_tag w.in-Some.tag) tag (ap (option_map begun_tag) (sym w.in-Some.is) ∙ c.in-Ok-judge.ensures.begun) (rw w.in-Ok-None-type_one.field-0-is at w.in-Ok-None-type_one.ensures.ok)
+            | in_default w ↦ no_tag (AreTypedSo typed) tag (ap (option_map begun_tag) (sym w.in_default.is) ∙ c.in-Ok-judge.ensures.begun)
+          ]);
+      moves = omega (arith, fewer, c.loop-unit.invariant.moves);
+    }
+
+pub loop-unit-preserved-after-begun-2 : goal.loop-unit-preserved-after-begun-2
+loop-unit-preserved-after-begun-2 c =
+    let gives = rw c.in-Ok-Some.field-0-is at c.in-Ok-Some.ensures.gives in
+    let tag = tag_of (unit_of c.in-Ok-Some.unit) in
+    let fewer = fewer_left c.loop-unit.self c.pull.new.self c.judge.new.nesting c.in-Ok-Some.unit gives in
+    record {
+      stays = λ source typed given. reads_on c.loop-unit.self (c.loop-unit.invariant.stays source typed given) c.pull.new.self c.in-Ok-Some.unit gives (AreTypedSo typed) c.judge.new.nesting c.in-Ok-judge.ensures.ok
+          (elim c.match-begun.branch [
+            | in-Some+in-Ok-None-type_one w ↦ typed_same typed (begun_tag w.in-Some.tag) tag (ap (option_map begun_tag) (sym w.in-Some.is) ∙ c.in-Ok-judge.ensures.begun) (rw w.in-Ok-None-type_one.field-0-is at w.in-Ok-None-type_one.ensures.ok)
+            | in_default w ↦ no_tag (AreTypedSo typed) tag (ap (option_map begun_tag) (sym w.in_default.is) ∙ c.in-Ok-judge.ensures.begun)
+          ]);
+      moves = omega (arith, fewer, c.loop-unit.invariant.moves);
+    }
+
+pub loop-unit-preserved : goal.loop-unit-preserved
+loop-unit-preserved c =
+    let gives = rw c.in-Ok-Some.field-0-is at c.in-Ok-Some.ensures.gives in
+    let tag = tag_of (unit_of c.in-Ok-Some.unit) in
+    let fewer = fewer_left c.loop-unit.self c.pull.new.self c.judge.new.nesting c.in-Ok-Some.unit gives in
+    record {
+      stays = λ source typed given. reads_on c.loop-unit.self (c.loop-unit.invariant.stays source typed given) c.pull.new.self c.in-Ok-Some.unit gives (AreTypedSo typed) c.judge.new.nesting c.in-Ok-judge.ensures.ok
+          (elim c.match-begun.branch [
+            | in-Some+in-Ok-None-type_one w ↦ typed_same typed (begun_tag w.in-Some.tag) tag (ap (option_map begun_tag) (sym w.in-Some.is) ∙ c.in-Ok-judge.ensures.begun) (rw w.in-Ok-None-type_one.field-0-is at w.in-Ok-None-type_one.ensures.ok)
+            | in_default w ↦ no_tag (AreTypedSo typed) tag (ap (option_map begun_tag) (sym w.in_default.is) ∙ c.in-Ok-judge.ensures.begun)
+          ]);
+      moves = omega (arith, fewer, c.loop-unit.invariant.moves);
+    }

@@ -1,0 +1,175 @@
+//! The typed tags of a source, one by one, as its units are pulled: no tree is built.
+ghost use Rattle.std.specs.Prelude.{◌≡◌, [], true, IfOk, IfErr, OnOk, option_map};
+ghost use Rattle.tml_span.specs.View.{unit_of};
+ghost use Rattle.tml_tree.specs.Judging.{Passes, Refuses};
+ghost use Rattle.tml_tree.specs.Walking.{tag_of};
+ghost use Rattle.tml_types.specs.TagReader as tag_reader;
+ghost use Rattle.tml_types.specs.TagReader.{FaultsWith, Gives, HasGiven, IsUnclosed, MovesOn, begun_tag, is_complete};
+
+use crate::TypeFault;
+use crate::attributes::Attributes;
+use crate::typed::TypedTag;
+use crate::typing::type_one;
+use faults::FaultKind;
+use std::alloc::Global;
+use tml_span::{Memory, Unit, UnitReader};
+use tml_tree::{Nesting, TagName, TreeFault};
+
+/// Why a source that has no fault of the cut has no typed tags.
+#[derive(Clone, Copy)]
+pub enum SourceFault {
+    /// Its units make no tree.
+    Tree(TreeFault),
+    /// They do, and a tag is at fault.
+    Tag(TypeFault),
+}
+
+impl SourceFault {
+    /// The kind of the fault and its place, or none where it is that of memory.
+    pub fn kind_and_place(self) -> Option<(FaultKind, u32)>
+        ensures { result ≡ tag_reader.source_kind_and_place self }
+    {
+        match self {
+            SourceFault::Tree(fault) => fault.kind_and_place(),
+            SourceFault::Tag(fault) => fault.kind_and_place(),
+        }
+    }
+}
+
+/// Gives the typed tags of a source one by one, in document order, as its units are read.
+#[derive(Drop)]
+pub struct TagReader<'s> {
+    units: UnitReader<'s>,
+    nesting: Nesting,
+}
+
+impl<'s> TagReader<'s> {
+    /// Before the first tag of a reader that has given no unit. It takes no memory.
+    pub fn new(alloc: Global, units: UnitReader<'s>) -> TagReader<'s>
+        requires { units.place ≡ 0 }
+        ensures { HasGiven units.entry.source [] result }
+    {
+        // The clauses of this call say that the source is cut into units without a fault, as that of every reader.
+        let _source = units.source();
+        TagReader {
+            units,
+            nesting: Nesting::new(alloc),
+        }
+    }
+
+    /// The next typed tag. None comes where all were given: then the units make a tree, and no tag of it is at fault.
+    ///
+    /// # Errors
+    ///
+    /// The fault that `tree_from` gives for the units of the source, and only where they make a tree the one that
+    /// `type_tags` gives for its tags: a fault of the tree anywhere comes before any fault of a tag. `Memory` may come
+    /// at any place. After a fault nothing is said of the reader.
+    pub fn pull(&mut self, alloc: Global) -> Result<Option<TypedTag<'s>>, SourceFault>
+        ensures gives { Gives self.old self.new result }
+        ensures moves { MovesOn self.old self.new result }
+    {
+        loop {
+            let unit = match self.units.pull(alloc) {
+                Ok(Some(unit)) => unit,
+                Ok(None) => {
+                    return match self.end() {
+                        Ok(()) => Ok(None),
+                        Err(unclosed) => Err(SourceFault::Tree(unclosed)),
+                    };
+                }
+                Err(Memory) => return Err(SourceFault::Tree(TreeFault::Memory)),
+            };
+            let begun = match judge(&mut self.nesting, &unit) {
+                Ok(begun) => begun,
+                Err(fault) => return Err(SourceFault::Tree(fault)),
+            };
+            if let Some(tag) = begun {
+                match type_one(alloc, tag.name, tag.of) {
+                    Ok(None) => {}
+                    Ok(Some(typed)) => return Ok(Some(typed)),
+                    Err(fault) => return Err(self.fault_with(alloc, fault)),
+                }
+            }
+        }
+    }
+
+    /// The fault of a source with a tag at fault: that of its units, where one of those that are left has one.
+    fn fault_with(&mut self, alloc: Global, fault: TypeFault) -> SourceFault
+        ensures { FaultsWith self.old fault result }
+    {
+        loop {
+            match self.units.pull(alloc) {
+                Ok(Some(unit)) => {
+                    if let Err(refused) = judge(&mut self.nesting, &unit) {
+                        return SourceFault::Tree(refused);
+                    }
+                }
+                Ok(None) => {
+                    return match self.end() {
+                        Ok(()) => SourceFault::Tag(fault),
+                        Err(unclosed) => SourceFault::Tree(unclosed),
+                    };
+                }
+                Err(Memory) => return SourceFault::Tree(TreeFault::Memory),
+            }
+        }
+    }
+
+    /// Where no unit is left, whether the root was seen whole.
+    fn end(&self) -> Result<(), TreeFault>
+        ensures ok { IfOk result (λ u. is_complete self.now.nesting ≡ true) }
+        ensures err { IfErr result (IsUnclosed self.now) }
+    {
+        if self.nesting.is_whole() {
+            Ok(())
+        } else {
+            Err(TreeFault::Unclosed {
+                place: self.units.place(),
+            })
+        }
+    }
+}
+
+/// A tag that a unit begins.
+#[derive(Clone, Copy)]
+struct Begun<'a, 's> {
+    name: TagName,
+    of: Attributes<'a, 's>,
+}
+
+/// Judges one more unit, and gives the tag that it begins, if it begins one.
+#[inline(always)]
+fn judge<'a, 's>(
+    nesting: &mut Nesting,
+    unit: &'a Unit<'s>,
+) -> Result<Option<Begun<'a, 's>>, TreeFault>
+    ensures begun { IfOk result (λ b. option_map begun_tag b ≡ tag_of (unit_of unit.now)) }
+    ensures ok { OnOk result (Passes nesting.old (unit_of unit.now).kind nesting.new) }
+    ensures err { IfErr result (Refuses nesting.old (unit_of unit.now).kind (unit_of unit.now).start) }
+{
+    match unit {
+        Unit::Bom { .. } => {}
+        Unit::Declaration { span, .. } => nesting.declaration(span.start)?,
+        Unit::Doctype { span, .. } => nesting.doctype(span.start)?,
+        Unit::Comment { .. } => nesting.comment(),
+        Unit::Text { span, text } => nesting.text(span.start, text)?,
+        Unit::StartTag { span, name, attrs } => {
+            let name = nesting.start(span.start, name)?;
+            let of = Attributes {
+                place: span.start,
+                attrs: attrs.as_slice(),
+            };
+            return Ok(Some(Begun { name, of }));
+        }
+        Unit::EndTag { span, name } => nesting.end(span.start, name)?,
+        Unit::EmptyTag { span, name, attrs } => {
+            let name = nesting.empty(span.start, name)?;
+            let of = Attributes {
+                place: span.start,
+                attrs: attrs.as_slice(),
+            };
+            return Ok(Some(Begun { name, of }));
+        }
+    }
+    Ok(None)
+}
