@@ -12,5 +12,6 @@ pub mod RanksJudged
 pub mod WalksJudged
 pub mod Judged
 pub mod Bundles
+pub mod PairSets
+pub mod OrderSets
 pub mod Calendars
-pub mod LinkSets

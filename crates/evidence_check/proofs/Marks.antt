@@ -1,5 +1,5 @@
 -- Marks of links: which are set once some links were marked.
-use Rattle.std.proofs.Common.{◌≡◌, ◌↔◌, ◌⊎◌, inl, inr, ℕ, ◌<◌, Bool, true, false, List, replicate, slice_index_or, Some, refl, sym, subst, ◌∙◌}
+use Rattle.std.proofs.Common.{◌≡◌, ◌↔◌, ◌⊎◌, inl, inr, ℕ, ◌<◌, Bool, true, false, List, length, replicate, slice_index_or, Some, refl, sym, subst, ◌∙◌, arith}
 use Rattle.std.specs.List.{All, Contains}
 use Rattle.std.proofs.Math.Bool.{beq, not}
 use Rattle.std.proofs.lemmas.Bool.Decides.{same_from_decides}
@@ -16,30 +16,22 @@ use Rattle.net_core.specs.Clashes.{Agrees}
 abbrev pub AreMarked : List Bool → (ℕ → Type 0) → Type 0
 AreMarked marks Chosen = (k : ℕ) → k < max_links → (slice_index_or marks k false ≡ true) ↔ Chosen k
 
--- at first none is
-pub none_marked : (Chosen : ℕ → Type 0) → ((k : ℕ) → Chosen k → ⊥) → AreMarked (replicate max_links false) Chosen
-none_marked Chosen none k below = (set, λ chosen. absurd (none k chosen))
+-- where none was before, those are that were marked since
+pub newly_marked : (new : List Bool) (Chosen : ℕ → Type 0) → length new ≡ max_links
+    → ((k : ℕ) → k < length new → Kept new k ↔ (Kept (replicate max_links false) k ⊎ Chosen k)) → AreMarked new Chosen
+newly_marked new Chosen size marked k below = (there, λ chosen. (marked k inside).1 (inr chosen))
   where
-    set : slice_index_or (replicate max_links false) k false ≡ true → Chosen k
-    set e = let f = get_or-replicate max_links k false false below in absurd cc
+    inside : k < length new
+    inside = omega (arith, below, size)
 
--- then those of more are
-pub more_marked : (new old : List Bool) (Before More After : ℕ → Type 0) → AreMarked old Before
-    → ((k : ℕ) → k < max_links → (slice_index_or new k false ≡ true) ↔ ((slice_index_or old k false ≡ true) ⊎ More k))
-    → ((k : ℕ) → After k ↔ (Before k ⊎ More k)) → AreMarked new After
-more_marked new old Before More After marked more after k below = (there, back)
-  where
-    there : slice_index_or new k false ≡ true → After k
-    there e = (after k).1 (elim ((more k below).0 e) [
-      | inl was ↦ inl ((marked k below).0 was)
-      | inr is ↦ inr is
-    ])
+    none : Kept (replicate max_links false) k → Chosen k
+    none e = let f = get_or-replicate max_links k false false below in absurd cc
 
-    back : After k → slice_index_or new k false ≡ true
-    back chosen = (more k below).1 (elim ((after k).0 chosen) [
-      | inl was ↦ inl ((marked k below).1 was)
-      | inr is ↦ inr is
-    ])
+    there : Kept new k → Chosen k
+    there e = elim ((marked k inside).0 e) [
+      | inl was ↦ none was
+      | inr is ↦ is
+    ]
 
 -- marks are alike exactly where a walk agrees with cites
 pub alike : (cited gone_over : List Bool) (cites : List ℕ) (steps : List Step) → AreMarked cited (Contains cites) → AreMarked gone_over (GoesOver steps)

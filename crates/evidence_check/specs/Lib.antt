@@ -4,6 +4,7 @@ pub mod Refusals
 pub mod Bundles
 pub mod Asked
 pub mod Calendar
-pub mod Links
+pub mod Pairs
+pub mod Orders
 pub mod Demands
 pub mod Following

@@ -24,7 +24,8 @@ pub fn verify_all(net: &Net, bundle: &Bundle) -> Result<(), RefusedClaim>
     // What the evidence of each claim shows is true.
     ensures sound { OnOk result (All (ShowsTruth net.now) (map plain bundle.now)) }
 {
-    let demands = Demands::of(net);
+    let mut demands = Demands::new();
+    demands.add(net);
     for k in 0..bundle.count() {
         if let Err(refused) = verify_by(net, &demands, bundle.claim(k)) {
             return Err(RefusedClaim { claim: k, refused });

@@ -54,31 +54,30 @@ impl Model for Calendar {
 }
 
 impl Calendar {
-    /// The calendar of a net.
-    pub fn of(net: &Net) -> Calendar
-        ensures { IsCalendar net.now result }
-    {
-        let mut calendar = Calendar::new();
-        for point in 0..2 * net.intervals() {
-            calendar.push_point(net, point);
-        }
-        calendar.sort();
-        calendar
-    }
-
     /// No events.
-    fn new() -> Calendar
+    pub fn new() -> Calendar
         ensures { result ≡ [] }
     {
         let none = Event {
             number: 0,
             point: 0,
-            kind: Kind::Lower,
+            kind: Kind::Upper,
         };
         Calendar {
             events: [none; MAX_EVENTS],
             count: 0,
         }
+    }
+
+    /// Appends the events of the points of a net, where there are no others.
+    pub fn push_points(&mut self, net: &Net)
+        requires { self.old ≡ [] }
+        ensures { IsCalendar net.now self.new }
+    {
+        for point in 0..2 * net.intervals() {
+            self.push_point(net, point);
+        }
+        self.sort();
     }
 
     /// The events.

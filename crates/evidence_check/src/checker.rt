@@ -47,7 +47,9 @@ pub fn verify(net: &Net, evidence: &Evidence) -> Result<Claim, Refused>
     if let Evidence::Entails { a, rel, b, walks } = evidence {
         return check_entailment(net, *a, *rel, *b, walks.as_slice());
     }
-    verify_by(net, &Demands::of(net), evidence)
+    let mut demands = Demands::new();
+    demands.add(net);
+    verify_by(net, &demands, evidence)
 }
 
 /// The same by what the net asks of a timeline, which is made once for several claims.

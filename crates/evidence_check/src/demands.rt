@@ -1,25 +1,34 @@
 //! What a net asks of each timeline, made once for several of them.
-ghost use Rattle.evidence_check.specs.Demands.{AreDemands};
+ghost use Rattle.evidence_check.specs.Demands.{AreDemands, AreNone};
 
 use crate::calendar::Calendar;
-use crate::links::Links;
+use crate::orders::Orders;
 use net_core::Net;
 
-/// The links of a net and its calendar, as a timeline is checked against them. They take no memory.
+/// The orders that the links of a net are and its calendar, as a timeline is checked against them. They take no memory.
 #[derive(Drop)]
 pub struct Demands {
-    pub links: Links,
+    pub orders: Orders,
     pub calendar: Calendar,
 }
 
 impl Demands {
-    /// What a net asks.
-    pub fn of(net: &Net) -> Demands
-        ensures { AreDemands net.now result }
+    /// What is asked before a net is.
+    pub fn new() -> Demands
+        ensures { AreNone result }
     {
         Demands {
-            links: Links::of(net),
-            calendar: Calendar::of(net),
+            orders: Orders::new(),
+            calendar: Calendar::new(),
         }
+    }
+
+    /// Adds what a net asks, where nothing is asked yet. They are large, and so they are filled where they stand.
+    pub fn add(&mut self, net: &Net)
+        requires { AreNone self.old }
+        ensures { AreDemands net.now self.new }
+    {
+        self.orders.push_links(net);
+        self.calendar.push_points(net);
     }
 }

@@ -4,11 +4,10 @@ ghost use Rattle.evidence_check.specs.Refusals.{IsNoRound};
 ghost use Rattle.evidence_format.specs.Evidence.{IsNumber};
 ghost use Rattle.net_core.specs.Clashes.{Agrees, IsClosedOver};
 ghost use Rattle.net_core.specs.Firsts.{IsFirst};
-ghost use Rattle.net_core.specs.Limits.{max_links};
 ghost use Rattle.net_core.specs.Steps.{Uses};
-ghost use Rattle.net_core.specs.Walks.{GoesOver, Kept};
+ghost use Rattle.net_core.specs.Walks.{Kept};
 ghost use Rattle.std.specs.List.{All, Contains};
-ghost use Rattle.std.specs.Prelude.{IfErr, IsTrue, OnOk, length, slice_index_or, true, false, ℕ, ◌<◌, ◌≡◌, ◌↔◌};
+ghost use Rattle.std.specs.Prelude.{IfErr, IsTrue, OnOk, length, ℕ, ◌<◌, ◌≡◌, ◌↔◌, ◌⊎◌};
 
 use crate::refusal::Reason;
 use crate::walks::follow;
@@ -52,8 +51,10 @@ fn first_disagreement(net: &Net, cites: &[u32], steps: &[Step]) -> Option<u32>
     ensures { IsFirst (length net.now.links) (Agrees cites.now steps.now) result }
 {
     let count = net.links();
-    let cited = marks_of_cites(cites);
-    let gone_over = marks_of_steps(steps);
+    let mut cited = [false; MAX_LINKS as usize];
+    mark_cites(&mut cited, cites);
+    let mut gone_over = [false; MAX_LINKS as usize];
+    mark_steps(&mut gone_over, steps);
     if are_marked(&gone_over, cites) && use_marked(&cited, steps) {
         return None;
     }
@@ -65,24 +66,14 @@ fn first_disagreement(net: &Net, cites: &[u32], steps: &[Step]) -> Option<u32>
     None
 }
 
-/// The links that are cited.
-fn marks_of_cites(cites: &[u32]) -> Marks
-    ensures { (k : ℕ) → k < max_links → (slice_index_or result k false ≡ true) ↔ Contains cites.now k }
+/// Marks the links that are cited, where there are flags for them.
+fn mark_cites(marks: &mut [bool], cites: &[u32])
+    ensures length { length marks.new ≡ length marks.old }
+    ensures marked { (k : ℕ) → k < length marks.new → Kept marks.new k ↔ (Kept marks.old k ⊎ Contains cites.now k) }
 {
-    let mut marks = [false; MAX_LINKS as usize];
     for cite in cites {
-        mark_link(&mut marks, *cite);
+        mark_link(marks, *cite);
     }
-    marks
-}
-
-/// The links that steps go over.
-fn marks_of_steps(steps: &[Step]) -> Marks
-    ensures { (k : ℕ) → k < max_links → (slice_index_or result k false ≡ true) ↔ GoesOver steps.now k }
-{
-    let mut marks = [false; MAX_LINKS as usize];
-    mark_steps(&mut marks, steps);
-    marks
 }
 
 /// Whether links are all marked.

@@ -64,13 +64,13 @@ fn first_broken(net: &Net, demands: &Demands, ranks: &[u32], asked: Asked<'_>) -
     }
 }
 
-/// The first of all links that does not hold. Those that repeat others are gone over only where there is one.
+/// The first of all links that does not hold. The links are gone over only where there is one.
 fn first_broken_of_all(net: &Net, demands: &Demands, ranks: &[u32]) -> Option<u32>
     requires demands { AreDemands net.now demands.now }
     requires size { length ranks.now ≡ points net.now }
     ensures { FirstBrokenLink net.now EveryLink ranks.now result }
 {
-    if demands.links.keep(ranks) {
+    if demands.orders.are_kept(ranks) {
         return None;
     }
     first_broken_link(net, ranks)

@@ -1,0 +1,178 @@
+//! Lists of pairs of numbers that take no memory.
+ghost use Rattle.evidence_check.specs.Pairs.{HaveSame, IsKept, IsWithin};
+ghost use Rattle.evidence_check.specs.declared.pairs.TheConstants.{MAX_PAIRS as most_pairs};
+ghost use Rattle.net_core.specs.Ranks.{timeline_of};
+ghost use Rattle.net_core.specs.Relations.{Equals};
+ghost use Rattle.std.specs.List.{All, Contains};
+ghost use Rattle.std.specs.List.Sorted.{IsPermutation};
+ghost use Rattle.std.specs.Prelude.{IsTrue, [], ◌∷◌, ◌++◌, length, take, ◌<◌, ◌≤◌, ◌≡◌, ◌↔◌};
+
+use net_core::{Ends, MAX_LINKS, ends_at};
+use std::marker::Model;
+
+/// How a timeline is to order two points or two intervals.
+#[derive(Clone, Copy)]
+pub enum Order {
+    /// The first point is before the second one.
+    Before,
+    /// The first point is before the second one, or both are at one place.
+    NoLater,
+    /// Both intervals start together and end together.
+    Equal,
+}
+
+/// Two points, or two intervals, by their numbers.
+#[derive(Clone, Copy)]
+pub struct Pair {
+    pub first: u16,
+    pub second: u16,
+}
+
+/// The most pairs of one kind that the links of a net ask for: four for each.
+pub const MAX_PAIRS: usize = 4 * MAX_LINKS as usize;
+
+/// Pairs, no more than a net can ask for.
+#[derive(Drop)]
+pub struct Pairs {
+    items: [Pair; MAX_PAIRS],
+    count: usize,
+}
+
+impl Model for Pairs {
+    ghost use Rattle.evidence_check.specs.declared.pairs.Pair.{Pair as PairOf};
+    ghost use Rattle.evidence_check.specs.declared.pairs.TheConstants.{MAX_PAIRS as most_pairs};
+    ghost use Rattle.std.specs.Prelude.{List as ListOf, take, ◌≤◌};
+
+    ghost Value = { ListOf PairOf };
+
+    ghost view = { λ a. take a.count a.items };
+
+    ghost invariant = { λ a. a.count ≤ most_pairs };
+}
+
+impl Pairs {
+    /// No pairs.
+    pub fn new() -> Pairs
+        ensures { result ≡ [] }
+    {
+        let none = Pair {
+            first: 0,
+            second: 0,
+        };
+        Pairs {
+            items: [none; MAX_PAIRS],
+            count: 0,
+        }
+    }
+
+    /// The pairs.
+    pub fn as_slice(&self) -> &[Pair]
+        ensures { result.now ≡ self.now }
+    {
+        &self.items[..self.count]
+    }
+
+    /// Appends a pair.
+    pub fn push(&mut self, pair: Pair)
+        requires { length self.old < most_pairs }
+        ensures { self.new ≡ self.old ++ pair ∷ [] }
+    {
+        self.items[self.count] = pair;
+        self.count += 1;
+    }
+
+    /// Leaves each pair once.
+    pub fn drop_repeats(&mut self)
+        ensures { HaveSame self.old self.new }
+    {
+        self.count = move_distinct(&mut self.items[..self.count]);
+    }
+}
+
+/// Moves each pair to the front once, and answers how many there are.
+fn move_distinct(pairs: &mut [Pair]) -> usize
+    ensures few { result ≤ length pairs.new }
+    ensures same { HaveSame pairs.old (take result pairs.new) }
+{
+    sort(pairs);
+    first_of_each(pairs)
+}
+
+/// Puts repeats beside one another.
+fn sort(pairs: &mut [Pair])
+    ensures { IsPermutation pairs.old pairs.new }
+{
+    pairs.sort_unstable_by_key(|pair| (pair.first, pair.second));
+}
+
+/// Moves the pairs that do not repeat the one before them to the front, and answers how many there are.
+fn first_of_each(pairs: &mut [Pair]) -> usize
+    ensures few { result ≤ length pairs.new }
+    ensures length { length pairs.new ≡ length pairs.old }
+    ensures same { HaveSame pairs.old (take result pairs.new) }
+{
+    let mut kept = 0;
+    for k in 0..pairs.len() {
+        let pair = pairs[k];
+        if !ends_with(&pairs[..kept], pair) {
+            pairs[kept] = pair;
+            kept += 1;
+        }
+    }
+    kept
+}
+
+/// Whether a pair is the last one.
+fn ends_with(pairs: &[Pair], pair: Pair) -> bool
+    ensures { IsTrue result → Contains pairs.now pair }
+{
+    match pairs.last() {
+        Some(last) => last.first == pair.first && last.second == pair.second,
+        None => false,
+    }
+}
+
+/// Whether all pairs are in this order by these ranks. It goes over all of them without a branch on ranks.
+pub fn are_kept(order: Order, pairs: &[Pair], ranks: &[u32]) -> bool
+    requires { All (IsWithin order (length ranks.now)) pairs.now }
+    ensures { IsTrue result ↔ All (IsKept order (timeline_of ranks.now)) pairs.now }
+{
+    let mut all = true;
+    for pair in pairs {
+        all &= is_kept(order, *pair, ranks);
+    }
+    all
+}
+
+/// Whether a pair is in this order by these ranks.
+#[inline]
+fn is_kept(order: Order, pair: Pair, ranks: &[u32]) -> bool
+    requires { IsWithin order (length ranks.now) pair }
+    ensures { IsTrue result ↔ IsKept order (timeline_of ranks.now) pair }
+{
+    match order {
+        Order::Before => is_before(pair.first, pair.second, ranks),
+        Order::NoLater => !is_before(pair.second, pair.first, ranks),
+        Order::Equal => is_same(
+            ends_at(ranks, u32::from(pair.first)),
+            ends_at(ranks, u32::from(pair.second)),
+        ),
+    }
+}
+
+/// Whether one point is before another by these ranks.
+#[inline]
+fn is_before(a: u16, b: u16, ranks: &[u32]) -> bool
+    requires a { a < length ranks.now }
+    requires b { b < length ranks.now }
+    ensures { IsTrue result ↔ timeline_of ranks.now a < timeline_of ranks.now b }
+{
+    ranks[a as usize] < ranks[b as usize]
+}
+
+#[inline]
+fn is_same(a: Ends, b: Ends) -> bool
+    ensures { IsTrue result ↔ Equals a b }
+{
+    (a.start == b.start) & (a.finish == b.finish)
+}
