@@ -1,5 +1,5 @@
 -- A net has least ranks that fit, or a clash that is proved; and where some timeline fits, each order of two points is proved or refuted.
-use Rattle.std.proofs.Common.{◌≡◌, ℕ, zero, suc, ◌<◌, ◌≤◌, Bool, true, false, List, [], ◌∷◌, length, slice_index, slice_index_or, slice_set, replicate, refl, ap, subst, ◌∙◌, arith, inl, inr}
+use Rattle.std.proofs.Common.{◌≡◌, ◌↔◌, ℕ, zero, suc, ◌<◌, ◌≤◌, Bool, true, false, List, [], ◌∷◌, length, slice_index, slice_index_or, slice_set, replicate, refl, ap, subst, ◌∙◌, arith, inl, inr}
 use Rattle.std.specs.List.{Contains}
 use Rattle.std.proofs.lemmas.Bool.{cases_lt}
 use Rattle.std.proofs.lemmas.List.{get_or-replicate, length-replicate, length-set}
@@ -11,11 +11,14 @@ use Rattle.net_core.specs.Walks.{IsClosedWalk, Kept}
 use Rattle.net_core.proofs.StepLaws.{fits_fewer}
 use Rattle.net_core.proofs.WalkLaws.{joined_more, over_chosen, round_clashes}
 use Rattle.net_core.specs.Least.{AreSpares, IsSpare}
+use Rattle.net_core.specs.Relations.{Timeline}
+use Rattle.order_closure.specs.Tables.{AreClosed, AreKept}
+use Rattle.order_closure.specs.declared.cell.Cell.{Cell}
 use Rattle.order_closure.proofs.LeastRanks.{same_ranks}
 use Rattle.clash.specs.Minimal.{IsAnswered, IsProvedClash, IsSpared}
 use Rattle.clash.specs.Walks.{OrdersAreAnswered}
 use Rattle.clash.specs.declared.minimal.Clash.{Clash}
-use Rattle.clash.proofs.Complete.{fits_or_closed_walk, least_or_closed_walk, walk_or_counter}
+use Rattle.clash.proofs.Complete.{closed_cells, fits_or_closed_walk, least_or_closed_walk, walk_or_counter}
 use Rattle.clash.proofs.Marked.{every_marked, kept_within}
 use Rattle.clash.proofs.Proved.{proved_links}
 use Rattle.clash.proofs.Rounds.{goes_over, others_set, set_others, spared_fewer}
@@ -166,3 +169,12 @@ orders_are_answered = λ net u atom is fits range.
         )) found.1,
       )
     ]
+
+-- a net that some timeline fits has closed cells, which the timelines that fit keep and no others
+pub closed_net : (net : PlainNet) → IsNet net → (u : Timeline) → Fits net u → (cell : ℕ → ℕ → Cell) × AreClosed (points net) cell × ((t : Timeline) → AreKept (points net) cell t ↔ Fits net t)
+closed_net net is u fits =
+    let keep = all_kept net in
+    let all = λ (t : Timeline) (h : Fits net t). fits_fewer net EveryLink (Kept keep) t (λ k below also. tt) h in
+    let every = λ (t : Timeline) (h : FitsWith net (Kept keep) t). fits_fewer net (Kept keep) EveryLink t (λ k below any. all_or_every net k below) h in
+    let (cell, closed, same) = closed_cells net (λ j. slice_index_or keep j false) is u (all u fits) in
+    (cell, closed, λ t. (λ kept. every t ((same t).0 kept), λ h. (same t).1 (all t h)))

@@ -1,5 +1,5 @@
 -- Each order that always holds has a walk: the steps of a net have a closed table whose cells all have walks, or there is a closed walk.
-use Rattle.std.proofs.Common.{◌≡◌, ℕ, ◌<◌, ◌≤◌, max, Bool, true, false, ◌||◌, List, [], ◌∷◌, ◌++◌, slice_index_or, Option, Some, None, refl, sym, ap, subst, ◌∙◌, arith, ◌⊎◌, inl, inr}
+use Rattle.std.proofs.Common.{◌≡◌, ◌↔◌, ℕ, ◌<◌, ◌≤◌, max, Bool, true, false, ◌||◌, List, [], ◌∷◌, ◌++◌, slice_index_or, Option, Some, None, refl, sym, ap, subst, ◌∙◌, arith, ◌⊎◌, inl, inr}
 use Rattle.std.specs.List.{AllByRecursion}
 use Rattle.std.proofs.lemmas.Bool.{cases_lt, cases_eq}
 use Rattle.std.proofs.lemmas.Bool.Decides.{nat_tests}
@@ -268,6 +268,14 @@ module _ (net : PlainNet) (test : ℕ → Bool) (is : IsNet net) where
   small_timeline u fits = elim fits_or_closed_walk [
     | inl small ↦ small
     | inr round ↦ absurd (round_clashes net (Passed test) round.0 round.1 u fits)
+  ]
+
+  -- where some timeline fits, closed cells are kept by those that do and no others
+  pub closed_cells : (u : Timeline) → FitsWith net (Passed test) u → (cell : ℕ → ℕ → Cell) × AreClosed (points net) cell × ((t : Timeline) → AreKept (points net) cell t ↔ FitsWith net (Passed test) t)
+  unfolding Result
+  closed_cells u fits = elim (result (every_step net)) [
+    | inl good ↦ (good.0, good.1.closed, λ t. (kept_fits good.0 good.1 t, fits_kept good.0 good.1 t))
+    | inr bad ↦ absurd (let less : u bad.0 < u bad.0 = walk_kept net (Passed test) u bad.2.0 bad.0 bad.0 true fits bad.2.1 in omega arith)
   ]
 
   -- where some timeline fits an order has a walk, or there are least ranks that fit and in which it is false

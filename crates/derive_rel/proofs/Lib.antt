@@ -1,6 +1,5 @@
 pub mod OneWay
 pub mod WordBits
-pub mod Given
 pub mod Masks
 pub mod Joined
 pub mod Turns

@@ -17,10 +17,10 @@ use Rattle.net_core.specs.declared.rels.Rel.TheVariants as rel
 use Rattle.net_core.proofs.AtomLaws.{all_mapped}
 use Rattle.net_core.proofs.RelLaws.{rels_apart}
 use Rattle.order_closure.specs.Cells.{order, strength}
-use Rattle.order_closure.specs.Tables.{Table, cell_at}
+use Rattle.order_closure.specs.Tables.{Gives, Table, cell_at}
 use Rattle.order_closure.specs.declared.cell.Cell.{Cell}
 use Rattle.order_closure.specs.declared.cell.Cell.TheVariants.{Free, Weak, Strict}
-use Rattle.derive_rel.specs.Entailed.{TableEntails, Gives, IsRow}
+use Rattle.derive_rel.specs.Entailed.{TableEntails, IsRow}
 use Rattle.derive_rel.specs.Pairs.{gives, says_some}
 use Rattle.derive_rel.specs.Pushing.{ArePutLast, IsOf}
 use Rattle.derive_rel.specs.declared.all_rows.Row.{Row}

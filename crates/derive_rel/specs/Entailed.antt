@@ -1,18 +1,12 @@
 -- The relations that hold in all timelines of a table.
-use Rattle.std.specs.Prelude.{◌≡◌, ◌⊎◌, ℕ, ◌*◌, ◌+◌, ◌<◌, ◌≤◌, Bool, true, List, length, slice_index_or}
+use Rattle.std.specs.Prelude.{◌≡◌, ◌⊎◌, ℕ, ◌*◌, ◌+◌, ◌<◌, Bool, true, List, length, slice_index_or}
 use Rattle.std.specs.List.{All, Contains}
 use Rattle.net_core.specs.Atoms.{atoms_of}
 use Rattle.net_core.specs.Rels.{all_rels}
-use Rattle.net_core.specs.declared.atom.Atom.{Atom}
 use Rattle.net_core.specs.declared.rels.Rel.{Rel}
 use Rattle.net_core.specs.declared.rels.Rel.TheVariants as rel
-use Rattle.order_closure.specs.Cells.{order, strength}
-use Rattle.order_closure.specs.Tables.{Table, cell_at}
+use Rattle.order_closure.specs.Tables.{Gives, Table}
 use Rattle.derive_rel.specs.declared.all_rows.Row.{Row}
-
--- the cell of an atom says at least its order
-abbrev pub Gives : Table → Atom → Type 0
-Gives table atom = strength (order atom.strict) ≤ strength (cell_at table atom.from atom.to)
 
 -- the table gives all orders that a relation is between two intervals
 abbrev pub TableEntails : Table → ℕ → Rel → ℕ → Type 0

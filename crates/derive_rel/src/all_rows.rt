@@ -6,10 +6,10 @@ ghost use Rattle.net_core.specs.Rels.{all_rels};
 ghost use Rattle.order_closure.specs.Tables.{max_table_points};
 ghost use Rattle.std.specs.Prelude.{IfOk, OnOk, map, ◌%◌, ◌*◌, ◌+◌, ◌<◌, ◌≡◌, ◌≤◌};
 
-use crate::pairs::{Mask, given, masks};
+use crate::pairs::{Mask, masks};
 use crate::ways::gives_some;
 use net_core::{List, Memory, Rel};
-use order_closure::{Closed, MAX_TABLE_POINTS};
+use order_closure::{Closed, MAX_TABLE_POINTS, orders_between};
 use std::alloc::Global;
 
 /// A relation between two intervals, by their numbers.
@@ -114,7 +114,7 @@ fn push_all(
     requires masks { masks.now ≡ map mask_for all_rels }
     ensures { OnOk result (ArePutLast (IsRow closed.now) (IsOf a b) rows.old rows.new) }
 {
-    let given = given(closed, a, b);
+    let given = orders_between(closed, a, b);
     for mask in masks {
         if mask.is_in(given) {
             let rel = mask.rel;

@@ -1,20 +1,16 @@
-//! The orders that a table gives between two intervals, and those that each relation is, as bits.
+//! The orders that each relation is, as bits.
 ghost use Rattle.derive_rel.specs.Entailed.{TableEntails};
 ghost use Rattle.derive_rel.specs.Pairs as spec;
-ghost use Rattle.derive_rel.specs.Pairs.{AreGiven, end_number, mask_for};
-ghost use Rattle.net_core.specs.Atoms.{point_in, points_of};
+ghost use Rattle.derive_rel.specs.Pairs.{mask_for};
 ghost use Rattle.net_core.specs.Rels.{all_rels};
-ghost use Rattle.net_core.specs.declared.atom.End.{End as EndOf};
 ghost use Rattle.net_core.specs.declared.rels.Rel.{Rel as RelOf};
-ghost use Rattle.order_closure.specs.Bits.{bit_of};
-ghost use Rattle.order_closure.specs.Tables.{cell_at};
-ghost use Rattle.order_closure.specs.declared.cell.Cell.TheVariants as cells;
-ghost use Rattle.std.specs.Int.{bit_at};
-ghost use Rattle.std.specs.Prelude.{IfOk, bit_and, length, map, true, ◌*◌, ◌+◌, ◌/◌, ◌<◌, ◌==◌, ◌≡◌, ◌≢◌, ◌↔◌};
+ghost use Rattle.order_closure.specs.Between as bits;
+ghost use Rattle.order_closure.specs.Between.{end_number};
+ghost use Rattle.std.specs.Prelude.{IfOk, bit_and, map, true, ◌*◌, ◌+◌, ◌<◌, ◌==◌, ◌≡◌, ◌↔◌};
 
 use named::Named;
 use net_core::{End, Memory, PairOrder, Rel, orders_of};
-use order_closure::{Closed, MAX_TABLE_POINTS};
+use order_closure::{Closed, orders_between};
 use std::alloc::Global;
 
 /// A relation, with the bits of the orders that it is.
@@ -64,8 +60,9 @@ pub fn entailed(closed: &Closed, a: u32, b: u32) -> RelSet
     requires b { 2 * b + 1 < closed.now.points }
     ensures { (r : RelOf) → (spec.has result r ≡ true) ↔ TableEntails closed.now a r b }
 {
-    let given = given(closed, a, b);
-    RelSet { given }
+    RelSet {
+        given: orders_between(closed, a, b),
+    }
 }
 
 /// All relations with the bits of their orders, in the order of the table of relations.
@@ -87,7 +84,7 @@ pub fn masks(alloc: Global) -> Result<Vec<Mask>, Memory>
 
 /// The bits of some orders.
 fn mask_of(orders: &[PairOrder]) -> u32
-    ensures { result ≡ spec.mask_of orders.now }
+    ensures { result ≡ bits.mask_of orders.now }
 {
     match orders.split_first() {
         Some((first, rest)) => 1 << bit_number(*first) | mask_of(rest),
@@ -97,7 +94,7 @@ fn mask_of(orders: &[PairOrder]) -> u32
 
 /// The bit of an order, of 0 to 15.
 fn bit_number(order: PairOrder) -> u32
-    ensures number { result ≡ spec.bit_number order }
+    ensures number { result ≡ bits.bit_number order }
     ensures small { result < 16 }
 {
     match order {
@@ -117,44 +114,4 @@ fn number_of(end: End) -> u32
         End::Start => 0,
         End::Finish => 1,
     }
-}
-
-/// The orders that a table gives between two intervals, as bits.
-pub fn given(closed: &Closed, a: u32, b: u32) -> u32
-    requires a { 2 * a + 1 < closed.now.points }
-    requires b { 2 * b + 1 < closed.now.points }
-    ensures { AreGiven closed.now a b result }
-{
-    256 * one_way(closed, b, a) + one_way(closed, a, b)
-}
-
-/// The orders from a point of the first interval to one of the second that a table gives, as the bits of `ANoLater` and
-/// `ABefore`.
-fn one_way(closed: &Closed, a: u32, b: u32) -> u32
-    requires a { 2 * a + 1 < closed.now.points }
-    requires b { 2 * b + 1 < closed.now.points }
-    ensures small { result < 256 }
-    ensures weak { (p q : EndOf) → (bit_at result (4 * end_number p + end_number q) ≡ 1)
-        ↔ (cell_at closed.now (point_in (points_of a) p) (point_in (points_of b) q) ≢ cells.Free) }
-    ensures strict { (p q : EndOf) → (bit_at result (4 * end_number p + 2 + end_number q) ≡ 1)
-        ↔ (cell_at closed.now (point_in (points_of a) p) (point_in (points_of b) q) ≡ cells.Strict) }
-{
-    // so few that the numbers of the points fit
-    prove!(closed.points() <= MAX_TABLE_POINTS);
-    let weak_start = two_bits(closed.weak_row(2 * a), b);
-    let strict_start = two_bits(closed.strict_row(2 * a), b);
-    let weak_finish = two_bits(closed.weak_row(2 * a + 1), b);
-    let strict_finish = two_bits(closed.strict_row(2 * a + 1), b);
-    4 * (4 * (4 * strict_finish + weak_finish) + strict_start) + weak_start
-}
-
-/// The bits of the start and of the end of an interval, which are in one word.
-fn two_bits(row: &[u64], interval: u32) -> u32
-    requires few { interval < 2147483648 }
-    requires within { 2 * interval / 64 < length row.now }
-    ensures small { result < 4 }
-    ensures bits { (q : EndOf) → bit_at result (end_number q) ≡ bit_of row.now (point_in (points_of interval) q) }
-{
-    let word = row[2 * interval as usize / 64] >> (2 * interval % 64);
-    (word & 3) as u32
 }

@@ -40,7 +40,7 @@ pub weaker_cells_can_fail : WeakerCellsCanFail
 weaker_cells_can_fail table atom closed f t weak = counter_time table.points (cell_at table) closed atom f t weak
 
 -- a denied atom is false where the cell is kept
-denied_false : (x : Cell) (strict : Bool) (a b : ℕ) → Denies x strict → Says x b a → IsInOrder strict a b → ⊥
+pub denied_false : (x : Cell) (strict : Bool) (a b : ℕ) → Denies x strict → Says x b a → IsInOrder strict a b → ⊥
 denied_false Free strict a b d said holds = d
 denied_false Weak true a b d said holds = omega arith
 denied_false Weak false a b d said holds = d
@@ -123,7 +123,7 @@ order_says Strict true a b h k = k
 order_says Strict false a b h k = omega arith
 
 -- what a cell says, from what it says in both cases
-says_of : (x : Cell) (a b : ℕ) → (x ≡ Strict → a < b) → (x ≡ Weak → a ≤ b) → Says x a b
+pub says_of : (x : Cell) (a b : ℕ) → (x ≡ Strict → a < b) → (x ≡ Weak → a ≤ b) → Says x a b
 says_of Free a b s w = tt
 says_of Weak a b s w = w refl
 says_of Strict a b s w = s refl

@@ -1,7 +1,8 @@
 -- A closed table has least ranks, also where an atom is to be false that none of its cells says.
-use Rattle.std.proofs.Common.{◌≡◌, ◌↔◌, ℕ, zero, suc, ◌<◌, ◌≤◌, max, Bool, true, false, cond, List, map, refl, sym, ap, ◌∙◌, arith, inl, inr}
+use Rattle.std.proofs.Common.{◌≡◌, ◌↔◌, ℕ, zero, suc, ◌<◌, ◌≤◌, max, Bool, true, false, cond, List, length, map, refl, sym, ap, ◌∙◌, arith, inl, inr, le_antisymm}
 use Rattle.std.specs.List.{range_with_len}
 use Rattle.std.proofs.lemmas.Bool.{cases_lt}
+use Rattle.std.proofs.lemmas.Grind.{same_number_lists}
 use Rattle.std.proofs.lemmas.List.FromFn.{get_or-map-range_with_len, length-map-range_with_len}
 use Rattle.net_core.specs.Atoms.{Satisfies}
 use Rattle.net_core.specs.Least.{AreLeast, IsLeast}
@@ -135,3 +136,8 @@ counter_ranks n cell atom closed lf lt weak =
         λ h. (kept t).1 (h.0, (opposite_is atom t).1 h.1),
       )) found.1,
     )
+
+-- of ranks of n points there is one list that is the least timeline of a property
+pub one_least_of : (n : ℕ) (P : Timeline → Type 0) (a b : List ℕ) → length a ≡ n → length b ≡ n → IsLeast n P (timeline_of a) → IsLeast n P (timeline_of b) → a ≡ b
+one_least_of n P a b la lb h k = same_number_lists a b (la ∙ sym lb) (λ p less.
+    le_antisymm (h.least (timeline_of b) k.holds p (omega (arith, less, la))) (k.least (timeline_of a) h.holds p (omega (arith, less, la))))

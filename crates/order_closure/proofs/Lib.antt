@@ -14,3 +14,6 @@ pub mod Reached
 pub mod Adding
 pub mod New
 pub mod Ones
+pub mod Chosen
+pub mod OrderBits
+pub mod Masks

@@ -46,7 +46,7 @@ round Strict y Strict true h k = absurd (omega arith)
 round Strict y Strict false h k = absurd (omega arith)
 round x y z o h k = absurd (omega arith)
 
-left_weaker : (x y : Cell) → strength x ≤ strength (stronger x y)
+pub left_weaker : (x y : Cell) → strength x ≤ strength (stronger x y)
 left_weaker x y = rw strength-stronger (omega arith)
 
 right_weaker : (x y : Cell) → strength y ≤ strength (stronger x y)
@@ -96,6 +96,17 @@ order_in : (x : Cell) (o : Bool) → strength (order o) ≤ strength (stronger x
 order_in x true = rw strength-stronger (omega arith)
 order_in x false = rw strength-stronger (omega arith)
 
+-- a raised cell is true of a timeline that satisfies the atom and of which three cells are true: the cell itself, that to the atom and that from it
+pub raised_says : (cell : ℕ → ℕ → Cell) (atom : Atom) (time : Timeline) (i j : ℕ) → Says (cell i j) (time i) (time j) → Says (cell i atom.from) (time i) (time atom.from) → Says (cell atom.to j) (time atom.to) (time j)
+    → Satisfies time atom → Says (stronger (cell i j) (way cell atom i j)) (time i) (time j)
+raised_says cell atom time i j here to from holds =
+    both_hold (cell i j) (way cell atom i j) _ _ here (joined_holds (joined (cell i atom.from) (order atom.strict)) (cell atom.to j) (time i) (time atom.to) (time j)
+    (joined_holds (cell i atom.from) (order atom.strict) (time i) (time atom.from) (time atom.to) to (holds_order atom.strict _ _ holds)) from)
+
+-- and it says at least the order of the atom, at the atom
+pub atom_raised : (cell : ℕ → ℕ → Cell) (atom : Atom) → cell atom.from atom.from ≡ Weak → cell atom.to atom.to ≡ Weak → strength (order atom.strict) ≤ strength (stronger (cell atom.from atom.to) (way cell atom atom.from atom.to))
+atom_raised cell atom e k = rw (e, k) (order_in (cell atom.from atom.to) atom.strict)
+
 module _ (n : ℕ) (cell : ℕ → ℕ → Cell) (atom : Atom) (closed : AreClosed n cell) (f : atom.from < n) (t : atom.to < n) (fits : ¬ Denies (cell atom.to atom.from) atom.strict) where
   -- a cell, and then the way
   before : (i j k : ℕ) → i < n → j < n → strength (joined (cell i j) (way cell atom j k)) ≤ strength (way cell atom i k)
@@ -141,8 +152,7 @@ module _ (n : ℕ) (cell : ℕ → ℕ → Cell) (atom : Atom) (closed : AreClos
     raised_kept time = (
       λ kept. (
         λ i j li lj. weaker_holds _ (raised i j) _ _ (rw (is i j li lj) (left_weaker _ _)) (kept i j li lj),
-        order_holds atom.strict _ _ (weaker_holds (order atom.strict) (raised atom.from atom.to) _ _ (rw (is atom.from atom.to f t, closed.itself atom.from f, closed.itself atom.to t) (order_in (cell atom.from atom.to) atom.strict)) (kept atom.from atom.to f t)),
+        order_holds atom.strict _ _ (weaker_holds (order atom.strict) (raised atom.from atom.to) _ _ (rw (is atom.from atom.to f t) (atom_raised cell atom (closed.itself atom.from f) (closed.itself atom.to t))) (kept atom.from atom.to f t)),
       ),
-      λ both. λ i j li lj. rw (is i j li lj) (both_hold _ _ _ _ (both.0 i j li lj) (joined_holds (joined (cell i atom.from) (order atom.strict)) _ (time i) (time atom.to) (time j)
-          (joined_holds (cell i atom.from) (order atom.strict) (time i) (time atom.from) (time atom.to) (both.0 i atom.from li f) (holds_order atom.strict _ _ both.1)) (both.0 atom.to j t lj))),
+      λ both. λ i j li lj. rw (is i j li lj) (raised_says cell atom time i j (both.0 i j li lj) (both.0 i atom.from li f) (both.0 atom.to j t lj) both.1),
     )

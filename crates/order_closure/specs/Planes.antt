@@ -1,5 +1,5 @@
 -- Two planes of bits stand for the cells of a table.
-use Rattle.std.specs.Prelude.{◌≡◌, ◌≢◌, ℕ, ◌+◌, ◌*◌, ◌/◌, ◌%◌, ◌<◌, ◌≤◌, ◌==◌, Bool, true, false, List, length, max, slice_index}
+use Rattle.std.specs.Prelude.{◌≡◌, ◌≢◌, ◌⊎◌, ℕ, ◌+◌, ◌*◌, ◌/◌, ◌%◌, ◌<◌, ◌≤◌, ◌==◌, Bool, true, false, List, length, max, slice_index}
 use Rattle.std.specs.Int.{bit_at}
 use Rattle.order_closure.specs.Bits.{bit_of}
 use Rattle.order_closure.specs.Tables.{AreClosed, max_table_points}
@@ -48,6 +48,12 @@ AreClosedPlanes n w weak strict reached = record {
 -- words that begin with those of row i of a plane
 abbrev pub BeginWithRow : ℕ → ℕ → List ℕ → List ℕ → Type 0
 BeginWithRow w i plane words = (k : ℕ) → k < w → slice_index words k ≡ slice_index plane (i * w + k)
+
+-- of w words, those before the first number and those from the second one on have no bits
+pub record AreUsed (w : ℕ) (words : List ℕ) (start end : ℕ) : Type 0 where
+  pub order : start ≤ end
+  pub within : end ≤ w
+  pub clear : (k : ℕ) → k < w → (k < start) ⊎ (end ≤ k) → slice_index words k ≡ 0
 
 -- row i is joined with other words, bit by bit, and the other rows are as they were
 pub record IsRowJoined (w i : ℕ) (over old new : List ℕ) : Type 0 where

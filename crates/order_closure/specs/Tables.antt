@@ -70,3 +70,7 @@ Denies Strict strict = ⊤
 Denies Weak true = ⊤
 Denies Weak false = ⊥
 Denies Free strict = ⊥
+
+-- the cell of an atom says at least its order
+abbrev pub Gives : Table → Atom → Type 0
+Gives table atom = strength (order atom.strict) ≤ strength (cell_at table atom.from atom.to)

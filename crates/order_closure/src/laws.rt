@@ -1,4 +1,5 @@
 //! Laws of tables: public functions that do nothing, each with the law as its contract.
+ghost use Rattle.order_closure.specs.Chosen.{ChosenPointsDecide};
 ghost use Rattle.order_closure.specs.Timelines.{ClosedTablesHaveTimelines, WeakerCellsCanFail};
 
 /// The central law: where a cell of a closed table is weaker than an atom, some timeline keeps every cell and makes the
@@ -11,4 +12,10 @@ pub fn weaker_cells_can_fail()
 /// `Closed::add` answers `WouldClash` exactly where no timeline satisfies the atoms so far and this one.
 pub fn closed_tables_have_timelines()
     ensures { ClosedTablesHaveTimelines }
+{}
+
+/// Whatever points of a closed table are chosen, an order of them that keeps the cells among them is their order in some
+/// timeline that keeps all cells: an atom between chosen points changes their cells by their cells alone.
+pub fn chosen_points_decide()
+    ensures { ChosenPointsDecide }
 {}

@@ -1,5 +1,5 @@
 //! A plane of bits: rows of as many words of 64 bits each, one after another.
-ghost use Rattle.order_closure.specs.Planes.{BeginWithRow, most_words, plane_bit, plane_cell};
+ghost use Rattle.order_closure.specs.Planes.{AreUsed, BeginWithRow, most_words, plane_bit, plane_cell};
 ghost use Rattle.order_closure.specs.Tables.{max_table_points};
 ghost use Rattle.std.specs.Prelude.{IfOk, if◌then◌else◌, length, slice_index, vec_len, ℕ, ◌*◌, ◌+◌, ◌/◌, ◌<◌, ◌==◌, ◌≡◌, ◌≤◌};
 
@@ -52,17 +52,47 @@ pub fn row(plane: &[u64], width: usize, i: usize) -> &[u64]
     &plane[i * width..(i + 1) * width]
 }
 
-/// The words of row `i`, and words in which no bit is set. They stand apart from the plane, so that the compiler knows that
-/// no write to the plane changes them.
-pub fn copied_row(plane: &[u64], width: usize, i: usize) -> [u64; MOST_WORDS]
+/// The words of a row, and words in which no bit is set. They stand apart from the plane, so that the compiler knows that no
+/// write to the plane changes them.
+#[derive(Drop)]
+pub struct CopiedRow {
+    pub words: [u64; MOST_WORDS],
+    /// No bit is set in the words before this one.
+    pub start: usize,
+    /// No bit is set in this word or one after it.
+    pub end: usize,
+}
+
+/// The words of row `i`, and which of them have bits.
+pub fn copied_row(plane: &[u64], width: usize, i: usize) -> CopiedRow
     requires words { width ≤ most_words }
     requires i { i ≤ max_table_points }
     requires within { i * width + width ≤ length plane.now }
-    ensures { BeginWithRow width i plane.now result }
+    ensures row { BeginWithRow width i plane.now result.words }
+    ensures used { AreUsed width result.words result.start result.end }
 {
     let mut words = [0; MOST_WORDS];
     words[..width].copy_from_slice(row(plane, width, i));
-    words
+    let (start, end) = used(&words, width);
+    CopiedRow { words, start, end }
+}
+
+/// The first word of a row that has bits, and the one after the last.
+fn used(words: &[u64], width: usize) -> (usize, usize)
+    requires { width ≤ length words.now }
+    ensures { AreUsed width words.now result.0 result.1 }
+{
+    let mut start = 0;
+    let mut end = 0;
+    for k in 0..width {
+        if words[k] != 0 {
+            if end == 0 {
+                start = k;
+            }
+            end = k + 1;
+        }
+    }
+    (start, end)
 }
 
 /// Whether bit `j` of row `i` is set.

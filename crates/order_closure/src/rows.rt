@@ -1,11 +1,11 @@
 //! The rows of a table, joined with one of them.
 ghost use Rattle.order_closure.specs.Cells.{joined, order, strength, stronger};
-ghost use Rattle.order_closure.specs.Planes.{ArePlanes, IsRowJoined, MarksReached, most_words, plane_bit, plane_cell};
+ghost use Rattle.order_closure.specs.Planes.{ArePlanes, AreUsed, IsRowJoined, MarksReached, most_words, plane_bit, plane_cell};
 ghost use Rattle.order_closure.specs.Tables.{AreClosed, max_table_points, way};
 ghost use Rattle.std.specs.Prelude.{IsTrue, bit_or, length, slice_index, ℕ, ◌*◌, ◌+◌, ◌/◌, ◌<◌, ◌↔◌, ◌≡◌, ◌≢◌, ◌≤◌};
 
 use crate::Cell;
-use crate::planes::{cell_at, copied_row, has_bit};
+use crate::planes::{CopiedRow, cell_at, copied_row, has_bit};
 use net_core::Atom;
 use std::ops::Range;
 
@@ -95,19 +95,19 @@ fn raise_row(
     strict: &mut [u64],
     width: usize,
     i: usize,
-    over_weak: &[u64],
-    over_strict: &[u64],
+    over_weak: &CopiedRow,
+    over_strict: &CopiedRow,
     way: Cell,
 )
     requires words { width ≤ most_words }
     requires i { i ≤ max_table_points }
     requires weak { i * width + width ≤ length weak.old }
     requires strict { i * width + width ≤ length strict.old }
-    requires over_weak { width ≤ length over_weak.now }
-    requires over_strict { width ≤ length over_strict.now }
-    ensures weak { IsRowJoined width i over_weak.now weak.old weak.new }
-    ensures by_strict { way ≡ Cell.Strict → IsRowJoined width i over_weak.now strict.old strict.new }
-    ensures by_weak { way ≢ Cell.Strict → IsRowJoined width i over_strict.now strict.old strict.new }
+    requires over_weak { AreUsed width over_weak.now.words over_weak.now.start over_weak.now.end }
+    requires over_strict { AreUsed width over_strict.now.words over_strict.now.start over_strict.now.end }
+    ensures weak { IsRowJoined width i over_weak.now.words weak.old weak.new }
+    ensures by_strict { way ≡ Cell.Strict → IsRowJoined width i over_weak.now.words strict.old strict.new }
+    ensures by_weak { way ≢ Cell.Strict → IsRowJoined width i over_strict.now.words strict.old strict.new }
 {
     join_row(weak, width, i, over_weak);
     if way == Cell::Strict {
@@ -117,15 +117,17 @@ fn raise_row(
     }
 }
 
-/// Joins row `i` of a plane with other words.
-pub fn join_row(plane: &mut [u64], width: usize, i: usize, over: &[u64])
+/// Joins row `i` of a plane with the words of another row. Only those that have bits are joined: of most rows they are few.
+pub fn join_row(plane: &mut [u64], width: usize, i: usize, over: &CopiedRow)
     requires words { width ≤ most_words }
     requires i { i ≤ max_table_points }
     requires within { i * width + width ≤ length plane.old }
-    requires over { width ≤ length over.now }
-    ensures { IsRowJoined width i over.now plane.old plane.new }
+    requires over { AreUsed width over.now.words over.now.start over.now.end }
+    ensures { IsRowJoined width i over.now.words plane.old plane.new }
 {
-    join(&mut plane[i * width..(i + 1) * width], over);
+    let first = i * width;
+    let words = &over.words[over.start..over.end];
+    join(&mut plane[first + over.start..first + over.end], words);
 }
 
 /// Joins words with the first of others. The loop has no branch, so that the compiler can take many words at once.

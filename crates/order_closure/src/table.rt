@@ -7,7 +7,7 @@ ghost use Rattle.order_closure.specs.Tables.{AreInRange, Denies, IsClosed, Keeps
 ghost use Rattle.std.specs.Prelude.{IfOk, IsErr, List, OnErr, OnOk, [], ◌++◌, ◌<◌, ◌∷◌, ◌↔◌, ◌≡◌, ◌≢◌, ◌≤◌};
 
 use crate::Cell;
-use crate::planes::{MOST_WORDS, cell_at, clear, reflect, row};
+use crate::planes::{MOST_WORDS, cell_at, clear, copied_row, reflect, row};
 use crate::rows::{join_row, raise};
 use net_core::{Atom, Memory};
 use std::alloc::Global;
@@ -160,8 +160,8 @@ impl Closed {
             atom,
         );
         // What is now before a point or with it was so, or is so over `atom.to`.
-        let over = row(&self.weak, self.width, atom.to as usize);
-        join_row(&mut self.reached, self.width, 0, over);
+        let over = copied_row(&self.weak, self.width, atom.to as usize);
+        join_row(&mut self.reached, self.width, 0, &over);
         Ok(())
     }
 }

@@ -5,9 +5,10 @@ use Rattle.net_core.specs.Atoms.{orders_of}
 use Rattle.net_core.specs.Rels.{all_rels}
 use Rattle.net_core.specs.declared.rels.Rel.TheVariants as rel
 use Rattle.derive_rel.specs.Entailed.{IsRow}
-use Rattle.derive_rel.specs.Pairs.{mask_for, mask_of}
+use Rattle.derive_rel.specs.Pairs.{mask_for}
 use Rattle.derive_rel.specs.Pushing.{ArePutLast}
 use Rattle.derive_rel.specs.declared.pairs.Mask.{Mask}
+use Rattle.order_closure.specs.Between.{mask_of}
 use Rattle.derive_rel.proofs.Masks.{mask_entails}
 use Rattle.derive_rel.proofs.Turns.{IsOfFirst, last_relation, no_relation, one_relation, rel_at, row_of}
 use Rattle.derive_rel.proofs.all_rows.push_all.Goals as goal
@@ -22,12 +23,12 @@ loop-mask-preserved c =
     let rows = c.loop-mask.rows in
     let k = c.loop-mask.mask-index in
     let r = rel_at k in
-    let set = c.given-given.result in
+    let set = c.orders_between-given.result in
     let none : Mask = record { rel = rel.Before; bits = 0 } in
     let lt : k < length all_rels = omega (arith, c.loop-mask-test.true, ap length c.requires.masks, length-map all_rels mask_for) in
     let is : slice_index_or c.args.masks.now k none ≡ mask_for r = ap (λ (masks : List Mask). slice_index_or masks k none) c.requires.masks ∙ get_or-map mask_for all_rels k rel.Before none lt in
     let test : c.is_in.result ≡ (bit_and set (mask_of (orders_of r)) == mask_of (orders_of r)) = c.is_in.ensures ∙ ap (λ (mask : Mask). bit_and set mask.bits == mask.bits) is in
-    let entails = mask_entails table a b set r c.given-given.ensures in
+    let entails = mask_entails table a b set r c.orders_between-given.ensures in
     elim c.if-is_in.branch [
       | then-is_in+in_ok-push w ↦
           subst (ArePutLast (IsRow table) (IsOfFirst a b (k + 1)) before) (sym (w.rows-is ∙ w.in_ok-push.ensures.ok ∙ ap (λ (mask : Mask). rows ++ row_of a b mask.rel ∷ []) is))

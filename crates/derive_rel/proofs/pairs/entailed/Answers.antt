@@ -2,4 +2,4 @@ use Rattle.derive_rel.proofs.Masks.{mask_entails}
 use Rattle.derive_rel.proofs.pairs.entailed.Goals as goal
 
 pub returns : goal.returns
-returns c = λ r. mask_entails c.args.closed.now c.args.a c.args.b c.given-given.result r c.given-given.ensures
+returns c = λ r. mask_entails c.args.closed.now c.args.a c.args.b c.orders_between.result r c.orders_between.ensures

@@ -6,4 +6,6 @@ pub returns : goal.returns
 returns c =
     let w = c.args.width in
     let i = c.args.i in
-    row_joined w i c.args.over.now c.args.plane.now c.join.new.row ((i + 1) * w - i * w) (omega arith) c.requires.within c.join.auto.row c.join.ensures
+    let s = c.args.over.now.start in
+    let e = c.args.over.now.end in
+    row_joined w i s e c.args.over.now.words c.args.plane.now c.join.new.row ((i * w + e) - (i * w + s)) (omega arith) c.requires.within c.requires.over (omega arith) c.join.auto.row c.join.ensures

@@ -31,7 +31,7 @@ loop-i-preserved c =
           let is = t.joined-way.ensures ∙ (λ k. joined (t.cell_at.ensures k) (c.order-order.ensures k)) in
           let more : strength (now i to) < strength way = rw is (c.is_raised.ensures.0 t.if-is_raised.true) in
           let new = t.raise_row.new in
-          let row = raised_row n w to c.args.weak.now c.args.strict.now c.requires.planes c.requires.to c.copied_row-over_weak.result c.copied_row-over_strict.result c.copied_row-over_weak.ensures c.copied_row-over_strict.ensures
+          let row = raised_row n w to c.args.weak.now c.args.strict.now c.requires.planes c.requires.to c.copied_row-over_weak.result.words c.copied_row-over_strict.result.words c.copied_row-over_weak.ensures.row c.copied_row-over_strict.ensures.row
           c.loop-i.weak c.loop-i.strict c.loop-i.invariant.planes i li way new.weak new.strict t.raise_row.ensures.weak t.raise_row.ensures.by_strict t.raise_row.ensures.by_weak (omega (arith, more)) t.raise_row.auto.weak t.raise_row.auto.strict in
           record {
             planes = rw (t.weak-is, t.strict-is) row.planes;

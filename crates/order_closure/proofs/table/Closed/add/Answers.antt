@@ -88,9 +88,9 @@ invariant_of-self c =
     let a = before.After-raise in
     let w = c.self.inside.width in
     let fit = plane_fits before.Else-denies in
-    let over = c.row-over.result.now in
+    let over = c.copied_row-over.result.words in
     let words : BeginWithRow w c.args.atom.to c.raise.new.weak over = λ k lk.
-    c.row-over.ensures.words k lk ∙ ap (λ (plane : List ℕ). get_or plane (c.args.atom.to * w + k) 0) (c.deref.ensures.value ∙ weak_items a fit) in
+    c.copied_row-over.ensures.row k lk ∙ ap (λ (plane : List ℕ). get_or plane (c.args.atom.to * w + k) 0) (c.deref.ensures.value ∙ weak_items a fit) in
     planes a fit c.join_row.new.plane
     (raised_marked c.self.inside.size w (wide a fit) (old a fit) c.args.atom (to a fit) c.raise.new.weak c.raise.new.strict (raised a fit) c.self.inside.reached over c.join_row.new.plane words c.self.invariant.marked c.join_row.ensures)
 

@@ -13,7 +13,7 @@ use Rattle.order_closure.specs.Cells.{order, strength}
 use Rattle.order_closure.specs.Tables.{Table, cell_at}
 use Rattle.order_closure.specs.declared.cell.Cell.{Cell}
 use Rattle.order_closure.specs.declared.cell.Cell.TheVariants.{Free, Weak, Strict}
-use Rattle.derive_rel.specs.Pairs.{AreGiven, end_number}
+use Rattle.order_closure.specs.Between.{AreGiven, end_number}
 
 -- ---- two bits of a word
 

@@ -1,9 +1,9 @@
 use Rattle.std.proofs.Common.{◌≡◌, ◌≢◌, ◌+◌, ◌*◌}
 use Rattle.order_closure.specs.Tables.{cell_at}
 use Rattle.order_closure.specs.declared.cell.Cell.TheVariants.{Free, Strict}
-use Rattle.derive_rel.specs.Pairs.{end_number}
-use Rattle.derive_rel.proofs.Given.{rows_say, strict_bits, weak_bits}
-use Rattle.derive_rel.proofs.pairs.one_way.Goals as goal
+use Rattle.order_closure.specs.Between.{end_number}
+use Rattle.order_closure.proofs.OrderBits.{rows_say, strict_bits, weak_bits}
+use Rattle.order_closure.proofs.between.one_way.Goals as goal
 
 pub returns-clause-weak : goal.returns-clause-weak
 returns-clause-weak c =

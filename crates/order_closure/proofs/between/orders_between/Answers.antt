@@ -1,5 +1,5 @@
-use Rattle.derive_rel.proofs.Given.{both_ways_given}
-use Rattle.derive_rel.proofs.pairs.given.Goals as goal
+use Rattle.order_closure.proofs.OrderBits.{both_ways_given}
+use Rattle.order_closure.proofs.between.orders_between.Goals as goal
 
 pub returns : goal.returns
 returns c = both_ways_given c.args.closed.now c.args.a c.args.b c.one_way-2.result c.one_way.result
