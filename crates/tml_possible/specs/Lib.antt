@@ -1,0 +1,4 @@
+pub mod Possible
+pub mod Sets
+pub mod Examples
+pub mod Trying

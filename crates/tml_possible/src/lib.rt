@@ -1,0 +1,13 @@
+//! Which of the thirteen base relations two intervals can still have, each with a timeline that shows it.
+#![tactic(auto)]
+
+mod base_set;
+mod checking;
+mod possible_sets;
+mod timelines;
+mod trying;
+
+pub use base_set::BaseSet;
+pub use checking::check_possible;
+pub use possible_sets::possible_set;
+pub use timelines::{PossibleItem, possible};
