@@ -1,2 +1,4 @@
 pub mod Answered
 pub mod Refusals
+pub mod NamedIntervals
+pub mod Reporting

@@ -1,3 +1,4 @@
 pub mod Documents
 pub mod Judged
 pub mod Lines
+pub mod Names

@@ -116,7 +116,8 @@ fn push_timelines(out: &mut Vec<u8>, timelines: &[Ranks]) -> Result<(), AllocErr
     Ok(())
 }
 
-fn push_timeline(out: &mut Vec<u8>, ranks: &Ranks) -> Result<(), AllocError>
+/// Appends the lines of a timeline, as evidence has them: how many intervals there are, and the ranks of each.
+pub fn push_timeline(out: &mut Vec<u8>, ranks: &Ranks) -> Result<(), AllocError>
     requires { IsNumber (length (pairs_of ranks.now)) }
     ensures { OnOk result (out.new.items ≡ out.old.items ++ timeline_bytes (pairs_of ranks.now)) }
 {

@@ -1,6 +1,7 @@
 -- A document has one net, and what is asked of it an answer: where no timeline fits a minimal clash.
-use Rattle.std.proofs.Common.{◌≡◌, ◌⊎◌, ℕ, List, [], ◌∷◌, map, false, length, refl, sym, ap, subst, ◌∙◌, inl, inr}
+use Rattle.std.proofs.Common.{◌≡◌, ◌⊎◌, ℕ, ◌<◌, List, [], ◌∷◌, map, false, length, refl, sym, ap, subst, ◌∙◌, inl, inr, arith}
 use Rattle.std.specs.List.{Contains, concat}
+use Rattle.std.proofs.lemmas.Option.{slice_get_within}
 use Rattle.std.proofs.lemmas.Slice.Zip.{AllZip-long}
 use Rattle.answers.specs.Documents.{AreAnswered, doc_file, document_rows, of_contents, of_its_contents}
 use Rattle.answers.proofs.Answered.{contents_answered}
@@ -19,7 +20,7 @@ use Rattle.net_core.specs.Ranks.{pairs_of, timeline_of}
 use Rattle.net_core.proofs.StepLaws.{fits_fewer}
 use Rattle.tml_accept.specs.Acceptance.{Says}
 use Rattle.tml_accept.proofs.Phases.{one_document}
-use Rattle.tml_refs.specs.Documents.{PlainDocument}
+use Rattle.tml_refs.specs.Documents.{IsNamed, PlainDocument}
 use Rattle.tml_refs.proofs.Documents.{resolved_document}
 use Rattle.tml_run.specs.Answered.{AreAnswered as RowsAreAnswered}
 use Rattle.tml_run.specs.OneFile.{of_its_bytes}
@@ -39,6 +40,10 @@ one_net_of doc net other h k =
 -- a net has an interval for each of its document
 pub as_many : (contents : PlainDocument) (net : PlainNet) → IsNetOf contents net → length contents.intervals ≡ intervals net
 as_many contents net built = sym (AllZip-long IntervalBounds contents.intervals net.bounds built.bounds)
+
+-- the number of a named interval is that of one of the net
+pub named_within : (contents : PlainDocument) (net : PlainNet) (name : List ℕ) (i : ℕ) → IsNetOf contents net → IsNamed contents.intervals name i → i < intervals net
+named_within contents net name i built named = omega (arith, slice_get_within contents.intervals i named.0 named.1, as_many contents net built)
 
 -- ---- every net is answered
 

@@ -1,23 +1,21 @@
 -- Whether a relation holds has one answer: one status, and one text, but for which walks prove a relation and which clash is printed.
-use Rattle.std.proofs.Common.{◌≡◌, ◌⊎◌, ◌<◌, ℕ, zero, suc, List, [], ◌∷◌, codes, false, refl, sym, ap, subst, ◌∙◌, inl, inr, arith, Option, Some, None}
-use Rattle.std.proofs.lemmas.Option.{slice_get_within}
-use mathlib.Core.List.{List-discrete}
-use native.Mathlib.Decide.{ℕ_discrete}
+use Rattle.std.proofs.Common.{◌≡◌, ◌⊎◌, ℕ, List, codes, false, refl, sym, ap, subst, ◌∙◌, inl, inr, Option, Some, None}
 use Rattle.answers.proofs.Answered.{contents_answered}
+use Rattle.answers.proofs.NamedIntervals.{named_or_not}
 use Rattle.answers.specs.Documents.{AreAnswered as ContentsAreAnswered, doc_file, of_contents, of_its_contents}
 use Rattle.named.specs.Texts.{NoneHas, named_of}
 use Rattle.named.proofs.Tables.{found_has, none_has, texts_tell}
 use Rattle.net_answers.specs.Nets.{of_fitting}
-use Rattle.net_answers.proofs.Nets.{as_many, fits_or_clash, fitting_text, its_net}
+use Rattle.net_answers.proofs.Nets.{fits_or_clash, fitting_text, its_net, named_within}
 use Rattle.net_build.specs.Built.{IsNetOf}
 use Rattle.net_build.proofs.OneNet.{one_net}
 use Rattle.net_core.specs.Entailment.{AreIntervals, Follows}
-use Rattle.net_core.specs.Nets.{PlainNet, intervals}
+use Rattle.net_core.specs.Nets.{PlainNet}
 use Rattle.net_core.specs.Rels.{all_rels, rel_text}
 use Rattle.net_core.specs.declared.rels.Rel.{Rel}
 use Rattle.net_core.proofs.RelLaws.{rels_apart}
 use Rattle.tml_accept.specs.Acceptance.{Says}
-use Rattle.tml_refs.specs.Documents.{IsNamed, PlainDocument, PlainInterval, name_of}
+use Rattle.tml_refs.specs.Documents.{IsNamed, PlainDocument}
 use Rattle.tml_refs.proofs.Documents.{resolved_document}
 use Rattle.tml_run.specs.Answered.{AreAnswered}
 use Rattle.tml_run.specs.OneReply.{is_broken_off}
@@ -59,25 +57,6 @@ one_name doc contents (root, (tree, (tags, types, resolved))) x rel y a r b c s 
       texts_tell rel_text all_rels r s rels_apart (h.relation ∙ sym k.relation),
       is.distinct y b d h.second k.second,
     )
-
--- the number of a named interval is that of one of the net
-pub named_within : (contents : PlainDocument) (net : PlainNet) (name : List ℕ) (i : ℕ) → IsNetOf contents net → IsNamed contents.intervals name i → i < intervals net
-named_within contents net name i built named = omega (arith, slice_get_within contents.intervals i named.0 named.1, as_many contents net built)
-
--- an interval has this name, or none has
-named_or_not : (intervals : List PlainInterval) (name : List ℕ) → Dec ((i : ℕ) × IsNamed intervals name i)
-named_or_not [] name = no (λ h. let at = h.1.1 in cc)
-named_or_not (interval ∷ intervals) name = elim (List-discrete ℕ_discrete (name_of interval) name) [
-  | yes same ↦ yes (0, (interval, refl, same))
-  | no other ↦ elim (named_or_not intervals name) [
-    | yes later ↦ yes (suc later.0, later.1)
-    | no none ↦ no (λ h. neither other none h.0 h.1)
-  ]
-]
-  where
-    neither : (name_of interval ≡ name → ⊥) → ((i : ℕ) × IsNamed intervals name i → ⊥) → (i : ℕ) → IsNamed (interval ∷ intervals) name i → ⊥
-    neither other none zero named = let same : interval ≡ named.0 = let at = named.1 in cc in other (ap name_of same ∙ named.2)
-    neither other none (suc i) named = none (i, named)
 
 -- a relation has this text, or none has
 relation_or_none : (text : List ℕ) → IsRelation text ⊎ NoneHas rel_text text

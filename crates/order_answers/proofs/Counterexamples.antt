@@ -12,14 +12,13 @@ use Rattle.net_core.specs.declared.rels.Rel.{Rel}
 use Rattle.net_core.proofs.AtomLaws.{atoms_say_the_relation}
 use Rattle.net_core.proofs.RankLaws.{even_length, ranks_again}
 use Rattle.order_closure.specs.Cells.{order, strength}
-use Rattle.order_closure.specs.Tables.{AreInRange, Keeps, Table, cell_at}
+use Rattle.order_closure.specs.Tables.{AreInRange, Gives, Keeps, Table, cell_at}
 use Rattle.net_core.specs.Least.{IsLeast}
 use Rattle.order_closure.specs.declared.cell.Cell.{Cell}
 use Rattle.order_closure.proofs.Central.{at_least_weak, order_says}
 use Rattle.clash.specs.Closures.{IsClosureOf}
 use Rattle.net_core.specs.Entailment.{Always, AlwaysHolds, AreIntervals}
 use Rattle.net_core.specs.Limits.{max_printed}
-use Rattle.derive_rel.specs.Entailed.{Gives}
 use Rattle.evidence_check.specs.Refusals.{atom_at}
 use Rattle.evidence_check.specs.Supported.{IsFalse, IsSupported}
 use Rattle.evidence_check.proofs.Soundness.{supported_is_true}

@@ -9,9 +9,9 @@ use Rattle.net_core.specs.Relations.{Timeline}
 use Rattle.net_core.specs.declared.atom.Atom.{Atom}
 use Rattle.net_core.specs.declared.rels.Rel.{Rel}
 use Rattle.net_core.proofs.AtomLaws.{atoms_in_range, atoms_say_the_relation}
-use Rattle.order_closure.specs.Tables.{Table}
+use Rattle.order_closure.specs.Tables.{Gives, Table}
 use Rattle.clash.specs.Closures.{IsClosureOf}
-use Rattle.derive_rel.specs.Entailed.{AreRows, TableEntails, Gives, IsRow}
+use Rattle.derive_rel.specs.Entailed.{AreRows, TableEntails, IsRow}
 use Rattle.derive_rel.specs.declared.all_rows.Row.{Row}
 use Rattle.net_core.specs.Entailment.{Follows}
 use Rattle.tml_refs.specs.Documents.{PlainDocument}

@@ -1,6 +1,6 @@
 -- Every net that some timeline fits has an answer to what is asked of it: the text of its least timeline, and of each relation a proof or a counterexample.
 use Rattle.std.proofs.Common.{◌⊎◌, inl, inr, ℕ, zero, suc, ◌*◌, ◌<◌, ◌≤◌, List, [], ◌∷◌, length, get_or, false, refl, ap, subst, sym, arith, None, Some}
-use Rattle.std.specs.List.{AllByRecursion, Contains, concat}
+use Rattle.std.specs.List.{AllByRecursion, Contains}
 use Rattle.std.proofs.lemmas.Bool.{cases_lt}
 use Rattle.std.proofs.lemmas.List.{get_or_past}
 use Rattle.std.proofs.lemmas.List.Elements.{All-cons, All-from_get_or, All-from_recursion, All-get_or, All-nil, recursion_from_All}

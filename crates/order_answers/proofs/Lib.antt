@@ -8,7 +8,7 @@ pub mod EveryDrill
 pub mod Fitting
 pub mod OneCounterexample
 pub mod RelationsAnswered
-pub mod Reporting
 pub mod SolveAnswered
 pub mod Timelines
 pub mod WalkProofs
+pub mod RowLines

@@ -1,6 +1,5 @@
 -- Where a counterexample is an answer to what is asked of a net, it is the only one.
 use Rattle.std.proofs.Common.{◌≡◌, ℕ, List, Some, length, sym, ap, subst, ◌∙◌, inl, inr}
-use Rattle.std.specs.List.{concat}
 use Rattle.net_core.specs.Atoms.{Satisfies, atoms_of}
 use Rattle.net_core.specs.Fits.{Fits}
 use Rattle.net_core.specs.Nets.{PlainNet, points}
@@ -14,7 +13,7 @@ use Rattle.evidence_format.specs.Evidence.{counter}
 use Rattle.evidence_format.proofs.Claims.{claim_text}
 use Rattle.net_core.specs.Entailment.{AlwaysHolds}
 use Rattle.order_answers.specs.Ask.{IsFirstOpen, OneCounterexample, ShowsCounterexample}
-use Rattle.order_answers.proofs.Timelines.{one_least_of}
+use Rattle.order_closure.proofs.LeastRanks.{one_least_of}
 
 -- a relation has one first open order
 one_open : (net : PlainNet) (atoms : List Atom) (x y : Atom) → IsFirstOpen net atoms x → IsFirstOpen net atoms y → x ≡ y

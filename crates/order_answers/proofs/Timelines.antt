@@ -1,6 +1,5 @@
 -- The least timeline of a document, and its text.
-use Rattle.std.proofs.Common.{◌≡◌, ℕ, List, length, sym, subst, ◌∙◌, arith, le_antisymm}
-use Rattle.std.proofs.lemmas.Grind.{same_number_lists}
+use Rattle.std.proofs.Common.{◌≡◌, ℕ, List, length, sym, subst, ◌∙◌, arith}
 use Rattle.net_core.specs.Fits.{Fits, RanksFit}
 use Rattle.net_core.specs.Nets.{PlainNet, points}
 use Rattle.net_core.specs.Ranks.{pairs_of, timeline_of}
@@ -11,6 +10,7 @@ use Rattle.evidence_check.specs.Supported.{IsSupported}
 use Rattle.evidence_format.specs.Bundles.{IsClaimText}
 use Rattle.evidence_format.specs.Evidence.{timeline}
 use Rattle.order_closure.specs.Tables.{Keeps, Table}
+use Rattle.order_closure.proofs.LeastRanks.{one_least_of}
 use Rattle.net_core.specs.Least.{AreLeastRanks, IsLeast}
 use Rattle.order_answers.specs.Solve.{IsLeastText, ShowsTimeline}
 
@@ -32,11 +32,6 @@ shows_timeline net table text c l =
     let size = l.1 ∙ c.size in
     let least = least_fits net table (timeline_of ranks) c l.2 in
     (ranks, (size, least), (l.3, timeline_supported net ranks (size, least.holds), (timeline_of ranks, least.holds), l.4))
-
--- of ranks of n points there is one list that is the least timeline of a property
-pub one_least_of : (n : ℕ) (P : Timeline → Type 0) (a b : List ℕ) → length a ≡ n → length b ≡ n → IsLeast n P (timeline_of a) → IsLeast n P (timeline_of b) → a ≡ b
-one_least_of n P a b la lb h k = same_number_lists a b (la ∙ sym lb) (λ p less.
-    le_antisymm (h.least (timeline_of b) k.holds p (omega (arith, less, la))) (k.least (timeline_of a) h.holds p (omega (arith, less, la))))
 
 -- a net has one least timeline
 pub one_least : (net : PlainNet) (a b : List ℕ) → AreLeastRanks net a → AreLeastRanks net b → a ≡ b

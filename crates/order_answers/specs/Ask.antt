@@ -1,8 +1,9 @@
 -- The command `ask`: whether a relation holds between two intervals of a document, by the words for it and for them.
-use Rattle.std.specs.Prelude.{◌≡◌, ◌⊎◌, ℕ, ◌*◌, ◌<◌, ◌≤◌, List, codes, length, None, Some}
+use Rattle.std.specs.Prelude.{◌≡◌, ◌⊎◌, ℕ, ◌*◌, ◌≤◌, List, codes, length, None, Some}
 use Rattle.std.specs.List.{All}
 use Rattle.std.specs.declared.option.Option.{Option}
 use Rattle.answers.specs.Documents.{Contents, document_rows, of_its_contents}
+use Rattle.answers.specs.Names.{NamesNone, NamesOne}
 use Rattle.evidence_check.specs.Refusals.{Proves, atom_at}
 use Rattle.evidence_format.specs.Bundles.{IsClaimText}
 use Rattle.evidence_format.specs.Evidence.{entails, counter}
@@ -21,9 +22,8 @@ use Rattle.net_core.specs.Rels.{rel_text}
 use Rattle.net_core.specs.declared.atom.Atom.{Atom}
 use Rattle.net_core.specs.declared.rels.Rel.{Rel}
 use Rattle.net_core.specs.declared.step.Step.{Step}
-use Rattle.order_closure.specs.Tables.{Keeps, Table}
+use Rattle.order_closure.specs.Tables.{Gives, Keeps, Table}
 use Rattle.net_core.specs.Least.{IsLeast}
-use Rattle.derive_rel.specs.Entailed.{Gives}
 use Rattle.tml_refs.specs.Documents.{PlainDocument, IsNamed}
 use Rattle.tml_run.specs.Answered.{Freedom}
 use Rattle.tml_run.specs.OneFile.{of_its_bytes}
@@ -32,14 +32,6 @@ use Rattle.tml_run.specs.declared.status.Status.{Status}
 use Rattle.tml_run.specs.declared.status.Status.TheVariants.{Clash, Done, UnknownName}
 
 -- ---- the words
-
--- no interval has this name
-abbrev pub NamesNone : PlainDocument → List ℕ → Type 0
-NamesNone contents name = (i : ℕ) → IsNamed contents.intervals name i → ⊥
-
--- some interval has this name
-abbrev pub NamesOne : PlainDocument → List ℕ → Type 0
-NamesOne contents name = (i : ℕ) × IsNamed contents.intervals name i
 
 -- some relation has this text
 abbrev pub IsRelation : List ℕ → Type 0
@@ -84,10 +76,6 @@ abbrev pub OneCounterexample : Type 0
 OneCounterexample = (net : PlainNet) (a : ℕ) (r : Rel) (b : ℕ) (text line : List ℕ) → OfRelation a r b net Done text → ShowsCounterexample net a r b line → text ≡ line
 
 -- ---- the answer
-
--- these are the numbers of intervals of the document
-abbrev pub AreOf : PlainDocument → ℕ → ℕ → Type 0
-AreOf contents a b = (a < length contents.intervals) × (b < length contents.intervals)
 
 -- what is answered of intervals by their numbers
 abbrev pub of_numbers : ℕ → Rel → ℕ → NetAnswers

@@ -1,16 +1,14 @@
 //! The command `ask`: whether a relation holds between two intervals of a document.
-ghost use Rattle.std.specs.Prelude.{◌≡◌, IfOk};
-
 mod deciding;
 mod proving;
 
-use answers::OfDocument;
+use answers::{OfDocument, unknown_name};
 use deciding::Numbers;
 use net_answers::answer_of_net;
 use net_core::rel_of;
 use std::alloc::{AllocError, Global};
 use tml_refs::Document;
-use tml_run::{Answer, Finding};
+use tml_run::Answer;
 
 /// The command `ask`, with the words for an interval, a relation and another interval.
 #[derive(Clone, Copy)]
@@ -29,26 +27,14 @@ impl OfDocument for Ask<'_> {
     /// clash where no timeline fits, as evidence; or the first word that names nothing.
     fn answer(&self, alloc: Global, document: &Document<'_>) -> Result<Answer, AllocError> {
         let Some(a) = document.index_of(self.x) else {
-            return unknown(alloc, b"unknown X\n");
+            return unknown_name(alloc, b"unknown X\n");
         };
         let Some(rel) = rel_of(self.rel) else {
-            return unknown(alloc, b"unknown REL\n");
+            return unknown_name(alloc, b"unknown REL\n");
         };
         let Some(b) = document.index_of(self.y) else {
-            return unknown(alloc, b"unknown Y\n");
+            return unknown_name(alloc, b"unknown Y\n");
         };
         answer_of_net(alloc, &Numbers { a, rel, b }, document)
     }
-}
-
-/// The answer that a word names nothing.
-fn unknown(alloc: Global, line: &[u8]) -> Result<Answer, AllocError>
-    ensures finding { IfOk result (λ answer. answer.finding ≡ Finding.UnknownName) }
-    ensures text { IfOk result (λ answer. answer.text.items ≡ line.now) }
-{
-    let text = Vec::from_slice(alloc, line)?;
-    Ok(Answer {
-        finding: Finding::UnknownName,
-        text,
-    })
 }

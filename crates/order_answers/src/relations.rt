@@ -1,11 +1,13 @@
 //! The command `relations`: which relations follow from the links and times of a document.
+ghost use Rattle.answers.specs.Names.{AreNames};
 ghost use Rattle.derive_rel.specs.Entailed.{AreRows};
 ghost use Rattle.derive_rel.specs.declared.all_rows.Row.{Row as RowOf};
 ghost use Rattle.order_answers.specs.Relations.{row_line};
 ghost use Rattle.std.specs.List.{flat_map};
-ghost use Rattle.std.specs.Prelude.{◌*◌, ◌++◌, ◌≡◌, ◌<◌, IfOk, List as ListOf, OnOk, length};
+ghost use Rattle.std.specs.Prelude.{◌*◌, ◌++◌, ◌≡◌, ◌<◌, IfOk, List as ListOf, OnOk, length, map};
+ghost use Rattle.tml_refs.specs.Documents.{PlainDocument};
 
-use answers::{OfDocument, push_related};
+use answers::{OfDocument, names_of, push_related};
 use derive_rel::{Row, rows};
 use net_answers::{OfNet, answer_of_net};
 use net_core::Net;
@@ -59,24 +61,25 @@ fn relations_text(
     requires { table.now.points ≡ 2 * length document.now.intervals }
     ensures { IfOk result (λ text. (all : ListOf RowOf) × AreRows table.now all × (text.items ≡ flat_map (row_line document.now) all)) }
 {
+    let names = names_of(alloc, document)?;
     let Ok(rows) = rows(alloc, table) else {
         return Err(AllocError);
     };
     let mut text = Vec::new(alloc);
     for row in rows.as_slice() {
-        push_row(&mut text, document, row)?;
+        push_row(&mut text, &names, row)?;
     }
     Ok(text)
 }
 
-/// Appends the line of a relation.
-fn push_row(out: &mut Vec<u8>, document: &Document<'_>, row: &Row) -> Result<(), AllocError>
-    requires a { row.now.a < length document.now.intervals }
-    requires b { row.now.b < length document.now.intervals }
-    ensures { OnOk result (out.new.items ≡ out.old.items ++ row_line document.now row.now) }
+/// Appends the line of a relation, by the names of all intervals.
+fn push_row(out: &mut Vec<u8>, names: &[&[u8]], row: &Row) -> Result<(), AllocError>
+    requires a { row.now.a < length names.now }
+    requires b { row.now.b < length names.now }
+    ensures { OnOk result ((contents : PlainDocument) → AreNames contents.intervals (map (λ name. name.now) names.now)
+        → out.new.items ≡ out.old.items ++ row_line contents row.now) }
 {
-    let a = document.interval(row.a).name();
-    let b = document.interval(row.b).name();
-    push_related(out, a, row.rel, b)?;
-    out.extend_from_slice(b"\n")
+    push_related(out, names[row.a as usize], row.rel, names[row.b as usize])?;
+    out.extend_from_slice(b"\n")?;
+    Ok(())
 }

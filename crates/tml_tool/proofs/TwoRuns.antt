@@ -15,6 +15,8 @@ use Rattle.net_core.specs.Ranks.{pairs_of}
 use Rattle.order_answers.specs.Ask.{OfAsk, of_numbers}
 use Rattle.order_answers.specs.Relations.{OfRelations}
 use Rattle.order_answers.specs.Solve.{OfSolve}
+use Rattle.possible_answers.specs.Matrix.{OfMatrix}
+use Rattle.possible_answers.specs.Possible.{OfPossible, of_intervals}
 use Rattle.tml_accept.specs.Acceptance.{Says}
 use Rattle.tml_io.specs.Files.{Files, held}
 use Rattle.tml_refs.specs.Documents.{PlainDocument}
@@ -29,7 +31,7 @@ use Rattle.tml_tool.specs.Commands.{rows_with}
 use Rattle.tml_tool.specs.Forms.{argument}
 use Rattle.tml_tool.specs.TwoRuns.{EvidenceIsVerified, IsVerified, prints_evidence}
 use Rattle.tml_tool.specs.declared.commands.Form.{Form}
-use Rattle.tml_tool.specs.declared.commands.Form.TheVariants.{Solve, Ask, Relations}
+use Rattle.tml_tool.specs.declared.commands.Form.TheVariants.{Solve, Ask, Relations, Possible, Matrix}
 
 -- ---- what is printed is evidence
 
@@ -58,6 +60,10 @@ of_asked_clash : (x rel y : List ℕ) → AreEvidence (OfAsk x rel y) Clash
 of_asked_clash x rel y doc contents says text (inl (is, unknown)) = absurd (cc is)
 of_asked_clash x rel y doc contents says text (inr (a, r, b, name, asked)) = of_clash (of_numbers a r b) (λ contents net text none. none) doc contents says text asked
 
+of_possible_clash : (x y : List ℕ) → AreEvidence (OfPossible x y) Clash
+of_possible_clash x y doc contents says text (inl (is, unknown)) = absurd (cc is)
+of_possible_clash x y doc contents says text (inr (a, b, first, second, asked)) = of_clash (of_intervals a b) (λ contents net text none. none) doc contents says text asked
+
 -- ---- and it is verified
 
 -- a document in a file, with evidence of it
@@ -84,6 +90,9 @@ printed files Ask name given Done text taken e h =
     shown files (OfAsk (argument given 0) (argument given 1) (argument given 2)) name Done text taken (refl, λ is. cc, λ is. cc) (of_relation (argument given 0) (argument given 1) (argument given 2)) h
 printed files Ask name given Clash text taken e h =
     shown files (OfAsk (argument given 0) (argument given 1) (argument given 2)) name Clash text taken (refl, λ is. cc, λ is. cc) (of_asked_clash (argument given 0) (argument given 1) (argument given 2)) h
+printed files Possible name given Clash text taken e h =
+    shown files (OfPossible (argument given 0) (argument given 1)) name Clash text taken (refl, λ is. cc, λ is. cc) (of_possible_clash (argument given 0) (argument given 1)) h
+printed files Matrix name given Clash text taken e h = shown files (of_net OfMatrix) name Clash text taken (refl, λ is. cc, λ is. cc) (of_clash OfMatrix (λ contents net text none. none)) h
 printed files form name given status text taken e h = absurd cc
 
 -- the reply to `verify`

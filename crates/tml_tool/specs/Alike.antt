@@ -8,7 +8,7 @@ use Rattle.tml_run.specs.Replies.{Replies}
 use Rattle.tml_run.specs.declared.status.Status.{Status}
 use Rattle.tml_tool.specs.Commands.{rows_with}
 use Rattle.tml_tool.specs.declared.commands.Form.{Form}
-use Rattle.tml_tool.specs.declared.commands.Form.TheVariants.{Check, Dates, Solve, Ask, Relations}
+use Rattle.tml_tool.specs.declared.commands.Form.TheVariants.{Check, Dates, Solve, Ask, Relations, Possible, Matrix}
 
 -- what is asked is answered by what the document says, and not by how it is written
 abbrev pub is_of_contents : Form → Bool
@@ -17,6 +17,8 @@ is_of_contents Dates = true
 is_of_contents Solve = true
 is_of_contents Ask = true
 is_of_contents Relations = true
+is_of_contents Possible = true
+is_of_contents Matrix = true
 is_of_contents form = false
 
 -- a file holds a document that is short enough to be read

@@ -16,17 +16,19 @@ use Rattle.order_answers.specs.Ask.{AskIsFree, ask_rows}
 use Rattle.order_answers.specs.Drill.{drill_number, drill_rows}
 use Rattle.order_answers.specs.Relations.{relations_rows}
 use Rattle.order_answers.specs.Solve.{solve_rows}
+use Rattle.possible_answers.specs.Matrix.{matrix_rows}
+use Rattle.possible_answers.specs.Possible.{possible_rows}
 use Rattle.tml_run.specs.Answered.{Freedom, NeverFree}
 use Rattle.tml_run.specs.Rows.{Rows, answers}
 use Rattle.tml_run.specs.declared.status.Status.TheVariants.{Usage}
 use Rattle.tml_tool.specs.Forms.{argument, calls_for, taken_by, texts_of, usage_of, with_arguments}
 use Rattle.tml_tool.specs.declared.commands.Form.{Form}
-use Rattle.tml_tool.specs.declared.commands.Form.TheVariants.{Spans, Check, Dates, Solve, Ask, Relations, Canon, Verify, Drill, Renew, Join}
+use Rattle.tml_tool.specs.declared.commands.Form.TheVariants.{Spans, Check, Dates, Solve, Ask, Relations, Canon, Verify, Drill, Renew, Join, Possible, Matrix}
 
 -- ---- the table
 
 abbrev pub all_forms : List Form
-all_forms = Spans ∷ Check ∷ Dates ∷ Solve ∷ Ask ∷ Relations ∷ Canon ∷ Verify ∷ Drill ∷ Renew ∷ Join ∷ []
+all_forms = Spans ∷ Check ∷ Dates ∷ Solve ∷ Ask ∷ Relations ∷ Canon ∷ Verify ∷ Drill ∷ Renew ∷ Join ∷ Possible ∷ Matrix ∷ []
 
 abbrev pub word_of : Form → List ℕ
 word_of Spans = codes "spans"
@@ -40,6 +42,8 @@ word_of Verify = codes "verify"
 word_of Drill = codes "drill"
 word_of Renew = codes "renew"
 word_of Join = codes "join"
+word_of Possible = codes "possible"
+word_of Matrix = codes "matrix"
 
 -- the names of the arguments, of most forms that of a document alone
 abbrev pub arguments_of : Form → List (List ℕ)
@@ -48,6 +52,7 @@ arguments_of Verify = codes "DOC" ∷ codes "EVIDENCE" ∷ []
 arguments_of Drill = codes "N" ∷ []
 arguments_of Renew = codes "EVIDENCE" ∷ []
 arguments_of Join = codes "EVIDENCE" ∷ codes "SECOND" ∷ []
+arguments_of Possible = codes "DOC" ∷ codes "X" ∷ codes "Y" ∷ []
 arguments_of form = codes "DOC" ∷ []
 
 -- whether a form takes so many arguments with these texts: a drill has a number
@@ -76,12 +81,16 @@ rows_with Verify arguments = verify_rows (argument arguments 0) (argument argume
 rows_with Drill arguments = drill_rows (argument arguments 0)
 rows_with Renew arguments = renew_rows (argument arguments 0)
 rows_with Join arguments = join_rows (argument arguments 0) (argument arguments 1)
+rows_with Possible arguments = possible_rows (argument arguments 0) (argument arguments 1) (argument arguments 2)
+rows_with Matrix arguments = matrix_rows (argument arguments 0)
 
 -- after which contents the text of an answer is free: which clash is printed, and which walks prove a relation
 abbrev pub is_free_with : Form → List (List ℕ) → Freedom
 is_free_with Solve arguments = ClashIsFree
 is_free_with Ask arguments = AskIsFree (argument arguments 1) (argument arguments 2) (argument arguments 3)
 is_free_with Relations arguments = ClashIsFree
+is_free_with Possible arguments = ClashIsFree
+is_free_with Matrix arguments = ClashIsFree
 is_free_with form arguments = NeverFree
 
 -- ---- words

@@ -9,7 +9,7 @@ use Rattle.tml_run.specs.declared.status.Status.{Status}
 use Rattle.tml_run.specs.declared.status.Status.TheVariants.{Done, Clash}
 use Rattle.tml_tool.specs.Commands.{rows_with}
 use Rattle.tml_tool.specs.declared.commands.Form.{Form}
-use Rattle.tml_tool.specs.declared.commands.Form.TheVariants.{Solve, Ask, Relations}
+use Rattle.tml_tool.specs.declared.commands.Form.TheVariants.{Solve, Ask, Relations, Possible, Matrix}
 
 -- evidence is printed where links clash, by `solve`, and where it is asked whether a relation holds
 abbrev pub prints_evidence : Form → Status → Bool
@@ -18,6 +18,8 @@ prints_evidence Solve Clash = true
 prints_evidence Ask Done = true
 prints_evidence Ask Clash = true
 prints_evidence Relations Clash = true
+prints_evidence Possible Clash = true
+prints_evidence Matrix Clash = true
 prints_evidence form status = false
 
 -- `verify` reads a text whole as evidence, Done is a reply, and every other one is broken off

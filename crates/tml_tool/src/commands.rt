@@ -13,6 +13,7 @@ use document_answers::{Canon, Check, Dates, Spans};
 use evidence_answers::{EVIDENCE, Renew, Verify, reply_of_join};
 use named::Named;
 use order_answers::{Ask, Relations, Solve, drill_number, drill_summary};
+use possible_answers::{Matrix, Possible};
 use std::alloc::Global;
 use tml_io::Inputs;
 use tml_run::{Reply, Status, reply_of_file};
@@ -42,6 +43,10 @@ pub enum Form {
     Renew,
     /// The claims of two files of evidence as one text.
     Join,
+    /// Which base relations two intervals of a document can have, each with a timeline.
+    Possible,
+    /// Which base relations each two intervals of a document can have.
+    Matrix,
 }
 
 impl Named for Form {
@@ -66,6 +71,8 @@ impl Named for Form {
             Form::Drill,
             Form::Renew,
             Form::Join,
+            Form::Possible,
+            Form::Matrix,
         ]
     }
 
@@ -82,6 +89,8 @@ impl Named for Form {
             Form::Drill => b"drill",
             Form::Renew => b"renew",
             Form::Join => b"join",
+            Form::Possible => b"possible",
+            Form::Matrix => b"matrix",
         }
     }
 }
@@ -93,6 +102,7 @@ impl Form {
     {
         match self {
             Form::Ask => 4,
+            Form::Possible => 3,
             Form::Verify | Form::Join => 2,
             _ => 1,
         }
@@ -115,6 +125,8 @@ tml verify DOC EVIDENCE
 tml drill N
 tml renew EVIDENCE
 tml join EVIDENCE SECOND
+tml possible DOC X Y
+tml matrix DOC
 "
 }
 
@@ -161,6 +173,14 @@ pub fn reply_with<I: Inputs>(
         },
         Form::Renew => reply_of_file(alloc, &Renew, EVIDENCE, first, inputs),
         Form::Join => reply_of_join(alloc, first, word(arguments, 1), inputs),
+        Form::Possible => {
+            let asked = Possible {
+                x: word(arguments, 1).as_bytes(),
+                y: word(arguments, 2).as_bytes(),
+            };
+            reply_of_document(alloc, &asked, first, inputs)
+        }
+        Form::Matrix => reply_of_document(alloc, &Matrix, first, inputs),
     }
 }
 

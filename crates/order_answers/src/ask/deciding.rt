@@ -27,7 +27,8 @@ pub struct Numbers {
 }
 
 impl OfNet for Numbers {
-    ghost use Rattle.order_answers.specs.Ask.{AreOf, of_numbers};
+    ghost use Rattle.answers.specs.Names.{AreOf};
+    ghost use Rattle.order_answers.specs.Ask.{of_numbers};
 
     ghost is_of = { λ numbers contents. AreOf contents numbers.a numbers.b };
 

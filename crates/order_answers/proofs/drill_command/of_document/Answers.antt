@@ -10,7 +10,7 @@ use Rattle.order_answers.specs.Drill.{AreFigures, IsGreatest, OfDrill}
 use Rattle.tml_run.specs.declared.answer.Finding.TheVariants as findings
 use Rattle.order_answers.proofs.Drills.{as_many_points}
 use Rattle.order_answers.proofs.Entailments.{rows_follow}
-use Rattle.order_answers.proofs.Reporting.{reported}
+use Rattle.answers.proofs.Reporting.{reported}
 use Rattle.order_answers.proofs.Timelines.{least_fits}
 use Rattle.order_answers.proofs.drill_command.of_document.Goals as goal
 

@@ -45,3 +45,10 @@ returns-in-Renew-clause-reply g c = rw c.in-Renew.is (rw c.word-first.ensures at
 
 pub returns-in-Join-clause-reply : goal.returns-in-Join-clause-reply
 returns-in-Join-clause-reply g c = rw c.in-Join.is (rw (c.word-first.ensures, c.word-in-Join.ensures) at c.reply_of_join.ensures.reply)
+
+pub returns-in-Possible-clause-reply : goal.returns-in-Possible-clause-reply
+returns-in-Possible-clause-reply g c =
+    rw c.in-Possible.is (rw (c.word-first.ensures, c.as_bytes-in-Possible.ensures.value, c.as_bytes-in-Possible-2.ensures.value, c.word-in-Possible.ensures, c.word-in-Possible-2.ensures) at c.reply_of_document-in-Possible.ensures.reply)
+
+pub returns-in-Matrix-clause-reply : goal.returns-in-Matrix-clause-reply
+returns-in-Matrix-clause-reply g c = rw c.in-Matrix.is (rw c.word-first.ensures at c.reply_of_document-in-Matrix.ensures.reply)

@@ -3,7 +3,7 @@ use Rattle.std.proofs.lemmas.Option.{slice_get_within}
 use Rattle.std.proofs.lemmas.Result.{IfOk-weaker}
 use Rattle.net_answers.specs.Nets.{of_net}
 use Rattle.order_answers.specs.Ask.{Name, OfAsk, of_numbers}
-use Rattle.order_answers.proofs.Reporting.{is_none, reported}
+use Rattle.answers.proofs.Reporting.{is_none, reported}
 use Rattle.tml_run.specs.View.{finding_status}
 use Rattle.tml_run.specs.declared.answer.Answer.{Answer}
 use Rattle.tml_run.specs.declared.answer.Finding.TheVariants as findings
@@ -11,13 +11,13 @@ use Rattle.order_answers.proofs.ask.AskOfDocument.answer.Goals as goal
 
 pub returns-in_default : goal.returns-in_default
 returns-in_default c =
-    reported (OfAsk c.args.self.now.x.now c.args.self.now.rel.now c.args.self.now.y.now c.args.document.now) c.unknown.result findings.UnknownName (codes "unknown X\n") c.unknown.ensures.finding c.unknown.ensures.text
+    reported (OfAsk c.args.self.now.x.now c.args.self.now.rel.now c.args.self.now.y.now c.args.document.now) c.unknown_name.result findings.UnknownName (codes "unknown X\n") c.unknown_name.ensures.finding c.unknown_name.ensures.text
     (inl (refl, inl (c.index_of.ensures.none (is_none c.index_of.result c.in_default.not-Some), refl)))
 
 pub returns-in_default-index_of : goal.returns-in_default-index_of
 returns-in_default-index_of c =
-    reported (OfAsk c.args.self.now.x.now c.args.self.now.rel.now c.args.self.now.y.now c.args.document.now) c.unknown-in_default-index_of.result findings.UnknownName (codes "unknown Y\n")
-    c.unknown-in_default-index_of.ensures.finding c.unknown-in_default-index_of.ensures.text
+    reported (OfAsk c.args.self.now.x.now c.args.self.now.rel.now c.args.self.now.y.now c.args.document.now) c.unknown_name-in_default-index_of.result findings.UnknownName (codes "unknown Y\n")
+    c.unknown_name-in_default-index_of.ensures.finding c.unknown_name-in_default-index_of.ensures.text
     (inl (
       refl,
       inr (inr (

@@ -1,7 +1,7 @@
 use Rattle.std.proofs.Common.{◌≡◌, ◌<◌, ℕ, length}
 use Rattle.evidence_check.specs.Refusals.{atom_at}
 use Rattle.net_core.specs.Atoms.{atoms_in}
-use Rattle.derive_rel.specs.Entailed.{Gives}
+use Rattle.order_closure.specs.Tables.{Gives}
 use Rattle.order_answers.proofs.ask.deciding.first_not_given.Given as goal
 
 -- the table gives the atoms so far

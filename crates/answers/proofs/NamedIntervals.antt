@@ -1,0 +1,37 @@
+-- A word names an interval of a document, or none.
+use Rattle.std.proofs.Common.{◌≡◌, ℕ, zero, suc, ◌+◌, ◌<◌, List, [], ◌∷◌, ◌++◌, None, Some, get_or, length, map, take, refl, ap, subst, ◌∙◌, arith}
+use Rattle.std.specs.List.{slice_get}
+use mathlib.Core.List.{List-discrete}
+use native.Mathlib.Decide.{ℕ_discrete}
+use Rattle.answers.specs.Lines.{name_at}
+use Rattle.tml_refs.specs.Documents.{IsNamed, PlainInterval, name_of}
+
+-- an interval has this name, or none has
+pub named_or_not : (intervals : List PlainInterval) (name : List ℕ) → Dec ((i : ℕ) × IsNamed intervals name i)
+named_or_not [] name = no (λ h. let at = h.1.1 in cc)
+named_or_not (interval ∷ intervals) name = elim (List-discrete ℕ_discrete (name_of interval) name) [
+  | yes same ↦ yes (0, (interval, refl, same))
+  | no other ↦ elim (named_or_not intervals name) [
+    | yes later ↦ yes (suc later.0, later.1)
+    | no none ↦ no (λ h. neither other none h.0 h.1)
+  ]
+]
+  where
+    neither : (name_of interval ≡ name → ⊥) → ((i : ℕ) × IsNamed intervals name i → ⊥) → (i : ℕ) → IsNamed (interval ∷ intervals) name i → ⊥
+    neither other none zero named = let same : interval ≡ named.0 = let at = named.1 in cc in other (ap name_of same ∙ named.2)
+    neither other none (suc i) named = none (i, named)
+
+-- one element more
+next_element : {A : Type 0} (xs : List A) (i : ℕ) (x : A) → slice_get xs i ≡ Some x → take (suc i) xs ≡ take i xs ++ x ∷ []
+next_element [] i x at = let none : None ≡ Some x = at in cc
+next_element (y ∷ xs) zero x at = let same : y ≡ x = cc in ap (λ z. z ∷ []) same
+next_element (y ∷ xs) (suc i) x at = ap (λ ys. y ∷ ys) (next_element xs i x at)
+
+pub one_further : {A : Type 0} (xs : List A) (i : ℕ) (x : A) → slice_get xs i ≡ Some x → take (i + 1) xs ≡ take i xs ++ x ∷ []
+one_further xs i x at = subst (λ (n : ℕ). take n xs ≡ take i xs ++ x ∷ []) (let e : suc i ≡ i + 1 = omega arith in e) (next_element xs i x at)
+
+-- the name of an interval among the names of all
+pub name_there : (intervals : List PlainInterval) (i : ℕ) → i < length intervals → name_at intervals i ≡ get_or (map name_of intervals) i []
+name_there [] i lt = absurd (omega (arith, lt))
+name_there (interval ∷ intervals) zero lt = refl
+name_there (interval ∷ intervals) (suc i) lt = name_there intervals i (omega (arith, lt))

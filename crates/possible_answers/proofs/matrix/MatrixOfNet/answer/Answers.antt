@@ -1,0 +1,14 @@
+use Rattle.std.proofs.Common.{◌≡◌, ℕ, arith, subst}
+use Rattle.net_answers.proofs.Nets.{as_many}
+use Rattle.possible_answers.specs.Matrix.{RelTest, TellsTable, matrix_lines}
+use Rattle.possible_answers.proofs.MatrixAnswered.{shows_matrix}
+use Rattle.possible_answers.proofs.matrix.MatrixOfNet.answer.Goals as goal
+
+pub matrix_text-requires : goal.matrix_text-requires
+matrix_text-requires c = omega (arith, c.requires.closure.size, as_many c.args.document.now c.args._net.now c.requires.built)
+
+pub returns : goal.returns
+returns c =
+    let contents = c.args.document.now in
+    let lines = subst (λ (n : ℕ). (can : RelTest) → TellsTable c.args.closure.now can → c.in_ok-matrix_text.field-0.items ≡ matrix_lines contents.intervals n can 0) (as_many contents c.args._net.now c.requires.built) c.in_ok-matrix_text.ensures in
+    rw (c.done.ensures.finding, c.done.ensures.text) (shows_matrix contents c.args._net.now c.args.closure.now _ c.requires.closure c.points.ensures.closed lines)
