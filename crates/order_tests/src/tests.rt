@@ -3,6 +3,7 @@ mod calendars;
 mod closures;
 mod minimal;
 mod nets;
+mod possible;
 mod proving;
 mod relations;
 mod rows;
