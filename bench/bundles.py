@@ -21,6 +21,27 @@ SELF = b'<TLINK eventInstanceID="i" relatedToEventInstance="i" relType="BEFORE"/
 NONE, ONE, SELVES = b"<TimeML/>", b"<TimeML>" + ONE_EVENT + b"</TimeML>", b"<TimeML>" + ONE_EVENT + 4096 * SELF + b"</TimeML>"
 
 
+def related(intervals, links):
+    """A document of so many intervals with these links."""
+    tags = ['<EVENT eid="e" class="STATE">x</EVENT>']
+    tags += [f'<MAKEINSTANCE eiid="i{number}" eventID="e"/>' for number in range(intervals)]
+    tags += [f'<TLINK eventInstanceID="i{a}" relatedToEventInstance="i{b}" relType="{rel}"/>' for a, rel, b in links]
+    return f"<TimeML>{''.join(tags)}</TimeML>".encode()
+
+
+def timeline(ranks):
+    """The body of a timeline with these ranks."""
+    return b"timeline %d\n" % len(ranks) + b"".join(b"at %d %d\n" % pair for pair in ranks)
+
+
+# Documents of as many links as there can be, all of which hold in one timeline: four of each two of 32 intervals; one that
+# is three orders of points of each two of 91; and such links from each of 64 intervals to each of 64 others.
+WITHIN = ("SIMULTANEOUS", "IDENTITY", "DURING", "DURING_INV")
+EQUAL = related(32, [(a, rel, b) for a in range(32) for b in range(32) for rel in WITHIN])
+CHAIN = related(91, [(a, "OVERLAPS", b) for b in range(91) for a in range(b)])
+CROWD = related(128, [(a, "OVERLAPS", b) for a in range(64) for b in range(64, 128)])
+
+
 def text(bodies):
     """The text of version 2 of these bodies."""
     return b"tml-evidence 2\nclaims %d\n" % len(bodies) + b"".join(bodies) + b"end\n"
@@ -65,6 +86,9 @@ TEXTS = [
     ("relations by empty walks", ONE, lambda size: repeated(b"entails 0 DURING 0\nwalk 0\nwalk 0\n", size)),
     ("timelines of one interval", ONE, lambda size: repeated(b"timeline 1\nat 0 1\n", size)),
     ("the same over 4,096 links", SELVES, lambda size: repeated(b"timeline 1\nat 0 1\n", size)),
+    ("of 32 equal intervals", EQUAL, lambda size: repeated(timeline([(0, 1)] * 32), size)),
+    ("of 91 intervals that overlap", CHAIN, lambda size: repeated(timeline([(k, 91 + k) for k in range(91)]), size)),
+    ("of 128 intervals that overlap", CROWD, lambda size: repeated(timeline([(0, 2)] * 64 + [(1, 3)] * 64), size)),
     ("clashes of one link", SELVES, lambda size: repeated(b"clash 1\ncite 0\nwalk 2\nvia 0 0\nspan 0\ntimeline 1\nat 0 1\n", size)),
 ]
 

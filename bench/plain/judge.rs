@@ -3,7 +3,10 @@
 
 #![cfg_attr(rustfmt, rustfmt_skip)]
 
+use std::ffi::OsStr;
+
 use crate::names::Index;
+use crate::orders;
 use crate::print::{push_all, push_number};
 use crate::profile::{Rule, Tag, MOST_FIELDS};
 use crate::units::{cut, is, Attribute, Piece, Unit, Visitor, SPACE};
@@ -37,6 +40,7 @@ pub struct Judge<'a> {
     references: Vec<Mention<'a>>,
     intervals: Vec<&'a [u8]>,
     links: Vec<[&'a [u8]; 3]>,
+    has_dates: bool,
 }
 
 impl<'a> Judge<'a> {
@@ -120,6 +124,7 @@ impl<'a> Judge<'a> {
         if tag == Tag::Time && date(values[2]) == Some(false) {
             return Err(Kind::BadDate);
         }
+        self.has_dates |= tag == Tag::Time && date(values[2]).is_some();
         self.count(tag, place, &values);
         Ok(())
     }
@@ -234,8 +239,30 @@ fn repeats(document: &[u8], attributes: &[Attribute]) -> bool {
     attributes.iter().enumerate().any(is_repeated)
 }
 
-pub fn check(document: &[u8]) -> Result<Vec<u8>, Fault> {
+fn judged(document: &[u8]) -> Result<Judge<'_>, Fault> {
     let mut judge = Judge::new(document);
     cut(document, &mut judge)?;
-    judge.fault().map_or_else(|| Ok(judge.answer()), Err)
+    judge.fault().map_or_else(|| Ok(judge), Err)
+}
+
+pub fn check(document: &[u8]) -> Result<Vec<u8>, Fault> {
+    Ok(judged(document)?.answer())
+}
+
+/// The lines of `matrix`; none of a document with dates or a clash, or with fewer than two intervals.
+pub fn matrix(document: &[u8]) -> Result<Vec<u8>, Fault> {
+    let judge = judged(document)?;
+    let found = (!judge.has_dates).then(|| orders::matrix(&judge.intervals, &judge.links)).flatten();
+    Ok(found.unwrap_or_default())
+}
+
+/// The lines of `possible`; none of a document with dates or a clash, or without intervals of these names.
+pub fn possible(document: &[u8], first: &OsStr, second: &OsStr) -> Result<Vec<u8>, Fault> {
+    let judge = judged(document)?;
+    let number_of = |name: &OsStr| judge.intervals.iter().position(|one| *one == name.as_encoded_bytes());
+    let found = match (number_of(first), number_of(second)) {
+        (Some(left), Some(right)) if !judge.has_dates => orders::possible(&judge.intervals, &judge.links, left, right),
+        _ => None,
+    };
+    Ok(found.unwrap_or_default())
 }

@@ -1,6 +1,7 @@
 //! The commands `check DOC`, `spans DOC` and `canon DOC` of `tml`, written by hand: ordinary Rust that cares for speed,
-//! without proofs, to measure what these cost. It prints the same bytes and ends with the same status. The rules are
-//! those of docs/DEFINITIONS.md. bench/beside.py builds and runs it.
+//! without proofs, to measure what these cost; and `matrix DOC` and `possible DOC X Y` of documents without dates and
+//! clashes. It prints the same bytes and ends with the same status. The rules are those of docs/DEFINITIONS.md.
+//! bench/beside.py and bench/matrix.py build and run it.
 //!
 //! rustc compiles the modules apart, so what runs for each unit or each name is marked `#[inline]`: without that the
 //! program is slower.
@@ -10,6 +11,7 @@
 mod canon;
 mod judge;
 mod names;
+mod orders;
 mod print;
 mod profile;
 mod spans;
@@ -53,20 +55,25 @@ fn read(name: &OsStr) -> io::Result<Vec<u8>> {
     Ok(bytes)
 }
 
+const USAGE: &[u8] = b"usage:\nplain spans DOC\nplain check DOC\nplain canon DOC\nplain matrix DOC\nplain possible DOC X Y\n";
+
 /// The status and the text of a run.
 fn answer(words: &[OsString]) -> (u8, Vec<u8>) {
-    let usage = (3, b"usage:\nplain spans DOC\nplain check DOC\nplain canon DOC\n".to_vec());
-    let [word, name] = words else { return usage };
-    let command = match word.to_str() {
-        Some("check") => judge::check,
-        Some("spans") => spans::spans,
-        Some("canon") => canon::canon,
+    let usage = (3, USAGE.to_vec());
+    let words: Vec<&OsStr> = words.iter().map(OsString::as_os_str).collect();
+    let (command, name): (&dyn Fn(&[u8]) -> Result<Vec<u8>, Fault>, &OsStr) = match words[..] {
+        [word, name] if word == "check" => (&judge::check, name),
+        [word, name] if word == "spans" => (&spans::spans, name),
+        [word, name] if word == "canon" => (&canon::canon, name),
+        [word, name] if word == "matrix" => (&judge::matrix, name),
+        [word, name, first, second] if word == "possible" => (&move |document: &[u8]| judge::possible(document, first, second), name),
         _ => return usage,
     };
     match read(name) {
         Err(_) => (4, b"read fault\n".to_vec()),
         Ok(document) if document.len() > MOST_BYTES => (9, b"too long DOC\n".to_vec()),
         Ok(document) => match command(&document) {
+            Ok(text) if text.is_empty() && matches!(words[0].to_str(), Some("matrix" | "possible")) => (100, b"not done\n".to_vec()),
             Ok(text) => (0, text),
             Err(Fault { place, kind }) => (1, format!("fault {} {kind:?} {place}\n", kind as u8).into_bytes()),
         },

@@ -60,9 +60,9 @@ class Case:
         match self.words:
             case ():
                 return [STANDARD_INPUT]
-            case (b"spans" | b"check" | b"dates" | b"solve" | b"relations" | b"canon", name):
+            case (b"spans" | b"check" | b"dates" | b"solve" | b"relations" | b"canon" | b"matrix", name):
                 return [name]
-            case (b"ask", name, _, _, _):
+            case (b"ask", name, _, _, _) | (b"possible", name, _, _):
                 return [name]
             case (b"verify" | b"join", name, other):
                 return [name, other]

@@ -48,21 +48,22 @@ def draw_right(random: Random) -> Case:
 
 
 def draw_canonical(random: Random) -> Case:
-    """The canonical text, the dates or the relations of a document without a fault."""
-    return Case("right", (random.choice((b"canon", b"dates", b"dates", b"relations")), DOCUMENT), {DOCUMENT: draw_document(random)})
+    """The canonical text, the dates, the relations or the matrix of a document without a fault."""
+    command = random.choice((b"canon", b"dates", b"dates", b"relations", b"matrix"))
+    return Case("right", (command, DOCUMENT), {DOCUMENT: draw_document(random)})
 
 
 def draw_wrong(random: Random) -> Case:
     """A question about a document with a fault that was made."""
     document = draw_faulty(random, draw_document(random))
-    command = random.choice((b"check", b"check", b"check", b"solve", b"spans", b"canon"))
+    command = random.choice((b"check", b"check", b"check", b"solve", b"spans", b"canon", b"matrix"))
     return redirected(random, Case("faulty", (command, DOCUMENT), {DOCUMENT: document}))
 
 
 def draw_mutation(random: Random) -> Case:
     """A question about a document with bytes that were changed."""
     document = draw_noise(random) if chance(random, 0.2) else draw_mutated(random, draw_document(random, random.randrange(5)))
-    command = b"spans" if chance(random, 0.4) else random.choice((b"check", b"canon", b"dates", b"solve", b"relations"))
+    command = b"spans" if chance(random, 0.4) else random.choice((b"check", b"canon", b"dates", b"solve", b"relations", b"matrix"))
     return redirected(random, Case("mutated", (command, DOCUMENT), {DOCUMENT: document}))
 
 

@@ -21,6 +21,8 @@ INVERSE = {
     "BEFORE": "AFTER", "IBEFORE": "IAFTER", "IS_INCLUDED": "INCLUDES", "DURING": "DURING_INV", "BEGINS": "BEGUN_BY", "ENDS": "ENDED_BY",
     "SIMULTANEOUS": "SIMULTANEOUS", "IDENTITY": "IDENTITY", "OVERLAPS": "OVERLAPPED_BY",
 }  # fmt: skip
+BASE_RELATIONS = tuple(relation for relation in RELATIONS if relation not in ("DURING", "DURING_INV", "IDENTITY"))
+INVERSES = {**INVERSE, **{inverse: relation for relation, inverse in INVERSE.items()}}
 WAYS = ("fits", "fits", "drawn", "slip", "ring")
 
 

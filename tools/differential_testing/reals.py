@@ -8,6 +8,7 @@ from __future__ import annotations
 
 import importlib
 import importlib.util
+import re
 from collections.abc import Iterable, Sequence
 from dataclasses import dataclass
 from typing import Any
@@ -16,12 +17,13 @@ from reference import Outcome
 
 from differential_testing.cases import Case
 from differential_testing.datetimes import bounds
-from differential_testing.nets import INVERSE, RELATIONS
+from differential_testing.nets import BASE_RELATIONS, INVERSE, RELATIONS
 from differential_testing.trees import DECODED, Node, tree_of
 
 IS_THERE = importlib.util.find_spec("z3") is not None
 MOST_INTERVALS = 12
 CLASH = 2
+COMMANDS = (b"solve", b"ask", b"relations", b"possible", b"matrix")
 INVERSE_OF = {inverse: relation for relation, inverse in INVERSE.items() if inverse != relation}
 ENDS = ("eventInstanceID", "timeID"), ("relatedToEventInstance", "relatedToTime")
 
@@ -74,7 +76,7 @@ class Reals:
         (s, e), (t, f) = self.points[link.left], self.points[link.right]
         parts = {
             "BEFORE": [e < t], "IBEFORE": [e == t], "IS_INCLUDED": [t < s, e < f], "DURING": [t <= s, e <= f], "BEGINS": [s == t, e < f],
-            "ENDS": [e == f, t < s], "SIMULTANEOUS": [s == t, e == f], "IDENTITY": [s == t, e == f],
+            "ENDS": [e == f, t < s], "SIMULTANEOUS": [s == t, e == f], "IDENTITY": [s == t, e == f], "OVERLAPS": [s < t, t < e, e < f],
         }  # fmt: skip
         return self.z3.And(*parts[link.relation])
 
@@ -88,10 +90,14 @@ class Reals:
         """Whether a relation is true of all numbers that fit."""
         return not self.can_be(self.links, self.z3.Not(self.says(link)))
 
+    def possible(self, first: str, second: str) -> list[str]:
+        """The base relations that are true of some numbers that fit."""
+        return [relation for relation in BASE_RELATIONS if self.can_be([*self.links, Link(first, relation, second)])]
+
 
 def complaint(case: Case, outcome: Outcome) -> str | None:
-    """What is wrong with a timeline, a clash, an answer to `ask` or relations, by real numbers; nothing where z3 is missing."""
-    if not IS_THERE or outcome.status not in (0, CLASH) or case.words[:1] not in ((b"solve",), (b"ask",), (b"relations",)):
+    """What is wrong with a timeline, a clash, an answer to `ask` or lines of relations, by real numbers; nothing where z3 is missing."""
+    if not IS_THERE or outcome.status not in (0, CLASH) or case.words[:1] not in ((command,) for command in COMMANDS):
         return None
     document = case.files[case.words[1]]
     nodes = None if DECODED.search(document) else tree_of(document)
@@ -104,6 +110,12 @@ def complaint(case: Case, outcome: Outcome) -> str | None:
         return "By real numbers nothing fits, and the answer is no clash."
     if case.words[0] == b"relations":
         return of_relations(reals, outcome.text)
+    if case.words[0] == b"matrix":
+        return of_matrix(reals, outcome.text)
+    if case.words[0] == b"possible":
+        first, second = (word.decode() for word in case.words[2:])
+        wanted, found = reals.possible(first, second), re.findall(r"^relation (\w+)$", outcome.text.decode(), re.MULTILINE)
+        return None if wanted == found else f"By real numbers {wanted} are possible, and not {found}."
     if case.words[0] == b"ask":
         x, relation, y = (word.decode() for word in case.words[2:])
         follows = reals.follows(Link(x, relation, y))
@@ -128,3 +140,11 @@ def of_relations(reals: Reals, text: bytes) -> str | None:
     rows = [Link(a, relation, b) for place, a in enumerate(names) for b in names[place + 1 :] for relation in RELATIONS]
     wanted = "".join(f"{row.left} {row.relation} {row.right}\n" for row in rows if reals.follows(row))
     return None if wanted.encode() == text else f"By real numbers these relations follow: {wanted!r}, and not {text!r}."
+
+
+def of_matrix(reals: Reals, text: bytes) -> str | None:
+    """What is wrong with the lines of all base relations that are possible."""
+    names = list(reals.points)
+    pairs = [(a, b) for place, a in enumerate(names) for b in names[place + 1 :]]
+    wanted = "".join(f"{' '.join([a, b, *reals.possible(a, b)])}\n" for a, b in pairs)
+    return None if wanted.encode() == text else f"By real numbers these relations are possible: {wanted!r}, and not {text!r}."

@@ -21,6 +21,8 @@ from differential_testing.programs import NEVER_ENDED
 NO_STATUS = 255
 LONGEST = 500_000
 """The most bytes of a file in a table; what is written of it has room."""
+MOST_OF_MATRIX = 90
+"""The most intervals of a document whose matrix has room in a table: 4,005 lines of at most 245 bytes."""
 SECONDS = 120
 HIDDEN = re.compile(rb"[^ !\"$-\[\]-~]")
 """The bytes that a table has as an escape: all but printable ones of ASCII, and of these the backslash and the number sign."""
@@ -31,9 +33,14 @@ def is_for_rows(case: Case) -> bool:
     """Whether a table can have a case."""
     if case.real is not None or any(b"\\" in content or len(content) > LONGEST for content in case.files.values()):
         return False
-    if case.words.count(STANDARD_INPUT) > 1:
+    if case.words.count(STANDARD_INPUT) > 1 or (case.words[:1] == (b"matrix",) and any(map(is_long_matrix, case.files.values()))):
         return False
     return all(FILE_NAME.fullmatch(name) for name in case.files) and all(is_word(word) for word in case.words)
+
+
+def is_long_matrix(document: bytes) -> bool:
+    """Whether a document may have so many intervals that its matrix has no room."""
+    return document.count(b"MAKEINSTANCE") + document.count(b"TIMEX3") > MOST_OF_MATRIX
 
 
 def is_word(word: bytes) -> bool:

@@ -2,6 +2,7 @@
 
 from __future__ import annotations
 
+import itertools
 from collections import Counter
 from collections.abc import Callable, Iterator, Sequence
 from dataclasses import dataclass, field
@@ -9,9 +10,12 @@ from random import Random
 
 from reference import Outcome
 
+from differential_testing import agreeing
+from differential_testing.agreeing import draw_agreeing
 from differential_testing.cases import Case
 from differential_testing.chances import chance
 from differential_testing.comparing import complaint
+from differential_testing.documents import draw_document
 from differential_testing.drawing import Written, draw_case, draw_of_evidence, draw_writing
 from differential_testing.programs import Programs
 from differential_testing.rows import Rows, is_for_rows
@@ -20,6 +24,7 @@ from differential_testing.words import DOCUMENT
 CASES = 100
 WRITINGS = 20
 OF_EVIDENCE = 80
+AGREEING = 12
 THROUGH_PROCESSES = 0.05
 """How many of the cases that a table can have are run by a process each nevertheless."""
 
@@ -42,6 +47,12 @@ class Tally:
     subjects: Counter[str] = field(default_factory=Counter)
     statuses: Counter[int] = field(default_factory=Counter)
     differences: list[Difference] = field(default_factory=list)
+
+    def take(self, case: Case, outcome: Outcome) -> None:
+        """Counts a case."""
+        self.cases += 1
+        self.subjects[case.subject] += 1
+        self.statuses[outcome.status] += 1
 
 
 class Trial:
@@ -67,9 +78,7 @@ class Trial:
 
     def take(self, case: Case, outcome: Outcome) -> None:
         """Compares and counts a case."""
-        self.tally.cases += 1
-        self.tally.subjects[case.subject] += 1
-        self.tally.statuses[outcome.status] += 1
+        self.tally.take(case, outcome)
         said = said_of(case, outcome)
         if said is not None:
             self.tally.differences.append(Difference(case, outcome, said))
@@ -88,7 +97,14 @@ class Trial:
         """Whether the program answers to a case what it may not."""
         if case.memory is not None and not self.by_rows(case):
             return False
-        return said_of(case, self.outcome(case)) is not None
+        outcome = self.outcome(case)
+        return said_of(case, outcome) is not None or self.disagrees(case, outcome) is not None
+
+    def disagrees(self, case: Case, outcome: Outcome) -> str | None:
+        """What is wrong with an answer by those to further questions."""
+        if case.subject != agreeing.SUBJECT:
+            return None
+        return said_of_all(case, outcome, [(one, self.outcome(one)) for one in agreeing.further(case, outcome)])
 
     def ordinary(self, random: Random) -> None:
         """Tries a batch of all subjects but evidence, and some evidence."""
@@ -101,6 +117,17 @@ class Trial:
         if written:
             self.try_all([draw_of_evidence(random, written) for _ in range(OF_EVIDENCE)], random)
 
+    def agreement(self, random: Random) -> None:
+        """Tries a batch of answers that are to agree with each other."""
+        documents = [draw_document(random, random.choice((1, 2, 2, 3, 3, 4, 4, 5, 6, 8))) for _ in range(AGREEING)]
+        done = self.try_all([draw_agreeing(random, document) for document in documents], random)
+        questions = [agreeing.further(case, outcome) for case, outcome in done]
+        answered = {id(case): (case, outcome) for case, outcome in self.try_all(list(itertools.chain(*questions)), random)}
+        for (case, outcome), others in zip(done, questions, strict=True):
+            said = said_of_all(case, outcome, [answered[id(one)] for one in others])
+            if said is not None:
+                self.tally.differences.append(Difference(case, outcome, said))
+
 
 def said_of(case: Case, outcome: Outcome) -> str | None:
     """What is wrong with an outcome. A referee that fails is a difference too, and no end of the run."""
@@ -110,9 +137,15 @@ def said_of(case: Case, outcome: Outcome) -> str | None:
         return f"A referee failed: {error!r}"
 
 
+def said_of_all(case: Case, outcome: Outcome, others: Sequence[tuple[Case, Outcome]]) -> str | None:
+    """What is wrong with an answer by those to further questions, if there are any."""
+    try:
+        return agreeing.complaint(case, outcome, others) if others else None
+    except Exception as error:
+        return f"A referee failed: {error!r}"
+
+
 def batches(trial: Trial, evidence_only: bool) -> Iterator[Callable[[Random], None]]:
-    """What each batch does: one of three is evidence, or all are."""
-    number = 0
-    while True:
-        yield trial.evidence if evidence_only or number % 3 == 2 else trial.ordinary
-        number += 1
+    """What each batch does: one of four is evidence, or all are, and one of four is answers that are to agree."""
+    ordinary = (trial.ordinary, trial.ordinary, trial.evidence, trial.agreement)
+    yield from itertools.cycle((trial.evidence,) if evidence_only else ordinary)

@@ -6,9 +6,9 @@ import re
 from random import Random
 
 from differential_testing.chances import chance
-from differential_testing.nets import INVERSE, RELATIONS
+from differential_testing.nets import INVERSES, RELATIONS
 
-ONE_FILE = (b"spans", b"check", b"dates", b"solve", b"relations", b"canon")
+ONE_FILE = (b"spans", b"check", b"dates", b"solve", b"relations", b"canon", b"matrix")
 NAME = re.compile(rb"""\s(?:eiid|tid)\s*=\s*["']([\w.-]{1,64})["']""", re.ASCII)
 LINK = re.compile(rb"<TLINK\b[^<>]*>")
 ENDS = tuple(
@@ -21,7 +21,6 @@ WEAKER = {
 }  # fmt: skip
 OTHER_NAME = re.compile(rb"""\s(?:eid|sid|lid|value)\s*=\s*["']([^"'<]{1,64})["']""")
 DOCUMENT, EVIDENCE, SECOND = b"d.xml", b"e", b"f"
-INVERSES = {**INVERSE, **{inverse: relation for relation, inverse in INVERSE.items()}}
 DRILLS = (
     "0", "1", "2", "3", "5", "8", "17", "00", "01", "002", "1025", "2000", "10240", "-1", "+1", " 1", "1 ", "1.0", "1e1", "0x1", "\u0661",
     "4294967297", "4294967296",
@@ -39,6 +38,9 @@ STRANGE = (
     (b"renew",), (b"renew", EVIDENCE, SECOND), (b"renew ", EVIDENCE), (b"renews", EVIDENCE), (b"join",), (b"join", EVIDENCE),
     (b"join", EVIDENCE, SECOND, EVIDENCE), (b"Join", EVIDENCE, SECOND), (b"join", b"--", EVIDENCE, SECOND),
     (b"join", EVIDENCE, SECOND, b""),
+    (b"possible", DOCUMENT), (b"possible", DOCUMENT, b"a"), (b"possible", DOCUMENT, b"a", b"b", b"c"), (b"Possible", DOCUMENT, b"a", b"b"),
+    (b"possible",), (b"possibles", DOCUMENT, b"a", b"b"), (b"matrix",), (b"matrix", DOCUMENT, b""), (b"matrix", b"a", DOCUMENT),
+    (b"Matrix", DOCUMENT),
 )  # fmt: skip
 NOT_UTF8 = ((b"\xff",), (b"check", b"\xff"), (b"\xc3", DOCUMENT), (b"ask", DOCUMENT, b"a", b"\xe9", b"b"), (b"drill", b"1\x80"))
 MISSING = (b"none", b"d", b"d.xml ", b"D.XML", b"", b"./none", b"a/b", b"--", b"n" * 300, b"\xc3\xa9", b"d.xml/x")
@@ -46,9 +48,15 @@ MISSING = (b"none", b"d", b"d.xml ", b"D.XML", b"", b"./none", b"a/b", b"--", b"
 
 def draw_question(random: Random, document: bytes) -> tuple[bytes, ...]:
     """A command that reads the document d.xml alone."""
-    if chance(random, 0.3):
-        return draw_ask(random, document)
+    if chance(random, 0.4):
+        return draw_ask(random, document) if chance(random, 0.7) else draw_possible(random, document)
     return random.choice(ONE_FILE), DOCUMENT
+
+
+def draw_possible(random: Random, document: bytes, right: bool = False) -> tuple[bytes, ...]:
+    """A question for the base relations between two intervals, mostly of the document; sometimes they are one."""
+    _, _, first, _, second = draw_ask(random, document, right)
+    return b"possible", DOCUMENT, first, first if chance(random, 0.05) else second
 
 
 def draw_ask(random: Random, document: bytes, right: bool = False) -> tuple[bytes, ...]:

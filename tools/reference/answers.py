@@ -12,9 +12,10 @@ from .canonical import canonical_text
 from .checking import Reason, are_supported, first_refusal, refusal
 from .dates import bounds_of, line_of
 from .drill import drill_text
-from .evidence import Claims, Clash, Counterexample, Entailment, Evidence, Timeline, read_claims, text_of_claims
+from .evidence import Claims, Clash, Counterexample, Entailment, Evidence, Timeline, read_claims, text_of_claims, timeline_lines
 from .faults import Fault
 from .nets import Net
+from .possible import least_of_each, possible_rows
 from .references import Document
 from .relations import RELATIONS, orders_of
 from .timelines import all_links, entailed_rows, false_timeline, is_minimal_clash, least_timeline
@@ -36,6 +37,8 @@ FORMS = (
     "drill N",
     "renew EVIDENCE",
     "join EVIDENCE SECOND",
+    "possible DOC X Y",
+    "matrix DOC",
 )
 DRILLS = {b"%d" % number: number for number in range(1, 1025)}
 
@@ -221,6 +224,28 @@ def ask(accepted: Accepted, first: bytes, relation: bytes, second: bytes) -> Ans
     return Free(Status.DONE, functools.partial(wrong_proof, net, left, relation, right))
 
 
+def possible(accepted: Accepted, first: bytes, second: bytes) -> Answer:
+    """*What `possible` answers*: each base relation that is possible, and the least timeline that has it."""
+    left, right = accepted.document.number_of(first), accepted.document.number_of(second)
+    if left is None or right is None:
+        return Outcome(Status.UNKNOWN_NAME, b"unknown X\n" if left is None else b"unknown Y\n")
+    net = accepted.document.net()
+    if least_timeline(net, all_links(net)) is None:
+        return clash(net)
+    found = least_of_each(net, left, right)
+    shown = [line for relation, ranks in found.items() for line in (b"relation " + relation, *timeline_lines(ranks))]
+    return done(lines(b"possible %d" % len(found), *shown))
+
+
+def matrix(accepted: Accepted) -> Answer:
+    """`matrix DOC`: of each interval and each one after it the base relations that are possible, or a minimal clash."""
+    net = accepted.document.net()
+    if least_timeline(net, all_links(net)) is None:
+        return clash(net)
+    names = [one.name for one in accepted.document.intervals]
+    return done(b"".join(b"%s %s %s\n" % (names[left], names[right], b" ".join(found)) for left, right, found in possible_rows(net)))
+
+
 def claims_of(text: bytes, word: bytes) -> Claims | Outcome:
     """The claims of a text; or the reply where it has none, with the word that stands before its bad line."""
     claims = read_claims(text)
@@ -286,6 +311,7 @@ ABOUT_DOCUMENTS: Mapping[bytes, Callable[[Accepted], Answer]] = {
     b"solve": solve,
     b"relations": relations,
     b"canon": canon,
+    b"matrix": matrix,
 }
 
 
@@ -301,7 +327,9 @@ def files_of(words: Sequence[bytes]) -> list[bytes] | None:
     match list(words):
         case []:
             return [b"-"]
-        case [b"spans" | b"check" | b"dates" | b"solve" | b"relations" | b"canon", name] | [b"ask", name, _, _, _]:
+        case [b"spans" | b"check" | b"dates" | b"solve" | b"relations" | b"canon" | b"matrix", name]:
+            return [name]
+        case [b"ask", name, _, _, _] | [b"possible", name, _, _]:
             return [name]
         case [b"verify" | b"join", name, other]:
             return [name, other]
@@ -321,6 +349,8 @@ def about_document(words: Sequence[bytes], accepted: Accepted, files: Files) -> 
     """What comes next after an accepted document."""
     if words[0] == b"ask":
         return ask(accepted, *words[2:])
+    if words[0] == b"possible":
+        return possible(accepted, *words[2:])
     if words[0] == b"verify":
         text = read(after_reading(words[1], files), words[2], LONGEST_EVIDENCE, b"EVIDENCE")
         return text if isinstance(text, Outcome) else verify(accepted, text)

@@ -53,6 +53,8 @@ PARSED = {relation: tuple(text.split() for text in texts) for relation, texts in
 """The same, with each order cut into a point, a sign and a point."""
 
 RELATIONS = tuple(ORDERS)
+BASE_RELATIONS = tuple(relation for relation in RELATIONS if relation not in (b"DURING", b"DURING_INV", b"IDENTITY"))
+"""*Base relations*: of two intervals, each of which starts before it ends, exactly one of them holds."""
 INVERSES = {
     b"AFTER": b"BEFORE",
     b"IAFTER": b"IBEFORE",

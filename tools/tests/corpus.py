@@ -20,6 +20,17 @@ EVENT = '<EVENT eid="e1" class="STATE">x</EVENT>'
 INSTANCE = '<MAKEINSTANCE eiid="i1" eventID="e1"/>'
 
 
+def forms():
+    """The lines of the usage text of the program; none where there is no program."""
+    if not os.access(TML, os.X_OK):
+        return []
+    done = subprocess.run([TML, "no", "such"], stdin=subprocess.DEVNULL, stdout=subprocess.PIPE, text=True, check=False)
+    return done.stdout.splitlines()
+
+
+needs_matrix = unittest.skipUnless("tml matrix DOC" in forms(), f"no program {TML} that has the commands possible and matrix")
+
+
 def document(inner):
     """A document with some tags on its second line."""
     return f"<TimeML>\n{inner}</TimeML>\n"

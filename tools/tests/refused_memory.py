@@ -96,6 +96,8 @@ QUESTIONS = {
     "fits": ("a BEFORE c", "a SIMULTANEOUS b", "t BEFORE u", "n BEFORE a", "a X b", "a BEFORE n", "b DURING t"),
     "clash": ("a BEFORE c", "n BEFORE a"),
 }
+PAIRS = {"fits": ("a b", "a c", "b b", "t u", "n a", "a n"), "clash": ("a c", "a n")}
+"""Intervals of which `possible` is asked, and names of none."""
 EVIDENCE = {
     "timeline": b"timeline 6\nat 0 1\nat 2 3\nat 4 5\nat 3 6\nat 6 7\nat 0 1\n",
     "timeline of another size": b"timeline 1\nat 0 1\n",
@@ -154,7 +156,7 @@ OF_EVIDENCE = (
 def runs() -> Iterator[Case]:
     """Runs that take every path: each command over each document, each fault, each kind of evidence, and words of no form."""
     for name, content in DOCUMENTS.items():
-        for command in (b"spans", b"check", b"dates", b"solve", b"relations", b"canon"):
+        for command in (b"spans", b"check", b"dates", b"solve", b"relations", b"canon", b"matrix"):
             yield Case(f"{command.decode()}, {name}", (command, b"d"), {b"d": content})
     for name, content in FAULTY.items():
         yield Case(f"check, {name}", (b"check", b"-"), {b"-": content})
@@ -164,6 +166,9 @@ def runs() -> Iterator[Case]:
     for name, questions in QUESTIONS.items():
         for question in questions:
             yield Case(f"ask {question}, {name}", (b"ask", b"d", *question.encode().split(b" ")), {b"d": DOCUMENTS[name]})
+    for name, pairs in PAIRS.items():
+        for pair in pairs:
+            yield Case(f"possible {pair}, {name}", (b"possible", b"d", *pair.encode().split(b" ")), {b"d": DOCUMENTS[name]})
     for name, text in EVIDENCE.items():
         yield verifying(name, "fits", text)
     for name, text in CLASHES.items():

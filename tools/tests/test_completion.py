@@ -112,6 +112,7 @@ class Completion(CorpusTest):
         rows = [
             (["check", "--format", ""], ["text", "json", "junit", "github"], False),
             (["check", "--format", "j"], ["json", "junit"], False),
+            (["matrix", "--format", ""], ["text", "csv", "html"], False),
             (["check", "--jobs", ""], [], False),
             (["check", ""], [], True),
             (["check", "--tml", ""], [], True),

@@ -14,11 +14,11 @@ from dataclasses import replace
 from pathlib import Path
 from random import Random
 
-from corpus import TML, TOOLS
+from corpus import TML, TOOLS, needs_matrix
 
 sys.path.insert(0, TOOLS)
 
-from differential_testing import reals
+from differential_testing import agreeing, reals
 from differential_testing.cases import Case, Memory, Output, Real
 from differential_testing.comparing import complaint
 from differential_testing.datetimes import bounds
@@ -147,6 +147,21 @@ class Referees(unittest.TestCase):
         for cites in (b"cite 1\ncite 2\n", b"cite 0\ncite 1\ncite 2\n"):
             self.assertIsNotNone(reals.complaint(clash, Outcome(2, cites)))
 
+    def test_base_relations_of_z3(self) -> None:
+        if not reals.IS_THERE:
+            self.skipTest("no module z3")
+        document = b'<TimeML><TIMEX3 tid="a" type="SET"/><TIMEX3 tid="b" type="SET"/>%s</TimeML>'
+        link = b'<TLINK timeID="a" relatedToTime="b" relType="%s"/>'
+        for relation, wanted in ((b"OVERLAPS", b"OVERLAPS"), (b"DURING", b"IS_INCLUDED SIMULTANEOUS BEGINS ENDS")):
+            case = Case("", (b"matrix", b"d"), {b"d": document % (link % relation)})
+            self.assertIsNone(reals.complaint(case, Outcome(0, b"a b %s\n" % wanted)))
+            self.assertIsNotNone(reals.complaint(case, Outcome(0, b"a b BEFORE\n")))
+            answer = expected((b"possible", b"d", b"a", b"b"), case.files)
+            assert isinstance(answer, Outcome)
+            possible = replace(case, words=(b"possible", b"d", b"a", b"b"))
+            self.assertIsNone(reals.complaint(possible, answer))
+            self.assertIsNotNone(reals.complaint(possible, Outcome(0, answer.text.replace(wanted.split()[-1], b"AFTER"))))
+
     def test_wrong_answers_are_found(self) -> None:
         document = b"<TimeML><P b='' a=''/></TimeML>"
         rows = [
@@ -187,6 +202,54 @@ class Referees(unittest.TestCase):
             self.assertIsNotNone(complaint(replace(case, memory=memory), wrong), memory)
 
 
+class Agreeing(unittest.TestCase):
+    """Answers to `possible`, `matrix`, `ask` and `relations` that agree, and others that do not."""
+
+    DOCUMENT = b'''<TimeML><TIMEX3 tid="a" type="SET"/><TIMEX3 tid="b" type="SET"/><TIMEX3 tid="c" type="SET"/>
+<TLINK timeID="a" relatedToTime="b" relType="DURING"/><TLINK timeID="b" relatedToTime="c" relType="BEFORE"/></TimeML>'''
+
+    def answers(self, first: bytes, second: bytes) -> tuple[Case, Outcome, list[tuple[Case, Outcome]]]:
+        """The answers of the reference to a question and to the further ones; of a proof its beginning alone."""
+        case = Case(agreeing.SUBJECT, (b"possible", b"d", first, second), {b"d": self.DOCUMENT})
+        outcome = self.answer(case)
+        return case, outcome, [(one, self.answer(one)) for one in agreeing.further(case, outcome)]
+
+    def answer(self, case: Case) -> Outcome:
+        """What the reference says, where that is determined; else the beginning of a proof."""
+        found = expected(case.words, case.files)
+        return found if isinstance(found, Outcome) else Outcome(found.status, b"tml-evidence 2\nclaims 1\nentails ")
+
+    def test_right_answers(self) -> None:
+        for first, second in itertools.product((b"a", b"b", b"c"), repeat=2):
+            self.assertIsNone(agreeing.complaint(*self.answers(first, second)), (first, second))
+
+    def test_wrong_answers(self) -> None:
+        slips = [
+            (b"possible", b"relation BEGINS", b"relation ENDED_BY"),
+            (b"possible", b"relation BEGINS\ntimeline 3\nat 0 1\nat 0 2\nat 3 4\n", b""),
+            (b"verify", b"verified timeline\n", b""),
+            (b"ask", b"\ncounter ", b"\nentails "),
+            (b"matrix", b"a b IS_INCLUDED", b"a b INCLUDES"),
+            (b"matrix", b"a c BEFORE", b"a c BEFORE AFTER"),
+            (b"matrix", b"b c BEFORE\n", b""),
+            (b"relations", b"a BEFORE c\n", b""),
+        ]
+        for command, old, new in slips:
+            case, outcome, others = self.answers(b"a", b"b")
+            self.assertIn(old, b"".join(one.text for asked, one in [(case, outcome), *others] if asked.words[0] == command), command)
+            outcome, *changed = (
+                replace(one, text=one.text.replace(old, new)) if asked.words[0] == command else one for asked, one in [(case, outcome), *others]
+            )
+            again = [(one, other) for (one, _), other in zip(others, changed, strict=True)]
+            self.assertIsNotNone(agreeing.complaint(case, outcome, again), (command, new))
+
+    def test_evidence_of_the_timelines(self) -> None:
+        case, outcome, [(verify, verified), *_] = self.answers(b"a", b"b")
+        self.assertEqual(verify.words, (b"verify", b"d", b"e"))
+        self.assertEqual(verified, Outcome(0, 4 * b"verified timeline\n"))
+        self.assertEqual(agreeing.further(case, replace(outcome, text=outcome.text.replace(b"possible 4", b"possible 3"))), [])
+
+
 class Keeping(unittest.TestCase):
     def test_a_case_is_kept(self) -> None:
         cases = (
@@ -204,6 +267,11 @@ class Keeping(unittest.TestCase):
         case = Case("", (b"check", b"d"), {b"d": document, b"e": b"x"})
         small = reduced(case, lambda other: b"needle" in other.files.get(b"d", b""), 20)
         self.assertEqual(small.files, {b"d": b"needle"})
+
+    def test_a_long_matrix_is_no_row(self) -> None:
+        for count, command, is_row in ((90, b"matrix", True), (91, b"matrix", False), (91, b"relations", True)):
+            case = Case("", (command, b"d"), {b"d": b"<TimeML>%s</TimeML>" % (count * b"<MAKEINSTANCE/>")})
+            self.assertEqual(is_for_rows(case), is_row)
 
     def test_rows_and_answers(self) -> None:
         case = Case("", (b"ask", b"d", b"", b"a b"), {b"d": b"#x \n\xff| \n\n y", b"-": b""}, memory=Memory(room=7))
@@ -278,6 +346,14 @@ class Runs(unittest.TestCase):
         status, said = self.differential("--processes", "--evidence", "--count", "100", "--small", "0", "2", "1", tml=lie)
         self.assertEqual(status, 1, said)
         self.assertIn("at 0 2", said)
+
+    @needs_matrix
+    def test_a_lie_about_what_is_possible_is_found(self) -> None:
+        for lie in ("s/ BEGINS / /", "s/ OVERLAPS / BEGINS /"):
+            program = self.lying(f'if [ "$1" = matrix ]; then "$T" "$@" > out; S=$?; sed "{lie}" out; exit $S; fi')
+            status, said = self.differential("--processes", "--count", "320", "--small", "0", "2", "1", tml=program)
+            self.assertEqual(status, 1, said)
+            self.assertIn("difference (agreed)", said)
 
     def test_tables_and_processes_agree(self) -> None:
         if not os.access(rows_path(), os.X_OK):

@@ -60,7 +60,7 @@ class Explanations(CorpusTest):
                     '<TLINK timeID="t" relatedToTime="t" relType="OVERLAP"/>',
                     '2:37 relType="OVERLAP" is not a relation of TLINK, and none of the sixteen says only that some time is shared: write OVERLAPS where '
                     "the first one begins first and ends inside the second, OVERLAPPED_BY the other way round, or another one that is meant; `tml-edit "
-                    "--overlaps` says it by more intervals, or leave the link out",
+                    "--overlaps` says it by more intervals, or leave the link out; `tml possible` shows what is left open then",
                 ),
                 (
                     '<TLINK timeID="t" relatedToTime="t" relType="overlap"/>',

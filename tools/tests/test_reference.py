@@ -8,15 +8,16 @@ import re
 import subprocess
 import unittest
 
-from corpus import EVENT, INSTANCE, TML, TOP, CorpusTest, document
+from corpus import EVENT, INSTANCE, TML, TOP, CorpusTest, document, needs_matrix
 
 from reference import Free, Outcome, expected, judge, judge_failing
 from reference.checking import first_refusal, is_supported, refusal
 from reference.civil import date_of, day_of, first_week, weeks_of_year
 from reference.dates import Bounds, extent
 from reference.evidence import Clash, Counterexample, Entailment, Timeline, read_claims, text_of, text_of_claims
-from reference.nets import Calendar, Link, Net, Span, Via, keeps_calendar
-from reference.relations import RELATIONS, Order, holds, orders_of
+from reference.nets import Calendar, Link, Net, Span, Via, fits, keeps_calendar
+from reference.possible import least_of_each, possible_by_closure, possible_rows, possible_tried
+from reference.relations import BASE_RELATIONS, RELATIONS, Order, holds, orders_of
 from reference.timelines import (
     all_timelines,
     closure,
@@ -50,6 +51,24 @@ def blocks(text):
         for example in re.split(r"^\$ ", block, flags=re.MULTILINE)[1:]:
             command, _, printed = example.partition("\n")
             yield command, printed
+
+
+def timelines_of_order(points, open_intervals):
+    """All ranks of some intervals without a gap: of each rank which points have it, where no end comes before or with its start."""
+    if not points:
+        yield {}
+        return
+    free = [point for point in points if point % 2 == 0 or point // 2 in open_intervals]
+    for count in range(1, len(free) + 1):
+        for first in itertools.combinations(free, count):
+            opened = open_intervals | {point // 2 for point in first if point % 2 == 0}
+            for later in timelines_of_order(points - set(first), opened):
+                yield {**{point: 0 for point in first}, **{point: rank + 1 for point, rank in later.items()}}
+
+
+def all_by_order(intervals):
+    """All timelines of some intervals, made in another way than the reference makes them."""
+    return [tuple(one[point] for point in range(2 * intervals)) for one in timelines_of_order(frozenset(range(2 * intervals)), frozenset())]
 
 
 def random_net(draw, intervals):
@@ -158,6 +177,103 @@ class Definitions(unittest.TestCase):
             lambda: Calendar(draw.randrange(points), draw.randrange(points)),
         )
         return tuple(draw.choice(made)() for _ in range(draw.randrange(4)))
+
+
+class PossibleRelations(unittest.TestCase):
+    """Which base relations are possible, and the least timelines that have them."""
+
+    def rows_by_brute_force(self, net, timelines):
+        """The rows, and of each pair the least timelines, by all timelines; none where none fits."""
+        found = [ranks for ranks in timelines if fits(net, ranks, range(len(net.links)))]
+        rows, least = [], {}
+        for left, right in itertools.product(range(net.intervals()), repeat=2):
+            having = {relation: [] for relation in BASE_RELATIONS}
+            for ranks in found:
+                pair = ranks[2 * left : 2 * left + 2], ranks[2 * right : 2 * right + 2]
+                [relation] = [one for one in BASE_RELATIONS if holds(pair[0], one, pair[1])]
+                having[relation].append(ranks)
+            least[left, right] = {one: tuple(map(min, zip(*some, strict=True))) for one, some in having.items() if some}
+            if left < right:
+                rows.append((left, right, tuple(least[left, right])))
+        return (rows, least) if found else None
+
+    def test_nets_by_brute_force(self):
+        fitting, undecided = 0, 0
+        for intervals, nets in ((1, 5), (2, 120), (3, 60), (4, 8)):
+            timelines = all_by_order(intervals)
+            if intervals <= 3:
+                self.assertEqual(sorted(timelines), sorted(all_timelines(intervals)))
+            for number in range(nets):
+                net = random_net(random.Random(f"{intervals} {number}"), intervals)
+                found = self.rows_by_brute_force(net, timelines)
+                if found is None:
+                    continue
+                rows, least = found
+                self.assertEqual(list(possible_rows(net)), rows, net)
+                self.assertEqual(list(possible_by_closure(net)), rows, net)
+                for (left, right), wanted in least.items():
+                    self.assertEqual(least_of_each(net, left, right), wanted, (net, left, right))
+                fitting, undecided = fitting + 1, undecided + sum(1 < len(one) < 13 for _, _, one in rows)
+        self.assertGreater(fitting, 60)
+        self.assertGreater(undecided, 10)
+
+    def test_closures_and_timelines_that_are_tried_say_the_same(self):
+        for number in range(150):
+            net = random_net(random.Random(f"possible {number}"), random.Random(number).randint(1, 3))
+            if least_tried(net, range(len(net.links))) is not None:
+                self.assertEqual(list(possible_by_closure(net)), list(possible_tried(net)), net)
+
+    def test_possible_and_entailed_say_the_same_of_one(self):
+        for number in range(60):
+            net = random_net(random.Random(f"one {number}"), 5)
+            if least_raised(net.points(), orders_that_fit(net, range(len(net.links)))) is None:
+                continue
+            decided = [(left, *found, right) for left, right, found in possible_rows(net) if len(found) == 1]
+            self.assertEqual(decided, [row for row in rows_of_closure(net) if row[1] in BASE_RELATIONS], net)
+
+    HEAD = document(EVENT + "".join(f'<MAKEINSTANCE eiid="{name}" eventID="e1"/>' for name in "abc"))
+
+    def test_answers(self):
+        link = '<TLINK eventInstanceID="a" relatedToEventInstance="b" relType="%s"/></TimeML>'
+        plain, during = self.HEAD.encode(), self.HEAD.replace("</TimeML>", link % "DURING").encode()
+        clash = during.replace(b"</TimeML>", (link % "BEFORE").encode())
+        timelines = {
+            "IS_INCLUDED": ("1 2", "0 3", "0 1"),
+            "SIMULTANEOUS": ("0 1", "0 1", "0 1"),
+            "BEGINS": ("0 1", "0 2", "0 1"),
+            "ENDS": ("1 2", "0 2", "0 1"),
+        }
+        parts = (f"relation {one}\ntimeline 3\n" + "".join(f"at {pair}\n" for pair in ranks) for one, ranks in timelines.items())
+        text = "possible 4\n" + "".join(parts)
+        same = "possible 1\nrelation SIMULTANEOUS\ntimeline 3\nat 0 1\nat 0 1\nat 0 1\n"
+        rows = [
+            (during, "possible d a b", 0, text),
+            (plain, "possible d a a", 0, same),
+            (plain, "possible d x y", 8, "unknown X\n"),
+            (plain, "possible d a e1", 8, "unknown Y\n"),
+            (clash, "possible d a y", 8, "unknown Y\n"),
+            (b"<TimeML", "possible d x y", 1, "fault 3 BadMarkup 0\n"),
+            (b"<TimeML", "matrix d", 1, "fault 3 BadMarkup 0\n"),
+            (b"<TimeML/>", "matrix d", 0, ""),
+            (plain, "matrix e", 4, "read fault\n"),
+        ]
+        for content, line, status, printed in rows:
+            found = expected([word.encode() for word in line.split()], {b"d": content})
+            self.assertEqual(found, Outcome(status, printed.encode()), line)
+        first, *others = expected([b"matrix", b"d"], {b"d": during}).text.decode().splitlines()
+        every = " ".join(map(bytes.decode, BASE_RELATIONS))
+        self.assertEqual((first, others), ("a b IS_INCLUDED SIMULTANEOUS BEGINS ENDS", [f"a c {every}", f"b c {every}"]))
+        for line in ("possible d a b", "matrix d"):
+            words = [word.encode() for word in line.split()]
+            self.assertEqual(expected(words, {b"d": clash}).status, 2)
+            evidence = b"clash 2\ncite 0\ncite 1\nwalk 3\nvia 1 0\nvia 0 0\nspan 0\n"
+            spares = b"timeline 3\nat 0 1\nat 2 3\nat 0 1\ntimeline 3\nat 0 1\nat 0 1\nat 0 1\n"
+            self.assertIsNone(judge(words, {b"d": clash}, Outcome(2, b"tml-evidence 2\nclaims 1\n" + evidence + spares + b"end\n")))
+
+    def test_words(self):
+        for line in ("possible d", "possible d a", "possible d a b c", "possible", "matrix", "matrix d d", "Matrix d"):
+            found = expected([word.encode() for word in line.split()], {b"d": b"<TimeML/>"})
+            self.assertEqual((found.status, found.text.splitlines()[-2:]), (3, [b"tml possible DOC X Y", b"tml matrix DOC"]), line)
 
 
 class Overlaps(unittest.TestCase):
@@ -293,6 +409,15 @@ class Program(CorpusTest):
             text = self.is_right([command.encode(), name], files)
             if command == "solve":
                 self.is_right([b"verify", name, b"evidence"], {**files, b"evidence": text})
+
+    @needs_matrix
+    def test_what_is_possible(self):
+        files = samples()
+        for name in sorted(name for name in files if name.endswith(b".xml")):
+            self.is_right([b"matrix", name], files)
+        files = {b"d": files[b"samples/rates.xml"]}
+        for left, right in itertools.product([b"ei1", b"t1", b"e1"], [b"t0", b"ei1", b"ei2"]):
+            self.is_right([b"possible", b"d", left, right], files)
 
     def test_questions(self):
         files = {b"d": samples()[b"samples/rates.xml"]}

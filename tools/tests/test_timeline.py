@@ -1,14 +1,16 @@
 """`tml-corpus timeline`: rows in the order of starts, escaped texts, clashes and faults, and that only what is verified is drawn."""
 
 import html.parser
+import json
 import os
 import re
+import shutil
 import stat
 import subprocess
 import unittest
 import xml.etree.ElementTree as ElementTree
 
-from corpus import EVENT, INSTANCE, TML, TOP, CorpusTest, document
+from corpus import EVENT, INSTANCE, TML, TOP, CorpusTest, document, needs_matrix
 
 SVG = "{http://www.w3.org/2000/svg}"
 XHTML = "{http://www.w3.org/1999/xhtml}"
@@ -186,19 +188,21 @@ class Strangers(TimelineTest):
         self.assertEqual(texts, [*(f"{text} (i{number})" for number, text in enumerate(made)), "i7"])
         self.assertTrue(self.titles(picture)[0].startswith("<b>&amp; (i0): event, ranks 0 to 1\n<b>&amp; BEFORE \"q\" 'x' ]]> (link 0: "))
 
+    @needs_matrix
     def test_pages_parse_and_load_nothing(self):
         for content in (self.content(), document(""), document(event(1) + link(1, "IDENTITY", 1))):
             page = self.drawn(content, "d.html")
             root = ElementTree.fromstring(page.encode())
             parsed = Parsed(page)
             self.assertEqual((parsed.open, parsed.wrong), ([], []))
-            self.assertEqual(parsed.names.count("script"), 2)
+            self.assertEqual(parsed.names.count("script"), 3)
             self.assertEqual([tag.tag for tag in root], [XHTML + "head", XHTML + "body"])
             self.assertEqual(len(list(root.iter(SVG + "svg"))), 1)
             for name in ("src", "href"):
                 self.assertFalse([tag for tag in root.iter() if tag.get(name)])
             self.assertIn("default-src 'none'", page)
 
+    @needs_matrix
     def test_the_rows_that_a_page_marks_are_those_of_the_links(self):
         links = link(3, "BEFORE", 1) + link(2, "AFTER", 1) + link(3, "IDENTITY", 3)
         page = self.drawn(document(event(1) + event(2) + event(3) + links), "d.html")
@@ -221,6 +225,75 @@ class Strangers(TimelineTest):
         self.assertEqual((status, lines[0].split(": ")[0]), (0, 'a<&">é\\xe9\\x0a.xml'))
         heading = ElementTree.parse(self.path("d.svg")).getroot().find(SVG + "text").text
         self.assertEqual(heading, 'Timeline of a<&">é\ufffd .xml')
+
+
+@needs_matrix
+class Open(TimelineTest):
+    """What a page shows of what is open."""
+
+    DURING = document(event(1, "a&lt;b") + event(2, "&amp;") + event(3) + link(1, "DURING", 2))
+
+    def shown(self, content, *words):
+        """What the panel of a page has after something is done to its rows."""
+        if shutil.which("node") is None:
+            self.skipTest("no program node")
+        self.drawn(content, "d.html")
+        script = os.path.join(TOP, "tools", "tests", "page.js")
+        done = subprocess.run(["node", script, self.path("d.html"), *words], capture_output=True, text=True, check=True)
+        return json.loads(done.stdout)
+
+    def test_the_row_that_is_pointed_at(self):
+        [first], [second] = self.shown(self.DURING, "focus:0"), self.shown(self.DURING, "pointermove:1")
+        ends = ["start at rank 0, elsewhere up to 3", "end at rank 1, elsewhere up to 4"]
+        said = "a<b DURING & (link 0: i1 DURING i2)"
+        self.assertEqual(first[:4], ["a<b (i1): event, ranks 0 to 1", *ends, said])
+        self.assertEqual(first[4:6], ["What it can be to the others:", "IS_INCLUDED or SIMULTANEOUS or BEGINS or ENDS: & (i2)"])
+        self.assertEqual(first[6:], ["any relation: x (i3)"])
+        self.assertEqual(second[5], "INCLUDES or SIMULTANEOUS or BEGUN_BY or ENDED_BY: a<b (i1)")
+
+    def test_a_row_is_kept_by_a_click_and_by_a_key(self):
+        for pin in ("click", "Enter", " "):
+            panels = self.shown(self.DURING, "focus:0", f"{pin}:0", "focus:1", "pointermove:2", f"{pin}:0", "focus:1")
+            self.assertEqual([lines[0][:3] for lines in panels], ["a<b"] * 5 + ["& ("])
+
+    def test_arrow_keys_go_from_row_to_row(self):
+        panels = self.shown(self.DURING, "focus:0", "ArrowDown:0", "ArrowDown:1", "ArrowDown:2", "ArrowUp:2", "ArrowUp:0", "x:0")
+        self.assertEqual([lines[0].split(" ")[1] for lines in panels], [f"(i{number}):" for number in (1, 2, 3, 3, 2, 2, 2)])
+
+    def test_one_question_is_asked(self):
+        fake = self.fake(f'echo "$1" >> asked\nexec {TML} "$@"')
+        self.write("d.xml", self.DURING)
+        for name, count in (("d.html", 1), ("d.svg", 0)):
+            self.write("asked", "")
+            self.assertEqual(self.run_it("timeline", "d.xml", "-o", name, tml=fake)[0], 0)
+            with open(self.path("asked"), encoding="utf-8") as file:
+                self.assertEqual(file.read().split().count("matrix"), count)
+
+    def test_answers_that_do_not_belong_together(self):
+        apart, solved = (f"the answers of tml to `{command}` and `matrix` do not belong together" for command in ("check", "solve"))
+        rows = [
+            ("sed 1d", apart),
+            ("sed s/^i1/i2/", apart),
+            ("cat - d.xml", apart),
+            ("sed 's/ IS_INCLUDED SIM/ SIM IS_INCLUDED/'", "the answer of tml to `matrix` cannot be read"),
+            ("sed 's/ .*//'", apart),
+            ("sed 's/^i1 i2 .*/i1 i2 AFTER/;s/^i. i3 .*/& BEFORE/'", "the answer of tml to `matrix` cannot be read"),
+            ("sed 's/ BEFORE AFTER.*$/ BEFORE/'", solved),
+        ]
+        for change, said in rows:
+            with self.subTest(change):
+                fake = self.fake(f'if [ $1 = matrix ]; then {TML} "$@" | {change}; exit 0; fi\nexec {TML} "$@"')
+                self.write("d.xml", self.DURING)
+                status, lines, _ = self.run_it("timeline", "d.xml", "-o", "d.html", tml=fake)
+                self.assertEqual((status, lines), (2, [f"d.xml: not judged: {said}"]))
+
+    def test_documents_of_all_sizes(self):
+        for count in (0, 1, 2, 300):
+            with self.subTest(count):
+                links = "".join(link(number, "BEFORE", number + 1) for number in range(count - 1))
+                page = self.drawn(document("".join(event(number) for number in range(count)) + links), "d.html")
+                [text] = re.findall(r'<script type="application/json" id="possible">(.*?)</script>', page)
+                self.assertEqual([len(row) for row in json.loads(text)["rows"]], list(reversed(range(count))))
 
 
 class NotDrawn(TimelineTest):

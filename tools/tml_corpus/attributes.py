@@ -16,7 +16,8 @@ from .values import no_date
 MORE_INTERVALS = "`tml-edit --overlaps` says it by more intervals, or leave the link out"
 OTHER_RELATIONS = {
     "OVERLAP": "none of the sixteen says only that some time is shared: write OVERLAPS where the first one begins first and ends inside the "
-    f"second, OVERLAPPED_BY the other way round, or another one that is meant; {MORE_INTERVALS}",
+    f"second, OVERLAPPED_BY the other way round, or another one that is meant; {MORE_INTERVALS}; `tml possible` shows what is left open "
+    "then",
     "BEFORE-OR-OVERLAP": f"none of the sixteen relations says it: {MORE_INTERVALS}",
     "OVERLAP-OR-AFTER": f"none of the sixteen relations says it: {MORE_INTERVALS}",
     "VAGUE": "it says nothing of the order: `tml-edit --drop-links VAGUE` leaves such links out",

@@ -41,6 +41,7 @@ EXAMPLES = """Examples:
   tools/tml-corpus {0} samples
   tools/tml-corpus {0} --cluster tcp://head:8786 --tml /shared/bin/tml /shared/corpus"""
 FORMS = ("text", "json", "junit", "github")
+MATRIX_FORMS = ("text", "csv", "html")
 TOUCHING = "read links between dates that touch as the relation that holds, as IBEFORE for BEFORE, and list them"
 
 
@@ -140,14 +141,14 @@ def parser() -> Parser:
     clashes.set_defaults(command=clashes_command)
     shared_words(check, "faults or clashes")
     shared_words(clashes, "clashes")
-    fixes = fix_words(commands)
+    fixes, opens = fix_words(commands), open_words(commands)
     for command in (check, tags, clashes, fixes):
         command.add_argument("paths", nargs="+", metavar="PATH", help="a file, or a folder to search")
         command.add_argument("--glob", action="append", metavar="PATTERN", help=f"names to look for in folders (default {' '.join(PATTERNS)})")
         command.add_argument("--jobs", type=int, metavar="N", help="how many files at once (default: one a processor)")
     for command in (check, clashes):
         command.add_argument("--cluster", metavar="ADDRESS", help="work on a Dask cluster, whose workers see the files and tml by the same paths; --jobs says nothing then")
-    for command in (check, tags, clashes, fixes, timeline_words(commands)):
+    for command in (check, tags, clashes, fixes, timeline_words(commands), matrix_words(commands), opens):
         command.add_argument("--config", metavar="FILE", help="the settings (default: tml-corpus.toml in the folder of the paths or nearest above)")
         command.add_argument("--tml", metavar="PROGRAM", help="the program tml (default: that of this repository, else that on PATH)")
     return whole
@@ -205,6 +206,45 @@ def timeline_words(commands: argparse._SubParsersAction[Parser]) -> Parser:
     words.add_argument("-o", "--output", type=picture_name, required=True, metavar="FILE", help="the picture: FILE.svg, or FILE.html with the links of each row")
     words.add_argument("--touching", action="store_true", help=TOUCHING)
     words.set_defaults(command=timeline_command)
+    return words
+
+
+def matrix_words(commands: argparse._SubParsersAction[Parser]) -> Parser:
+    """The words of `matrix`, which is about one document too."""
+    words = commands.add_parser(
+        "matrix",
+        help="print what the intervals of a document can be to each other",
+        description="Prints of each two intervals of a document the relations of Allen that its links and dates leave open, in the words of "
+        "the text, "
+        "as tml matrix has them. Where links clash it says which ones, and where the document has a fault it names that; the status is 1 "
+        "then.",
+        epilog="Example: tools/tml-corpus matrix --format html samples/rates.xml > rates.html",
+    )
+    words.add_argument("document", metavar="DOC", help="a file")
+    words.add_argument("--format", choices=MATRIX_FORMS, default="text", help="lines (the default), CSV, or a page with a table")
+    words.add_argument("--touching", action="store_true", help=TOUCHING)
+    words.set_defaults(command=matrix_command)
+    return words
+
+
+def open_words(commands: argparse._SubParsersAction[Parser]) -> Parser:
+    """The words of `open`, which is about one document too."""
+    words = commands.add_parser(
+        "open",
+        help="print the pairs of intervals that are open, those first of which one more link settles most",
+        description="Prints the pairs of intervals between which more than one relation of Allen is possible. Before each stands how many such "
+        "pairs one more link between the two decides, from the least number to the greatest, and after it how many each relation does; pairs "
+        "of which the least number is greatest come first. The numbers that are printed are those of tml matrix, asked of the document with "
+        "each such link.",
+        epilog="Example: tools/tml-corpus open --limit 3 samples/rates.xml",
+    )
+    words.add_argument("document", metavar="DOC", help="a file")
+    words.add_argument("--limit", type=number_from_zero, default=10, metavar="N", help="how many pairs are shown (10)")
+    nearest = "how many pairs are looked at, the nearest ones in the document (2000; 0: all)"
+    words.add_argument("--pairs", type=number_from_zero, default=2000, metavar="N", help=nearest)
+    words.add_argument("--jobs", type=int, metavar="N", help="how many pairs at once (default: one a processor)")
+    words.add_argument("--touching", action="store_true", help=TOUCHING)
+    words.set_defaults(command=open_command)
     return words
 
 
@@ -408,3 +448,18 @@ def timeline_command(options: argparse.Namespace, stop: Interruption) -> int:
         write_picture(options.output, drawn.picture)
     sys.stdout.write(drawn.text)
     return drawn.status
+
+
+def matrix_command(options: argparse.Namespace, stop: Interruption) -> int:
+    """`tml-corpus matrix`."""
+    from .show_matrix import show_matrix
+
+    return show_matrix(options.program, options.document, options.format, options.touching, stop)
+
+
+def open_command(options: argparse.Namespace, stop: Interruption) -> int:
+    """`tml-corpus open`."""
+    from .show_open import Bounds, show_open
+
+    bounds = Bounds(options.pairs, options.limit)
+    return show_open(options.program, options.document, bounds, options.touching, options.in_order, stop)

@@ -1,13 +1,19 @@
-"""A timeline as a page of HTML: the picture, and below it the links of the row that is pointed at. It loads nothing."""
+"""A timeline as a page of HTML: the picture, and below it the links of the row that is pointed at and what it can be to the others.
+
+It loads nothing.
+"""
 
 from __future__ import annotations
 
 import base64
 import hashlib
+import json
 
 from .lettering import escaped, plain
+from .matrix import INVERSES, Matrix
 from .picture import drawing
 from .rows import Timeline
+from .statuses import BASE_RELATIONS
 
 STYLE = """
 body{margin:0;background:#fff;color:#111;font:14px/1.45 "DejaVu Sans",Verdana,Helvetica,Arial,sans-serif}
@@ -15,6 +21,7 @@ main{overflow-x:auto;padding-bottom:38vh}
 #links{position:fixed;left:0;right:0;bottom:0;max-height:34vh;overflow:auto;box-sizing:border-box;margin:0;padding:10px 16px;
 background:#fff;border-top:2px solid #16324f;columns:28em;font-size:13px}
 #links div{break-inside:avoid;padding-left:1.5em;text-indent:-1.5em;overflow-wrap:anywhere}#links div:first-child{font-weight:bold}
+#links .open{color:#16324f}
 .row{outline:none;cursor:pointer}.row.on .back{fill-opacity:.5}.row.near .back{fill-opacity:.2}.row.on .bar,.row.near .bar{stroke-width:3}
 @media print{#links{display:none}main{padding:0;overflow:visible}}
 """
@@ -24,18 +31,42 @@ SCRIPT = """
 const panel = document.getElementById("links");
 const rows = Array.from(document.querySelectorAll("g.row"));
 const partners = JSON.parse(document.getElementById("partners").textContent);
+const possible = JSON.parse(document.getElementById("possible").textContent);
+const texts = rows.map((row) => row.querySelector("title").textContent);
+const labels = texts.map((text) => text.split("\\n", 1)[0].replace(/: [^:]*$/, ""));
 let marked = [];
 let pinned = null;
 const mark = (row, name) => { row.classList.add(name); marked.push(row); };
-const line = (text) => {
+const line = (text, kind) => {
   const part = document.createElement("div");
   part.textContent = text;
+  if (kind) part.className = kind;
   return part;
 };
+const between = (place, other) => {
+  const [first, second] = other > place ? [place, other] : [other, place];
+  const relations = possible.sets[possible.rows[first].charCodeAt(second - first - 1) - possible.first];
+  return first === place ? relations : relations.map((one) => possible.inverses[one]).sort((a, b) => a - b);
+};
+const standing = (place) => {
+  const groups = new Map();
+  rows.forEach((row, other) => {
+    if (other === place) return;
+    const relations = between(place, other);
+    const group = groups.get(relations.join()) || { relations, others: [] };
+    group.others.push(labels[other]);
+    groups.set(relations.join(), group);
+  });
+  const sorted = [...groups.values()].sort((a, b) => a.relations.length - b.relations.length);
+  return sorted.map(({ relations, others }) => {
+    const all = relations.length === possible.names.length;
+    return (all ? "any relation" : relations.map((one) => possible.names[one]).join(" or ")) + ": " + others.join(", ");
+  });
+};
+const go = (place) => { if (place in rows) rows[place].focus(); };
 rows.forEach((row, place) => {
-  const title = row.querySelector("title");
-  const words = title.textContent;
-  title.remove();
+  const words = texts[place];
+  row.querySelector("title").remove();
   row.setAttribute("tabindex", "0");
   row.setAttribute("role", "img");
   row.setAttribute("aria-label", words);
@@ -43,29 +74,64 @@ rows.forEach((row, place) => {
     if (marked[0] === row) return;
     marked.forEach((one) => one.classList.remove("on", "near"));
     marked = [];
-    panel.replaceChildren(...words.split("\\n").map(line));
+    const others = standing(place).map((text) => line(text, "open"));
+    panel.replaceChildren(...words.split("\\n").map((text) => line(text)), line("What it can be to the others:", "open"), ...others);
     panel.scrollTop = 0;
     mark(row, "on");
     partners[place].forEach((other) => mark(rows[other], "near"));
   };
   row.addEventListener("pointermove", () => { if (pinned === null) show(); });
   row.addEventListener("focus", () => { if (pinned === null) show(); });
-  row.addEventListener("click", () => { pinned = pinned === row ? null : row; show(); });
+  const pin = () => { pinned = pinned === row ? null : row; show(); };
+  row.addEventListener("click", pin);
+  const keys = new Map([["Enter", pin], [" ", pin], ["ArrowUp", () => go(place - 1)], ["ArrowDown", () => go(place + 1)]]);
+  row.addEventListener("keydown", (event) => {
+    if (!keys.has(event.key)) return;
+    event.preventDefault();
+    keys.get(event.key)();
+  });
 });
 """
 """Words go in by `textContent` alone. Without the script a browser shows them beside the pointer, as any title of SVG."""
+
+FIRST = 0x100
+"""The character of the first set of relations; that of a further one comes after it. There are 82 sets at most that `tml` prints."""
+
+WITHOUT = (
+    "Without scripts a title beside the pointer has the links of a row and how far it can move. What it can be to the others "
+    "<code>tml-corpus matrix</code> prints."
+)
+
+
+def possible(matrix: Matrix, order: tuple[int, ...]) -> str:
+    """What rows can be to the rows below them, as JSON: a character for each two of them, which stands for a set of relations."""
+    numbers = {relations: number for number, relations in enumerate(matrix.sets)}
+    rows = []
+    for place, first in enumerate(order):
+        found = [matrix.between(first, second) for second in order[place + 1 :]]
+        rows.append("".join(chr(FIRST + numbers.setdefault(relations, len(numbers))) for relations in found))
+    places = {relation: place for place, relation in enumerate(BASE_RELATIONS)}
+    sets = [[places[relation] for relation in relations] for relations in numbers]
+    inverses = [places[INVERSES[relation]] for relation in BASE_RELATIONS]
+    whole = {"names": BASE_RELATIONS, "inverses": inverses, "first": FIRST, "sets": sets, "rows": rows}
+    return json.dumps(whole, ensure_ascii=False, separators=(",", ":"))
 
 
 def page(timeline: Timeline) -> str:
     """The page. It is XML too, so that whoever likes can read it with such a reader."""
     digest = base64.b64encode(hashlib.sha256(SCRIPT.encode()).digest()).decode()
     policy = f"default-src 'none'; style-src 'unsafe-inline'; script-src 'sha256-{digest}'"
+    assert timeline.matrix is not None
     partners = [sorted({*row.partners} - {place}) for place, row in enumerate(timeline.rows)]
     return (
         '<!DOCTYPE html>\n<html xmlns="http://www.w3.org/1999/xhtml" lang="en">\n<head>\n<meta charset="utf-8"/>\n'
         f'<meta http-equiv="Content-Security-Policy" content="{policy}"/>\n'
         f"<title>Timeline of {escaped(plain(timeline.title))}</title>\n<style>{STYLE}</style>\n</head>\n<body>\n"
         f"<main>\n{drawing(timeline)}</main>\n"
-        '<div id="links" role="status">Point at a row, or go to it with the tabulator, to see its links; a click keeps them here.</div>\n'
-        f'<script type="application/json" id="partners">{partners}</script>\n<script>{SCRIPT}</script>\n</body>\n</html>\n'
+        '<div id="links" role="status" tabindex="0">Point at a row, or go to it with the tabulator and the arrow keys, to see its links and '
+        "what it can be to the others; a click, or the enter key, keeps them here.</div>\n"
+        f"<noscript><p>{WITHOUT}</p></noscript>\n"
+        f'<script type="application/json" id="partners">{partners}</script>\n'
+        f'<script type="application/json" id="possible">{possible(timeline.matrix, timeline.order)}</script>\n'
+        f"<script>{SCRIPT}</script>\n</body>\n</html>\n"
     )

@@ -84,6 +84,19 @@ class Program:
             raise CannotRun(problem)
         return Reply(status, text, words[0], size)
 
+    def matrix(self, document: bytes, lines: IO[bytes]) -> Reply:
+        """`tml matrix` of a document in memory: the lines, which may be many, go to an open file.
+
+        With another status than 0 the reply has the text.
+        """
+        status, _ = run([self.path, "matrix", "-"], self.seen(document), longest("matrix"), take=lines.write)
+        lines.seek(0)
+        text = b"" if status == TmlStatus.DONE else lines.read()
+        problem = None if status == TmlStatus.DONE else refusal(["matrix"], status, text, len(document))
+        if problem is not None:
+            raise CannotRun(problem)
+        return Reply(status, text, "matrix", len(document))
+
     def check(self, document: bytes | IO[bytes]) -> Reply:
         """`tml check` of a document in memory or of an open file."""
         return self.ask(["check", "-"], document)

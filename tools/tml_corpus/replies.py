@@ -30,10 +30,10 @@ DONE = {
     "canon": re.compile(rb"<(?s:.*)\n"),
     "verify": re.compile(rb"(?:%s)+" % CLAIM),
 }
-"""The texts with status 0; of `check` and `spans` more is asked."""
+"""The texts with status 0; of `check` and `spans` more is asked, and of `matrix` line by line."""
 
 OTHER = {
-    TmlStatus.CLASH: (("solve", "ask", "relations"), re.compile(EVIDENCE + rb"clash \d+\ncite \d+\n(?s:.*)(?<=\n)end\n")),
+    TmlStatus.CLASH: (("solve", "ask", "relations", "matrix"), re.compile(EVIDENCE + rb"clash \d+\ncite \d+\n(?s:.*)(?<=\n)end\n")),
     TmlStatus.READ_FAULT: (None, re.compile(rb"read fault\n")),
     TmlStatus.NO_MEMORY: (None, re.compile(rb"")),
     TmlStatus.EVIDENCE_FAULT: (("verify",), re.compile(rb"evidence (?:line \d+|claim \d+ part \d+ [ \w]+)\n")),
@@ -43,7 +43,10 @@ OTHER = {
 """The commands that may end with a status, where not all may, and the text that goes with it."""
 
 MEBIBYTE = 1024 * 1024
-LONGEST = {"solve": EVIDENCE_LIMIT, "ask": EVIDENCE_LIMIT, "relations": 64 * MEBIBYTE, "canon": 32 * MEBIBYTE, "spans": 64 * MEBIBYTE}
+LONGEST = {
+    "solve": EVIDENCE_LIMIT, "ask": EVIDENCE_LIMIT, "relations": 64 * MEBIBYTE, "canon": 32 * MEBIBYTE, "spans": 64 * MEBIBYTE,
+    "matrix": 128 * MEBIBYTE,
+}  # fmt: skip
 """So many bytes a reply may have, where it may have more than one MiB: more is not read."""
 
 

@@ -4,7 +4,9 @@ from __future__ import annotations
 
 from dataclasses import dataclass, field
 
+from .leeway import Leeway
 from .lettering import plain
+from .matrix import Matrix
 
 KINDS = {
     "exact": "time fixed by the calendar",
@@ -27,6 +29,8 @@ class Row:
     civil: tuple[str, ...] = ()
     links: list[str] = field(default_factory=list)
     partners: list[int] = field(default_factory=list)
+    leeway: tuple[Leeway, ...] = ()
+    """How far its start and its end can move, where that is known."""
 
     def dates(self) -> str:
         """When a time is by the calendar; without the seconds where they are 0. Nothing of an event."""
@@ -42,16 +46,30 @@ class Row:
         lines = [f"{label}: {KINDS[self.kind]}, ranks {self.start} to {self.finish}"]
         if self.civil:
             lines.append(" to ".join(self.civil) + (", or a part of it" if self.kind == "within" else ""))
+        lines += [moved(*end) for end in zip(("start", "end"), (self.start, self.finish), self.leeway, strict=False)]
         return "\n".join(lines + ([plain(link) for link in self.links] or ["no links"]))
+
+
+def moved(end: str, rank: int, leeway: Leeway) -> str:
+    """How far one end of an interval can move."""
+    ranks = f"{end} at rank {rank}, " + (f"elsewhere up to {leeway.most}" if leeway.most > rank else "as in each timeline without a gap")
+    if leeway.dates is None or leeway.dates[0] == leeway.dates[1]:
+        return ranks
+    return f"{ranks}; by the calendar between {leeway.dates[0]} and {leeway.dates[1]}"
 
 
 @dataclass(frozen=True)
 class Timeline:
-    """The rows in the order of their starts, the name of the document, and how many links it has."""
+    """The rows in the order of their starts, the name of the document, and how many links it has.
+
+    Where it is asked for, also what is open: the matrix of the document, and of each row the number of its interval.
+    """
 
     title: str
     rows: list[Row]
     links: int
+    matrix: Matrix | None = None
+    order: tuple[int, ...] = ()
 
     def greatest(self) -> int:
         """The greatest rank."""

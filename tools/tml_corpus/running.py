@@ -7,7 +7,7 @@ import select
 import signal
 import subprocess
 import time
-from collections.abc import Sequence
+from collections.abc import Callable, Sequence
 from contextlib import suppress
 from dataclasses import dataclass, field
 from typing import IO
@@ -27,9 +27,16 @@ class CannotRun(Exception):
     """A program could not be started, took too long, printed too much, or answered what it never should."""
 
 
-def run(words: Sequence[str], document: bytes | IO[bytes], most: int, other: IO[bytes] | None = None) -> tuple[int, bytes]:
+def run(
+    words: Sequence[str],
+    document: bytes | IO[bytes],
+    most: int,
+    other: IO[bytes] | None = None,
+    take: Callable[[bytes], object] | None = None,
+) -> tuple[int, bytes]:
     """The status of a program and what it printed: at most so many bytes. It reads the document or the open file, and may read another one.
 
+    Where something takes the parts of what it prints, nothing of that is kept here.
     No shell is used. The child gets a session of its own, so that Ctrl-C ends this program in its own way and does not end
     a judgement half-way.
     """
@@ -50,7 +57,8 @@ def run(words: Sequence[str], document: bytes | IO[bytes], most: int, other: IO[
         raise CannotRun(f"tml could not be run: {error}") from None
     RUNNING.add(child)
     try:
-        talk = Talk(child, memoryview(given or b""), most)
+        parts: list[bytes] = []
+        talk = Talk(child, memoryview(given or b""), most, take or parts.append)
         talk.go_on()
         status = ended(child, talk.seconds_left())
     except BaseException as error:
@@ -66,7 +74,7 @@ def run(words: Sequence[str], document: bytes | IO[bytes], most: int, other: IO[
                     stream.close()
     if status < 0:
         raise CannotRun(f"tml was ended by signal {-status}")
-    return status, b"".join(talk.parts)
+    return status, b"".join(parts)
 
 
 def ended(child: subprocess.Popen[bytes], seconds: float) -> int:
@@ -101,12 +109,12 @@ def end_all() -> None:
 
 @dataclass
 class Talk:
-    """What a child is still to read, and what it has printed."""
+    """What a child is still to read, and how much it has printed."""
 
     child: subprocess.Popen[bytes]
     rest: memoryview
     most: int
-    parts: list[bytes] = field(default_factory=list)
+    take: Callable[[bytes], object]
     size: int = 0
     late: float = field(default_factory=lambda: time.monotonic() + SECONDS)
 
@@ -143,7 +151,7 @@ class Talk:
         self.size += len(part)
         if self.size > self.most:
             raise CannotRun(f"tml printed more than {self.most:,} bytes")
-        self.parts.append(part)
+        self.take(part)
         return bool(part)
 
     def write(self, handle: int) -> bool:

@@ -60,5 +60,8 @@ RELATIONS = (
 )  # fmt: skip
 """The relations of TLINK."""
 
+BASE_RELATIONS = tuple(relation for relation in RELATIONS if relation not in ("DURING", "DURING_INV", "IDENTITY"))
+"""The thirteen of Allen, in the order in which `tml matrix` prints them."""
+
 ENDED = "a process of this program that looked at it was ended from outside, or had no memory"
 """What is said of a file with which a worker ended."""

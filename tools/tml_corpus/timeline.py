@@ -6,19 +6,17 @@ import os
 import re
 from dataclasses import dataclass, replace
 
-from . import clash_formats
-from .check import judge_document
-from .clash_report import Wanted
-from .clash_search import report_of
 from .clashes import verify_timeline
-from .files import CannotRead, Found, counted, read_document, reason, shown, written
-from .formats import make_format
+from .files import CannotRead, counted, read_document, reason, shown, written
+from .fitting import Unfit, fitting, not_judged
+from .leeway import base_relation, leeways
+from .matrix import matrix_of
 from .page import page
 from .picture import svg
-from .program import ACCEPTED, CLASH, FAULT, CannotRun, Program, Reply
+from .program import CannotRun, Program, Reply
 from .replies import EVIDENCE
 from .rows import Row, Timeline
-from .touching import touching_copy
+from .statuses import Status
 from .units import room_for
 from .words import Wording
 
@@ -52,43 +50,27 @@ def draw(program: Program, path: str, target: str, touching: bool) -> Drawn:
         with room_for(document):
             return draw_document(program, path, document, target, touching)
     except (CannotRead, CannotRun) as problem:
-        return Drawn(f"{shown(path)}: not judged: {shown(str(problem))}\n", 2)
+        return undrawn(not_judged(path, problem))
+
+
+def undrawn(unfit: Unfit) -> Drawn:
+    """What is printed of a document that is not drawn."""
+    return Drawn(unfit.text, unfit.status)
 
 
 def draw_document(program: Program, path: str, document: bytes, target: str, touching: bool) -> Drawn:
     """The picture of a document in memory, or its fault, or the links that clash."""
-    reply = program.ask(["solve", "-"], document)
-    if reply.status == FAULT:
-        return fault_of(program, path, document)
-    if reply.status == CLASH:
-        return links_of(program, path, document, target, touching, reply)
-    if reply.status != ACCEPTED:
-        raise CannotRun(reply.problem())
-    timeline = verified(program, path, document, reply)
+    found = fitting(program, path, document, "drawn", touching)
+    if isinstance(found, Unfit):
+        return undrawn(found)
+    form = FORMS[form_of(target)]
+    timeline = verified(program, path, found.document, found.reply, is_open=form is page)
     counts = f"{counted(len(timeline.rows), 'interval')}, {counted(timeline.links, 'link')}, ranks 0 to {timeline.greatest()}"
-    return Drawn(f"{shown(path)}: drawn in {shown(target)}: {counts}\n", 0, FORMS[form_of(target)](timeline))
+    return Drawn(f"{found.text}{shown(path)}: drawn in {shown(target)}: {counts}\n", Status.SUCCESS, form(timeline))
 
 
-def fault_of(program: Program, path: str, document: bytes) -> Drawn:
-    """The fault of a document, as `tml-corpus check` prints it."""
-    judgement = judge_document(program, path, document, True, 0)
-    if judgement.accepted():
-        raise CannotRun("the answers of tml to `solve` and `check` do not belong together")
-    return Drawn(make_format("text", True).file(judgement), 2 if judgement.problem else 1)
-
-
-def links_of(program: Program, path: str, document: bytes, target: str, touching: bool, reply: Reply) -> Drawn:
-    """The links that clash, as `tml-corpus clashes` prints them; the picture where they clash only since dates touch, and may be read so."""
-    report = report_of(program, Found(path), document, Wanted(touching=touching), reply)
-    text = clash_formats.Text(True).file(report)
-    if report.clashes:
-        return Drawn(f"{text}{shown(path)}: not drawn: no timeline fits, since these links clash\n", 1)
-    picture = draw_document(program, path, touching_copy(program, document), target, False)
-    return replace(picture, text=text + picture.text)
-
-
-def verified(program: Program, path: str, document: bytes, reply: Reply) -> Timeline:
-    """The rows of what `tml solve` printed, once `tml verify` said that it is a timeline of the document."""
+def verified(program: Program, path: str, document: bytes, reply: Reply, *, is_open: bool) -> Timeline:
+    """The rows of what `tml solve` printed, once `tml verify` said that it is a timeline of the document; perhaps with what is open."""
     verify_timeline(program, document, reply)
     found = re.fullmatch(EVIDENCE + rb"timeline \d+\n((?:at \d+ \d+\n)*)end\n", reply.text)
     if found is None:
@@ -98,7 +80,21 @@ def verified(program: Program, path: str, document: bytes, reply: Reply) -> Time
     points = {point for pair in ranks for point in pair}
     if points and len(points) != max(points) + 1:
         raise CannotRun("the timeline that tml solve printed is not the least one")
-    return in_rows(os.path.basename(path), Wording(program, document), ranks)
+    wording = Wording(program, document)
+    timeline = in_rows(os.path.basename(path), wording, ranks)
+    return with_matrix(program, wording, timeline) if is_open else timeline
+
+
+def with_matrix(program: Program, wording: Wording, timeline: Timeline) -> Timeline:
+    """The same with what is open: what `tml matrix` printed, and how far each end can move by that."""
+    matrix = matrix_of(program, wording.document, wording.intervals)
+    ranks = dict(zip(timeline.order, ((row.start, row.finish) for row in timeline.rows), strict=True))
+    if any(base_relation(ranks[left], ranks[right]) not in matrix.sets[number] for left, right, number in matrix.pairs()):
+        raise CannotRun("the answers of tml to `solve` and `matrix` do not belong together")
+    found = leeways(matrix, wording.dates)
+    ends = [tuple(found[2 * number : 2 * number + 2]) for number in timeline.order]
+    rows = [replace(row, leeway=leeway) for row, leeway in zip(timeline.rows, ends, strict=True)]
+    return replace(timeline, rows=rows, matrix=matrix)
 
 
 def in_rows(title: str, wording: Wording, ranks: list[tuple[int, int]]) -> Timeline:
@@ -114,7 +110,7 @@ def in_rows(title: str, wording: Wording, ranks: list[tuple[int, int]]) -> Timel
         for place, other in {left: right, right: left}.items():
             rows[place].links.append(words)
             rows[place].partners.append(other)
-    return Timeline(title, rows, len(wording.link_tags))
+    return Timeline(title, rows, len(wording.link_tags), order=tuple(order))
 
 
 def row_of(wording: Wording, number: int, ranks: tuple[int, int]) -> Row:
