@@ -19,7 +19,7 @@ use Rattle.clash.specs.Minimal.{IsAnswered, IsProvedClash, IsSpared}
 use Rattle.clash.specs.Walks.{OrdersAreAnswered}
 use Rattle.clash.specs.declared.minimal.Clash.{Clash}
 use Rattle.clash.proofs.Complete.{closed_cells, fits_or_closed_walk, least_or_closed_walk, walk_or_counter}
-use Rattle.clash.proofs.Marked.{every_marked, kept_within}
+use Rattle.clash.proofs.MarkedLinks.{every_marked, kept_within}
 use Rattle.clash.proofs.Proved.{proved_links}
 use Rattle.clash.proofs.Rounds.{goes_over, others_set, set_others, spared_fewer}
 use Rattle.clash.proofs.ShortWalks.{short_walk}

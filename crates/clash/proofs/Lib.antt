@@ -8,7 +8,7 @@ pub mod Complete
 pub mod ShortWalks
 pub mod Unlinked
 pub mod Rounds
-pub mod Marked
+pub mod MarkedLinks
 pub mod Measures
 pub mod Proved
 pub mod Ordered
@@ -18,3 +18,4 @@ pub mod StepsBut
 pub mod RankSums
 pub mod Spared
 pub mod Answered
+pub mod Entailing

@@ -20,7 +20,7 @@ use Rattle.net_core.specs.Entailment.{HasTimelineWith}
 use Rattle.clash.specs.Minimal.{Before, IsFirstClash, IsRound, IsSpared, UpTo}
 use Rattle.clash.specs.declared.round.Round.{Round}
 use Rattle.clash.proofs.Complete.{fits_or_closed_walk}
-use Rattle.clash.proofs.Marked.{kept_within}
+use Rattle.clash.proofs.MarkedLinks.{kept_within}
 
 -- ---- sets of links
 

@@ -98,8 +98,12 @@ fn up_to(alloc: Global, net: &Net, link: u32) -> Result<Vec<bool>, Memory>
     Ok(keep)
 }
 
-/// The numbers of the links that are marked.
-fn marked(alloc: Global, net: &Net, marks: &[bool]) -> Result<List<u32>, Memory>
+/// The numbers of the links that are marked, rising.
+///
+/// # Errors
+///
+/// Out of memory.
+pub fn marked(alloc: Global, net: &Net, marks: &[bool]) -> Result<List<u32>, Memory>
     requires { length marks.now ≡ length net.now.links }
     ensures rising { IfOk result IsStrictlyIncreasing }
     ensures exact { IfOk result (λ links. (k : ℕ) → Contains links k ↔ Kept marks.now k) }

@@ -17,6 +17,7 @@ use Rattle.net_core.specs.Least.{IsLeast}
 use Rattle.order_closure.specs.declared.cell.Cell.{Cell}
 use Rattle.order_closure.proofs.Central.{at_least_weak, order_says}
 use Rattle.clash.specs.Closures.{IsClosureOf}
+use Rattle.clash.proofs.Entailing.{given_holds, held_given}
 use Rattle.net_core.specs.Entailment.{Always, AlwaysHolds, AreIntervals}
 use Rattle.net_core.specs.Limits.{max_printed}
 use Rattle.evidence_check.specs.Refusals.{atom_at}
@@ -27,27 +28,13 @@ use Rattle.evidence_format.specs.Evidence.{counter}
 use Rattle.order_answers.specs.Ask.{IsCounterText, IsFirstNotGiven, IsFirstOpen, ShowsCounterexample}
 
 module _ (net : PlainNet) (table : Table) (closure : IsClosureOf net table) where
-  -- what a cell says always holds
-  pub given_holds : (atom : Atom) → IsInRange (points net) atom → Gives table atom → AlwaysHolds net atom
-  given_holds atom range gives t fits =
-      order_says (cell_at table atom.from atom.to) atom.strict (t atom.from) (t atom.to) gives
-      ((closure.keeps t).1 fits atom.from atom.to (omega (arith, range.0, closure.size)) (omega (arith, range.1, closure.size)))
-
-  -- what always holds a cell says
-  pub held_given : (atom : Atom) → IsInRange (points net) atom → AlwaysHolds net atom → Gives table atom
-  held_given atom range always = by atom.strict always
-    where
-      by : (strict : Bool) → Always net strict atom.from atom.to → strength (order strict) ≤ strength (cell_at table atom.from atom.to)
-      by true holds = subst (λ (x : Cell). 2 ≤ strength x) (sym ((closure.strict atom.from atom.to range.0 range.1).1 holds)) (omega arith)
-      by false holds = at_least_weak (cell_at table atom.from atom.to) (Always net true atom.from atom.to) (Always net false atom.from atom.to) (closure.strict atom.from atom.to range.0 range.1) (closure.weak atom.from atom.to range.0 range.1) holds
-
   module _ (atoms : List Atom) (range : AreInRange (points net) atoms) where
     in_range : (k : ℕ) → k < length atoms → IsInRange (points net) (atom_at atoms k)
     in_range k lt = All-get_or (IsInRange (points net)) atoms k (record { from = 0; to = 0; strict = false }) lt range
 
     -- where the table gives all atoms, all always hold
     pub all_hold : IsFirstNotGiven table atoms None → IsFirst (length atoms) (λ k. AlwaysHolds net (atom_at atoms k)) None
-    all_hold all = λ k lt. given_holds (atom_at atoms k) (in_range k lt) (all k lt)
+    all_hold all = λ k lt. given_holds net table closure (atom_at atoms k) (in_range k lt) (all k lt)
 
     -- the first atom that it does not give is the first that does not always hold
     pub first_open : (atom : Atom) → IsFirstNotGiven table atoms (Some atom) → IsFirstOpen net atoms atom
@@ -55,8 +42,8 @@ module _ (net : PlainNet) (table : Table) (closure : IsClosureOf net table) wher
       first.0,
       (
         first.1.0,
-        λ always. first.1.1 (held_given (atom_at atoms first.0) (in_range first.0 first.1.0) always),
-        λ j less. let below = first.1.0 in given_holds (atom_at atoms j) (in_range j (omega (arith, less, below))) (first.1.2 j less),
+        λ always. first.1.1 (held_given net table closure (atom_at atoms first.0) (in_range first.0 first.1.0) always),
+        λ j less. let below = first.1.0 in given_holds net table closure (atom_at atoms j) (in_range j (omega (arith, less, below))) (first.1.2 j less),
       ),
       first.2,
     )

@@ -17,26 +17,12 @@ use Rattle.net_core.specs.Entailment.{Follows}
 use Rattle.tml_refs.specs.Documents.{PlainDocument}
 use Rattle.order_answers.specs.Relations.{AreRelations, ClosuresEntailWhatFollows, FollowsBetween, OfRelations, row_line}
 use Rattle.tml_run.specs.declared.status.Status.TheVariants.{Done}
-use Rattle.order_answers.proofs.Counterexamples.{given_holds, held_given}
+use Rattle.clash.proofs.Entailing.{gives_what_follows}
 
 module _ (net : PlainNet) (table : Table) (closure : IsClosureOf net table) where
-  -- orders that the table gives are kept by every timeline that fits
-  kept : (t : Timeline) → Fits net t → (atoms : List Atom) → AllByRecursion (IsInRange (points net)) atoms → AllByRecursion (Gives table) atoms → AllByRecursion (Satisfies t) atoms
-  kept t fits [] range gives = tt
-  kept t fits (atom ∷ atoms) range gives = (given_holds net table closure atom range.0 gives.0 t fits, kept t fits atoms range.1 gives.1)
-
-  -- orders that every timeline that fits keeps the table gives
-  given : (atoms : List Atom) → AllByRecursion (IsInRange (points net)) atoms → ((t : Timeline) → Fits net t → AllByRecursion (Satisfies t) atoms) → AllByRecursion (Gives table) atoms
-  given [] range always = tt
-  given (atom ∷ atoms) range always = (held_given net table closure atom range.0 (λ t fits. (always t fits).0), given atoms range.1 (λ t fits. (always t fits).1))
-
   -- the closure entails a relation exactly where it follows
   pub entails_follows : (a : ℕ) (r : Rel) (b : ℕ) → a < intervals net → b < intervals net → TableEntails table a r b ↔ Follows net a r b
-  entails_follows a r b la lb =
-      let range = atoms_in_range (intervals net) r a b la lb in (
-        λ entails t fits. (atoms_say_the_relation t r a b).1 (kept t fits (atoms_of r a b) range (recursion_from_All (Gives table) (atoms_of r a b) entails)),
-        λ follows. All-from_recursion (Gives table) (atoms_of r a b) (given (atoms_of r a b) range (λ t fits. (atoms_say_the_relation t r a b).0 (follows t fits))),
-      )
+  entails_follows = gives_what_follows net table closure
 
   -- a row of the closure is a relation that follows
   row_follows : (row : Row) → IsRow table row ↔ FollowsBetween net row

@@ -1,5 +1,5 @@
 use Rattle.std.proofs.Common.{◌≡◌, ◌+◌, true, false, sym, subst, ◌∙◌, arith}
-use Rattle.clash.proofs.Marked.{AreMarked, kept_within, marked_push, marked_skip}
+use Rattle.clash.proofs.MarkedLinks.{AreMarked, kept_within, marked_push, marked_skip}
 use Rattle.clash.proofs.minimal.marked.Goals as goal
 use Rattle.clash.proofs.minimal.marked.Goals.{then-marks-link+in_ok-push, else-marks-link}
 

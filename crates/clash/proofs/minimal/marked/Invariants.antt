@@ -1,5 +1,5 @@
 use Rattle.std.proofs.Common.{◌≡◌, length}
-use Rattle.clash.proofs.Marked.{AreMarked}
+use Rattle.clash.proofs.MarkedLinks.{AreMarked}
 use Rattle.clash.proofs.minimal.marked.Given as goal
 
 -- the marked links so far stand in the list

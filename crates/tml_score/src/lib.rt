@@ -1,0 +1,12 @@
+//! Links without redundancy, and how much of one annotation follows from another.
+#![tactic(auto)]
+
+mod laws;
+mod reducing;
+mod scoring;
+
+pub use laws::{
+    every_net_is_reduced, every_score, one_reduced_list, one_score, reduced_links_say_the_same,
+};
+pub use reducing::{reduce, reduced_by};
+pub use scoring::{Scores, score};
