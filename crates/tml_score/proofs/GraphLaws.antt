@@ -4,6 +4,8 @@ use Rattle.std.specs.List.{Contains}
 use Rattle.std.proofs.lemmas.Bool.{cases_lt}
 use Rattle.std.proofs.lemmas.List.Elements.{All-contains, All-from_recursion, All-get_or, Contains-append_left, Contains-get_or, Contains-push, Contains-push_cases}
 use Rattle.std.proofs.lemmas.List.{get_or_default}
+use Rattle.std.specs.List.Sorted.{IsPermutation}
+use Rattle.std.proofs.lemmas.List.Sorted.{Contains-permutation, IsPermutation-sym}
 use Rattle.clash.specs.Orders.{AreFixed}
 use Rattle.clash.specs.declared.orders.Order.{Order}
 use Rattle.clash.proofs.LinkAtoms.{link_said}
@@ -81,6 +83,19 @@ all_at atoms link o = (
       let (k, lt, e) = h.1 in
       let same : get_or atoms k (record { from = 0; to = 0; strict = false }) ≡ o.atom = get_or_default atoms k (record { from = 0; to = 0; strict = false }) o.atom lt ∙ e in
       (k, lt, (lt, λ i. record { atom = sym same i; link = h.0 i })),
+)
+
+-- all orders, in any order
+pub all_sorted : (net : PlainNet) (fixed : List Atom) (old mid new sorted : List Order) → old ≡ [] → Adds (IsFixed fixed) old mid → Adds (IsOfSome net) mid new → IsPermutation new sorted → AreAll net fixed sorted
+all_sorted net fixed old mid new sorted empty first second moved o = (
+  λ h. elim ((second o).0 (Contains-permutation sorted new o (IsPermutation-sym new sorted moved) h)) [
+    | inl was ↦ elim ((first o).0 was) [
+      | inl before ↦ let none : length old ≡ 0 = ap length empty in let lt = before.1 in absurd (omega arith)
+      | inr is ↦ inl is
+    ]
+    | inr is ↦ inr is
+  ],
+  λ h. Contains-permutation new sorted o moved (elim h [ inl is ↦ (second o).1 (inl ((first o).1 (inr is))) | inr is ↦ (second o).1 (inr is) ]),
 )
 
 -- ---- what they say

@@ -4,4 +4,5 @@ pub mod Nested
 pub mod GraphLaws
 pub mod ReachedLaws
 pub mod Searching
+pub mod Spreading
 pub mod Counted
