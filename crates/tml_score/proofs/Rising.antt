@@ -2,7 +2,7 @@
 use Rattle.std.proofs.Common.{◌≡◌, ◌↔◌, ◌⊎◌, inl, inr, ℕ, zero, suc, ◌+◌, ◌<◌, ◌≤◌, Bool, true, false, cond, List, [], ◌∷◌, length, slice_index, slice_index_or, refl, sym, ap, subst, ◌∙◌, arith}
 use Rattle.std.specs.List.{All, Contains, filter}
 use Rattle.std.specs.List.Sorted.{IsStrictlyIncreasing}
-use Rattle.std.proofs.lemmas.Bool.{cases_eq}
+use Rattle.std.proofs.lemmas.Bool.{cases_eq, cases_lt}
 use Rattle.std.proofs.lemmas.List.{get_or_default}
 use Rattle.std.proofs.lemmas.List.Elements.{All-contains_itself, All-weaker}
 
@@ -104,3 +104,19 @@ one_rising (x ∷ xs) (y ∷ ys) rx ry same =
       ],
     )) in
     λ i. firsts i ∷ rests i
+
+-- an element is no less than its place
+no_less : (xs : List ℕ) → IsStrictlyIncreasing xs → (i : ℕ) → i < length xs → i ≤ slice_index xs i
+no_less xs rising zero lt = omega arith
+no_less xs rising (suc i) lt =
+    let before = no_less xs rising i (omega (arith, lt)) in
+    let next : i + 1 ≡ suc i = omega arith in
+    let step : slice_index xs i < slice_index xs (suc i) = subst (λ (n : ℕ). slice_index xs i < slice_index xs n) next (rising i (omega (arith, lt))) in
+    omega arith
+
+-- a list of numbers below n has n elements at most
+pub few_rising : (n : ℕ) (xs : List ℕ) → IsStrictlyIncreasing xs → All (λ (k : ℕ). k < n) xs → length xs ≤ n
+few_rising n xs rising below = elim (cases_lt n (length xs)) [
+  | inl more ↦ absurd (let low = no_less xs rising n more in let high = below n 0 more in omega arith)
+  | inr few ↦ few
+]
