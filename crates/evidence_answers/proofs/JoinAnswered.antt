@@ -57,7 +57,12 @@ one_text es bytes EvidenceFault text line h k = one_report (codes "second line "
 one_text es bytes status text line h k = absurd h
 
 second_answered : IsAnsweredAfter evidence max_evidence max_evidence OfSecond (λ es other status. ⊥)
-second_answered = record { some = some; one_status = one_status; whole = whole; one_text = λ es bytes status text line determined h k. one_text es bytes status text line h k }
+second_answered = record {
+  some = some;
+  one_status = λ one es says. one_status es;
+  whole = whole;
+  one_text = λ one es says bytes status text line determined h k. one_text es bytes status text line h k;
+}
 
 pub join_answered : (name other : List ℕ) → AreAnswered (join_rows name other) NeverFree
 join_answered name other = both_answered_once evidence (evidence_file name) (second_file other) OfSecond evidence_judged second_answered

@@ -79,9 +79,9 @@ whole_of contents net evidence status text h = absurd h
 judged : AreJudged max_evidence OfVerify (λ contents bytes status. ⊥)
 judged = record {
   some = λ doc short contents says bytes few. some doc contents says bytes;
-  one_status = λ contents evidence status other text line h k. same_status contents k.0 evidence status other text line (along contents evidence status text h.0 k.0 h.1 k.1 h.2) k.2;
+  one_status = λ doc contents says evidence status other text line h k. same_status contents k.0 evidence status other text line (along contents evidence status text h.0 k.0 h.1 k.1 h.2) k.2;
   whole = λ contents evidence status text h. whole_of contents h.0 evidence status text h.2;
-  one_text = λ contents evidence status text line determined h k. same_text contents k.0 evidence status text line (along contents evidence status text h.0 k.0 h.1 k.1 h.2) k.2;
+  one_text = λ doc contents says evidence status text line determined h k. same_text contents k.0 evidence status text line (along contents evidence status text h.0 k.0 h.1 k.1 h.2) k.2;
 }
 
 pub verify_answered : (name evidence : List ℕ) → AreAnswered (verify_rows name evidence) NeverFree

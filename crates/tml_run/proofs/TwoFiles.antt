@@ -24,7 +24,7 @@ module _ {C : Type 0} (judging : Judging C) (first second : File) (Of : C → An
   agree (one ∷ []) (reads a) (answers status line) h k = absurd (is.not_both one status line h.0 k)
   agree (one ∷ []) (reads a) (reads b) h k = h.1 ∙ sym k.1
   agree (one ∷ other ∷ []) (answers status text) (answers found line) h k =
-      are.one_status k.0 other status found text line (subst (λ (c : C). Of c other status text) (is.one_said one h.0 k.0 h.1 k.1) h.2) k.2
+      are.one_status one k.0 k.1 other status found text line (subst (λ (c : C). Of c other status text) (is.one_said one h.0 k.0 h.1 k.1) h.2) k.2
   agree (one ∷ other ∷ []) (answers status text) next h k = absurd k
   agree contents next other h k = absurd h
 
@@ -57,7 +57,7 @@ module _ {C : Type 0} (judging : Judging C) (first second : File) (Of : C → An
   line_of : (contents : List (List ℕ)) (status : Status) → (of_both judging IsFree contents status → ⊥) → HasOneText (of_two_files judging first second Of) contents status
   line_of (one ∷ []) status determined text line h k = is.one_text one status text line h k
   line_of (one ∷ other ∷ []) status determined text line h k =
-      are.one_text k.0 other status text line (λ free. determined (k.0, k.1, free)) (subst (λ (c : C). Of c other status text) (is.one_said one h.0 k.0 h.1 k.1) h.2) k.2
+      are.one_text one k.0 k.1 other status text line (λ free. determined (k.0, k.1, free)) (subst (λ (c : C). Of c other status text) (is.one_said one h.0 k.0 h.1 k.1) h.2) k.2
   line_of contents status determined text line h k = absurd h
 
   pub both_answered : AreAnswered (of_two_files judging first second Of) (of_both judging IsFree)

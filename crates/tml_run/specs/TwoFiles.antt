@@ -52,9 +52,9 @@ of_both {C} judging IsFree contents status = ⊥
 -- Two files within their limits have an answer, by what the first one says: one status, which is none that is broken off; and one text, where that is not free.
 pub record IsAnsweredAfter {C : Type 0} (judging : Judging C) (first second : ℕ) (Of : C → Answers) (IsFree : C → List ℕ → Status → Type 0) : Type 0 where
   pub some : (one : List ℕ) → length one ≤ first → (c : C) → judging.Says one c → (other : List ℕ) → length other ≤ second → (status : Status) × (text : List ℕ) × Of c other status text
-  pub one_status : (c : C) (other : List ℕ) (status found : Status) (text line : List ℕ) → Of c other status text → Of c other found line → status ≡ found
+  pub one_status : (one : List ℕ) (c : C) → judging.Says one c → (other : List ℕ) (status found : Status) (text line : List ℕ) → Of c other status text → Of c other found line → status ≡ found
   pub whole : (c : C) (other : List ℕ) (status : Status) (text : List ℕ) → Of c other status text → is_broken_off status ≡ false
-  pub one_text : (c : C) (other : List ℕ) (status : Status) (text line : List ℕ) → (IsFree c other status → ⊥) → Of c other status text → Of c other status line → text ≡ line
+  pub one_text : (one : List ℕ) (c : C) → judging.Says one c → (other : List ℕ) (status : Status) (text line : List ℕ) → (IsFree c other status → ⊥) → Of c other status text → Of c other status line → text ≡ line
 
 -- Where the first file is refused, each reply is its refusal. The second file is not reached, and sound inputs fail nothing, whether it is there or not.
 pub record IsRefusedFirst {C : Type 0} (judging : Judging C) (files : Files) (rows : Rows) (first : File) (one : List ℕ) : Type 0 where
