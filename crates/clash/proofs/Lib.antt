@@ -19,3 +19,4 @@ pub mod RankSums
 pub mod Spared
 pub mod Answered
 pub mod Entailing
+pub mod Paths

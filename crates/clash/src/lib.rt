@@ -20,6 +20,6 @@ pub use laws::{
     clashes_have_closed_walks, net_is_answered, orders_are_answered, walks_can_be_short,
     walks_say_all,
 };
-pub use links::atoms_of_link;
+pub use links::{atoms_of_link, nth_order};
 pub use minimal::{Clash, marked};
 pub use orders::{Order, fixed_orders};

@@ -62,13 +62,13 @@ fn add_atoms(table: &mut Closed, atoms: Atoms) -> Result<(), WouldClash>
     ensures { AddsOrClashes (SatisfiesAll (atoms_in atoms)) table.old table.new result }
 {
     for number in 0..atoms.count() {
-        insert(table, nth(&atoms, number))?;
+        insert(table, nth_order(&atoms, number))?;
     }
     Ok(())
 }
 
 /// The order of this number, of those that a relation is.
-pub fn nth(atoms: &Atoms, number: u32) -> Atom
+pub fn nth_order(atoms: &Atoms, number: u32) -> Atom
     requires { number < length (atoms_in atoms.now) }
     ensures { slice_get (atoms_in atoms.now) number ≡ Some result }
 {

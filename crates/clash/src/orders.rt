@@ -9,7 +9,7 @@ ghost use Rattle.order_closure.specs.Tables.{AreInRange, SatisfiesAll};
 ghost use Rattle.std.specs.Prelude.{IfOk, OnOk, length, ◌++◌, ◌↔◌, ◌<◌, ◌≡◌, ◌≢◌};
 
 use crate::calendar::calendar_orders;
-use crate::links::{atoms_of_link, nth, span_order};
+use crate::links::{atoms_of_link, nth_order, span_order};
 use net_core::{Atom, Atoms, List, Memory, Net, Step, step_atom};
 use std::alloc::Global;
 
@@ -69,7 +69,7 @@ fn push_link(orders: &mut List<Order>, net: &Net, link: u32) -> Result<(), Memor
 {
     let atoms = atoms_of_link(net, link);
     for number in 0..atoms.count() {
-        let atom = nth(&atoms, number);
+        let atom = nth_order(&atoms, number);
         orders.push(Order {
             atom,
             link: Some(link),
@@ -119,7 +119,7 @@ fn push_atoms(orders: &mut Vec<Atom>, atoms: Atoms) -> Result<(), Memory>
     ensures { OnOk result (orders.new.items ≡ orders.old.items ++ atoms_in atoms) }
 {
     for number in 0..atoms.count() {
-        if orders.push(nth(&atoms, number)).is_err() {
+        if orders.push(nth_order(&atoms, number)).is_err() {
             return Err(Memory);
         }
     }

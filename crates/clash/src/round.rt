@@ -8,7 +8,7 @@ ghost use Rattle.net_core.specs.Walks.{GoesOver, IsClosedWalk, Kept};
 ghost use Rattle.net_core.specs.declared.step.Step.{Step as StepOf};
 ghost use Rattle.std.specs.Prelude.{IfNone, IfOk, IfSome, List as ListOf, OnOk, false, length, ℕ, ◌*◌, ◌<◌, ◌≡◌, ◌≢◌, ◌≤◌};
 
-use crate::links::{atoms_of_link, nth};
+use crate::links::{atoms_of_link, nth_order};
 use crate::orders::{Order, orders_of};
 use crate::settling::settle;
 use net_core::{Atom, List, Memory, Net, Ranks, Walk, mark_steps};
@@ -147,7 +147,7 @@ pub fn round_over(
 {
     let atoms = atoms_of_link(net, link);
     for number in 0..atoms.count() {
-        let point = nth(&atoms, number).from;
+        let point = nth_order(&atoms, number).from;
         if let Some(steps) = walk(alloc, net, keep, point, point, true)? {
             return Ok(Some(steps));
         }

@@ -1,2 +1,7 @@
 pub mod Reduced
 pub mod Scores
+pub mod Graph
+pub mod Reached
+pub mod Search
+pub mod Reducing
+pub mod Scoring

@@ -1,9 +1,12 @@
 //! Links without redundancy, and how much of one annotation follows from another.
 #![tactic(auto)]
 
+mod graph;
 mod laws;
+mod reached;
 mod reducing;
 mod scoring;
+mod search;
 
 pub use laws::{
     every_net_is_reduced, every_score, one_reduced_list, one_score, reduced_links_say_the_same,

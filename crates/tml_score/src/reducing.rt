@@ -1,9 +1,18 @@
 //! The links of a net without those that follow from others.
 ghost use Rattle.clash.specs.Closures.{IsClosureOf};
 ghost use Rattle.net_core.specs.Entailment.{HasTimeline};
-ghost use Rattle.std.specs.Prelude.{IfOk};
+ghost use Rattle.net_core.specs.Nets.{points};
+ghost use Rattle.net_core.specs.Walks.{Kept as IsKept};
+ghost use Rattle.std.specs.Prelude.{IfOk, OnOk, length, ◌<◌, ◌≡◌};
+ghost use Rattle.tml_score.specs.Graph.{IsGraphOf};
 ghost use Rattle.tml_score.specs.Reduced.{IsReduced};
+ghost use Rattle.tml_score.specs.Reducing.{AreGoneOver, DecidesLink};
+ghost use Rattle.tml_score.specs.Search.{IsReady, basis_of};
 
+use crate::graph::Graph;
+use crate::reached::Reached;
+use crate::search::{Asked, Kept};
+use clash::{CloseFault, atoms_of_link, close, marked, nth_order};
 use net_core::{List, Memory, Net};
 use order_closure::Closed;
 use std::alloc::Global;
@@ -14,22 +23,73 @@ use std::alloc::Global;
 /// # Errors
 ///
 /// Out of memory.
-pub fn reduce(_alloc: Global, _net: &Net) -> Result<List<u32>, Memory>
-    requires { HasTimeline _net.now }
-    ensures { IfOk result (IsReduced _net.now) }
+pub fn reduce(alloc: Global, net: &Net) -> Result<List<u32>, Memory>
+    requires { HasTimeline net.now }
+    ensures { IfOk result (IsReduced net.now) }
 {
-    Err(Memory)
+    match close(alloc, net) {
+        Ok(table) => reduced_by(alloc, net, &table),
+        Err(CloseFault::Clash(_)) => unreachable!(),
+        Err(CloseFault::Memory) => Err(Memory),
+    }
 }
 
-/// The same, by the closure of the net.
+/// The same, by the closure of the net. It takes time near linear in the number of orders, but for links whose points
+/// are at one place: each of these is searched through all others.
 ///
 /// # Errors
 ///
 /// Out of memory.
-pub fn reduced_by(_alloc: Global, _net: &Net, _table: &Closed) -> Result<List<u32>, Memory>
-    requires closure { IsClosureOf _net.now _table.now }
-    requires fits { HasTimeline _net.now }
-    ensures { IfOk result (IsReduced _net.now) }
+pub fn reduced_by(alloc: Global, net: &Net, table: &Closed) -> Result<List<u32>, Memory>
+    requires closure { IsClosureOf net.now table.now }
+    requires fits { HasTimeline net.now }
+    ensures { IfOk result (IsReduced net.now) }
 {
-    Err(Memory)
+    let graph = Graph::new(alloc, net)?;
+    let keep = marks(alloc, net, table, &graph)?;
+    marked(alloc, net, &keep)
+}
+
+/// A mark for each link: those that stay are kept.
+fn marks(alloc: Global, net: &Net, table: &Closed, graph: &Graph) -> Result<Vec<bool>, Memory>
+    requires closure { IsClosureOf net.now table.now }
+    requires fits { HasTimeline net.now }
+    requires graph { IsGraphOf net.now graph.now.orders.items }
+    ensures { IfOk result (λ keep. AreGoneOver net.now (length net.now.links) keep.items) }
+{
+    let Ok(mut keep) = vec![in alloc; true; net.links() as usize] else {
+        return Err(Memory);
+    };
+    let mut reached = Reached::new(alloc, table.points())?;
+    for link in 0..net.links() {
+        let kept = Kept {
+            net,
+            table,
+            graph,
+            keep: &keep,
+        };
+        if link_follows(kept, link, &mut reached)? {
+            keep[link as usize] = false;
+        }
+    }
+    Ok(keep)
+}
+
+/// Whether a link follows from the others that are kept: whether all its orders do.
+fn link_follows(kept: Kept<'_>, link: u32, reached: &mut Reached) -> Result<bool, Memory>
+    requires ready { IsReady (basis_of kept) }
+    requires link { link < length kept.net.now.links }
+    requires kept { IsKept kept.keep.now link }
+    requires room { reached.old.room ≡ points kept.net.now }
+    ensures decides { IfOk result (DecidesLink kept.net.now kept.keep.now link) }
+    ensures room { OnOk result (reached.new.room ≡ points kept.net.now) }
+{
+    let atoms = atoms_of_link(kept.net, link);
+    for number in 0..atoms.count() {
+        let order = nth_order(&atoms, number);
+        if !kept.follows(Asked { link, order }, reached)? {
+            return Ok(false);
+        }
+    }
+    Ok(true)
 }

@@ -1,8 +1,11 @@
 //! Scores of one annotation against another.
-ghost use Rattle.std.specs.Prelude.{IfOk};
-ghost use Rattle.tml_score.specs.Scores.{AreScores, IsClosedOf};
+ghost use Rattle.std.specs.Prelude.{IfOk, IsTrue, length, ◌<◌, ◌≡◌, ◌↔◌};
+ghost use Rattle.tml_score.specs.Scores.{AreMatched, AreScores, IsClosedOf};
+ghost use Rattle.tml_score.specs.Scoring.{ArePartners, AreWithin, EntailsBetween, annotation_of, table_of};
 
-use net_core::{Memory, Net};
+use crate::reducing::reduced_by;
+use derive_rel::entailed;
+use net_core::{Memory, Net, NetLink};
 use order_closure::Closed;
 use std::alloc::Global;
 use tml_refs::Document;
@@ -17,23 +20,106 @@ pub struct Scores {
     pub key_links: u32,
 }
 
+/// A document, with its net and the closure of that.
+#[derive(Clone, Copy)]
+struct Annotated<'a, 's> {
+    pub document: &'a Document<'s>,
+    pub net: &'a Net,
+    pub table: &'a Closed,
+}
+
+/// How many links of an annotation stay, and how many of these follow in another annotation.
+#[derive(Clone, Copy)]
+struct Tally {
+    links: u32,
+    matched: u32,
+}
+
 /// The scores of a document against a key, each with its net and the closure of that.
 ///
 /// # Errors
 ///
 /// Out of memory.
 pub fn score(
-    _alloc: Global,
-    _doc: &Document<'_>,
-    _doc_net: &Net,
-    _doc_closed: &Closed,
-    _key: &Document<'_>,
-    _key_net: &Net,
-    _key_closed: &Closed,
+    alloc: Global,
+    doc: &Document<'_>,
+    doc_net: &Net,
+    doc_closed: &Closed,
+    key: &Document<'_>,
+    key_net: &Net,
+    key_closed: &Closed,
 ) -> Result<Scores, Memory>
-    requires doc { IsClosedOf (record { contents = _doc.now; net = _doc_net.now }) _doc_closed.now }
-    requires key { IsClosedOf (record { contents = _key.now; net = _key_net.now }) _key_closed.now }
-    ensures { IfOk result (AreScores (record { contents = _doc.now; net = _doc_net.now }) (record { contents = _key.now; net = _key_net.now })) }
+    requires doc { IsClosedOf (record { contents = doc.now; net = doc_net.now }) doc_closed.now }
+    requires key { IsClosedOf (record { contents = key.now; net = key_net.now }) key_closed.now }
+    ensures { IfOk result (AreScores (record { contents = doc.now; net = doc_net.now }) (record { contents = key.now; net = key_net.now })) }
 {
-    Err(Memory)
+    let doc = Annotated {
+        document: doc,
+        net: doc_net,
+        table: doc_closed,
+    };
+    let key = Annotated {
+        document: key,
+        net: key_net,
+        table: key_closed,
+    };
+    let precision = matched(alloc, doc, key)?;
+    let recall = matched(alloc, key, doc)?;
+    Ok(Scores {
+        matched: precision.matched,
+        doc_links: precision.links,
+        found: recall.matched,
+        key_links: recall.links,
+    })
+}
+
+/// How many links of an annotation stay, and how many of these follow in another one.
+fn matched(alloc: Global, own: Annotated<'_, '_>, other: Annotated<'_, '_>) -> Result<Tally, Memory>
+    requires own { IsClosedOf (annotation_of own) (table_of own) }
+    requires other { IsClosedOf (annotation_of other) (table_of other) }
+    ensures { IfOk result (λ found. AreMatched (annotation_of own.entry) (annotation_of other.entry) found.links found.matched) }
+{
+    let links = reduced_by(alloc, own.net, own.table)?;
+    let partners = partners_in(alloc, own.document, other.document)?;
+    let mut matched = 0;
+    for link in links.as_slice() {
+        if follows_between(other.table, &partners, own.net.link(*link)) {
+            matched += 1;
+        }
+    }
+    Ok(Tally {
+        links: links.as_slice().len() as u32,
+        matched,
+    })
+}
+
+/// For each interval of a document the number of the one in another that has its name, if there is one.
+fn partners_in(
+    alloc: Global,
+    own: &Document<'_>,
+    other: &Document<'_>,
+) -> Result<Vec<Option<u32>>, Memory>
+    ensures { IfOk result (λ partners. ArePartners own.now.intervals other.now.intervals partners.items) }
+{
+    let mut partners = Vec::new(alloc);
+    for i in 0..own.intervals() {
+        let partner = other.index_of(own.interval(i).name());
+        if partners.push(partner).is_err() {
+            return Err(Memory);
+        }
+    }
+    Ok(partners)
+}
+
+/// Whether the relation of a link follows between the partners of its intervals, by the closure of their net.
+fn follows_between(table: &Closed, partners: &[Option<u32>], link: NetLink) -> bool
+    requires a { link.a < length partners.now }
+    requires b { link.b < length partners.now }
+    requires partners { AreWithin table.now.points partners.now }
+    ensures { IsTrue result ↔ EntailsBetween table.now partners.now link }
+{
+    match (partners[link.a as usize], partners[link.b as usize]) {
+        (Some(a), Some(b)) => entailed(table, a, b).has(link.rel),
+        _ => false,
+    }
 }

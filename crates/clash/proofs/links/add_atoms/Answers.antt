@@ -10,28 +10,28 @@ use Rattle.clash.specs.Steps.{Adds}
 use Rattle.clash.proofs.LinkAtoms.{no_atom}
 use Rattle.clash.proofs.Steps.{Below, adds_more, all_below, answer_same, atom_same, clashes_more}
 use Rattle.clash.proofs.links.add_atoms.Goals as goal
-use Rattle.clash.proofs.links.add_atoms.Goals.{After-nth}
+use Rattle.clash.proofs.links.add_atoms.Goals.{After-nth_order}
 
 -- an atom of a list is true
 abbrev Atoms : List Atom → ℕ → Timeline → Type 0
 Atoms atoms k t = Satisfies t (get_or atoms k no_atom)
 
 -- the atom that is added is that of its number
-added : (c : After-nth) → c.nth.result ≡ get_or (atoms_in c.args.atoms) c.loop-number.number no_atom
-added c = sym (get_or_from_slice_get (atoms_in c.args.atoms) c.loop-number.number c.nth.result no_atom c.nth.ensures)
+added : (c : After-nth_order) → c.nth_order.result ≡ get_or (atoms_in c.args.atoms) c.loop-number.number no_atom
+added c = sym (get_or_from_slice_get (atoms_in c.args.atoms) c.loop-number.number c.nth_order.result no_atom c.nth_order.ensures)
 
 pub insert-requires : goal.insert-requires
 insert-requires c =
     let Fits = IsInRange c.args.table.now.points in
     let atoms = atoms_in c.args.atoms in
-    let both = one_of_all Fits atoms c.loop-number.number c.nth.result c.requires c.nth.ensures in
+    let both = one_of_all Fits atoms c.loop-number.number c.nth_order.result c.requires c.nth_order.ensures in
     let size = c.loop-number.invariant.so_far.0 in
     record { from = omega (arith, both.0, size); to = omega (arith, both.1, size) }
 
 pub returns-in_err-insert : goal.returns-in_err-insert
 returns-in_err-insert c =
     let atoms = atoms_in c.args.atoms in
-    let same = added (goal.at.returns-in_err-insert c).After-nth in
+    let same = added (goal.at.returns-in_err-insert c).After-nth_order in
     let fault = c.in_err-insert.field-0.0 in
     let p = err_from_is_err_and c.from_residual.result c.from_residual.ensures.1 in
     rw p.1 (answer_same (Below (Atoms atoms) (length atoms)) (SatisfiesAll atoms) (all_below (λ atom t. Satisfies t atom) atoms no_atom)
@@ -41,7 +41,7 @@ returns-in_err-insert c =
 
 pub loop-number-preserved : goal.loop-number-preserved
 loop-number-preserved c =
-    let same = added (goal.at.loop-number-preserved c).After-nth in
+    let same = added (goal.at.loop-number-preserved c).After-nth_order in
     record {
       end = c.loop-number.invariant.end;
       so_far = adds_more (Atoms (atoms_in c.args.atoms)) c.loop-number.number c.args.table.now c.loop-number.table c.insert.new.table c.loop-number.invariant.so_far

@@ -12,8 +12,8 @@ loop-number-preserved c =
     let k = c.loop-number.number in
     let old = c.args.orders.now.items in
     let lt : k < length atoms = omega (arith, c.loop-number-test.true, c.loop-number.invariant.end) in
-    let taken : get_or atoms k no_atom ≡ c.nth.result = get_or_from_slice_get atoms k c.nth.result no_atom c.nth.ensures in
-    let pushed : c.push.new.self.items ≡ c.loop-number.orders.items ++ c.nth.result ∷ [] = search rules in
+    let taken : get_or atoms k no_atom ≡ c.nth_order.result = get_or_from_slice_get atoms k c.nth_order.result no_atom c.nth_order.ensures in
+    let pushed : c.push.new.self.items ≡ c.loop-number.orders.items ++ c.nth_order.result ∷ [] = search rules in
     let last : c.push.new.self.items ≡ (old ++ take k atoms) ++ get_or atoms k no_atom ∷ [] = pushed ∙ (λ i. c.loop-number.invariant.so_far i ++ sym taken i ∷ []) in
     let more : take (k + 1) atoms ≡ take k atoms ++ get_or atoms k no_atom ∷ [] = take_more atoms k no_atom lt in
     record {

@@ -19,7 +19,7 @@ loop-number-preserved c =
     let n = points c.args.net.now in
     let k = c.loop-number.number in
     let lt : k < length atoms = omega (arith, c.loop-number-test.true, c.loop-number.invariant.end) in
-    let taken : get_or atoms k no_atom ≡ c.nth-atom.result = get_or_from_slice_get atoms k c.nth-atom.result no_atom c.nth-atom.ensures in
+    let taken : get_or atoms k no_atom ≡ c.nth_order-atom.result = get_or_from_slice_get atoms k c.nth_order-atom.result no_atom c.nth_order-atom.ensures in
     let order = order_at atoms c.args.link k in
     let pushed : c.push.new.self ≡ c.loop-number.orders ++ order ∷ [] = c.in_ok-push.ensures.ok ∙ (λ i. c.loop-number.orders ++ record { atom = sym taken i; link = Some c.args.link } ∷ []) in
     record {

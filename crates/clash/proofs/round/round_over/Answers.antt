@@ -15,15 +15,15 @@ loop-number-preserved c =
     let orders = orders_of_link net c.args.link in
     let Goes = λ (a : Atom). HasWalk net (Kept c.args.keep.now) a.from a.from true in
     let k = c.loop-number.number in
-    let here : slice_get orders k ≡ Some c.nth-point.result = subst (λ (atoms : List Atom). slice_get atoms k ≡ Some c.nth-point.result) c.atoms_of_link-atoms.ensures.atoms c.nth-point.ensures in
-    let not : Goes c.nth-point.result → ⊥ = subst (λ (o : Option Walk). IfNone o (Goes c.nth-point.result → ⊥)) c.in_default.is c.in_ok-steps.ensures.none in
+    let here : slice_get orders k ≡ Some c.nth_order-point.result = subst (λ (atoms : List Atom). slice_get atoms k ≡ Some c.nth_order-point.result) c.atoms_of_link-atoms.ensures.atoms c.nth_order-point.ensures in
+    let not : Goes c.nth_order-point.result → ⊥ = subst (λ (o : Option Walk). IfNone o (Goes c.nth_order-point.result → ⊥)) c.in_default.is c.in_ok-steps.ensures.none in
     record {
       end = c.loop-number.invariant.end;
       none = λ i a below at goes. elim (cases_lt i k) [
         | inl less ↦ c.loop-number.invariant.none i a less at goes
         | inr last ↦
             let same : i ≡ k = omega (arith, below, last) in
-            let is : a ≡ c.nth-point.result = let e = sym at ∙ (subst (λ (n : ℕ). slice_get orders n ≡ Some c.nth-point.result) (sym same) here) in cc in
+            let is : a ≡ c.nth_order-point.result = let e = sym at ∙ (subst (λ (n : ℕ). slice_get orders n ≡ Some c.nth_order-point.result) (sym same) here) in cc in
             not (subst Goes is goes)
       ];
     }

@@ -1,0 +1,48 @@
+-- The orders of a net, by the points that they leave.
+use Rattle.std.specs.Prelude.{◌≡◌, ◌↔◌, ◌⊎◌, ℕ, ◌<◌, ⊤, List, length, Option, Some, None}
+use Rattle.std.specs.List.{All, Contains}
+use Rattle.std.specs.List.Sorted.{IsNonDecreasingBy}
+use Rattle.clash.specs.Orders.{AreFixed}
+use Rattle.clash.specs.declared.orders.Order.{Order}
+use Rattle.net_core.specs.Atoms.{atoms_of}
+use Rattle.net_core.specs.Nets.{PlainNet, link_at}
+use Rattle.net_core.specs.declared.atom.Atom.{Atom}
+
+-- the orders that link k is
+abbrev pub link_atoms : PlainNet → ℕ → List Atom
+link_atoms net k = let link = link_at net k in atoms_of link.rel link.a link.b
+
+-- the order is one of some that are of no link
+abbrev pub IsFixed : List Atom → Order → Type 0
+IsFixed fixed order = (order.link ≡ None) × Contains fixed order.atom
+
+-- the order is one of those of link k
+abbrev pub IsOfLink : PlainNet → ℕ → Order → Type 0
+IsOfLink net k order = (order.link ≡ Some k) × Contains (link_atoms net k) order.atom
+
+-- the order is one of those of some link
+abbrev pub IsOfSome : PlainNet → Order → Type 0
+IsOfSome net order = (k : ℕ) × (k < length net.links) × IsOfLink net k order
+
+-- the new list has the old orders, and those of a set
+abbrev pub Adds : (Order → Type 0) → List Order → List Order → Type 0
+Adds Listed old new = (order : Order) → Contains new order ↔ (Contains old order ⊎ Listed order)
+
+-- the list has the orders that are of no link, and those of each link
+abbrev pub AreAll : PlainNet → List Atom → List Order → Type 0
+AreAll net fixed orders = (order : Order) → Contains orders order ↔ (IsFixed fixed order ⊎ IsOfSome net order)
+
+-- the orders that leave the lowest point come first
+abbrev pub AreSorted : List Order → Type 0
+AreSorted orders = IsNonDecreasingBy (λ (order : Order). order.atom.from) orders
+
+-- the orders that leave a point, of all of a list
+abbrev pub AreFrom : ℕ → List Order → List Order → Type 0
+AreFrom point all orders = (order : Order) → Contains orders order ↔ (Contains all order × (order.atom.from ≡ point))
+
+-- all orders of a net, sorted
+pub record IsGraphOf (net : PlainNet) (orders : List Order) : Type 0 where
+  pub fixed : List Atom
+  pub are_fixed : AreFixed net fixed
+  pub all : AreAll net fixed orders
+  pub sorted : AreSorted orders

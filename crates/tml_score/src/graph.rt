@@ -1,0 +1,91 @@
+//! The orders of a net, by the points that they leave.
+ghost use Rattle.clash.specs.Orders.{AreFixed};
+ghost use Rattle.std.specs.Prelude.{IfOk, OnOk, length, ◌<◌, ◌≡◌};
+ghost use Rattle.tml_score.specs.Graph.{Adds, AreAll, AreFrom, AreSorted, IsFixed, IsGraphOf, IsOfLink, IsOfSome};
+
+use clash::{Order, atoms_of_link, fixed_orders, nth_order};
+use net_core::{Atom, Memory, Net};
+use std::alloc::Global;
+
+/// The orders of a net: those that hold without any link, and those of its links. The orders that leave the lowest point
+/// come first.
+#[derive(Drop)]
+pub struct Graph {
+    pub orders: Vec<Order>,
+}
+
+impl Graph {
+    /// The orders of this net.
+    pub fn new(alloc: Global, net: &Net) -> Result<Graph, Memory>
+        ensures { IfOk result (λ graph. IsGraphOf net.now graph.orders.items) }
+    {
+        let fixed = fixed_orders(alloc, net)?;
+        let orders = sorted_orders(alloc, net, &fixed)?;
+        Ok(Graph { orders })
+    }
+
+    /// The orders that leave a point.
+    pub fn leaving(&self, point: u32) -> &[Order]
+        requires { AreSorted self.now.orders.items }
+        ensures { AreFrom point self.now.orders.items result.now }
+    {
+        let first = self.orders.partition_point(|order| order.atom.from < point);
+        let rest = &self.orders[first..];
+        let count = rest.partition_point(|order| order.atom.from <= point);
+        &rest[..count]
+    }
+}
+
+/// All orders, sorted by the points that they leave.
+fn sorted_orders(alloc: Global, net: &Net, fixed: &[Atom]) -> Result<Vec<Order>, Memory>
+    ensures all { IfOk result (λ orders. AreAll net.now fixed.now orders.items) }
+    ensures sorted { IfOk result (λ orders. AreSorted orders.items) }
+{
+    let mut orders = Vec::new(alloc);
+    push_fixed(&mut orders, fixed)?;
+    push_links(&mut orders, net)?;
+    orders.sort_unstable_by_key(|order| order.atom.from);
+    Ok(orders)
+}
+
+/// Appends orders that are of no link.
+fn push_fixed(orders: &mut Vec<Order>, fixed: &[Atom]) -> Result<(), Memory>
+    ensures { OnOk result (Adds (IsFixed fixed.now) orders.old.items orders.new.items) }
+{
+    for atom in fixed {
+        push_order(orders, *atom, None)?;
+    }
+    Ok(())
+}
+
+/// Appends the orders of all links.
+fn push_links(orders: &mut Vec<Order>, net: &Net) -> Result<(), Memory>
+    ensures { OnOk result (Adds (IsOfSome net.now) orders.old.items orders.new.items) }
+{
+    for link in 0..net.links() {
+        push_link(orders, net, link)?;
+    }
+    Ok(())
+}
+
+/// Appends the orders of a link.
+fn push_link(orders: &mut Vec<Order>, net: &Net, link: u32) -> Result<(), Memory>
+    requires { link < length net.now.links }
+    ensures { OnOk result (Adds (IsOfLink net.now link) orders.old.items orders.new.items) }
+{
+    let atoms = atoms_of_link(net, link);
+    for number in 0..atoms.count() {
+        push_order(orders, nth_order(&atoms, number), Some(link))?;
+    }
+    Ok(())
+}
+
+/// Appends an order.
+fn push_order(orders: &mut Vec<Order>, atom: Atom, link: Option<u32>) -> Result<(), Memory>
+    ensures { OnOk result (Adds (λ order. order ≡ record { atom = atom; link = link }) orders.old.items orders.new.items) }
+{
+    match orders.push(Order { atom, link }) {
+        Ok(()) => Ok(()),
+        Err(_) => Err(Memory),
+    }
+}

@@ -1,0 +1,104 @@
+//! The points that a search has reached, in the order in which it did.
+ghost use Rattle.net_core.specs.Limits.{max_points};
+ghost use Rattle.std.specs.List.{Contains};
+ghost use Rattle.std.specs.Prelude.{IfOk, IsTrue, OnOk, [], length, slice_index, ◌++◌, ◌<◌, ◌∷◌, ◌≡◌, ◌≤◌, ◌↔◌};
+
+use net_core::Memory;
+use std::alloc::Global;
+use std::marker::Model;
+
+/// The points that a search has reached, of as many as there can be. What is left of an earlier search is never looked
+/// at: a point was reached where the place that stands for it has this point, so nothing is cleared between searches.
+#[derive(Drop)]
+pub struct Reached {
+    points: Vec<u32>,
+    places: Vec<u32>,
+}
+
+impl Model for Reached {
+    ghost use Rattle.std.specs.Prelude.{length};
+    ghost use Rattle.tml_score.specs.Reached.{ArePlaced, PlainReached};
+
+    ghost Value = { PlainReached };
+
+    ghost view = { λ a. record { points = a.points.items; room = length a.places.items } };
+
+    ghost invariant = { λ a. ArePlaced a.points.items a.places.items };
+}
+
+impl Reached {
+    /// No points yet, of so many.
+    ///
+    /// # Errors
+    ///
+    /// Out of memory.
+    pub fn new(alloc: Global, room: u32) -> Result<Reached, Memory>
+        requires { room ≤ max_points }
+        ensures { IfOk result (λ reached. reached ≡ record { points = []; room = room }) }
+    {
+        let Ok(places) = vec![in alloc; 0; room as usize] else {
+            return Err(Memory);
+        };
+        Ok(Reached {
+            points: Vec::new(alloc),
+            places,
+        })
+    }
+
+    /// Begins a search at a point.
+    ///
+    /// # Errors
+    ///
+    /// Out of memory.
+    pub fn start(&mut self, point: u32) -> Result<(), Memory>
+        requires { point < self.old.room }
+        ensures { OnOk result (self.new ≡ record { points = point ∷ []; room = self.old.room }) }
+    {
+        self.points.clear();
+        self.add(point)
+    }
+
+    /// Adds a point that was not reached before.
+    ///
+    /// # Errors
+    ///
+    /// Out of memory.
+    pub fn add(&mut self, point: u32) -> Result<(), Memory>
+        requires room { point < self.old.room }
+        requires new { Contains self.old.points point → ⊥ }
+        ensures { OnOk result (self.new ≡ record { points = self.old.points ++ point ∷ []; room = self.old.room }) }
+    {
+        let place = self.points.len() as u32;
+        if self.points.push(point).is_err() {
+            return Err(Memory);
+        }
+        self.places[point as usize] = place;
+        Ok(())
+    }
+
+    /// Whether a point was reached.
+    pub fn has(&self, point: u32) -> bool
+        requires { point < self.now.room }
+        ensures { IsTrue result ↔ Contains self.now.points point }
+    {
+        let place = self.places[point as usize] as usize;
+        self.points.get(place) == Some(&point)
+    }
+
+    /// How many points were reached.
+    pub fn len(&self) -> usize
+        ensures count { result ≡ length self.now.points }
+        ensures few { result ≤ self.now.room }
+    {
+        self.points.len()
+    }
+
+    /// The point that was reached at this turn, counted from 0.
+    pub fn point(&self, turn: usize) -> u32
+        requires { turn < length self.now.points }
+        ensures point { result ≡ slice_index self.now.points turn }
+        ensures room { result < self.now.room }
+    {
+        self.points[turn]
+    }
+}

@@ -1,0 +1,109 @@
+//! Whether an order of a link follows from the other links that are kept.
+ghost use Rattle.net_core.specs.Nets.{points};
+ghost use Rattle.std.specs.Prelude.{IfOk, OnOk, length, slice_index, true, ◌<◌, ◌≡◌};
+ghost use Rattle.tml_score.specs.Search as spec;
+ghost use Rattle.tml_score.specs.Search.{Decides, GoesOn, IsAsked, IsReady, IsSearch, IsWay, IsLed, basis_of};
+
+use crate::graph::Graph;
+use crate::reached::Reached;
+use clash::Order;
+use net_core::{Atom, Memory, Net};
+use order_closure::{Cell, Closed};
+
+/// The links of a net that are kept, which say the same as all, with the orders of all and the closure of the net.
+#[derive(Clone, Copy)]
+pub struct Kept<'a> {
+    pub net: &'a Net,
+    pub table: &'a Closed,
+    pub graph: &'a Graph,
+    pub keep: &'a [bool],
+}
+
+/// An order of a link that is kept.
+#[derive(Clone, Copy)]
+pub struct Asked {
+    pub link: u32,
+    pub order: Atom,
+}
+
+impl Kept<'_> {
+    /// Whether an order of a link follows from the other links that are kept.
+    ///
+    /// From the first point of the order the search goes on over orders that remain without the link, to points that are
+    /// at one place with the first in every timeline. An order to the last point or to a later one leads out. There the
+    /// search ends, since what the closure says of that point and the last one is true without the link: a way that goes
+    /// over the link would lead back to a point no later than the first.
+    ///
+    /// # Errors
+    ///
+    /// Out of memory.
+    pub fn follows(&self, asked: Asked, reached: &mut Reached) -> Result<bool, Memory>
+        requires ready { IsReady (basis_of self.now) }
+        requires asked { IsAsked (basis_of self.now) asked }
+        requires room { reached.old.room ≡ points self.now.net.now }
+        ensures decides { IfOk result (Decides (basis_of self.now) asked) }
+        ensures room { OnOk result (reached.new.room ≡ points self.now.net.now) }
+    {
+        if asked.order.from == asked.order.to {
+            return Ok(true);
+        }
+        reached.start(asked.order.from)?;
+        let mut turn = 0;
+        while turn < reached.len() {
+            if self.spread(asked, reached, turn)? {
+                return Ok(true);
+            }
+            turn += 1;
+        }
+        Ok(false)
+    }
+
+    /// Goes on over the orders that leave the point of this turn. True comes where one of them is enough.
+    fn spread(&self, asked: Asked, reached: &mut Reached, turn: usize) -> Result<bool, Memory>
+        requires ready { IsReady (basis_of self.now) }
+        requires asked { IsAsked (basis_of self.now) asked }
+        requires search { IsSearch (basis_of self.now) asked reached.old }
+        requires turn { turn < length reached.old.points }
+        ensures { GoesOn (basis_of self.now) asked (λ order. order.atom.from ≡ slice_index reached.old.points turn) reached.old reached.new result }
+    {
+        let point = reached.point(turn);
+        for order in self.graph.leaving(point) {
+            if self.remains(asked, order) && self.take(asked, order, reached)? {
+                return Ok(true);
+            }
+        }
+        Ok(false)
+    }
+
+    /// Whether an order is of no link, or of another one that is kept.
+    fn remains(&self, asked: Asked, order: &Order) -> bool
+        requires { spec.AreMarks (basis_of self.now) order.now }
+        ensures { result ≡ spec.remains (basis_of self.now) asked order.now }
+    {
+        match order.link {
+            Some(link) => link != asked.link && self.keep[link as usize],
+            None => true,
+        }
+    }
+
+    /// Goes over an order that remains. True comes where it is enough.
+    fn take(&self, asked: Asked, order: &Order, reached: &mut Reached) -> Result<bool, Memory>
+        requires ready { IsReady (basis_of self.now) }
+        requires asked { IsAsked (basis_of self.now) asked }
+        requires search { IsSearch (basis_of self.now) asked reached.old }
+        requires way { IsWay (basis_of self.now) asked order.now }
+        requires led { IsLed (basis_of self.now) asked order.now.atom.from }
+        ensures { GoesOn (basis_of self.now) asked (λ o. o ≡ order.now) reached.old reached.new result }
+    {
+        let point = order.atom.to;
+        if reached.has(point) {
+            return Ok(false);
+        }
+        if point != asked.order.to && self.table.cell(point, asked.order.from) != Cell::Free {
+            reached.add(point)?;
+            return Ok(false);
+        }
+        let strict = asked.order.strict && !order.atom.strict;
+        Ok(self.table.cell(point, asked.order.to).gives(strict))
+    }
+}
