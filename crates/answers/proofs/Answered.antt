@@ -13,9 +13,9 @@ use Rattle.tml_run.proofs.OneFile.{answered, freer}
 use Rattle.tml_run.specs.OneReply.{is_broken_off}
 use Rattle.tml_run.specs.Rows.{File}
 use Rattle.tml_run.specs.TwoFiles.{IsJudged}
-use Rattle.tml_run.proofs.TwoFiles.{both_answered}
+use Rattle.tml_run.proofs.TwoFiles.{both_answered, both_answered_once, refused_first}
 use Rattle.answers.specs.Documents.{AreAnswered, Contents, doc_file, document_rows, of_contents, of_its_contents}
-use Rattle.answers.specs.Judged.{AreJudged, Judgements, documents, judged_rows}
+use Rattle.answers.specs.Judged.{AreJudged, Judgements, JudgesFirst, documents, judged_rows, of_judged}
 use Rattle.answers.specs.Lines.{fault_line}
 use Rattle.answers.proofs.Refusals.{one_refusal}
 
@@ -81,5 +81,13 @@ documents_judged = record {
 }
 
 -- the rows of a command that is asked of a document and another file
-pub judged_answered : (name : List ℕ) (file : File) (Of : Judgements) → AreJudged file.limit Of → RowsAreAnswered (judged_rows name file Of) NeverFree
-judged_answered name file Of are = both_answered documents (doc_file name) file Of documents_judged are
+pub judged_answered : (name : List ℕ) (file : File) (Of : Judgements) (IsFree : PlainDocument → List ℕ → Status → Type 0) → AreJudged file.limit Of IsFree → RowsAreAnswered (judged_rows name file Of) (of_judged IsFree)
+judged_answered name file Of IsFree are = both_answered documents (doc_file name) file Of IsFree documents_judged are
+
+-- and of one of which every text is determined
+pub judged_answered_once : (name : List ℕ) (file : File) (Of : Judgements) → AreJudged file.limit Of (λ contents other status. ⊥) → RowsAreAnswered (judged_rows name file Of) NeverFree
+judged_answered_once name file Of are = both_answered_once documents (doc_file name) file Of documents_judged are
+
+-- such rows judge the document first
+pub judges_first : (name : List ℕ) (file : File) (Of : Judgements) → JudgesFirst name (judged_rows name file Of)
+judges_first name file Of = λ files doc kind place known fits fault. refused_first documents files (doc_file name) file Of doc known fits (λ accepted. accepted_or_fault doc kind place accepted fault)

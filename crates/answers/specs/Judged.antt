@@ -1,11 +1,15 @@
 -- Commands that read a document, judge it, and then read another file.
-use Rattle.std.specs.Prelude.{List, ℕ}
+use Rattle.std.specs.Prelude.{◌≡◌, ◌≤◌, ℕ, List, length, Some}
+use Rattle.faults.specs.declared.kind.FaultKind.{FaultKind}
 use Rattle.net_core.specs.Limits.{max_document}
-use Rattle.tml_accept.specs.Acceptance.{Says}
+use Rattle.tml_accept.specs.Acceptance.{FirstFault, Says}
+use Rattle.tml_io.specs.Files.{Files, held}
 use Rattle.tml_refs.specs.Documents.{PlainDocument}
+use Rattle.tml_run.specs.Answered.{Freedom}
 use Rattle.tml_run.specs.OneFile.{Answers}
 use Rattle.tml_run.specs.Rows.{File, Rows}
-use Rattle.tml_run.specs.TwoFiles.{IsAnsweredAfter, Judging, of_two_files}
+use Rattle.tml_run.specs.TwoFiles.{IsAnsweredAfter, IsRefusedFirst, Judging, of_both, of_two_files}
+use Rattle.tml_run.specs.declared.status.Status.{Status}
 use Rattle.answers.specs.Documents.{IsRefused, doc_file}
 
 -- the answers to the contents of another file, by what the document says
@@ -20,6 +24,15 @@ documents = record { Says = Says; IsRefused = IsRefused }
 abbrev pub judged_rows : List ℕ → File → Judgements → Rows
 judged_rows name other Of = of_two_files documents (doc_file name) other Of
 
--- another file within its limit has one answer, by what an accepted document says
-abbrev pub AreJudged : ℕ → Judgements → Type 0
-AreJudged limit Of = IsAnsweredAfter documents max_document limit Of
+-- of which other file the text of an answer is not determined, by what the document says
+abbrev pub of_judged : (PlainDocument → List ℕ → Status → Type 0) → Freedom
+of_judged IsFree = of_both documents IsFree
+
+-- another file within its limit has one answer, by what an accepted document says, with one text where that is not free
+abbrev pub AreJudged : ℕ → Judgements → (PlainDocument → List ℕ → Status → Type 0) → Type 0
+AreJudged limit Of IsFree = IsAnsweredAfter documents max_document limit Of IsFree
+
+-- the law of rows that judge the document of a name first: where it is at fault, the reply is its fault, and the other file is not reached
+abbrev pub JudgesFirst : List ℕ → Rows → Type 0
+JudgesFirst name rows = (files : Files) (doc : List ℕ) (kind : FaultKind) (place : ℕ)
+    → held files name ≡ Some doc → length doc ≤ max_document → FirstFault doc kind place → IsRefusedFirst documents files rows (doc_file name) doc

@@ -6,6 +6,7 @@ use Rattle.faults.specs.declared.kind.FaultKind.{FaultKind}
 use Rattle.net_core.specs.Rels.{rel_text}
 use Rattle.net_core.specs.declared.rels.Rel.{Rel}
 use Rattle.tml_refs.specs.Documents.{PlainInterval, name_of}
+use Rattle.tml_refs.specs.declared.document.DocLink.{DocLink}
 
 -- a word and a number
 abbrev pub numbered : List ℕ → ℕ → List ℕ
@@ -30,3 +31,7 @@ name_at intervals i = elim (slice_get intervals i) [ None ↦ [] | Some interval
 -- a relation between two names
 abbrev pub related : List ℕ → Rel → List ℕ → List ℕ
 related a rel b = a ++ codes " " ++ rel_text rel ++ codes " " ++ b
+
+-- the line of a link: its number, and its relation between the names of its intervals
+abbrev pub link_line : List PlainInterval → ℕ → DocLink → List ℕ
+link_line intervals k link = line_prefix (codes "tlink ") k ++ related (name_at intervals link.a) link.rel (name_at intervals link.b) ++ codes "\n"

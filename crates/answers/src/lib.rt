@@ -10,7 +10,7 @@ mod refusing;
 mod role;
 
 pub use judged::{OfJudged, reply_of_judged};
-pub use lines::{push_fault, push_number, push_numbered, push_prefix, push_related};
+pub use lines::{push_fault, push_link, push_number, push_numbered, push_prefix, push_related};
 pub use names::{names_of, unknown_name};
 pub use one_document::{OfDocument, reply_of_document};
 pub use refusing::refusal;

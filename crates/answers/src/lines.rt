@@ -1,11 +1,12 @@
 //! The lines that answers print.
 ghost use Rattle.answers.specs.Lines as texts;
-ghost use Rattle.std.specs.Prelude.{◌≡◌, ◌++◌, decimal, OnOk};
+ghost use Rattle.std.specs.Prelude.{◌≡◌, ◌<◌, ◌++◌, decimal, length, OnOk};
 
 use faults::FaultKind;
 use itoa::Buffer;
 use net_core::Rel;
 use std::alloc::AllocError;
+use tml_refs::{DocLink, Document};
 
 /// Appends a number.
 pub fn push_number(out: &mut Vec<u8>, n: u64) -> Result<(), AllocError>
@@ -51,4 +52,22 @@ pub fn push_related(out: &mut Vec<u8>, a: &[u8], rel: Rel, b: &[u8]) -> Result<(
     out.extend_from_slice(rel.text())?;
     out.extend_from_slice(b" ")?;
     out.extend_from_slice(b)
+}
+
+/// Appends the line of a link of a document: its number, and its relation between the names of its intervals.
+pub fn push_link(
+    out: &mut Vec<u8>,
+    k: u32,
+    link: DocLink,
+    document: &Document<'_>,
+) -> Result<(), AllocError>
+    requires a { link.a < length document.now.intervals }
+    requires b { link.b < length document.now.intervals }
+    ensures { OnOk result (out.new.items ≡ out.old.items ++ texts.link_line document.now.intervals k link) }
+{
+    push_prefix(out, b"tlink ", k)?;
+    let a = document.interval(link.a).name();
+    let b = document.interval(link.b).name();
+    push_related(out, a, link.rel, b)?;
+    out.extend_from_slice(b"\n")
 }

@@ -3,6 +3,7 @@ use Rattle.std.proofs.Common.{◌≡◌, ℕ, zero, suc, ◌+◌, List, [], ◌�
 use Rattle.std.specs.List.{slice_get}
 use Rattle.tml_refs.specs.declared.document.DocLink.{DocLink}
 use Rattle.tml_refs.specs.Documents.{PlainInterval}
+use Rattle.answers.specs.Lines.{link_line}
 use Rattle.document_answers.specs.Check as texts
 
 -- what is left from a place on is the item there and what is left after it
@@ -17,7 +18,7 @@ pub next_interval : (intervals : List PlainInterval) (i : ℕ) (v : PlainInterva
 next_interval intervals i v h = rw (left_at intervals i v h, add-one i) refl
 
 pub next_link : (intervals : List PlainInterval) (links : List DocLink) (k : ℕ) (l : DocLink) → slice_get links k ≡ Some l
-    → texts.link_lines intervals k (drop k links) ≡ texts.link_line intervals k l ++ texts.link_lines intervals (k + 1) (drop (k + 1) links)
+    → texts.link_lines intervals k (drop k links) ≡ link_line intervals k l ++ texts.link_lines intervals (k + 1) (drop (k + 1) links)
 next_link intervals links k l h = rw (left_at links k l h, add-one k) refl
 
 -- a line after the text so far, and what is left after that

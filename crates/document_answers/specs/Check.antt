@@ -1,7 +1,7 @@
 -- The command `check`: whether a document is well annotated.
 use Rattle.std.specs.Prelude.{◌≡◌, ℕ, ◌+◌, List, [], ◌∷◌, ◌++◌, codes}
 use Rattle.answers.specs.Documents.{Contents, document_rows}
-use Rattle.answers.specs.Lines.{line_prefix, name_at, numbered, related}
+use Rattle.answers.specs.Lines.{line_prefix, link_line, numbered}
 use Rattle.tml_refs.specs.Documents.{PlainDocument, PlainInterval, name_of}
 use Rattle.tml_refs.specs.declared.document.Counts.{Counts}
 use Rattle.tml_refs.specs.declared.document.DocLink.{DocLink}
@@ -25,9 +25,6 @@ interval_line i interval = line_prefix (codes "interval ") i ++ name_of interval
 abbrev pub interval_lines : ℕ → List PlainInterval → List ℕ
 interval_lines i [] = []
 interval_lines i (interval ∷ intervals) = interval_line i interval ++ interval_lines (i + 1) intervals
-
-abbrev pub link_line : List PlainInterval → ℕ → DocLink → List ℕ
-link_line intervals k link = line_prefix (codes "tlink ") k ++ related (name_at intervals link.a) link.rel (name_at intervals link.b) ++ codes "\n"
 
 -- a line for each link, numbered from the first number on
 abbrev pub link_lines : List PlainInterval → ℕ → List DocLink → List ℕ

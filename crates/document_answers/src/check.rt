@@ -3,9 +3,9 @@ ghost use Rattle.document_answers.specs.Check as texts;
 ghost use Rattle.std.specs.Prelude.{◌≡◌, ◌<◌, ◌++◌, length, IfOk, OnOk};
 ghost use Rattle.tml_refs.specs.View.{plain_interval};
 
-use answers::{OfDocument, push_numbered, push_prefix, push_related};
+use answers::{OfDocument, push_link, push_numbered, push_prefix};
 use std::alloc::{AllocError, Global};
-use tml_refs::{Counts, DocLink, Document, Interval};
+use tml_refs::{Counts, Document, Interval};
 use tml_run::Answer;
 
 /// The command `check`.
@@ -71,22 +71,4 @@ fn push_links(out: &mut Vec<u8>, document: &Document<'_>) -> Result<(), AllocErr
         push_link(out, k, document.link(k), document)?;
     }
     Ok(())
-}
-
-/// The number of a link, and its relation between the names of its intervals.
-fn push_link(
-    out: &mut Vec<u8>,
-    k: u32,
-    link: DocLink,
-    document: &Document<'_>,
-) -> Result<(), AllocError>
-    requires a { link.a < length document.now.intervals }
-    requires b { link.b < length document.now.intervals }
-    ensures { OnOk result (out.new.items ≡ out.old.items ++ texts.link_line document.now.intervals k link) }
-{
-    push_prefix(out, b"tlink ", k)?;
-    let a = document.interval(link.a).name();
-    let b = document.interval(link.b).name();
-    push_related(out, a, link.rel, b)?;
-    out.extend_from_slice(b"\n")
 }

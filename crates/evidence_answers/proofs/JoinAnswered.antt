@@ -11,7 +11,7 @@ use Rattle.tml_run.specs.OneReply.{is_broken_off}
 use Rattle.tml_run.specs.TwoFiles.{IsAnsweredAfter, IsJudged}
 use Rattle.tml_run.specs.declared.status.Status.{Status}
 use Rattle.tml_run.specs.declared.status.Status.TheVariants.{Done, EvidenceFault}
-use Rattle.tml_run.proofs.TwoFiles.{both_answered}
+use Rattle.tml_run.proofs.TwoFiles.{both_answered_once}
 use Rattle.answers.specs.Lines.{numbered}
 use Rattle.evidence_answers.specs.Files.{evidence_file, second_file}
 use Rattle.evidence_answers.specs.Join.{OfSecond, evidence, join_rows}
@@ -56,8 +56,13 @@ one_text es bytes Done text line h k = h.2.1 ∙ ap (λ (more : List PlainEviden
 one_text es bytes EvidenceFault text line h k = one_report (codes "second line ") bytes text line h k
 one_text es bytes status text line h k = absurd h
 
-second_answered : IsAnsweredAfter evidence max_evidence max_evidence OfSecond
-second_answered = record { some = some; one_status = one_status; whole = whole; one_text = one_text }
+second_answered : IsAnsweredAfter evidence max_evidence max_evidence OfSecond (λ es other status. ⊥)
+second_answered = record {
+  some = some;
+  one_status = λ one es says. one_status es;
+  whole = whole;
+  one_text = λ one es says bytes status text line determined h k. one_text es bytes status text line h k;
+}
 
 pub join_answered : (name other : List ℕ) → AreAnswered (join_rows name other) NeverFree
-join_answered name other = both_answered evidence (evidence_file name) (second_file other) OfSecond evidence_judged second_answered
+join_answered name other = both_answered_once evidence (evidence_file name) (second_file other) OfSecond evidence_judged second_answered

@@ -1,7 +1,6 @@
 pub mod Files
 pub mod JoinAnswered
 pub mod Joined
-pub mod JudgesFirst
 pub mod Naming
 pub mod Refused
 pub mod RenewAnswered

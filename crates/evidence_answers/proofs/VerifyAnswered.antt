@@ -2,7 +2,7 @@
 use Rattle.std.proofs.Common.{◌≡◌, ◌⊎◌, ℕ, List, codes, false, refl, sym, ap, subst, ◌∙◌, inl, inr}
 use Rattle.answers.specs.Judged.{AreJudged}
 use Rattle.answers.specs.Lines.{numbered}
-use Rattle.answers.proofs.Answered.{judged_answered}
+use Rattle.answers.proofs.Answered.{judged_answered_once}
 use Rattle.evidence_check.specs.Bundles.{IsFirstRefused}
 use Rattle.evidence_check.proofs.Bundles.{all_true, one_bundle_verdict}
 use Rattle.evidence_format.specs.Evidence.{PlainEvidence}
@@ -76,13 +76,13 @@ whole_of contents net evidence Done text h = refl
 whole_of contents net evidence EvidenceFault text h = refl
 whole_of contents net evidence status text h = absurd h
 
-judged : AreJudged max_evidence OfVerify
+judged : AreJudged max_evidence OfVerify (λ contents bytes status. ⊥)
 judged = record {
   some = λ doc short contents says bytes few. some doc contents says bytes;
-  one_status = λ contents evidence status other text line h k. same_status contents k.0 evidence status other text line (along contents evidence status text h.0 k.0 h.1 k.1 h.2) k.2;
+  one_status = λ doc contents says evidence status other text line h k. same_status contents k.0 evidence status other text line (along contents evidence status text h.0 k.0 h.1 k.1 h.2) k.2;
   whole = λ contents evidence status text h. whole_of contents h.0 evidence status text h.2;
-  one_text = λ contents evidence status text line h k. same_text contents k.0 evidence status text line (along contents evidence status text h.0 k.0 h.1 k.1 h.2) k.2;
+  one_text = λ doc contents says evidence status text line determined h k. same_text contents k.0 evidence status text line (along contents evidence status text h.0 k.0 h.1 k.1 h.2) k.2;
 }
 
 pub verify_answered : (name evidence : List ℕ) → AreAnswered (verify_rows name evidence) NeverFree
-verify_answered name evidence = judged_answered name (evidence_file evidence) OfVerify judged
+verify_answered name evidence = judged_answered_once name (evidence_file evidence) OfVerify judged

@@ -66,7 +66,7 @@ answered_once file Of are = freer (of_one_file file Of) (of_its_bytes (λ bytes 
 -- ---- replies by a file that is there
 
 -- a file that was read is the one that a name holds
-the_one : (files : Files) (file other : File) (bytes found : List ℕ) → held files file.name ≡ Some bytes → other ≡ file → ReadsWhole (Some files) other found → found ≡ bytes
+pub the_one : (files : Files) (file other : File) (bytes found : List ℕ) → held files file.name ≡ Some bytes → other ≡ file → ReadsWhole (Some files) other found → found ≡ bytes
 the_one files file other bytes found known same gives = one_held (held files file.name) found bytes (subst (λ (f : File). held files f.name ≡ Some found) same gives.0) known
 
 module _ (files : Files) (file : File) (Of : Answers) (bytes : List ℕ) (known : held files file.name ≡ Some bytes) (short : length bytes ≤ file.limit) where

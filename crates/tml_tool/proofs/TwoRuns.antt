@@ -1,6 +1,7 @@
 -- What is printed as evidence, `verify` accepts.
-use Rattle.std.proofs.Common.{◌≡◌, ◌≤◌, ◌+◌, true, false, ℕ, List, map, [], ◌∷◌, length, refl, Some, inl, inr, arith}
+use Rattle.std.proofs.Common.{◌≡◌, ◌≢◌, ◌≤◌, ◌+◌, false, ℕ, List, map, [], ◌∷◌, length, refl, Some, inl, inr, arith}
 use Rattle.answers.specs.Documents.{Contents, doc_file, document_rows, of_contents}
+use Rattle.answers.specs.Judged.{documents}
 use Rattle.evidence_answers.specs.Texts.{claim_lines}
 use Rattle.evidence_answers.specs.Files.{evidence_file}
 use Rattle.evidence_answers.specs.Verify.{verify_rows}
@@ -17,6 +18,8 @@ use Rattle.order_answers.specs.Relations.{OfRelations}
 use Rattle.order_answers.specs.Solve.{OfSolve}
 use Rattle.possible_answers.specs.Matrix.{OfMatrix}
 use Rattle.possible_answers.specs.Possible.{OfPossible, of_intervals}
+use Rattle.score_answers.specs.Reduce.{OfReduce}
+use Rattle.score_answers.specs.Score.{OfKey, OfScore, key_clash, key_file, score_rows}
 use Rattle.tml_accept.specs.Acceptance.{Says}
 use Rattle.tml_io.specs.Files.{Files, held}
 use Rattle.tml_refs.specs.Documents.{PlainDocument}
@@ -27,11 +30,12 @@ use Rattle.tml_run.specs.declared.status.Status.{Status}
 use Rattle.tml_run.specs.declared.status.Status.TheVariants.{Done, Clash, DocFault, TooLong}
 use Rattle.tml_run.proofs.OneFile.{answered_or_long}
 use Rattle.tml_run.proofs.OneReply.{one_reply}
+use Rattle.tml_run.proofs.TwoFiles.{judged_or_long}
 use Rattle.tml_tool.specs.Commands.{rows_with}
 use Rattle.tml_tool.specs.Forms.{argument}
-use Rattle.tml_tool.specs.TwoRuns.{EvidenceIsVerified, IsVerified, prints_evidence}
+use Rattle.tml_tool.specs.TwoRuns.{EvidenceIsVerified, IsVerified, PrintsEvidence}
 use Rattle.tml_tool.specs.declared.commands.Form.{Form}
-use Rattle.tml_tool.specs.declared.commands.Form.TheVariants.{Solve, Ask, Relations, Possible, Matrix}
+use Rattle.tml_tool.specs.declared.commands.Form.TheVariants.{Solve, Ask, Relations, Possible, Matrix, Reduce, Score}
 
 -- ---- what is printed is evidence
 
@@ -40,9 +44,12 @@ abbrev AreEvidence : Contents → Status → Type 0
 AreEvidence Of status = (doc : List ℕ) (contents : PlainDocument) → Says doc contents → (text : List ℕ) → Of contents status text → HasEvidence doc text
 
 -- a clash is
+a_clash : (Of : NetAnswers) (doc : List ℕ) (contents : PlainDocument) → Says doc contents → (text : List ℕ) → ((net : PlainNet) → Of contents net Clash text → ⊥) → of_net Of contents Clash text → HasEvidence doc text
+a_clash Of doc contents says text none (net, built, inl (is, shown)) = record { contents = contents; net = net; evidence = clash shown.cites shown.walk (map pairs_of shown.spares); says = says; built = built; shows = shown.evidence }
+a_clash Of doc contents says text none (net, built, inr (fits, h)) = absurd (none net h)
+
 of_clash : (Of : NetAnswers) → ((contents : PlainDocument) (net : PlainNet) (text : List ℕ) → Of contents net Clash text → ⊥) → AreEvidence (of_net Of) Clash
-of_clash Of none doc contents says text (net, built, inl (is, shown)) = record { contents = contents; net = net; evidence = clash shown.cites shown.walk (map pairs_of shown.spares); says = says; built = built; shows = shown.evidence }
-of_clash Of none doc contents says text (net, built, inr (fits, h)) = absurd (none contents net text h)
+of_clash Of none doc contents says text h = a_clash Of doc contents says text (λ net. none contents net text) h
 
 -- a timeline is
 of_timeline : AreEvidence (of_net OfSolve) Done
@@ -81,7 +88,16 @@ shown files Of name status text taken answer are h = elim (answered_or_long file
   | inl (doc, holds, short, inr (contents, says, asked)) ↦ (doc, holds, short, are doc contents says text asked)
 ]
 
-printed : (files : Files) (form : Form) (name : List ℕ) (given : List (List ℕ)) (status : Status) (text : List ℕ) (taken : ℕ) → prints_evidence form status ≡ true
+-- a clash that is not that of the key is one of the document
+scored : (files : Files) (name key text : List ℕ) (taken : ℕ) → text ≢ key_clash → Replies (Some files) (score_rows name key) Clash text taken → HasShown files name text
+scored files name key text taken other h = elim (judged_or_long documents files (doc_file name) (key_file key) OfScore Clash text taken refl h) [
+  | inr long ↦ absurd (cc long)
+  | inl (doc, holds, short, inl refused) ↦ absurd (cc refused.0)
+  | inl (doc, holds, short, inr (bytes, (contents, says, inl fault))) ↦ absurd (cc fault.0)
+  | inl (doc, holds, short, inr (bytes, (contents, says, inr (said, is, asked)))) ↦ (doc, holds, short, a_clash (OfKey said) doc contents says text (λ net answer. other answer.2.1) asked)
+]
+
+printed : (files : Files) (form : Form) (name : List ℕ) (given : List (List ℕ)) (status : Status) (text : List ℕ) (taken : ℕ) → PrintsEvidence form status text
     → Replies (Some files) (rows_with form (name ∷ given)) status text taken → HasShown files name text
 printed files Solve name given Done text taken e h = shown files (of_net OfSolve) name Done text taken (refl, λ is. cc, λ is. cc) of_timeline h
 printed files Solve name given Clash text taken e h = shown files (of_net OfSolve) name Clash text taken (refl, λ is. cc, λ is. cc) (of_clash OfSolve (λ contents net text none. none)) h
@@ -93,7 +109,9 @@ printed files Ask name given Clash text taken e h =
 printed files Possible name given Clash text taken e h =
     shown files (OfPossible (argument given 0) (argument given 1)) name Clash text taken (refl, λ is. cc, λ is. cc) (of_possible_clash (argument given 0) (argument given 1)) h
 printed files Matrix name given Clash text taken e h = shown files (of_net OfMatrix) name Clash text taken (refl, λ is. cc, λ is. cc) (of_clash OfMatrix (λ contents net text none. none)) h
-printed files form name given status text taken e h = absurd cc
+printed files Reduce name given Clash text taken e h = shown files (of_net OfReduce) name Clash text taken (refl, λ is. cc, λ is. cc) (of_clash OfReduce (λ contents net text none. none)) h
+printed files Score name given Clash text taken e h = scored files name (argument given 0) text taken e h
+printed files form name given status text taken e h = absurd e
 
 -- the reply to `verify`
 accepted : (files : Files) (name other text : List ℕ) → HasShown files name text → held files other ≡ Some text → IsVerified files name other text

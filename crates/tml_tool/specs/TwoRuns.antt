@@ -1,7 +1,8 @@
 -- Two runs: what is printed as evidence of a document, `verify` accepts.
-use Rattle.std.specs.Prelude.{◌≡◌, ◌≤◌, Bool, true, false, ℕ, List, ◌∷◌, length, Some}
+use Rattle.std.specs.Prelude.{◌≡◌, ◌≢◌, ◌≤◌, false, ℕ, List, ◌∷◌, length, Some, ⊤}
 use Rattle.evidence_answers.specs.Verify.{verify_rows}
 use Rattle.net_core.specs.Limits.{max_evidence}
+use Rattle.score_answers.specs.Score.{key_clash}
 use Rattle.tml_io.specs.Files.{Files, held}
 use Rattle.tml_run.specs.OneReply.{is_broken_off}
 use Rattle.tml_run.specs.Replies.{Replies}
@@ -9,18 +10,20 @@ use Rattle.tml_run.specs.declared.status.Status.{Status}
 use Rattle.tml_run.specs.declared.status.Status.TheVariants.{Done, Clash}
 use Rattle.tml_tool.specs.Commands.{rows_with}
 use Rattle.tml_tool.specs.declared.commands.Form.{Form}
-use Rattle.tml_tool.specs.declared.commands.Form.TheVariants.{Solve, Ask, Relations, Possible, Matrix}
+use Rattle.tml_tool.specs.declared.commands.Form.TheVariants.{Solve, Ask, Relations, Possible, Matrix, Reduce, Score}
 
--- evidence is printed where links clash, by `solve`, and where it is asked whether a relation holds
-abbrev pub prints_evidence : Form → Status → Bool
-prints_evidence Solve Done = true
-prints_evidence Solve Clash = true
-prints_evidence Ask Done = true
-prints_evidence Ask Clash = true
-prints_evidence Relations Clash = true
-prints_evidence Possible Clash = true
-prints_evidence Matrix Clash = true
-prints_evidence form status = false
+-- evidence is printed where links of the document clash, by `solve`, and where it is asked whether a relation holds
+abbrev pub PrintsEvidence : Form → Status → List ℕ → Type 0
+PrintsEvidence Solve Done text = ⊤
+PrintsEvidence Solve Clash text = ⊤
+PrintsEvidence Ask Done text = ⊤
+PrintsEvidence Ask Clash text = ⊤
+PrintsEvidence Relations Clash text = ⊤
+PrintsEvidence Possible Clash text = ⊤
+PrintsEvidence Matrix Clash text = ⊤
+PrintsEvidence Reduce Clash text = ⊤
+PrintsEvidence Score Clash text = text ≢ key_clash
+PrintsEvidence form status text = ⊥
 
 -- `verify` reads a text whole as evidence, Done is a reply, and every other one is broken off
 pub record IsVerified (files : Files) (name other text : List ℕ) : Type 0 where
@@ -31,5 +34,5 @@ pub record IsVerified (files : Files) (name other text : List ℕ) : Type 0 wher
 -- where a run printed evidence of the document in one file, and another file holds what it printed
 abbrev pub EvidenceIsVerified : Type 0
 EvidenceIsVerified = (files : Files) (form : Form) (name : List ℕ) (arguments : List (List ℕ)) (other text : List ℕ) (status : Status) (taken : ℕ)
-    → prints_evidence form status ≡ true → Replies (Some files) (rows_with form (name ∷ arguments)) status text taken
+    → PrintsEvidence form status text → Replies (Some files) (rows_with form (name ∷ arguments)) status text taken
     → held files other ≡ Some text → IsVerified files name other text

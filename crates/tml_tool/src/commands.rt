@@ -14,6 +14,7 @@ use evidence_answers::{EVIDENCE, Renew, Verify, reply_of_join};
 use named::Named;
 use order_answers::{Ask, Relations, Solve, drill_number, drill_summary};
 use possible_answers::{Matrix, Possible};
+use score_answers::{KEY, Reduce, Score};
 use std::alloc::Global;
 use tml_io::Inputs;
 use tml_run::{Reply, Status, reply_of_file};
@@ -47,6 +48,10 @@ pub enum Form {
     Possible,
     /// Which base relations each two intervals of a document can have.
     Matrix,
+    /// The links of a document without those that follow from others.
+    Reduce,
+    /// How much of a document follows from a key, and how much of the key from the document.
+    Score,
 }
 
 impl Named for Form {
@@ -73,6 +78,8 @@ impl Named for Form {
             Form::Join,
             Form::Possible,
             Form::Matrix,
+            Form::Reduce,
+            Form::Score,
         ]
     }
 
@@ -91,6 +98,8 @@ impl Named for Form {
             Form::Join => b"join",
             Form::Possible => b"possible",
             Form::Matrix => b"matrix",
+            Form::Reduce => b"reduce",
+            Form::Score => b"score",
         }
     }
 }
@@ -103,7 +112,7 @@ impl Form {
         match self {
             Form::Ask => 4,
             Form::Possible => 3,
-            Form::Verify | Form::Join => 2,
+            Form::Verify | Form::Join | Form::Score => 2,
             _ => 1,
         }
     }
@@ -127,6 +136,8 @@ tml renew EVIDENCE
 tml join EVIDENCE SECOND
 tml possible DOC X Y
 tml matrix DOC
+tml reduce DOC
+tml score DOC KEY
 "
 }
 
@@ -181,6 +192,8 @@ pub fn reply_with<I: Inputs>(
             reply_of_document(alloc, &asked, first, inputs)
         }
         Form::Matrix => reply_of_document(alloc, &Matrix, first, inputs),
+        Form::Reduce => reply_of_document(alloc, &Reduce, first, inputs),
+        Form::Score => reply_of_judged(alloc, &Score, first, KEY, word(arguments, 1), inputs),
     }
 }
 

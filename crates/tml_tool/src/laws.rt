@@ -32,8 +32,8 @@ pub fn every_question_is_answered()
     ensures reply { (words : List (List ℕ)) → HasExactlyOneReply (rows_of (form_of words)) }
 {}
 
-/// What `solve`, `ask` and `relations` print as evidence of a document, `verify` accepts over the same document: Done is
-/// a reply, and but for one that is broken off the only one.
+/// What commands print as evidence of a document, `verify` accepts over the same document: Done is a reply, and but for
+/// one that is broken off the only one.
 pub fn evidence_is_verified()
     ensures { EvidenceIsVerified }
 {}

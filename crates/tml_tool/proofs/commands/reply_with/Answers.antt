@@ -52,3 +52,9 @@ returns-in-Possible-clause-reply g c =
 
 pub returns-in-Matrix-clause-reply : goal.returns-in-Matrix-clause-reply
 returns-in-Matrix-clause-reply g c = rw c.in-Matrix.is (rw c.word-first.ensures at c.reply_of_document-in-Matrix.ensures.reply)
+
+pub returns-in-Reduce-clause-reply : goal.returns-in-Reduce-clause-reply
+returns-in-Reduce-clause-reply g c = rw c.in-Reduce.is (rw c.word-first.ensures at c.reply_of_document-in-Reduce.ensures.reply)
+
+pub returns-in-Score-clause-reply : goal.returns-in-Score-clause-reply
+returns-in-Score-clause-reply g c = rw c.in-Score.is (rw (c.word-first.ensures, c.word-in-Score.ensures) at c.reply_of_judged-in-Score.ensures.reply)

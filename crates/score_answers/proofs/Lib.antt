@@ -1,0 +1,2 @@
+pub mod ReduceAnswered
+pub mod ScoreAnswered

@@ -1,0 +1,13 @@
+//! What is asked of the links of a document: which of them say it all, and how much of it follows from a key.
+#![tactic(auto)]
+
+mod counts;
+mod laws;
+mod reduce;
+mod role;
+mod score;
+
+pub use laws::score_judges_first;
+pub use reduce::Reduce;
+pub use role::{KEY, KEY_WORD};
+pub use score::Score;

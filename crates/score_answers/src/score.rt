@@ -1,0 +1,141 @@
+//! The command `score`: how much of a document follows from a key, and how much of the key from the document.
+ghost use Rattle.score_answers.specs.Score.{HasKeyLine, scores_text as text_of_scores};
+ghost use Rattle.std.specs.Prelude.{◌≡◌, codes, IfOk, Some};
+
+use crate::counts::push_of;
+use answers::{OfJudged, refusal};
+use clash::{CloseFault, close};
+use net_answers::{OfNet, answer_of_net};
+use net_build::net_of;
+use net_core::{Memory, Net};
+use order_closure::Closed;
+use std::alloc::{AllocError, Global};
+use tml_accept::{Fault, accept};
+use tml_refs::Document;
+use tml_run::{Answer, Finding};
+use tml_score::{Scores, score};
+
+/// The command `score`.
+#[derive(Clone, Copy)]
+pub struct Score;
+
+impl OfJudged for Score {
+    ghost use Rattle.net_core.specs.Limits.{max_document};
+    ghost use Rattle.score_answers.specs.Score.{OfScore};
+
+    ghost says = { λ _. OfScore };
+
+    ghost limit = { max_document };
+
+    /// The scores of the document against a key with these bytes; or the first fault of the key, or else a minimal clash
+    /// where no timeline fits the document, as evidence, or else that none fits the key.
+    fn answer(
+        &self,
+        alloc: Global,
+        document: &Document<'_>,
+        bytes: &[u8],
+    ) -> Result<Answer, AllocError> {
+        match accept(alloc, bytes) {
+            Ok(key) => answer_of_net(alloc, &Against { key: &key }, document),
+            Err(fault) => key_refusal(alloc, fault),
+        }
+    }
+}
+
+/// A key that a document is scored against.
+#[derive(Clone, Copy)]
+struct Against<'k, 's> {
+    key: &'k Document<'s>,
+}
+
+impl OfNet for Against<'_, '_> {
+    ghost use Rattle.score_answers.specs.Score.{OfKey};
+    ghost use Rattle.std.specs.Prelude.{⊤};
+
+    ghost is_of = { λ _ _. ⊤ };
+
+    ghost says = { λ asked. OfKey asked.key.now };
+
+    /// The scores of the document against the key, or that no timeline fits the key.
+    fn answer(
+        &self,
+        alloc: Global,
+        document: &Document<'_>,
+        net: &Net,
+        closure: &Closed,
+    ) -> Result<Answer, AllocError> {
+        let key_net = match net_of(alloc, self.key) {
+            Ok(net) => net,
+            Err(Memory) => return Err(AllocError),
+        };
+        let key_closure = match close(alloc, &key_net) {
+            Ok(closure) => closure,
+            Err(CloseFault::Clash(_)) => return key_clash(alloc),
+            Err(CloseFault::Memory) => return Err(AllocError),
+        };
+        match score(
+            alloc,
+            document,
+            net,
+            closure,
+            self.key,
+            &key_net,
+            &key_closure,
+        ) {
+            Ok(scores) => Ok(Answer::done(scores_text(alloc, scores)?)),
+            Err(Memory) => Err(AllocError),
+        }
+    }
+}
+
+/// The answer to a key with this fault: its line, after the word for the key.
+fn key_refusal(alloc: Global, fault: Fault) -> Result<Answer, AllocError>
+    ensures finding { IfOk result (λ answer. answer.finding ≡ Finding.DocFault) }
+    ensures line { IfOk result (λ answer. HasKeyLine (λ kind place. fault ≡ Some (kind, place)) answer.text.items) }
+{
+    let Answer {
+        finding,
+        text: line,
+    } = refusal(alloc, fault)?;
+    let mut text = Vec::from_slice(alloc, b"key ")?;
+    text.extend_from_slice(line.as_slice())?;
+    Ok(Answer { finding, text })
+}
+
+/// The answer that no timeline fits the key.
+fn key_clash(alloc: Global) -> Result<Answer, AllocError>
+    ensures finding { IfOk result (λ answer. answer.finding ≡ Finding.Clash) }
+    ensures text { IfOk result (λ answer. answer.text.items ≡ codes "key clash\n") }
+{
+    let text = Vec::from_slice(alloc, b"key clash\n")?;
+    Ok(Answer {
+        finding: Finding::Clash,
+        text,
+    })
+}
+
+/// The lines of precision and recall.
+fn scores_text(alloc: Global, scores: Scores) -> Result<Vec<u8>, AllocError>
+    ensures { IfOk result (λ text. text.items ≡ text_of_scores scores) }
+{
+    let Scores {
+        matched,
+        doc_links,
+        found,
+        key_links,
+    } = scores;
+    let mut text = Vec::new(alloc);
+    push_of(
+        &mut text,
+        b"precision ",
+        u64::from(matched),
+        u64::from(doc_links),
+    )?;
+    push_of(
+        &mut text,
+        b"recall ",
+        u64::from(found),
+        u64::from(key_links),
+    )?;
+    Ok(text)
+}
