@@ -1,21 +1,19 @@
 -- Scores: that there is one set of them, and that there is one at all.
-use Rattle.std.proofs.Common.{◌≡◌, ◌↔◌, ◌⊎◌, inl, inr, ℕ, zero, suc, ◌+◌, ◌*◌, ◌<◌, ◌≤◌, Bool, true, false, cond, List, [], ◌∷◌, length, count_by, get_or, replicate, Option, Some, None, MatchOption, IfSome, IsNone, refl, sym, ap, subst, ◌∙◌, arith, rules}
-use Rattle.std.specs.List.{All, AllByRecursion, AllZip, Contains, slice_get}
+use Rattle.std.proofs.Common.{◌≡◌, ◌↔◌, ◌⊎◌, inl, inr, ℕ, ◌+◌, ◌<◌, Bool, true, false, cond, List, [], ◌∷◌, length, count_by, get_or, replicate, Option, Some, None, IfSome, IsNone, refl, sym, ap, subst, ◌∙◌, arith, rules}
+use Rattle.std.specs.List.{Contains, slice_get}
 use Rattle.std.proofs.lemmas.Bool.{cases_lt}
 use Rattle.std.proofs.lemmas.List.{get_or-replicate, get_or_past}
 use Rattle.std.proofs.lemmas.List.Elements.{All-contains, All-get_or}
 use Rattle.std.proofs.lemmas.List.Sums.{sum_by-cons}
 use Rattle.std.proofs.lemmas.Slice.Zip.{AllZip-long}
 use Rattle.std.proofs.lemmas.Option.{slice_get-get_or, slice_get_within}
-use mathlib.Core.Logic.Dec
 use Rattle.clash.proofs.Entailing.{gives_what_follows}
-use Rattle.derive_rel.specs.Entailed.{TableEntails}
 use Rattle.net_build.specs.Built.{IntervalBounds, IsNetOf}
-use Rattle.net_core.specs.Atoms.{Satisfies, atoms_of}
+use Rattle.net_core.specs.Atoms.{atoms_of}
 use Rattle.net_core.specs.Entailment.{Follows, HasTimeline}
-use Rattle.net_core.specs.Fits.{EveryLink, Fits, FitsWith}
+use Rattle.net_core.specs.Fits.{EveryLink}
 use Rattle.net_core.specs.Nets.{IsNet, PlainNet, intervals, link_at}
-use Rattle.net_core.specs.Relations.{Relates, Timeline}
+use Rattle.net_core.specs.Relations.{Timeline}
 use Rattle.net_core.specs.Walks.{Kept}
 use Rattle.net_core.specs.declared.net.NetLink.{NetLink}
 use Rattle.net_core.specs.declared.rels.Rel.{Rel}
@@ -23,12 +21,10 @@ use Rattle.net_core.specs.declared.rels.Rel.TheVariants as rel
 use Rattle.net_core.proofs.AtomLaws.{atoms_in_range, atoms_say_the_relation}
 use Rattle.net_core.proofs.StepLaws.{fits_fewer}
 use Rattle.order_closure.specs.Tables.{Table}
-use Rattle.tml_refs.specs.Documents.{IsDocument, IsNamed, PlainInterval, instance, name_of}
+use Rattle.tml_refs.specs.Documents.{IsNamed, PlainInterval, instance, name_of}
 use Rattle.tml_refs.proofs.NamedIntervals.{named_or_not}
-use Rattle.tml_score.specs.Reduced.{IsReduced}
-use Rattle.tml_score.specs.Scores.{Annotation, AreMatched, AreScores, EveryScore, FollowsIn, HaveOneName, IsClosedOf, IsCountOf, IsSound, OneScore}
-use Rattle.tml_score.specs.Scoring.{ArePartners, AreWithin, EntailsBetween, IsPartner, partner_at}
-use Rattle.tml_score.specs.declared.scoring.Scores.{Scores}
+use Rattle.tml_score.specs.Scores.{Annotation, AreMatched, EveryScore, FollowsIn, HaveOneName, IsClosedOf, IsCountOf, IsSound, OneScore}
+use Rattle.tml_score.specs.Scoring.{ArePartners, AreWithin, EntailsBetween, IsPartner}
 use Rattle.tml_score.proofs.Redundancy.{atoms_decided, every_net_is_reduced, one_reduced_list}
 use Rattle.tml_score.proofs.Rising.{first_in, rest_in}
 

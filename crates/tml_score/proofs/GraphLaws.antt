@@ -1,12 +1,11 @@
 -- The orders of a net.
-use Rattle.std.proofs.Common.{◌≡◌, ◌↔◌, ◌⊎◌, inl, inr, ℕ, zero, suc, ◌+◌, ◌<◌, ◌≤◌, Bool, true, false, cond, List, [], ◌∷◌, ◌++◌, length, get_or, Option, Some, None, refl, sym, ap, subst, ◌∙◌, arith}
+use Rattle.std.proofs.Common.{◌≡◌, ◌↔◌, ◌⊎◌, inl, inr, ℕ, ◌+◌, ◌<◌, Bool, true, false, List, [], ◌∷◌, ◌++◌, length, get_or, Option, Some, None, refl, sym, ap, subst, ◌∙◌, arith}
 use Rattle.std.specs.List.{Contains}
 use Rattle.std.proofs.lemmas.Bool.{cases_lt}
 use Rattle.std.proofs.lemmas.List.Elements.{All-contains, All-from_recursion, All-get_or, Contains-append_left, Contains-get_or, Contains-push, Contains-push_cases}
 use Rattle.std.proofs.lemmas.List.{get_or_default}
 use Rattle.std.specs.List.Sorted.{IsPermutation}
 use Rattle.std.proofs.lemmas.List.Sorted.{Contains-permutation, IsPermutation-sym}
-use Rattle.clash.specs.Orders.{AreFixed}
 use Rattle.clash.specs.declared.orders.Order.{Order}
 use Rattle.clash.proofs.LinkAtoms.{link_said}
 use Rattle.net_core.specs.Atoms.{IsInRange, Satisfies}
@@ -18,7 +17,7 @@ use Rattle.net_core.specs.declared.net.NetLink.{NetLink}
 use Rattle.net_core.specs.declared.rels.Rel.TheVariants as rel
 use Rattle.net_core.proofs.AtomLaws.{atoms_in_range}
 use Rattle.tml_score.proofs.Rising.{every}
-use Rattle.tml_score.specs.Graph.{Adds, AreAll, IsFixed, IsGraphOf, IsOfLink, IsOfSome, counts, link_atoms}
+use Rattle.tml_score.specs.Graph.{Adds, AreAll, IsFixed, IsGraphOf, IsOfSome, counts, link_atoms}
 
 -- ---- lists of orders
 

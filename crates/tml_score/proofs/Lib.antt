@@ -5,4 +5,5 @@ pub mod GraphLaws
 pub mod ReachedLaws
 pub mod Searching
 pub mod Spreading
+pub mod TwoSided
 pub mod Counted

@@ -1,5 +1,5 @@
 -- The orders of one relation are nested: one that leads to no later a point begins no later.
-use Rattle.std.proofs.Common.{◌≡◌, inl, inr, ℕ, ◌<◌, ◌≤◌, List, [], ◌∷◌, map, refl, ap, ◌∙◌, arith, rules}
+use Rattle.std.proofs.Common.{◌≡◌, inl, inr, ℕ, ◌≤◌, List, [], ◌∷◌, map, refl, ap, ◌∙◌, arith, rules}
 use Rattle.std.specs.List.{AllByRecursion, Contains}
 use Rattle.std.proofs.lemmas.List.Elements.{All-contains, All-from_recursion}
 use Rattle.net_core.specs.Atoms.{atom_between, atoms_of, orders_of, points_of}

@@ -1,5 +1,5 @@
 -- Points that stand at the places that are kept for them.
-use Rattle.std.proofs.Common.{◌≡◌, ◌≢◌, ℕ, suc, ◌+◌, ◌<◌, ◌≤◌, ◌==◌, ◌||◌, Bool, true, false, get_or, List, [], ◌∷◌, ◌++◌, length, slice_index, slice_set, inl, inr, ap, sym, ◌∙◌, arith, length-append}
+use Rattle.std.proofs.Common.{◌≡◌, ◌≢◌, ℕ, suc, ◌<◌, ◌≤◌, ◌==◌, ◌||◌, Bool, true, false, get_or, List, [], ◌∷◌, ◌++◌, length, slice_index, slice_set, inl, inr, ap, sym, ◌∙◌, arith, length-append}
 use Rattle.std.specs.List.{Contains, list_any}
 use Rattle.std.proofs.lemmas.Bool.{cases_eq, cases_lt, ne_eqb}
 use Rattle.std.proofs.lemmas.List.{get_or_append_left, get_or_default, get_or_push, length-set}

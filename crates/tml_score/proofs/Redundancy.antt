@@ -1,6 +1,6 @@
 -- The links that stay when those that follow from others are left out: what they say, that there is one list of them, and that there is one at all.
-use Rattle.std.proofs.Common.{◌≡◌, ◌≢◌, ◌↔◌, ◌⊎◌, inl, inr, ℕ, zero, suc, ◌+◌, ◌<◌, ◌≤◌, Bool, true, false, cond, List, [], ◌∷◌, length, slice_index_or, slice_set, replicate, refl, sym, ap, subst, ◌∙◌, arith}
-use Rattle.std.specs.List.{All, AllByRecursion, Contains}
+use Rattle.std.proofs.Common.{◌≡◌, ◌↔◌, ◌⊎◌, inl, inr, ℕ, zero, suc, ◌+◌, ◌<◌, ◌≤◌, Bool, true, false, List, [], ◌∷◌, length, slice_index_or, slice_set, replicate, sym, subst, ◌∙◌, arith}
+use Rattle.std.specs.List.{AllByRecursion, Contains}
 use Rattle.std.specs.List.Sorted.{IsStrictlyIncreasing}
 use Rattle.std.proofs.lemmas.Bool.{cases_eq, cases_lt}
 use Rattle.std.proofs.lemmas.List.Elements.{All-contains, All-contains_itself, All-get_or, All-weaker}
@@ -10,7 +10,6 @@ use Rattle.clash.proofs.MarkedLinks.{every_marked, kept_within}
 use Rattle.clash.proofs.Rounds.{others_set, set_others}
 use Rattle.net_core.specs.Atoms.{IsInRange, Satisfies, atoms_of}
 use Rattle.net_core.specs.Clashes.{Others}
-use Rattle.net_core.specs.Entailment.{HasTimeline}
 use Rattle.net_core.specs.Fits.{EveryLink, Fits, FitsWith, KeepsLink}
 use Rattle.net_core.specs.Nets.{IsNet, PlainNet, link_at, points}
 use Rattle.net_core.specs.Ranks.{timeline_of}
@@ -22,7 +21,7 @@ use Rattle.net_core.specs.declared.rels.Rel.TheVariants as rel
 use Rattle.net_core.proofs.AtomLaws.{atoms_in_range, atoms_say_the_relation}
 use Rattle.net_core.proofs.StepLaws.{fits_fewer}
 use Rattle.net_core.proofs.WalkLaws.{walk_kept}
-use Rattle.tml_score.specs.Reduced.{Beside, CanFailWith, EveryNetIsReduced, FollowsFrom, IsReduced, OneReducedList, ReducedLinksSayTheSame, SayTheSame}
+use Rattle.tml_score.specs.Reduced.{Beside, CanFailWith, EveryNetIsReduced, FollowsFrom, IsReduced, OneReducedList, ReducedLinksSayTheSame}
 use Rattle.tml_score.specs.Reducing.{AreGoneOver, DecidesLink}
 use Rattle.tml_score.proofs.Rising.{member_or_not, one_rising}
 

@@ -1,21 +1,18 @@
 -- What a search finds follows, and what it doesn't find can fail.
-use Rattle.std.proofs.Common.{◌≡◌, ◌≢◌, ◌↔◌, ◌⊎◌, inl, inr, ℕ, zero, suc, ◌+◌, ◌<◌, ◌≤◌, ◌==◌, Bool, true, false, not, ◌&&◌, ◌||◌, List, [], ◌∷◌, ◌++◌, length, slice_index, slice_index_or, Option, Some, None, refl, sym, ap, subst, ◌∙◌, arith}
-use Rattle.std.specs.List.{All, AllByRecursion, Contains, filter}
+use Rattle.std.proofs.Common.{◌≡◌, ◌≢◌, ◌↔◌, ◌⊎◌, inl, inr, ℕ, ◌<◌, ◌≤◌, ◌==◌, Bool, true, false, not, ◌&&◌, ◌||◌, List, [], ◌∷◌, length, slice_index_or, Option, Some, None, refl, sym, ap, subst, ◌∙◌, arith}
+use Rattle.std.specs.List.{All, Contains, filter}
 use Rattle.std.proofs.lemmas.Bool.{cases_eq, eq-eqb, ne_eqb}
-use Rattle.std.proofs.lemmas.Bool.Decides.{nat_tests}
 use Rattle.std.proofs.lemmas.List.Elements.{All-contains, All-get_or}
-use Rattle.clash.specs.Walks.{AlwaysWith}
 use Rattle.clash.specs.declared.orders.Order.{Order}
 use Rattle.clash.proofs.Entailing.{given_holds, held_given}
 use Rattle.clash.proofs.LinkAtoms.{link_said}
-use Rattle.clash.proofs.Paths.{AllTrue, HasPath, Leads, any_strict, leads_kept, path_kept, path_or_counter}
-use Rattle.net_core.specs.Atoms.{IsInOrder, IsInRange, Satisfies, atom_between, orders_of, points_of}
-use Rattle.net_core.specs.BaseRelations.{IsInterval}
+use Rattle.clash.proofs.Paths.{AllTrue, Leads, any_strict, leads_kept, path_kept, path_or_counter}
+use Rattle.net_core.specs.Atoms.{IsInOrder, IsInRange, Satisfies}
 use Rattle.net_core.specs.Clashes.{Others}
 use Rattle.net_core.specs.Entailment.{Always}
 use Rattle.net_core.specs.Fits.{EveryLink, Fits, FitsWith}
 use Rattle.net_core.specs.Nets.{PlainNet, link_at, points}
-use Rattle.net_core.specs.Relations.{Timeline, ends_of}
+use Rattle.net_core.specs.Relations.{Timeline}
 use Rattle.net_core.specs.Walks.{Kept as IsKept}
 use Rattle.net_core.specs.declared.atom.Atom.{Atom}
 use Rattle.net_core.specs.declared.net.NetLink.{NetLink}
@@ -26,9 +23,10 @@ use Rattle.order_closure.specs.Cells.{order, strength}
 use Rattle.order_closure.specs.Tables.{cell_at}
 use Rattle.order_closure.specs.declared.cell.Cell.{Cell}
 use Rattle.order_closure.specs.declared.cell.Cell.TheVariants.{Free, Strict, Weak}
+use Rattle.tml_score.specs.Meeting.{IsLedTo, IsPassedAt, IsWith}
 use Rattle.tml_score.specs.Graph.{counts, link_atoms}
 use Rattle.tml_score.specs.declared.search.Asked.{Asked}
-use Rattle.tml_score.specs.Search.{AreThrough, Basis, Decides, HasEnough, IsAsked, IsEnough, IsLed, IsPassed, IsReady, IsThrough, IsWay, LeadsOut, Rest, is_other, remains}
+use Rattle.tml_score.specs.Search.{AreThrough, Basis, Decides, HasEnough, IsAsked, IsLed, IsPassed, IsReady, IsThrough, IsWay, LeadsOut, Rest, is_other}
 use Rattle.tml_score.proofs.GraphLaws.{in_range, link_in_range, orders_say}
 use Rattle.tml_score.proofs.Nested.{nested_atoms}
 use Rattle.tml_score.proofs.Rising.{in_filter}
@@ -154,13 +152,17 @@ module _ (basis : Basis) (asked : Asked) (ready : IsReady basis) (is : IsAsked b
     not_last = ne;
   }
 
+  -- a way from a point after the first leads to one after it
+  pub goes_on : (o : Order) → IsWay basis asked o → IsLed basis asked o.atom.from → IsLed basis asked o.atom.to
+  goes_on o way led = λ t fits.
+      let first = led t fits in
+      let step : t o.atom.from ≤ t o.atom.to = in_order_weaker false o.atom.strict (t o.atom.from) (t o.atom.to) (λ e. cc) (way_true t fits o way) in
+      omega (arith, first, step)
+
   -- and goes on to a point that a way leads to, which doesn't lead out
   pub goes_through : (o : Order) → IsWay basis asked o → IsLed basis asked o.atom.from → (LeadsOut basis asked o → ⊥) → IsThrough basis asked o.atom.to
   goes_through o way led not = record {
-    led = λ t fits.
-        let first = led t fits in
-        let step : t o.atom.from ≤ t o.atom.to = in_order_weaker false o.atom.strict (t o.atom.from) (t o.atom.to) (λ e. cc) (way_true t fits o way) in
-        omega (arith, first, step);
+    led = goes_on o way led;
     back = λ free. not (inr free);
     not_last = λ last. not (inl last);
   }
@@ -305,3 +307,83 @@ module _ (basis : Basis) (asked : Asked) (ready : IsReady basis) (is : IsAsked b
       | inl path ↦ absurd (no_path path.0 p first path.1.0 path.1.1)
       | inr counter ↦ (counter.0, true_rest counter.0 counter.1, counter.2)
     ]
+
+  -- ---- points at one place
+
+  -- and one to a point before the last begins before it
+  pub goes_back : (o : Order) → IsWay basis asked o → IsLedTo basis asked o.atom.to → IsLedTo basis asked o.atom.from
+  goes_back o way to = λ t fits.
+      let last = to t fits in
+      let step : t o.atom.from ≤ t o.atom.to = in_order_weaker false o.atom.strict (t o.atom.from) (t o.atom.to) (λ e. cc) (way_true t fits o way) in
+      omega (arith, last, step)
+
+  module _ (one_place : cell_at basis.table q p ≢ Free) where
+    -- a point between the first and the last is at their place
+    between_with : (x : ℕ) → x < points net → ((t : Timeline) → Fits net t → t p ≤ t x) → ((t : Timeline) → Fits net t → t x ≤ t q) → IsWith basis asked x
+    between_with x lx after before =
+        let back = always q p false asked_range.1 asked_range.0 (some_said (cell_at basis.table q p) one_place) in (
+          not_free (cell_at basis.table x p) (given x p false lx asked_range.0 (λ t fits. let a = before t fits in let b = back t fits in omega (arith, a, b))),
+          not_free (cell_at basis.table p x) (given p x false asked_range.0 lx after),
+        )
+
+    -- steps from a point after the first are among points at its place
+    step_with : (e : Order) (es : List Order) (x : ℕ) → IsLed basis asked x → Leads atom_of rest (e ∷ es) x q → IsWith basis asked e.atom.from × IsWith basis asked e.atom.to × IsLed basis asked e.atom.to
+    step_with e es x led leads =
+        let way = (within (is_other basis.keep asked.link) e).0 leads.0 in
+        let range = way_range e way in
+        let from : IsLed basis asked e.atom.from = subst (IsLed basis asked) (sym leads.1) led in
+        let step = λ (t : Timeline) (fits : FitsWith net (Rest basis asked) t). weaker t e (way_true t fits e way) in
+        let to : IsLed basis asked e.atom.to = λ t fits. let a = from t fits in let b = step t fits in omega (arith, a, b) in
+        let on = λ (t : Timeline) (fits : Fits net t). in_order_weaker false (any_strict atom_of rest es) (t e.atom.to) (t q) (λ s. cc) (leads_kept atom_of rest t es e.atom.to q (rest_true t (rest_fits t fits)) leads.2) in (
+          between_with e.atom.from range.0 (λ t fits. from t (rest_fits t fits)) (λ t fits. let a = step t (rest_fits t fits) in let b = on t fits in omega (arith, a, b)),
+          between_with e.atom.to range.1 (λ t fits. to t (rest_fits t fits)) on,
+          to,
+        )
+      where
+        weaker : (t : Timeline) (o : Order) → Satisfies t o.atom → t o.atom.from ≤ t o.atom.to
+        weaker t o holds = in_order_weaker false o.atom.strict (t o.atom.from) (t o.atom.to) (λ s. cc) holds
+
+    -- a side whose ways onward are all passed has the last point, if a path leads there
+    on_to_last : (xs : List ℕ) → All (IsLed basis asked) xs → ((o : Order) → IsWay basis asked o → Contains xs o.atom.from → IsPassedAt basis asked xs o.atom.to)
+        → (es : List Order) (x : ℕ) → Contains xs x → Leads atom_of rest es x q → Contains xs q
+    on_to_last xs led passed [] x among leads = subst (Contains xs) leads among
+    on_to_last xs led passed (e ∷ es) x among leads =
+        let way = (within (is_other basis.keep asked.link) e).0 leads.0 in
+        let here = step_with e es x (All-contains (IsLed basis asked) xs x led among) leads in
+        elim (passed e way (subst (Contains xs) (sym leads.1) among)) [
+          | inl next ↦ on_to_last xs led passed es e.atom.to next leads.2
+          | inr not ↦ absurd (not here.1)
+        ]
+
+    -- and one whose ways back are all passed has each point from which a path leads to the last
+    back_to_first : (ys : List ℕ) → Contains ys q → ((o : Order) → IsWay basis asked o → Contains ys o.atom.to → IsPassedAt basis asked ys o.atom.from)
+        → (es : List Order) (x : ℕ) → IsLed basis asked x → Leads atom_of rest es x q → Contains ys x
+    back_to_first ys last passed [] x led leads = subst (Contains ys) (sym leads) last
+    back_to_first ys last passed (e ∷ es) x led leads =
+        let way = (within (is_other basis.keep asked.link) e).0 leads.0 in
+        let here = step_with e es x led leads in
+        elim (passed e way (back_to_first ys last passed es e.atom.to here.2 leads.2)) [
+          | inl there ↦ subst (Contains ys) leads.1 there
+          | inr not ↦ absurd (not here.0)
+        ]
+
+    -- a path leads to the last point, or the order can fail
+    path_or_fails : ((es : List Order) → Leads atom_of rest es p q → ⊥) → Decides basis asked false
+    path_or_fails none = elim (path_or_counter atom_of rest (points net) (edge_range (is_other basis.keep asked.link)) u (rest_true u (rest_fits u ready.fits.1)) p q asked.order.strict asked_range.0 asked_range.1) [
+      | inl path ↦ absurd (none path.0 path.1.0)
+      | inr counter ↦ (counter.0, true_rest counter.0 counter.1, counter.2)
+    ]
+
+    -- where a side onward is at its end without the last point the order can fail
+    pub onward_ends : (xs : List ℕ) → All (IsLed basis asked) xs → Contains xs p → (Contains xs q → ⊥)
+        → ((o : Order) → IsWay basis asked o → Contains xs o.atom.from → IsPassedAt basis asked xs o.atom.to) → Decides basis asked false
+    onward_ends xs led first last passed = path_or_fails (λ es leads. last (on_to_last xs led passed es p first leads))
+
+    -- and so it can where a side back is at its end without the first one
+    pub back_ends : (ys : List ℕ) → Contains ys q → (Contains ys p → ⊥)
+        → ((o : Order) → IsWay basis asked o → Contains ys o.atom.to → IsPassedAt basis asked ys o.atom.from) → Decides basis asked false
+    back_ends ys last first passed = path_or_fails (λ es leads. first (back_to_first ys last passed es p (λ t fits. omega arith) leads))
+
+  -- where a point is after the first and before the last the order holds, unless it is strict
+  pub meeting_follows : (x : ℕ) → asked.order.strict ≡ false → IsLed basis asked x → IsLedTo basis asked x → Decides basis asked true
+  meeting_follows x weak led to = λ t fits. subst (λ (b : Bool). IsInOrder b (t p) (t q)) (sym weak) (let a = led t fits in let b = to t fits in omega (arith, a, b))

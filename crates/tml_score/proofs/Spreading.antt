@@ -1,14 +1,12 @@
 -- How a search goes on.
-use Rattle.std.proofs.Common.{◌≡◌, ◌↔◌, ◌⊎◌, inl, inr, ℕ, ◌+◌, ◌<◌, ◌≤◌, Bool, true, false, List, [], ◌∷◌, ◌++◌, length, get_or, slice_index, Option, Some, None, IfSome, Result, Ok, Err, IsTrue, refl, sym, ap, subst, ◌∙◌, arith, rules, length-append, append_assoc}
+use Rattle.std.proofs.Common.{◌≡◌, ◌↔◌, inl, inr, ℕ, ◌+◌, ◌<◌, ◌≤◌, Bool, true, false, List, [], ◌∷◌, ◌++◌, length, get_or, slice_index, Option, IfSome, Ok, IsTrue, sym, ap, subst, ◌∙◌, arith, rules, length-append, append_assoc}
 use Rattle.std.specs.List.{All, Contains}
 use Rattle.std.proofs.lemmas.Bool.{cases_lt}
 use Rattle.std.proofs.lemmas.List.{append-nil, get_or_append_left, get_or_default}
-use Rattle.std.proofs.lemmas.List.Elements.{All-get_or, All-push, Contains-append_left, Contains-get_or, Contains-push}
+use Rattle.std.proofs.lemmas.List.Elements.{All-get_or, All-push, Contains-append_left, Contains-push}
 use Rattle.clash.specs.declared.orders.Order.{Order}
-use Rattle.net_core.specs.Nets.{points}
-use Rattle.tml_score.specs.Graph.{AreFrom}
 use Rattle.tml_score.specs.Reached.{PlainReached}
-use Rattle.tml_score.specs.Search.{AreMarks, Basis, remains, Extends, GoesOn, IsAsked, IsEnough, IsLed, IsPassed, IsReady, IsSearch, IsThrough, IsWay, LeadsOut}
+use Rattle.tml_score.specs.Search.{AreMarks, Basis, Extends, GoesOn, IsAsked, IsEnough, IsLed, IsPassed, IsReady, IsSearch, IsThrough, IsWay, LeadsOut}
 use Rattle.tml_score.specs.declared.search.Asked.{Asked}
 use Rattle.tml_score.proofs.Searching.{goes_through, not_out}
 

@@ -1,6 +1,6 @@
 -- The orders of a net, by the points that they leave.
 use Rattle.std.specs.Prelude.{◌≡◌, ◌↔◌, ◌⊎◌, ℕ, ◌<◌, Bool, true, List, length, Option, Some, None}
-use Rattle.std.specs.List.{All, Contains}
+use Rattle.std.specs.List.{Contains}
 use Rattle.std.specs.List.Sorted.{IsNonDecreasingBy}
 use Rattle.clash.specs.Orders.{AreFixed}
 use Rattle.clash.specs.declared.orders.Order.{Order}
@@ -44,6 +44,18 @@ AreSorted orders = IsNonDecreasingBy (λ (order : Order). order.atom.from) order
 -- the orders that leave a point, of all of a list
 abbrev pub AreFrom : ℕ → List Order → List Order → Type 0
 AreFrom point all orders = (order : Order) → Contains orders order ↔ (Contains all order × (order.atom.from ≡ point))
+
+-- the same by the points that orders lead to
+abbrev pub AreSortedBack : List Order → Type 0
+AreSortedBack orders = IsNonDecreasingBy (λ (order : Order). order.atom.to) orders
+
+abbrev pub AreTo : ℕ → List Order → List Order → Type 0
+AreTo point all orders = (order : Order) → Contains orders order ↔ (Contains all order × (order.atom.to ≡ point))
+
+-- the same orders, sorted by the points that they lead to
+pub record IsTurned (orders turned : List Order) : Type 0 where
+  pub same : (order : Order) → Contains turned order ↔ Contains orders order
+  pub sorted : AreSortedBack turned
 
 -- all orders of a net, sorted
 pub record IsGraphOf (net : PlainNet) (orders : List Order) : Type 0 where

@@ -1,5 +1,5 @@
 -- Whether an order of a link follows from the other links that are kept.
-use Rattle.std.specs.Prelude.{◌≡◌, ◌≢◌, ◌↔◌, ◌⊎◌, ℕ, ◌<◌, ◌≤◌, ◌==◌, Bool, true, false, not, ◌&&◌, ⊤, List, [], ◌∷◌, ◌++◌, length, slice_index, slice_index_or, Option, Some, None, IfSome, Result, Ok, Err}
+use Rattle.std.specs.Prelude.{◌≡◌, ◌≢◌, ◌⊎◌, ℕ, ◌<◌, ◌≤◌, ◌==◌, Bool, true, false, not, ◌&&◌, ⊤, List, ◌++◌, length, slice_index_or, IfSome, Result, Ok, Err}
 use Rattle.std.specs.List.{All, Contains}
 use Rattle.clash.specs.Closures.{IsClosureOf}
 use Rattle.clash.specs.Walks.{AlwaysWith}
@@ -11,13 +11,13 @@ use Rattle.net_core.specs.Fits.{Fits, FitsWith}
 use Rattle.net_core.specs.Nets.{IsNet, PlainNet, points}
 use Rattle.net_core.specs.Relations.{Timeline}
 use Rattle.net_core.specs.Walks.{Kept as IsKept}
-use Rattle.net_core.specs.declared.atom.Atom.{Atom}
 use Rattle.net_core.specs.declared.list.Memory.{Memory}
 use Rattle.order_closure.specs.Cells.{order, strength}
 use Rattle.order_closure.specs.Tables.{Table, cell_at}
 use Rattle.order_closure.specs.declared.cell.Cell.TheVariants.{Free}
-use Rattle.tml_score.specs.Graph.{IsGraphOf, counts, link_atoms}
+use Rattle.tml_score.specs.Graph.{IsGraphOf, IsTurned, counts, link_atoms}
 use Rattle.tml_score.specs.Reached.{PlainReached}
+use Rattle.tml_score.specs.declared.reached.Sides.{Sides}
 use Rattle.tml_score.specs.declared.search.Asked.{Asked}
 use Rattle.tml_score.specs.declared.search.Kept.{Kept}
 
@@ -26,10 +26,11 @@ pub record Basis : Type 0 where
   pub net : PlainNet
   pub table : Table
   pub orders : List Order
+  pub turned : List Order
   pub keep : List Bool
 
 abbrev pub basis_of : Kept → Basis
-basis_of kept = record { net = kept.net.now; table = kept.table.now; orders = kept.orders.now; keep = kept.keep.now }
+basis_of kept = record { net = kept.net.now; table = kept.table.now; orders = kept.orders.now; turned = kept.turned.now; keep = kept.keep.now }
 
 -- The links that are kept say the same as all, and some timeline fits.
 pub record IsReady (basis : Basis) : Type 0 where
@@ -37,6 +38,7 @@ pub record IsReady (basis : Basis) : Type 0 where
   pub fits : HasTimeline basis.net
   pub closure : IsClosureOf basis.net basis.table
   pub graph : IsGraphOf basis.net basis.orders
+  pub turned : IsTurned basis.orders basis.turned
   pub marks : length basis.keep ≡ length basis.net.links
   pub same : (t : Timeline) → FitsWith basis.net (IsKept basis.keep) t → Fits basis.net t
 
@@ -115,3 +117,7 @@ GoesOn basis asked Listed old new (Err e) = ⊤
 abbrev pub Decides : Basis → Asked → Bool → Type 0
 Decides basis asked true = AlwaysWith basis.net (Rest basis asked) asked.order.strict asked.order.from asked.order.to
 Decides basis asked false = (t : Timeline) × FitsWith basis.net (Rest basis asked) t × (Satisfies t asked.order → ⊥)
+
+-- both sides of a search have room for all points
+abbrev pub HaveRoom : Basis → Sides → Type 0
+HaveRoom basis sides = (sides.onward.room ≡ points basis.net) × (sides.back.room ≡ points basis.net)

@@ -1,18 +1,40 @@
 //! The orders of a net, by the points that they leave.
 ghost use Rattle.std.specs.Prelude.{IfOk, OnOk, length, ◌<◌, ◌≡◌};
-ghost use Rattle.tml_score.specs.Graph.{Adds, AreFrom, AreSorted, IsFixed, IsGraphOf, IsOfLink, IsOfSome};
+ghost use Rattle.tml_score.specs.Graph.{Adds, AreFrom, AreSorted, AreSortedBack, AreTo, IsFixed, IsGraphOf, IsOfLink, IsOfSome, IsTurned};
 
 use clash::{Order, atoms_of_link, fixed_orders, nth_order};
 use net_core::{Atom, Memory, Net};
 use std::alloc::Global;
 
+/// The orders of a net twice: sorted by the points that they leave, and by those that they lead to.
+#[derive(Drop)]
+pub struct Graph {
+    pub onward: Vec<Order>,
+    pub back: Vec<Order>,
+}
+
+impl Graph {
+    /// The orders of this net.
+    ///
+    /// # Errors
+    ///
+    /// Out of memory.
+    pub fn new(alloc: Global, net: &Net) -> Result<Graph, Memory>
+        ensures onward { IfOk result (λ graph. IsGraphOf net.now graph.onward.items) }
+        ensures back { IfOk result (λ graph. IsTurned graph.onward.items graph.back.items) }
+    {
+        let onward = orders_of(alloc, net)?;
+        let Ok(mut back) = Vec::from_slice(alloc, &onward) else {
+            return Err(Memory);
+        };
+        back.sort_unstable_by_key(|order| order.atom.to);
+        Ok(Graph { onward, back })
+    }
+}
+
 /// The orders of a net: those that hold without any link, and those of its links. The orders that leave the lowest point
 /// come first.
-///
-/// # Errors
-///
-/// Out of memory.
-pub fn graph_of(alloc: Global, net: &Net) -> Result<Vec<Order>, Memory>
+fn orders_of(alloc: Global, net: &Net) -> Result<Vec<Order>, Memory>
     ensures { IfOk result (λ orders. IsGraphOf net.now orders.items) }
 {
     let fixed = fixed_orders(alloc, net)?;
@@ -31,6 +53,17 @@ pub fn orders_from(orders: &[Order], point: u32) -> &[Order]
     let first = orders.partition_point(|order| order.atom.from < point);
     let rest = &orders[first..];
     let count = rest.partition_point(|order| order.atom.from <= point);
+    &rest[..count]
+}
+
+/// The orders that lead to a point, of those sorted by the points that they lead to.
+pub fn orders_to(orders: &[Order], point: u32) -> &[Order]
+    requires { AreSortedBack orders.now }
+    ensures { AreTo point orders.now result.now }
+{
+    let first = orders.partition_point(|order| order.atom.to < point);
+    let rest = &orders[first..];
+    let count = rest.partition_point(|order| order.atom.to <= point);
     &rest[..count]
 }
 

@@ -3,6 +3,7 @@
 
 mod graph;
 mod laws;
+mod meeting;
 mod reached;
 mod reducing;
 mod scoring;

@@ -102,3 +102,10 @@ impl Reached {
         self.points[turn]
     }
 }
+
+/// The points that a search has reached from its first point on, and from its last one back.
+#[derive(Drop)]
+pub struct Sides {
+    pub onward: Reached,
+    pub back: Reached,
+}

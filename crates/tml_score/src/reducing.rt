@@ -1,16 +1,15 @@
 //! The links of a net without those that follow from others.
 ghost use Rattle.clash.specs.Closures.{IsClosureOf};
 ghost use Rattle.net_core.specs.Entailment.{HasTimeline};
-ghost use Rattle.net_core.specs.Nets.{points};
 ghost use Rattle.net_core.specs.Walks.{Kept as IsKept};
-ghost use Rattle.std.specs.Prelude.{IfOk, OnOk, length, ◌<◌, ◌≡◌};
-ghost use Rattle.tml_score.specs.Graph.{IsGraphOf};
+ghost use Rattle.std.specs.Prelude.{IfOk, OnOk, length, ◌<◌};
+ghost use Rattle.tml_score.specs.Graph.{IsGraphOf, IsTurned};
 ghost use Rattle.tml_score.specs.Reduced.{IsReduced};
 ghost use Rattle.tml_score.specs.Reducing.{AreGoneOver, DecidesLink};
-ghost use Rattle.tml_score.specs.Search.{IsReady, basis_of};
+ghost use Rattle.tml_score.specs.Search.{HaveRoom, IsReady, basis_of};
 
-use crate::graph::graph_of;
-use crate::reached::Reached;
+use crate::graph::Graph;
+use crate::reached::{Reached, Sides};
 use crate::search::{Asked, Kept};
 use clash::{CloseFault, Order, atoms_of_link, close, marked, nth_order};
 use net_core::{List, Memory, Net};
@@ -45,30 +44,41 @@ pub fn reduced_by(alloc: Global, net: &Net, table: &Closed) -> Result<List<u32>,
     requires fits { HasTimeline net.now }
     ensures { IfOk result (IsReduced net.now) }
 {
-    let orders = graph_of(alloc, net)?;
-    let keep = marks(alloc, net, table, &orders)?;
+    let graph = Graph::new(alloc, net)?;
+    let keep = marks(alloc, net, table, &graph.onward, &graph.back)?;
     marked(alloc, net, &keep)
 }
 
 /// A mark for each link: those that stay are kept.
-fn marks(alloc: Global, net: &Net, table: &Closed, orders: &[Order]) -> Result<Vec<bool>, Memory>
+fn marks(
+    alloc: Global,
+    net: &Net,
+    table: &Closed,
+    orders: &[Order],
+    turned: &[Order],
+) -> Result<Vec<bool>, Memory>
     requires closure { IsClosureOf net.now table.now }
     requires fits { HasTimeline net.now }
-    requires graph { IsGraphOf net.now orders.now }
+    requires orders { IsGraphOf net.now orders.now }
+    requires turned { IsTurned orders.now turned.now }
     ensures { IfOk result (λ keep. AreGoneOver net.now (length net.now.links) keep.items) }
 {
     let Ok(mut keep) = vec![in alloc; true; net.links() as usize] else {
         return Err(Memory);
     };
-    let mut reached = Reached::new(alloc, table.points())?;
+    let mut sides = Sides {
+        onward: Reached::new(alloc, table.points())?,
+        back: Reached::new(alloc, table.points())?,
+    };
     for link in 0..net.links() {
         let kept = Kept {
             net,
             table,
             orders,
+            turned,
             keep: &keep,
         };
-        if link_follows(kept, link, &mut reached)? {
+        if link_follows(kept, link, &mut sides)? {
             keep[link as usize] = false;
         }
     }
@@ -76,18 +86,18 @@ fn marks(alloc: Global, net: &Net, table: &Closed, orders: &[Order]) -> Result<V
 }
 
 /// Whether a link follows from the others that are kept: whether all its orders do.
-fn link_follows(kept: Kept<'_>, link: u32, reached: &mut Reached) -> Result<bool, Memory>
+fn link_follows(kept: Kept<'_>, link: u32, sides: &mut Sides) -> Result<bool, Memory>
     requires ready { IsReady (basis_of kept) }
     requires link { link < length kept.net.now.links }
     requires kept { IsKept kept.keep.now link }
-    requires room { reached.old.room ≡ points kept.net.now }
+    requires room { HaveRoom (basis_of kept) sides.old }
     ensures decides { IfOk result (DecidesLink kept.entry.net.now kept.entry.keep.now link) }
-    ensures room { OnOk result (reached.new.room ≡ points kept.entry.net.now) }
+    ensures room { OnOk result (HaveRoom (basis_of kept.entry) sides.new) }
 {
     let atoms = atoms_of_link(kept.net, link);
     for number in 0..atoms.count() {
         let order = nth_order(&atoms, number);
-        if !kept.follows(Asked { link, order }, reached)? {
+        if !kept.follows(Asked { link, order }, sides)? {
             return Ok(false);
         }
     }

@@ -1,21 +1,23 @@
 //! Whether an order of a link follows from the other links that are kept.
 ghost use Rattle.net_core.specs.Nets.{points};
-ghost use Rattle.std.specs.Prelude.{IfOk, IsTrue, OnOk, length, slice_index, true, ◌<◌, ◌≡◌, ◌↔◌};
+ghost use Rattle.std.specs.Prelude.{IfOk, IsTrue, OnOk, length, slice_index, true, ◌<◌, ◌≡◌, ◌≢◌, ◌↔◌};
 ghost use Rattle.tml_score.specs.Search as spec;
-ghost use Rattle.tml_score.specs.Search.{Decides, GoesOn, IsAsked, IsReady, IsSearch, IsWay, IsLed, basis_of};
+ghost use Rattle.tml_score.specs.Search.{Decides, GoesOn, HaveRoom, IsAsked, IsReady, IsSearch, IsWay, IsLed, basis_of};
 
 use crate::graph::orders_from;
-use crate::reached::Reached;
+use crate::reached::{Reached, Sides};
 use clash::Order;
 use net_core::{Atom, Memory, Net};
 use order_closure::{Cell, Closed};
 
-/// The links of a net that are kept, which say the same as all, with the closure of the net and all its orders.
+/// The links of a net that are kept, which say the same as all, with the closure of the net and all its orders, sorted by
+/// the points that they leave, and by those that they lead to.
 #[derive(Clone, Copy)]
 pub struct Kept<'a> {
     pub net: &'a Net,
     pub table: &'a Closed,
     pub orders: &'a [Order],
+    pub turned: &'a [Order],
     pub keep: &'a [bool],
 }
 
@@ -29,24 +31,39 @@ pub struct Asked {
 impl Kept<'_> {
     /// Whether an order of a link follows from the other links that are kept.
     ///
-    /// From the first point of the order the search goes on over orders that remain without the link, to points that are
-    /// at one place with the first in every timeline. An order to the last point or to a later one leads out. There the
-    /// search ends, since what the closure says of that point and the last one is true without the link: a way that goes
-    /// over the link would lead back to a point no later than the first.
-    ///
     /// # Errors
     ///
     /// Out of memory.
-    pub fn follows(&self, asked: Asked, reached: &mut Reached) -> Result<bool, Memory>
+    pub fn follows(&self, asked: Asked, sides: &mut Sides) -> Result<bool, Memory>
         requires ready { IsReady (basis_of self.now) }
         requires asked { IsAsked (basis_of self.now) asked }
-        requires room { reached.old.room ≡ points self.now.net.now }
+        requires room { HaveRoom (basis_of self.now) sides.old }
         ensures decides { IfOk result (Decides (basis_of self.now) asked) }
-        ensures room { OnOk result (reached.new.room ≡ points self.now.net.now) }
+        ensures room { OnOk result (HaveRoom (basis_of self.now) sides.new) }
     {
         if asked.order.from == asked.order.to {
             return Ok(true);
         }
+        if !asked.order.strict && self.table.cell(asked.order.to, asked.order.from) != Cell::Free {
+            return self.meets(asked, &mut sides.onward, &mut sides.back);
+        }
+        self.leads(asked, &mut sides.onward)
+    }
+
+    /// Whether an order of two points follows, of which the first is before the other.
+    ///
+    /// From the first point of the order the search goes on over orders that remain without the link, to points that are
+    /// at one place with the first in every timeline. An order to the last point or to a later one leads out. There the
+    /// search ends, since what the closure says of that point and the last one is true without the link: a way that goes
+    /// over the link would lead back to a point no later than the first.
+    fn leads(&self, asked: Asked, reached: &mut Reached) -> Result<bool, Memory>
+        requires ready { IsReady (basis_of self.now) }
+        requires asked { IsAsked (basis_of self.now) asked }
+        requires apart { asked.order.from ≢ asked.order.to }
+        requires room { reached.old.room ≡ points self.now.net.now }
+        ensures decides { IfOk result (Decides (basis_of self.now) asked) }
+        ensures room { OnOk result (reached.new.room ≡ points self.now.net.now) }
+    {
         reached.start(asked.order.from)?;
         let mut turn = 0;
         while turn < reached.len() {
@@ -76,7 +93,7 @@ impl Kept<'_> {
     }
 
     /// Whether an order is of no link, or of another one that is kept.
-    fn remains(&self, asked: Asked, order: &Order) -> bool
+    pub fn remains(&self, asked: Asked, order: &Order) -> bool
         requires { spec.AreMarks (basis_of self.now) order.now }
         ensures { result ≡ spec.remains (basis_of self.now) asked order.now }
     {

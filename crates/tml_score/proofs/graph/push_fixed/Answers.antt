@@ -1,5 +1,4 @@
-use Rattle.std.proofs.Common.{◌≡◌, ◌↔◌, ℕ, ◌+◌, ◌<◌, false, None, get_or, length, refl, sym, subst, ◌∙◌, arith}
-use Rattle.clash.specs.declared.orders.Order.{Order}
+use Rattle.std.proofs.Common.{◌≡◌, ℕ, ◌+◌, false, None, get_or, length, subst, arith}
 use Rattle.tml_score.specs.Graph.{Adds, IsFixed}
 use Rattle.tml_score.proofs.GraphLaws.{IsAt, OfFirst, adds_none, adds_same, adds_then, all_at, of_first_more}
 use Rattle.tml_score.proofs.graph.push_fixed.Goals as goal

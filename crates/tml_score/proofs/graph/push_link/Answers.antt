@@ -1,10 +1,9 @@
-use Rattle.std.proofs.Common.{◌≡◌, ◌↔◌, ℕ, ◌+◌, ◌<◌, false, List, Some, get_or, length, sym, ap, subst, ◌∙◌, arith}
+use Rattle.std.proofs.Common.{◌≡◌, ◌↔◌, ℕ, ◌+◌, ◌<◌, false, List, Some, get_or, length, sym, subst, ◌∙◌, arith}
 use Rattle.std.specs.List.{Contains}
 use Rattle.std.proofs.lemmas.Option.{get_or_from_slice_get}
-use Rattle.clash.specs.declared.orders.Order.{Order}
 use Rattle.net_core.specs.Atoms.{atoms_in}
 use Rattle.net_core.specs.declared.atom.Atom.{Atom}
-use Rattle.tml_score.specs.Graph.{Adds, IsOfLink, link_atoms}
+use Rattle.tml_score.specs.Graph.{Adds, IsOfLink}
 use Rattle.tml_score.proofs.GraphLaws.{IsAt, OfFirst, adds_none, adds_same, adds_then, all_at, of_first_more}
 use Rattle.tml_score.proofs.graph.push_link.Goals as goal
 

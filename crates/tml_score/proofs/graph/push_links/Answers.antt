@@ -1,5 +1,4 @@
-use Rattle.std.proofs.Common.{◌≡◌, ◌↔◌, ℕ, ◌+◌, length, subst, arith}
-use Rattle.clash.specs.declared.orders.Order.{Order}
+use Rattle.std.proofs.Common.{◌≡◌, ℕ, ◌+◌, length, subst, arith}
 use Rattle.tml_score.specs.Graph.{Adds, IsOfLink, IsOfSome}
 use Rattle.tml_score.proofs.GraphLaws.{OfFirst, adds_none, adds_same, adds_then, of_first_more}
 use Rattle.tml_score.proofs.graph.push_links.Goals as goal

@@ -1,18 +1,11 @@
-use Rattle.std.proofs.Common.{◌≡◌, ◌+◌, ◌<◌, ℕ, Bool, true, false, List, Some, get_or, length, sym, subst, ◌∙◌, arith, inl, inr}
-use Rattle.std.specs.List.{Contains, slice_get}
+use Rattle.std.proofs.Common.{◌≡◌, ℕ, true, false, List, get_or, sym, subst, arith, inl, inr}
+use Rattle.std.specs.List.{Contains}
 use Rattle.std.proofs.lemmas.Bool.{cases_lt}
-use Rattle.std.proofs.lemmas.List.{get_or_default}
-use Rattle.std.proofs.lemmas.List.Elements.{All-contains, Contains-get_or}
+use Rattle.std.proofs.lemmas.List.Elements.{All-contains}
 use Rattle.std.proofs.lemmas.Option.{get_or_from_slice_get, slice_get_within}
 use Rattle.clash.proofs.LinkAtoms.{link_said}
 use Rattle.net_core.specs.Atoms.{Satisfies, atoms_in}
-use Rattle.net_core.specs.Clashes.{Others}
-use Rattle.net_core.specs.Fits.{FitsWith}
-use Rattle.net_core.specs.Relations.{Timeline}
-use Rattle.net_core.specs.Walks.{Kept}
 use Rattle.net_core.specs.declared.atom.Atom.{Atom}
-use Rattle.tml_score.specs.Graph.{link_atoms}
-use Rattle.tml_score.specs.Reducing.{DecidesLink}
 use Rattle.tml_score.specs.Search.{Decides, basis_of}
 use Rattle.tml_score.specs.declared.search.Asked.{Asked}
 use Rattle.tml_score.proofs.reducing.link_follows.Goals as goal

@@ -1,5 +1,4 @@
 use Rattle.std.proofs.Common.{◌≡◌, ◌+◌, ◌<◌, ℕ, Bool, true, false, List, length, replicate, slice_set, ap, sym, subst, ◌∙◌, arith, rules}
-use Rattle.net_core.specs.Nets.{points}
 use Rattle.tml_score.specs.Reached.{PlainReached}
 use Rattle.tml_score.specs.Reducing.{AreGoneOver, DecidesLink}
 use Rattle.tml_score.proofs.Redundancy.{gone_over_left, gone_over_stays, none_gone_over}
@@ -12,7 +11,10 @@ loop-link-init c =
     let all : c.in-Ok.keep.items ≡ replicate (length net.links) true = c.in-Ok.ensures.items_if_clones_equal (λ y e. e) ∙ ap (λ (n : ℕ). replicate n true) c.links.ensures.count in
     record {
       end = c.links-link-end.ensures.count;
-      room = ap (λ (r : PlainReached). r.room) c.in_ok-reached.ensures ∙ c.points.ensures.points ∙ c.requires.closure.size;
+      room = (
+        ap (λ (r : PlainReached). r.room) c.in_ok-new.ensures ∙ c.points.ensures.points ∙ c.requires.closure.size,
+        ap (λ (r : PlainReached). r.room) c.in_ok-new-2.ensures ∙ c.points-2.ensures.points ∙ c.requires.closure.size,
+      );
       so_far = subst (AreGoneOver net 0) (sym all) (none_gone_over net);
     }
 
@@ -26,7 +28,8 @@ link_follows-requires c =
         net = c.links.ensures.net;
         fits = c.requires.fits;
         closure = c.requires.closure;
-        graph = c.requires.graph;
+        graph = c.requires.orders;
+        turned = c.requires.turned;
         marks = so_far.size;
         same = so_far.same;
       };

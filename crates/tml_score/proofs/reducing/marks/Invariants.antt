@@ -7,6 +7,6 @@ use Rattle.tml_score.proofs.reducing.marks.Given as goal
 abbrev pub invariant-loop-link : goal.invariant-loop-link
 invariant-loop-link l = record {
   end : l.link-end ≡ length l.net.links;
-  room : l.reached.room ≡ points l.net;
+  room : (l.sides.onward.room ≡ points l.net) × (l.sides.back.room ≡ points l.net);
   so_far : AreGoneOver l.net l.link l.keep.items;
 }

@@ -1,4 +1,4 @@
-use Rattle.std.proofs.Common.{◌≡◌, ◌↔◌, ℕ, Bool, List, Result, Ok, Err, IfOk, length, sym, subst}
+use Rattle.std.proofs.Common.{◌↔◌, ℕ, Bool, List, Result, Ok, Err, IfOk, length, sym, subst}
 use Rattle.std.specs.List.{Contains}
 use Rattle.std.specs.List.Sorted.{IsStrictlyIncreasing}
 use Rattle.net_core.specs.Nets.{PlainNet}
@@ -17,4 +17,4 @@ marked_stay net keep (Err e) are rising exact = tt
 pub returns : goal.returns
 returns c =
     let net = c.args.net.now in
-    marked_stay net c.deref-2.result.now c.marked.result (subst (AreGoneOver net (length net.links)) (sym c.deref-2.ensures.value) c.in_ok-keep.ensures) c.marked.ensures.rising c.marked.ensures.exact
+    marked_stay net c.deref-3.result.now c.marked.result (subst (AreGoneOver net (length net.links)) (sym c.deref-3.ensures.value) c.in_ok-keep.ensures) c.marked.ensures.rising c.marked.ensures.exact

@@ -1,7 +1,6 @@
-use Rattle.std.proofs.Common.{◌≡◌, ◌<◌, ℕ, None, Option, Some, IsTrue, get_or, true, sym, subst, ◌∙◌, rules}
-use Rattle.std.proofs.lemmas.List.{get_or_default}
+use Rattle.std.proofs.Common.{◌≡◌, ℕ, Some, sym, subst, ◌∙◌}
 use Rattle.derive_rel.specs.Entailed.{TableEntails}
-use Rattle.tml_score.specs.Scoring.{EntailsBetween, partner_at}
+use Rattle.tml_score.specs.Scoring.{partner_at}
 use Rattle.tml_score.proofs.scoring.follows_between.Goals as goal
 
 pub returns-in-Some-Some : goal.returns-in-Some-Some

@@ -1,12 +1,10 @@
-use Rattle.std.proofs.Common.{◌≡◌, ◌↔◌, ◌+◌, ◌<◌, ◌≤◌, ℕ, Bool, true, false, List, Option, IsTrue, refl, length, get_or, count_by, take, sym, ap, subst, ◌∙◌, arith, rules}
-use Rattle.std.specs.List.{All, Contains}
+use Rattle.std.proofs.Common.{◌≡◌, ◌↔◌, ◌+◌, ◌<◌, ℕ, Bool, true, false, IsTrue, refl, length, get_or, count_by, take, sym, ap, subst, ◌∙◌, arith, rules}
 use Rattle.std.proofs.lemmas.List.{take_all}
 use Rattle.std.proofs.lemmas.List.Elements.{All-contains, All-get_or}
 use Rattle.std.proofs.lemmas.List.Sums.{count_by_more_no, count_by_more_yes}
 use Rattle.net_core.specs.Nets.{link_at}
 use Rattle.net_core.specs.declared.net.NetLink.{NetLink}
 use Rattle.tml_score.specs.Reduced.{IsReduced}
-use Rattle.tml_score.specs.Scores.{FollowsIn}
 use Rattle.tml_score.specs.Scoring.{ArePartners, EntailsBetween, annotation_of, table_of}
 use Rattle.tml_score.proofs.Counted.{both_placed, entails_follows, partners_within, some_test}
 use Rattle.tml_score.proofs.Rising.{few_rising}

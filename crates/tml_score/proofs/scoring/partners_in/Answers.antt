@@ -1,9 +1,7 @@
-use Rattle.std.proofs.Common.{◌≡◌, ◌+◌, ◌<◌, ◌++◌, ◌∷◌, [], ℕ, List, None, Option, Some, MatchOption, IfSome, IsNone, get_or, length, ap, sym, subst, ◌∙◌, arith, inl, inr, rules, length-append}
+use Rattle.std.proofs.Common.{◌≡◌, ◌+◌, ◌++◌, ◌∷◌, [], ℕ, List, None, Option, length, ap, sym, subst, ◌∙◌, arith, inl, inr, rules}
 use Rattle.std.proofs.lemmas.Bool.{cases_lt}
 use Rattle.std.proofs.lemmas.List.{get_or_append_left, get_or_push, length_push}
-use Rattle.tml_refs.specs.Documents.{IsNamed, PlainInterval, name_of}
 use Rattle.tml_refs.specs.View.{plain_interval}
-use Rattle.tml_score.specs.Scores.{HaveOneName}
 use Rattle.tml_score.specs.Scoring.{IsPartner, partner_at}
 use Rattle.tml_score.proofs.Counted.{partner_found}
 use Rattle.tml_score.proofs.scoring.partners_in.Goals as goal

@@ -1,6 +1,5 @@
-use Rattle.std.proofs.Common.{◌≡◌, ◌<◌, ◌++◌, ◌∷◌, [], List, length, slice_set, ap, sym, subst, ◌∙◌, arith, rules}
+use Rattle.std.proofs.Common.{◌≡◌, ◌<◌, ◌++◌, ◌∷◌, [], List, length, ap, subst, arith, rules}
 use Rattle.std.specs.List.{Contains}
-use Rattle.tml_score.specs.Reached.{ArePlaced}
 use Rattle.tml_score.proofs.ReachedLaws.{few_placed, placed_push}
 use Rattle.tml_score.proofs.reached.Reached.add.Goals as goal
 

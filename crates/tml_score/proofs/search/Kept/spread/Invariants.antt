@@ -1,4 +1,4 @@
-use Rattle.std.proofs.Common.{◌≡◌, ℕ, ◌<◌, ◌≤◌, get_or, length}
+use Rattle.std.proofs.Common.{ℕ, ◌<◌, get_or}
 use Rattle.clash.specs.declared.orders.Order.{Order}
 use Rattle.tml_score.specs.Search.{Extends, IsPassed, IsSearch, IsWay, basis_of}
 use Rattle.tml_score.proofs.search.Kept.spread.Given as goal

@@ -1,5 +1,5 @@
-use Rattle.std.proofs.Common.{◌<◌, ap, arith, rules}
-use Rattle.tml_score.specs.Search.{IsWay, basis_of}
+use Rattle.std.proofs.Common.{arith, rules}
+use Rattle.tml_score.specs.Search.{basis_of}
 use Rattle.tml_score.proofs.Searching.{asked_range, way_range}
 use Rattle.tml_score.proofs.Spreading.{added, decided, extends_none, passed_there}
 use Rattle.tml_score.proofs.search.Kept.take.Goals as goal

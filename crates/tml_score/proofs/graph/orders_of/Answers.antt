@@ -1,11 +1,10 @@
-use Rattle.std.proofs.Common.{◌≡◌, List, length, sym, ap, subst, ◌∙◌, rules}
+use Rattle.std.proofs.Common.{List, subst, rules}
 use Rattle.std.proofs.lemmas.List.Sorted.{IsNonDecreasingBy-from_sort_by_key}
-use Rattle.clash.specs.Orders.{AreFixed}
 use Rattle.clash.specs.declared.orders.Order.{Order}
 use Rattle.net_core.specs.declared.atom.Atom.{Atom}
-use Rattle.tml_score.specs.Graph.{Adds, IsFixed, IsOfSome}
+use Rattle.tml_score.specs.Graph.{Adds, IsFixed}
 use Rattle.tml_score.proofs.GraphLaws.{all_sorted}
-use Rattle.tml_score.proofs.graph.graph_of.Goals as goal
+use Rattle.tml_score.proofs.graph.orders_of.Goals as goal
 
 pub returns : goal.returns
 returns c =

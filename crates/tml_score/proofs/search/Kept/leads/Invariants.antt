@@ -2,7 +2,7 @@ use Rattle.std.proofs.Common.{◌≡◌, ℕ, ◌-◌, ◌<◌, ◌≤◌, lengt
 use Rattle.std.specs.List.{Contains}
 use Rattle.clash.specs.declared.orders.Order.{Order}
 use Rattle.tml_score.specs.Search.{IsPassed, IsSearch, IsWay, basis_of}
-use Rattle.tml_score.proofs.search.Kept.follows.Given as goal
+use Rattle.tml_score.proofs.search.Kept.leads.Given as goal
 
 -- the points before this turn are gone over
 abbrev pub invariant-loop-turn : goal.invariant-loop-turn

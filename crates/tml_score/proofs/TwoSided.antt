@@ -1,0 +1,82 @@
+-- The sides of a search from two points.
+use Rattle.std.proofs.Common.{◌≡◌, inl, inr, ℕ, ◌+◌, ◌<◌, false, List, [], ◌∷◌, ◌++◌, length, get_or, slice_index, Ok, sym, ap, subst, ◌∙◌, arith}
+use Rattle.std.specs.List.{All, Contains}
+use Rattle.std.proofs.lemmas.Bool.{cases_lt}
+use Rattle.std.proofs.lemmas.List.{get_or_default}
+use Rattle.std.proofs.lemmas.List.Elements.{All-cons, All-nil, All-push, Contains-push_cases}
+use Rattle.clash.specs.declared.orders.Order.{Order}
+use Rattle.tml_score.specs.Meeting.{AreApart, IsPassedAt, IsSide, Visits}
+use Rattle.tml_score.specs.Reached.{PlainReached}
+use Rattle.tml_score.specs.Search.{Basis, Extends, IsWay}
+use Rattle.tml_score.specs.declared.search.Asked.{Asked}
+use Rattle.net_core.specs.Nets.{points}
+use Rattle.tml_score.proofs.Rising.{first_or_rest}
+use Rattle.tml_score.proofs.Spreading.{extends_none, same_point, still_there}
+
+module _ (basis : Basis) (asked : Asked) where
+  -- what is passed stays so
+  pub passed_at_more : (old new : PlainReached) → Extends old new → (x : ℕ) → IsPassedAt basis asked old.points x → IsPassedAt basis asked new.points x
+  passed_at_more old new more x passed = elim passed [ inl there ↦ inl (still_there old new more x there) | inr not ↦ inr not ]
+
+  -- a side after a point was visited
+  pub side_visited : (P : ℕ → Type 0) (x : ℕ) (other old new : PlainReached) → P x → IsSide basis P old → AreApart old other → Visits basis asked x other old new (Ok false)
+      → IsSide basis P new × Extends old new × AreApart new other × IsPassedAt basis asked new.points x
+  side_visited P x other old new here side apart visits = elim visits.0 [
+    | inl same ↦ subst (λ (r : PlainReached). IsSide basis P r × Extends old r × AreApart r other × IsPassedAt basis asked r.points x) (sym same)
+        (side, extends_none old, apart, subst (λ (r : PlainReached). IsPassedAt basis asked r.points x) same visits.1)
+    | inr added ↦
+        let points_are : new.points ≡ old.points ++ x ∷ [] = ap (λ (r : PlainReached). r.points) added in (
+          record {
+            room = ap (λ (r : PlainReached). r.room) added ∙ side.room;
+            all = subst (All P) (sym points_are) (All-push P old.points x side.all here);
+          },
+          (x ∷ [], points_are),
+          λ y own there. elim (Contains-push_cases old.points x y (subst (λ (xs : List ℕ). Contains xs y) points_are own)) [
+            | inl was ↦ apart y was there
+            | inr is ↦ visits.2 (subst (Contains other.points) (sym is) there)
+          ],
+          visits.1,
+        )
+  ]
+
+  -- one way more of a list is passed
+  pub passed_at_one : (far : Order → ℕ) (items : List Order) (i : ℕ) (d : Order) (old new : PlainReached) → i < length items → Extends old new
+      → ((k : ℕ) (e : Order) → k < i → IsWay basis asked (get_or items k e) → IsPassedAt basis asked old.points (far (get_or items k e)))
+      → (IsWay basis asked (get_or items i d) → IsPassedAt basis asked new.points (far (get_or items i d)))
+      → (k : ℕ) (e : Order) → k < i + 1 → IsWay basis asked (get_or items k e) → IsPassedAt basis asked new.points (far (get_or items k e))
+  passed_at_one far items i d old new lt more before here k e less way = elim (cases_lt k i) [
+    | inl earlier ↦ passed_at_more old new more (far (get_or items k e)) (before k e earlier way)
+    | inr last ↦
+        let same : i ≡ k = omega (arith, last, less) in
+        let is : get_or items i d ≡ get_or items k e = ap (λ (j : ℕ). get_or items j d) same ∙ get_or_default items k d e (omega (arith, lt, same)) in
+        subst (λ (o : Order). IsPassedAt basis asked new.points (far o)) is (here (subst (IsWay basis asked) (sym is) way))
+  ]
+
+  -- a side of one point
+  pub one_point_side : (P : ℕ → Type 0) (x : ℕ) (old new : PlainReached) → P x → old.room ≡ points basis.net → new ≡ record { points = x ∷ []; room = old.room } → IsSide basis P new
+  one_point_side P x old new here room same = record {
+    room = ap (λ (r : PlainReached). r.room) same ∙ room;
+    all = subst (All P) (sym (ap (λ (r : PlainReached). r.points) same)) (All-cons P x [] here (All-nil P));
+  }
+
+  -- the points of one turn more are passed
+  pub passed_turn : (near far : Order → ℕ) (turn : ℕ) (old new : PlainReached) → turn < length old.points → Extends old new
+      → ((k : ℕ) → k < turn → (o : Order) → IsWay basis asked o → near o ≡ slice_index old.points k → IsPassedAt basis asked old.points (far o))
+      → ((o : Order) → IsWay basis asked o → near o ≡ slice_index old.points turn → IsPassedAt basis asked new.points (far o))
+      → (k : ℕ) → k < turn + 1 → (o : Order) → IsWay basis asked o → near o ≡ slice_index new.points k → IsPassedAt basis asked new.points (far o)
+  passed_turn near far turn old new lt more before here k less o way at = elim (cases_lt k turn) [
+    | inl earlier ↦ passed_at_more old new more (far o) (before k earlier o way (at ∙ same_point old new more k (omega (arith, earlier, lt))))
+    | inr last ↦
+        let same : k ≡ turn = omega (arith, last, less) in
+        here o way (at ∙ ap (slice_index new.points) same ∙ same_point old new more turn lt)
+  ]
+
+-- sides of one point each
+pub one_point_apart : (x y : ℕ) (own other : PlainReached) → (x ≡ y → ⊥) → own.points ≡ x ∷ [] → other.points ≡ y ∷ [] → AreApart own other
+one_point_apart x y own other ne mine theirs = λ z here there.
+    let one = only x z (subst (λ (xs : List ℕ). Contains xs z) mine here) in
+    let two = only y z (subst (λ (xs : List ℕ). Contains xs z) theirs there) in
+    ne (one ∙ sym two)
+  where
+    only : (a b : ℕ) → Contains (a ∷ []) b → a ≡ b
+    only a b h = elim (first_or_rest a [] b h) [ inl e ↦ e | inr none ↦ let lt = none.1 in absurd (omega arith) ]

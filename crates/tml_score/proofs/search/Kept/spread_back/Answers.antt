@@ -1,0 +1,129 @@
+use Rattle.std.proofs.Common.{◌≡◌, ◌+◌, ◌<◌, Ok, ℕ, Bool, true, false, None, get_or, slice_index, sym, subst, ◌∙◌, arith}
+use Rattle.std.specs.List.{Contains}
+use Rattle.std.proofs.lemmas.List.Elements.{All-get_or, Contains-get_or}
+use Rattle.clash.specs.declared.orders.Order.{Order}
+use Rattle.tml_score.specs.Meeting.{AreApart, IsLedTo, IsPassedAt, IsSide, Visits}
+use Rattle.tml_score.specs.Reached.{PlainReached}
+use Rattle.tml_score.specs.Search.{Extends, IsWay, basis_of, remains}
+use Rattle.tml_score.proofs.Searching.{asked_range, way_range, goes_back}
+use Rattle.tml_score.proofs.Spreading.{extends_none, extends_then, marked_link}
+use Rattle.tml_score.proofs.TwoSided.{passed_at_one, side_visited}
+use Rattle.tml_score.proofs.search.Kept.spread_back.Goals as goal
+use Rattle.tml_score.proofs.search.Kept.spread_back.Goals.{else-remains-via-then-remains+in_ok-visit+else-branch, else-remains-via-else-remains}
+
+-- what is read past the end of the orders
+abbrev no_order : Order
+no_order = record { atom = record { from = 0; to = 0; strict = false }; link = None }
+
+-- the order of this turn is one of the graph, and leads to the point
+here : (c : goal.In-loop-order) → let o = get_or c.orders_to-order-items.result.now c.loop-order.order-index no_order in
+    Contains c.args.self.now.orders.now o × (o.atom.to ≡ c.point-point.result)
+here c =
+    let items = c.orders_to-order-items.result.now in
+    let o = get_or items c.loop-order.order-index no_order in
+    let both = (c.orders_to-order-items.ensures o).0 (Contains-get_or items c.loop-order.order-index no_order c.loop-order-test.true) in
+    ((c.requires.ready.turned.same o).0 both.0, both.1)
+
+pub remains-requires : goal.remains-requires
+remains-requires c =
+    let o = get_or c.orders_to-order-items.result.now c.loop-order.order-index no_order in
+    marked_link (basis_of c.args.self.now) c.args.asked c.requires.ready c.requires.asked o (here c).0
+
+pub visit-requires : goal.visit-requires
+visit-requires c =
+    let basis = basis_of c.args.self.now in
+    let items = c.orders_to-order-items.result.now in
+    let o = get_or items c.loop-order.order-index no_order in
+    let both = (c.orders_to-order-items.ensures o).0 (Contains-get_or items c.loop-order.order-index no_order c.loop-order-test.true) in
+    let way : IsWay basis c.args.asked o = ((c.requires.ready.turned.same o).0 both.0, sym c.if-remains.ensures) in
+    let range = way_range basis c.args.asked c.requires.ready c.requires.asked o way in
+    let own = asked_range basis c.args.asked c.requires.ready c.requires.asked in
+    let size = c.requires.ready.closure.size in
+    record {
+      first = omega (arith, own.0, size);
+      point = omega (arith, range.0, size);
+      own = c.loop-order.invariant.side.room ∙ sym size;
+      other = c.requires.onward ∙ sym size;
+    }
+
+pub loop-order-init : goal.loop-order-init
+loop-order-init c = record { side = c.requires.back; extends = extends_none c.args.back.now; apart = c.requires.apart; passed = λ k d lt. absurd (omega arith) }
+
+pub loop-order-preserved : goal.loop-order-preserved
+loop-order-preserved c =
+    let basis = basis_of c.args.self.now in
+    let asked = c.args.asked in
+    let P = IsLedTo basis asked in
+    let items = c.orders_to-order-items.result.now in
+    let i = c.loop-order.order-index in
+    let o = get_or items i no_order in
+    let old = c.args.back.now in
+    let mid = c.loop-order.back in
+    let other = c.args.onward.now in
+    let was = c.loop-order.invariant in
+    let both = (c.orders_to-order-items.ensures o).0 (Contains-get_or items i no_order c.loop-order-test.true) in
+    let at : o.atom.to ≡ slice_index old.points c.args.turn = both.1 ∙ c.point-point.ensures.point in
+    let point = All-get_or P old.points c.args.turn 0 c.requires.turn c.requires.back.all in
+    let close : (r : PlainReached) → Type 0 = λ r. record {
+      side : IsSide basis P r;
+      extends : Extends old r;
+      apart : AreApart r other;
+      passed : (k : ℕ) (d : Order) → k < i + 1 → IsWay basis asked (get_or items k d) → IsPassedAt basis asked r.points (get_or items k d).atom.from;
+    } in
+    elim c.else-remains.branch [
+      | else-remains-via-then-remains+in_ok-visit+else-branch w ↦
+          let next = w.visit.new.own in
+          let way : IsWay basis asked o = ((c.requires.ready.turned.same o).0 both.0, sym w.if-remains.ensures) in
+          let reaches : P o.atom.from = goes_back basis asked c.requires.ready c.requires.asked o way (subst P (sym at) point) in
+          let visits : Visits basis asked o.atom.from other mid next (Ok false) = subst (λ (b : Bool). Visits basis asked o.atom.from other mid next (Ok b)) w.if-branch.false w.in_ok-visit.ensures in
+          let now = side_visited basis asked P o.atom.from other mid next reaches was.side was.apart visits in
+          subst close (sym w.back-is) (record {
+            side = now.0;
+            extends = extends_then old mid next was.extends now.1;
+            apart = now.2;
+            passed = passed_at_one basis asked (λ x. x.atom.from) items i no_order mid next c.loop-order-test.true now.1 was.passed (λ _. now.3);
+          })
+      | else-remains-via-else-remains w ↦
+          subst close (sym w.back-is) (record {
+            side = was.side;
+            extends = was.extends;
+            apart = was.apart;
+            passed = passed_at_one basis asked (λ x. x.atom.from) items i no_order mid mid c.loop-order-test.true (extends_none mid) was.passed (λ way.
+                absurd (let stays = way.1 in let fails : false ≡ remains basis asked o = w.if-remains.ensures in let both : false ≡ true = fails ∙ stays in cc));
+          })
+    ]
+
+pub returns-then-branch : goal.returns-then-branch
+returns-then-branch c =
+    let basis = basis_of c.args.self.now in
+    let asked = c.args.asked in
+    let P = IsLedTo basis asked in
+    let items = c.orders_to-order-items.result.now in
+    let i = c.loop-order.order-index in
+    let o = get_or items i no_order in
+    let old = c.args.back.now in
+    let mid = c.loop-order.back in
+    let other = c.args.onward.now in
+    let next = c.visit.new.own in
+    let both = (c.orders_to-order-items.ensures o).0 (Contains-get_or items i no_order c.loop-order-test.true) in
+    let at : o.atom.to ≡ slice_index old.points c.args.turn = both.1 ∙ c.point-point.ensures.point in
+    let point = All-get_or P old.points c.args.turn 0 c.requires.turn c.requires.back.all in
+    let way : IsWay basis asked o = ((c.requires.ready.turned.same o).0 both.0, sym c.if-remains.ensures) in
+    let visits : Visits basis asked o.atom.from other mid next (Ok true) = subst (λ (b : Bool). Visits basis asked o.atom.from other mid next (Ok b)) c.if-branch.true c.in_ok-visit.ensures in (
+      subst (IsSide basis P) (sym visits.1) c.loop-order.invariant.side,
+      (o.atom.from, goes_back basis asked c.requires.ready c.requires.asked o way (subst P (sym at) point), visits.0),
+    )
+
+pub returns : goal.returns
+returns c =
+    let basis = basis_of c.args.self.now in
+    let asked = c.args.asked in
+    let items = c.orders_to-order-items.result.now in
+    let was = c.loop-order.invariant in (
+      was.side,
+      was.extends,
+      was.apart,
+      λ o way near.
+          let (k, lt, e) = (c.orders_to-order-items.ensures o).1 ((c.requires.ready.turned.same o).1 way.0, near ∙ sym c.point-point.ensures.point) in
+          subst (λ (x : Order). IsPassedAt basis asked c.loop-order.back.points x.atom.from) e (was.passed k o (omega (arith, lt, c.loop-order-test.false)) (subst (IsWay basis asked) (sym e) way)),
+    )

@@ -1,0 +1,47 @@
+-- A search from two points that are at one place.
+use Rattle.std.specs.Prelude.{◌≡◌, ◌≢◌, ◌⊎◌, ℕ, Bool, true, false, ⊤, List, [], ◌∷◌, ◌++◌, Result, Ok, Err}
+use Rattle.std.specs.List.{All, Contains}
+use Rattle.clash.specs.Walks.{AlwaysWith}
+use Rattle.clash.specs.declared.orders.Order.{Order}
+use Rattle.net_core.specs.Nets.{points}
+use Rattle.net_core.specs.declared.list.Memory.{Memory}
+use Rattle.order_closure.specs.Tables.{cell_at}
+use Rattle.order_closure.specs.declared.cell.Cell.TheVariants.{Free}
+use Rattle.tml_score.specs.Reached.{PlainReached}
+use Rattle.tml_score.specs.Search.{Basis, Extends, IsWay, Rest}
+use Rattle.tml_score.specs.declared.search.Asked.{Asked}
+
+-- the last point is no earlier than this one, by the other links
+abbrev pub IsLedTo : Basis → Asked → ℕ → Type 0
+IsLedTo basis asked x = AlwaysWith basis.net (Rest basis asked) false x asked.order.to
+
+-- the closure puts a point at one place with the first
+abbrev pub IsWith : Basis → Asked → ℕ → Type 0
+IsWith basis asked x = (cell_at basis.table x asked.order.from ≢ Free) × (cell_at basis.table asked.order.from x ≢ Free)
+
+-- One side of a search: points of which something is true.
+pub record IsSide (basis : Basis) (IsTrue : ℕ → Type 0) (reached : PlainReached) : Type 0 where
+  pub room : reached.room ≡ points basis.net
+  pub all : All IsTrue reached.points
+
+-- no point is on both sides
+abbrev pub AreApart : PlainReached → PlainReached → Type 0
+AreApart own other = (x : ℕ) → Contains own.points x → Contains other.points x → ⊥
+
+-- a point is on a side, or not at one place with the first
+abbrev pub IsPassedAt : Basis → Asked → List ℕ → ℕ → Type 0
+IsPassedAt basis asked xs x = Contains xs x ⊎ (IsWith basis asked x → ⊥)
+
+-- a point is on the other side, or it is passed and at most it was added
+abbrev pub Visits : Basis → Asked → ℕ → PlainReached → PlainReached → PlainReached → Result Bool Memory → Type 0
+Visits basis asked x other old new (Ok true) = Contains other.points x × (new ≡ old)
+Visits basis asked x other old new (Ok false) =
+    ((new ≡ old) ⊎ (new ≡ record { points = old.points ++ x ∷ []; room = old.room })) × IsPassedAt basis asked new.points x × (Contains other.points x → ⊥)
+Visits basis asked x other old new (Err e) = ⊤
+
+-- a side went on from a point: to the other side, or all ways from there are passed
+abbrev pub GoesFrom : Basis → Asked → (ℕ → Type 0) → (Order → ℕ) → (Order → ℕ) → ℕ → PlainReached → PlainReached → PlainReached → Result Bool Memory → Type 0
+GoesFrom basis asked IsTrue near far x other old new (Ok true) = IsSide basis IsTrue new × ((y : ℕ) × IsTrue y × Contains other.points y)
+GoesFrom basis asked IsTrue near far x other old new (Ok false) =
+    IsSide basis IsTrue new × Extends old new × AreApart new other × ((o : Order) → IsWay basis asked o → near o ≡ x → IsPassedAt basis asked new.points (far o))
+GoesFrom basis asked IsTrue near far x other old new (Err e) = ⊤
