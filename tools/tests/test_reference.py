@@ -19,7 +19,7 @@ from reference.evidence import Clash, Counterexample, Entailment, Timeline, read
 from reference.nets import Calendar, Link, Net, Span, Via, fits, keeps_calendar
 from reference.possible import least_of_each, possible_by_closure, possible_rows, possible_tried
 from reference.reduced import holding_in, reduced, reduced_by_walks, reduced_tried
-from reference.relations import BASE_RELATIONS, INVERSES, RELATIONS, Order, holds, orders_of
+from reference.relations import BASE_RELATIONS, RELATIONS, Order, holds, orders_of
 from reference.timelines import (
     all_timelines,
     closure,
@@ -295,10 +295,6 @@ class Points:
         """Takes that the first of two points is never after the second, or that it is before it."""
         self.known[pair] = strict or self.known.get(pair, False)
 
-    def clashes(self):
-        """Whether some point is before itself."""
-        return any(self.known[pair] for pair in self.known if pair[0] == pair[1])
-
     def follows(self, left, relation, right):
         """Whether a relation always holds between two intervals."""
         return all(self.known.get((order.first, order.second), None) in ({True} if order.strict else {True, False}) for order in orders_of(left, relation, right))
@@ -316,14 +312,15 @@ class ReducedLinks(unittest.TestCase):
         return kept
 
     def nets(self, count, name):
-        """Nets of up to five intervals with up to eight links, which some timeline fits."""
+        """Nets of up to five intervals, with some dates and links, all of which hold in a timeline that is drawn first."""
         for number in range(count):
             draw = random.Random(f"{name} {number}")
-            first = random_net(draw, draw.randint(1, 5))
-            more = tuple(Link(one.right, INVERSES.get(one.relation, one.relation), one.left) for one in first.links if draw.randrange(2))
-            net = Net(first.bounds, first.links + more)
-            if not Points(net, range(len(net.links))).clashes():
-                yield net
+            ranks = [sorted(draw.sample(range(7), 2)) for _ in range(draw.randint(1, 5))]
+            bounds = tuple(draw.choice([None, None, Bounds(True, *pair), Bounds(False, pair[0] - draw.randrange(2), pair[1])]) for pair in ranks)
+            links = []
+            for left, right in (draw.choices(range(len(ranks)), k=2) for _ in range(draw.randrange(9))):
+                links.append(Link(left, draw.choice([one for one in RELATIONS if holds(ranks[left], one, ranks[right])]), right))
+            yield Net(bounds, tuple(links))
 
     def test_links_that_are_kept(self):
         nets, left_out = 0, 0
@@ -333,8 +330,7 @@ class ReducedLinks(unittest.TestCase):
             if net.intervals() <= 3:
                 self.assertEqual(reduced_tried(net), kept, net)
             nets, left_out = nets + 1, left_out + len(net.links) - len(kept)
-        self.assertGreater(nets, 80)
-        self.assertGreater(left_out, 100)
+        self.assertGreater(left_out, nets)
 
     def test_what_is_kept_says_the_same_and_no_link_of_it_can_go(self):
         for net in self.nets(80, "law"):
