@@ -32,6 +32,7 @@ COMMANDS = (
     "tml-edit --tml TML --unwrap P good.xml",
     "tml-corpus check --lint --clashes --tml TML a.xml",
     "tml-corpus fix --tml TML a.xml",
+    "tml-corpus agree --links --tml TML good.xml good.xml",
 )
 """Commands that ask `tml`; of a.xml each has something to tell."""
 
@@ -144,21 +145,21 @@ class Programs(AttackTest):
                     ended = self.ended(command, tml=fake)
                     self.assertEqual(ended.status, 2, ended)
                     self.assertNotIn("Traceback", ended.error)
-                    self.assertRegex(ended.out + ended.error, r"tml (answered status \d+ to `(check|solve|spans)`|printed more than [\d,]+ bytes)")
+                    self.assertRegex(ended.out + ended.error, r"tml (answered status \d+ to `(check|solve|spans|reduce|score)`|printed more than [\d,]+ bytes)")
                     self.assertLess(ended.mebibytes, 400)
         self.assertFalse(os.path.exists(self.path("good.svg")))
 
     def test_replies_that_belong_to_another_question(self):
         rows = [
-            ("ask", "BEFORE", "redundant-links --tml TML --together a.xml"),
-            ("check", "solve", "redundant-links --tml TML a.xml"),
+            ("reduce", "relations", "redundant-links --tml TML a.xml"),
+            ("score", "reduce", "tml-corpus agree --tml TML a.xml a.xml"),
+            ("check", "solve", "tml-corpus check --lint --tml TML a.xml"),
             ("dates", "check", "tml-corpus timeline --tml TML a.xml -o good.svg"),
         ]
         self.write("a.xml", document('<TIMEX3 tid="a" type="SET"/><TIMEX3 tid="b" type="SET"/><TLINK timeID="a" relatedToTime="b" relType="AFTER"/>'))
         for question, other, command in rows:
             with self.subTest(question):
-                answer = f"ask - a {other} b" if question == "ask" else f"{other} -"
-                fake = self.fake(f'if [ $1 = {question} ]; then exec {TML} {answer}; fi\nexec {TML} "$@"')
+                fake = self.fake(f'if [ $1 = {question} ]; then exec {TML} {other} -; fi\nexec {TML} "$@"')
                 ended = self.ended(command, tml=fake)
                 self.assertEqual(ended.status, 2, ended)
                 self.assertIn(f"tml answered status 0 to `{question}`, and a text that does not go with it", ended.out)
