@@ -66,14 +66,14 @@ class Completion(CorpusTest):
         usage = subprocess.run([TML, "no", "such"], capture_output=True, text=True, check=False).stdout
         commands = [line.split()[1] for line in usage.splitlines()[1:]]
         self.assertEqual(self.offered("tml", ""), (commands, False))
-        self.assertEqual(self.offered("tml", "re"), (["relations", "renew"], False))
+        self.assertEqual(self.offered("tml", "re"), (["relations", "renew", "reduce"], False))
         self.assertEqual(self.offered("tml", "x"), ([], False))
         for line in usage.splitlines()[1:]:
             _, command, *names = line.split()
             for number, name in enumerate(names):
                 with self.subTest(command=command, name=name):
                     files = self.offered(TML, command, *["gone"] * number, "")[1]
-                    self.assertEqual(files, name in ("DOC", "EVIDENCE", "SECOND"))
+                    self.assertEqual(files, name in ("DOC", "EVIDENCE", "SECOND", "KEY"))
             self.assertEqual(self.offered(TML, command, *["gone"] * len(names), ""), ([], False))
 
     def test_relations(self):
@@ -113,6 +113,8 @@ class Completion(CorpusTest):
             (["check", "--format", ""], ["text", "json", "junit", "github"], False),
             (["check", "--format", "j"], ["json", "junit"], False),
             (["matrix", "--format", ""], ["text", "csv", "html"], False),
+            (["agree", "--format", ""], ["text", "json", "csv"], False),
+            (["agree", "first", ""], [], True),
             (["check", "--jobs", ""], [], False),
             (["check", ""], [], True),
             (["check", "--tml", ""], [], True),
