@@ -9,7 +9,7 @@ from __future__ import annotations
 from collections.abc import Collection, Iterator, Sequence
 from dataclasses import dataclass
 
-from .nets import Link, Net, interval_at
+from .nets import Link, Net, Ranks, interval_at
 from .references import Document
 from .relations import Order, holds, orders_of
 from .timelines import SMALL, all_links, by_first, closure, fitting, least_tried, orders_of_calendar, raised_with_marks
@@ -107,11 +107,16 @@ def links_between(document: Document, kept: Sequence[int], other: Document) -> I
             yield Link(left, link.relation, right)
 
 
+def is_true(link: Link, ranks: Ranks) -> bool:
+    """Whether a link holds by some ranks."""
+    return holds(interval_at(ranks, link.left), link.relation, interval_at(ranks, link.right))
+
+
 def holding_in(net: Net, links: Sequence[Link]) -> int:
     """How many of some links are true of all timelines that fit a net."""
     if net.intervals() <= SMALL:
-        timelines = fitting(net, all_links(net))
-        return sum(all(holds(interval_at(one, link.left), link.relation, interval_at(one, link.right)) for one in timelines) for link in links)
+        found = fitting(net, all_links(net))
+        return sum(all(is_true(link, ranks) for ranks in found) for link in links)
     table = closure(net)
     return sum(all(table.says(order) for order in orders_of(link.left, link.relation, link.right)) for link in links)
 

@@ -1,4 +1,4 @@
-"""`tml-corpus agree`: pairs of files, the counts and their fractions, the sums over a corpus, links that do not follow, and what is not counted."""
+"""`tml-corpus agree`: pairs of files, counts and fractions, sums over a corpus, links that do not follow, and what is not counted."""
 
 import csv
 import json
@@ -80,7 +80,8 @@ class Pairs(AgreeTest):
         self.write("a/name.txt", "no document")
         status, lines, error = self.run_it("agree", "a", "b")
         self.assertEqual((status, error), (1, ""))
-        self.assertEqual([line.split(":")[0] for line in lines], ["chain.xml", "x/one.xml", "b/x/other.tml", "micro", "macro", "2 pairs counted; not counted"])
+        begins = ["chain.xml", "x/one.xml", "b/x/other.tml", "micro", "macro", "2 pairs counted; not counted"]
+        self.assertEqual([line.split(":")[0] for line in lines], begins)
         self.assertEqual(lines[2], "b/x/other.tml: not counted: there is no a/x/other.tml")
         self.assertEqual(lines[3], "micro: precision 1 of 3 (0.333), recall 2 of 2 (1.000), F1 1/2 (0.500)")
         self.assertEqual(lines[4], "macro: precision 0.500 (of 2 pairs), recall 1.000 (of 2 pairs), F1 0.500 (of 2 pairs)")
@@ -89,7 +90,8 @@ class Pairs(AgreeTest):
 
     def test_what_is_not_counted(self):
         clash = three((1, "BEFORE", 2), (2, "BEFORE", 1))
-        for name, of_first, of_second in (("c1", clash, three()), ("c2", three(), clash), ("f1", "<TimeML>\n", clash), ("f2", clash, "<TimeML>\n<P>")):
+        faults = "<TimeML>\n", "<TimeML>\n<P>"
+        for name, of_first, of_second in (("c1", clash, three()), ("c2", three(), clash), ("f1", faults[0], clash), ("f2", clash, faults[1])):
             self.write(f"a/{name}.xml", of_first)
             self.write(f"b/{name}.xml", of_second)
         self.write("a/long.xml", three())
@@ -136,7 +138,8 @@ class Pairs(AgreeTest):
         os.mkdir(self.path("empty"))
         status, lines, _ = self.run_it("agree", "a", "empty")
         self.assertEqual(status, 2)
-        self.assertEqual(lines[:2], ["a/chain.xml: not counted: there is no empty/chain.xml", "empty: not counted: no file in this folder matches *.tml or *.xml"])
+        alone = "a/chain.xml: not counted: there is no empty/chain.xml"
+        self.assertEqual(lines[:2], [alone, "empty: not counted: no file in this folder matches *.tml or *.xml"])
 
     def test_wrappers_of_a_corpus(self):
         self.write("tml-corpus.toml", 'wrappers = ["chunk"]\n')
@@ -148,7 +151,8 @@ class Pairs(AgreeTest):
 
 class Links(AgreeTest):
     def test_links_in_words(self):
-        self.write("b/chain.xml", three((2, "BEFORE", 1), (2, "IBEFORE", 3)).replace('"i1"', '"j1"').replace("</TimeML>", event(1, "again").replace("e1", "e9") + "</TimeML>"))
+        other = three((2, "BEFORE", 1), (2, "IBEFORE", 3)).replace('"i1"', '"j1"')
+        self.write("b/chain.xml", other.replace("</TimeML>", event(1, "again").replace("e1", "e9") + "</TimeML>"))
         status, lines, _ = self.run_it("agree", "--links", "a", "b")
         self.assertEqual(
             lines[1:5],
@@ -167,7 +171,8 @@ class Links(AgreeTest):
         for number in range(12):
             for side in ("a", "b"):
                 ends = [draw.sample((1, 2, 3), 2) for _ in range(draw.randrange(1, 4))]
-                links = [(one, draw.choice(("BEFORE", "DURING", "IBEFORE", "OVERLAPS", "SIMULTANEOUS", "ENDED_BY")), other) for one, other in ends]
+                relations = ("BEFORE", "DURING", "IBEFORE", "OVERLAPS", "SIMULTANEOUS", "ENDED_BY")
+                links = [(one, draw.choice(relations), other) for one, other in ends]
                 self.write(f"{side}/{number}.xml", three(*links))
         _, lines, _ = self.run_it("agree", "--links", "--format", "json", "a", "b")
         for pair in map(json.loads, lines[:-1]):
@@ -183,11 +188,14 @@ class Links(AgreeTest):
         self.assertGreater(named, 10)
 
     def test_answers_that_do_not_belong_together(self):
-        for question, answer in (("relations", "true"), ("reduce", "echo reduced 0 of 3"), ("matrix", "echo i1 i2 BEFORE"), ("score", "echo precision 1 of 2; echo recall 1 of 1")):
+        scores = "echo precision 1 of 2; echo recall 1 of 1"
+        answers = (("relations", "true"), ("reduce", "echo reduced 0 of 3"), ("matrix", "echo i1 i2 BEFORE"), ("score", scores))
+        for question, answer in answers:
             with self.subTest(question):
                 self.write("fake", f'#!/bin/sh\nif [ $1 = {question} ]; then {answer}; exit; fi\nexec {os.path.abspath(TML)} "$@"\n')
                 os.chmod(self.path("fake"), stat.S_IRWXU)
-                self.write("b/chain.xml", three((1, "BEFORE", 3), (2, "ENDS", 3)) if question == "relations" else three((1, "BEFORE", 3)))
+                more = [(2, "ENDS", 3)] if question == "relations" else []
+                self.write("b/chain.xml", three((1, "BEFORE", 3), *more))
                 status, lines, _ = self.run_it("agree", "--links", "a", "b", tml=self.path("fake"))
                 self.assertEqual(status, 2, lines)
                 self.assertRegex(lines[0], r"^a/chain\.xml: not counted: the answers of tml to .* do not belong together$")
@@ -198,11 +206,14 @@ class Forms(AgreeTest):
         self.write("a/alone.xml", three())
         status, lines, error = self.run_it("agree", "--links", "--format", "json", "a", "b")
         pair, left_out, sums = map(json.loads, lines)
-        self.assertEqual((status, error), (1, "1 pair counted; not counted: 1 without a partner, 0 with a fault, 0 with a clash, 0 not judged\n"))
-        self.assertEqual([pair[name] for name in ("name", "path", "key", "matched", "documentLinks", "found", "keyLinks")], ["chain.xml", "a/chain.xml", "b/chain.xml", 0, 2, 1, 1])
+        sum_line = "1 pair counted; not counted: 1 without a partner, 0 with a fault, 0 with a clash, 0 not judged\n"
+        self.assertEqual((status, error), (1, sum_line))
+        names = ("name", "path", "key", "matched", "documentLinks", "found", "keyLinks")
+        self.assertEqual([pair[name] for name in names], ["chain.xml", "a/chain.xml", "b/chain.xml", 0, 2, 1, 1])
         self.assertEqual((pair["precision"], pair["recall"], pair["f1"]), (0.0, 1.0, 0.0))
         first = pair["links"][0]
-        self.assertEqual([first[name] for name in ("line", "column", "number", "left", "relation", "right", "missing")], [6, 1, 0, "i1", "BEFORE", "i2", []])
+        names = ("line", "column", "number", "left", "relation", "right", "missing")
+        self.assertEqual([first[name] for name in names], [6, 1, 0, "i1", "BEFORE", "i2", []])
         self.assertEqual(len(first["possible"]), 13)
         self.assertEqual(left_out, {"path": "a/alone.xml", "notCounted": "without a partner", "problem": "there is no b/alone.xml"})
         self.assertEqual((sums["pairs"], sums["micro"]["documentLinks"], sums["macro"]["recall"]), (1, 2, {"value": 1.0, "pairs": 1}))

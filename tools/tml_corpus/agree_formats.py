@@ -90,8 +90,8 @@ class Text:
 
     def sums(self, corpus: Corpus) -> str:
         """What comes after all pairs."""
-        macro = ", ".join(f"{name} {mean(corpus.macro(measure))}" for name, measure in zip(("precision", "recall", "F1"), MEASURES, strict=True))
-        return f"micro: {in_line(corpus.micro)}\nmacro: {macro}\n"
+        precision, recall, f1 = (mean(corpus.macro(measure)) for measure in MEASURES)
+        return f"micro: {in_line(corpus.micro)}\nmacro: precision {precision}, recall {recall}, F1 {f1}\n"
 
 
 class Json(Text):

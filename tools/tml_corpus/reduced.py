@@ -26,7 +26,8 @@ def read_reduced(reply: Reply, wording: Wording) -> Reduced:
     head, *lines = reply.lines()
     links = [wording.link(number) for number in range(len(wording.link_tags))]
     kept = {int(number): words for _, number, *words in lines}
-    if int(head[3]) != len(links) or any(words != [links[number].left, links[number].relation, links[number].right] for number, words in kept.items()):
+    as_written = {link.number: [link.left, link.relation, link.right] for link in links}
+    if int(head[3]) != len(links) or any(words != as_written[number] for number, words in kept.items()):
         raise CannotRun(APART)
     return Reduced([link for link in links if link.number in kept], [link for link in links if link.number not in kept])
 

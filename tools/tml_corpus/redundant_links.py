@@ -53,7 +53,8 @@ def ask_of_all(words: list[str]) -> int:
         for report in in_order(partial(look, program), found, max(options.jobs, 1), stop, lambda one: Report(one.path, problem=ENDED)):
             sys.stdout.write(report.text())
             links, follows, problems = links + report.links, follows + len(report.follows), problems + (report.problem is not None)
-        print(f"{counted(len(found), 'file')}, {problems} not asked about; links that follow from those that are kept: {follows} of {links}")
+        files = f"{counted(len(found), 'file')}, {problems} not asked about"
+        print(f"{files}; links that follow from those that are kept: {follows} of {links}")
         if stop.happened.is_set():
             print("interrupted: not all files were looked at")
             return Status.INTERRUPTED

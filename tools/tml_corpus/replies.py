@@ -36,8 +36,11 @@ DONE = {
 OF_KEY = b"key "
 """What stands before a line of `score` that is about its second document."""
 
+OF_NETS = ("solve", "relations", "matrix", "reduce", "score")
+"""The commands that answer a clash where no timeline fits."""
+
 OTHER = {
-    TmlStatus.CLASH: (("solve", "relations", "matrix", "reduce", "score"), re.compile(EVIDENCE + rb"clash \d+\ncite \d+\n(?s:.*)(?<=\n)end\n")),
+    TmlStatus.CLASH: (OF_NETS, re.compile(EVIDENCE + rb"clash \d+\ncite \d+\n(?s:.*)(?<=\n)end\n")),
     TmlStatus.READ_FAULT: (None, re.compile(rb"read fault\n")),
     TmlStatus.NO_MEMORY: (None, re.compile(rb"")),
     TmlStatus.EVIDENCE_FAULT: (("verify",), re.compile(rb"evidence (?:line \d+|claim \d+ part \d+ [ \w]+)\n")),

@@ -4,7 +4,7 @@ from __future__ import annotations
 
 import math
 from collections.abc import Iterable
-from dataclasses import dataclass, field
+from dataclasses import astuple, dataclass, field
 from fractions import Fraction
 
 from .program import Reply
@@ -22,9 +22,7 @@ class Scores:
     key_links: int = 0
 
     def __add__(self, other: Scores) -> Scores:
-        return Scores(
-            self.matched + other.matched, self.document_links + other.document_links, self.found + other.found, self.key_links + other.key_links
-        )
+        return Scores(*(one + another for one, another in zip(astuple(self), astuple(other), strict=True)))
 
     @property
     def precision(self) -> Fraction | None:
