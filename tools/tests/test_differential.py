@@ -373,7 +373,7 @@ class Runs(unittest.TestCase):
     def test_lies_about_links_are_found(self) -> None:
         for command, lie in (("reduce", "s/^reduced [1-9]/reduced 0/"), ("score", "s/^recall [1-9]/recall 0/")):
             program = self.lying(f'if [ "$1" = {command} ]; then "$T" "$@" > out; S=$?; sed "{lie}" out; exit $S; fi')
-            status, said = self.differential("--processes", "--count", "320", "--small", "0", "2", "1", tml=program)
+            status, said = self.differential("--processes", "--count", "100", "--small", "0", "2", "1", tml=program)
             self.assertEqual(status, 1, said)
             self.assertRegex(said, r"difference \((scored|agreeing|right)\)")
 
