@@ -10,11 +10,12 @@ from random import Random
 from differential_testing.cases import DOCUMENT_LIMIT, EVIDENCE_LIMIT, STANDARD_INPUT, Case
 from differential_testing.chances import chance
 from differential_testing.devices import draw_memory, draw_real, with_memory
-from differential_testing.documents import draw_document, draw_pair
+from differential_testing.documents import document_of, draw_document, draw_pair
 from differential_testing.evidence import draw_claims, draw_damaged, draw_invented, older_text
 from differential_testing.faulty import draw_faulty
 from differential_testing.hostile import draw_hostile
 from differential_testing.mutated import draw_mutated, draw_noise
+from differential_testing.nets import Net, draw_net, draw_other_links
 from differential_testing.words import DOCUMENT, EVIDENCE, KEY, SECOND, draw_ask, draw_question, draw_words
 
 
@@ -67,6 +68,15 @@ def draw_mutation(random: Random) -> Case:
     return redirected(random, Case("mutated", (command, DOCUMENT), {DOCUMENT: document}))
 
 
+def draw_reducing(random: Random) -> Case:
+    """A question to `reduce` about a document of which many links follow from others."""
+    net = draw_net(random)
+    links = [*net.links, *draw_other_links(random, net).links]
+    random.shuffle(links)
+    document = document_of(random, Net(net.times, tuple(links), net.hidden))
+    return redirected(random, Case("reducing", (b"reduce", DOCUMENT), {DOCUMENT: document}))
+
+
 def draw_scored(random: Random) -> Case:
     """A question to `score`: two documents whose links mostly have something in common, of which one may have a fault, or not be there."""
     documents = list(draw_pair(random))
@@ -111,6 +121,7 @@ SUBJECTS: Sequence[tuple[float, Callable[[Random], Case]]] = (
     (10, draw_canonical),
     (25, draw_wrong),
     (20, draw_mutation),
+    (6, draw_reducing),
     (10, draw_scored),
     (6, draw_hard),
     (6, draw_worded),

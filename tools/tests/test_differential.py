@@ -330,6 +330,12 @@ class Runs(unittest.TestCase):
         status, said = self.differential("--evidence", "--count", "100", "2", "8")
         self.assertEqual(status, 0, said)
 
+    @needs_score
+    def test_links_without_a_difference(self) -> None:
+        status, said = self.differential("--links", "--count", "100", "2", "9")
+        self.assertEqual(status, 0, said)
+        self.assertRegex(said, r"(?m)^reducing \d+; scored \d+$")
+
     def test_a_lie_about_a_fault_is_found_and_made_small(self) -> None:
         lie = self.lying('if [ "$1" = check ]; then "$T" "$@" > out; S=$?; sed "s/^fault [4-9] /fault 3 /" out; exit $S; fi')
         status, said = self.differential("--processes", "--count", "100", "--small", "1", "2", "1", tml=lie)
@@ -373,9 +379,9 @@ class Runs(unittest.TestCase):
     def test_lies_about_links_are_found(self) -> None:
         for command, lie in (("reduce", "s/^reduced [1-9]/reduced 0/"), ("score", "s/^recall [1-9]/recall 0/")):
             program = self.lying(f'if [ "$1" = {command} ]; then "$T" "$@" > out; S=$?; sed "{lie}" out; exit $S; fi')
-            status, said = self.differential("--processes", "--count", "100", "--small", "0", "2", "1", tml=program)
+            status, said = self.differential("--processes", "--links", "--count", "100", "--small", "0", "2", "1", tml=program)
             self.assertEqual(status, 1, said)
-            self.assertRegex(said, r"difference \((scored|agreeing|right)\)")
+            self.assertRegex(said, r"difference \((scored|reducing)\)")
 
     def test_tables_and_processes_agree(self) -> None:
         if not os.access(rows_path(), os.X_OK):
