@@ -79,7 +79,7 @@ _tml_corpus() {
         timeline) options+=(--output -o --touching --config --tml) ;;
         matrix) options+=(--format --touching --config --tml) ;;
         open) options+=(--limit --pairs --touching --config --tml --jobs) ;;
-        agree) options+=(--links --format --glob --config --tml --jobs --cluster) ;;
+        agree) options+=(--links --format --touching --glob --config --tml --jobs --cluster) ;;
     esac
     case ${COMP_WORDS[COMP_CWORD - 1]}:$COMP_CWORD:${COMP_WORDS[COMP_CWORD]} in
         *:1:*) _tml_offer check fix tags clashes timeline matrix open agree --help ;;

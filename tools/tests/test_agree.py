@@ -14,7 +14,7 @@ from functools import partial
 from corpus import TML, CorpusTest, document, needs_score
 from test_timeline import event, link
 
-from tml_corpus.agree import compare, sides_of
+from tml_corpus.agree import Wanted, compare, sides_of
 from tml_corpus.batch import do_batch, read, written
 from tml_corpus.files import Found
 from tml_corpus.program import Program
@@ -114,6 +114,27 @@ class Pairs(AgreeTest):
         )
         self.assertEqual(lines[6], "a/pipe.xml: not counted: is not a regular file")
         self.assertEqual(lines[-1], "1 pair counted; not counted: 0 without a partner, 2 with a fault, 2 with a clash, 2 not judged")
+
+    def test_dates_that_touch(self):
+        days = "".join(f'<TIMEX3 tid="t{day}" type="DATE" value="1998-01-0{day}"/>' for day in (1, 2, 3))
+        touching = document(days + '<TLINK timeID="t1" relatedToTime="t2" relType="BEFORE"/>' + event(1, "x") + link(1, "BEFORE", 1))
+        touching = touching.replace('eventInstanceID="i1" relatedToEventInstance="i1"', 'eventInstanceID="i1" relatedToTime="t1"')
+        self.write("a/chain.xml", touching)
+        self.write("b/chain.xml", document(days + event(1, "x")))
+        self.assertEqual(self.run_it("agree", "a", "b")[0], 1)
+        status, lines, error = self.run_it("agree", "--touching", "--links", "a", "b")
+        self.assertEqual((status, error), (0, ""))
+        place = touching.splitlines()[1].index("<TLINK") + 1
+        reading = "read as IBEFORE: 1998-01-01 ends exactly where 1998-01-02 begins, and BEFORE asks for a gap"
+        self.assertEqual(lines[0], f"a/chain.xml:2:{place}: note: {reading}")
+        self.assertEqual(lines[1], "chain.xml: precision 0 of 1 (0.000), recall 0 of 0 (none), F1 none")
+        second = touching.splitlines()[-2].index("<TLINK") + 1
+        self.assertTrue(lines[2].startswith(f"a/chain.xml:{len(touching.splitlines()) - 1}:{second}: does not follow in b/chain.xml"), lines[2])
+        _, lines, _ = self.run_it("agree", "--touching", "--format", "json", "b", "a")
+        self.assertTrue(json.loads(lines[0])["readTouching"])
+        self.write("b/chain.xml", three((1, "BEFORE", 1)))
+        _, lines, _ = self.run_it("agree", "--touching", "a", "b")
+        self.assertEqual(lines[0], "b/chain.xml: not counted: no timeline fits it: see tml-corpus clashes")
 
     def test_documents_without_links(self):
         self.write("a/none.xml", three())
@@ -246,7 +267,7 @@ class Elsewhere(AgreeTest):
             sides = sides_of("a", "b")
         finally:
             os.chdir(here)
-        work = partial(compare, Program(os.path.abspath(TML)), sides, with_links=True)
+        work = partial(compare, Program(os.path.abspath(TML)), sides, wanted=Wanted(links=True))
         [report] = read(do_batch(written((work, [Found("a/chain.xml", None, self.folder)]))))
         self.assertEqual((report.name, report.key_path, report.scores), ("chain.xml", "b/chain.xml", Scores(0, 2, 1, 1)))
         self.assertEqual(len(report.disagreements), 2)

@@ -6,8 +6,9 @@ import os
 from collections.abc import Iterator
 from dataclasses import dataclass, field
 
-from .disagreements import Disagreement, links_that_do_not_follow
+from .disagreements import Disagreement, Side, links_that_do_not_follow
 from .files import CannotRead, Found, find_files, read_document
+from .fitting import Fitting, fitting
 from .program import ACCEPTED, CLASH, FAULT, CannotRun, Program, Reply
 from .reduced import problem_of
 from .replies import OF_KEY
@@ -60,6 +61,18 @@ def beside(path: str, folder: str, other: str) -> str:
     return os.path.join(other, os.path.relpath(path, folder))
 
 
+@dataclass(frozen=True)
+class Wanted:
+    """What is asked besides the scores: the links that do not follow; and whether links between dates that touch are read so."""
+
+    links: bool = False
+    touching: bool = False
+
+
+Documents = tuple[bytes, bytes]
+"""A document and its key."""
+
+
 @dataclass
 class PairReport:
     """What became of a pair: the scores and the links that do not follow in the other document, or why it is not counted."""
@@ -70,6 +83,8 @@ class PairReport:
     scores: Scores | None = None
     not_counted: NotCounted | None = None
     disagreements: list[Disagreement] = field(default_factory=list)
+    readings: str = ""
+    """The lines on links between dates that touch, where these are read as the relation that holds."""
 
 
 @dataclass(frozen=True)
@@ -101,7 +116,7 @@ def alone(found: list[Found], others: list[Found], folder: str, other_folder: st
             yield NotCounted(one.path, NO_PARTNER, f"there is no {partner}")
 
 
-def compare(program: Program, sides: Sides, found: Found, with_links: bool) -> PairReport:
+def compare(program: Program, sides: Sides, found: Found, wanted: Wanted) -> PairReport:
     """Asks `tml score` about a pair. Whatever goes wrong with it is reported of it and ends nothing else."""
     report = PairReport(sides.name_of(found.path), found.path, sides.key_of(found.path))
     path = report.path
@@ -111,7 +126,7 @@ def compare(program: Program, sides: Sides, found: Found, with_links: bool) -> P
         key = read_document(os.path.join(found.base, path))
         path = report.path
         with room_for(max(document, key, key=len)):
-            compare_documents(program, report, document, key, with_links)
+            compare_documents(program, report, (document, key), wanted)
     except (CannotRead, CannotRun) as problem:
         report.not_counted = NotCounted(path, NOT_JUDGED, str(problem))
     except MemoryError:
@@ -119,20 +134,35 @@ def compare(program: Program, sides: Sides, found: Found, with_links: bool) -> P
     return report
 
 
-def compare_documents(program: Program, report: PairReport, document: bytes, key: bytes, with_links: bool) -> None:
+def compare_documents(program: Program, report: PairReport, written: Documents, wanted: Wanted) -> None:
     """The same of two documents in memory."""
-    reply = program.score(document, key)
-    report.not_counted = why_not_counted(report, reply, document, key)
+    documents, reply = written, program.score(*written)
+    if wanted.touching and reply.status == CLASH:
+        documents = read_as_touching(program, report, written)
+        reply = program.score(*documents)
+    report.not_counted = why_not_counted(report, reply, *documents)
     if report.not_counted is not None:
         return
     scores = read_scores(reply)
-    if with_links and (scores.matched < scores.document_links or scores.found < scores.key_links):
-        of_document, of_key = (report.path, Wording(program, document)), (report.key_path, Wording(program, key))
+    if wanted.links and (scores.matched < scores.document_links or scores.found < scores.key_links):
+        pairs = zip((report.path, report.key_path), documents, written, strict=True)
+        of_document, of_key = (Side(path, Wording(program, asked), Wording(program, file)) for path, asked, file in pairs)
         report.disagreements = [
             *links_that_do_not_follow(program, of_document, of_key, scores.document_links - scores.matched),
             *links_that_do_not_follow(program, of_key, of_document, scores.key_links - scores.found),
         ]
     report.scores = scores
+
+
+def read_as_touching(program: Program, report: PairReport, documents: Documents) -> Documents:
+    """The documents with links between dates that touch read as the relation that holds, where no timeline fits without that."""
+    found = []
+    for path, document in zip((report.path, report.key_path), documents, strict=True):
+        fits = fitting(program, path, document, "counted", True)
+        if isinstance(fits, Fitting):
+            report.readings += fits.text
+        found.append(fits.document if isinstance(fits, Fitting) else document)
+    return found[0], found[1]
 
 
 def why_not_counted(report: PairReport, reply: Reply, document: bytes, key: bytes) -> NotCounted | None:

@@ -81,8 +81,8 @@ class Text:
         if report.scores is None:
             return ""
         lines = [f"{shown(report.name)}: {in_line(report.scores)}"]
-        lines += [f"{located(one.path, one.link.place)}: {shown(one.said())}" for one in report.disagreements]
-        return "".join(line + "\n" for line in lines)
+        lines += [f"{located(one.path, one.place)}: {shown(one.said())}" for one in report.disagreements]
+        return report.readings + "".join(line + "\n" for line in lines)
 
     def not_counted(self, one: NotCounted) -> str:
         """What is printed of a file that is not counted."""
@@ -104,8 +104,9 @@ class Json(Text):
             return self.not_counted(report.not_counted)
         if report.scores is None:
             return ""
+        pair = {"name": report.name, "path": report.path, "key": report.key_path, "readTouching": bool(report.readings)}
         links = [disagreement_object(one) for one in report.disagreements]
-        return printable({"name": report.name, "path": report.path, "key": report.key_path, **scores_object(report.scores), "links": links})
+        return printable({**pair, **scores_object(report.scores), "links": links})
 
     def not_counted(self, one: NotCounted) -> str:
         return printable({"path": one.path, "notCounted": one.reason, "problem": one.text})
@@ -131,7 +132,7 @@ def disagreement_object(one: Disagreement) -> dict[str, object]:
     """A link that does not follow as JSON has it."""
     link = {"number": one.link.number, "left": one.link.left, "relation": one.link.relation, "right": one.link.right}
     there = {"other": one.other, "missing": one.missing, "possible": one.possible}
-    return {"path": one.path, **place_object(one.link.place), **link, "words": one.words, **there}
+    return {"path": one.path, **place_object(one.place), **link, "words": one.words, **there}
 
 
 class CommaSeparated(Text):

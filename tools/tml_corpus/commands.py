@@ -264,6 +264,7 @@ def agree_words(commands: argparse._SubParsersAction[Parser]) -> Parser:
     words.add_argument("key", metavar="KEYDIR", help="the folder with the key, or the file")
     words.add_argument("--links", action="store_true", help="name the links of the one that do not follow in the other, with their places")
     words.add_argument("--format", choices=AGREE_FORMS, default="text", help="the form of the output")
+    words.add_argument("--touching", action="store_true", help=TOUCHING)
     words.set_defaults(command=agree_command)
     return words
 
@@ -487,23 +488,24 @@ def open_command(options: argparse.Namespace, stop: Interruption) -> int:
 
 def agree_command(options: argparse.Namespace, stop: Interruption) -> int:
     """`tml-corpus agree`."""
-    from .agree import NOT_JUDGED, NotCounted, PairReport, compare, find_pairs, sides_of
+    from . import agree
     from .agree_formats import FORMS, Summary
 
     if options.links and options.format == "csv":
         raise CannotRun("--links goes with --format text or json")
-    sides, form, summary = sides_of(options.document, options.key), FORMS[options.format](), Summary()
-    pairs = find_pairs(sides, patterns_of(options))
+    sides, form, summary = agree.sides_of(options.document, options.key), FORMS[options.format](), Summary()
+    pairs, wanted = agree.find_pairs(sides, patterns_of(options)), agree.Wanted(options.links, options.touching)
 
-    def reported(report: PairReport) -> str:
+    def reported(report: agree.PairReport) -> str:
         summary.add(report)
         return form.pair(report)
 
-    def lost(one: Found) -> PairReport:
-        return PairReport(sides.name_of(one.path), one.path, sides.key_of(one.path), not_counted=NotCounted(one.path, NOT_JUDGED, ENDED))
+    def lost(one: Found) -> agree.PairReport:
+        ended = agree.NotCounted(one.path, agree.NOT_JUDGED, ENDED)
+        return agree.PairReport(sides.name_of(one.path), one.path, sides.key_of(one.path), not_counted=ended)
 
     sys.stdout.write(form.start())
-    each(options, stop, pairs.found, partial(compare, options.program, sides, with_links=options.links), lost, reported)
+    each(options, stop, pairs.found, partial(agree.compare, options.program, sides, wanted=wanted), lost, reported)
     for one in pairs.not_counted:
         summary.leave_out(one)
         sys.stdout.write(form.not_counted(one))

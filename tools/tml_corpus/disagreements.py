@@ -12,13 +12,21 @@ from dataclasses import dataclass
 from .lint import INVERSES
 from .matrix import matrix_of
 from .matrix_formats import in_words
+from .places import Place
 from .program import ACCEPTED, CannotRun, Program
 from .reduced import ask_reduced
 from .words import Link, Wording
 
 APART = "the answers of tml to `score`, `reduce` and `relations` do not belong together"
-Side = tuple[str, Wording]
-"""The path of a document, and its words."""
+
+
+@dataclass(frozen=True)
+class Side:
+    """A document of a pair: its path, its words, and those of the file, where links between dates that touch are read otherwise."""
+
+    path: str
+    wording: Wording
+    written: Wording
 
 
 @dataclass(frozen=True)
@@ -26,6 +34,7 @@ class Disagreement:
     """A link that does not follow in the other document: where its tag stands, its words, and what there is in the other one."""
 
     path: str
+    place: Place
     other: str
     link: Link
     words: str
@@ -49,11 +58,10 @@ def links_that_do_not_follow(program: Program, side: Side, other: Side, wanted: 
     """The links of a document that are kept and do not follow in the other one; there are so many of them by `tml score`."""
     if not wanted:
         return []
-    (path, wording), (other_path, other_wording) = side, other
-    numbers = {name: number for number, name in enumerate(other_wording.intervals)}
-    kept = ask_reduced(program, wording).kept
+    numbers = {name: number for number, name in enumerate(other.wording.intervals)}
+    kept = ask_reduced(program, side.wording).kept
     missing = {link.number: tuple(dict.fromkeys(name for name in (link.left, link.right) if name not in numbers)) for link in kept}
-    following = following_in(program, other_wording.document, [link for link in kept if not missing[link.number]])
+    following = following_in(program, other.wording.document, [link for link in kept if not missing[link.number]])
     apart = [link for link in kept if link.number not in following]
     if len(apart) != wanted:
         raise CannotRun(APART)
@@ -62,9 +70,10 @@ def links_that_do_not_follow(program: Program, side: Side, other: Side, wanted: 
     for link in apart:
         possible: tuple[str, ...] = ()
         if not missing[link.number]:
-            matrix = matrix or matrix_of(program, other_wording.document, other_wording.intervals)
+            matrix = matrix or matrix_of(program, other.wording.document, other.wording.intervals)
             possible = matrix.between(numbers[link.left], numbers[link.right])
-        found.append(Disagreement(path, other_path, link, wording.in_words(link), missing[link.number], possible))
+        place, words = side.written.link(link.number).place, side.wording.in_words(link)
+        found.append(Disagreement(side.path, place, other.path, link, words, missing[link.number], possible))
     return found
 
 
