@@ -119,19 +119,28 @@ def alone(found: list[Found], others: list[Found], folder: str, other_folder: st
 def compare(program: Program, sides: Sides, found: Found, wanted: Wanted) -> PairReport:
     """Asks `tml score` about a pair. Whatever goes wrong with it is reported of it and ends nothing else."""
     report = PairReport(sides.name_of(found.path), found.path, sides.key_of(found.path))
-    path = report.path
     try:
-        document = read_document(found.place())
-        path = report.key_path
-        key = read_document(os.path.join(found.base, path))
-        path = report.path
-        with room_for(max(document, key, key=len)):
-            compare_documents(program, report, (document, key), wanted)
+        documents = read_pair(report, found.base)
+        if documents is not None:
+            with room_for(max(documents, key=len)):
+                compare_documents(program, report, documents, wanted)
     except (CannotRead, CannotRun) as problem:
-        report.not_counted = NotCounted(path, NOT_JUDGED, str(problem))
+        report.not_counted = NotCounted(report.path, NOT_JUDGED, str(problem))
     except MemoryError:
-        report.not_counted = NotCounted(path, NOT_JUDGED, "no memory to take the document apart")
+        report.not_counted = NotCounted(report.path, NOT_JUDGED, "no memory to take the document apart")
     return report
+
+
+def read_pair(report: PairReport, base: str) -> Documents | None:
+    """Both documents of a pair, whose paths are those of a folder; where one cannot be read, that is reported."""
+    documents = []
+    for path in (report.path, report.key_path):
+        try:
+            documents.append(read_document(os.path.join(base, path)))
+        except CannotRead as problem:
+            report.not_counted = NotCounted(path, NOT_JUDGED, str(problem))
+            return None
+    return documents[0], documents[1]
 
 
 def compare_documents(program: Program, report: PairReport, written: Documents, wanted: Wanted) -> None:
@@ -140,7 +149,7 @@ def compare_documents(program: Program, report: PairReport, written: Documents, 
     if wanted.touching and reply.status == CLASH:
         documents = read_as_touching(program, report, written)
         reply = program.score(*documents)
-    report.not_counted = why_not_counted(report, reply, *documents)
+    report.not_counted = why_not_counted(report, reply, documents)
     if report.not_counted is not None:
         return
     scores = read_scores(reply)
@@ -165,12 +174,12 @@ def read_as_touching(program: Program, report: PairReport, documents: Documents)
     return found[0], found[1]
 
 
-def why_not_counted(report: PairReport, reply: Reply, document: bytes, key: bytes) -> NotCounted | None:
+def why_not_counted(report: PairReport, reply: Reply, documents: Documents) -> NotCounted | None:
     """Why a pair is not counted, by the answer of `tml score`; None where it is."""
     if reply.status == ACCEPTED:
         return None
     of_key = reply.text.startswith((OF_KEY, b"too long KEY"))
-    path, source = (report.key_path, key) if of_key else (report.path, document)
-    text = problem_of(reply, source, reply.text.removeprefix(OF_KEY)) or ""
+    path, document = (report.key_path if of_key else report.path), documents[of_key]
+    text = problem_of(reply, document, reply.text.removeprefix(OF_KEY)) or ""
     reasons: dict[int, str] = {FAULT: WITH_FAULT, CLASH: WITH_CLASH}
     return NotCounted(path, reasons.get(TmlStatus(reply.status), NOT_JUDGED), text)
