@@ -4,6 +4,7 @@ Output that fails, a program that is not `tml`, documents made to cost much, a f
 tables of strangers.
 """
 
+import itertools
 import os
 import re
 import resource
@@ -335,9 +336,18 @@ class Names(AttackTest):
             self.write(f"d/{name}.xml", document("<EVENT/>" if number % 2 else CLASH))
             self.write(f"{name}.xml", document(CLASH if number % 2 else "<EVENT/>"))
             os.symlink("nowhere", self.path(f"d/{name}.tml"))
-        for command in (*COMMANDS[:6], COMMANDS[7], *COMMANDS[9:]):
+        for command in (*COMMANDS[:6], COMMANDS[7], *COMMANDS[9:-1]):
             with self.subTest(command):
                 self.harmless(command.rsplit(" ", 1)[0], "d", *(f"{name}.xml" for name in NAMES), *NAMES)
+
+    def test_names_of_pairs(self):
+        for name in NAMES:
+            for folder, content in (("d", CLASH), ("e", "<EVENT/>"), ("f", ""), ("g", "")):
+                self.write(f"{folder}/{name}.xml", document(content))
+            self.write(f"d/{name} alone.xml", document(""))
+        for form, folders in itertools.product(("text", "json", "csv"), (("d", "e"), ("d", "f"), ("f", "d"), ("f", "g"))):
+            with self.subTest(form=form, folders=folders):
+                self.harmless(f"tml-corpus agree --format {form} --tml TML", *folders)
 
     def test_names_in_what_standard_error_says(self):
         for name in NAMES[:1] + NAMES[2:6]:
@@ -425,7 +435,7 @@ class Tables(AttackTest):
 class WhereItLies(AttackTest):
     def test_the_sample_is_judged(self):
         """What the attacks are measured against: the real program, and all as it should be."""
-        for command, status in zip(COMMANDS, (1, 1, 1, 1, 1, 0, 0, 1, 0, 1, 1), strict=True):
+        for command, status in zip(COMMANDS, (1, 1, 1, 1, 1, 0, 0, 1, 0, 1, 1, 0), strict=True):
             with self.subTest(command):
                 self.assertEqual(self.ended(command).status, status)
         self.assertTrue(os.path.exists(os.path.join(TOP, "samples", "port.xml")))

@@ -149,7 +149,7 @@ class CommaSeparated(Text):
         return "" if report.scores is None else scores_row("pair", report.name, report.scores)
 
     def not_counted(self, one: NotCounted) -> str:
-        return in_lines([["not counted", harmless(one.path), *[""] * (len(COLUMNS) - 3), harmless(f"{one.reason}: {one.text}")]])
+        return in_lines([["not counted", quoted(one.path), *[""] * (len(COLUMNS) - 3), quoted(f"{one.reason}: {one.text}")]])
 
     def sums(self, corpus: Corpus) -> str:
         means = [corpus.macro(measure) for measure in MEASURES]
@@ -158,11 +158,16 @@ class CommaSeparated(Text):
         return scores_row("micro", "", corpus.micro) + in_lines([macro])
 
 
+def quoted(text: str) -> str:
+    """A name or a sentence that is harmless in a log and in a spreadsheet."""
+    return harmless(shown(text))
+
+
 def scores_row(kind: str, name: str, scores: Scores) -> str:
     """A row with scores."""
     counts: Sequence[object] = (scores.matched, scores.document_links, scores.found, scores.key_links)
     measures = (number(getattr(scores, measure)) for measure in MEASURES)
-    return in_lines([[kind, harmless(name), *counts, *("" if value is None else value for value in measures), ""]])
+    return in_lines([[kind, quoted(name), *counts, *("" if value is None else value for value in measures), ""]])
 
 
 FORMS: Mapping[str, type[Text]] = {"text": Text, "json": Json, "csv": CommaSeparated}
