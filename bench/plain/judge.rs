@@ -5,6 +5,7 @@
 
 use std::ffi::OsStr;
 
+use crate::links;
 use crate::names::Index;
 use crate::orders;
 use crate::print::{push_all, push_number};
@@ -38,8 +39,8 @@ pub struct Judge<'a> {
     counts: [usize; 9],
     identifiers: Vec<Mention<'a>>,
     references: Vec<Mention<'a>>,
-    intervals: Vec<&'a [u8]>,
-    links: Vec<[&'a [u8]; 3]>,
+    pub intervals: Vec<&'a [u8]>,
+    pub links: Vec<[&'a [u8]; 3]>,
     has_dates: bool,
 }
 
@@ -264,5 +265,20 @@ pub fn possible(document: &[u8], first: &OsStr, second: &OsStr) -> Result<Vec<u8
         (Some(left), Some(right)) if !judge.has_dates => orders::possible(&judge.intervals, &judge.links, left, right),
         _ => None,
     };
+    Ok(found.unwrap_or_default())
+}
+
+/// The lines of `reduce`; none of a document with dates or a clash.
+pub fn reduce(document: &[u8]) -> Result<Vec<u8>, Fault> {
+    let judge = judged(document)?;
+    let found = (!judge.has_dates).then(|| links::reduce(&judge)).flatten();
+    Ok(found.unwrap_or_default())
+}
+
+/// The lines of `score`; none of documents with dates or a clash, or with a key that has a fault.
+pub fn score(document: &[u8], key: &[u8]) -> Result<Vec<u8>, Fault> {
+    let judge = judged(document)?;
+    let Ok(of_key) = judged(key) else { return Ok(Vec::new()) };
+    let found = (!judge.has_dates && !of_key.has_dates).then(|| links::score(&judge, &of_key)).flatten();
     Ok(found.unwrap_or_default())
 }

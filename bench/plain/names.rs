@@ -27,6 +27,15 @@ impl Index {
         Index { slots: vec![0; (2 * count + 1).next_power_of_two()], seed: RandomState::new().hash_one(0) }
     }
 
+    /// The table of some names, by their numbers in order.
+    pub fn of_all(names: &[&[u8]]) -> Index {
+        let mut index = Index::of(names.len());
+        for number in 0..names.len() {
+            index.insert(number, |other| names[other]);
+        }
+        index
+    }
+
     /// The slot of the number whose name this is, or the empty slot for it.
     #[inline]
     fn slot<'a>(&self, name: &[u8], name_of: impl Fn(usize) -> &'a [u8]) -> usize {

@@ -28,14 +28,30 @@ const BASE: [(&str, [u8; 4]); 13] = [
 
 /// One point is before another, or no later.
 #[derive(Clone, Copy)]
-struct Order {
-    first: usize,
-    second: usize,
-    strict: bool,
+pub struct Order {
+    pub first: usize,
+    pub second: usize,
+    pub strict: bool,
+}
+
+/// A relation between two intervals by their numbers.
+pub struct Link<'a> {
+    left: usize,
+    relation: &'a [u8],
+    right: usize,
+}
+
+impl Link<'_> {
+    /// The orders that it says.
+    pub fn orders(&self) -> Vec<Order> {
+        let mut orders = Vec::with_capacity(4);
+        push_relation(&mut orders, self.left, self.relation, self.right);
+        orders
+    }
 }
 
 /// The orders of a relation between two intervals.
-fn push_relation(orders: &mut Vec<Order>, left: usize, relation: &[u8], right: usize) {
+pub fn push_relation(orders: &mut Vec<Order>, left: usize, relation: &[u8], right: usize) {
     let points = [2 * left, 2 * left + 1, 2 * right, 2 * right + 1];
     let mut push = |first: usize, second: usize, strict| orders.push(Order { first: points[first], second: points[second], strict });
     match relation {
@@ -58,32 +74,34 @@ fn push_relation(orders: &mut Vec<Order>, left: usize, relation: &[u8], right: u
     }
 }
 
+/// The links between intervals, by the numbers of these.
+pub fn numbered<'a>(intervals: &[&[u8]], links: &[[&'a [u8]; 3]]) -> Vec<Link<'a>> {
+    let (index, name_of) = (Index::of_all(intervals), |number: usize| intervals[number]);
+    let link = |&[first, relation, second]: &[&'a [u8]; 3]| {
+        Some(Link { left: index.find(first, name_of)?, relation, right: index.find(second, name_of)? })
+    };
+    links.iter().filter_map(link).collect()
+}
+
 /// The orders of the spans of so many intervals, and of links between them.
-fn orders_of(intervals: &[&[u8]], links: &[[&[u8]; 3]]) -> Vec<Order> {
-    let name_of = |number: usize| intervals[number];
-    let mut index = Index::of(intervals.len());
-    for number in 0..intervals.len() {
-        index.insert(number, name_of);
-    }
-    let mut orders: Vec<Order> = (0..intervals.len()).map(|one| Order { first: 2 * one, second: 2 * one + 1, strict: true }).collect();
-    for [first, relation, second] in links {
-        if let (Some(left), Some(right)) = (index.find(first, name_of), index.find(second, name_of)) {
-            push_relation(&mut orders, left, relation, right);
-        }
+pub fn orders_of(intervals: usize, links: &[Link]) -> Vec<Order> {
+    let mut orders: Vec<Order> = (0..intervals).map(|one| Order { first: 2 * one, second: 2 * one + 1, strict: true }).collect();
+    for link in links {
+        push_relation(&mut orders, link.left, link.relation, link.right);
     }
     orders
 }
 
 /// Points by what they are together with: a component is points of which each is no later than each other one. The orders
 /// of a component lead to components of lesser numbers, or to itself.
-struct Components {
+pub struct Components {
     of: Vec<usize>,
     orders: Vec<Vec<Order>>,
 }
 
 impl Components {
     /// The components of so many points; none where an order inside of one is strict.
-    fn new(points: usize, orders: &[Order]) -> Option<Components> {
+    pub fn new(points: usize, orders: &[Order]) -> Option<Components> {
         let mut from = vec![Vec::new(); points];
         orders.iter().for_each(|&order| from[order.first].push(order));
         let mut search = Search { from: &from, number: vec![0; points], next: 0, path: Vec::new(), of: vec![usize::MAX; points], count: 0 };
@@ -105,7 +123,7 @@ impl Components {
     }
 
     /// The least ranks of all points.
-    fn least(&self) -> Vec<usize> {
+    pub fn least(&self) -> Vec<usize> {
         let mut ranks = vec![0; self.orders.len()];
         for order in self.orders.iter().rev().flatten() {
             ranks[order.second] = ranks[order.second].max(ranks[order.first] + usize::from(order.strict));
@@ -154,7 +172,7 @@ impl Search<'_> {
 }
 
 /// Of each component the points that are never before it, and those that are always after it, as bits.
-struct Closure {
+pub struct Closure {
     words: usize,
     of: Vec<usize>,
     weak: Vec<u64>,
@@ -162,7 +180,7 @@ struct Closure {
 }
 
 impl Closure {
-    fn of(components: Components) -> Closure {
+    pub fn of(components: Components) -> Closure {
         let words = components.of.len().div_ceil(64);
         let mut weak = vec![0u64; words * components.orders.len()];
         let mut strict = weak.clone();
@@ -178,6 +196,12 @@ impl Closure {
             }
         }
         Closure { words, of: components.of, weak, strict }
+    }
+
+    /// Whether an order always holds.
+    pub fn says(&self, order: Order) -> bool {
+        let rows = if order.strict { &self.strict } else { &self.weak };
+        rows[self.of[order.first] * self.words + order.second / 64] >> (order.second % 64) & 1 == 1
     }
 
     /// Two bits of a row: those of the start and the end of an interval.
@@ -218,7 +242,8 @@ fn text_of(key: usize) -> Vec<u8> {
 
 /// The lines of all pairs of intervals; none where no timeline fits.
 pub fn matrix(intervals: &[&[u8]], links: &[[&[u8]; 3]]) -> Option<Vec<u8>> {
-    let closure = Closure::of(Components::new(2 * intervals.len(), &orders_of(intervals, links))?);
+    let orders = orders_of(intervals.len(), &numbered(intervals, links));
+    let closure = Closure::of(Components::new(2 * intervals.len(), &orders)?);
     let mut texts: Vec<Vec<u8>> = vec![Vec::new(); 1 << 16];
     let mut out = Vec::new();
     for (left, first) in intervals.iter().enumerate() {
@@ -235,7 +260,7 @@ pub fn matrix(intervals: &[&[u8]], links: &[[&[u8]; 3]]) -> Option<Vec<u8>> {
 
 /// The relations that are possible between two intervals, each with its least ranks; none where no timeline fits.
 pub fn possible(intervals: &[&[u8]], links: &[[&[u8]; 3]], left: usize, right: usize) -> Option<Vec<u8>> {
-    let orders = orders_of(intervals, links);
+    let orders = orders_of(intervals.len(), &numbered(intervals, links));
     let (mut out, mut count) = (Vec::new(), 0);
     for (relation, _) in BASE {
         let mut more = orders.clone();

@@ -1,7 +1,7 @@
 //! The commands `check DOC`, `spans DOC` and `canon DOC` of `tml`, written by hand: ordinary Rust that cares for speed,
-//! without proofs, to measure what these cost; and `matrix DOC` and `possible DOC X Y` of documents without dates and
-//! clashes. It prints the same bytes and ends with the same status. The rules are those of docs/DEFINITIONS.md.
-//! bench/beside.py and bench/matrix.py build and run it.
+//! without proofs, to measure what these cost; and `matrix DOC`, `possible DOC X Y`, `reduce DOC` and `score DOC KEY` of
+//! documents without dates and clashes. It prints the same bytes and ends with the same status. The rules are those of
+//! docs/DEFINITIONS.md. bench/beside.py, bench/matrix.py and bench/reduce.py build and run it.
 //!
 //! rustc compiles the modules apart, so what runs for each unit or each name is marked `#[inline]`: without that the
 //! program is slower.
@@ -10,6 +10,7 @@
 
 mod canon;
 mod judge;
+mod links;
 mod names;
 mod orders;
 mod print;
@@ -55,7 +56,9 @@ fn read(name: &OsStr) -> io::Result<Vec<u8>> {
     Ok(bytes)
 }
 
-const USAGE: &[u8] = b"usage:\nplain spans DOC\nplain check DOC\nplain canon DOC\nplain matrix DOC\nplain possible DOC X Y\n";
+const USAGE: &[u8] = b"usage:\nplain spans DOC\nplain check DOC\nplain canon DOC\nplain matrix DOC\nplain possible DOC X Y\n\
+    plain reduce DOC\nplain score DOC KEY\n";
+const PERHAPS_NOT_DONE: [&str; 4] = ["matrix", "possible", "reduce", "score"];
 
 /// The status and the text of a run.
 fn answer(words: &[OsString]) -> (u8, Vec<u8>) {
@@ -66,6 +69,8 @@ fn answer(words: &[OsString]) -> (u8, Vec<u8>) {
         [word, name] if word == "spans" => (&spans::spans, name),
         [word, name] if word == "canon" => (&canon::canon, name),
         [word, name] if word == "matrix" => (&judge::matrix, name),
+        [word, name] if word == "reduce" => (&judge::reduce, name),
+        [word, name, key] if word == "score" => (&move |document: &[u8]| judge::score(document, &read(key).unwrap_or_default()), name),
         [word, name, first, second] if word == "possible" => (&move |document: &[u8]| judge::possible(document, first, second), name),
         _ => return usage,
     };
@@ -73,7 +78,7 @@ fn answer(words: &[OsString]) -> (u8, Vec<u8>) {
         Err(_) => (4, b"read fault\n".to_vec()),
         Ok(document) if document.len() > MOST_BYTES => (9, b"too long DOC\n".to_vec()),
         Ok(document) => match command(&document) {
-            Ok(text) if text.is_empty() && matches!(words[0].to_str(), Some("matrix" | "possible")) => (100, b"not done\n".to_vec()),
+            Ok(text) if text.is_empty() && PERHAPS_NOT_DONE.iter().any(|word| words[0] == *word) => (100, b"not done\n".to_vec()),
             Ok(text) => (0, text),
             Err(Fault { place, kind }) => (1, format!("fault {} {kind:?} {place}\n", kind as u8).into_bytes()),
         },

@@ -56,6 +56,9 @@ fn meets(range: &RangeInclusive<u32>, least: u32, most: u32) -> bool {
 
 /// Whether a text has a calendar shape: then whether some digits for its `X` make a date of it.
 pub fn date(text: &[u8]) -> Option<bool> {
+    if matches!(text.len(), 2 | 3) && text.iter().all(u8::is_ascii_digit) {
+        return Some(true); // a century or a decade
+    }
     let (year, rest) = text.split_first_chunk::<4>()?;
     let years = years(year)?;
     let in_year = match rest {

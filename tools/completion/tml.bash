@@ -79,10 +79,17 @@ _tml_corpus() {
         timeline) options+=(--output -o --touching --config --tml) ;;
         matrix) options+=(--format --touching --config --tml) ;;
         open) options+=(--limit --pairs --touching --config --tml --jobs) ;;
+        agree) options+=(--links --format --touching --glob --config --tml --jobs --cluster) ;;
     esac
     case ${COMP_WORDS[COMP_CWORD - 1]}:$COMP_CWORD:${COMP_WORDS[COMP_CWORD]} in
-        *:1:*) _tml_offer check fix tags clashes timeline matrix open --help ;;
-        --format:*) [[ ${COMP_WORDS[1]} == matrix ]] && _tml_offer text csv html || _tml_offer text json junit github ;;
+        *:1:*) _tml_offer check fix tags clashes timeline matrix open agree --help ;;
+        --format:*)
+            case ${COMP_WORDS[1]} in
+                matrix) _tml_offer text csv html ;;
+                agree) _tml_offer text json csv ;;
+                *) _tml_offer text json junit github ;;
+            esac
+            ;;
         --ignore:* | --warn:*) _tml_offer "${_tml_warnings[@]}" ;;
         --more:* | --stdin-name:* | --glob:* | --jobs:* | --cluster:* | --limit:* | --pairs:*) _tml_offer ;;
         *:-*) _tml_offer "${options[@]}" ;;
@@ -95,7 +102,7 @@ _tml_tools() {
     COMPREPLY=()
     case ${COMP_WORDS[0]##*/} in
         tml-edit) options+=(--rename --unwrap --value --iso --instances --links --name --drop-links --overlaps --touching-dates --tml) ;;
-        tml-redundant-links) options+=(--together --glob --tml --jobs) ;;
+        tml-redundant-links) options+=(--glob --tml --jobs) ;;
     esac
     case ${COMP_WORDS[COMP_CWORD - 1]}:${COMP_WORDS[COMP_CWORD]} in
         --rename:* | --unwrap:* | --value:* | --name:* | --drop-links:* | --glob:* | --jobs:*) _tml_offer ;;

@@ -1,10 +1,11 @@
-"""Compares answers of the program with each other: those to `possible`, `matrix`, `ask` and `relations` over one document.
+"""Compares answers of the program with each other: those to `possible`, `matrix`, `ask`, `relations` and others over one document.
 
 Nothing of the reference is asked here. What is to be true of the answers:
 
 - each timeline that `possible` prints is accepted by `verify`, and the base relation before it is the one that it has there;
 - a base relation follows by `ask` exactly where `possible` has it alone;
-- `matrix` has the base relations of `possible` between the two intervals, and `relations` has a base relation where `matrix` has it alone.
+- `matrix` has the base relations of `possible` between the two intervals, and `relations` has a base relation where `matrix` has it alone;
+- `score` of a document with itself counts the links that `reduce` keeps, all of which hold.
 """
 
 from __future__ import annotations
@@ -61,7 +62,7 @@ def further(case: Case, outcome: Outcome) -> list[Case]:
     _, document, first, second = case.words
     relation = next(iter(found.timelines), BASE_RELATIONS[0])
     words = [(b"ask", document, first, one.encode(), second) for one in {relation: None, BASE_RELATIONS[-1]: None}]
-    words += [(b"check", document), (b"matrix", document), (b"relations", document)]
+    words += [(b"check", document), (b"matrix", document), (b"relations", document), (b"reduce", document), (b"score", document, document)]
     questions = [Case("agreed", one, case.files) for one in words]
     verified = Case("agreed", (b"verify", document, EVIDENCE), {**case.files, EVIDENCE: found.evidence()})
     return [verified, *questions]
@@ -84,7 +85,17 @@ def complaint(case: Case, outcome: Outcome, others: Sequence[tuple[Case, Outcome
         ranks = found.ranks(relation)
         if len(ranks) != len(names) or relation not in holding(ranks[first], ranks[second]):
             return f"The timeline of {relation} does not have it."
-    return of_matrix(found, (first, second), names, texts)
+    return of_matrix(found, (first, second), names, texts) or of_score(texts)
+
+
+def of_score(texts: Mapping[bytes, bytes]) -> str | None:
+    """What is wrong with the lines of `score` of a document with itself, by those of `reduce` and of `check`."""
+    head, *kept = texts[b"reduce"].splitlines()
+    links = [line for line in texts[b"check"].splitlines() if line.startswith(b"tlink ")]
+    if head != b"reduced %d of %d" % (len(kept), len(links)) or kept != [line for line in links if line in kept]:
+        return f"Of the links {links} `reduce` keeps {kept}, and says {head!r}."
+    score = b"precision %d of %d\nrecall %d of %d\n" % ((len(kept),) * 4)
+    return None if texts[b"score"] == score else f"`reduce` keeps {len(kept)} links, and `score` says {texts[b'score']!r}."
 
 
 def of_matrix(found: Possible, pair: tuple[int, int], names: Sequence[bytes], texts: Mapping[bytes, bytes]) -> str | None:

@@ -33,7 +33,9 @@ def parsed(words: Sequence[str]) -> argparse.Namespace:
     parser.add_argument("seconds", type=float, nargs="?", default=20.0, help="how long to go on (20)")
     parser.add_argument("seed", type=int, nargs="?", default=1, help="what decides the cases (1); their number depends on time alone")
     parser.add_argument("--count", type=int, help="end after so many cases, in place of so many seconds")
-    parser.add_argument("--evidence", action="store_true", help="only evidence that was written and damaged, for verify, renew and join")
+    about = parser.add_mutually_exclusive_group()
+    about.add_argument("--evidence", action="store_true", help="only evidence that was written and damaged, for verify, renew and join")
+    about.add_argument("--links", action="store_true", help="only links that follow from others, for reduce and score")
     parser.add_argument("--processes", action="store_true", help="a process for each case, and no tables")
     parser.add_argument("--keep", type=Path, help="the folder for differences (a new one)")
     parser.add_argument("--small", type=int, default=3, metavar="N", help="how many differences are reduced at once (3)")
@@ -82,7 +84,7 @@ def reduce_kept(trial: Trial, folder: Path) -> int:
 def go_on(trial: Trial, given: argparse.Namespace) -> None:
     """Tries batch after batch until the time is over or there are cases enough."""
     late = time.monotonic() + given.seconds
-    for number, batch in enumerate(batches(trial, given.evidence)):
+    for number, batch in enumerate(batches(trial, given.evidence, given.links)):
         if trial.tally.cases >= given.count if given.count is not None else time.monotonic() >= late:
             return
         batch(Random(f"{given.seed}/{number}"))

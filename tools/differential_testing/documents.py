@@ -5,7 +5,7 @@ from __future__ import annotations
 from random import Random
 
 from differential_testing.chances import chance
-from differential_testing.nets import Net, draw_net
+from differential_testing.nets import Net, draw_net, draw_other_links
 
 WRAPPERS = (
     "DOCID", "DOCNO", "DOC", "DCT", "TITLE", "EXTRAINFO", "TEXT", "BODY", "HEADLINE", "P", "p", "S", "s", "ENAMEX", "NUMEX", "CONFIDENCE",
@@ -77,12 +77,12 @@ class Style:
 class Drawn:
     """A document as it is made of a net: the names of its intervals, and its elements."""
 
-    def __init__(self, random: Random, net: Net) -> None:
+    def __init__(self, random: Random, net: Net, prefix: str | None = None) -> None:
         self.random = random
         self.style = Style(random)
         self.net = net
         self.is_xml = chance(random, 0.6)
-        self.prefix = random.choice(("", "", "x.", "_-", "A" * 55))
+        self.prefix = draw_prefix(random) if prefix is None else prefix
         self.names = [f"{self.prefix}{'ei' if time is None else 't'}{number}" for number, time in enumerate(net.times)]
         self.instances = [name for name, time in zip(self.names, net.times, strict=True) if time is None]
         self.times = [name for name, time in zip(self.names, net.times, strict=True) if time is not None]
@@ -179,9 +179,20 @@ class Drawn:
         return random.choice(HEADS) + random.choice(DOCTYPES) + root + random.choice(TAILS)
 
 
-def document_of(random: Random, net: Net) -> bytes:
-    """A document of a net, without a fault but for what its values may have."""
-    return Drawn(random, net).document().encode()
+def draw_prefix(random: Random) -> str:
+    """What the names of the intervals of a document begin with."""
+    return random.choice(("", "", "x.", "_-", "A" * 55))
+
+
+def document_of(random: Random, net: Net, prefix: str | None = None) -> bytes:
+    """A document of a net, without a fault but for what its values may have; its names begin as it is said, or are drawn."""
+    return Drawn(random, net, prefix).document().encode()
+
+
+def draw_pair(random: Random) -> tuple[bytes, bytes]:
+    """Documents of two nets with the same intervals, some of whose links say the same."""
+    net, prefix = draw_net(random), draw_prefix(random)
+    return document_of(random, net, prefix), document_of(random, draw_other_links(random, net), prefix)
 
 
 def draw_document(random: Random, size: int | None = None) -> bytes:

@@ -10,12 +10,13 @@ from random import Random
 from differential_testing.cases import DOCUMENT_LIMIT, EVIDENCE_LIMIT, STANDARD_INPUT, Case
 from differential_testing.chances import chance
 from differential_testing.devices import draw_memory, draw_real, with_memory
-from differential_testing.documents import draw_document
+from differential_testing.documents import document_of, draw_document, draw_pair
 from differential_testing.evidence import draw_claims, draw_damaged, draw_invented, older_text
 from differential_testing.faulty import draw_faulty
 from differential_testing.hostile import draw_hostile
 from differential_testing.mutated import draw_mutated, draw_noise
-from differential_testing.words import DOCUMENT, EVIDENCE, SECOND, draw_ask, draw_question, draw_words
+from differential_testing.nets import Net, draw_net, draw_other_links
+from differential_testing.words import DOCUMENT, EVIDENCE, KEY, SECOND, draw_ask, draw_question, draw_words
 
 
 @dataclass(frozen=True)
@@ -48,15 +49,15 @@ def draw_right(random: Random) -> Case:
 
 
 def draw_canonical(random: Random) -> Case:
-    """The canonical text, the dates, the relations or the matrix of a document without a fault."""
-    command = random.choice((b"canon", b"dates", b"dates", b"relations", b"matrix"))
+    """The canonical text, the dates, the relations, the matrix or the reduced links of a document without a fault."""
+    command = random.choice((b"canon", b"dates", b"dates", b"relations", b"matrix", b"reduce"))
     return Case("right", (command, DOCUMENT), {DOCUMENT: draw_document(random)})
 
 
 def draw_wrong(random: Random) -> Case:
     """A question about a document with a fault that was made."""
     document = draw_faulty(random, draw_document(random))
-    command = random.choice((b"check", b"check", b"check", b"solve", b"spans", b"canon", b"matrix"))
+    command = random.choice((b"check", b"check", b"check", b"solve", b"spans", b"canon", b"matrix", b"reduce"))
     return redirected(random, Case("faulty", (command, DOCUMENT), {DOCUMENT: document}))
 
 
@@ -65,6 +66,28 @@ def draw_mutation(random: Random) -> Case:
     document = draw_noise(random) if chance(random, 0.2) else draw_mutated(random, draw_document(random, random.randrange(5)))
     command = b"spans" if chance(random, 0.4) else random.choice((b"check", b"canon", b"dates", b"solve", b"relations", b"matrix"))
     return redirected(random, Case("mutated", (command, DOCUMENT), {DOCUMENT: document}))
+
+
+def draw_reducing(random: Random) -> Case:
+    """A question to `reduce` about a document of which many links follow from others."""
+    net = draw_net(random)
+    links = [*net.links, *draw_other_links(random, net).links]
+    random.shuffle(links)
+    document = document_of(random, Net(net.times, tuple(links), net.hidden))
+    return redirected(random, Case("reducing", (b"reduce", DOCUMENT), {DOCUMENT: document}))
+
+
+def draw_scored(random: Random) -> Case:
+    """A question to `score`: two documents whose links mostly have something in common, of which one may have a fault, or not be there."""
+    documents = list(draw_pair(random))
+    if chance(random, 0.15):
+        place = random.choice((0, 1, 1))
+        documents[place] = draw_faulty(random, documents[place]) if chance(random, 0.7) else draw_document(random)
+    files = dict(zip((DOCUMENT, KEY), documents, strict=True))
+    words = (b"score", DOCUMENT, DOCUMENT if chance(random, 0.05) else KEY)
+    if chance(random, 0.03):
+        del files[random.choice(words[1:])]
+    return redirected(random, Case("scored", words, files))
 
 
 def draw_hard(random: Random) -> Case:
@@ -98,6 +121,8 @@ SUBJECTS: Sequence[tuple[float, Callable[[Random], Case]]] = (
     (10, draw_canonical),
     (25, draw_wrong),
     (20, draw_mutation),
+    (6, draw_reducing),
+    (10, draw_scored),
     (6, draw_hard),
     (6, draw_worded),
     (0.1, draw_long),

@@ -108,6 +108,16 @@ def draw_link(random: Random, hidden: tuple[tuple[int, int], ...], at_random: bo
     return (a, random.choice(holds), b) if holds else None
 
 
+def draw_other_links(random: Random, net: Net) -> Net:
+    """A net of the same intervals with some of the links, as they are or the other way round, and others that hold."""
+    links = [link for link in net.links if chance(random, 0.7)]
+    links = [(b, INVERSES[name], a) if chance(random, 0.4) else (a, name, b) for a, name, b in links]
+    drawn = [draw_link(random, net.hidden, False) for _ in range(random.randrange(4))] if net.hidden else []
+    links += [link for link in drawn if link]
+    random.shuffle(links)
+    return Net(net.times, tuple(links), net.hidden)
+
+
 def ring(random: Random, count: int) -> list[tuple[int, str, int]]:
     """Links of which each goes on where the one before it ended, back to the first interval, in either direction."""
     order = random.sample(range(count), random.randint(2, count))

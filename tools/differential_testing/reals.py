@@ -23,7 +23,7 @@ from differential_testing.trees import DECODED, Node, tree_of
 IS_THERE = importlib.util.find_spec("z3") is not None
 MOST_INTERVALS = 12
 CLASH = 2
-COMMANDS = (b"solve", b"ask", b"relations", b"possible", b"matrix")
+COMMANDS = (b"solve", b"ask", b"relations", b"possible", b"matrix", b"reduce")
 INVERSE_OF = {inverse: relation for relation, inverse in INVERSE.items() if inverse != relation}
 ENDS = ("eventInstanceID", "timeID"), ("relatedToEventInstance", "relatedToTime")
 
@@ -90,6 +90,15 @@ class Reals:
         """Whether a relation is true of all numbers that fit."""
         return not self.can_be(self.links, self.z3.Not(self.says(link)))
 
+    def reduced(self) -> list[int]:
+        """The numbers of the links without each that is true of all numbers that fit with the others that are left."""
+        kept = list(range(len(self.links)))
+        for number, link in enumerate(self.links):
+            others = [other for other in kept if other != number]
+            if not self.can_be([self.links[other] for other in others], self.z3.Not(self.says(link))):
+                kept = others
+        return kept
+
     def possible(self, first: str, second: str) -> list[str]:
         """The base relations that are true of some numbers that fit."""
         return [relation for relation in BASE_RELATIONS if self.can_be([*self.links, Link(first, relation, second)])]
@@ -112,6 +121,9 @@ def complaint(case: Case, outcome: Outcome) -> str | None:
         return of_relations(reals, outcome.text)
     if case.words[0] == b"matrix":
         return of_matrix(reals, outcome.text)
+    if case.words[0] == b"reduce":
+        kept, numbers = reals.reduced(), [int(number) for number in re.findall(rb"^tlink (\d+) ", outcome.text, re.MULTILINE)]
+        return None if kept == numbers else f"By real numbers the links {kept} are left, and not {numbers}."
     if case.words[0] == b"possible":
         first, second = (word.decode() for word in case.words[2:])
         wanted, found = reals.possible(first, second), re.findall(r"^relation (\w+)$", outcome.text.decode(), re.MULTILINE)

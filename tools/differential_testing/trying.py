@@ -16,7 +16,7 @@ from differential_testing.cases import Case
 from differential_testing.chances import chance
 from differential_testing.comparing import complaint
 from differential_testing.documents import draw_document
-from differential_testing.drawing import Written, draw_case, draw_of_evidence, draw_writing
+from differential_testing.drawing import Written, draw_case, draw_of_evidence, draw_reducing, draw_scored, draw_writing
 from differential_testing.programs import Programs
 from differential_testing.rows import Rows, is_for_rows
 from differential_testing.words import DOCUMENT
@@ -117,6 +117,10 @@ class Trial:
         if written:
             self.try_all([draw_of_evidence(random, written) for _ in range(OF_EVIDENCE)], random)
 
+    def links(self, random: Random) -> None:
+        """Tries a batch of documents of which links follow from others, and of pairs of documents."""
+        self.try_all([draw_scored(random) if chance(random, 0.6) else draw_reducing(random) for _ in range(CASES)], random)
+
     def agreement(self, random: Random) -> None:
         """Tries a batch of answers that are to agree with each other."""
         documents = [draw_document(random, random.choice((1, 2, 2, 3, 3, 4, 4, 5, 6, 8))) for _ in range(AGREEING)]
@@ -145,7 +149,7 @@ def said_of_all(case: Case, outcome: Outcome, others: Sequence[tuple[Case, Outco
         return f"A referee failed: {error!r}"
 
 
-def batches(trial: Trial, evidence_only: bool) -> Iterator[Callable[[Random], None]]:
-    """What each batch does: one of four is evidence, or all are, and one of four is answers that are to agree."""
+def batches(trial: Trial, evidence_only: bool, links_only: bool) -> Iterator[Callable[[Random], None]]:
+    """What each batch does: one of four is evidence, or all are, and one of four is answers that are to agree; or all are about links."""
     ordinary = (trial.ordinary, trial.ordinary, trial.evidence, trial.agreement)
-    yield from itertools.cycle((trial.evidence,) if evidence_only else ordinary)
+    yield from itertools.cycle((trial.evidence,) if evidence_only else (trial.links,) if links_only else ordinary)

@@ -3,7 +3,7 @@
 from __future__ import annotations
 
 import functools
-from collections.abc import Callable, Mapping, Sequence
+from collections.abc import Callable, Iterable, Iterator, Mapping, Sequence
 from dataclasses import dataclass, field
 from enum import IntEnum
 
@@ -16,6 +16,7 @@ from .evidence import Claims, Clash, Counterexample, Entailment, Evidence, Timel
 from .faults import Fault
 from .nets import Net
 from .possible import least_of_each, possible_rows
+from .reduced import reduced, scores_of
 from .references import Document
 from .relations import RELATIONS, orders_of
 from .timelines import all_links, entailed_rows, false_timeline, is_minimal_clash, least_timeline
@@ -39,6 +40,8 @@ FORMS = (
     "join EVIDENCE SECOND",
     "possible DOC X Y",
     "matrix DOC",
+    "reduce DOC",
+    "score DOC KEY",
 )
 DRILLS = {b"%d" % number: number for number in range(1, 1025)}
 
@@ -115,8 +118,14 @@ def check(accepted: Accepted) -> Outcome:
     words = zip((b"events", b"instances", b"timex", b"signals", b"tlinks", b"alinks", b"slinks"), document.counts.values(), strict=True)
     counts = [b"%s %d" % pair for pair in words]
     intervals = [b"interval %d %s" % (number, one.name) for number, one in enumerate(document.intervals)]
-    links = [b"tlink %d %s" % (number, related(document, one.left, one.relation, one.right)) for number, one in enumerate(document.links)]
-    return done(lines(b"accepted", *counts, *intervals, *links))
+    return done(lines(b"accepted", *counts, *intervals, *link_lines(document, range(len(document.links)))))
+
+
+def link_lines(document: Document, links: Iterable[int]) -> Iterator[bytes]:
+    """The lines of some links."""
+    for number in links:
+        one = document.links[number]
+        yield b"tlink %d %s" % (number, related(document, one.left, one.relation, one.right))
 
 
 def related(document: Document, left: int, relation: bytes, right: int) -> bytes:
@@ -246,6 +255,28 @@ def matrix(accepted: Accepted) -> Answer:
     return done(b"".join(b"%s %s %s\n" % (names[left], names[right], b" ".join(found)) for left, right, found in possible_rows(net)))
 
 
+def reduce(accepted: Accepted) -> Answer:
+    """`reduce DOC`: the links without those that follow from the others, or a minimal clash."""
+    net = accepted.document.net()
+    if least_timeline(net, all_links(net)) is None:
+        return clash(net)
+    kept = reduced(net)
+    return done(lines(b"reduced %d of %d" % (len(kept), len(net.links)), *link_lines(accepted.document, kept)))
+
+
+def score(accepted: Accepted, source: bytes) -> Answer:
+    """`score DOC KEY`: the counts, after a document and a key; or the fault of the key, or which of the two clashes."""
+    key = judge_document(source)
+    if isinstance(key, Fault):
+        return Outcome(Status.DOC_FAULT, b"key " + key.line())
+    net, key_net = accepted.document.net(), key.document.net()
+    if least_timeline(net, all_links(net)) is None:
+        return clash(net)
+    if least_timeline(key_net, all_links(key_net)) is None:
+        return Outcome(Status.CLASH, b"key clash\n")
+    return done(lines(*scores_of(accepted.document, key.document).lines()))
+
+
 def claims_of(text: bytes, word: bytes) -> Claims | Outcome:
     """The claims of a text; or the reply where it has none, with the word that stands before its bad line."""
     claims = read_claims(text)
@@ -312,6 +343,7 @@ ABOUT_DOCUMENTS: Mapping[bytes, Callable[[Accepted], Answer]] = {
     b"relations": relations,
     b"canon": canon,
     b"matrix": matrix,
+    b"reduce": reduce,
 }
 
 
@@ -327,11 +359,11 @@ def files_of(words: Sequence[bytes]) -> list[bytes] | None:
     match list(words):
         case []:
             return [b"-"]
-        case [b"spans" | b"check" | b"dates" | b"solve" | b"relations" | b"canon" | b"matrix", name]:
+        case [b"spans" | b"check" | b"dates" | b"solve" | b"relations" | b"canon" | b"matrix" | b"reduce", name]:
             return [name]
         case [b"ask", name, _, _, _] | [b"possible", name, _, _]:
             return [name]
-        case [b"verify" | b"join", name, other]:
+        case [b"verify" | b"join" | b"score", name, other]:
             return [name, other]
         case [b"renew", name]:
             return [name]
@@ -354,6 +386,9 @@ def about_document(words: Sequence[bytes], accepted: Accepted, files: Files) -> 
     if words[0] == b"verify":
         text = read(after_reading(words[1], files), words[2], LONGEST_EVIDENCE, b"EVIDENCE")
         return text if isinstance(text, Outcome) else verify(accepted, text)
+    if words[0] == b"score":
+        source = read(after_reading(words[1], files), words[2], LONGEST_DOCUMENT, b"KEY")
+        return source if isinstance(source, Outcome) else score(accepted, source)
     return ABOUT_DOCUMENTS[words[0]](accepted)
 
 

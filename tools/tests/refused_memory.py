@@ -13,6 +13,7 @@ It needs `cc`, LD_PRELOAD and a program that takes its memory from the C library
 
 from __future__ import annotations
 
+import itertools
 import os
 import shutil
 import struct
@@ -38,7 +39,7 @@ DATES = (
     '<TIMEX3 tid="t" type="DATE" value="1998-01-08">x</TIMEX3><TIMEX3 tid="u" type="DATE" value="1998-01-09" mod="MID"/>'
     '<TIMEX3 tid="v" type="SET"/>'
 )
-AB, BC, CA = (f'<TLINK eventInstanceID="{x}" relatedToEventInstance="{y}" relType="BEFORE"/>' for x, y in ("ab", "bc", "ca"))
+AB, BC, CA, AC = (f'<TLINK eventInstanceID="{x}" relatedToEventInstance="{y}" relType="BEFORE"/>' for x, y in ("ab", "bc", "ca", "ac"))
 UNITS = "<?xml version='1.0'?><!DOCTYPE TimeML><!-- a --><TimeML b='\"' a=\"&amp;\">x<P></P ><!-- b --></TimeML>\n"
 FAULTY = {
     "NotUtf8": b"<TimeML>\xff</TimeML>",
@@ -72,6 +73,7 @@ DOCUMENTS = {
     "units": UNITS.encode(),
     "fits": document(EVENTS, DATES, AB, BC, '<TLINK eventInstanceID="c" relatedToTime="t" relType="IS_INCLUDED"/>'),
     "clash": document(EVENTS, DATES, AB, BC, CA),
+    "redundant": document(EVENTS, AC, AB, BC, AB.replace("BEFORE", "SIMULTANEOUS").replace('"b"', '"a"')),
     "calendar": document(EVENTS, DATES, '<TLINK timeID="u" relatedToTime="t" relType="BEFORE"/>'),
     "links": document(EVENTS, '<SIGNAL sid="s"/><SLINK subordinatedEventInstance="a" relType="MODAL" signalID="s"/>'),
 }
@@ -113,6 +115,14 @@ EVIDENCE = {
     "bad number": b"timeline 6\nat 0 01\n",
     "not ended": b"timeline 6\nat 0 1\n",
 }
+KEYS = {
+    "redundant": DOCUMENTS["redundant"],
+    "fits": DOCUMENTS["fits"],
+    "clash": DOCUMENTS["clash"],
+    "a fault of bytes": FAULTY["BadMarkup"],
+    "a fault of names": FAULTY["UnknownReference"],
+}
+"""The second documents of `score`."""
 OTHERS = b"at 0 1\nat 1 2\nat 0 1\n"
 CLASH = b"clash 3\ncite 0\ncite 1\ncite 2\nwalk 6\nvia 0 0\nspan 1\nvia 1 0\nspan 2\nvia 2 0\nspan 0\n"
 SPARES = (b"at 4 5\nat 0 1\nat 2 3\n", b"at 2 3\nat 4 5\nat 0 1\n", b"at 0 1\nat 2 3\nat 4 5\n")
@@ -156,7 +166,7 @@ OF_EVIDENCE = (
 def runs() -> Iterator[Case]:
     """Runs that take every path: each command over each document, each fault, each kind of evidence, and words of no form."""
     for name, content in DOCUMENTS.items():
-        for command in (b"spans", b"check", b"dates", b"solve", b"relations", b"canon", b"matrix"):
+        for command in (b"spans", b"check", b"dates", b"solve", b"relations", b"canon", b"matrix", b"reduce"):
             yield Case(f"{command.decode()}, {name}", (command, b"d"), {b"d": content})
     for name, content in FAULTY.items():
         yield Case(f"check, {name}", (b"check", b"-"), {b"-": content})
@@ -169,6 +179,8 @@ def runs() -> Iterator[Case]:
     for name, pairs in PAIRS.items():
         for pair in pairs:
             yield Case(f"possible {pair}, {name}", (b"possible", b"d", *pair.encode().split(b" ")), {b"d": DOCUMENTS[name]})
+    for (name, content), of in itertools.product(KEYS.items(), ("fits", "redundant", "clash")):
+        yield Case(f"score, {of}, with the key {name}", (b"score", b"d", b"k"), {b"d": DOCUMENTS[of], b"k": content})
     for name, text in EVIDENCE.items():
         yield verifying(name, "fits", text)
     for name, text in CLASHES.items():
@@ -181,7 +193,8 @@ def runs() -> Iterator[Case]:
     yield Case("no words", (), {b"-": DOCUMENTS["units"]})
     yield Case("no form", (b"check", b"d", b"e"))
     yield Case("read fault", (b"check", b"none"))
-    yield Case("evidence that is not there", (b"verify", b"d", b"none"), {b"d": DOCUMENTS["fits"]})
+    for command in (b"verify", b"score"):
+        yield Case(f"{command.decode()}, nothing second", (command, b"d", b"none"), {b"d": DOCUMENTS["fits"]})
 
 
 @dataclass

@@ -4,6 +4,7 @@ Output that fails, a program that is not `tml`, documents made to cost much, a f
 tables of strangers.
 """
 
+import itertools
 import os
 import re
 import resource
@@ -32,6 +33,7 @@ COMMANDS = (
     "tml-edit --tml TML --unwrap P good.xml",
     "tml-corpus check --lint --clashes --tml TML a.xml",
     "tml-corpus fix --tml TML a.xml",
+    "tml-corpus agree --links --tml TML good.xml good.xml",
 )
 """Commands that ask `tml`; of a.xml each has something to tell."""
 
@@ -144,21 +146,21 @@ class Programs(AttackTest):
                     ended = self.ended(command, tml=fake)
                     self.assertEqual(ended.status, 2, ended)
                     self.assertNotIn("Traceback", ended.error)
-                    self.assertRegex(ended.out + ended.error, r"tml (answered status \d+ to `(check|solve|spans)`|printed more than [\d,]+ bytes)")
+                    self.assertRegex(ended.out + ended.error, r"tml (answered status \d+ to `(check|solve|spans|reduce|score)`|printed more than [\d,]+ bytes)")
                     self.assertLess(ended.mebibytes, 400)
         self.assertFalse(os.path.exists(self.path("good.svg")))
 
     def test_replies_that_belong_to_another_question(self):
         rows = [
-            ("ask", "BEFORE", "redundant-links --tml TML --together a.xml"),
-            ("check", "solve", "redundant-links --tml TML a.xml"),
+            ("reduce", "relations", "redundant-links --tml TML a.xml"),
+            ("score", "reduce", "tml-corpus agree --tml TML a.xml a.xml"),
+            ("check", "solve", "tml-corpus check --lint --tml TML a.xml"),
             ("dates", "check", "tml-corpus timeline --tml TML a.xml -o good.svg"),
         ]
         self.write("a.xml", document('<TIMEX3 tid="a" type="SET"/><TIMEX3 tid="b" type="SET"/><TLINK timeID="a" relatedToTime="b" relType="AFTER"/>'))
         for question, other, command in rows:
             with self.subTest(question):
-                answer = f"ask - a {other} b" if question == "ask" else f"{other} -"
-                fake = self.fake(f'if [ $1 = {question} ]; then exec {TML} {answer}; fi\nexec {TML} "$@"')
+                fake = self.fake(f'if [ $1 = {question} ]; then exec {TML} {other} -; fi\nexec {TML} "$@"')
                 ended = self.ended(command, tml=fake)
                 self.assertEqual(ended.status, 2, ended)
                 self.assertIn(f"tml answered status 0 to `{question}`, and a text that does not go with it", ended.out)
@@ -334,9 +336,18 @@ class Names(AttackTest):
             self.write(f"d/{name}.xml", document("<EVENT/>" if number % 2 else CLASH))
             self.write(f"{name}.xml", document(CLASH if number % 2 else "<EVENT/>"))
             os.symlink("nowhere", self.path(f"d/{name}.tml"))
-        for command in (*COMMANDS[:6], COMMANDS[7], *COMMANDS[9:]):
+        for command in (*COMMANDS[:6], COMMANDS[7], *COMMANDS[9:-1]):
             with self.subTest(command):
                 self.harmless(command.rsplit(" ", 1)[0], "d", *(f"{name}.xml" for name in NAMES), *NAMES)
+
+    def test_names_of_pairs(self):
+        for name in NAMES:
+            for folder, content in (("d", CLASH), ("e", "<EVENT/>"), ("f", ""), ("g", "")):
+                self.write(f"{folder}/{name}.xml", document(content))
+            self.write(f"d/{name} alone.xml", document(""))
+        for form, folders in itertools.product(("text", "json", "csv"), (("d", "e"), ("d", "f"), ("f", "d"), ("f", "g"))):
+            with self.subTest(form=form, folders=folders):
+                self.harmless(f"tml-corpus agree --format {form} --tml TML", *folders)
 
     def test_names_in_what_standard_error_says(self):
         for name in NAMES[:1] + NAMES[2:6]:
@@ -424,7 +435,7 @@ class Tables(AttackTest):
 class WhereItLies(AttackTest):
     def test_the_sample_is_judged(self):
         """What the attacks are measured against: the real program, and all as it should be."""
-        for command, status in zip(COMMANDS, (1, 1, 1, 1, 1, 0, 0, 1, 0, 1, 1), strict=True):
+        for command, status in zip(COMMANDS, (1, 1, 1, 1, 1, 0, 0, 1, 0, 1, 1, 0), strict=True):
             with self.subTest(command):
                 self.assertEqual(self.ended(command).status, status)
         self.assertTrue(os.path.exists(os.path.join(TOP, "samples", "port.xml")))

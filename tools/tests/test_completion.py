@@ -113,6 +113,8 @@ class Completion(CorpusTest):
             (["check", "--format", ""], ["text", "json", "junit", "github"], False),
             (["check", "--format", "j"], ["json", "junit"], False),
             (["matrix", "--format", ""], ["text", "csv", "html"], False),
+            (["agree", "--format", ""], ["text", "json", "csv"], False),
+            (["agree", "first", ""], [], True),
             (["check", "--jobs", ""], [], False),
             (["check", ""], [], True),
             (["check", "--tml", ""], [], True),

@@ -4,6 +4,7 @@ from __future__ import annotations
 
 import itertools
 import os
+import re
 import stat
 import subprocess
 import sys
@@ -14,7 +15,7 @@ from dataclasses import replace
 from pathlib import Path
 from random import Random
 
-from corpus import TML, TOOLS, needs_matrix
+from corpus import TML, TOOLS, needs_matrix, needs_score
 
 sys.path.insert(0, TOOLS)
 
@@ -23,7 +24,7 @@ from differential_testing.cases import Case, Memory, Output, Real
 from differential_testing.comparing import complaint
 from differential_testing.datetimes import bounds
 from differential_testing.documents import draw_document
-from differential_testing.drawing import Written, draw_case, draw_joining, draw_of_evidence, draw_writing, draw_wrong
+from differential_testing.drawing import Written, draw_case, draw_joining, draw_of_evidence, draw_scored, draw_writing, draw_wrong
 from differential_testing.evidence import blocks_of, joined, older_text, text_of
 from differential_testing.faulty import draw_too_many
 from differential_testing.keeping import keep, kept
@@ -111,6 +112,16 @@ class Drawing(unittest.TestCase):
             (b"join", b"read fault"),
         ):
             self.assertGreater(beginnings[command, text], 0, (command, text))
+
+    def test_all_answers_to_score_are_drawn(self) -> None:
+        random, answers = Random(6), Counter[str]()
+        for case in (draw_scored(random) for _ in range(600)):
+            found = expected(case.words, case.files)
+            text = found.text.decode() if isinstance(found, Outcome) else "clash"
+            answers[re.sub(r"[1-9]\d*", "N", text) if text.startswith("precision") else re.sub(r"^fault.*", "fault", " ".join(text.split()[:2]))] += 1
+        scores = ("precision N of N\nrecall N of N\n", "precision 0 of N\nrecall N of N\n", "precision 0 of 0\nrecall 0 of 0\n")
+        for answer in (*scores, "fault", "key fault", "clash", "key clash", "read fault"):
+            self.assertGreater(answers[answer], 0, (answer, answers))
 
     def test_a_second_file_that_fails_is_drawn(self) -> None:
         random, failing = Random(5), 0
@@ -233,6 +244,9 @@ class Agreeing(unittest.TestCase):
             (b"matrix", b"a c BEFORE", b"a c BEFORE AFTER"),
             (b"matrix", b"b c BEFORE\n", b""),
             (b"relations", b"a BEFORE c\n", b""),
+            (b"reduce", b"reduced 2 of 2", b"reduced 1 of 2"),
+            (b"reduce", b"tlink 1 b BEFORE c\n", b""),
+            (b"score", b"precision 2", b"precision 1"),
         ]
         for command, old, new in slips:
             case, outcome, others = self.answers(b"a", b"b")
@@ -316,6 +330,12 @@ class Runs(unittest.TestCase):
         status, said = self.differential("--evidence", "--count", "100", "2", "8")
         self.assertEqual(status, 0, said)
 
+    @needs_score
+    def test_links_without_a_difference(self) -> None:
+        status, said = self.differential("--links", "--count", "100", "2", "9")
+        self.assertEqual(status, 0, said)
+        self.assertRegex(said, r"(?m)^reducing \d+; scored \d+$")
+
     def test_a_lie_about_a_fault_is_found_and_made_small(self) -> None:
         lie = self.lying('if [ "$1" = check ]; then "$T" "$@" > out; S=$?; sed "s/^fault [4-9] /fault 3 /" out; exit $S; fi')
         status, said = self.differential("--processes", "--count", "100", "--small", "1", "2", "1", tml=lie)
@@ -354,6 +374,14 @@ class Runs(unittest.TestCase):
             status, said = self.differential("--processes", "--count", "320", "--small", "0", "2", "1", tml=program)
             self.assertEqual(status, 1, said)
             self.assertIn("difference (agreed)", said)
+
+    @needs_score
+    def test_lies_about_links_are_found(self) -> None:
+        for command, lie in (("reduce", "s/^reduced [1-9]/reduced 0/"), ("score", "s/^recall [1-9]/recall 0/")):
+            program = self.lying(f'if [ "$1" = {command} ]; then "$T" "$@" > out; S=$?; sed "{lie}" out; exit $S; fi')
+            status, said = self.differential("--processes", "--links", "--count", "100", "--small", "0", "2", "1", tml=program)
+            self.assertEqual(status, 1, said)
+            self.assertRegex(said, r"difference \((scored|reducing)\)")
 
     def test_tables_and_processes_agree(self) -> None:
         if not os.access(rows_path(), os.X_OK):

@@ -8,7 +8,7 @@ import re
 import subprocess
 import unittest
 
-from corpus import EVENT, INSTANCE, TML, TOP, CorpusTest, document, needs_matrix
+from corpus import EVENT, INSTANCE, TML, TOP, CorpusTest, document, needs_matrix, needs_score
 
 from reference import Free, Outcome, expected, judge, judge_failing
 from reference.checking import first_refusal, is_supported, refusal
@@ -273,7 +273,7 @@ class PossibleRelations(unittest.TestCase):
     def test_words(self):
         for line in ("possible d", "possible d a", "possible d a b c", "possible", "matrix", "matrix d d", "Matrix d"):
             found = expected([word.encode() for word in line.split()], {b"d": b"<TimeML/>"})
-            self.assertEqual((found.status, found.text.splitlines()[-2:]), (3, [b"tml possible DOC X Y", b"tml matrix DOC"]), line)
+            self.assertEqual((found.status, found.text.splitlines()[-4:-2]), (3, [b"tml possible DOC X Y", b"tml matrix DOC"]), line)
 
 
 class Overlaps(unittest.TestCase):
@@ -418,6 +418,15 @@ class Program(CorpusTest):
         files = {b"d": files[b"samples/rates.xml"]}
         for left, right in itertools.product([b"ei1", b"t1", b"e1"], [b"t0", b"ei1", b"ei2"]):
             self.is_right([b"possible", b"d", left, right], files)
+
+    @needs_score
+    def test_reduced_links_and_scores(self):
+        files = samples()
+        names = sorted(name for name in files if name.endswith(b".xml"))
+        for name, other in itertools.product(names, repeat=2):
+            self.is_right([b"score", name, other], files)
+        for name in names:
+            self.is_right([b"reduce", name], files)
 
     def test_questions(self):
         files = {b"d": samples()[b"samples/rates.xml"]}

@@ -5,7 +5,7 @@ import subprocess
 import sys
 import unittest
 
-from corpus import EVENT, INSTANCE, TML, TOOLS, CorpusTest, document
+from corpus import EVENT, INSTANCE, TML, TOOLS, CorpusTest, document, needs_score
 
 A, B = '<TIMEX3 tid="a" type="SET"/>', '<TIMEX3 tid="b" type="SET"/>'
 RELATIONS = [
@@ -59,30 +59,36 @@ class ScriptTest(CorpusTest):
                 self.assertEqual(self.run_script(name, "--no-such-option")[0], 2)
 
 
+@needs_score
 class RedundantLinks(ScriptTest):
-    def test_each_and_together(self):
+    def test_links_that_are_named(self):
         times = "".join(f'<TIMEX3 tid="{name}" type="SET"/>' for name in "abc")
         chain = link("a", "BEFORE", "b") + "\n" + link("b", "BEFORE", "c", "> </TLINK>") + "\n"
         rows = [
-            (chain, [], []),
-            (chain + link("a", "BEFORE", "c"), ["4:1"], ["4:1"]),
-            (chain + link("b", "AFTER", "a") + "\n" + link("c", "AFTER", "b"), ["2:85", "3:1", "4:1", "5:1"], ["4:1", "5:1"]),
-            (chain + link("a", "DURING", "b", "><!-- x --></TLINK>"), None, None),
+            (chain, []),
+            (chain + link("a", "BEFORE", "c"), ["4:1"]),
+            (chain + link("b", "AFTER", "a") + "\n" + link("c", "AFTER", "b"), ["2:85", "3:1"]),
+            (chain + link("a", "DURING", "b", "><!-- x --></TLINK>"), None),
         ]
-        for links, alone, together in rows:
+        for links, places in rows:
             with self.subTest(links):
                 self.write("d e.xml", document(times + links))
-                for words, places in (((), alone), (("--together",), together)):
-                    status, out, error = self.run_script("redundant-links", *words, "d e.xml")
-                    printed = [":".join(line.split(":")[1:3]) for line in out.splitlines() if ": follows: " in line]
-                    self.assertEqual((status, printed, error), (2, [], "") if places is None else (1 if places else 0, places, ""))
+                status, out, error = self.run_script("redundant-links", "d e.xml")
+                printed = [":".join(line.split(":")[1:3]) for line in out.splitlines() if ": follows: " in line]
+                self.assertEqual((status, printed, error), (2, [], "") if places is None else (1 if places else 0, places, ""))
 
-    def test_what_is_named_together_follows_from_the_rest(self):
+    def test_words_of_the_text(self):
+        self.write("d.xml", document(f"<s>{EVENT} {A}</s>{INSTANCE}" + 2 * '<TLINK eventInstanceID="i1" relatedToTime="a" relType="ENDS"/>'))
+        _, out, _ = self.run_script("redundant-links", "d.xml")
+        self.assertEqual(out.splitlines()[0], "d.xml:2:114: follows: x ENDS a (link 0: i1 ENDS a)")
+        self.assertEqual(out.splitlines()[1:], ["1 file, 0 not asked about; links that follow from those that are kept: 1 of 2"])
+
+    def test_what_is_named_follows_from_the_rest(self):
         names = [f"t{number}" for number in range(5)]
         times = "".join(f'<TIMEX3 tid="{name}" type="SET"/>' for name in names)
         links = [link(a, "BEFORE", b) for a in names for b in names if a < b]
         self.write("d.xml", document(times + "\n" + "\n".join(links) + "\n"))
-        lines = self.run_script("redundant-links", "--together", "d.xml")[1].splitlines()
+        lines = self.run_script("redundant-links", "d.xml")[1].splitlines()
         left_out = {int(line.split(":")[1]) for line in lines if ": follows: " in line}
         self.assertEqual(len(left_out), 6)
         with open(self.path("d.xml"), encoding="utf-8") as file:
@@ -99,9 +105,9 @@ class RedundantLinks(ScriptTest):
             out.splitlines(),
             [
                 "./a.xml: not asked: fault 10 MissingAttribute at 2:1",
-                "./b.xml: not asked: no timeline fits it: see tools/tml-corpus clashes",
+                "./b.xml: not asked: no timeline fits it: see tml-corpus clashes",
                 "gone.xml: not asked: no such file or directory",
-                "4 files, 3 not asked about; links that follow from the others of their document: 0 of 1",
+                "4 files, 3 not asked about; links that follow from those that are kept: 0 of 1",
             ],
         )
 

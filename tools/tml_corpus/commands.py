@@ -42,6 +42,7 @@ EXAMPLES = """Examples:
   tools/tml-corpus {0} --cluster tcp://head:8786 --tml /shared/bin/tml /shared/corpus"""
 FORMS = ("text", "json", "junit", "github")
 MATRIX_FORMS = ("text", "csv", "html")
+AGREE_FORMS = ("text", "json", "csv")
 TOUCHING = "read links between dates that touch as the relation that holds, as IBEFORE for BEFORE, and list them"
 
 
@@ -94,7 +95,7 @@ def prepared(options: argparse.Namespace, stop: Interruption) -> Iterator[None]:
 
 def settings_of(options: argparse.Namespace) -> Settings:
     """What the file of settings says that lies where the paths are; standard input lies in the current folder."""
-    paths = getattr(options, "paths", None) or [options.document]
+    paths = getattr(options, "paths", None) or [options.document, getattr(options, "key", options.document)]
     return settings_for(["." if path == STANDARD_INPUT else path for path in paths], options.config)
 
 
@@ -141,14 +142,15 @@ def parser() -> Parser:
     clashes.set_defaults(command=clashes_command)
     shared_words(check, "faults or clashes")
     shared_words(clashes, "clashes")
-    fixes, opens = fix_words(commands), open_words(commands)
+    fixes, opens, agrees = fix_words(commands), open_words(commands), agree_words(commands)
     for command in (check, tags, clashes, fixes):
         command.add_argument("paths", nargs="+", metavar="PATH", help="a file, or a folder to search")
+    for command in (check, tags, clashes, fixes, agrees):
         command.add_argument("--glob", action="append", metavar="PATTERN", help=f"names to look for in folders (default {' '.join(PATTERNS)})")
         command.add_argument("--jobs", type=int, metavar="N", help="how many files at once (default: one a processor)")
-    for command in (check, clashes):
+    for command in (check, clashes, agrees):
         command.add_argument("--cluster", metavar="ADDRESS", help="work on a Dask cluster, whose workers see the files and tml by the same paths; --jobs says nothing then")
-    for command in (check, tags, clashes, fixes, timeline_words(commands), matrix_words(commands), opens):
+    for command in (check, tags, clashes, fixes, timeline_words(commands), matrix_words(commands), opens, agrees):
         command.add_argument("--config", metavar="FILE", help="the settings (default: tml-corpus.toml in the folder of the paths or nearest above)")
         command.add_argument("--tml", metavar="PROGRAM", help="the program tml (default: that of this repository, else that on PATH)")
     return whole
@@ -245,6 +247,25 @@ def open_words(commands: argparse._SubParsersAction[Parser]) -> Parser:
     words.add_argument("--jobs", type=int, metavar="N", help="how many pairs at once (default: one a processor)")
     words.add_argument("--touching", action="store_true", help=TOUCHING)
     words.set_defaults(command=open_command)
+    return words
+
+
+def agree_words(commands: argparse._SubParsersAction[Parser]) -> Parser:
+    """The words of `agree`, which is about two annotations of the same texts."""
+    words = commands.add_parser(
+        "agree",
+        help="say how far the links of two annotations of the same texts agree",
+        description="Compares the links of documents with those of the key, file by file of the same name: precision, recall and F1 over "
+        "links without redundancy, as tml score counts them, then their sums and means over the corpus. What has no partner, a fault or a "
+        "clash is listed and not counted.",
+        epilog="Example: tools/tml-corpus agree --links first second",
+    )
+    words.add_argument("document", metavar="DIR", help="a folder, or a file")
+    words.add_argument("key", metavar="KEYDIR", help="the folder with the key, or the file")
+    words.add_argument("--links", action="store_true", help="name the links of the one that do not follow in the other, with their places")
+    words.add_argument("--format", choices=AGREE_FORMS, default="text", help="the form of the output")
+    words.add_argument("--touching", action="store_true", help=TOUCHING)
+    words.set_defaults(command=agree_command)
     return words
 
 
@@ -382,7 +403,7 @@ def fix_command(options: argparse.Namespace, stop: Interruption) -> int:
 def write_summary(options: argparse.Namespace, apart: bool, text: str) -> None:
     """Prints a summary: on standard error where the output is for programs."""
     sys.stdout.flush()
-    if not options.quiet:
+    if not getattr(options, "quiet", False):
         (sys.stderr if apart else sys.stdout).write(text)
 
 
@@ -463,3 +484,31 @@ def open_command(options: argparse.Namespace, stop: Interruption) -> int:
 
     bounds = Bounds(options.pairs, options.limit)
     return show_open(options.program, options.document, bounds, options.touching, options.in_order, stop)
+
+
+def agree_command(options: argparse.Namespace, stop: Interruption) -> int:
+    """`tml-corpus agree`."""
+    from . import agree
+    from .agree_formats import FORMS, Summary
+
+    if options.links and options.format == "csv":
+        raise CannotRun("--links goes with --format text or json")
+    sides, form, summary = agree.sides_of(options.document, options.key), FORMS[options.format](), Summary()
+    pairs, wanted = agree.find_pairs(sides, patterns_of(options)), agree.Wanted(options.links, options.touching)
+
+    def reported(report: agree.PairReport) -> str:
+        summary.add(report)
+        return form.pair(report)
+
+    def lost(one: Found) -> agree.PairReport:
+        ended = agree.NotCounted(one.path, agree.NOT_JUDGED, ENDED)
+        return agree.PairReport(sides.name_of(one.path), one.path, sides.key_of(one.path), not_counted=ended)
+
+    sys.stdout.write(form.start())
+    each(options, stop, pairs.found, partial(agree.compare, options.program, sides, wanted=wanted), lost, reported)
+    for one in pairs.not_counted:
+        summary.leave_out(one)
+        sys.stdout.write(form.not_counted(one))
+    sys.stdout.write(form.sums(summary.corpus))
+    write_summary(options, form.summary_apart, summary.text(stop.happened.is_set()))
+    return summary.status()

@@ -5,6 +5,7 @@ from __future__ import annotations
 import io
 import os
 import shutil
+import tempfile
 from collections.abc import Iterator
 from dataclasses import dataclass
 from typing import IO
@@ -96,6 +97,16 @@ class Program:
         if problem is not None:
             raise CannotRun(problem)
         return Reply(status, text, "matrix", len(document))
+
+    def score(self, document: bytes, key: bytes) -> Reply:
+        """`tml score` of two documents in memory."""
+        try:
+            with tempfile.TemporaryFile(buffering=0) as file:
+                file.write(self.seen(key))
+                file.seek(0)
+                return self.ask(["score", "-"], document, file)
+        except OSError as error:
+            raise CannotRun(f"the key cannot be kept: {error}") from None
 
     def check(self, document: bytes | IO[bytes]) -> Reply:
         """`tml check` of a document in memory or of an open file."""

@@ -6,7 +6,7 @@ So what another program answers, or a `tml` that does not work, is no judgement.
 from __future__ import annotations
 
 import re
-from collections.abc import Sequence
+from collections.abc import Callable, Mapping, Sequence
 
 from .statuses import EVIDENCE_LIMIT, FAULT_NAMES, RELATIONS, TmlStatus
 
@@ -25,27 +25,33 @@ CLAIM = rb"verified (?:timeline|(?:entails|counter) %s (?:%s) %s|clash \d+(?: \d
 DONE = {
     "dates": re.compile(rb"(?:%s (?:free|(?:exact|within) -?\d+ -?\d+ [\dT:-]+ [\dT:-]+)\n)*" % NAME),
     "solve": re.compile(EVIDENCE + rb"timeline \d+\n(?s:.*)(?<=\n)end\n"),
-    "ask": re.compile(EVIDENCE + rb"(?:entails|counter) \d+ (%s) \d+\n(?s:.*)(?<=\n)end\n" % RELATION),
     "relations": re.compile(rb"(?:%s (?:%s) %s\n)*" % (NAME, RELATION, NAME)),
     "canon": re.compile(rb"<(?s:.*)\n"),
     "verify": re.compile(rb"(?:%s)+" % CLAIM),
+    "reduce": re.compile(rb"reduced (\d+) of (\d+)\n((?:tlink \d+ %s (?:%s) %s\n)*)" % (NAME, RELATION, NAME)),
+    "score": re.compile(rb"precision (\d+) of (\d+)\nrecall (\d+) of (\d+)\n"),
 }
-"""The texts with status 0; of `check` and `spans` more is asked, and of `matrix` line by line."""
+"""The texts with status 0; of `check`, `spans`, `reduce` and `score` more is asked, and of `matrix` line by line."""
+
+OF_KEY = b"key "
+"""What stands before a line of `score` that is about its second document."""
+
+OF_NETS = ("solve", "relations", "matrix", "reduce", "score")
+"""The commands that answer a clash where no timeline fits."""
 
 OTHER = {
-    TmlStatus.CLASH: (("solve", "ask", "relations", "matrix"), re.compile(EVIDENCE + rb"clash \d+\ncite \d+\n(?s:.*)(?<=\n)end\n")),
+    TmlStatus.CLASH: (OF_NETS, re.compile(EVIDENCE + rb"clash \d+\ncite \d+\n(?s:.*)(?<=\n)end\n")),
     TmlStatus.READ_FAULT: (None, re.compile(rb"read fault\n")),
     TmlStatus.NO_MEMORY: (None, re.compile(rb"")),
     TmlStatus.EVIDENCE_FAULT: (("verify",), re.compile(rb"evidence (?:line \d+|claim \d+ part \d+ [ \w]+)\n")),
-    TmlStatus.UNKNOWN_NAME: (("ask",), re.compile(rb"unknown (?:X|REL|Y)\n")),
-    TmlStatus.TOO_LONG: (None, re.compile(rb"too long (?:DOC|EVIDENCE)\n")),
+    TmlStatus.TOO_LONG: (None, re.compile(rb"too long (?:DOC|EVIDENCE|KEY)\n")),
 }
 """The commands that may end with a status, where not all may, and the text that goes with it."""
 
 MEBIBYTE = 1024 * 1024
 LONGEST = {
-    "solve": EVIDENCE_LIMIT, "ask": EVIDENCE_LIMIT, "relations": 64 * MEBIBYTE, "canon": 32 * MEBIBYTE, "spans": 64 * MEBIBYTE,
-    "matrix": 128 * MEBIBYTE,
+    "solve": EVIDENCE_LIMIT, "relations": 64 * MEBIBYTE, "canon": 32 * MEBIBYTE, "spans": 64 * MEBIBYTE,
+    "matrix": 128 * MEBIBYTE, "reduce": EVIDENCE_LIMIT, "score": EVIDENCE_LIMIT,
 }  # fmt: skip
 """So many bytes a reply may have, where it may have more than one MiB: more is not read."""
 
@@ -74,6 +80,9 @@ def refusal(words: Sequence[str], status: int, text: bytes, size: int | None) ->
 
 def fits(words: Sequence[str], status: TmlStatus, text: bytes, size: int | None) -> bool:
     """Whether the text is one that goes with the status."""
+    if words[0] == "score" and text.startswith(OF_KEY):
+        rest = text.removeprefix(OF_KEY)
+        return rest == b"clash\n" if status == TmlStatus.CLASH else status == TmlStatus.DOC_FAULT and fault_fits("score", rest, None)
     if status == TmlStatus.DOC_FAULT:
         return fault_fits(words[0], text, size)
     if status in OTHER:
@@ -83,7 +92,23 @@ def fits(words: Sequence[str], status: TmlStatus, text: bytes, size: int | None)
     if words[0] == "spans":
         return text.startswith(b"0 ") if size or text else size is not None
     found = DONE[words[0]].fullmatch(text)
-    return found is not None and (words[0] != "ask" or found[1] == words[3].encode("utf-8", "surrogateescape"))
+    return found is not None and (words[0] not in COUNTED or COUNTED[words[0]](found))
+
+
+def reduced_fits(found: re.Match[bytes]) -> bool:
+    """Whether the counts of `tml reduce` are those of its lines, whose numbers rise and are numbers of links."""
+    numbers = numbers_of(found[3])
+    return len(numbers) == int(found[1]) and numbers == sorted({number for number in numbers if number < int(found[2])})
+
+
+def scores_fit(found: re.Match[bytes]) -> bool:
+    """Whether no count of `tml score` is greater than the one of which it is a part."""
+    matched, links, found_links, key_links = map(int, found.groups())
+    return matched <= links and found_links <= key_links
+
+
+COUNTED: Mapping[str, Callable[[re.Match[bytes]], bool]] = {"reduce": reduced_fits, "score": scores_fit}
+"""What is asked of the counts in a text with status 0, besides its form."""
 
 
 def fault_fits(command: str, text: bytes, size: int | None) -> bool:
@@ -107,5 +132,10 @@ def counts_fit(text: bytes) -> bool:
 
 def numbered(lines: bytes) -> int:
     """How many lines there are, or -1 where they are not numbered from 0 on."""
-    numbers = [int(line.split(b" ", 2)[1]) for line in lines.splitlines()]
+    numbers = numbers_of(lines)
     return len(numbers) if numbers == list(range(len(numbers))) else -1
+
+
+def numbers_of(lines: bytes) -> list[int]:
+    """The numbers of lines: each stands after the first word."""
+    return [int(line.split(b" ", 2)[1]) for line in lines.splitlines()]
