@@ -1,25 +1,8 @@
--- A word names an interval of a document, or none.
+-- The names of intervals.
 use Rattle.std.proofs.Common.{◌≡◌, ℕ, zero, suc, ◌+◌, ◌<◌, List, [], ◌∷◌, ◌++◌, None, Some, get_or, length, map, take, refl, ap, subst, ◌∙◌, arith}
 use Rattle.std.specs.List.{slice_get}
-use mathlib.Core.List.{List-discrete}
-use native.Mathlib.Decide.{ℕ_discrete}
 use Rattle.answers.specs.Lines.{name_at}
-use Rattle.tml_refs.specs.Documents.{IsNamed, PlainInterval, name_of}
-
--- an interval has this name, or none has
-pub named_or_not : (intervals : List PlainInterval) (name : List ℕ) → Dec ((i : ℕ) × IsNamed intervals name i)
-named_or_not [] name = no (λ h. let at = h.1.1 in cc)
-named_or_not (interval ∷ intervals) name = elim (List-discrete ℕ_discrete (name_of interval) name) [
-  | yes same ↦ yes (0, (interval, refl, same))
-  | no other ↦ elim (named_or_not intervals name) [
-    | yes later ↦ yes (suc later.0, later.1)
-    | no none ↦ no (λ h. neither other none h.0 h.1)
-  ]
-]
-  where
-    neither : (name_of interval ≡ name → ⊥) → ((i : ℕ) × IsNamed intervals name i → ⊥) → (i : ℕ) → IsNamed (interval ∷ intervals) name i → ⊥
-    neither other none zero named = let same : interval ≡ named.0 = let at = named.1 in cc in other (ap name_of same ∙ named.2)
-    neither other none (suc i) named = none (i, named)
+use Rattle.tml_refs.specs.Documents.{PlainInterval, name_of}
 
 -- one element more
 next_element : {A : Type 0} (xs : List A) (i : ℕ) (x : A) → slice_get xs i ≡ Some x → take (suc i) xs ≡ take i xs ++ x ∷ []

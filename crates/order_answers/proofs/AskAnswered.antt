@@ -1,7 +1,7 @@
 -- Whether a relation holds has one answer: one status, and one text, but for which walks prove a relation and which clash is printed.
 use Rattle.std.proofs.Common.{◌≡◌, ◌⊎◌, ℕ, List, codes, false, refl, sym, ap, subst, ◌∙◌, inl, inr, Option, Some, None}
 use Rattle.answers.proofs.Answered.{contents_answered}
-use Rattle.answers.proofs.NamedIntervals.{named_or_not}
+use Rattle.tml_refs.proofs.NamedIntervals.{named_or_not}
 use Rattle.answers.specs.Documents.{AreAnswered as ContentsAreAnswered, doc_file, of_contents, of_its_contents}
 use Rattle.named.specs.Texts.{NoneHas, named_of}
 use Rattle.named.proofs.Tables.{found_has, none_has, texts_tell}

@@ -3,7 +3,7 @@ use Rattle.std.proofs.Common.{◌≡◌, inl, inr, ℕ, List, [], ◌∷◌, cod
 use Rattle.answers.specs.Documents.{AreAnswered as ContentsAreAnswered, doc_file, of_contents, of_its_contents}
 use Rattle.answers.specs.Names.{NamesOne}
 use Rattle.answers.proofs.Answered.{contents_answered}
-use Rattle.answers.proofs.NamedIntervals.{named_or_not}
+use Rattle.tml_refs.proofs.NamedIntervals.{named_or_not}
 use Rattle.clash.specs.Closures.{IsClosureOf}
 use Rattle.clash.proofs.Answered.{closed_net}
 use Rattle.net_answers.specs.Nets.{ClashIsFree, of_fitting}

@@ -19,3 +19,4 @@ pub mod Taken
 pub mod Finishing
 pub mod OneAnswer
 pub mod DocumentOrFault
+pub mod NamedIntervals

@@ -181,7 +181,7 @@ reduced_when_done net keep links are rising exact = record {
 
 module _ (net : PlainNet) (is : IsNet net) (u : Timeline) (all_fit_u : Fits net u) where
   -- some orders hold in all timelines that fit with some links, or one of them fails in one
-  atoms_decided : (keep : List Bool) (atoms : List Atom) → AllByRecursion (IsInRange (points net)) atoms
+  pub atoms_decided : (keep : List Bool) (atoms : List Atom) → AllByRecursion (IsInRange (points net)) atoms
       → ((t : Timeline) → FitsWith net (Kept keep) t → AllByRecursion (Satisfies t) atoms) ⊎ ((t : Timeline) × FitsWith net (Kept keep) t × (AllByRecursion (Satisfies t) atoms → ⊥))
   atoms_decided keep [] range = inl (λ t fits. tt)
   atoms_decided keep (atom ∷ atoms) range = elim (walk_or_counter net (λ j. slice_index_or keep j false) is u atom (fits_fewer net EveryLink (Kept keep) u (λ k below kept. tt) all_fit_u) range.0) [

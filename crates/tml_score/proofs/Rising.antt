@@ -1,20 +1,51 @@
--- Lists that rise.
-use Rattle.std.proofs.Common.{◌≡◌, ◌↔◌, ◌⊎◌, inl, inr, ℕ, zero, suc, ◌+◌, ◌<◌, ◌≤◌, List, [], ◌∷◌, length, slice_index, slice_index_or, refl, sym, ap, subst, ◌∙◌, arith}
-use Rattle.std.specs.List.{Contains}
+-- Elements of lists, and lists that rise.
+use Rattle.std.proofs.Common.{◌≡◌, ◌↔◌, ◌⊎◌, inl, inr, ℕ, zero, suc, ◌+◌, ◌<◌, ◌≤◌, Bool, true, false, cond, List, [], ◌∷◌, length, slice_index, slice_index_or, refl, sym, ap, subst, ◌∙◌, arith}
+use Rattle.std.specs.List.{All, Contains, filter}
 use Rattle.std.specs.List.Sorted.{IsStrictlyIncreasing}
-use Rattle.std.proofs.lemmas.Bool.{cases_eq}
+use Rattle.std.proofs.lemmas.Bool.{cases_eq, cases_lt}
 use Rattle.std.proofs.lemmas.List.{get_or_default}
+use Rattle.std.proofs.lemmas.List.Elements.{All-contains_itself, All-weaker}
 
 -- an element of a list is its first, or one of the others
-pub first_or_rest : (x : ℕ) (xs : List ℕ) (k : ℕ) → Contains (x ∷ xs) k → (x ≡ k) ⊎ Contains xs k
+pub first_or_rest : {X : Type 0} (x : X) (xs : List X) (k : X) → Contains (x ∷ xs) k → (x ≡ k) ⊎ Contains xs k
 first_or_rest x xs k (zero, lt, e) = inl e
 first_or_rest x xs k (suc i, lt, e) = inr (i, omega (arith, lt), e)
 
-pub first_in : (x : ℕ) (xs : List ℕ) → Contains (x ∷ xs) x
+pub first_in : {X : Type 0} (x : X) (xs : List X) → Contains (x ∷ xs) x
 first_in x xs = (0, omega arith, refl)
 
-pub rest_in : (x : ℕ) (xs : List ℕ) (k : ℕ) → Contains xs k → Contains (x ∷ xs) k
+pub rest_in : {X : Type 0} (x : X) (xs : List X) (k : X) → Contains xs k → Contains (x ∷ xs) k
 rest_in x xs k (i, lt, e) = (suc i, omega (arith, lt), e)
+
+-- so it is of one element more, which passes or fails
+by_first : {X : Type 0} (p : X → Bool) (y : X) (ys : List X) (x : X) (b : Bool) → p y ≡ b → Contains (filter p ys) x ↔ (Contains ys x × (p x ≡ true))
+    → Contains (cond b (y ∷ filter p ys) (filter p ys)) x ↔ (Contains (y ∷ ys) x × (p x ≡ true))
+by_first p y ys x true e rest = (
+  λ h. elim (first_or_rest y (filter p ys) x h) [
+    | inl is ↦ (subst (Contains (y ∷ ys)) is (first_in y ys), sym (ap p is) ∙ e)
+    | inr among ↦ let both = rest.0 among in (rest_in y ys x both.0, both.1)
+  ],
+  λ h. elim (first_or_rest y ys x h.0) [
+    | inl is ↦ subst (Contains (y ∷ filter p ys)) is (first_in y (filter p ys))
+    | inr among ↦ rest_in y (filter p ys) x (rest.1 (among, h.1))
+  ],
+)
+by_first p y ys x false e rest = (
+  λ h. let both = rest.0 h in (rest_in y ys x both.0, both.1),
+  λ h. elim (first_or_rest y ys x h.0) [
+    | inl is ↦ absurd (let passes = h.1 in let both : false ≡ true = sym e ∙ ap p is ∙ passes in cc)
+    | inr among ↦ rest.1 (among, h.1)
+  ],
+)
+
+-- the elements of a filtered list are those that pass
+pub in_filter : {X : Type 0} (p : X → Bool) (xs : List X) (x : X) → Contains (filter p xs) x ↔ (Contains xs x × (p x ≡ true))
+in_filter p [] x = (λ h. let lt = h.1 in absurd (omega arith), λ h. let lt = h.0.1 in absurd (omega arith))
+in_filter p (y ∷ ys) x = by_first p y ys x (p y) refl (in_filter p ys x)
+
+-- what is true of each element is true of all
+pub every : {X : Type 0} (P : X → Type 0) (xs : List X) → ((x : X) → Contains xs x → P x) → All P xs
+every P xs each = All-weaker (Contains xs) P each xs (All-contains_itself xs)
 
 -- whether a number is in a list
 pub member_or_not : (xs : List ℕ) (k : ℕ) → Contains xs k ⊎ (Contains xs k → ⊥)
@@ -27,15 +58,23 @@ member_or_not (x ∷ xs) k = elim (cases_eq x k) [
   ]
 ]
 
+-- the first two elements after any number of others
+next_above : (x : ℕ) (xs : List ℕ) → IsStrictlyIncreasing (x ∷ xs) → (i : ℕ) → suc i < length xs → slice_index xs i < slice_index xs (suc i)
+next_above x xs rising i lt =
+    let next : suc i + 1 ≡ suc (suc i) = omega arith in
+    subst (λ (n : ℕ). slice_index xs i < slice_index (x ∷ xs) n) next (rising (suc i) (omega (arith, lt)))
+
 tail_rises : (x : ℕ) (xs : List ℕ) → IsStrictlyIncreasing (x ∷ xs) → IsStrictlyIncreasing xs
-tail_rises x xs rising i lt = rising (i + 1) (omega (arith, lt))
+tail_rises x xs rising i lt =
+    let next : suc i ≡ i + 1 = omega arith in
+    subst (λ (n : ℕ). slice_index xs i < slice_index xs n) next (next_above x xs rising i (omega (arith, lt)))
 
 -- the first element is below the others
 first_below : (x : ℕ) (xs : List ℕ) → IsStrictlyIncreasing (x ∷ xs) → (i : ℕ) → i < length xs → x < slice_index xs i
 first_below x xs rising zero lt = rising 0 (omega (arith, lt))
 first_below x xs rising (suc i) lt =
     let before = first_below x xs rising i (omega (arith, lt)) in
-    let step : slice_index xs i < slice_index xs (suc i) = rising (suc i) (omega (arith, lt)) in
+    let step = next_above x xs rising i lt in
     omega arith
 
 first_least : (x : ℕ) (xs : List ℕ) (k : ℕ) → IsStrictlyIncreasing (x ∷ xs) → Contains xs k → x < k
@@ -65,3 +104,19 @@ one_rising (x ∷ xs) (y ∷ ys) rx ry same =
       ],
     )) in
     λ i. firsts i ∷ rests i
+
+-- an element is no less than its place
+no_less : (xs : List ℕ) → IsStrictlyIncreasing xs → (i : ℕ) → i < length xs → i ≤ slice_index xs i
+no_less xs rising zero lt = omega arith
+no_less xs rising (suc i) lt =
+    let before = no_less xs rising i (omega (arith, lt)) in
+    let next : i + 1 ≡ suc i = omega arith in
+    let step : slice_index xs i < slice_index xs (suc i) = subst (λ (n : ℕ). slice_index xs i < slice_index xs n) next (rising i (omega (arith, lt))) in
+    omega arith
+
+-- a list of numbers below n has n elements at most
+pub few_rising : (n : ℕ) (xs : List ℕ) → IsStrictlyIncreasing xs → All (λ (k : ℕ). k < n) xs → length xs ≤ n
+few_rising n xs rising below = elim (cases_lt n (length xs)) [
+  | inl more ↦ absurd (let low = no_less xs rising n more in let high = below n 0 more in omega arith)
+  | inr few ↦ few
+]

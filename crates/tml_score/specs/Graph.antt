@@ -1,5 +1,5 @@
 -- The orders of a net, by the points that they leave.
-use Rattle.std.specs.Prelude.{◌≡◌, ◌↔◌, ◌⊎◌, ℕ, ◌<◌, ⊤, List, length, Option, Some, None}
+use Rattle.std.specs.Prelude.{◌≡◌, ◌↔◌, ◌⊎◌, ℕ, ◌<◌, Bool, true, List, length, Option, Some, None}
 use Rattle.std.specs.List.{All, Contains}
 use Rattle.std.specs.List.Sorted.{IsNonDecreasingBy}
 use Rattle.clash.specs.Orders.{AreFixed}
@@ -23,6 +23,11 @@ IsOfLink net k order = (order.link ≡ Some k) × Contains (link_atoms net k) or
 -- the order is one of those of some link
 abbrev pub IsOfSome : PlainNet → Order → Type 0
 IsOfSome net order = (k : ℕ) × (k < length net.links) × IsOfLink net k order
+
+-- whether an order counts: it is of no link, or of one that passes a test
+abbrev pub counts : (ℕ → Bool) → Option ℕ → Bool
+counts test None = true
+counts test (Some k) = test k
 
 -- the new list has the old orders, and those of a set
 abbrev pub Adds : (Order → Type 0) → List Order → List Order → Type 0

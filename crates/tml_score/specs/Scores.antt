@@ -48,10 +48,15 @@ pub record IsClosedOf (annotation : Annotation) (table : Table) : Type 0 where
 
 -- the law: of two annotations there is one set of scores
 abbrev pub OneScore : Type 0
-OneScore = (doc key : Annotation) (scores others : Scores) → IsDocument doc.contents → IsDocument key.contents → AreScores doc key scores → AreScores doc key others → scores ≡ others
+OneScore = (doc key : Annotation) (scores others : Scores) → AreScores doc key scores → AreScores doc key others → scores ≡ others
 
--- the law: and there is one, where some timeline fits each
+-- an annotation is a document and its net, which some timeline fits
+pub record IsSound (annotation : Annotation) : Type 0 where
+  pub contents : IsDocument annotation.contents
+  pub of_contents : IsNetOf annotation.contents annotation.net
+  pub net : IsNet annotation.net
+  pub fits : HasTimeline annotation.net
+
+-- the law: and there is one, where both annotations are sound
 abbrev pub EveryScore : Type 0
-EveryScore =
-    (doc key : Annotation) → IsNetOf doc.contents doc.net → IsNetOf key.contents key.net → IsNet doc.net → IsNet key.net → HasTimeline doc.net → HasTimeline key.net
-    → (scores : Scores) × AreScores doc key scores
+EveryScore = (doc key : Annotation) → IsSound doc → IsSound key → (scores : Scores) × AreScores doc key scores

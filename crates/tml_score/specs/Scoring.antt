@@ -1,5 +1,5 @@
 -- Partners: intervals of two documents that have one name.
-use Rattle.std.specs.Prelude.{◌≡◌, ℕ, ◌+◌, ◌*◌, ◌<◌, List, length, Option, Some, None, MatchOption, slice_index_or}
+use Rattle.std.specs.Prelude.{◌≡◌, ◌↔◌, ℕ, ◌+◌, ◌*◌, ◌<◌, List, length, Option, Some, None, slice_index_or}
 use Rattle.derive_rel.specs.Entailed.{TableEntails}
 use Rattle.net_core.specs.declared.net.NetLink.{NetLink}
 use Rattle.order_closure.specs.Tables.{Table}
@@ -15,7 +15,7 @@ table_of a = a.table.now
 
 -- the number of the interval of another document that has the name of interval i, or none where there is none
 abbrev pub IsPartner : List PlainInterval → List PlainInterval → ℕ → Option ℕ → Type 0
-IsPartner own other i partner = MatchOption partner ((j : ℕ) → HaveOneName own other i j → ⊥) (HaveOneName own other i)
+IsPartner own other i partner = (j : ℕ) → (partner ≡ Some j) ↔ HaveOneName own other i j
 
 abbrev pub partner_at : List (Option ℕ) → ℕ → Option ℕ
 partner_at partners i = slice_index_or partners i None

@@ -16,7 +16,7 @@ use Rattle.net_core.specs.declared.list.Memory.{Memory}
 use Rattle.order_closure.specs.Cells.{order, strength}
 use Rattle.order_closure.specs.Tables.{Table, cell_at}
 use Rattle.order_closure.specs.declared.cell.Cell.TheVariants.{Free}
-use Rattle.tml_score.specs.Graph.{IsGraphOf, link_atoms}
+use Rattle.tml_score.specs.Graph.{IsGraphOf, counts, link_atoms}
 use Rattle.tml_score.specs.Reached.{PlainReached}
 use Rattle.tml_score.specs.declared.search.Asked.{Asked}
 use Rattle.tml_score.specs.declared.search.Kept.{Kept}
@@ -29,7 +29,7 @@ pub record Basis : Type 0 where
   pub keep : List Bool
 
 abbrev pub basis_of : Kept → Basis
-basis_of kept = record { net = kept.net.now; table = kept.table.now; orders = kept.graph.now.orders.items; keep = kept.keep.now }
+basis_of kept = record { net = kept.net.now; table = kept.table.now; orders = kept.orders.now; keep = kept.keep.now }
 
 -- The links that are kept say the same as all, and some timeline fits.
 pub record IsReady (basis : Basis) : Type 0 where
@@ -50,13 +50,13 @@ pub record IsAsked (basis : Basis) (asked : Asked) : Type 0 where
 abbrev pub Rest : Basis → Asked → ℕ → Type 0
 Rest basis asked = Others (IsKept basis.keep) asked.link
 
--- whether an order is of no link, or of another one that is kept
-abbrev pub remains_of : List Bool → ℕ → Option ℕ → Bool
-remains_of keep link None = true
-remains_of keep link (Some k) = not (k == link) && slice_index_or keep k false
+-- whether a link is another one that is kept
+abbrev pub is_other : List Bool → ℕ → ℕ → Bool
+is_other keep link k = not (k == link) && slice_index_or keep k false
 
+-- whether an order is of no link, or of another one that is kept
 abbrev pub remains : Basis → Asked → Order → Bool
-remains basis asked o = remains_of basis.keep asked.link o.link
+remains basis asked o = counts (is_other basis.keep asked.link) o.link
 
 -- there is a mark for the link of an order, if it is of one
 abbrev pub AreMarks : Basis → Order → Type 0

@@ -1,7 +1,6 @@
 //! The orders of a net, by the points that they leave.
-ghost use Rattle.clash.specs.Orders.{AreFixed};
 ghost use Rattle.std.specs.Prelude.{IfOk, OnOk, length, ◌<◌, ◌≡◌};
-ghost use Rattle.tml_score.specs.Graph.{Adds, AreAll, AreFrom, AreSorted, IsFixed, IsGraphOf, IsOfLink, IsOfSome};
+ghost use Rattle.tml_score.specs.Graph.{Adds, AreFrom, AreSorted, IsFixed, IsGraphOf, IsOfLink, IsOfSome};
 
 use clash::{Order, atoms_of_link, fixed_orders, nth_order};
 use net_core::{Atom, Memory, Net};
@@ -9,43 +8,30 @@ use std::alloc::Global;
 
 /// The orders of a net: those that hold without any link, and those of its links. The orders that leave the lowest point
 /// come first.
-#[derive(Drop)]
-pub struct Graph {
-    pub orders: Vec<Order>,
-}
-
-impl Graph {
-    /// The orders of this net.
-    pub fn new(alloc: Global, net: &Net) -> Result<Graph, Memory>
-        ensures { IfOk result (λ graph. IsGraphOf net.now graph.orders.items) }
-    {
-        let fixed = fixed_orders(alloc, net)?;
-        let orders = sorted_orders(alloc, net, &fixed)?;
-        Ok(Graph { orders })
-    }
-
-    /// The orders that leave a point.
-    pub fn leaving(&self, point: u32) -> &[Order]
-        requires { AreSorted self.now.orders.items }
-        ensures { AreFrom point self.now.orders.items result.now }
-    {
-        let first = self.orders.partition_point(|order| order.atom.from < point);
-        let rest = &self.orders[first..];
-        let count = rest.partition_point(|order| order.atom.from <= point);
-        &rest[..count]
-    }
-}
-
-/// All orders, sorted by the points that they leave.
-fn sorted_orders(alloc: Global, net: &Net, fixed: &[Atom]) -> Result<Vec<Order>, Memory>
-    ensures all { IfOk result (λ orders. AreAll net.now fixed.now orders.items) }
-    ensures sorted { IfOk result (λ orders. AreSorted orders.items) }
+///
+/// # Errors
+///
+/// Out of memory.
+pub fn graph_of(alloc: Global, net: &Net) -> Result<Vec<Order>, Memory>
+    ensures { IfOk result (λ orders. IsGraphOf net.now orders.items) }
 {
+    let fixed = fixed_orders(alloc, net)?;
     let mut orders = Vec::new(alloc);
-    push_fixed(&mut orders, fixed)?;
+    push_fixed(&mut orders, &fixed)?;
     push_links(&mut orders, net)?;
     orders.sort_unstable_by_key(|order| order.atom.from);
     Ok(orders)
+}
+
+/// The orders that leave a point, of sorted ones.
+pub fn orders_from(orders: &[Order], point: u32) -> &[Order]
+    requires { AreSorted orders.now }
+    ensures { AreFrom point orders.now result.now }
+{
+    let first = orders.partition_point(|order| order.atom.from < point);
+    let rest = &orders[first..];
+    let count = rest.partition_point(|order| order.atom.from <= point);
+    &rest[..count]
 }
 
 /// Appends orders that are of no link.

@@ -9,10 +9,10 @@ ghost use Rattle.tml_score.specs.Reduced.{IsReduced};
 ghost use Rattle.tml_score.specs.Reducing.{AreGoneOver, DecidesLink};
 ghost use Rattle.tml_score.specs.Search.{IsReady, basis_of};
 
-use crate::graph::Graph;
+use crate::graph::graph_of;
 use crate::reached::Reached;
 use crate::search::{Asked, Kept};
-use clash::{CloseFault, atoms_of_link, close, marked, nth_order};
+use clash::{CloseFault, Order, atoms_of_link, close, marked, nth_order};
 use net_core::{List, Memory, Net};
 use order_closure::Closed;
 use std::alloc::Global;
@@ -45,16 +45,16 @@ pub fn reduced_by(alloc: Global, net: &Net, table: &Closed) -> Result<List<u32>,
     requires fits { HasTimeline net.now }
     ensures { IfOk result (IsReduced net.now) }
 {
-    let graph = Graph::new(alloc, net)?;
-    let keep = marks(alloc, net, table, &graph)?;
+    let orders = graph_of(alloc, net)?;
+    let keep = marks(alloc, net, table, &orders)?;
     marked(alloc, net, &keep)
 }
 
 /// A mark for each link: those that stay are kept.
-fn marks(alloc: Global, net: &Net, table: &Closed, graph: &Graph) -> Result<Vec<bool>, Memory>
+fn marks(alloc: Global, net: &Net, table: &Closed, orders: &[Order]) -> Result<Vec<bool>, Memory>
     requires closure { IsClosureOf net.now table.now }
     requires fits { HasTimeline net.now }
-    requires graph { IsGraphOf net.now graph.now.orders.items }
+    requires graph { IsGraphOf net.now orders.now }
     ensures { IfOk result (λ keep. AreGoneOver net.now (length net.now.links) keep.items) }
 {
     let Ok(mut keep) = vec![in alloc; true; net.links() as usize] else {
@@ -65,7 +65,7 @@ fn marks(alloc: Global, net: &Net, table: &Closed, graph: &Graph) -> Result<Vec<
         let kept = Kept {
             net,
             table,
-            graph,
+            orders,
             keep: &keep,
         };
         if link_follows(kept, link, &mut reached)? {
@@ -81,8 +81,8 @@ fn link_follows(kept: Kept<'_>, link: u32, reached: &mut Reached) -> Result<bool
     requires link { link < length kept.net.now.links }
     requires kept { IsKept kept.keep.now link }
     requires room { reached.old.room ≡ points kept.net.now }
-    ensures decides { IfOk result (DecidesLink kept.net.now kept.keep.now link) }
-    ensures room { OnOk result (reached.new.room ≡ points kept.net.now) }
+    ensures decides { IfOk result (DecidesLink kept.entry.net.now kept.entry.keep.now link) }
+    ensures room { OnOk result (reached.new.room ≡ points kept.entry.net.now) }
 {
     let atoms = atoms_of_link(kept.net, link);
     for number in 0..atoms.count() {

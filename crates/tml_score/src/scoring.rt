@@ -1,11 +1,12 @@
 //! Scores of one annotation against another.
 ghost use Rattle.std.specs.Prelude.{IfOk, IsTrue, length, ◌<◌, ◌≡◌, ◌↔◌};
+ghost use Rattle.tml_refs.specs.Documents.{IsDocument};
 ghost use Rattle.tml_score.specs.Scores.{AreMatched, AreScores, IsClosedOf};
 ghost use Rattle.tml_score.specs.Scoring.{ArePartners, AreWithin, EntailsBetween, annotation_of, table_of};
 
 use crate::reducing::reduced_by;
 use derive_rel::entailed;
-use net_core::{Memory, Net, NetLink};
+use net_core::{MAX_INTERVALS, MAX_LINKS, Memory, Net, NetLink};
 use order_closure::Closed;
 use std::alloc::Global;
 use tml_refs::Document;
@@ -79,16 +80,19 @@ fn matched(alloc: Global, own: Annotated<'_, '_>, other: Annotated<'_, '_>) -> R
     requires other { IsClosedOf (annotation_of other) (table_of other) }
     ensures { IfOk result (λ found. AreMatched (annotation_of own.entry) (annotation_of other.entry) found.links found.matched) }
 {
-    let links = reduced_by(alloc, own.net, own.table)?;
+    // so few that the counts fit
+    prove!(own.net.links() <= MAX_LINKS);
+    prove!(other.net.links() <= MAX_LINKS);
+    let reduced = reduced_by(alloc, own.net, own.table)?;
     let partners = partners_in(alloc, own.document, other.document)?;
     let mut matched = 0;
-    for link in links.as_slice() {
+    for link in reduced.as_slice() {
         if follows_between(other.table, &partners, own.net.link(*link)) {
             matched += 1;
         }
     }
     Ok(Tally {
-        links: links.as_slice().len() as u32,
+        links: reduced.as_slice().len() as u32,
         matched,
     })
 }
@@ -99,8 +103,12 @@ fn partners_in(
     own: &Document<'_>,
     other: &Document<'_>,
 ) -> Result<Vec<Option<u32>>, Memory>
-    ensures { IfOk result (λ partners. ArePartners own.now.intervals other.now.intervals partners.items) }
+    ensures own { IsDocument own.now }
+    ensures other { IsDocument other.now }
+    ensures partners { IfOk result (λ partners. ArePartners own.now.intervals other.now.intervals partners.items) }
 {
+    // no two of its intervals have one name
+    prove!(other.intervals() <= MAX_INTERVALS);
     let mut partners = Vec::new(alloc);
     for i in 0..own.intervals() {
         let partner = other.index_of(own.interval(i).name());

@@ -1,21 +1,21 @@
 //! Whether an order of a link follows from the other links that are kept.
 ghost use Rattle.net_core.specs.Nets.{points};
-ghost use Rattle.std.specs.Prelude.{IfOk, OnOk, length, slice_index, true, ◌<◌, ◌≡◌};
+ghost use Rattle.std.specs.Prelude.{IfOk, IsTrue, OnOk, length, slice_index, true, ◌<◌, ◌≡◌, ◌↔◌};
 ghost use Rattle.tml_score.specs.Search as spec;
 ghost use Rattle.tml_score.specs.Search.{Decides, GoesOn, IsAsked, IsReady, IsSearch, IsWay, IsLed, basis_of};
 
-use crate::graph::Graph;
+use crate::graph::orders_from;
 use crate::reached::Reached;
 use clash::Order;
 use net_core::{Atom, Memory, Net};
 use order_closure::{Cell, Closed};
 
-/// The links of a net that are kept, which say the same as all, with the orders of all and the closure of the net.
+/// The links of a net that are kept, which say the same as all, with the closure of the net and all its orders.
 #[derive(Clone, Copy)]
 pub struct Kept<'a> {
     pub net: &'a Net,
     pub table: &'a Closed,
-    pub graph: &'a Graph,
+    pub orders: &'a [Order],
     pub keep: &'a [bool],
 }
 
@@ -67,7 +67,7 @@ impl Kept<'_> {
         ensures { GoesOn (basis_of self.now) asked (λ order. order.atom.from ≡ slice_index reached.old.points turn) reached.old reached.new result }
     {
         let point = reached.point(turn);
-        for order in self.graph.leaving(point) {
+        for order in orders_from(self.orders, point) {
             if self.remains(asked, order) && self.take(asked, order, reached)? {
                 return Ok(true);
             }
@@ -95,15 +95,34 @@ impl Kept<'_> {
         requires led { IsLed (basis_of self.now) asked order.now.atom.from }
         ensures { GoesOn (basis_of self.now) asked (λ o. o ≡ order.now) reached.old reached.new result }
     {
-        let point = order.atom.to;
-        if reached.has(point) {
+        if reached.has(order.atom.to) {
             return Ok(false);
         }
-        if point != asked.order.to && self.table.cell(point, asked.order.from) != Cell::Free {
-            reached.add(point)?;
+        if !self.leads_out(asked, order) {
+            reached.add(order.atom.to)?;
             return Ok(false);
         }
+        Ok(self.is_enough(asked, order))
+    }
+
+    /// Whether an order leads to the last point, or to one that the closure doesn't put at or before the first.
+    fn leads_out(&self, asked: Asked, order: &Order) -> bool
+        requires to { order.now.atom.to < self.now.table.now.points }
+        requires first { asked.order.from < self.now.table.now.points }
+        ensures { IsTrue result ↔ spec.LeadsOut (basis_of self.now) asked order.now }
+    {
+        order.atom.to == asked.order.to
+            || self.table.cell(order.atom.to, asked.order.from) == Cell::Free
+    }
+
+    /// Whether the closure gives the order that is asked for, from where an order leads out.
+    fn is_enough(&self, asked: Asked, order: &Order) -> bool
+        requires to { order.now.atom.to < self.now.table.now.points }
+        requires last { asked.order.to < self.now.table.now.points }
+        requires out { spec.LeadsOut (basis_of self.now) asked order.now }
+        ensures { IsTrue result ↔ spec.IsEnough (basis_of self.now) asked order.now }
+    {
         let strict = asked.order.strict && !order.atom.strict;
-        Ok(self.table.cell(point, asked.order.to).gives(strict))
+        self.table.cell(order.atom.to, asked.order.to).gives(strict)
     }
 }

@@ -1,8 +1,8 @@
 -- The steps that a list of edges has.
-use Rattle.std.proofs.Common.{◌≡◌, ◌↔◌, ◌⊎◌, ℕ, ◌+◌, ◌*◌, ◌<◌, Bool, true, false, List, [], length, take, drop, nat_le, nat_lt, Some, refl, sym, ap, subst, ◌∙◌, arith, inl, inr}
+use Rattle.std.proofs.Common.{◌≡◌, ◌↔◌, ◌⊎◌, ℕ, ◌+◌, ◌*◌, ◌<◌, Bool, true, false, List, [], length, nat_lt, Some, refl, sym, ap, subst, ◌∙◌, arith, inl, inr}
 use Rattle.std.specs.List.{Contains, slice_get}
-use Rattle.std.specs.List.Sorted.{IsPartitionPoint, IsPermutation}
-use Rattle.std.proofs.lemmas.Bool.{cases_lt, le-leb, le-ltb, leb-true, ltb-false, ltb-true}
+use Rattle.std.specs.List.Sorted.{IsPermutation}
+use Rattle.std.proofs.lemmas.Bool.{cases_lt, ltb-true}
 use Rattle.std.proofs.lemmas.List.Sorted.{Contains-permutation, IsPermutation-sym}
 use Rattle.std.proofs.lemmas.Option.{cond_some, get_or_from_slice_get, option_and_then_some, slice_get_within}
 use Rattle.net_core.specs.Atoms.{atom_count, atoms_of, before, points_of}
@@ -15,8 +15,7 @@ use Rattle.net_core.specs.declared.rels.Rel.TheVariants as rel
 use Rattle.net_core.specs.declared.step.Step.{Step}
 use Rattle.net_core.specs.declared.step.Step.TheVariants.{Calendar, Link, Span}
 use Rattle.net_core.proofs.AtomLaws.{atoms_counted}
-use Rattle.walks.proofs.Parts.{dropped, taken}
-use Rattle.walks.specs.Edges.{Adds, AreEdges, AreFrom, IsDated, IsOver, IsSpan}
+use Rattle.walks.specs.Edges.{Adds, AreEdges, IsDated, IsOver, IsSpan}
 use Rattle.walks.specs.declared.edges.Edge.{Edge}
 
 -- what is read past the end of a list of edges
@@ -123,16 +122,4 @@ module _ (net : PlainNet) where
         | inr is ↦ let both = (listed edge.step).0 is.0 in (both.0, (is.1, both.1))
       ],
       λ h. Contains-permutation edges sorted edge moved ((adds edge).1 (inr ((listed edge.step).1 (h.0, h.1.1), h.1.0))),
-    )
-
--- the edges that leave a point lie between those that leave a lower one and those that leave a higher one
-pub between : (point : ℕ) (edges rest : List Edge) (first count : ℕ) → rest ≡ drop first edges
-    → IsPartitionPoint (λ (edge : Edge). nat_lt edge.atom.from point ≡ true) (λ edge. nat_lt edge.atom.from point ≡ false) edges first
-    → IsPartitionPoint (λ (edge : Edge). nat_le edge.atom.from point ≡ true) (λ edge. nat_le edge.atom.from point ≡ false) rest count
-    → AreFrom point edges (take count rest)
-between point edges rest first count same below upto edge =
-    let later = dropped (λ (e : Edge). nat_lt e.atom.from point) edges first below edge in
-    let some = taken (λ (e : Edge). nat_le e.atom.from point) rest count upto edge in (
-      λ h. let is = some.0 h in let was = later.0 (subst (λ (es : List Edge). Contains es edge) same is.0) in (was.0, omega (arith, leb-true edge.atom.from point is.1, ltb-false edge.atom.from point was.1)),
-      λ h. some.1 (subst (λ (es : List Edge). Contains es edge) (sym same) (later.1 (h.0, le-ltb edge.atom.from point (omega (arith, h.1)))), le-leb edge.atom.from point (omega (arith, h.1))),
     )

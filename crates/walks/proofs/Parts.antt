@@ -1,7 +1,8 @@
 -- The two parts of a list that is cut where a test begins to fail.
-use Rattle.std.proofs.Common.{◌≡◌, ◌↔◌, ◌⊎◌, ℕ, ◌+◌, ◌<◌, Bool, true, false, List, length, take, drop, sym, subst, ◌∙◌, arith, inl, inr, length-take, length-drop}
+use Rattle.std.proofs.Common.{◌≡◌, ◌↔◌, ◌⊎◌, ℕ, ◌+◌, ◌<◌, nat_le, nat_lt, Bool, true, false, List, length, take, drop, sym, subst, ◌∙◌, arith, inl, inr, length-take, length-drop}
 use Rattle.std.specs.List.{All, AllWithin, Contains}
 use Rattle.std.specs.List.Sorted.{IsPartitionPoint}
+use Rattle.std.proofs.lemmas.Bool.{le-leb, le-ltb, leb-true, ltb-false}
 use Rattle.std.proofs.lemmas.List.{get_or-drop, get_or-take, take-append-drop}
 use Rattle.std.proofs.lemmas.List.Elements.{All-contains, Contains-append_cases, Contains-append_left, Contains-append_right}
 
@@ -37,3 +38,15 @@ module _ {X : Type 0} (p : X → Bool) (xs : List X) (n : ℕ) (cut : IsPartitio
       | inl first ↦ let passes = All-contains (λ (y : X). p y ≡ true) (take n xs) x (prefix (λ (y : X). p y ≡ true) xs n cut.0) first in let both : true ≡ false = sym passes ∙ h.1 in cc
     ],
   )
+
+-- the elements with a key lie between those with a lower one and those with a higher one
+pub between : {X : Type 0} (key : X → ℕ) (k : ℕ) (xs rest : List X) (first count : ℕ) → rest ≡ drop first xs
+    → IsPartitionPoint (λ x. nat_lt (key x) k ≡ true) (λ x. nat_lt (key x) k ≡ false) xs first
+    → IsPartitionPoint (λ x. nat_le (key x) k ≡ true) (λ x. nat_le (key x) k ≡ false) rest count
+    → (x : X) → Contains (take count rest) x ↔ (Contains xs x × (key x ≡ k))
+between {X} key k xs rest first count same below upto x =
+    let later = dropped (λ y. nat_lt (key y) k) xs first below x in
+    let some = taken (λ y. nat_le (key y) k) rest count upto x in (
+      λ h. let is = some.0 h in let was = later.0 (subst (λ (ys : List X). Contains ys x) same is.0) in (was.0, omega (arith, leb-true (key x) k is.1, ltb-false (key x) k was.1)),
+      λ h. some.1 (subst (λ (ys : List X). Contains ys x) (sym same) (later.1 (h.0, le-ltb (key x) k (omega (arith, h.1)))), le-leb (key x) k (omega (arith, h.1))),
+    )
