@@ -1,5 +1,5 @@
 -- The names of intervals.
-use Rattle.std.proofs.Common.{◌≡◌, ℕ, zero, suc, ◌+◌, ◌<◌, List, [], ◌∷◌, ◌++◌, None, Some, get_or, length, map, take, refl, ap, subst, ◌∙◌, arith}
+use Rattle.std.proofs.Common.{◌≡◌, ℕ, zero, suc, ◌+◌, ◌<◌, List, [], ◌∷◌, ◌++◌, None, Some, get_or, length, map, take, refl, ap, subst, arith}
 use Rattle.std.specs.List.{slice_get}
 use Rattle.answers.specs.Lines.{name_at}
 use Rattle.tml_refs.specs.Documents.{PlainInterval, name_of}

@@ -8,6 +8,7 @@ use Rattle.net_answers.specs.Nets.{of_fitting}
 use Rattle.net_answers.proofs.Nets.{HasItsNet, fits_or_clash, fitting_status, fitting_whole, its_net}
 use Rattle.net_build.specs.Built.{IsNetOf}
 use Rattle.net_build.proofs.OneNet.{one_net}
+use Rattle.net_core.specs.Entailment.{HasTimeline}
 use Rattle.net_core.specs.Limits.{max_document}
 use Rattle.net_core.specs.Nets.{PlainNet}
 use Rattle.tml_accept.specs.Acceptance.{FirstFault, Says}
@@ -19,12 +20,9 @@ use Rattle.tml_run.specs.Answered.{AreAnswered}
 use Rattle.tml_run.specs.OneReply.{is_broken_off}
 use Rattle.tml_run.specs.declared.status.Status.{Status}
 use Rattle.tml_run.specs.declared.status.Status.TheVariants.{Clash, DocFault, Done}
-use Rattle.tml_score.specs.Scores.{Annotation}
+use Rattle.tml_score.specs.Scores.{Annotation, IsSound}
 use Rattle.tml_score.proofs.Counted.{every_score, one_score}
 use Rattle.score_answers.specs.Score.{HasKeyLine, IsFreeScore, OfAnnotations, OfKey, OfScore, ScoreIsFree, key_clash, key_file, score_rows, scores_text}
-
-its_document : (doc : List ℕ) (contents : PlainDocument) → Says doc contents → IsDocument contents
-its_document doc contents (root, (tree, (tags, types, resolved))) = resolved_document tags contents resolved
 
 -- ---- by the nets of both
 
@@ -43,15 +41,22 @@ module _ (doc key : Annotation) where
   whole_of Clash text h = refl
   whole_of status text h = absurd h
 
-  text_of : IsDocument doc.contents → IsDocument key.contents → (status : Status) (text line : List ℕ) → OfAnnotations doc key status text → OfAnnotations doc key status line → text ≡ line
-  text_of own other Done text line h k = h.3 ∙ ap scores_text (one_score doc key h.1 k.1 own other h.2 k.2) ∙ sym k.3
-  text_of own other Clash text line h k = h.1 ∙ sym k.1
-  text_of own other status text line h k = absurd h
+  text_of : (status : Status) (text line : List ℕ) → OfAnnotations doc key status text → OfAnnotations doc key status line → text ≡ line
+  text_of Done text line h k = h.3 ∙ ap scores_text (one_score doc key h.1 k.1 h.2 k.2) ∙ sym k.3
+  text_of Clash text line h k = h.1 ∙ sym k.1
+  text_of status text line h k = absurd h
 
 -- ---- by what the key says, of a document with its net
 
 abbrev annotated : PlainDocument → PlainNet → Annotation
 annotated contents net = record { contents = contents; net = net }
+
+its_document : (doc : List ℕ) (contents : PlainDocument) → Says doc contents → IsDocument contents
+its_document doc contents (root, (tree, (tags, types, resolved))) = resolved_document tags contents resolved
+
+-- what an accepted document says, with its net, is sound where some timeline fits
+sound : (doc : List ℕ) (contents : PlainDocument) → Says doc contents → (its : HasItsNet contents) → HasTimeline its.net → IsSound (annotated contents its.net)
+sound doc contents says its fits = record { contents = its_document doc contents says; of_contents = its.built; net = its.is; fits = fits }
 
 module _ (key contents : PlainDocument) (net : PlainNet) where
   -- a key has one net
@@ -64,8 +69,8 @@ module _ (key contents : PlainDocument) (net : PlainNet) where
   key_whole : (status : Status) (text : List ℕ) → OfKey key contents net status text → is_broken_off status ≡ false
   key_whole status text h = whole_of (annotated contents net) (annotated key h.0) status text h.2
 
-  key_text : IsDocument contents → IsDocument key → (status : Status) (text line : List ℕ) → OfKey key contents net status text → OfKey key contents net status line → text ≡ line
-  key_text own other status text line h k = text_of (annotated contents net) (annotated key k.0) own other status text line (by_net status text h.0 k.0 h.1 k.1 h.2) k.2
+  key_text : (status : Status) (text line : List ℕ) → OfKey key contents net status text → OfKey key contents net status line → text ≡ line
+  key_text status text line h k = text_of (annotated contents net) (annotated key k.0) status text line (by_net status text h.0 k.0 h.1 k.1 h.2) k.2
 
 -- ---- by the bytes of the key
 
@@ -84,7 +89,7 @@ module _ (doc : List ℕ) (contents : PlainDocument) (says : Says doc contents) 
     | inl fits ↦ elim (fits_or_clash other.net other.is) [
       | inr shown ↦ (Clash, key_clash, inr (key, is, (own.net, own.built, inr (fits, (other.net, other.built, (shown.1.none, refl))))))
       | inl both ↦
-          let found = every_score (annotated contents own.net) (annotated key other.net) own.built other.built own.is other.is fits both in
+          let found = every_score (annotated contents own.net) (annotated key other.net) (sound doc contents says own fits) (sound bytes key is other both) in
           (Done, scores_text found.0, inr (key, is, (own.net, own.built, inr (fits, (other.net, other.built, (both, found.0, found.1, refl))))))
     ]
   ]
@@ -110,11 +115,11 @@ module _ (doc : List ℕ) (contents : PlainDocument) (says : Says doc contents) 
       fitting_status (OfKey others contents) its (key_status others contents its) status other text line (along key others net its status text is too built also h) k
 
   -- where both are accepted, only which clash of the document is printed is free
-  fitting_line : (key : PlainDocument) (net : PlainNet) (status : Status) (text line : List ℕ) → Says bytes key → IsNetOf contents net → (IsFreeScore contents bytes status → ⊥)
+  fitting_line : (key : PlainDocument) (net : PlainNet) (status : Status) (text line : List ℕ) → IsNetOf contents net → (IsFreeScore contents bytes status → ⊥)
       → of_fitting (OfKey key contents) net status text → of_fitting (OfKey key contents) net status line → text ≡ line
-  fitting_line key net status text line is built determined (inl h) k = absurd (determined (h.0, net, built, h.1.none))
-  fitting_line key net status text line is built determined (inr h) (inl k) = absurd (determined (k.0, net, built, k.1.none))
-  fitting_line key net status text line is built determined (inr h) (inr k) = key_text key contents net (its_document doc contents says) (its_document bytes key is) status text line h.1 k.1
+  fitting_line key net status text line built determined (inl h) k = absurd (determined (h.0, net, built, h.1.none))
+  fitting_line key net status text line built determined (inr h) (inl k) = absurd (determined (k.0, net, built, k.1.none))
+  fitting_line key net status text line built determined (inr h) (inr k) = key_text key contents net status text line h.1 k.1
 
   one_text : (status : Status) (text line : List ℕ) → (IsFreeScore contents bytes status → ⊥) → OfScore contents bytes status text → OfScore contents bytes status line → text ≡ line
   one_text status text line determined (inl h) (inl k) =
@@ -122,7 +127,7 @@ module _ (doc : List ℕ) (contents : PlainDocument) (says : Says doc contents) 
   one_text status text line determined (inl h) (inr k) = absurd (faulty_or_said bytes text k.0 h.1 k.1)
   one_text status text line determined (inr h) (inl k) = absurd (faulty_or_said bytes line h.0 k.1 h.1)
   one_text status text line determined (inr (key, is, (net, built, h))) (inr (others, too, (its, also, k))) =
-      fitting_line others its status text line too also determined (along key others net its status text is too built also h) k
+      fitting_line others its status text line also determined (along key others net its status text is too built also h) k
 
 whole : (contents : PlainDocument) (bytes : List ℕ) (status : Status) (text : List ℕ) → OfScore contents bytes status text → is_broken_off status ≡ false
 whole contents bytes status text (inl h) = ap is_broken_off h.0

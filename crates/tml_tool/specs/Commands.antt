@@ -1,5 +1,5 @@
 -- The table of commands: of each form its word, its arguments and its rows. A further command adds a line to each.
-use Rattle.std.specs.Prelude.{◌≡◌, ◌+◌, Bool, true, ℕ, List, [], ◌∷◌, codes, String, None, Some, is_some}
+use Rattle.std.specs.Prelude.{◌≡◌, Bool, true, ℕ, List, [], ◌∷◌, codes, String, None, Some, is_some}
 use Rattle.std.specs.declared.alloc.Global.{Global}
 use Rattle.std.specs.declared.option.Option.{Option}
 use Rattle.named.specs.Texts.{named_of}

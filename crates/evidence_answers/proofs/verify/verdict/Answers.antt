@@ -1,4 +1,4 @@
-use Rattle.std.proofs.Common.{IsOk, codes, inl, inr, map, rules, sym, subst}
+use Rattle.std.proofs.Common.{IsOk, codes, inl, map, rules}
 use Rattle.evidence_format.specs.View.{plain}
 use Rattle.evidence_answers.specs.Verify.{OfVerify}
 use Rattle.evidence_answers.proofs.Files.{malformed}
