@@ -5,6 +5,7 @@ mod minimal;
 mod nets;
 mod possible;
 mod proving;
+mod reduced;
 mod relations;
 mod rows;
 mod steps;

@@ -62,5 +62,5 @@ abbrev pub ScoreIsFree : Freedom
 ScoreIsFree = of_judged IsFreeScore
 
 -- the law: `score BAD MISSING` is answered by the fault of the document, and the key is not reached
-abbrev pub ScoreJudgesFirst : Type 0
-ScoreJudgesFirst = (name key : List ℕ) → JudgesFirst name (score_rows name key)
+abbrev pub ScoreReadsFirst : Type 0
+ScoreReadsFirst = (name key : List ℕ) → JudgesFirst name (score_rows name key)

@@ -7,7 +7,7 @@ mod reduce;
 mod role;
 mod score;
 
-pub use laws::score_judges_first;
+pub use laws::score_reads_first;
 pub use reduce::Reduce;
 pub use role::{KEY, KEY_WORD};
 pub use score::Score;
