@@ -14,7 +14,7 @@ use crate::document::DocLink;
 use crate::firsts::earlier;
 use net_core::{List, Rel};
 use std::marker::Model;
-use tml_types::{LinkEnd, TagKind, TypedTag};
+use tml_types::{LinkEnd, TagKind, TypedTag, head_of};
 
 /// A kind of tag and an identifier. The first bytes of the identifier are compared first, as a number, which is faster
 /// than to compare slices.
@@ -35,17 +35,6 @@ impl<'s> Key<'s> {
             rank: rank_of(kind),
         }
     }
-}
-
-/// The first eight bytes of a name, as a number.
-fn head_of(name: &[u8]) -> u64
-    ensures { result ≡ index.head_of name.now }
-{
-    let mut head: u64 = 0;
-    for byte in name.iter().take(8) {
-        head = head.wrapping_mul(256).wrapping_add(u64::from(*byte));
-    }
-    head
 }
 
 /// The number of a kind of tag, in the order of the variants.
