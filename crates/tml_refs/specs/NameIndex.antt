@@ -1,5 +1,5 @@
 -- The names of a document: an entry for each tag that has an identifier, in the order of the identifiers.
-use Rattle.std.specs.Prelude.{◌≡◌, ◌<◌, ◌≤◌, ℕ, Bool, true, not, ◌&&◌, ◌||◌, ◌==◌, List, [], ◌∷◌, ◌++◌, length, Some, IsSome, ⊤}
+use Rattle.std.specs.Prelude.{◌≡◌, ◌<◌, ◌≤◌, ℕ, Bool, true, not, ◌&&◌, ◌||◌, ◌==◌, List, ◌∷◌, ◌++◌, length, Some, IsSome, ⊤}
 use Rattle.std.specs.Cmp.Lexicographic.{slice_cmp}
 use Rattle.std.specs.List.{All, Contains, count_by, list_any, slice_get}
 use Rattle.std.specs.List.Sorted.{IsSortedByKey}
@@ -66,13 +66,13 @@ key_order k l =
 abbrev pub key_of : Entry → Key
 key_of e = e.key
 
-abbrev pub HasHead : Entry → Type 0
-HasHead e = e.key.head ≡ head_of (entry_name e)
+abbrev pub HasHead : Key → Type 0
+HasHead k = k.head ≡ head_of k.name.now
 
 -- Entries are ordered by their keys, the head of each is that of its name, and no two have one place.
 pub record AreInOrder (entries : List Entry) : Type 0 where
   pub sorted : IsSortedByKey key_of key_order entries
-  pub heads : All HasHead entries
+  pub heads : All (λ (e : Entry). HasHead e.key) entries
   pub apart : (place : ℕ) → count_by (is_at place) entries ≤ 1
 
 -- ---- what entries say

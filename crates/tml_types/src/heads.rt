@@ -2,7 +2,8 @@
 ghost use Rattle.std.specs.Prelude.{◌≡◌};
 ghost use Rattle.tml_types.specs.Heads as spec;
 
-/// The first eight bytes of a name, as a number to the base 256.
+/// The first eight bytes of a name, as a number to the base 256. It stands in its callers, which ask it of each name.
+#[inline(always)]
 pub fn head_of(name: &[u8]) -> u64
     ensures { result ≡ spec.head_of name.now }
 {
