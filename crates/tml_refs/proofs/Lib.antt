@@ -1,4 +1,3 @@
-pub mod Heads
 pub mod Placing
 pub mod Orders
 pub mod Searches

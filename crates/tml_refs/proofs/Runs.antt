@@ -24,8 +24,8 @@ module _ (entries : List Entry) (order : AreInOrder entries) where
 
   same_head : (e f : Entry) → Contains entries e → Contains entries f → entry_name e ≡ entry_name f → e.key.head ≡ f.key.head
   same_head e f x y n =
-      let own : HasHead e = All-contains HasHead entries e order.heads x in
-      let its : HasHead f = All-contains HasHead entries f order.heads y in
+      let own : HasHead e.key = All-contains (λ (d : Entry). HasHead d.key) entries e order.heads x in
+      let its : HasHead f.key = All-contains (λ (d : Entry). HasHead d.key) entries f order.heads y in
       own ∙ ap head_of n ∙ sym its
 
   not_below : (i j : ℕ) (d : Entry) → i ≤ j → j < length entries → is_lt (name_order (get_or entries j d).key (get_or entries i d).key) ≡ false

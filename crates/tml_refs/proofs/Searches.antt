@@ -54,7 +54,7 @@ module _ {entries slice : List Entry} {r : Reference} {key : Key} (same : slice 
   none_equal : (at : ℕ) → IsBinarySearchResult (entry_order key) entries (Err at) → (e : Entry) → Contains entries e → is_for r e ≡ true → ⊥
   none_equal at parted e stands h =
       let both = for_both r e h in
-      let own : HasHead e = All-contains HasHead entries e order.heads stands in
+      let own : HasHead e.key = All-contains (λ (d : Entry). HasHead d.key) entries e order.heads stands in
       let equal : entry_order key e ≡ Equal = keys_equal e.key key (own ∙ sym (is.head ∙ ap head_of both.1)) (sym both.1 ∙ sym is.name) (both.0 ∙ sym is.rank) in
       let here : entry_order key (get_or entries stands.0 e) ≡ Equal = ap (entry_order key) stands.2 ∙ equal in
       let rises = searchable_from_sorted key_total key_of entries key order.sorted in

@@ -1,17 +1,10 @@
 -- The entries of some tags, once they are sorted.
-use Rattle.std.proofs.Common.{◌+◌, cond, List, get_or, arith}
-use Rattle.std.specs.List.Sorted.{IsPermutation, IsSorted}
-use Rattle.std.specs.Ordering.{nat_cmp, ordering_then}
-use Rattle.std.specs.declared.cmp.Ordering.{Ordering}
+use Rattle.std.proofs.Common.{cond, List, arith}
+use Rattle.std.specs.List.Sorted.{IsPermutation, IsSortedByKey}
 use Rattle.std.proofs.lemmas.List.Sorted.{All-permutation, Contains-permutation, sum_by-IsPermutation}
 use Rattle.tml_types.specs.Content.{PlainTyped}
 use Rattle.tml_refs.specs.declared.name_index.Entry.{Entry}
-use Rattle.tml_refs.specs.NameIndex.{AreInOrder, AreEntriesOf, IsEntryIn, is_at, key_order}
-use Rattle.tml_refs.proofs.Orders.{first_not_less}
-
--- the order of entries: by their keys, and then by their positions and numbers
-abbrev pub entry_order : Entry → Entry → Ordering
-entry_order x y = ordering_then (key_order x.key y.key) (ordering_then (nat_cmp x.place y.place) (nat_cmp x.number y.number))
+use Rattle.tml_refs.specs.NameIndex.{AreInOrder, AreEntriesOf, IsEntryIn, is_at, key_of, key_order}
 
 pub entries_sorted : (tags : List PlainTyped) (xs ys : List Entry) → AreEntriesOf tags xs → IsPermutation xs ys → AreEntriesOf tags ys
 entries_sorted tags xs ys names moved = record {
@@ -20,9 +13,9 @@ entries_sorted tags xs ys names moved = record {
   apart = λ place. omega (arith, sum_by-IsPermutation (λ (e : Entry). cond (is_at place e) 1 0) xs ys moved, names.apart place);
 }
 
-pub in_order : (tags : List PlainTyped) (ys : List Entry) → AreEntriesOf tags ys → IsSorted entry_order ys → AreInOrder ys
+pub in_order : (tags : List PlainTyped) (ys : List Entry) → AreEntriesOf tags ys → IsSortedByKey key_of key_order ys → AreInOrder ys
 in_order tags ys names sorted = record {
-  sorted = λ k d low high. first_not_less (key_order (get_or ys (k + 1) d).key (get_or ys k d).key) _ (sorted k d low high);
+  sorted = sorted;
   heads = λ k d below. (names.only k d below).4.head;
   apart = names.apart;
 }

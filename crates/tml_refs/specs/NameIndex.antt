@@ -1,5 +1,5 @@
 -- The names of a document: an entry for each tag that has an identifier, in the order of the identifiers.
-use Rattle.std.specs.Prelude.{◌≡◌, ◌+◌, ◌<◌, ◌≤◌, ◌*◌, ◌%◌, ◌^◌, ℕ, Bool, true, not, ◌&&◌, ◌||◌, ◌==◌, List, [], ◌∷◌, ◌++◌, length, take, Some, IsSome, ⊤}
+use Rattle.std.specs.Prelude.{◌≡◌, ◌<◌, ◌≤◌, ℕ, Bool, true, not, ◌&&◌, ◌||◌, ◌==◌, List, ◌∷◌, ◌++◌, length, Some, IsSome, ⊤}
 use Rattle.std.specs.Cmp.Lexicographic.{slice_cmp}
 use Rattle.std.specs.List.{All, Contains, count_by, list_any, slice_get}
 use Rattle.std.specs.List.Sorted.{IsSortedByKey}
@@ -9,21 +9,13 @@ use Rattle.std.specs.declared.cmp.Ordering.{Ordering}
 use Rattle.tml_types.specs.declared.typed.TagKind.{TagKind}
 use Rattle.tml_types.specs.declared.typed.TagKind.TheVariants as kind
 use Rattle.tml_types.specs.Content.{Content, PlainTyped, Reference, tlink}
+pub use Rattle.tml_types.specs.Heads.{head_of}
 use Rattle.tml_types.specs.References.{id_of, kind_of, optional_reference, reference, references_of}
 pub use Rattle.tml_types.specs.References.{rank_of}
 use Rattle.tml_refs.specs.declared.name_index.Entry.{Entry}
 use Rattle.tml_refs.specs.declared.name_index.Key.{Key}
 use Rattle.tml_refs.specs.Documents.{IsDocument, PlainDocument, PlainInterval, RefersTo, intervals_of, name_of}
 use Rattle.tml_refs.specs.Documents as documents
-
--- the number that bytes make after this number, to the base 256, up to multiples of 2^64
-unfoldable pub number_from : ℕ → List ℕ → ℕ
-number_from n [] = n
-number_from n (b ∷ bytes) = number_from ((n * 256 % 2 ^ 64 + b) % 2 ^ 64) bytes
-
--- the first eight bytes of a name, as a number
-abbrev pub head_of : List ℕ → ℕ
-head_of name = number_from 0 (take 8 name)
 
 -- a key is that of what a reference asks for
 pub record IsKeyOf (r : Reference) (key : Key) : Type 0 where
@@ -74,13 +66,13 @@ key_order k l =
 abbrev pub key_of : Entry → Key
 key_of e = e.key
 
-abbrev pub HasHead : Entry → Type 0
-HasHead e = e.key.head ≡ head_of (entry_name e)
+abbrev pub HasHead : Key → Type 0
+HasHead k = k.head ≡ head_of k.name.now
 
 -- Entries are ordered by their keys, the head of each is that of its name, and no two have one place.
 pub record AreInOrder (entries : List Entry) : Type 0 where
   pub sorted : IsSortedByKey key_of key_order entries
-  pub heads : All HasHead entries
+  pub heads : All (λ (e : Entry). HasHead e.key) entries
   pub apart : (place : ℕ) → count_by (is_at place) entries ≤ 1
 
 -- ---- what entries say

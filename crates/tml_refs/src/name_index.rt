@@ -2,9 +2,10 @@
 ghost use Rattle.std.specs.Option.{is_some, is_none};
 ghost use Rattle.std.specs.List.{list_any};
 ghost use Rattle.std.specs.Prelude.{◌≡◌, List as ListOf, None, IfSome, IsNone};
+ghost use Rattle.std.specs.Str.{bytes_eq};
 ghost use Rattle.tml_refs.specs.Firsts.{bound, nowhere};
 ghost use Rattle.tml_refs.specs.NameIndex as index;
-ghost use Rattle.tml_refs.specs.NameIndex.{AreEntriesOf, HasIntervalNumber, HasNumber, IsEntryAfter, IsFirstRepeat};
+ghost use Rattle.tml_refs.specs.NameIndex.{AreEntriesOf, HasHead, HasIntervalNumber, HasNumber, IsEntryAfter, IsFirstRepeat};
 ghost use Rattle.tml_refs.specs.NameIndex.{IsKeyOf, is_either_unlisted, is_listed, is_unlisted};
 ghost use Rattle.tml_types.specs.Content.{PlainTyped};
 ghost use Rattle.tml_types.specs.References.{id_of, optional_reference, reference};
@@ -13,12 +14,12 @@ ghost use Rattle.tml_types.specs.View.{end_of, text_of, typed_of};
 use crate::document::DocLink;
 use crate::firsts::earlier;
 use net_core::{List, Rel};
+use std::cmp::Ordering;
 use std::marker::Model;
-use tml_types::{LinkEnd, TagKind, TypedTag};
+use tml_types::{LinkEnd, TagKind, TypedTag, head_of};
 
-/// A kind of tag and an identifier. The first bytes of the identifier are compared first, as a number, which is faster
-/// than to compare slices.
-#[derive(Clone, Copy, PartialEq, Eq, PartialOrd, Ord)]
+/// A kind of tag and an identifier, with the first bytes of the identifier as a number.
+#[derive(Clone, Copy)]
 pub struct Key<'s> {
     head: u64,
     name: &'s [u8],
@@ -35,17 +36,24 @@ impl<'s> Key<'s> {
             rank: rank_of(kind),
         }
     }
-}
 
-/// The first eight bytes of a name, as a number.
-fn head_of(name: &[u8]) -> u64
-    ensures { result ≡ index.head_of name.now }
-{
-    let mut head: u64 = 0;
-    for byte in name.iter().take(8) {
-        head = head.wrapping_mul(256).wrapping_add(u64::from(*byte));
+    /// The order by identifiers and then by kinds. The first bytes are compared first, and mostly they tell.
+    fn order(&self, other: &Key<'_>) -> Ordering
+        ensures { result ≡ index.key_order self.now other.now }
+    {
+        if self.head != other.head {
+            return self.head.cmp(&other.head);
+        }
+        self.name.cmp(other.name).then(self.rank.cmp(&other.rank))
     }
-    head
+
+    /// Whether two identifiers are the same. Mostly the first bytes tell.
+    fn has_name_of(&self, other: &Key<'_>) -> bool
+        requires { HasHead self.now × HasHead other.now }
+        ensures { result ≡ bytes_eq self.now.name.now other.now.name.now }
+    {
+        self.head == other.head && self.name == other.name
+    }
 }
 
 /// The number of a kind of tag, in the order of the variants.
@@ -56,7 +64,7 @@ fn rank_of(kind: TagKind) -> u8
 }
 
 /// A tag that has an identifier.
-#[derive(Clone, Copy, PartialEq, Eq, PartialOrd, Ord)]
+#[derive(Clone, Copy)]
 pub struct Entry<'s> {
     key: Key<'s>,
     /// Where it begins.
@@ -90,7 +98,7 @@ impl<'s> NameIndex<'s> {
         ensures { (tags : ListOf PlainTyped) → AreEntriesOf tags entries.entry → AreEntriesOf tags result }
     {
         let mut entries = entries.into_vec();
-        entries.sort_unstable();
+        entries.sort_unstable_by(|a, b| a.key.order(&b.key));
         NameIndex { entries }
     }
 
@@ -107,7 +115,7 @@ impl<'s> NameIndex<'s> {
         let mut least = entry.place;
         for i in 1..entries.len() {
             let place = entries[i].place;
-            if entries[i - 1].key.name == entries[i].key.name {
+            if entries[i - 1].key.has_name_of(&entries[i].key) {
                 first = earlier(first, Some(least.max(place)));
                 least = least.min(place);
             } else {
@@ -125,7 +133,7 @@ impl<'s> NameIndex<'s> {
     {
         let key = Key::new(kind, name);
         let entries = self.entries.as_slice();
-        match entries.binary_search_by(|entry| entry.key.cmp(&key)) {
+        match entries.binary_search_by(|entry| entry.key.order(&key)) {
             Ok(i) => Some(entries[i].number),
             Err(_) => None,
         }

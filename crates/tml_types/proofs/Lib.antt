@@ -1,3 +1,4 @@
+pub mod HeadBytes
 pub mod RepeatedNames
 pub mod KindNames
 pub mod OneRule

@@ -12,3 +12,4 @@ pub mod Answers
 pub mod Reading
 pub mod Walking
 pub mod TagReader
+pub mod Heads

@@ -1,12 +1,11 @@
 //! Attributes of one name.
-ghost use Rattle.std.specs.Cmp.Lexicographic.{slice_cmp};
 ghost use Rattle.std.specs.List.{IsDistinct};
-ghost use Rattle.std.specs.Ordering.{nat_cmp};
 ghost use Rattle.std.specs.Prelude.{◌≡◌, ◌↔◌, map, IfOk, IsFalse, IsSorted};
-ghost use Rattle.std.specs.Str.{bytes_eq};
 ghost use Rattle.tml_span.specs.View.{attribute_of};
+ghost use Rattle.tml_types.specs.Heads.{are_same, by_heads, headed_name};
 ghost use Rattle.tml_types.specs.Rules as rules;
 
+use crate::heads::head_of;
 use std::alloc::Global;
 use tml_span::{Attr, Memory};
 
@@ -57,15 +56,24 @@ fn is_repeated_in_many(alloc: Global, attrs: &[Attr<'_>]) -> Result<bool, Memory
     Ok(has_equal_neighbours(names.as_slice()))
 }
 
+/// A name with its first bytes as a number, by which names are compared first.
+#[derive(Clone, Copy, PartialEq, Eq, PartialOrd, Ord)]
+struct HeadedName<'s> {
+    head: u64,
+    name: &'s [u8],
+}
+
 /// The names of attributes, in their order.
-fn names_of<'s>(alloc: Global, attrs: &[Attr<'s>]) -> Result<Vec<&'s [u8]>, Memory>
-    ensures { IfOk result (λ names. names.items ≡ map (λ attr. attr.name) attrs.now) }
+fn names_of<'s>(alloc: Global, attrs: &[Attr<'s>]) -> Result<Vec<HeadedName<'s>>, Memory>
+    ensures { IfOk result (λ names. names.items ≡ map headed_name attrs.now) }
 {
     let Ok(mut names) = Vec::with_capacity(alloc, attrs.len()) else {
         return Err(Memory);
     };
     for attr in attrs {
-        if names.push(attr.name).is_err() {
+        let head = head_of(attr.name);
+        let name = attr.name;
+        if names.push(HeadedName { head, name }).is_err() {
             return Err(Memory);
         }
     }
@@ -73,9 +81,9 @@ fn names_of<'s>(alloc: Global, attrs: &[Attr<'s>]) -> Result<Vec<&'s [u8]>, Memo
 }
 
 /// Whether two names are equal. In a sorted list such names stand side by side.
-fn has_equal_neighbours(names: &[&[u8]]) -> bool
-    requires { IsSorted (λ a b. slice_cmp nat_cmp a.now b.now) names.now }
-    ensures { IsFalse result ↔ IsDistinct (λ a b. bytes_eq a.now b.now) names.now }
+fn has_equal_neighbours(names: &[HeadedName<'_>]) -> bool
+    requires { IsSorted by_heads names.now }
+    ensures { IsFalse result ↔ IsDistinct are_same names.now }
 {
     for later in 1..names.len() {
         if names[later - 1] == names[later] {

@@ -4,7 +4,7 @@ use Rattle.tml_refs.specs.Firsts.{bound, nowhere}
 use Rattle.tml_refs.specs.NameIndex.{AreInOrder, IsFirstRepeat}
 use Rattle.tml_refs.proofs.Scanning.{scanned_other, scanned_same, scanned_to_end}
 use Rattle.tml_refs.proofs.name_index.NameIndex.first_repeat.Goals as goal
-use Rattle.tml_refs.proofs.name_index.NameIndex.first_repeat.Goals.{then-eq, else-eq}
+use Rattle.tml_refs.proofs.name_index.NameIndex.first_repeat.Goals.{then-has_name_of, else-has_name_of}
 
 pub loop-i-preserved : goal.loop-i-preserved
 loop-i-preserved c =
@@ -13,9 +13,9 @@ loop-i-preserved c =
     let loop = c.loop-i in
     record {
       from = omega arith;
-      scanned = elim c.if-eq.branch [
-        | then-eq w ↦ scanned_same slice.result.now order nowhere (bound loop.first) loop.least loop.i _ loop.invariant.from c.loop-i-test.true loop.invariant.scanned (bound c.if-eq.first) c.if-eq.least (sym c.eq.ensures ∙ w.if-eq.true) (ap bound w.first-is ∙ w.earlier-first.ensures ∙ ap (λ n. min (bound loop.first) n) w.max.ensures) (w.least-is ∙ w.min-least.ensures)
-        | else-eq w ↦ scanned_other slice.result.now order nowhere (bound loop.first) loop.least loop.i _ loop.invariant.from c.loop-i-test.true loop.invariant.scanned (bound c.if-eq.first) c.if-eq.least (sym c.eq.ensures ∙ w.if-eq.false) (ap bound w.first-is) w.least-is
+      scanned = elim c.if-has_name_of.branch [
+        | then-has_name_of w ↦ scanned_same slice.result.now order nowhere (bound loop.first) loop.least loop.i _ loop.invariant.from c.loop-i-test.true loop.invariant.scanned (bound c.if-has_name_of.first) c.if-has_name_of.least (sym c.has_name_of.ensures ∙ w.if-has_name_of.true) (ap bound w.first-is ∙ w.earlier-first.ensures ∙ ap (λ n. min (bound loop.first) n) w.max.ensures) (w.least-is ∙ w.min-least.ensures)
+        | else-has_name_of w ↦ scanned_other slice.result.now order nowhere (bound loop.first) loop.least loop.i _ loop.invariant.from c.loop-i-test.true loop.invariant.scanned (bound c.if-has_name_of.first) c.if-has_name_of.least (sym c.has_name_of.ensures ∙ w.if-has_name_of.false) (ap bound w.first-is) w.least-is
       ];
     }
 

@@ -1,6 +1,6 @@
 -- The first bytes of a name as a number, byte by byte.
 use Rattle.std.proofs.Common.{◌≡◌, ℕ, suc, ◌+◌, ◌*◌, ◌%◌, ◌^◌, List, ◌∷◌, take, refl, sym, ap, ◌∙◌, arith}
-use Rattle.tml_refs.specs.NameIndex.{number_from}
+use Rattle.tml_types.specs.Heads.{number_from}
 
 number_more : (n m byte : ℕ) (bytes : List ℕ) → number_from n (take (suc m) (byte ∷ bytes)) ≡ number_from ((n * 256 % 2 ^ 64 + byte) % 2 ^ 64) (take m bytes)
 unfolding number_from

@@ -1,6 +1,6 @@
 use Rattle.std.proofs.Common.{◌≡◌, take}
-use Rattle.tml_refs.specs.NameIndex.{head_of, number_from}
-use Rattle.tml_refs.proofs.name_index.head_of.Given as goal
+use Rattle.tml_types.specs.Heads.{head_of, number_from}
+use Rattle.tml_types.proofs.heads.head_of.Given as goal
 
 -- the bytes that are left complete the number
 abbrev pub invariant-loop-byte : goal.invariant-loop-byte

@@ -1,7 +1,7 @@
 use Rattle.std.proofs.Common.{rules}
-use Rattle.tml_refs.specs.NameIndex.{number_from}
-use Rattle.tml_refs.proofs.Heads.{head_more}
-use Rattle.tml_refs.proofs.name_index.head_of.Goals as goal
+use Rattle.tml_types.specs.Heads.{number_from}
+use Rattle.tml_types.proofs.HeadBytes.{head_more}
+use Rattle.tml_types.proofs.heads.head_of.Goals as goal
 
 pub loop-byte-preserved : goal.loop-byte-preserved
 loop-byte-preserved c =
