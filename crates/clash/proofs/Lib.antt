@@ -19,4 +19,5 @@ pub mod RankSums
 pub mod Spared
 pub mod Answered
 pub mod Entailing
+pub mod Elements
 pub mod Paths

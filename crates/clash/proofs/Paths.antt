@@ -204,30 +204,46 @@ module _ {E : Type 0} (atom : E → Atom) (edges : List E) where
       | inr bad ↦ inr bad
     ]
 
-    all_edges : Result edges
-    all_edges = result edges (recursion_from_All (Contains edges) edges (All-contains_itself edges))
+    -- A closed table that is kept where all edges are true and nowhere else, and says nothing without a path.
+    pub record SaysPaths (cell : ℕ → ℕ → Cell) : Type 0 where
+      pub closed : AreClosed n cell
+      pub kept : (t : Timeline) → AreKept n cell t ↔ AllTrue t
+      pub paths : (i j : ℕ) (strict : Bool) → i < n → j < n → strength (order strict) ≤ strength (cell i j) → HasPath i j strict
 
-    -- a timeline of which all edges are true keeps the cells
-    true_kept : (cell : ℕ → ℕ → Cell) → HasCells edges cell → (t : Timeline) → AllTrue t → AreKept n cell t
-    true_kept cell has t all i j li lj = said_by (cell i j) (t i) (t j) (λ some. path_kept t i j (is_strict (cell i j)) all (has.paths i j (is_strict (cell i j)) li lj (own (cell i j) some)))
+    says_paths : (cell : ℕ → ℕ → Cell) → HasCells edges cell → SaysPaths cell
+    says_paths cell has = record {
+      closed = has.closed;
+      kept = λ t. (
+        λ kept e among.
+            let a = atom e in
+            let r = range e among in
+            order_says (cell a.from a.to) a.strict (t a.from) (t a.to) (All-contains (IsSaid cell) edges e (All-from_recursion (IsSaid cell) edges has.said) among) (kept a.from a.to r.0 r.1),
+        λ all i j li lj. said_by (cell i j) (t i) (t j) (λ some. path_kept t i j (is_strict (cell i j)) all (has.paths i j (is_strict (cell i j)) li lj (own (cell i j) some))),
+      );
+      paths = has.paths;
+    }
 
-    -- and the other way round
-    kept_true : (cell : ℕ → ℕ → Cell) → HasCells edges cell → (t : Timeline) → AreKept n cell t → AllTrue t
-    kept_true cell has t kept e among =
-        let a = atom e in
-        let r = range e among in
-        order_says (cell a.from a.to) a.strict (t a.from) (t a.to) (All-contains (IsSaid cell) edges e (All-from_recursion (IsSaid cell) edges has.said) among) (kept a.from a.to r.0 r.1)
+    -- the edges have such a table, or a round
+    pub table_or_round : ((cell : ℕ → ℕ → Cell) × SaysPaths cell) ⊎ ((x : ℕ) × HasPath x x true)
+    unfolding Result
+    table_or_round = elim (result edges (recursion_from_All (Contains edges) edges (All-contains_itself edges))) [
+      | inl good ↦ inl (good.0, says_paths good.0 good.1)
+      | inr round ↦ inr round
+    ]
+
+    -- in no timeline of which all edges are true is there a round
+    pub no_round : (u : Timeline) (x : ℕ) → AllTrue u → HasPath x x true → ⊥
+    no_round u x all path = let less : u x < u x = path_kept u x x true all path in omega arith
 
     -- where all edges are true of some timeline an order has a path, or it is false in some timeline of which they are
     pub path_or_counter : (u : Timeline) → AllTrue u → (p q : ℕ) (strict : Bool) → p < n → q < n
         → HasPath p q strict ⊎ ((t : Timeline) × AllTrue t × (IsInOrder strict (t p) (t q) → ⊥))
-    unfolding Result
-    path_or_counter u all p q strict lp lq = elim all_edges [
+    path_or_counter u all p q strict lp lq = elim table_or_round [
       | inl good ↦ elim (cases_lt (strength (good.0 p q)) (strength (order strict))) [
         | inl weaker ↦
             let c = counter_time n good.0 good.1.closed (record { from = p; to = q; strict = strict }) lp lq weaker in
-            inr (c.0, kept_true good.0 good.1 c.0 c.1, c.2)
+            inr (c.0, (good.1.kept c.0).0 c.1, c.2)
         | inr enough ↦ inl (good.1.paths p q strict lp lq enough)
       ]
-      | inr bad ↦ absurd (let less : u bad.0 < u bad.0 = path_kept u bad.0 bad.0 true all bad.1 in omega arith)
+      | inr bad ↦ absurd (no_round u bad.0 all bad.1)
     ]

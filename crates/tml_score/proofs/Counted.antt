@@ -26,7 +26,7 @@ use Rattle.tml_refs.proofs.NamedIntervals.{named_or_not}
 use Rattle.tml_score.specs.Scores.{Annotation, AreMatched, EveryScore, FollowsIn, HaveOneName, IsClosedOf, IsCountOf, IsSound, OneScore}
 use Rattle.tml_score.specs.Scoring.{ArePartners, AreWithin, EntailsBetween, IsPartner}
 use Rattle.tml_score.proofs.Redundancy.{atoms_decided, every_net_is_reduced, one_reduced_list}
-use Rattle.tml_score.proofs.Rising.{first_in, rest_in}
+use Rattle.clash.proofs.Elements.{first_in, rest_in}
 
 -- ---- partners
 

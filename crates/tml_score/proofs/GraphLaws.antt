@@ -16,7 +16,7 @@ use Rattle.net_core.specs.declared.atom.Atom.{Atom}
 use Rattle.net_core.specs.declared.net.NetLink.{NetLink}
 use Rattle.net_core.specs.declared.rels.Rel.TheVariants as rel
 use Rattle.net_core.proofs.AtomLaws.{atoms_in_range}
-use Rattle.tml_score.proofs.Rising.{every}
+use Rattle.clash.proofs.Elements.{every}
 use Rattle.tml_score.specs.Graph.{Adds, AreAll, IsFixed, IsGraphOf, IsOfSome, counts, link_atoms}
 
 -- ---- lists of orders

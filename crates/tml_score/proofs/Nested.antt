@@ -13,7 +13,7 @@ use Rattle.net_core.specs.declared.atom.PairOrder.TheVariants.{ABefore, ANoLater
 use Rattle.net_core.specs.declared.net.Ends.{Ends}
 use Rattle.net_core.specs.declared.rels.Rel.{Rel}
 use Rattle.net_core.specs.declared.rels.Rel.TheVariants as rel
-use Rattle.tml_score.proofs.Rising.{first_in, first_or_rest, rest_in}
+use Rattle.clash.proofs.Elements.{first_in, first_or_rest, rest_in}
 
 -- where another order leads to no later a point, it begins no later
 abbrev pub BeginsLater : Ends → Ends → PairOrder → PairOrder → Type 0

@@ -29,7 +29,7 @@ use Rattle.tml_score.specs.declared.search.Asked.{Asked}
 use Rattle.tml_score.specs.Search.{AreThrough, Basis, Decides, HasEnough, IsAsked, IsLed, IsPassed, IsReady, IsThrough, IsWay, LeadsOut, Rest, is_other}
 use Rattle.tml_score.proofs.GraphLaws.{in_range, link_in_range, orders_say}
 use Rattle.tml_score.proofs.Nested.{nested_atoms}
-use Rattle.tml_score.proofs.Rising.{in_filter}
+use Rattle.clash.proofs.Elements.{in_filter}
 
 -- the order of points that an edge is
 abbrev atom_of : Order → Atom

@@ -10,7 +10,7 @@ use Rattle.tml_score.specs.Reached.{PlainReached}
 use Rattle.tml_score.specs.Search.{Basis, Extends, IsWay}
 use Rattle.tml_score.specs.declared.search.Asked.{Asked}
 use Rattle.net_core.specs.Nets.{points}
-use Rattle.tml_score.proofs.Rising.{first_or_rest}
+use Rattle.clash.proofs.Elements.{first_or_rest}
 use Rattle.tml_score.proofs.Spreading.{extends_none, same_point, still_there}
 
 module _ (basis : Basis) (asked : Asked) where
