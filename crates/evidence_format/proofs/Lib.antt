@@ -16,6 +16,7 @@ pub mod Reading
 pub mod EveryText
 pub mod Claims
 pub mod Writing
+pub mod BodyTexts
 pub mod PartLaws
 pub mod BundleParts
 pub mod SmallRanks

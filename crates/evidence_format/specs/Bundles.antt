@@ -7,6 +7,7 @@ use Rattle.evidence_format.specs.Evidence.{PlainEvidence, IsNumber, IsWellFormed
 use Rattle.evidence_format.specs.Begun.{IsBadLineBy, IsBegun}
 use Rattle.evidence_format.specs.Parts.{AreBegunParts, IsBegunBody}
 use Rattle.evidence_format.specs.View.{plain}
+use Rattle.evidence_format.specs.declared.bodies.Bodies.{Bodies}
 use Rattle.evidence_format.specs.declared.evidence.Evidence.{Evidence}
 use Rattle.evidence_format.specs.declared.read.ReadEvidence.{ReadEvidence}
 use Rattle.evidence_format.specs.declared.read.ReadEvidence.TheVariants.{BadLine, Memory}
@@ -45,6 +46,10 @@ IsClaimText e text = IsBundleText (e ∷ []) text
 abbrev pub IsTextOfEither : List PlainEvidence → List ℕ → Type 0
 IsTextOfEither es text = IsBundleText es text ⊎ ((e : PlainEvidence) × (es ≡ e ∷ []) × IsText e text)
 
+-- so many claims, and the bytes of their bodies
+abbrev pub AreBodies : List PlainEvidence → Bodies → Type 0
+AreBodies es bodies = (length es ≡ bodies.count) × (bodies.text.now ≡ concat (flat_map body_lines es))
+
 -- ---- the bad line
 
 abbrev pub HasBundleLines : List PlainEvidence → Lines → Type 0
@@ -67,6 +72,12 @@ abbrev pub ReadsBundle : List PlainEvidence → Result (List Evidence) ReadEvide
 ReadsBundle es (Ok bundle) = map plain bundle ≡ es
 ReadsBundle es (Err Memory) = ⊤
 ReadsBundle es (Err (BadLine line)) = ⊥
+
+-- the bodies of these claims were read, unless out of memory
+abbrev pub ReadsBodies : List PlainEvidence → Result Bodies ReadEvidence → Type 0
+ReadsBodies es (Ok bodies) = AreBodies es bodies
+ReadsBodies es (Err Memory) = ⊤
+ReadsBodies es (Err (BadLine line)) = ⊥
 
 -- the bad line of either version is reported, unless out of memory
 abbrev pub TellsBadLineOfEither : List ℕ → ReadEvidence → Type 0

@@ -83,7 +83,7 @@ fn bodies_at<'t>(
 
 /// How many bodies there are, by the lines before them, and what follows these.
 #[tactic(auto, unfolding(crate::specs::Readers::opening_at))]
-fn opening_at(text: &[u8]) -> Result<(u32, &[u8]), Stop<'_>>
+pub fn opening_at(text: &[u8]) -> Result<(u32, &[u8]), Stop<'_>>
     ensures { Gives (λ x. (x.0, lines_of x.1.now)) result (readers.opening_at (lines_of text.now)) }
 {
     let (version, rest) = version_at(text)?;
