@@ -1,15 +1,13 @@
 -- The claims of a bundle, one after another.
-use Rattle.std.proofs.Common.{◌≡◌, ◌⊎◌, inl, inr, ℕ, ◌<◌, List, [], length, map, Some, sym, ap, subst, ◌∙◌, arith}
+use Rattle.std.proofs.Common.{◌≡◌, ◌⊎◌, inl, inr, ℕ, ◌<◌, List, [], ◌∷◌, ◌++◌, length, Some, length-append, sym, subst, arith}
 use Rattle.std.specs.Prelude.{slice_index_or}
 use Rattle.std.specs.List.{All}
-use Rattle.std.proofs.lemmas.List.{get_or_default, length-map}
-use Rattle.std.proofs.lemmas.List.Elements.{All-from_get_or}
-use Rattle.std.proofs.Math.ListN.{get_or-map}
+use Rattle.std.proofs.lemmas.List.{get_or_append_left}
+use Rattle.std.proofs.lemmas.List.Elements.{All-append, All-cons, All-nil, All-from_get_or}
+use Rattle.std.proofs.Math.Seq.{get_or-append_seam}
 use Rattle.net_core.specs.Nets.{PlainNet}
 use Rattle.net_core.proofs.FirstLaws.{one_first, first_or_none}
-use Rattle.evidence_format.specs.Evidence.{PlainEvidence, timeline, IsWellFormed}
-use Rattle.evidence_format.specs.View.{plain}
-use Rattle.evidence_format.specs.declared.evidence.Evidence.{Evidence}
+use Rattle.evidence_format.specs.Evidence.{PlainEvidence, timeline}
 use Rattle.evidence_check.specs.declared.refusal.Refused.{Refused}
 use Rattle.evidence_check.specs.declared.refusal.RefusedClaim.{RefusedClaim}
 use Rattle.evidence_check.specs.Bundles.{claim_at, IsSupportedAt, AreSupported, IsFirstRefused, OneBundleVerdict}
@@ -20,35 +18,39 @@ use Rattle.evidence_check.proofs.Soundness.{supported_is_true}
 use Rattle.evidence_check.proofs.Verdicts.{one_verdict}
 use Rattle.evidence_check.proofs.Judged.{supported_or_refused}
 
--- the claim of a number is what stands there
-pub claim_is : (claims : List Evidence) (k : ℕ) (e : Evidence) → k < length claims → e ≡ slice_index_or claims k e → claim_at (map plain claims) k ≡ plain e
-claim_is claims k e below is =
-    let place : k < length (map plain claims) = rw length-map below in
-    get_or_default (map plain claims) k (timeline []) (plain e) place ∙ get_or-map plain claims k e ∙ ap plain (sym is)
+-- the claim of a number is the same with claims after it
+claim_before : (es ds : List PlainEvidence) (j : ℕ) → j < length es → claim_at (es ++ ds) j ≡ claim_at es j
+claim_before es ds j below = get_or_append_left es ds (timeline []) j below
 
--- it is well formed where all are
-pub claim_fits : (claims : List Evidence) (k : ℕ) (e : Evidence) → k < length claims → e ≡ slice_index_or claims k e → All IsWellFormed (map plain claims) → IsWellFormed (plain e)
-claim_fits claims k e below is fit =
-    let place : k < length (map plain claims) = rw length-map below in
-    subst IsWellFormed (claim_is claims k e below is) (fit k (timeline []) place)
+-- with one claim more that is supported, all are
+pub supported_more : (net : PlainNet) (es : List PlainEvidence) (e : PlainEvidence) → AreSupported net es → IsSupported net e → AreSupported net (es ++ e ∷ [])
+supported_more net es e all supported = All-append (IsSupported net) es (e ∷ []) all (All-cons (IsSupported net) e [] supported (All-nil (IsSupported net)))
 
--- it is refused where the claims before it are supported, and its evidence is refused
-pub claim_refused : (net : PlainNet) (claims : List Evidence) (k : ℕ) (e : Evidence) (refused : Refused) → k < length claims → e ≡ slice_index_or claims k e
-    → ((j : ℕ) → j < k → IsSupportedAt net (map plain claims) j) → IsRefused net (plain e) refused → IsFirstRefused net (map plain claims) (record { claim = k; refused = refused })
-claim_refused net claims k e refused below is before bad =
-    let place : k < length (map plain claims) = rw length-map below in
-    let same = claim_is claims k e below is in
-    let refusal = subst (λ (e : PlainEvidence). IsRefused net e refused) (sym same) bad in
-    ((place, (λ supported. (one_verdict net (claim_at (map plain claims) k)).not_both refused supported refusal), before), refusal)
+-- a claim after supported ones is refused first where its evidence is refused
+pub refused_next : (net : PlainNet) (es : List PlainEvidence) (e : PlainEvidence) (k : ℕ) (refused : Refused) → AreSupported net es → length es ≡ k → IsRefused net e refused
+    → IsFirstRefused net (es ++ e ∷ []) (record { claim = k; refused = refused })
+refused_next net es e k refused all count bad =
+    let here : claim_at (es ++ e ∷ []) k ≡ e = subst (λ (n : ℕ). claim_at (es ++ e ∷ []) n ≡ e) count (get_or-append_seam es e [] (timeline [])) in
+    let refusal = subst (λ (e : PlainEvidence). IsRefused net e refused) (sym here) bad in
+    let place : k < length (es ++ e ∷ []) = omega (arith, length-append es (e ∷ []), count) in
+    let before : (j : ℕ) → j < k → IsSupportedAt net (es ++ e ∷ []) j = λ j below.
+    let low : j < length es = omega (arith, below, count) in
+    subst (IsSupported net) (sym (claim_before es (e ∷ []) j low)) (all j (timeline []) low) in
+    ((place, (λ supported. (one_verdict net (claim_at (es ++ e ∷ []) k)).not_both refused supported refusal), before), refusal)
+
+-- the claim that is refused first is so with claims after it
+pub refused_still : (net : PlainNet) (es ds : List PlainEvidence) (refused : RefusedClaim) → IsFirstRefused net es refused → IsFirstRefused net (es ++ ds) refused
+refused_still net es ds refused first =
+    let below = first.0.0 in
+    let same = claim_before es ds refused.claim below in
+    let place : refused.claim < length (es ++ ds) = omega (arith, length-append es ds, below) in
+    let before : (j : ℕ) → j < refused.claim → IsSupportedAt net (es ++ ds) j = λ j low.
+    subst (IsSupported net) (sym (claim_before es ds j (omega (arith, low, below)))) (first.0.2 j low) in
+    ((place, (λ supported. first.0.1 (subst (IsSupported net) same supported)), before), subst (λ (e : PlainEvidence). IsRefused net e refused.refused) (sym same) first.1)
 
 -- where a claim is refused, not all are supported
 pub not_supported : (net : PlainNet) (es : List PlainEvidence) (refused : RefusedClaim) → IsFirstRefused net es refused → AreSupported net es → ⊥
 not_supported net es refused first all = first.0.1 (all refused.claim (timeline []) first.0.0)
-
--- where the claim of each number is supported, all are
-pub all_supported : (net : PlainNet) (claims : List Evidence) → ((j : ℕ) → j < length claims → IsSupportedAt net (map plain claims) j) → AreSupported net (map plain claims)
-all_supported net claims each =
-    All-from_get_or (IsSupported net) (map plain claims) (timeline []) (λ j below. each j (let len = length-map claims plain in omega (arith, below, len)))
 
 -- two numbers that are first are one
 some_is : (m n : ℕ) → Some m ≡ Some n → m ≡ n

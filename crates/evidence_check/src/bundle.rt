@@ -1,35 +1,36 @@
-//! Checking evidence of several claims.
+//! Checking evidence of several claims, one after another.
 ghost use Rattle.evidence_check.specs.Bundles.{AreSupported, IsFirstRefused};
-ghost use Rattle.evidence_check.specs.Claims.{ShowsTruth};
-ghost use Rattle.evidence_format.specs.Evidence.{IsWellFormed};
+ghost use Rattle.evidence_check.specs.Demands.{AreDemands};
+ghost use Rattle.evidence_check.specs.Supported.{IsSupported};
+ghost use Rattle.evidence_format.specs.Evidence.{IsWellFormed, PlainEvidence};
 ghost use Rattle.evidence_format.specs.View.{plain};
-ghost use Rattle.std.specs.List.{All};
-ghost use Rattle.std.specs.Prelude.{◌↔◌, map, IfErr, IsOk, OnOk};
+ghost use Rattle.std.specs.Prelude.{◌≡◌, ◌++◌, ◌∷◌, [], IfErr, List as ListOf, OnOk, length};
 
 use crate::checker::verify_by;
 use crate::demands::Demands;
 use crate::refusal::RefusedClaim;
-use evidence_format::Bundle;
+use evidence_format::Evidence;
 use net_core::Net;
 
-/// Checks the evidence of each claim against the net of a document. It takes no memory.
+/// Checks the evidence of a claim against the net of a document, where so many claims before it are supported: `claim` is
+/// its number, counted from 0. What the net asks of a timeline is made once for all claims. It takes no memory.
 ///
 /// # Errors
 ///
-/// The first claim whose evidence is refused, and why it is. A refusal comes exactly where not every claim is supported.
-pub fn verify_all(net: &Net, bundle: &Bundle) -> Result<(), RefusedClaim>
-    requires { All IsWellFormed (map plain bundle.now) }
-    ensures supported { IsOk result ↔ AreSupported net.now (map plain bundle.now) }
-    ensures err { IfErr result (IsFirstRefused net.now (map plain bundle.now)) }
-    // What the evidence of each claim shows is true.
-    ensures sound { OnOk result (All (ShowsTruth net.now) (map plain bundle.now)) }
+/// The first claim whose evidence is refused, this one, and why it is. A refusal comes exactly where it is not supported.
+pub fn verify_next(
+    net: &Net,
+    demands: &Demands,
+    claim: u32,
+    evidence: &Evidence,
+) -> Result<(), RefusedClaim>
+    requires demands { AreDemands net.now demands.now }
+    requires well_formed { IsWellFormed (plain evidence.now) }
+    ensures ok { OnOk result (IsSupported net.now (plain evidence.now)) }
+    ensures err { (es : ListOf PlainEvidence) → AreSupported net.now es → length es ≡ claim → IfErr result (IsFirstRefused net.now (es ++ plain evidence.now ∷ [])) }
 {
-    let mut demands = Demands::new();
-    demands.add(net);
-    for k in 0..bundle.count() {
-        if let Err(refused) = verify_by(net, &demands, bundle.claim(k)) {
-            return Err(RefusedClaim { claim: k, refused });
-        }
+    match verify_by(net, demands, evidence) {
+        Ok(_) => Ok(()),
+        Err(refused) => Err(RefusedClaim { claim, refused }),
     }
-    Ok(())
 }

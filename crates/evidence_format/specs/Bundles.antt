@@ -84,6 +84,11 @@ abbrev pub TellsBadLineOfEither : List ℕ → ReadEvidence → Type 0
 TellsBadLineOfEither text Memory = ⊤
 TellsBadLineOfEither text (BadLine line) = IsBadLineOfEither text line
 
+-- a text is that of no claims, and its bad line is reported, unless out of memory
+abbrev pub RefusesText : List ℕ → ReadEvidence → Type 0
+RefusesText text Memory = ⊤
+RefusesText text (BadLine line) = ((es : List PlainEvidence) → IsTextOfEither es text → ⊥) × IsBadLineOfEither text line
+
 -- a text is that of some claims, or is that of none and has a bad line of either version
 abbrev pub BundleOrBadLine : List ℕ → Type 0
 BundleOrBadLine text = ((es : List PlainEvidence) × IsTextOfEither es text) ⊎ (((es : List PlainEvidence) → IsTextOfEither es text → ⊥) × (line : ℕ) × IsBadLineOfEither text line)
