@@ -35,7 +35,7 @@ walk_is : (steps : List Step) → concat (walk_lines steps) ≡ walk_bytes steps
 walk_is steps = rw (mapped step_line steps) refl
 
 -- what stands between the first line and the last one, joined
-body_is : (e : PlainEvidence) → concat (body_lines e) ≡ body_bytes e
+pub body_is : (e : PlainEvidence) → concat (body_lines e) ≡ body_bytes e
 body_is (timeline ranks) = timeline_is ranks
 body_is (entails a r b walks) = rw (flat walk_lines walk_bytes walk_is walks) refl
 body_is (counter a r b ranks) = rw (timeline_is ranks) refl
@@ -43,20 +43,6 @@ body_is (clash cites walk spares) =
     let proof = joined (walk_lines walk) (flat_map timeline_lines spares) (walk_bytes walk) (flat_map timeline_bytes spares) (walk_is walk) (flat timeline_lines timeline_bytes timeline_is spares) in
     let all = joined (map cite_line cites) (walk_lines walk ++ flat_map timeline_lines spares) (flat_map cite_line cites) (walk_bytes walk ++ flat_map timeline_bytes spares) (mapped cite_line cites) proof in
     ap (λ (x : List ℕ). one_number (codes "clash ") (length cites) ++ x) all
-
--- the lines of a text of version 2, joined
-pub bundle_is : (es : List PlainEvidence) → concat (bundle_lines es) ≡ bundle_line ++ (claims_line (length es) ++ (flat_map body_bytes es ++ last_line))
-bundle_is es = rw (concat_append (flat_map body_lines es) (last_line ∷ []), flat body_lines body_bytes body_is es) refl
-
--- the bytes of claims are their text of version 2
-pub bundle_text : (claims slice : List Evidence) (out : List ℕ) → All IsWellFormed (map plain claims) → IsCount (length claims) → slice ≡ claims
-    → out ≡ bundle_line ++ (claims_line (length slice) ++ (flat_map body_bytes (map plain slice) ++ last_line)) → IsBundleText (map plain claims) out
-bundle_text claims slice out good count same bytes =
-    let es = map plain claims in
-    let len : length es ≡ length claims = length-map claims plain in
-    let all : out ≡ bundle_line ++ (claims_line (length claims) ++ (flat_map body_bytes es ++ last_line)) =
-    subst (λ (xs : List Evidence). out ≡ bundle_line ++ (claims_line (length xs) ++ (flat_map body_bytes (map plain xs) ++ last_line))) same bytes in
-    ((good, subst IsCount (sym len) count), all ∙ ap (λ (k : ℕ). bundle_line ++ (claims_line k ++ (flat_map body_bytes es ++ last_line))) (sym len) ∙ sym (bundle_is es))
 
 -- the bodies of claims with the lines around them are their text of version 2
 pub bodies_text : (es : List PlainEvidence) (bodies out : List ℕ) (n : ℕ) → AreClaims es → length es ≡ n → bodies ≡ concat (flat_map body_lines es)

@@ -1,5 +1,5 @@
 //! Reading claims whose bodies are kept as they stand in their text.
-ghost use Rattle.evidence_format.specs.Bundles.{AreBodies, IsTextOfEither, ReadsBodies, TellsBadLineOfEither};
+ghost use Rattle.evidence_format.specs.Bundles.{AreBodies, IsTextOfEither, RefusesText};
 ghost use Rattle.evidence_format.specs.Evidence.{PlainEvidence};
 ghost use Rattle.evidence_format.specs.Given.{GivesBodies, Passes};
 ghost use Rattle.evidence_format.specs.Lines.{lines_of};
@@ -9,8 +9,9 @@ ghost use Rattle.std.specs.Prelude.{◌≤◌, List as ListOf, length, IfErr, If
 
 use crate::ReadEvidence;
 use crate::lines::end_at;
-use crate::read::{body_at, line_of};
+use crate::read::body_at;
 use crate::stop::Stop;
+use crate::unread::stopped;
 use crate::versions::opening_at;
 use std::alloc::Global;
 
@@ -33,16 +34,12 @@ pub struct Bodies<'t> {
 pub fn read_bodies(alloc: Global, text: &[u8]) -> Result<Bodies<'_>, ReadEvidence>
     requires { length text.now ≤ max_evidence }
     ensures ok { IfOk result (λ bodies. (es : ListOf PlainEvidence) × IsTextOfEither es text.now × AreBodies es bodies) }
-    ensures only { (es : ListOf PlainEvidence) → IsTextOfEither es text.now → ReadsBodies es result }
-    ensures err { IfErr result (TellsBadLineOfEither text.now) }
+    ensures err { IfErr result (RefusesText text.now) }
     ensures few { IfOk result (λ bodies. bodies.count ≤ length text.now) }
 {
     match bodies_of(alloc, text) {
         Ok(bodies) => Ok(bodies),
-        Err(Stop::BadLine(rest)) => Err(ReadEvidence::BadLine {
-            line: line_of(text, rest),
-        }),
-        Err(Stop::Memory) => Err(ReadEvidence::Memory),
+        Err(stop) => Err(stopped(text, stop)),
     }
 }
 

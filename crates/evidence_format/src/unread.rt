@@ -90,7 +90,7 @@ impl<'t> Unread<'t> {
 }
 
 /// Why no claims were read, where reading stops.
-fn stopped(text: &[u8], stop: Stop<'_>) -> ReadEvidence
+pub fn stopped(text: &[u8], stop: Stop<'_>) -> ReadEvidence
     requires limit { length text.now ≤ max_evidence }
     requires stop { StopsAt stop (readers.bundle_at (lines_of text.now)) }
     ensures { RefusesText text.now result }

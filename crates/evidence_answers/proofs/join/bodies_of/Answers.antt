@@ -5,6 +5,6 @@ use Rattle.evidence_answers.proofs.join.bodies_of.Goals as goal
 
 pub returns-in-Err-BadLine-clause-err : goal.returns-in-Err-BadLine-clause-err
 returns-in-Err-BadLine-clause-err c =
-    let read = c.read_bodies.ensures in
+    let refuses = rw (c.in-Err-BadLine.is, c.in-Err-BadLine.field-0-is) at c.read_bodies.ensures.err in
     rw c.from_answer.ensures (cannot_judge c.args.text.now c.in-Err-BadLine.line c.malformed_answer-answer.result
-    (rw (c.in-Err-BadLine.is, c.in-Err-BadLine.field-0-is) at read.only) (rw (c.in-Err-BadLine.is, c.in-Err-BadLine.field-0-is) at read.err) c.malformed_answer-answer.ensures.finding c.malformed_answer-answer.ensures.text)
+    refuses.0 refuses.1 c.malformed_answer-answer.ensures.finding c.malformed_answer-answer.ensures.text)

@@ -9,10 +9,10 @@ use Rattle.evidence_answers.proofs.join.joined.Goals as goal
 
 pub returns-in-Err-BadLine : goal.returns-in-Err-BadLine
 returns-in-Err-BadLine c =
-    let read = c.read_bodies.ensures in
+    let refuses = rw (c.in-Err-BadLine.is, c.in-Err-BadLine.field-0-is) at c.read_bodies.ensures.err in
     let of_any : Answers = λ bytes status text. (es : List PlainEvidence) → AreClaims es → AreBodies es c.args.first → OfSecond es bytes status text in
     malformed of_any (codes "second line ") c.args.second.now c.in-Err-BadLine.line c.malformed_answer.result (λ text told es are bodies. told)
-    (rw (c.in-Err-BadLine.is, c.in-Err-BadLine.field-0-is) at read.only) (rw (c.in-Err-BadLine.is, c.in-Err-BadLine.field-0-is) at read.err) c.malformed_answer.ensures.finding c.malformed_answer.ensures.text
+    refuses.0 refuses.1 c.malformed_answer.ensures.finding c.malformed_answer.ensures.text
 
 pub returns-in-Ok-write_both : goal.returns-in-Ok-write_both
 returns-in-Ok-write_both c = λ es are bodies.
