@@ -5,7 +5,6 @@ use Rattle.evidence_format.specs.Evidence.{PlainEvidence}
 use Rattle.tml_run.specs.OneFile.{Answers}
 use Rattle.tml_run.specs.Rows.{Rows}
 use Rattle.tml_run.specs.TwoFiles.{Judging, of_two_files}
-use Rattle.tml_run.specs.declared.status.Status.{Status}
 use Rattle.tml_run.specs.declared.status.Status.TheVariants.{Done, EvidenceFault}
 use Rattle.evidence_answers.specs.Files.{ReportsEvidenceLine, ReportsLine, evidence_file, second_file}
 

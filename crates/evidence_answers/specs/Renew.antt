@@ -4,7 +4,6 @@ use Rattle.evidence_format.specs.Bundles.{IsBundleText, IsTextOfEither}
 use Rattle.evidence_format.specs.Evidence.{PlainEvidence}
 use Rattle.tml_run.specs.OneFile.{Answers, of_one_file}
 use Rattle.tml_run.specs.Rows.{Rows}
-use Rattle.tml_run.specs.declared.status.Status.{Status}
 use Rattle.tml_run.specs.declared.status.Status.TheVariants.{Done, EvidenceFault}
 use Rattle.evidence_answers.specs.Files.{ReportsEvidenceLine, evidence_file}
 

@@ -1,14 +1,11 @@
 -- The bytes that are written are those of the lines.
-use Rattle.std.proofs.Common.{◌≡◌, ℕ, List, [], ◌∷◌, ◌++◌, length, map, refl, sym, ap, subst, ◌∙◌}
+use Rattle.std.proofs.Common.{◌≡◌, ℕ, List, [], ◌∷◌, ◌++◌, length, map, refl, sym, ap, ◌∙◌}
 use Rattle.std.specs.Prelude.{codes}
-use Rattle.std.specs.List.{All, concat, flat_map}
-use Rattle.std.proofs.lemmas.List.{length-map}
+use Rattle.std.specs.List.{concat, flat_map}
 use Rattle.net_core.specs.declared.step.Step.{Step}
-use Rattle.evidence_format.specs.declared.evidence.Evidence.{Evidence}
-use Rattle.evidence_format.specs.View.{plain}
 use Rattle.evidence_format.specs.Lines.{Lines}
-use Rattle.evidence_format.specs.Evidence.{PlainEvidence, timeline, entails, counter, clash, IsWellFormed, at_line, timeline_lines, step_line, walk_lines, cite_line, body_lines, text_lines, one_number, first_line, last_line}
-use Rattle.evidence_format.specs.Bundles.{AreClaims, IsBundleText, IsCount, bundle_line, claims_line, bundle_lines}
+use Rattle.evidence_format.specs.Evidence.{PlainEvidence, timeline, entails, counter, clash, at_line, timeline_lines, step_line, walk_lines, cite_line, body_lines, text_lines, one_number, first_line, last_line}
+use Rattle.evidence_format.specs.Bundles.{AreClaims, IsBundleText, bundle_line, claims_line, bundle_lines}
 use Rattle.evidence_format.specs.Written.{timeline_bytes, walk_bytes, body_bytes}
 use Rattle.evidence_format.proofs.LineLaws.{concat_append}
 

@@ -1,5 +1,5 @@
 -- Serves the code: claims of a text that are read one after another.
-use Rattle.std.specs.Prelude.{◌≡◌, ℕ, List, ◌++◌, Result, Ok}
+use Rattle.std.specs.Prelude.{◌≡◌, List, ◌++◌, Result, Ok}
 use Rattle.evidence_format.specs.declared.unread.Unread.{Unread}
 use Rattle.evidence_format.specs.Lines.{Lines, lines_of}
 use Rattle.evidence_format.specs.Evidence.{PlainEvidence}

@@ -1,5 +1,3 @@
-use Rattle.std.proofs.Common.{codes}
-use Rattle.evidence_answers.specs.Join.{evidence}
 use Rattle.evidence_answers.proofs.Joined.{cannot_judge}
 use Rattle.evidence_answers.proofs.join.bodies_of.Goals as goal
 

@@ -1,4 +1,4 @@
-use Rattle.std.proofs.Common.{ℕ, List, codes, arith}
+use Rattle.std.proofs.Common.{List, codes, arith}
 use Rattle.evidence_format.specs.Bundles.{AreBodies, AreClaims}
 use Rattle.evidence_format.specs.Evidence.{PlainEvidence}
 use Rattle.evidence_format.proofs.Claims.{are_claims, both_are_claims}

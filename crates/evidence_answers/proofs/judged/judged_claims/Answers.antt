@@ -1,7 +1,6 @@
-use Rattle.std.proofs.Common.{List, [], ◌∷◌, ◌++◌, length-append, refl, ap, subst, ◌∙◌, arith}
+use Rattle.std.proofs.Common.{[], ◌∷◌, ◌++◌, length-append, refl, ap, subst, ◌∙◌, arith}
 use Rattle.evidence_format.specs.Bundles.{IsTextOfEither}
 use Rattle.evidence_format.specs.View.{plain}
-use Rattle.evidence_answers.specs.Judging.{IsJudged}
 use Rattle.evidence_answers.proofs.Judging.{no_error}
 use Rattle.evidence_answers.proofs.judged.judged_claims.Goals as goal
 

@@ -1,4 +1,3 @@
-use Rattle.std.proofs.Common.{IsOk, rules}
 use Rattle.evidence_format.specs.View.{plain}
 use Rattle.evidence_answers.proofs.Naming.{names_intervals}
 use Rattle.evidence_answers.proofs.judged.Judged.add.Goals as goal
