@@ -1,10 +1,11 @@
 //! Checking evidence of several claims, one after another.
 ghost use Rattle.evidence_check.specs.Bundles.{AreSupported, IsFirstRefused};
+ghost use Rattle.evidence_check.specs.Claims.{ShowsTruth};
 ghost use Rattle.evidence_check.specs.Demands.{AreDemands};
 ghost use Rattle.evidence_check.specs.Supported.{IsSupported};
 ghost use Rattle.evidence_format.specs.Evidence.{IsWellFormed, PlainEvidence};
 ghost use Rattle.evidence_format.specs.View.{plain};
-ghost use Rattle.std.specs.Prelude.{◌≡◌, ◌++◌, ◌∷◌, [], IfErr, List as ListOf, OnOk, length};
+ghost use Rattle.std.specs.Prelude.{◌≡◌, ◌↔◌, ◌++◌, ◌∷◌, [], IfErr, IsOk, List as ListOf, OnOk, length};
 
 use crate::checker::verify_by;
 use crate::demands::Demands;
@@ -26,8 +27,10 @@ pub fn verify_next(
 ) -> Result<(), RefusedClaim>
     requires demands { AreDemands net.now demands.now }
     requires well_formed { IsWellFormed (plain evidence.now) }
-    ensures ok { OnOk result (IsSupported net.now (plain evidence.now)) }
+    ensures supported { IsOk result ↔ IsSupported net.now (plain evidence.now) }
     ensures err { (es : ListOf PlainEvidence) → AreSupported net.now es → length es ≡ claim → IfErr result (IsFirstRefused net.now (es ++ plain evidence.now ∷ [])) }
+    // What the evidence of the claim shows is true.
+    ensures sound { OnOk result (ShowsTruth net.now (plain evidence.now)) }
 {
     match verify_by(net, demands, evidence) {
         Ok(_) => Ok(()),
