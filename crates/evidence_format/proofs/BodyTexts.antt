@@ -1,19 +1,16 @@
 -- The bodies of claims, as they stand in a text.
-use Rattle.std.proofs.Common.{◌≡◌, ℕ, ◌+◌, ◌-◌, ◌≤◌, List, [], ◌∷◌, ◌++◌, length, take, Ok, sym, ap, ◌∙◌, append_assoc, length-append, refl, arith}
+use Rattle.std.proofs.Common.{◌≡◌, ℕ, ◌+◌, ◌-◌, ◌≤◌, List, ◌++◌, length, take, Ok, sym, ap, ◌∙◌, append_assoc, length-append, refl, arith}
 use Rattle.std.specs.List.{concat, flat_map}
-use Rattle.std.proofs.lemmas.List.{append-nil}
 use Rattle.std.proofs.lemmas.List.Concat.{flat_map-append}
 use Rattle.evidence_format.specs.Lines.{lines_of}
 use Rattle.evidence_format.specs.Evidence.{PlainEvidence, IsWellFormed, body_lines, last_line}
-use Rattle.evidence_format.specs.Bundles.{AreBodies, AreClaims, IsBundleText, IsClaimText, bundle_line, claims_line}
+use Rattle.evidence_format.specs.Bundles.{AreBodies, AreClaims, IsBundleText, bundle_line, claims_line}
 use Rattle.evidence_format.specs.declared.bodies.Bodies.{Bodies}
-use Rattle.evidence_format.specs.Written.{body_bytes}
 use Rattle.evidence_format.specs.Readers.{many_at, body_at, opening_at, end_at, bundle_at}
 use Rattle.evidence_format.proofs.BodyLaws.{exact_body}
 use Rattle.evidence_format.proofs.LineLaws.{concat_append, cut_before}
 use Rattle.evidence_format.proofs.ReaderLaws.{exact_many}
-use Rattle.evidence_format.proofs.Claims.{has_claim_text}
-use Rattle.evidence_format.proofs.Writing.{bodies_text, body_is}
+use Rattle.evidence_format.proofs.Writing.{bodies_text}
 
 -- bodies that are read are the bytes before what follows them
 pub bodies_cut : (n : ℕ) (text rest : List ℕ) (es : List PlainEvidence) → many_at body_at n (lines_of text) ≡ Ok (es, lines_of rest)
@@ -37,9 +34,3 @@ text_of_both es ds first second out are h k bytes =
     rw (h.1, k.1) (sym (concat_append (flat_map body_lines es) (flat_map body_lines ds)) ∙ ap concat (sym (flat_map-append body_lines es ds))) in
     let grouped = ap (λ (x : List ℕ). bundle_line ++ (claims_line (first.count + second.count) ++ x)) (sym (append_assoc first.text.now second.text.now last_line)) in
     bodies_text (es ++ ds) (first.text.now ++ second.text.now) out (first.count + second.count) are (omega (arith, length-append es ds, h.0, k.0)) bodies (bytes ∙ grouped)
-
--- the body of a claim with the lines around it is its text
-pub text_of_claim : (e : PlainEvidence) (out : List ℕ) → IsWellFormed e → out ≡ bundle_line ++ (claims_line 1 ++ (body_bytes e ++ last_line)) → IsClaimText e out
-text_of_claim e out well bytes =
-    let bodies : body_bytes e ≡ concat (flat_map body_lines (e ∷ [])) = sym (ap concat (append-nil (body_lines e)) ∙ body_is e) in
-    bodies_text (e ∷ []) (body_bytes e) out 1 (has_claim_text e well).0 refl bodies bytes

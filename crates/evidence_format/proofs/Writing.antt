@@ -1,11 +1,14 @@
 -- The bytes that are written are those of the lines.
-use Rattle.std.proofs.Common.{◌≡◌, ℕ, List, [], ◌∷◌, ◌++◌, length, map, refl, sym, ap, ◌∙◌}
+use Rattle.std.proofs.Common.{◌≡◌, ℕ, List, [], ◌∷◌, ◌++◌, length, map, refl, sym, ap, subst, ◌∙◌}
 use Rattle.std.specs.Prelude.{codes}
-use Rattle.std.specs.List.{concat, flat_map}
+use Rattle.std.specs.List.{All, concat, flat_map}
+use Rattle.std.proofs.lemmas.List.{length-map}
 use Rattle.net_core.specs.declared.step.Step.{Step}
+use Rattle.evidence_format.specs.declared.evidence.Evidence.{Evidence}
+use Rattle.evidence_format.specs.View.{plain}
 use Rattle.evidence_format.specs.Lines.{Lines}
-use Rattle.evidence_format.specs.Evidence.{PlainEvidence, timeline, entails, counter, clash, at_line, timeline_lines, step_line, walk_lines, cite_line, body_lines, text_lines, one_number, first_line, last_line}
-use Rattle.evidence_format.specs.Bundles.{AreClaims, IsBundleText, bundle_line, claims_line, bundle_lines}
+use Rattle.evidence_format.specs.Evidence.{PlainEvidence, timeline, entails, counter, clash, IsWellFormed, at_line, timeline_lines, step_line, walk_lines, cite_line, body_lines, text_lines, one_number, first_line, last_line}
+use Rattle.evidence_format.specs.Bundles.{AreClaims, IsBundleText, IsCount, bundle_line, claims_line, bundle_lines}
 use Rattle.evidence_format.specs.Written.{timeline_bytes, walk_bytes, body_bytes}
 use Rattle.evidence_format.proofs.LineLaws.{concat_append}
 
@@ -32,7 +35,7 @@ walk_is : (steps : List Step) → concat (walk_lines steps) ≡ walk_bytes steps
 walk_is steps = rw (mapped step_line steps) refl
 
 -- what stands between the first line and the last one, joined
-pub body_is : (e : PlainEvidence) → concat (body_lines e) ≡ body_bytes e
+body_is : (e : PlainEvidence) → concat (body_lines e) ≡ body_bytes e
 body_is (timeline ranks) = timeline_is ranks
 body_is (entails a r b walks) = rw (flat walk_lines walk_bytes walk_is walks) refl
 body_is (counter a r b ranks) = rw (timeline_is ranks) refl
@@ -48,6 +51,16 @@ bodies_text es bodies out n are count same bytes =
     let parts : concat (bundle_lines es) ≡ bundle_line ++ (claims_line (length es) ++ (concat (flat_map body_lines es) ++ last_line)) = rw (concat_append (flat_map body_lines es) (last_line ∷ [])) refl in
     let whole = ap (λ (k : ℕ). bundle_line ++ (claims_line k ++ (bodies ++ last_line))) (sym count) in
     (are, bytes ∙ whole ∙ ap (λ (x : List ℕ). bundle_line ++ (claims_line (length es) ++ (x ++ last_line))) same ∙ sym parts)
+
+-- the bytes of claims are their text of version 2
+pub bundle_text : (claims slice : List Evidence) (out : List ℕ) → All IsWellFormed (map plain claims) → IsCount (length claims) → slice ≡ claims
+    → out ≡ bundle_line ++ (claims_line (length slice) ++ (flat_map body_bytes (map plain slice) ++ last_line)) → IsBundleText (map plain claims) out
+bundle_text claims slice out good count same bytes =
+    let es = map plain claims in
+    let len : length es ≡ length claims = length-map claims plain in
+    let all : out ≡ bundle_line ++ (claims_line (length claims) ++ (flat_map body_bytes es ++ last_line)) =
+    subst (λ (xs : List Evidence). out ≡ bundle_line ++ (claims_line (length xs) ++ (flat_map body_bytes (map plain xs) ++ last_line))) same bytes in
+    bodies_text es (flat_map body_bytes es) out (length claims) (good, subst IsCount (sym len) count) len (sym (flat body_lines body_bytes body_is es)) all
 
 -- the lines of a text, joined
 pub text_is : (e : PlainEvidence) → concat (text_lines e) ≡ first_line ++ (body_bytes e ++ last_line)

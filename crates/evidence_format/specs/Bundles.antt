@@ -1,12 +1,14 @@
 -- Several claims as plain values, their one text of version 2, and the bad line of either version.
-use Rattle.std.specs.Prelude.{◌≡◌, ◌⊎◌, ◌↔◌, ℕ, ◌<◌, List, [], ◌∷◌, ◌++◌, length, codes, ⊤}
+use Rattle.std.specs.Prelude.{◌≡◌, ◌⊎◌, ◌↔◌, ℕ, ◌<◌, List, [], ◌∷◌, ◌++◌, length, map, codes, ⊤, Result, Ok, Err}
 use Rattle.std.specs.List.{All, concat, flat_map}
 use Rattle.evidence_format.specs.Lines.{Lines}
 use Rattle.evidence_format.specs.Grammar.{Begins}
 use Rattle.evidence_format.specs.Evidence.{PlainEvidence, IsNumber, IsWellFormed, IsText, one_number, body_lines, last_line}
 use Rattle.evidence_format.specs.Begun.{IsBadLineBy, IsBegun}
 use Rattle.evidence_format.specs.Parts.{AreBegunParts, IsBegunBody}
+use Rattle.evidence_format.specs.View.{plain}
 use Rattle.evidence_format.specs.declared.bodies.Bodies.{Bodies}
+use Rattle.evidence_format.specs.declared.evidence.Evidence.{Evidence}
 use Rattle.evidence_format.specs.declared.read.ReadEvidence.{ReadEvidence}
 use Rattle.evidence_format.specs.declared.read.ReadEvidence.TheVariants.{BadLine, Memory}
 
@@ -64,6 +66,17 @@ IsBegunByEither ls = IsBegun ls ⊎ IsBegunBundle ls
 -- the lines before it are begun by one of the versions; with it they are begun by none, or there is no further line
 abbrev pub IsBadLineOfEither : List ℕ → ℕ → Type 0
 IsBadLineOfEither text line = IsBadLineBy IsBegunByEither text line
+
+-- these claims were read, unless out of memory
+abbrev pub ReadsBundle : List PlainEvidence → Result (List Evidence) ReadEvidence → Type 0
+ReadsBundle es (Ok bundle) = map plain bundle ≡ es
+ReadsBundle es (Err Memory) = ⊤
+ReadsBundle es (Err (BadLine line)) = ⊥
+
+-- the bad line of either version is reported, unless out of memory
+abbrev pub TellsBadLineOfEither : List ℕ → ReadEvidence → Type 0
+TellsBadLineOfEither text Memory = ⊤
+TellsBadLineOfEither text (BadLine line) = IsBadLineOfEither text line
 
 -- a text is that of no claims, and its bad line is reported, unless out of memory
 abbrev pub RefusesText : List ℕ → ReadEvidence → Type 0

@@ -1,5 +1,5 @@
 //! Writing evidence.
-ghost use Rattle.evidence_format.specs.Bundles.{AreBodies, AreClaims, IsBundleText, IsClaimText, bundle_line, claims_line};
+ghost use Rattle.evidence_format.specs.Bundles.{AreBodies, AreClaims, IsBundleText, IsClaimText, IsCount, bundle_line, claims_line};
 ghost use Rattle.evidence_format.specs.Evidence as lines;
 ghost use Rattle.evidence_format.specs.Evidence.{AreRanks, IsNumber, IsText, IsWellFormed, PlainEvidence, first_line, last_line};
 ghost use Rattle.evidence_format.specs.View.{plain};
@@ -8,10 +8,11 @@ ghost use Rattle.net_core.specs.Ranks.{pairs_of};
 ghost use Rattle.std.specs.List.{All, flat_map};
 ghost use Rattle.std.specs.Prelude.{◌≡◌, ◌<◌, ◌^◌, ◌+◌, ◌++◌, ◌∷◌, [], codes, decimal, length, map, IfOk, List as ListOf, OnOk};
 
-use crate::{Bodies, Evidence};
+use crate::{Bodies, Bundle, Evidence};
 use itoa::write_digits;
 use net_core::{List, Memory, Ranks, Rel, Step, Walk};
 use std::alloc::{AllocError, Global};
+use std::slice;
 
 /// Room for the digits of a number, at most ten, and for the byte that ends it.
 const NUMBER_ROOM: usize = 11;
@@ -40,7 +41,22 @@ pub fn write_claim(alloc: Global, evidence: &Evidence) -> Result<List<u8>, Memor
     requires { IsWellFormed (plain evidence.now) }
     ensures { IfOk result (λ out. IsClaimText (plain evidence.now) out) }
 {
-    match claim_bytes(alloc, evidence) {
+    match bundle_bytes(alloc, slice::from_ref(evidence)) {
+        Ok(out) => Ok(List::from_vec(out)),
+        Err(_) => Err(Memory),
+    }
+}
+
+/// The text of version 2 of well-formed claims.
+///
+/// # Errors
+///
+/// Out of memory.
+pub fn write_bundle(alloc: Global, bundle: &Bundle) -> Result<List<u8>, Memory>
+    requires { All IsWellFormed (map plain bundle.now) }
+    ensures { IfOk result (λ out. IsBundleText (map plain bundle.now) out) }
+{
+    match bundle_bytes(alloc, bundle.as_slice()) {
         Ok(out) => Ok(List::from_vec(out)),
         Err(_) => Err(Memory),
     }
@@ -110,14 +126,25 @@ fn text_bytes(alloc: Global, evidence: &Evidence) -> Result<Vec<u8>, AllocError>
     Ok(out)
 }
 
-fn claim_bytes(alloc: Global, evidence: &Evidence) -> Result<Vec<u8>, AllocError>
-    requires { IsWellFormed (plain evidence.now) }
-    ensures { IfOk result (λ out. out.items ≡ bundle_line ++ (claims_line 1 ++ (body_bytes (plain evidence.now) ++ last_line))) }
+fn bundle_bytes(alloc: Global, claims: &[Evidence]) -> Result<Vec<u8>, AllocError>
+    requires good { All IsWellFormed (map plain claims.now) }
+    requires count { IsCount (length claims.now) }
+    ensures { IfOk result (λ out. out.items ≡ bundle_line ++ (claims_line (length claims.now) ++ (flat_map body_bytes (map plain claims.now) ++ last_line))) }
 {
-    let mut out = opening_bytes(alloc, 1)?;
-    push_body(&mut out, evidence)?;
+    let mut out = opening_bytes(alloc, claims.len() as u32)?;
+    push_bodies(&mut out, claims)?;
     out.extend_from_slice(b"end\n")?;
     Ok(out)
+}
+
+fn push_bodies(out: &mut Vec<u8>, claims: &[Evidence]) -> Result<(), AllocError>
+    requires { All IsWellFormed (map plain claims.now) }
+    ensures { OnOk result (out.new.items ≡ out.old.items ++ flat_map body_bytes (map plain claims.now)) }
+{
+    for evidence in claims {
+        push_body(out, evidence)?;
+    }
+    Ok(())
 }
 
 /// Appends what stands between the first line and the last one.
