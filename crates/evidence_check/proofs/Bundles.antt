@@ -1,13 +1,16 @@
 -- The claims of a bundle, one after another.
-use Rattle.std.proofs.Common.{◌≡◌, ◌⊎◌, inl, inr, ℕ, ◌<◌, List, [], ◌∷◌, ◌++◌, length, Some, length-append, sym, subst, arith}
+use Rattle.std.proofs.Common.{◌≡◌, ◌⊎◌, inl, inr, ℕ, ◌+◌, ◌<◌, List, [], ◌∷◌, ◌++◌, length, map, take, drop, Some, length-append, sym, ap, subst, ◌∙◌, arith}
 use Rattle.std.specs.Prelude.{slice_index_or}
 use Rattle.std.specs.List.{All}
-use Rattle.std.proofs.lemmas.List.{get_or_append_left}
+use Rattle.std.proofs.lemmas.List.{get_or_append_left, length-map, length-take-le, take-append-drop, take_more}
 use Rattle.std.proofs.lemmas.List.Elements.{All-append, All-cons, All-nil, All-from_get_or}
+use Rattle.std.proofs.Math.ListN.{get_or-map}
 use Rattle.std.proofs.Math.Seq.{get_or-append_seam}
 use Rattle.net_core.specs.Nets.{PlainNet}
 use Rattle.net_core.proofs.FirstLaws.{one_first, first_or_none}
-use Rattle.evidence_format.specs.Evidence.{PlainEvidence, timeline}
+use Rattle.evidence_format.specs.Evidence.{PlainEvidence, timeline, IsWellFormed}
+use Rattle.evidence_format.specs.View.{plain}
+use Rattle.evidence_format.specs.declared.evidence.Evidence.{Evidence}
 use Rattle.evidence_check.specs.declared.refusal.Refused.{Refused}
 use Rattle.evidence_check.specs.declared.refusal.RefusedClaim.{RefusedClaim}
 use Rattle.evidence_check.specs.Bundles.{claim_at, IsSupportedAt, AreSupported, IsFirstRefused, OneBundleVerdict}
@@ -47,6 +50,47 @@ refused_still net es ds refused first =
     let before : (j : ℕ) → j < refused.claim → IsSupportedAt net (es ++ ds) j = λ j low.
     subst (IsSupported net) (sym (claim_before es ds j (omega (arith, low, below)))) (first.0.2 j low) in
     ((place, (λ supported. first.0.1 (subst (IsSupported net) same supported)), before), subst (λ (e : PlainEvidence). IsRefused net e refused.refused) (sym same) first.1)
+
+-- ---- all claims of a bundle
+
+-- the number of a claim is below their count as plain values
+place_of : (claims : List Evidence) (k : ℕ) → k < length claims → k < length (map plain claims)
+place_of claims k below = rw length-map below
+
+-- the claim of a number is what stands there
+claim_is : (claims : List Evidence) (k : ℕ) (e : Evidence) → e ≡ slice_index_or claims k e → slice_index_or (map plain claims) k (plain e) ≡ plain e
+claim_is claims k e is = get_or-map plain claims k e ∙ ap plain (sym is)
+
+-- it is well formed where all are
+pub claim_fits : (claims : List Evidence) (k : ℕ) (e : Evidence) → k < length claims → e ≡ slice_index_or claims k e → All IsWellFormed (map plain claims) → IsWellFormed (plain e)
+claim_fits claims k e below is fit = subst IsWellFormed (claim_is claims k e is) (fit k (plain e) (place_of claims k below))
+
+-- there are as many claims before it as its number says
+pub claims_before : (claims : List Evidence) (k : ℕ) → k < length claims → length (take k (map plain claims)) ≡ k
+claims_before claims k below =
+    let place = place_of claims k below in
+    length-take-le k (map plain claims) (omega (arith, place))
+
+-- it comes after the claims before it
+claim_after : (claims : List Evidence) (k : ℕ) (e : Evidence) → k < length claims → e ≡ slice_index_or claims k e → take (k + 1) (map plain claims) ≡ take k (map plain claims) ++ plain e ∷ []
+claim_after claims k e below is =
+    take_more (map plain claims) k (plain e) (place_of claims k below) ∙ ap (λ (x : PlainEvidence). take k (map plain claims) ++ x ∷ []) (claim_is claims k e is)
+
+-- where it is supported as the claims before it are, one claim more is
+pub supported_next : (net : PlainNet) (claims : List Evidence) (k : ℕ) (e : Evidence) → k < length claims → e ≡ slice_index_or claims k e
+    → AreSupported net (take k (map plain claims)) → IsSupported net (plain e) → AreSupported net (take (k + 1) (map plain claims))
+supported_next net claims k e below is all supported =
+    subst (AreSupported net) (sym (claim_after claims k e below is)) (supported_more net (take k (map plain claims)) (plain e) all supported)
+
+-- what is refused first of the claims up to it is so of all claims
+pub refused_of_all : (net : PlainNet) (claims : List Evidence) (k : ℕ) (e : Evidence) (refused : RefusedClaim) → k < length claims → e ≡ slice_index_or claims k e
+    → IsFirstRefused net (take k (map plain claims) ++ plain e ∷ []) refused → IsFirstRefused net (map plain claims) refused
+refused_of_all net claims k e refused below is first =
+    let es = map plain claims in
+    let parts = ap (λ (x : List PlainEvidence). x ++ drop (k + 1) es) (sym (claim_after claims k e below is)) ∙ take-append-drop (k + 1) es in
+    subst (λ (x : List PlainEvidence). IsFirstRefused net x refused) parts (refused_still net (take k es ++ plain e ∷ []) (drop (k + 1) es) refused first)
+
+-- ---- one verdict
 
 -- where a claim is refused, not all are supported
 pub not_supported : (net : PlainNet) (es : List PlainEvidence) (refused : RefusedClaim) → IsFirstRefused net es refused → AreSupported net es → ⊥
