@@ -54,8 +54,8 @@ refused_still net es ds refused first =
 -- ---- all claims of a bundle
 
 -- the number of a claim is below their count as plain values
-place_of : (claims : List Evidence) (k : ℕ) → k < length claims → k < length (map plain claims)
-place_of claims k below = rw length-map below
+still_below : (claims : List Evidence) (k : ℕ) → k < length claims → k < length (map plain claims)
+still_below claims k below = rw length-map below
 
 -- the claim of a number is what stands there
 claim_is : (claims : List Evidence) (k : ℕ) (e : Evidence) → e ≡ slice_index_or claims k e → slice_index_or (map plain claims) k (plain e) ≡ plain e
@@ -63,18 +63,18 @@ claim_is claims k e is = get_or-map plain claims k e ∙ ap plain (sym is)
 
 -- it is well formed where all are
 pub claim_fits : (claims : List Evidence) (k : ℕ) (e : Evidence) → k < length claims → e ≡ slice_index_or claims k e → All IsWellFormed (map plain claims) → IsWellFormed (plain e)
-claim_fits claims k e below is fit = subst IsWellFormed (claim_is claims k e is) (fit k (plain e) (place_of claims k below))
+claim_fits claims k e below is fit = subst IsWellFormed (claim_is claims k e is) (fit k (plain e) (still_below claims k below))
 
 -- there are as many claims before it as its number says
 pub claims_before : (claims : List Evidence) (k : ℕ) → k < length claims → length (take k (map plain claims)) ≡ k
 claims_before claims k below =
-    let place = place_of claims k below in
+    let place = still_below claims k below in
     length-take-le k (map plain claims) (omega (arith, place))
 
 -- it comes after the claims before it
 claim_after : (claims : List Evidence) (k : ℕ) (e : Evidence) → k < length claims → e ≡ slice_index_or claims k e → take (k + 1) (map plain claims) ≡ take k (map plain claims) ++ plain e ∷ []
 claim_after claims k e below is =
-    take_more (map plain claims) k (plain e) (place_of claims k below) ∙ ap (λ (x : PlainEvidence). take k (map plain claims) ++ x ∷ []) (claim_is claims k e is)
+    take_more (map plain claims) k (plain e) (still_below claims k below) ∙ ap (λ (x : PlainEvidence). take k (map plain claims) ++ x ∷ []) (claim_is claims k e is)
 
 -- where it is supported as the claims before it are, one claim more is
 pub supported_next : (net : PlainNet) (claims : List Evidence) (k : ℕ) (e : Evidence) → k < length claims → e ≡ slice_index_or claims k e
