@@ -1,3 +1,4 @@
+pub mod Judging
 pub mod Files
 pub mod JoinAnswered
 pub mod Joined

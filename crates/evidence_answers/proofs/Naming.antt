@@ -1,8 +1,5 @@
 -- The intervals that evidence names are those of the document.
-use Rattle.std.proofs.Common.{List, arith}
-use Rattle.std.specs.List.{All}
-use Rattle.std.specs.Prelude.{slice_index_or}
-use Rattle.evidence_check.specs.Bundles.{AreSupported}
+use Rattle.std.proofs.Common.{arith}
 use Rattle.evidence_check.specs.Supported.{IsSupported}
 use Rattle.evidence_format.specs.Evidence.{PlainEvidence, timeline, entails, counter, clash}
 use Rattle.net_answers.proofs.Nets.{as_many}
@@ -12,14 +9,10 @@ use Rattle.tml_refs.specs.Documents.{PlainDocument}
 use Rattle.evidence_answers.specs.Texts.{NamesIntervals}
 
 -- intervals of the net are those of the document
-names_intervals : (contents : PlainDocument) (net : PlainNet) (e : PlainEvidence) → IsNetOf contents net → IsSupported net e → NamesIntervals contents e
+pub names_intervals : (contents : PlainDocument) (net : PlainNet) (e : PlainEvidence) → IsNetOf contents net → IsSupported net e → NamesIntervals contents e
 names_intervals contents net (timeline ranks) built supported = tt
 names_intervals contents net (entails a r b walks) built supported =
     let same = as_many contents net built in (omega (arith, supported.0.0, same), omega (arith, supported.0.1, same))
 names_intervals contents net (counter a r b ranks) built supported =
     let same = as_many contents net built in (omega (arith, supported.0.0, same), omega (arith, supported.0.1, same))
 names_intervals contents net (clash cites walk spares) built supported = tt
-
--- and so in each of some claims
-pub name_intervals : (contents : PlainDocument) (net : PlainNet) (es : List PlainEvidence) → IsNetOf contents net → AreSupported net es → All (NamesIntervals contents) es
-name_intervals contents net es built supported = λ k d below. names_intervals contents net (slice_index_or es k d) built (supported k d below)

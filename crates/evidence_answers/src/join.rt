@@ -1,20 +1,17 @@
 //! The command `join`: the claims of two files of evidence as one text.
 ghost use Rattle.evidence_answers.specs.Join.{OfSecond, evidence, join_rows};
-ghost use Rattle.evidence_format.specs.Bundles.{IsTextOfEither};
-ghost use Rattle.evidence_format.specs.Evidence.{IsWellFormed};
-ghost use Rattle.evidence_format.specs.View.{plain};
+ghost use Rattle.evidence_format.specs.Bundles.{AreBodies, AreClaims, IsTextOfEither};
+ghost use Rattle.evidence_format.specs.Evidence.{PlainEvidence};
 ghost use Rattle.net_core.specs.Limits.{max_evidence};
-ghost use Rattle.std.specs.List.{All};
-ghost use Rattle.std.specs.Prelude.{◌≡◌, ◌≢◌, ◌+◌, ◌≤◌, length, map, IfErr, IfOk};
+ghost use Rattle.std.specs.Prelude.{◌≡◌, ◌≢◌, ◌+◌, ◌≤◌, length, IfErr, IfOk, List as ListOf};
 ghost use Rattle.tml_io.specs.Faults.{HasRisen, RisesAtMost};
 ghost use Rattle.tml_run.specs.Replied.{IsReplyTo};
 ghost use Rattle.tml_run.specs.TwoFiles.{CannotJudge};
 ghost use Rattle.tml_run.specs.View.{finding_status, status_of, text_of};
 
 use crate::malformed::malformed_answer;
-use crate::renew::bundle_text;
 use crate::role::{EVIDENCE, SECOND};
-use evidence_format::{Bundle, ReadEvidence, read_bundle};
+use evidence_format::{Bodies, ReadEvidence, read_bodies, write_both};
 use net_core::Memory;
 use std::alloc::{AllocError, Global};
 use tml_io::Inputs;
@@ -37,30 +34,29 @@ pub fn reply_of_join<I: Inputs>(alloc: Global, name: &str, other: &str, inputs: 
         Ok(first) => first,
         Err(reply) => return reply,
     };
-    let claims = match claims_of(alloc, first.as_slice()) {
-        Ok(claims) => claims,
+    let bodies = match bodies_of(alloc, first.as_slice()) {
+        Ok(bodies) => bodies,
         Err(reply) => return reply,
     };
     match read(alloc, inputs, SECOND, other) {
-        Ok(second) => Reply::from_answer(joined(alloc, claims, second.as_slice())),
+        Ok(second) => Reply::from_answer(joined(alloc, bodies, second.as_slice())),
         Err(reply) => reply,
     }
 }
 
-/// The claims of the first file.
+/// The bodies of the claims of the first file.
 ///
 /// # Errors
 ///
 /// The reply that it is malformed, or that there is no memory.
-fn claims_of(alloc: Global, text: &[u8]) -> Result<Bundle, Reply>
+fn bodies_of(alloc: Global, text: &[u8]) -> Result<Bodies<'_>, Reply>
     requires { length text.now ≤ max_evidence }
-    ensures ok { IfOk result (λ bundle. IsTextOfEither (map plain bundle) text.now) }
-    ensures good { IfOk result (λ bundle. All IsWellFormed (map plain bundle)) }
-    ensures few { IfOk result (λ bundle. length bundle ≤ length text.now) }
+    ensures ok { IfOk result (λ bodies. (es : ListOf PlainEvidence) × IsTextOfEither es text.now × AreBodies es bodies) }
+    ensures few { IfOk result (λ bodies. bodies.count ≤ length text.now) }
     ensures err { IfErr result (λ reply. CannotJudge evidence text.now (status_of reply) (text_of reply)) }
 {
-    match read_bundle(alloc, text) {
-        Ok(bundle) => Ok(bundle),
+    match read_bodies(alloc, text) {
+        Ok(bodies) => Ok(bodies),
         Err(ReadEvidence::BadLine { line }) => {
             let answer = malformed_answer(alloc, b"evidence line ", line);
             Err(Reply::from_answer(answer))
@@ -69,22 +65,22 @@ fn claims_of(alloc: Global, text: &[u8]) -> Result<Bundle, Reply>
     }
 }
 
-/// The answer to the second file, by the claims of the first one.
-fn joined(alloc: Global, mut claims: Bundle, second: &[u8]) -> Result<Answer, AllocError>
+/// The answer to the second file, by the bodies of the claims of the first one.
+fn joined(alloc: Global, first: Bodies<'_>, second: &[u8]) -> Result<Answer, AllocError>
     requires second { length second.now ≤ max_evidence }
-    requires few { length claims ≤ max_evidence }
-    requires good { All IsWellFormed (map plain claims) }
-    ensures { IfOk result (λ answer. OfSecond (map plain claims) second.now (finding_status answer.finding) answer.text.items) }
+    requires few { first.count ≤ max_evidence }
+    ensures { IfOk result (λ answer. (es : ListOf PlainEvidence) → AreClaims es → AreBodies es first.entry
+        → OfSecond es second.now (finding_status answer.finding) answer.text.items) }
 {
-    let more = match read_bundle(alloc, second) {
+    let more = match read_bodies(alloc, second) {
         Ok(more) => more,
         Err(ReadEvidence::BadLine { line }) => {
             return malformed_answer(alloc, b"second line ", line);
         }
         Err(ReadEvidence::Memory) => return Err(AllocError),
     };
-    match claims.append(more) {
-        Ok(()) => Ok(Answer::done(bundle_text(alloc, &claims)?)),
+    match write_both(alloc, first, more) {
+        Ok(text) => Ok(Answer::done(text.into_vec())),
         Err(Memory) => Err(AllocError),
     }
 }

@@ -2,6 +2,7 @@
 #![tactic(auto)]
 
 mod join;
+mod judged;
 mod laws;
 mod malformed;
 mod renew;

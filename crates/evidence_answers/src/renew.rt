@@ -1,15 +1,13 @@
 //! The command `renew`: evidence of either version as a text of version 2.
-ghost use Rattle.evidence_format.specs.Bundles.{IsBundleText};
-ghost use Rattle.evidence_format.specs.Evidence.{IsWellFormed};
-ghost use Rattle.evidence_format.specs.View.{plain};
-ghost use Rattle.std.specs.List.{All};
-ghost use Rattle.std.specs.Prelude.{IfOk, map};
+ghost use Rattle.evidence_format.specs.Bundles.{AreBodies, AreClaims, IsBundleText};
+ghost use Rattle.evidence_format.specs.Evidence.{PlainEvidence};
+ghost use Rattle.std.specs.Prelude.{◌≡◌, IfOk, List as ListOf};
 
 use crate::malformed::malformed_answer;
-use evidence_format::{Bundle, ReadEvidence, read_bundle, write_bundle};
+use evidence_format::{Bodies, ReadEvidence, read_bodies, write_bodies};
 use net_core::Memory;
 use std::alloc::{AllocError, Global};
-use tml_run::{Answer, OfFile};
+use tml_run::{Answer, Finding, OfFile};
 
 /// The command `renew`.
 #[derive(Clone, Copy)]
@@ -25,21 +23,21 @@ impl OfFile for Renew {
 
     /// The text of version 2 of the claims of this evidence, or its bad line.
     fn answer(&self, alloc: Global, bytes: &[u8]) -> Result<Answer, AllocError> {
-        match read_bundle(alloc, bytes) {
-            Ok(bundle) => Ok(Answer::done(bundle_text(alloc, &bundle)?)),
+        match read_bodies(alloc, bytes) {
+            Ok(bodies) => renewed(alloc, bodies),
             Err(ReadEvidence::BadLine { line }) => malformed_answer(alloc, b"evidence line ", line),
             Err(ReadEvidence::Memory) => Err(AllocError),
         }
     }
 }
 
-/// The text of version 2 of some claims.
-pub fn bundle_text(alloc: Global, bundle: &Bundle) -> Result<Vec<u8>, AllocError>
-    requires { All IsWellFormed (map plain bundle.now) }
-    ensures { IfOk result (λ text. IsBundleText (map plain bundle.now) text.items) }
+/// The text of version 2 of the claims with these bodies.
+fn renewed(alloc: Global, bodies: Bodies<'_>) -> Result<Answer, AllocError>
+    ensures finding { IfOk result (λ answer. answer.finding ≡ Finding.Done) }
+    ensures text { IfOk result (λ answer. (es : ListOf PlainEvidence) → AreClaims es → AreBodies es bodies.entry → IsBundleText es answer.text.items) }
 {
-    match write_bundle(alloc, bundle) {
-        Ok(text) => Ok(text.into_vec()),
+    match write_bodies(alloc, bodies) {
+        Ok(text) => Ok(Answer::done(text.into_vec())),
         Err(Memory) => Err(AllocError),
     }
 }

@@ -1,19 +1,17 @@
 //! The command `verify`: what evidence of a document shows.
 ghost use Rattle.evidence_answers.specs.Texts as texts;
-ghost use Rattle.evidence_answers.specs.Texts.{NamesIntervals};
 ghost use Rattle.evidence_answers.specs.Verify.{OfVerify};
-ghost use Rattle.evidence_format.specs.View.{plain};
 ghost use Rattle.net_core.specs.Limits.{max_evidence};
-ghost use Rattle.std.specs.List.{All, flat_map};
-ghost use Rattle.std.specs.Prelude.{◌≡◌, ◌<◌, ◌≤◌, ◌++◌, length, map, IfOk, OnOk};
+ghost use Rattle.std.specs.Prelude.{◌≡◌, ◌≤◌, ◌++◌, length, IfOk, OnOk};
 ghost use Rattle.tml_run.specs.View.{finding_status};
 
+use crate::judged::judged_claims;
 use crate::malformed::malformed_answer;
-use answers::{OfJudged, push_number, push_numbered, push_prefix, push_related};
-use evidence_check::{Reason, RefusedClaim, verify_all};
-use evidence_format::{Evidence, ReadEvidence, read_bundle};
+use answers::{OfJudged, push_numbered, push_prefix};
+use evidence_check::{Reason, RefusedClaim};
+use evidence_format::ReadEvidence;
 use net_build::net_of;
-use net_core::{Memory, Rel};
+use net_core::Memory;
 use std::alloc::{AllocError, Global};
 use tml_refs::Document;
 use tml_run::{Answer, Finding};
@@ -50,97 +48,14 @@ pub fn verdict(alloc: Global, document: &Document<'_>, text: &[u8]) -> Result<An
         Ok(net) => net,
         Err(Memory) => return Err(AllocError),
     };
-    let bundle = match read_bundle(alloc, text) {
-        Ok(bundle) => bundle,
-        Err(ReadEvidence::BadLine { line }) => {
-            return malformed_answer(alloc, b"evidence line ", line);
-        }
-        Err(ReadEvidence::Memory) => return Err(AllocError),
-    };
-    match verify_all(&net, &bundle) {
-        Ok(()) => Ok(Answer::done(claims_text(alloc, document, bundle.as_slice())?)),
-        Err(refused) => refused_answer(alloc, refused),
+    match judged_claims(alloc, document, &net, text) {
+        Ok(judged) => match judged.refused {
+            None => Ok(Answer::done(judged.lines)),
+            Some(refused) => refused_answer(alloc, refused),
+        },
+        Err(ReadEvidence::BadLine { line }) => malformed_answer(alloc, b"evidence line ", line),
+        Err(ReadEvidence::Memory) => Err(AllocError),
     }
-}
-
-/// What supported claims of a document show, a line each.
-fn claims_text(
-    alloc: Global,
-    document: &Document<'_>,
-    claims: &[Evidence],
-) -> Result<Vec<u8>, AllocError>
-    requires { All (NamesIntervals document.now) (map plain claims.now) }
-    ensures { IfOk result (λ text. text.items ≡ texts.claim_lines document.now (map plain claims.now)) }
-{
-    let mut text = Vec::new(alloc);
-    for claim in claims {
-        push_claim(&mut text, document, claim)?;
-    }
-    Ok(text)
-}
-
-/// Appends what a supported claim of a document shows.
-fn push_claim(
-    out: &mut Vec<u8>,
-    document: &Document<'_>,
-    evidence: &Evidence,
-) -> Result<(), AllocError>
-    requires { NamesIntervals document.now (plain evidence.now) }
-    ensures { OnOk result (out.new.items ≡ out.old.items ++ texts.claim_line document.now (plain evidence.now)) }
-{
-    match evidence {
-        Evidence::Timeline { .. } => out.extend_from_slice(b"verified timeline\n"),
-        Evidence::Entails { a, rel, b, .. } => {
-            push_relation(out, b"verified entails ", document, *a, *rel, *b)
-        }
-        Evidence::Counter { a, rel, b, .. } => {
-            push_relation(out, b"verified counter ", document, *a, *rel, *b)
-        }
-        Evidence::Clash { cites, .. } => push_clash(out, b"verified clash", cites.as_slice()),
-    }
-}
-
-/// A relation between two intervals of a document, by their names.
-fn push_relation(
-    out: &mut Vec<u8>,
-    words: &[u8],
-    document: &Document<'_>,
-    a: u32,
-    rel: Rel,
-    b: u32,
-) -> Result<(), AllocError>
-    requires a { a < length document.now.intervals }
-    requires b { b < length document.now.intervals }
-    ensures { OnOk result (out.new.items ≡ out.old.items ++ texts.relation_claim words.now document.now a rel b) }
-{
-    out.extend_from_slice(words)?;
-    push_related(
-        out,
-        document.interval(a).name(),
-        rel,
-        document.interval(b).name(),
-    )?;
-    out.extend_from_slice(b"\n")
-}
-
-/// Links that cannot all be true, by their numbers.
-fn push_clash(out: &mut Vec<u8>, words: &[u8], cites: &[u32]) -> Result<(), AllocError>
-    ensures { OnOk result (out.new.items ≡ out.old.items ++ texts.clash_claim words.now cites.now) }
-{
-    out.extend_from_slice(words)?;
-    push_cited(out, cites)?;
-    out.extend_from_slice(b"\n")
-}
-
-/// A space and a number for each of the links.
-fn push_cited(out: &mut Vec<u8>, cites: &[u32]) -> Result<(), AllocError>
-    ensures { OnOk result (out.new.items ≡ out.old.items ++ flat_map texts.cited cites.now) }
-{
-    for link in cites {
-        out.extend_from_slice(b" ")?;
-        push_number(out, u64::from(*link))?;
-    }
-    Ok(())
 }
 
 /// The answer to refused evidence: the claim, the part, and the reason.

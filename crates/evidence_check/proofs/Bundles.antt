@@ -1,10 +1,11 @@
 -- The claims of a bundle, one after another.
-use Rattle.std.proofs.Common.{◌≡◌, ◌⊎◌, inl, inr, ℕ, ◌<◌, List, [], length, map, Some, sym, ap, subst, ◌∙◌, arith}
+use Rattle.std.proofs.Common.{◌≡◌, ◌⊎◌, inl, inr, ℕ, ◌+◌, ◌<◌, List, [], ◌∷◌, ◌++◌, length, map, take, drop, Some, length-append, sym, ap, subst, ◌∙◌, arith}
 use Rattle.std.specs.Prelude.{slice_index_or}
 use Rattle.std.specs.List.{All}
-use Rattle.std.proofs.lemmas.List.{get_or_default, length-map}
-use Rattle.std.proofs.lemmas.List.Elements.{All-from_get_or}
+use Rattle.std.proofs.lemmas.List.{get_or_append_left, length-map, length-take-le, take-append-drop, take_more}
+use Rattle.std.proofs.lemmas.List.Elements.{All-append, All-cons, All-nil, All-from_get_or}
 use Rattle.std.proofs.Math.ListN.{get_or-map}
+use Rattle.std.proofs.Math.Seq.{get_or-append_seam}
 use Rattle.net_core.specs.Nets.{PlainNet}
 use Rattle.net_core.proofs.FirstLaws.{one_first, first_or_none}
 use Rattle.evidence_format.specs.Evidence.{PlainEvidence, timeline, IsWellFormed}
@@ -20,35 +21,80 @@ use Rattle.evidence_check.proofs.Soundness.{supported_is_true}
 use Rattle.evidence_check.proofs.Verdicts.{one_verdict}
 use Rattle.evidence_check.proofs.Judged.{supported_or_refused}
 
+-- the claim of a number is the same with claims after it
+claim_before : (es ds : List PlainEvidence) (j : ℕ) → j < length es → claim_at (es ++ ds) j ≡ claim_at es j
+claim_before es ds j below = get_or_append_left es ds (timeline []) j below
+
+-- with one claim more that is supported, all are
+pub supported_more : (net : PlainNet) (es : List PlainEvidence) (e : PlainEvidence) → AreSupported net es → IsSupported net e → AreSupported net (es ++ e ∷ [])
+supported_more net es e all supported = All-append (IsSupported net) es (e ∷ []) all (All-cons (IsSupported net) e [] supported (All-nil (IsSupported net)))
+
+-- a claim after supported ones is refused first where its evidence is refused
+pub refused_next : (net : PlainNet) (es : List PlainEvidence) (e : PlainEvidence) (k : ℕ) (refused : Refused) → AreSupported net es → length es ≡ k → IsRefused net e refused
+    → IsFirstRefused net (es ++ e ∷ []) (record { claim = k; refused = refused })
+refused_next net es e k refused all count bad =
+    let here : claim_at (es ++ e ∷ []) k ≡ e = subst (λ (n : ℕ). claim_at (es ++ e ∷ []) n ≡ e) count (get_or-append_seam es e [] (timeline [])) in
+    let refusal = subst (λ (e : PlainEvidence). IsRefused net e refused) (sym here) bad in
+    let place : k < length (es ++ e ∷ []) = omega (arith, length-append es (e ∷ []), count) in
+    let before : (j : ℕ) → j < k → IsSupportedAt net (es ++ e ∷ []) j = λ j below.
+    let low : j < length es = omega (arith, below, count) in
+    subst (IsSupported net) (sym (claim_before es (e ∷ []) j low)) (all j (timeline []) low) in
+    ((place, (λ supported. (one_verdict net (claim_at (es ++ e ∷ []) k)).not_both refused supported refusal), before), refusal)
+
+-- the claim that is refused first is so with claims after it
+pub refused_still : (net : PlainNet) (es ds : List PlainEvidence) (refused : RefusedClaim) → IsFirstRefused net es refused → IsFirstRefused net (es ++ ds) refused
+refused_still net es ds refused first =
+    let below = first.0.0 in
+    let same = claim_before es ds refused.claim below in
+    let place : refused.claim < length (es ++ ds) = omega (arith, length-append es ds, below) in
+    let before : (j : ℕ) → j < refused.claim → IsSupportedAt net (es ++ ds) j = λ j low.
+    subst (IsSupported net) (sym (claim_before es ds j (omega (arith, low, below)))) (first.0.2 j low) in
+    ((place, (λ supported. first.0.1 (subst (IsSupported net) same supported)), before), subst (λ (e : PlainEvidence). IsRefused net e refused.refused) (sym same) first.1)
+
+-- ---- all claims of a bundle
+
+-- the number of a claim is below their count as plain values
+still_below : (claims : List Evidence) (k : ℕ) → k < length claims → k < length (map plain claims)
+still_below claims k below = rw length-map below
+
 -- the claim of a number is what stands there
-pub claim_is : (claims : List Evidence) (k : ℕ) (e : Evidence) → k < length claims → e ≡ slice_index_or claims k e → claim_at (map plain claims) k ≡ plain e
-claim_is claims k e below is =
-    let place : k < length (map plain claims) = rw length-map below in
-    get_or_default (map plain claims) k (timeline []) (plain e) place ∙ get_or-map plain claims k e ∙ ap plain (sym is)
+claim_is : (claims : List Evidence) (k : ℕ) (e : Evidence) → e ≡ slice_index_or claims k e → slice_index_or (map plain claims) k (plain e) ≡ plain e
+claim_is claims k e is = get_or-map plain claims k e ∙ ap plain (sym is)
 
 -- it is well formed where all are
 pub claim_fits : (claims : List Evidence) (k : ℕ) (e : Evidence) → k < length claims → e ≡ slice_index_or claims k e → All IsWellFormed (map plain claims) → IsWellFormed (plain e)
-claim_fits claims k e below is fit =
-    let place : k < length (map plain claims) = rw length-map below in
-    subst IsWellFormed (claim_is claims k e below is) (fit k (timeline []) place)
+claim_fits claims k e below is fit = subst IsWellFormed (claim_is claims k e is) (fit k (plain e) (still_below claims k below))
 
--- it is refused where the claims before it are supported, and its evidence is refused
-pub claim_refused : (net : PlainNet) (claims : List Evidence) (k : ℕ) (e : Evidence) (refused : Refused) → k < length claims → e ≡ slice_index_or claims k e
-    → ((j : ℕ) → j < k → IsSupportedAt net (map plain claims) j) → IsRefused net (plain e) refused → IsFirstRefused net (map plain claims) (record { claim = k; refused = refused })
-claim_refused net claims k e refused below is before bad =
-    let place : k < length (map plain claims) = rw length-map below in
-    let same = claim_is claims k e below is in
-    let refusal = subst (λ (e : PlainEvidence). IsRefused net e refused) (sym same) bad in
-    ((place, (λ supported. (one_verdict net (claim_at (map plain claims) k)).not_both refused supported refusal), before), refusal)
+-- there are as many claims before it as its number says
+pub claims_before : (claims : List Evidence) (k : ℕ) → k < length claims → length (take k (map plain claims)) ≡ k
+claims_before claims k below =
+    let place = still_below claims k below in
+    length-take-le k (map plain claims) (omega (arith, place))
+
+-- it comes after the claims before it
+claim_after : (claims : List Evidence) (k : ℕ) (e : Evidence) → k < length claims → e ≡ slice_index_or claims k e → take (k + 1) (map plain claims) ≡ take k (map plain claims) ++ plain e ∷ []
+claim_after claims k e below is =
+    take_more (map plain claims) k (plain e) (still_below claims k below) ∙ ap (λ (x : PlainEvidence). take k (map plain claims) ++ x ∷ []) (claim_is claims k e is)
+
+-- where it is supported as the claims before it are, one claim more is
+pub supported_next : (net : PlainNet) (claims : List Evidence) (k : ℕ) (e : Evidence) → k < length claims → e ≡ slice_index_or claims k e
+    → AreSupported net (take k (map plain claims)) → IsSupported net (plain e) → AreSupported net (take (k + 1) (map plain claims))
+supported_next net claims k e below is all supported =
+    subst (AreSupported net) (sym (claim_after claims k e below is)) (supported_more net (take k (map plain claims)) (plain e) all supported)
+
+-- what is refused first of the claims up to it is so of all claims
+pub refused_of_all : (net : PlainNet) (claims : List Evidence) (k : ℕ) (e : Evidence) (refused : RefusedClaim) → k < length claims → e ≡ slice_index_or claims k e
+    → IsFirstRefused net (take k (map plain claims) ++ plain e ∷ []) refused → IsFirstRefused net (map plain claims) refused
+refused_of_all net claims k e refused below is first =
+    let es = map plain claims in
+    let parts = ap (λ (x : List PlainEvidence). x ++ drop (k + 1) es) (sym (claim_after claims k e below is)) ∙ take-append-drop (k + 1) es in
+    subst (λ (x : List PlainEvidence). IsFirstRefused net x refused) parts (refused_still net (take k es ++ plain e ∷ []) (drop (k + 1) es) refused first)
+
+-- ---- one verdict
 
 -- where a claim is refused, not all are supported
 pub not_supported : (net : PlainNet) (es : List PlainEvidence) (refused : RefusedClaim) → IsFirstRefused net es refused → AreSupported net es → ⊥
 not_supported net es refused first all = first.0.1 (all refused.claim (timeline []) first.0.0)
-
--- where the claim of each number is supported, all are
-pub all_supported : (net : PlainNet) (claims : List Evidence) → ((j : ℕ) → j < length claims → IsSupportedAt net (map plain claims) j) → AreSupported net (map plain claims)
-all_supported net claims each =
-    All-from_get_or (IsSupported net) (map plain claims) (timeline []) (λ j below. each j (let len = length-map claims plain in omega (arith, below, len)))
 
 -- two numbers that are first are one
 some_is : (m n : ℕ) → Some m ≡ Some n → m ≡ n

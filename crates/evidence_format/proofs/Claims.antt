@@ -1,10 +1,10 @@
 -- Claims that have a text are well formed, and are no more than its bytes; and every claim that is well formed has one.
-use Rattle.std.proofs.Common.{◌≡◌, inl, inr, ℕ, ◌+◌, ◌^◌, ◌<◌, ◌≤◌, List, [], ◌++◌, ◌∷◌, length, refl, ap, subst, sym, length-append, arith}
+use Rattle.std.proofs.Common.{inl, inr, ℕ, ◌+◌, ◌^◌, ◌<◌, ◌≤◌, List, [], ◌++◌, ◌∷◌, length, refl, ap, subst, sym, length-append, arith}
 use Rattle.std.specs.List.{All, AllByRecursion, concat, flat_map}
 use Rattle.std.proofs.lemmas.List.Elements.{All-nil, All-cons, All-append}
 use Rattle.evidence_format.specs.Lines.{Lines}
 use Rattle.evidence_format.specs.Evidence.{PlainEvidence, IsWellFormed, body_lines, last_line}
-use Rattle.evidence_format.specs.Bundles.{IsBundleText, IsClaimText, IsCount, IsTextOfEither, bundle_lines}
+use Rattle.evidence_format.specs.Bundles.{AreClaims, IsBundleText, IsClaimText, IsCount, IsTextOfEither, bundle_lines}
 use Rattle.evidence_format.proofs.BodyLaws.{body_is}
 use Rattle.evidence_format.proofs.BundleLaws.{HasEither, one_claim}
 use Rattle.evidence_format.proofs.LineLaws.{IsLine, either_is}
@@ -53,17 +53,21 @@ claim_text e = concat (bundle_lines (e ∷ []))
 pub has_claim_text : (e : PlainEvidence) → IsWellFormed e → IsClaimText e (claim_text e)
 has_claim_text e well = ((all_of_one IsWellFormed e well, one_claim), refl)
 
+-- claims that have a text
+pub are_claims : (es : List PlainEvidence) (text : List ℕ) → IsTextOfEither es text → AreClaims es
+are_claims es text h = (well_formed_claims es text h, count_of es text h)
+
 -- claims that have a text have one of version 2
 pub has_text : (es : List PlainEvidence) (text : List ℕ) → IsTextOfEither es text → IsBundleText es (concat (bundle_lines es))
-has_text es text h = ((well_formed_claims es text h, count_of es text h), refl)
+has_text es text h = (are_claims es text h, refl)
+
+-- claims and others after them, where they are not too many
+pub both_are_claims : (es ds : List PlainEvidence) → AreClaims es → AreClaims ds → length es + length ds < 2 ^ 32 → AreClaims (es ++ ds)
+both_are_claims es ds h k few =
+    let count = h.1 in
+    (All-append IsWellFormed es ds h.0 k.0, (omega (arith, length-append es ds, count.0), omega (arith, length-append es ds, few)))
 
 -- claims of two texts together have one
 pub both_have_text : (es ds : List PlainEvidence) (text other : List ℕ) → IsTextOfEither es text → IsTextOfEither ds other → length text + length other < 2 ^ 32 → IsBundleText (es ++ ds) (concat (bundle_lines (es ++ ds)))
 both_have_text es ds text other h k short =
-    let count = count_of es text h in (
-      (
-        All-append IsWellFormed es ds (well_formed_claims es text h) (well_formed_claims ds other k),
-        (omega (arith, length-append es ds, count.0), omega (arith, length-append es ds, few_claims es text h, few_claims ds other k, short)),
-      ),
-      refl,
-    )
+    (both_are_claims es ds (are_claims es text h) (are_claims ds other k) (omega (arith, few_claims es text h, few_claims ds other k, short)), refl)

@@ -16,6 +16,8 @@ pub mod Reading
 pub mod EveryText
 pub mod Claims
 pub mod Writing
+pub mod BodyTexts
+pub mod OneByOne
 pub mod PartLaws
 pub mod BundleParts
 pub mod SmallRanks

@@ -193,12 +193,18 @@ concat_append (l ∷ a) b = ap (λ (x : List ℕ). l ++ x) (concat_append a b) �
 before_rest : (text rest : List ℕ) (good : Lines) → lines_of text ≡ good ++ lines_of rest → text ≡ concat good ++ rest
 before_rest text rest good e = sym (lines_concat text) ∙ ap concat e ∙ concat_append good (lines_of rest) ∙ ap (λ (x : List ℕ). concat good ++ x) (lines_concat rest)
 
+-- whole lines before the rest of a text are its bytes up to there
+pub cut_before : (text rest : List ℕ) (good : Lines) → lines_of text ≡ good ++ lines_of rest
+    → (length rest ≤ length text) × (take (length text - length rest) text ≡ concat good)
+cut_before text rest good e =
+    let parts = before_rest text rest good e in
+    let len : length text ≡ length (concat good) + length rest = ap length parts ∙ length-append (concat good) rest in
+    let k : length text - length rest ≡ length (concat good) = omega arith in
+    (omega arith, rw k (ap (take (length (concat good))) parts ∙ take_at (concat good) rest (length (concat good)) refl))
+
 -- before the rest of a text there are as many LFs as whole lines
 pub line_number : (text rest : List ℕ) (good : Lines) → AllByRecursion IsLine good → lines_of text ≡ good ++ lines_of rest
     → (length rest ≤ length text) × (count_by is_lf (take (length text - length rest) text) ≡ length good)
 line_number text rest good h e =
-    let parts = before_rest text rest good e in
-    let len : length text ≡ length (concat good) + length rest = ap length parts ∙ length-append (concat good) rest in
-    let k : length text - length rest ≡ length (concat good) = omega arith in
-    let prefix : take (length text - length rest) text ≡ concat good = rw k (ap (take (length (concat good))) parts ∙ take_at (concat good) rest (length (concat good)) refl) in
-    (omega arith, ap (count_by is_lf) prefix ∙ count_lines good h)
+    let cut = cut_before text rest good e in
+    (cut.0, ap (count_by is_lf) cut.1 ∙ count_lines good h)

@@ -8,7 +8,7 @@ use Rattle.evidence_format.specs.declared.evidence.Evidence.{Evidence}
 use Rattle.evidence_format.specs.View.{plain}
 use Rattle.evidence_format.specs.Lines.{Lines}
 use Rattle.evidence_format.specs.Evidence.{PlainEvidence, timeline, entails, counter, clash, IsWellFormed, at_line, timeline_lines, step_line, walk_lines, cite_line, body_lines, text_lines, one_number, first_line, last_line}
-use Rattle.evidence_format.specs.Bundles.{IsBundleText, IsCount, bundle_line, claims_line, bundle_lines}
+use Rattle.evidence_format.specs.Bundles.{AreClaims, IsBundleText, IsCount, bundle_line, claims_line, bundle_lines}
 use Rattle.evidence_format.specs.Written.{timeline_bytes, walk_bytes, body_bytes}
 use Rattle.evidence_format.proofs.LineLaws.{concat_append}
 
@@ -44,9 +44,13 @@ body_is (clash cites walk spares) =
     let all = joined (map cite_line cites) (walk_lines walk ++ flat_map timeline_lines spares) (flat_map cite_line cites) (walk_bytes walk ++ flat_map timeline_bytes spares) (mapped cite_line cites) proof in
     ap (λ (x : List ℕ). one_number (codes "clash ") (length cites) ++ x) all
 
--- the lines of a text of version 2, joined
-pub bundle_is : (es : List PlainEvidence) → concat (bundle_lines es) ≡ bundle_line ++ (claims_line (length es) ++ (flat_map body_bytes es ++ last_line))
-bundle_is es = rw (concat_append (flat_map body_lines es) (last_line ∷ []), flat body_lines body_bytes body_is es) refl
+-- the bodies of claims with the lines around them are their text of version 2
+pub bodies_text : (es : List PlainEvidence) (bodies out : List ℕ) (n : ℕ) → AreClaims es → length es ≡ n → bodies ≡ concat (flat_map body_lines es)
+    → out ≡ bundle_line ++ (claims_line n ++ (bodies ++ last_line)) → IsBundleText es out
+bodies_text es bodies out n are count same bytes =
+    let parts : concat (bundle_lines es) ≡ bundle_line ++ (claims_line (length es) ++ (concat (flat_map body_lines es) ++ last_line)) = rw (concat_append (flat_map body_lines es) (last_line ∷ [])) refl in
+    let whole = ap (λ (k : ℕ). bundle_line ++ (claims_line k ++ (bodies ++ last_line))) (sym count) in
+    (are, bytes ∙ whole ∙ ap (λ (x : List ℕ). bundle_line ++ (claims_line (length es) ++ (x ++ last_line))) same ∙ sym parts)
 
 -- the bytes of claims are their text of version 2
 pub bundle_text : (claims slice : List Evidence) (out : List ℕ) → All IsWellFormed (map plain claims) → IsCount (length claims) → slice ≡ claims
@@ -56,7 +60,7 @@ bundle_text claims slice out good count same bytes =
     let len : length es ≡ length claims = length-map claims plain in
     let all : out ≡ bundle_line ++ (claims_line (length claims) ++ (flat_map body_bytes es ++ last_line)) =
     subst (λ (xs : List Evidence). out ≡ bundle_line ++ (claims_line (length xs) ++ (flat_map body_bytes (map plain xs) ++ last_line))) same bytes in
-    ((good, subst IsCount (sym len) count), all ∙ ap (λ (k : ℕ). bundle_line ++ (claims_line k ++ (flat_map body_bytes es ++ last_line))) (sym len) ∙ sym (bundle_is es))
+    bodies_text es (flat_map body_bytes es) out (length claims) (good, subst IsCount (sym len) count) len (sym (flat body_lines body_bytes body_is es)) all
 
 -- the lines of a text, joined
 pub text_is : (e : PlainEvidence) → concat (text_lines e) ≡ first_line ++ (body_bytes e ++ last_line)

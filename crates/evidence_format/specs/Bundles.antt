@@ -7,6 +7,7 @@ use Rattle.evidence_format.specs.Evidence.{PlainEvidence, IsNumber, IsWellFormed
 use Rattle.evidence_format.specs.Begun.{IsBadLineBy, IsBegun}
 use Rattle.evidence_format.specs.Parts.{AreBegunParts, IsBegunBody}
 use Rattle.evidence_format.specs.View.{plain}
+use Rattle.evidence_format.specs.declared.bodies.Bodies.{Bodies}
 use Rattle.evidence_format.specs.declared.evidence.Evidence.{Evidence}
 use Rattle.evidence_format.specs.declared.read.ReadEvidence.{ReadEvidence}
 use Rattle.evidence_format.specs.declared.read.ReadEvidence.TheVariants.{BadLine, Memory}
@@ -45,6 +46,10 @@ IsClaimText e text = IsBundleText (e ∷ []) text
 abbrev pub IsTextOfEither : List PlainEvidence → List ℕ → Type 0
 IsTextOfEither es text = IsBundleText es text ⊎ ((e : PlainEvidence) × (es ≡ e ∷ []) × IsText e text)
 
+-- so many claims, and the bytes of their bodies
+abbrev pub AreBodies : List PlainEvidence → Bodies → Type 0
+AreBodies es bodies = (length es ≡ bodies.count) × (bodies.text.now ≡ concat (flat_map body_lines es))
+
 -- ---- the bad line
 
 abbrev pub HasBundleLines : List PlainEvidence → Lines → Type 0
@@ -72,6 +77,11 @@ ReadsBundle es (Err (BadLine line)) = ⊥
 abbrev pub TellsBadLineOfEither : List ℕ → ReadEvidence → Type 0
 TellsBadLineOfEither text Memory = ⊤
 TellsBadLineOfEither text (BadLine line) = IsBadLineOfEither text line
+
+-- a text is that of no claims, and its bad line is reported, unless out of memory
+abbrev pub RefusesText : List ℕ → ReadEvidence → Type 0
+RefusesText text Memory = ⊤
+RefusesText text (BadLine line) = ((es : List PlainEvidence) → IsTextOfEither es text → ⊥) × IsBadLineOfEither text line
 
 -- a text is that of some claims, or is that of none and has a bad line of either version
 abbrev pub BundleOrBadLine : List ℕ → Type 0

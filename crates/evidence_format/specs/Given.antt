@@ -1,8 +1,13 @@
 -- Serves the code: what it answers, beside what reading lines gives.
-use Rattle.std.specs.Prelude.{◌≡◌, ⊤, Result, Ok, Err}
+use Rattle.std.specs.Borrow.{Bor}
+use Rattle.std.specs.Prelude.{◌≡◌, ⊤, ℕ, List, Result, Ok, Err}
 use Rattle.evidence_format.specs.declared.stop.Stop.{Stop}
 use Rattle.evidence_format.specs.declared.stop.Stop.TheVariants.{BadLine, Memory}
+use Rattle.evidence_format.specs.declared.bodies.Bodies.{Bodies}
 use Rattle.evidence_format.specs.Lines.{Lines, lines_of}
+use Rattle.evidence_format.specs.Reading.{Read}
+use Rattle.evidence_format.specs.Evidence.{PlainEvidence}
+use Rattle.evidence_format.specs.Bundles.{AreBodies}
 
 abbrev pub StopsAt : {Y : Type 0} → Stop → Result Y Lines → Type 0
 StopsAt Memory read = ⊤
@@ -12,3 +17,13 @@ StopsAt (BadLine rest) read = read ≡ Err (lines_of rest.now)
 abbrev pub Gives : {X Y : Type 0} → (X → Y) → Result X Stop → Result Y Lines → Type 0
 Gives view (Ok x) read = read ≡ Ok (view x)
 Gives view (Err e) read = StopsAt e read
+
+-- the rest of a text is what follows some values, as reading gives them, unless out of memory
+abbrev pub Passes : {A : Type 0} → Result (Bor (List ℕ)) Stop → Read (List A) → Type 0
+Passes {A} (Ok rest) read = (vs : List A) × (read ≡ Ok (vs, lines_of rest.now))
+Passes (Err e) read = StopsAt e read
+
+-- the bodies are those of the claims that reading gives, unless out of memory
+abbrev pub GivesBodies : Result Bodies Stop → Result (List PlainEvidence) Lines → Type 0
+GivesBodies (Ok bodies) read = (es : List PlainEvidence) × (read ≡ Ok es) × AreBodies es bodies
+GivesBodies (Err e) read = StopsAt e read

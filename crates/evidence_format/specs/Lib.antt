@@ -9,5 +9,6 @@ pub mod Grammar
 pub mod Reading
 pub mod Readers
 pub mod Given
+pub mod OneByOne
 pub mod Written
 pub mod View

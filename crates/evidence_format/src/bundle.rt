@@ -1,8 +1,12 @@
 //! Evidence of several claims.
-ghost use Rattle.evidence_format.specs.Bundles.{IsCount};
-ghost use Rattle.std.specs.Prelude.{◌≡◌, ◌<◌, ◌^◌, ◌+◌, [], ◌∷◌, ◌++◌, length, slice_index_or, IfOk, OnOk, OnErr};
+ghost use Rattle.evidence_format.specs.Bundles.{IsCount, IsTextOfEither, ReadsBundle, RefusesText, TellsBadLineOfEither};
+ghost use Rattle.evidence_format.specs.Evidence.{IsWellFormed, PlainEvidence};
+ghost use Rattle.evidence_format.specs.View.{plain};
+ghost use Rattle.net_core.specs.Limits.{max_evidence};
+ghost use Rattle.std.specs.List.{All};
+ghost use Rattle.std.specs.Prelude.{◌≡◌, ◌<◌, ◌≤◌, ◌^◌, ◌+◌, [], ◌∷◌, ◌++◌, length, map, slice_index_or, IfErr, IfOk, List as ListOf, OnOk, OnErr};
 
-use crate::Evidence;
+use crate::{Evidence, ReadEvidence, Unread};
 use net_core::Memory;
 use std::alloc::Global;
 use std::marker::Model;
@@ -89,4 +93,43 @@ impl Bundle {
             Err(_) => Err(Memory),
         }
     }
+}
+
+/// The claims whose text this is. A text of version 1 is that of one claim. It takes time in the length of the text, and
+/// memory in the length of what was read.
+///
+/// # Errors
+///
+/// `BadLine` comes exactly where it is the text of no claims, in neither version. Its line is the first one with which
+/// the lines so far begin no text of either version.
+pub fn read_bundle(alloc: Global, text: &[u8]) -> Result<Bundle, ReadEvidence>
+    requires { length text.now ≤ max_evidence }
+    ensures ok { IfOk result (λ bundle. IsTextOfEither (map plain bundle) text.now) }
+    ensures only { (es : ListOf PlainEvidence) → IsTextOfEither es text.now → ReadsBundle es result }
+    ensures err { IfErr result (TellsBadLineOfEither text.now) }
+    ensures few { IfOk result (λ bundle. length bundle ≤ length text.now) }
+    ensures good { IfOk result (λ bundle. All IsWellFormed (map plain bundle)) }
+{
+    match kept_claims(alloc, text) {
+        Ok(claims) => Ok(Bundle::from_vec(claims)),
+        Err(refused) => Err(refused),
+    }
+}
+
+/// The claims of a text, all kept. Nothing is reserved by their count, which comes from a stranger.
+fn kept_claims(alloc: Global, text: &[u8]) -> Result<Vec<Evidence>, ReadEvidence>
+    requires { length text.now ≤ max_evidence }
+    ensures ok { IfOk result (λ claims. IsTextOfEither (map plain claims.items) text.now) }
+    ensures err { IfErr result (RefusesText text.now) }
+{
+    let mut unread = Unread::of_text(text)?;
+    let mut claims = Vec::new(alloc);
+    for _ in 0..unread.left {
+        let claim = unread.next_claim(alloc)?;
+        let Ok(()) = claims.push(claim) else {
+            return Err(ReadEvidence::Memory);
+        };
+    }
+    unread.finish()?;
+    Ok(claims)
 }

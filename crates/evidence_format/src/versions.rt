@@ -1,23 +1,14 @@
-//! Reading evidence of several claims, in either version.
-ghost use Rattle.evidence_format.specs.Bundles.{IsTextOfEither, ReadsBundle, TellsBadLineOfEither};
-ghost use Rattle.evidence_format.specs.Evidence.{IsWellFormed, PlainEvidence};
+//! The lines before the bodies of claims, in either version.
 ghost use Rattle.evidence_format.specs.Forms as forms;
 ghost use Rattle.evidence_format.specs.Given.{Gives};
 ghost use Rattle.evidence_format.specs.Lines.{lines_of};
 ghost use Rattle.evidence_format.specs.Readers as readers;
 ghost use Rattle.evidence_format.specs.Reading.{line_at};
-ghost use Rattle.evidence_format.specs.View.{plain};
-ghost use Rattle.net_core.specs.Limits.{max_evidence};
-ghost use Rattle.std.specs.List.{All};
-ghost use Rattle.std.specs.Prelude.{◌≡◌, ◌≤◌, List as ListOf, length, map, IfOk, IfErr};
+ghost use Rattle.std.specs.Prelude.{◌≡◌};
 
-use crate::lines::{end_at, next_line};
-use crate::read::{body_at, line_of};
+use crate::lines::next_line;
 use crate::stop::Stop;
 use crate::words::{is_same, one_of};
-use crate::{Bundle, Evidence, ReadEvidence};
-use net_core::List;
-use std::alloc::Global;
 
 /// A version of the text of evidence.
 #[derive(Clone, Copy)]
@@ -28,62 +19,9 @@ pub enum Version {
     Two,
 }
 
-/// The claims whose text this is. A text of version 1 is that of one claim. It takes time in the length of the text, and
-/// memory in the length of what was read.
-///
-/// # Errors
-///
-/// `BadLine` comes exactly where it is the text of no claims, in neither version. Its line is the first one with which
-/// the lines so far begin no text of either version.
-pub fn read_bundle(alloc: Global, text: &[u8]) -> Result<Bundle, ReadEvidence>
-    requires { length text.now ≤ max_evidence }
-    ensures ok { IfOk result (λ bundle. IsTextOfEither (map plain bundle) text.now) }
-    ensures only { (es : ListOf PlainEvidence) → IsTextOfEither es text.now → ReadsBundle es result }
-    ensures err { IfErr result (TellsBadLineOfEither text.now) }
-    ensures few { IfOk result (λ bundle. length bundle ≤ length text.now) }
-    ensures good { IfOk result (λ bundle. All IsWellFormed (map plain bundle)) }
-{
-    match bundle_at(alloc, text) {
-        Ok(claims) => Ok(Bundle::from_vec(claims.into_vec())),
-        Err(Stop::BadLine(rest)) => Err(ReadEvidence::BadLine {
-            line: line_of(text, rest),
-        }),
-        Err(Stop::Memory) => Err(ReadEvidence::Memory),
-    }
-}
-
-/// The claims of either version, with nothing after them.
-#[tactic(auto, unfolding(crate::specs::Readers::bundle_at))]
-fn bundle_at(alloc: Global, text: &[u8]) -> Result<List<Evidence>, Stop<'_>>
-    ensures { Gives (map plain) result (readers.bundle_at (lines_of text.now)) }
-{
-    let (count, rest) = opening_at(text)?;
-    let (claims, rest) = bodies_at(alloc, count, rest)?;
-    end_at(rest)?;
-    Ok(claims)
-}
-
-/// So many bodies, and what follows them. Nothing is reserved by the count, which comes from a stranger.
-fn bodies_at<'t>(
-    alloc: Global,
-    count: u32,
-    text: &'t [u8],
-) -> Result<(List<Evidence>, &'t [u8]), Stop<'t>>
-    ensures { Gives (λ x. (map plain x.0, lines_of x.1.now)) result (readers.many_at readers.body_at count (lines_of text.now)) }
-{
-    let mut bodies = List::new(alloc);
-    let mut rest = text;
-    for _ in 0..count {
-        let (body, after) = body_at(alloc, rest)?;
-        bodies.push(body)?;
-        rest = after;
-    }
-    Ok((bodies, rest))
-}
-
 /// How many bodies there are, by the lines before them, and what follows these.
 #[tactic(auto, unfolding(crate::specs::Readers::opening_at))]
-fn opening_at(text: &[u8]) -> Result<(u32, &[u8]), Stop<'_>>
+pub fn opening_at(text: &[u8]) -> Result<(u32, &[u8]), Stop<'_>>
     ensures { Gives (λ x. (x.0, lines_of x.1.now)) result (readers.opening_at (lines_of text.now)) }
 {
     let (version, rest) = version_at(text)?;

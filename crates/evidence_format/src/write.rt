@@ -1,17 +1,18 @@
 //! Writing evidence.
-ghost use Rattle.evidence_format.specs.Bundles.{IsBundleText, IsCount, bundle_line, claims_line};
+ghost use Rattle.evidence_format.specs.Bundles.{AreBodies, AreClaims, IsBundleText, IsClaimText, IsCount, bundle_line, claims_line};
 ghost use Rattle.evidence_format.specs.Evidence as lines;
-ghost use Rattle.evidence_format.specs.Evidence.{AreRanks, IsNumber, IsText, IsWellFormed, first_line, last_line};
+ghost use Rattle.evidence_format.specs.Evidence.{AreRanks, IsNumber, IsText, IsWellFormed, PlainEvidence, first_line, last_line};
 ghost use Rattle.evidence_format.specs.View.{plain};
 ghost use Rattle.evidence_format.specs.Written.{body_bytes, timeline_bytes, walk_bytes};
 ghost use Rattle.net_core.specs.Ranks.{pairs_of};
 ghost use Rattle.std.specs.List.{All, flat_map};
-ghost use Rattle.std.specs.Prelude.{◌≡◌, ◌++◌, ◌∷◌, [], codes, decimal, length, map, IfOk, OnOk};
+ghost use Rattle.std.specs.Prelude.{◌≡◌, ◌<◌, ◌^◌, ◌+◌, ◌++◌, ◌∷◌, [], codes, decimal, length, map, IfOk, List as ListOf, OnOk};
 
-use crate::{Bundle, Evidence};
+use crate::{Bodies, Bundle, Evidence};
 use itoa::write_digits;
 use net_core::{List, Memory, Ranks, Rel, Step, Walk};
 use std::alloc::{AllocError, Global};
+use std::slice;
 
 /// Room for the digits of a number, at most ten, and for the byte that ends it.
 const NUMBER_ROOM: usize = 11;
@@ -26,6 +27,21 @@ pub fn write_evidence(alloc: Global, evidence: &Evidence) -> Result<List<u8>, Me
     ensures { IfOk result (λ out. IsText (plain evidence.now) out) }
 {
     match text_bytes(alloc, evidence) {
+        Ok(out) => Ok(List::from_vec(out)),
+        Err(_) => Err(Memory),
+    }
+}
+
+/// The text of version 2 of one claim, which is well-formed evidence.
+///
+/// # Errors
+///
+/// Out of memory.
+pub fn write_claim(alloc: Global, evidence: &Evidence) -> Result<List<u8>, Memory>
+    requires { IsWellFormed (plain evidence.now) }
+    ensures { IfOk result (λ out. IsClaimText (plain evidence.now) out) }
+{
+    match bundle_bytes(alloc, slice::from_ref(evidence)) {
         Ok(out) => Ok(List::from_vec(out)),
         Err(_) => Err(Memory),
     }
@@ -46,6 +62,60 @@ pub fn write_bundle(alloc: Global, bundle: &Bundle) -> Result<List<u8>, Memory>
     }
 }
 
+/// The text of version 2 of the claims with these bodies.
+///
+/// # Errors
+///
+/// Out of memory.
+pub fn write_bodies(alloc: Global, bodies: Bodies<'_>) -> Result<List<u8>, Memory>
+    ensures { IfOk result (λ out. (es : ListOf PlainEvidence) → AreClaims es → AreBodies es bodies.entry → IsBundleText es out) }
+{
+    match joined_bytes(alloc, bodies.count, bodies.text, b"") {
+        Ok(out) => Ok(List::from_vec(out)),
+        Err(_) => Err(Memory),
+    }
+}
+
+/// The text of version 2 of the claims with these bodies, and after them those with the other ones.
+///
+/// # Errors
+///
+/// Out of memory.
+pub fn write_both(alloc: Global, first: Bodies<'_>, second: Bodies<'_>) -> Result<List<u8>, Memory>
+    requires { first.count + second.count < 2 ^ 32 }
+    ensures { IfOk result (λ out. (es ds : ListOf PlainEvidence) → AreClaims (es ++ ds) → AreBodies es first.entry → AreBodies ds second.entry → IsBundleText (es ++ ds) out) }
+{
+    match joined_bytes(alloc, first.count + second.count, first.text, second.text) {
+        Ok(out) => Ok(List::from_vec(out)),
+        Err(_) => Err(Memory),
+    }
+}
+
+/// The text of version 2 of so many claims, by the bodies of the first ones and those of the others.
+fn joined_bytes(
+    alloc: Global,
+    count: u32,
+    first: &[u8],
+    second: &[u8],
+) -> Result<Vec<u8>, AllocError>
+    ensures { IfOk result (λ out. out.items ≡ bundle_line ++ (claims_line count ++ (first.now ++ (second.now ++ last_line)))) }
+{
+    let mut out = opening_bytes(alloc, count)?;
+    out.extend_from_slice(first)?;
+    out.extend_from_slice(second)?;
+    out.extend_from_slice(b"end\n")?;
+    Ok(out)
+}
+
+/// The lines of version 2 before the bodies of so many claims.
+fn opening_bytes(alloc: Global, count: u32) -> Result<Vec<u8>, AllocError>
+    ensures { IfOk result (λ out. out.items ≡ bundle_line ++ claims_line count) }
+{
+    let mut out = Vec::from_slice(alloc, b"tml-evidence 2\n")?;
+    push_one(&mut out, b"claims ", count)?;
+    Ok(out)
+}
+
 fn text_bytes(alloc: Global, evidence: &Evidence) -> Result<Vec<u8>, AllocError>
     requires { IsWellFormed (plain evidence.now) }
     ensures { IfOk result (λ out. out.items ≡ first_line ++ (body_bytes (plain evidence.now) ++ last_line)) }
@@ -61,8 +131,7 @@ fn bundle_bytes(alloc: Global, claims: &[Evidence]) -> Result<Vec<u8>, AllocErro
     requires count { IsCount (length claims.now) }
     ensures { IfOk result (λ out. out.items ≡ bundle_line ++ (claims_line (length claims.now) ++ (flat_map body_bytes (map plain claims.now) ++ last_line))) }
 {
-    let mut out = Vec::from_slice(alloc, b"tml-evidence 2\n")?;
-    push_one(&mut out, b"claims ", claims.len() as u32)?;
+    let mut out = opening_bytes(alloc, claims.len() as u32)?;
     push_bodies(&mut out, claims)?;
     out.extend_from_slice(b"end\n")?;
     Ok(out)

@@ -4,7 +4,7 @@ ghost use Rattle.evidence_format.specs.Evidence.{IsWellFormed};
 ghost use Rattle.evidence_format.specs.View.{plain};
 ghost use Rattle.std.specs.Prelude.{IfOk};
 
-use evidence_format::{Bundle, Evidence, write_bundle};
+use evidence_format::{Evidence, write_claim};
 use net_core::Memory;
 use std::alloc::{AllocError, Global};
 
@@ -17,10 +17,7 @@ pub fn evidence_text(alloc: Global, evidence: Evidence) -> Result<Vec<u8>, Alloc
     requires { IsWellFormed (plain evidence) }
     ensures { IfOk result (λ text. IsClaimText (plain evidence) text.items) }
 {
-    let Ok(bundle) = Bundle::one(alloc, evidence) else {
-        return Err(AllocError);
-    };
-    match write_bundle(alloc, &bundle) {
+    match write_claim(alloc, &evidence) {
         Ok(text) => Ok(text.into_vec()),
         Err(Memory) => Err(AllocError),
     }

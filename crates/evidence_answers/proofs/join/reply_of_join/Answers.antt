@@ -1,6 +1,6 @@
-use Rattle.std.proofs.Common.{[], ◌∷◌, ◌+◌, ◌∙◌, map, sym, subst, refl, arith, Option}
+use Rattle.std.proofs.Common.{[], ◌∷◌, ◌+◌, ◌∙◌, sym, subst, refl, arith, Option}
 use Rattle.std.proofs.lemmas.Result.{IfOk-weaker}
-use Rattle.evidence_format.specs.View.{plain}
+use Rattle.evidence_format.proofs.Claims.{are_claims}
 use Rattle.tml_io.specs.Files.{IsThere}
 use Rattle.tml_io.specs.Files.{Files}
 use Rattle.tml_run.specs.Rows.{Rows}
@@ -23,12 +23,12 @@ returns-in-Err-clause-reply g c =
       untouched = λ none. absurd (none first ([], tt, refl));
     }
 
-pub returns-in-Err-claims_of-clause-reply : goal.returns-in-Err-claims_of-clause-reply
-returns-in-Err-claims_of-clause-reply g c =
+pub returns-in-Err-bodies_of-clause-reply : goal.returns-in-Err-bodies_of-clause-reply
+returns-in-Err-bodies_of-clause-reply g c =
     let first = evidence_file c.args.name.now in
     let rows : Rows = join_rows c.args.name.now c.args.other.now in
     let read = c.in-Ok.ensures.gives in
-    let refusal = rw c.as_slice.ensures at c.in-Err-claims_of.ensures.err in
+    let refusal = rw c.as_slice.ensures at c.in-Err-bodies_of.ensures.err in
     record {
       replies = (read.0, refused_or_not evidence _ rows _ _ _ read.0 (first, refl, read.1.0, tt) (λ line. line) refusal (omega (arith, read.1.1)), read.2);
       no_fault = λ sound there. c.in-Ok.ensures.no_fault sound (there first ([], tt, refl));
@@ -42,10 +42,12 @@ returns-in-Ok-read-clause-reply g c =
     let rows : Rows = join_rows c.args.name.now c.args.other.now in
     let first = c.in-Ok.ensures.gives in
     let second = rw c.in-Ok.ensures.files at c.in-Ok-read.ensures.gives in
-    let es = map plain c.in-Ok-claims_of.claims in
-    let says = rw c.as_slice.ensures at c.in-Ok-claims_of.ensures.ok in
+    let given = rw c.as_slice.ensures at c.in-Ok-bodies_of.ensures.ok in
+    let es = given.0 in
+    let says = given.1 in
+    let are = are_claims es c.in-Ok.first says in
     let verdict = rw c.as_slice-in-Ok-read.ensures at c.joined.ensures in
-    let answer = IfOk-weaker c.joined.result _ (λ answer. after_first evidence OfSecond c.in-Ok.first c.in-Ok-read.second (finding_status answer.finding) answer.text.items) (λ answer told. (es, says, told)) verdict in
+    let answer = IfOk-weaker c.joined.result _ (λ answer. after_first evidence OfSecond c.in-Ok.first c.in-Ok-read.second (finding_status answer.finding) answer.text.items) (λ answer told. (es, says, told es are given.2)) verdict in
     let replies = answered_or_not _ rows (_ ∷ _ ∷ []) c.joined.result (first.0 + second.0)
     (one, refl, first.1.0, (other, ((es, says), refl), second.1.0, tt))
     answer (omega (arith, first.1.1, second.1.1)) in
@@ -65,8 +67,8 @@ returns-clause-reply g c =
     let rows : Rows = join_rows c.args.name.now c.args.other.now in
     let first = c.in-Ok.ensures.gives in
     let second = rw c.in-Ok.ensures.files at c.in-Err-read.ensures.gives in
-    let says = rw c.as_slice.ensures at c.in-Ok-claims_of.ensures.ok in
-    let passed : IsPassed evidence c.in-Ok.first = (map plain c.in-Ok-claims_of.claims, says) in
+    let given = rw c.as_slice.ensures at c.in-Ok-bodies_of.ensures.ok in
+    let passed : IsPassed evidence c.in-Ok.first = (given.0, given.1) in
     let replies = stopped _ rows (_ ∷ []) other _ _ second.0 (first.0 + second.0)
     (one, refl, first.1.0, tt) (passed, refl) second.1 (omega (arith, first.1.1)) in
     record {

@@ -1,23 +1,17 @@
-use Rattle.std.proofs.Common.{IsOk, codes, inl, map, rules}
-use Rattle.evidence_format.specs.View.{plain}
+use Rattle.std.proofs.Common.{codes, inl}
+use Rattle.evidence_check.proofs.Bundles.{all_true}
 use Rattle.evidence_answers.specs.Verify.{OfVerify}
 use Rattle.evidence_answers.proofs.Files.{malformed}
-use Rattle.evidence_answers.proofs.Naming.{name_intervals}
-use Rattle.evidence_answers.proofs.Refused.{refused}
 use Rattle.evidence_answers.proofs.verify.verdict.Goals as goal
 
-pub claims_text-requires : goal.claims_text-requires
-claims_text-requires c =
-    let ok : IsOk c.verify_all.result = rw c.in-Ok-verify_all.is (search rules) in
-    rw c.as_slice.ensures.claims (name_intervals c.args.document.now c.in-Ok.net (map plain c.in-Ok-read_bundle.bundle) c.in-Ok.ensures.net (c.verify_all.ensures.supported.0 ok))
+pub returns-in-None : goal.returns-in-None
+returns-in-None c =
+    let given = c.in-Ok-judged_claims.ensures.ok in
+    let judged = rw c.in-None.is at given.2 in
+    rw (c.done.ensures.finding, c.done.ensures.text) (c.in-Ok.net, c.in-Ok.ensures.net, (given.0, given.1, judged.0, all_true c.in-Ok.net given.0 judged.0, judged.1))
 
 pub returns-in-Err-BadLine : goal.returns-in-Err-BadLine
 returns-in-Err-BadLine c =
-    let read = c.read_bundle.ensures in
+    let refuses = rw (c.in-Err-BadLine.is, c.in-Err-BadLine.field-0-is) at c.judged_claims.ensures.err in
     malformed (OfVerify c.args.document.now) (codes "evidence line ") c.args.text.now c.in-Err-BadLine.line c.malformed_answer.result (λ text told. (c.in-Ok.net, c.in-Ok.ensures.net, inl told))
-    (rw (c.in-Err-BadLine.is, c.in-Err-BadLine.field-0-is) at read.only) (rw (c.in-Err-BadLine.is, c.in-Err-BadLine.field-0-is) at read.err) c.malformed_answer.ensures.finding c.malformed_answer.ensures.text
-
-pub returns : goal.returns
-returns c =
-    refused c.args.document.now c.in-Ok.net c.args.text.now (map plain c.in-Ok-read_bundle.bundle) c.in-Err-verify_all.refused c.refused_answer.result c.in-Ok.ensures.net c.in-Ok-read_bundle.ensures.ok c.in-Err-verify_all.ensures.err
-    c.refused_answer.ensures.finding c.refused_answer.ensures.text
+    refuses.0 refuses.1 c.malformed_answer.ensures.finding c.malformed_answer.ensures.text

@@ -5,6 +5,6 @@ use Rattle.evidence_answers.proofs.renew.RenewOfFile.answer.Goals as goal
 
 pub returns-in-Err-BadLine : goal.returns-in-Err-BadLine
 returns-in-Err-BadLine c =
-    let read = c.read_bundle.ensures in
+    let refuses = rw (c.in-Err-BadLine.is, c.in-Err-BadLine.field-0-is) at c.read_bodies.ensures.err in
     malformed OfRenew (codes "evidence line ") c.args.bytes.now c.in-Err-BadLine.line c.malformed_answer.result (λ text told. told)
-    (rw (c.in-Err-BadLine.is, c.in-Err-BadLine.field-0-is) at read.only) (rw (c.in-Err-BadLine.is, c.in-Err-BadLine.field-0-is) at read.err) c.malformed_answer.ensures.finding c.malformed_answer.ensures.text
+    refuses.0 refuses.1 c.malformed_answer.ensures.finding c.malformed_answer.ensures.text

@@ -1,7 +1,7 @@
 use Rattle.std.proofs.Common.{◌≡◌, ◌++◌, drop}
 use Rattle.std.specs.List.{flat_map}
 use Rattle.evidence_answers.specs.Texts as texts
-use Rattle.evidence_answers.proofs.verify.push_cited.Given as goal
+use Rattle.evidence_answers.proofs.judged.push_cited.Given as goal
 
 -- the numbers so far, and those of what is left
 abbrev pub invariant-loop-link : goal.invariant-loop-link

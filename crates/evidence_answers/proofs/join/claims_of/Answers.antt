@@ -1,8 +1,0 @@
-use Rattle.evidence_answers.proofs.Joined.{cannot_judge}
-use Rattle.evidence_answers.proofs.join.claims_of.Goals as goal
-
-pub returns-in-Err-BadLine-clause-err : goal.returns-in-Err-BadLine-clause-err
-returns-in-Err-BadLine-clause-err c =
-    let read = c.read_bundle.ensures in
-    rw c.from_answer.ensures (cannot_judge c.args.text.now c.in-Err-BadLine.line c.malformed_answer-answer.result
-    (rw (c.in-Err-BadLine.is, c.in-Err-BadLine.field-0-is) at read.only) (rw (c.in-Err-BadLine.is, c.in-Err-BadLine.field-0-is) at read.err) c.malformed_answer-answer.ensures.finding c.malformed_answer-answer.ensures.text)
