@@ -27,7 +27,7 @@ fn what_two_links_say_is_left_out(rt: HostRuntime) -> Result<(), Fail> {
         link(2, Rel::After, 0),
     ];
     let net = net_of(&rt, &[FREE, FREE, FREE], &links);
-    assert!(rt; staying(&rt, &net).as_slice() == [0, 1]);
+    assert!(rt; staying(&rt, &net).as_slice() == [0, 1].as_slice());
     Ok(())
 }
 
@@ -40,6 +40,6 @@ fn of_links_at_one_place_the_last_ones_stay(rt: HostRuntime) -> Result<(), Fail>
         link(0, Rel::Identity, 1),
     ];
     let net = net_of(&rt, &[FREE, FREE, FREE], &links);
-    assert!(rt; staying(&rt, &net).as_slice() == [1, 2, 3]);
+    assert!(rt; staying(&rt, &net).as_slice() == [1, 2, 3].as_slice());
     Ok(())
 }
