@@ -4,8 +4,6 @@ use Rattle.std.specs.List.{Contains}
 use Rattle.std.proofs.lemmas.Bool.{cases_lt}
 use Rattle.std.proofs.lemmas.List.Elements.{All-contains, All-from_recursion, All-get_or, Contains-append_left, Contains-get_or, Contains-push, Contains-push_cases}
 use Rattle.std.proofs.lemmas.List.{get_or_default}
-use Rattle.std.specs.List.Sorted.{IsPermutation}
-use Rattle.std.proofs.lemmas.List.Sorted.{Contains-permutation, IsPermutation-sym}
 use Rattle.clash.specs.declared.orders.Order.{Order}
 use Rattle.clash.proofs.LinkAtoms.{link_said}
 use Rattle.net_core.specs.Atoms.{IsInRange, Satisfies}
@@ -17,7 +15,9 @@ use Rattle.net_core.specs.declared.net.NetLink.{NetLink}
 use Rattle.net_core.specs.declared.rels.Rel.TheVariants as rel
 use Rattle.net_core.proofs.AtomLaws.{atoms_in_range}
 use Rattle.clash.proofs.Elements.{every}
-use Rattle.tml_score.specs.Graph.{Adds, AreAll, IsFixed, IsGraphOf, IsOfSome, counts, link_atoms}
+use Rattle.tml_score.specs.ByPoint.{HaveSame, end_of}
+use Rattle.tml_score.specs.Graph.{Adds, AreAll, AreOrdersOf, IsFixed, IsGraphOf, IsOfSome, counts, link_atoms}
+use Rattle.tml_score.specs.declared.graph.Graph.{Graph}
 
 -- ---- lists of orders
 
@@ -84,18 +84,26 @@ all_at atoms link o = (
       (k, lt, (lt, λ i. record { atom = sym same i; link = h.0 i })),
 )
 
--- all orders, in any order
-pub all_sorted : (net : PlainNet) (fixed : List Atom) (old mid new sorted : List Order) → old ≡ [] → Adds (IsFixed fixed) old mid → Adds (IsOfSome net) mid new → IsPermutation new sorted → AreAll net fixed sorted
-all_sorted net fixed old mid new sorted empty first second moved o = (
-  λ h. elim ((second o).0 (Contains-permutation sorted new o (IsPermutation-sym new sorted moved) h)) [
+-- all orders
+pub all_added : (net : PlainNet) (fixed : List Atom) (old mid new : List Order) → old ≡ [] → Adds (IsFixed fixed) old mid → Adds (IsOfSome net) mid new → AreAll net fixed new
+all_added net fixed old mid new empty first second o = (
+  λ h. elim ((second o).0 h) [
     | inl was ↦ elim ((first o).0 was) [
       | inl before ↦ let none : length old ≡ 0 = ap length empty in let lt = before.1 in absurd (omega arith)
       | inr is ↦ inl is
     ]
     | inr is ↦ inr is
   ],
-  λ h. Contains-permutation new sorted o moved (elim h [ inl is ↦ (second o).1 (inl ((first o).1 (inr is))) | inr is ↦ (second o).1 (inr is) ]),
+  λ h. elim h [ inl is ↦ (second o).1 (inl ((first o).1 (inr is))) | inr is ↦ (second o).1 (inr is) ],
 )
+
+-- the same orders are all orders too
+pub same_orders_of : (net : PlainNet) (orders same : List Order) → AreOrdersOf net orders → HaveSame orders same → AreOrdersOf net same
+same_orders_of net orders same are alike = record {
+  fixed = are.fixed;
+  are_fixed = are.are_fixed;
+  all = λ o. (λ h. (are.all o).0 ((alike o).0 h), λ h. (alike o).1 ((are.all o).1 h));
+}
 
 -- ---- what they say
 
@@ -107,7 +115,7 @@ module _ (net : PlainNet) (is : IsNet net) where
       let ends = All-get_or (λ (l : NetLink). (l.a < length net.bounds) × (l.b < length net.bounds)) net.links k (record { a = 0; rel = rel.Before; b = 0 }) below is.ends in
       All-contains (IsInRange (points net)) (link_atoms net k) a (All-from_recursion (IsInRange (points net)) (link_atoms net k) (atoms_in_range (length net.bounds) link.rel link.a link.b ends.0 ends.1)) among
 
-  module _ (orders : List Order) (graph : IsGraphOf net orders) where
+  module _ (orders : List Order) (graph : AreOrdersOf net orders) where
     -- and so are all
     pub in_range : (o : Order) → Contains orders o → IsInRange (points net) o.atom
     in_range o among = elim ((graph.all o).0 among) [
@@ -135,3 +143,24 @@ module _ (net : PlainNet) (is : IsNet net) where
             calendar = fixed.1;
           },
     )
+
+-- ---- the orders of a point
+
+module _ (net : PlainNet) (graph : Graph) (is : IsGraphOf net graph) (items : List Order) (point : ℕ) where
+  -- the orders that leave it
+  pub leaving : ((o : Order) → Contains items o ↔ (Contains graph.onward.orders o × (end_of graph.onward.end o ≡ point)))
+      → (o : Order) → Contains items o ↔ (Contains graph.onward.orders o × (o.atom.from ≡ point))
+  leaving exact o =
+      let at : end_of graph.onward.end o ≡ o.atom.from = ap (λ e. end_of e o) is.leave in (
+        λ h. (((exact o).0 h).0, sym at ∙ ((exact o).0 h).1),
+        λ h. (exact o).1 (h.0, at ∙ h.1),
+      )
+
+  -- and those that lead to it
+  pub leading : ((o : Order) → Contains items o ↔ (Contains graph.back.orders o × (end_of graph.back.end o ≡ point)))
+      → (o : Order) → Contains items o ↔ (Contains graph.onward.orders o × (o.atom.to ≡ point))
+  leading exact o =
+      let at : end_of graph.back.end o ≡ o.atom.to = ap (λ e. end_of e o) is.lead in (
+        λ h. ((is.same o).0 ((exact o).0 h).0, sym at ∙ ((exact o).0 h).1),
+        λ h. (exact o).1 ((is.same o).1 h.0, at ∙ h.1),
+      )

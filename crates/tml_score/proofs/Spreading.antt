@@ -65,8 +65,8 @@ module _ (basis : Basis) (asked : Asked) (ready : IsReady basis) (is : IsAsked b
   )
 
   -- there is a mark for the link of each order
-  pub marked_link : (o : Order) → Contains basis.orders o → AreMarks basis o
-  marked_link o among = elim ((ready.graph.all o).0 among) [
+  pub marked_link : (o : Order) → Contains basis.graph.onward.orders o → AreMarks basis o
+  marked_link o among = elim ((ready.graph.orders.all o).0 among) [
     | inl fixed ↦ subst (λ (l : Option ℕ). IfSome l (λ k. k < length basis.keep)) (sym fixed.0) tt
     | inr linked ↦ subst (λ (l : Option ℕ). IfSome l (λ k. k < length basis.keep)) (sym linked.2.0) (omega (arith, linked.1, ready.marks))
   ]

@@ -1,12 +1,14 @@
--- The orders of a net, by the points that they leave.
+-- The orders of a net, by the points that they leave and those that they lead to.
 use Rattle.std.specs.Prelude.{◌≡◌, ◌↔◌, ◌⊎◌, ℕ, ◌<◌, Bool, true, List, length, Option, Some, None}
 use Rattle.std.specs.List.{Contains}
-use Rattle.std.specs.List.Sorted.{IsNonDecreasingBy}
 use Rattle.clash.specs.Orders.{AreFixed}
 use Rattle.clash.specs.declared.orders.Order.{Order}
 use Rattle.net_core.specs.Atoms.{atoms_of}
-use Rattle.net_core.specs.Nets.{PlainNet, link_at}
+use Rattle.net_core.specs.Nets.{PlainNet, link_at, points}
 use Rattle.net_core.specs.declared.atom.Atom.{Atom}
+use Rattle.tml_score.specs.ByPoint.{HaveSame}
+use Rattle.tml_score.specs.declared.by_point.End.TheVariants.{From, To}
+use Rattle.tml_score.specs.declared.graph.Graph.{Graph}
 
 -- the orders that link k is
 abbrev pub link_atoms : PlainNet → ℕ → List Atom
@@ -37,29 +39,17 @@ Adds Listed old new = (order : Order) → Contains new order ↔ (Contains old o
 abbrev pub AreAll : PlainNet → List Atom → List Order → Type 0
 AreAll net fixed orders = (order : Order) → Contains orders order ↔ (IsFixed fixed order ⊎ IsOfSome net order)
 
--- the orders that leave the lowest point come first
-abbrev pub AreSorted : List Order → Type 0
-AreSorted orders = IsNonDecreasingBy (λ (order : Order). order.atom.from) orders
-
--- the orders that leave a point, of all of a list
-abbrev pub AreFrom : ℕ → List Order → List Order → Type 0
-AreFrom point all orders = (order : Order) → Contains orders order ↔ (Contains all order × (order.atom.from ≡ point))
-
--- the same by the points that orders lead to
-abbrev pub AreSortedBack : List Order → Type 0
-AreSortedBack orders = IsNonDecreasingBy (λ (order : Order). order.atom.to) orders
-
-abbrev pub AreTo : ℕ → List Order → List Order → Type 0
-AreTo point all orders = (order : Order) → Contains orders order ↔ (Contains all order × (order.atom.to ≡ point))
-
--- the same orders, sorted by the points that they lead to
-pub record IsTurned (orders turned : List Order) : Type 0 where
-  pub same : (order : Order) → Contains turned order ↔ Contains orders order
-  pub sorted : AreSortedBack turned
-
--- all orders of a net, sorted
-pub record IsGraphOf (net : PlainNet) (orders : List Order) : Type 0 where
+-- all orders of a net
+pub record AreOrdersOf (net : PlainNet) (orders : List Order) : Type 0 where
   pub fixed : List Atom
   pub are_fixed : AreFixed net fixed
   pub all : AreAll net fixed orders
-  pub sorted : AreSorted orders
+
+-- all orders of a net by the points that they leave, and by those that they lead to
+pub record IsGraphOf (net : PlainNet) (graph : Graph) : Type 0 where
+  pub orders : AreOrdersOf net graph.onward.orders
+  pub leave : graph.onward.end ≡ From
+  pub onward_points : graph.onward.points ≡ points net
+  pub same : HaveSame graph.onward.orders graph.back.orders
+  pub lead : graph.back.end ≡ To
+  pub back_points : graph.back.points ≡ points net

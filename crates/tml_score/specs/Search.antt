@@ -15,8 +15,9 @@ use Rattle.net_core.specs.declared.list.Memory.{Memory}
 use Rattle.order_closure.specs.Cells.{order, strength}
 use Rattle.order_closure.specs.Tables.{Table, cell_at}
 use Rattle.order_closure.specs.declared.cell.Cell.TheVariants.{Free}
-use Rattle.tml_score.specs.Graph.{IsGraphOf, IsTurned, counts, link_atoms}
+use Rattle.tml_score.specs.Graph.{IsGraphOf, counts, link_atoms}
 use Rattle.tml_score.specs.Reached.{PlainReached}
+use Rattle.tml_score.specs.declared.graph.Graph.{Graph}
 use Rattle.tml_score.specs.declared.reached.Sides.{Sides}
 use Rattle.tml_score.specs.declared.search.Asked.{Asked}
 use Rattle.tml_score.specs.declared.search.Kept.{Kept}
@@ -25,20 +26,18 @@ use Rattle.tml_score.specs.declared.search.Kept.{Kept}
 pub record Basis : Type 0 where
   pub net : PlainNet
   pub table : Table
-  pub orders : List Order
-  pub turned : List Order
+  pub graph : Graph
   pub keep : List Bool
 
 abbrev pub basis_of : Kept → Basis
-basis_of kept = record { net = kept.net.now; table = kept.table.now; orders = kept.orders.now; turned = kept.turned.now; keep = kept.keep.now }
+basis_of kept = record { net = kept.net.now; table = kept.table.now; graph = kept.graph.now; keep = kept.keep.now }
 
 -- The links that are kept say the same as all, and some timeline fits.
 pub record IsReady (basis : Basis) : Type 0 where
   pub net : IsNet basis.net
   pub fits : HasTimeline basis.net
   pub closure : IsClosureOf basis.net basis.table
-  pub graph : IsGraphOf basis.net basis.orders
-  pub turned : IsTurned basis.orders basis.turned
+  pub graph : IsGraphOf basis.net basis.graph
   pub marks : length basis.keep ≡ length basis.net.links
   pub same : (t : Timeline) → FitsWith basis.net (IsKept basis.keep) t → Fits basis.net t
 
@@ -66,7 +65,7 @@ AreMarks basis o = IfSome o.link (λ k. k < length basis.keep)
 
 -- an order that may be gone over
 abbrev pub IsWay : Basis → Asked → Order → Type 0
-IsWay basis asked o = Contains basis.orders o × (remains basis asked o ≡ true)
+IsWay basis asked o = Contains basis.graph.onward.orders o × (remains basis asked o ≡ true)
 
 -- it leads to the last point, or to one that the closure doesn't put at or before the first
 abbrev pub LeadsOut : Basis → Asked → Order → Type 0

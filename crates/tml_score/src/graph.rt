@@ -1,16 +1,17 @@
-//! The orders of a net, by the points that they leave.
+//! The orders of a net, by the points that they leave and those that they lead to.
 ghost use Rattle.std.specs.Prelude.{IfOk, OnOk, length, ◌<◌, ◌≡◌};
-ghost use Rattle.tml_score.specs.Graph.{Adds, AreFrom, AreSorted, AreSortedBack, AreTo, IsFixed, IsGraphOf, IsOfLink, IsOfSome, IsTurned};
+ghost use Rattle.tml_score.specs.Graph.{Adds, AreOrdersOf, IsFixed, IsGraphOf, IsOfLink, IsOfSome};
 
+use crate::by_point::{ByPoint, End};
 use clash::{Order, atoms_of_link, fixed_orders, nth_order};
 use net_core::{Atom, Memory, Net};
 use std::alloc::Global;
 
-/// The orders of a net twice: sorted by the points that they leave, and by those that they lead to.
+/// The orders of a net twice: by the points that they leave, and by those that they lead to.
 #[derive(Drop)]
 pub struct Graph {
-    pub onward: Vec<Order>,
-    pub back: Vec<Order>,
+    pub onward: ByPoint,
+    pub back: ByPoint,
 }
 
 impl Graph {
@@ -20,51 +21,28 @@ impl Graph {
     ///
     /// Out of memory.
     pub fn new(alloc: Global, net: &Net) -> Result<Graph, Memory>
-        ensures onward { IfOk result (λ graph. IsGraphOf net.now graph.onward.items) }
-        ensures back { IfOk result (λ graph. IsTurned graph.onward.items graph.back.items) }
+        ensures { IfOk result (IsGraphOf net.now) }
     {
-        let onward = orders_of(alloc, net)?;
-        let Ok(mut back) = Vec::from_slice(alloc, &onward) else {
+        let points = 2 * net.intervals();
+        let orders = orders_of(alloc, net)?;
+        let onward = ByPoint::new(alloc, orders, End::From, points)?;
+        let Ok(again) = Vec::from_slice(alloc, onward.orders()) else {
             return Err(Memory);
         };
-        back.sort_unstable_by_key(|order| order.atom.to);
+        let back = ByPoint::new(alloc, again, End::To, points)?;
         Ok(Graph { onward, back })
     }
 }
 
-/// The orders of a net: those that hold without any link, and those of its links. The orders that leave the lowest point
-/// come first.
+/// The orders of a net: those that hold without any link, and those of its links.
 fn orders_of(alloc: Global, net: &Net) -> Result<Vec<Order>, Memory>
-    ensures { IfOk result (λ orders. IsGraphOf net.now orders.items) }
+    ensures { IfOk result (λ orders. AreOrdersOf net.now orders.items) }
 {
     let fixed = fixed_orders(alloc, net)?;
     let mut orders = Vec::new(alloc);
     push_fixed(&mut orders, &fixed)?;
     push_links(&mut orders, net)?;
-    orders.sort_unstable_by_key(|order| order.atom.from);
     Ok(orders)
-}
-
-/// The orders that leave a point, of sorted ones.
-pub fn orders_from(orders: &[Order], point: u32) -> &[Order]
-    requires { AreSorted orders.now }
-    ensures { AreFrom point orders.now result.now }
-{
-    let first = orders.partition_point(|order| order.atom.from < point);
-    let rest = &orders[first..];
-    let count = rest.partition_point(|order| order.atom.from <= point);
-    &rest[..count]
-}
-
-/// The orders that lead to a point, of those sorted by the points that they lead to.
-pub fn orders_to(orders: &[Order], point: u32) -> &[Order]
-    requires { AreSortedBack orders.now }
-    ensures { AreTo point orders.now result.now }
-{
-    let first = orders.partition_point(|order| order.atom.to < point);
-    let rest = &orders[first..];
-    let count = rest.partition_point(|order| order.atom.to <= point);
-    &rest[..count]
 }
 
 /// Appends orders that are of no link.

@@ -5,7 +5,6 @@ ghost use Rattle.std.specs.Prelude.{IfOk, IsTrue, OnOk, false, length, slice_ind
 ghost use Rattle.tml_score.specs.Meeting.{AreApart, GoesFrom, IsLedTo, IsSide, IsWith, Visits};
 ghost use Rattle.tml_score.specs.Search.{Decides, IsAsked, IsLed, IsReady, basis_of};
 
-use crate::graph::{orders_from, orders_to};
 use crate::reached::Reached;
 use crate::search::{Asked, Kept};
 use net_core::Memory;
@@ -69,7 +68,7 @@ impl Kept<'_> {
             (slice_index onward.old.points turn) back.now onward.old onward.new result }
     {
         let point = onward.point(turn);
-        for order in orders_from(self.orders, point) {
+        for order in self.graph.onward.of_point(point) {
             if self.remains(asked, order) && self.visit(asked, order.atom.to, onward, back)? {
                 return Ok(true);
             }
@@ -95,7 +94,7 @@ impl Kept<'_> {
             (slice_index back.old.points turn) onward.now back.old back.new result }
     {
         let point = back.point(turn);
-        for order in orders_to(self.turned, point) {
+        for order in self.graph.back.of_point(point) {
             if self.remains(asked, order) && self.visit(asked, order.atom.from, back, onward)? {
                 return Ok(true);
             }

@@ -3,7 +3,7 @@ ghost use Rattle.clash.specs.Closures.{IsClosureOf};
 ghost use Rattle.net_core.specs.Entailment.{HasTimeline};
 ghost use Rattle.net_core.specs.Walks.{Kept as IsKept};
 ghost use Rattle.std.specs.Prelude.{IfOk, OnOk, length, ◌<◌};
-ghost use Rattle.tml_score.specs.Graph.{IsGraphOf, IsTurned};
+ghost use Rattle.tml_score.specs.Graph.{IsGraphOf};
 ghost use Rattle.tml_score.specs.Reduced.{IsReduced};
 ghost use Rattle.tml_score.specs.Reducing.{AreGoneOver, DecidesLink};
 ghost use Rattle.tml_score.specs.Search.{HaveRoom, IsReady, basis_of};
@@ -11,7 +11,7 @@ ghost use Rattle.tml_score.specs.Search.{HaveRoom, IsReady, basis_of};
 use crate::graph::Graph;
 use crate::reached::{Reached, Sides};
 use crate::search::{Asked, Kept};
-use clash::{CloseFault, Order, atoms_of_link, close, marked, nth_order};
+use clash::{CloseFault, atoms_of_link, close, marked, nth_order};
 use net_core::{List, Memory, Net};
 use order_closure::Closed;
 use std::alloc::Global;
@@ -45,22 +45,15 @@ pub fn reduced_by(alloc: Global, net: &Net, table: &Closed) -> Result<List<u32>,
     ensures { IfOk result (IsReduced net.now) }
 {
     let graph = Graph::new(alloc, net)?;
-    let keep = marks(alloc, net, table, &graph.onward, &graph.back)?;
+    let keep = marks(alloc, net, table, &graph)?;
     marked(alloc, net, &keep)
 }
 
 /// A mark for each link: those that stay are kept.
-fn marks(
-    alloc: Global,
-    net: &Net,
-    table: &Closed,
-    orders: &[Order],
-    turned: &[Order],
-) -> Result<Vec<bool>, Memory>
+fn marks(alloc: Global, net: &Net, table: &Closed, graph: &Graph) -> Result<Vec<bool>, Memory>
     requires closure { IsClosureOf net.now table.now }
     requires fits { HasTimeline net.now }
-    requires orders { IsGraphOf net.now orders.now }
-    requires turned { IsTurned orders.now turned.now }
+    requires graph { IsGraphOf net.now graph.now }
     ensures { IfOk result (λ keep. AreGoneOver net.now (length net.now.links) keep.items) }
 {
     let Ok(mut keep) = vec![in alloc; true; net.links() as usize] else {
@@ -74,8 +67,7 @@ fn marks(
         let kept = Kept {
             net,
             table,
-            orders,
-            turned,
+            graph,
             keep: &keep,
         };
         if link_follows(kept, link, &mut sides)? {

@@ -4,20 +4,18 @@ ghost use Rattle.std.specs.Prelude.{IfOk, IsTrue, OnOk, length, slice_index, tru
 ghost use Rattle.tml_score.specs.Search as spec;
 ghost use Rattle.tml_score.specs.Search.{Decides, GoesOn, HaveRoom, IsAsked, IsReady, IsSearch, IsWay, IsLed, basis_of};
 
-use crate::graph::orders_from;
+use crate::graph::Graph;
 use crate::reached::{Reached, Sides};
 use clash::Order;
 use net_core::{Atom, Memory, Net};
 use order_closure::{Cell, Closed};
 
-/// The links of a net that are kept, which say the same as all, with the closure of the net and all its orders, sorted by
-/// the points that they leave, and by those that they lead to.
+/// The links of a net that are kept, which say the same as all, with the closure of the net and all its orders.
 #[derive(Clone, Copy)]
 pub struct Kept<'a> {
     pub net: &'a Net,
     pub table: &'a Closed,
-    pub orders: &'a [Order],
-    pub turned: &'a [Order],
+    pub graph: &'a Graph,
     pub keep: &'a [bool],
 }
 
@@ -84,7 +82,7 @@ impl Kept<'_> {
         ensures { GoesOn (basis_of self.now) asked (λ order. order.atom.from ≡ slice_index reached.old.points turn) reached.old reached.new result }
     {
         let point = reached.point(turn);
-        for order in orders_from(self.orders, point) {
+        for order in self.graph.onward.of_point(point) {
             if self.remains(asked, order) && self.take(asked, order, reached)? {
                 return Ok(true);
             }

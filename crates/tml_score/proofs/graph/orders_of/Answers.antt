@@ -1,9 +1,7 @@
-use Rattle.std.proofs.Common.{List, subst, rules}
-use Rattle.std.proofs.lemmas.List.Sorted.{IsNonDecreasingBy-from_sort_by_key}
-use Rattle.clash.specs.declared.orders.Order.{Order}
+use Rattle.std.proofs.Common.{List, subst}
 use Rattle.net_core.specs.declared.atom.Atom.{Atom}
 use Rattle.tml_score.specs.Graph.{Adds, IsFixed}
-use Rattle.tml_score.proofs.GraphLaws.{all_sorted}
+use Rattle.tml_score.proofs.GraphLaws.{all_added}
 use Rattle.tml_score.proofs.graph.orders_of.Goals as goal
 
 pub returns : goal.returns
@@ -17,6 +15,5 @@ returns c =
     record {
       fixed = fixed;
       are_fixed = c.in_ok-fixed.ensures;
-      all = all_sorted net fixed old mid new c.sort_unstable_by_key.new.self.items c.new-orders.ensures.items first c.in_ok-push_links.ensures c.sort_unstable_by_key.ensures.permutation;
-      sorted = IsNonDecreasingBy-from_sort_by_key (λ (order : Order). order.atom.from) _ c.sort_unstable_by_key.ensures.sorted (λ a r q k. search rules);
+      all = all_added net fixed old mid new c.new-orders.ensures.items first c.in_ok-push_links.ensures;
     }

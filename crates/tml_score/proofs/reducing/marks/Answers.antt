@@ -28,8 +28,7 @@ link_follows-requires c =
         net = c.links.ensures.net;
         fits = c.requires.fits;
         closure = c.requires.closure;
-        graph = c.requires.orders;
-        turned = c.requires.turned;
+        graph = c.requires.graph;
         marks = so_far.size;
         same = so_far.same;
       };

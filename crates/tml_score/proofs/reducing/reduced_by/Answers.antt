@@ -17,4 +17,4 @@ marked_stay net keep (Err e) are rising exact = tt
 pub returns : goal.returns
 returns c =
     let net = c.args.net.now in
-    marked_stay net c.deref-3.result.now c.marked.result (subst (AreGoneOver net (length net.links)) (sym c.deref-3.ensures.value) c.in_ok-keep.ensures) c.marked.ensures.rising c.marked.ensures.exact
+    marked_stay net c.deref.result.now c.marked.result (subst (AreGoneOver net (length net.links)) (sym c.deref.ensures.value) c.in_ok-keep.ensures) c.marked.ensures.rising c.marked.ensures.exact

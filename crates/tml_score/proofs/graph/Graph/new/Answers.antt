@@ -1,16 +1,19 @@
-use Rattle.std.proofs.Common.{◌≡◌, List, subst, rules}
-use Rattle.std.specs.List.Sorted.{IsPermutation}
-use Rattle.std.proofs.lemmas.List.Sorted.{Contains-permutation, IsNonDecreasingBy-from_sort_by_key, IsPermutation-sym}
+use Rattle.std.proofs.Common.{◌≡◌, List, subst, arith, rules}
 use Rattle.clash.specs.declared.orders.Order.{Order}
+use Rattle.tml_score.specs.ByPoint.{HaveSame}
+use Rattle.tml_score.proofs.GraphLaws.{same_orders_of}
 use Rattle.tml_score.proofs.graph.Graph.new.Goals as goal
 
-pub returns-clause-back : goal.returns-clause-back
-returns-clause-back c =
-    let orders = c.in_ok-onward.onward.items in
-    let sorted = c.sort_unstable_by_key.new.self.items in
-    let copied : c.in-Ok.back.items ≡ orders = search rules in
-    let moved : IsPermutation orders sorted = subst (λ (xs : List Order). IsPermutation xs sorted) copied c.sort_unstable_by_key.ensures.permutation in
+pub returns : goal.returns
+returns c =
+    let onward = c.in_ok-onward in
+    let back = c.in_ok-back in
+    let again : c.in-Ok.again.items ≡ onward.onward.orders = search rules in
     record {
-      same = λ order. (Contains-permutation sorted orders order (IsPermutation-sym orders sorted moved), Contains-permutation orders sorted order moved);
-      sorted = IsNonDecreasingBy-from_sort_by_key (λ (order : Order). order.atom.to) _ c.sort_unstable_by_key.ensures.sorted (λ a r q k. search rules);
+      orders = same_orders_of c.args.net.now c.in_ok-orders.orders.items onward.onward.orders c.in_ok-orders.ensures onward.ensures.orders;
+      leave = onward.ensures.end;
+      onward_points = omega (arith, onward.ensures.points, c.intervals-points.ensures.count);
+      same = subst (λ (orders : List Order). HaveSame orders back.back.orders) again back.ensures.orders;
+      lead = back.ensures.end;
+      back_points = omega (arith, back.ensures.points, c.intervals-points.ensures.count);
     }

@@ -6,6 +6,7 @@ use Rattle.tml_score.specs.Meeting.{AreApart, IsLedTo, IsPassedAt, IsSide, Visit
 use Rattle.tml_score.specs.Reached.{PlainReached}
 use Rattle.tml_score.specs.Search.{Extends, IsWay, basis_of, remains}
 use Rattle.tml_score.proofs.Searching.{asked_range, way_range, goes_back}
+use Rattle.tml_score.proofs.GraphLaws.{leading}
 use Rattle.tml_score.proofs.Spreading.{extends_none, extends_then, marked_link}
 use Rattle.tml_score.proofs.TwoSided.{passed_at_one, side_visited}
 use Rattle.tml_score.proofs.search.Kept.spread_back.Goals as goal
@@ -15,27 +16,30 @@ use Rattle.tml_score.proofs.search.Kept.spread_back.Goals.{else-remains-via-then
 abbrev no_order : Order
 no_order = record { atom = record { from = 0; to = 0; strict = false }; link = None }
 
+pub of_point-order-items-requires : goal.of_point-order-items-requires
+of_point-order-items-requires c = omega (arith, c.point-point.ensures.room, c.requires.back.room, c.requires.ready.graph.back_points)
+
 -- the order of this turn is one of the graph, and leads to the point
-here : (c : goal.In-loop-order) → let o = get_or c.orders_to-order-items.result.now c.loop-order.order-index no_order in
-    Contains c.args.self.now.orders.now o × (o.atom.to ≡ c.point-point.result)
+here : (c : goal.In-loop-order) → let o = get_or c.of_point-order-items.result.now c.loop-order.order-index no_order in
+    Contains c.args.self.now.graph.now.onward.orders o × (o.atom.to ≡ c.point-point.result)
 here c =
-    let items = c.orders_to-order-items.result.now in
+    let items = c.of_point-order-items.result.now in
     let o = get_or items c.loop-order.order-index no_order in
-    let both = (c.orders_to-order-items.ensures o).0 (Contains-get_or items c.loop-order.order-index no_order c.loop-order-test.true) in
-    ((c.requires.ready.turned.same o).0 both.0, both.1)
+    let both = (leading c.args.self.now.net.now c.args.self.now.graph.now c.requires.ready.graph c.of_point-order-items.result.now c.point-point.result c.of_point-order-items.ensures o).0 (Contains-get_or items c.loop-order.order-index no_order c.loop-order-test.true) in
+    (both.0, both.1)
 
 pub remains-requires : goal.remains-requires
 remains-requires c =
-    let o = get_or c.orders_to-order-items.result.now c.loop-order.order-index no_order in
+    let o = get_or c.of_point-order-items.result.now c.loop-order.order-index no_order in
     marked_link (basis_of c.args.self.now) c.args.asked c.requires.ready c.requires.asked o (here c).0
 
 pub visit-requires : goal.visit-requires
 visit-requires c =
     let basis = basis_of c.args.self.now in
-    let items = c.orders_to-order-items.result.now in
+    let items = c.of_point-order-items.result.now in
     let o = get_or items c.loop-order.order-index no_order in
-    let both = (c.orders_to-order-items.ensures o).0 (Contains-get_or items c.loop-order.order-index no_order c.loop-order-test.true) in
-    let way : IsWay basis c.args.asked o = ((c.requires.ready.turned.same o).0 both.0, sym c.if-remains.ensures) in
+    let both = (leading c.args.self.now.net.now c.args.self.now.graph.now c.requires.ready.graph c.of_point-order-items.result.now c.point-point.result c.of_point-order-items.ensures o).0 (Contains-get_or items c.loop-order.order-index no_order c.loop-order-test.true) in
+    let way : IsWay basis c.args.asked o = (both.0, sym c.if-remains.ensures) in
     let range = way_range basis c.args.asked c.requires.ready c.requires.asked o way in
     let own = asked_range basis c.args.asked c.requires.ready c.requires.asked in
     let size = c.requires.ready.closure.size in
@@ -54,14 +58,14 @@ loop-order-preserved c =
     let basis = basis_of c.args.self.now in
     let asked = c.args.asked in
     let P = IsLedTo basis asked in
-    let items = c.orders_to-order-items.result.now in
+    let items = c.of_point-order-items.result.now in
     let i = c.loop-order.order-index in
     let o = get_or items i no_order in
     let old = c.args.back.now in
     let mid = c.loop-order.back in
     let other = c.args.onward.now in
     let was = c.loop-order.invariant in
-    let both = (c.orders_to-order-items.ensures o).0 (Contains-get_or items i no_order c.loop-order-test.true) in
+    let both = (leading c.args.self.now.net.now c.args.self.now.graph.now c.requires.ready.graph c.of_point-order-items.result.now c.point-point.result c.of_point-order-items.ensures o).0 (Contains-get_or items i no_order c.loop-order-test.true) in
     let at : o.atom.to ≡ slice_index old.points c.args.turn = both.1 ∙ c.point-point.ensures.point in
     let point = All-get_or P old.points c.args.turn 0 c.requires.turn c.requires.back.all in
     let close : (r : PlainReached) → Type 0 = λ r. record {
@@ -73,7 +77,7 @@ loop-order-preserved c =
     elim c.else-remains.branch [
       | else-remains-via-then-remains+in_ok-visit+else-branch w ↦
           let next = w.visit.new.own in
-          let way : IsWay basis asked o = ((c.requires.ready.turned.same o).0 both.0, sym w.if-remains.ensures) in
+          let way : IsWay basis asked o = (both.0, sym w.if-remains.ensures) in
           let reaches : P o.atom.from = goes_back basis asked c.requires.ready c.requires.asked o way (subst P (sym at) point) in
           let visits : Visits basis asked o.atom.from other mid next (Ok false) = subst (λ (b : Bool). Visits basis asked o.atom.from other mid next (Ok b)) w.if-branch.false w.in_ok-visit.ensures in
           let now = side_visited basis asked P o.atom.from other mid next reaches was.side was.apart visits in
@@ -98,17 +102,17 @@ returns-then-branch c =
     let basis = basis_of c.args.self.now in
     let asked = c.args.asked in
     let P = IsLedTo basis asked in
-    let items = c.orders_to-order-items.result.now in
+    let items = c.of_point-order-items.result.now in
     let i = c.loop-order.order-index in
     let o = get_or items i no_order in
     let old = c.args.back.now in
     let mid = c.loop-order.back in
     let other = c.args.onward.now in
     let next = c.visit.new.own in
-    let both = (c.orders_to-order-items.ensures o).0 (Contains-get_or items i no_order c.loop-order-test.true) in
+    let both = (leading c.args.self.now.net.now c.args.self.now.graph.now c.requires.ready.graph c.of_point-order-items.result.now c.point-point.result c.of_point-order-items.ensures o).0 (Contains-get_or items i no_order c.loop-order-test.true) in
     let at : o.atom.to ≡ slice_index old.points c.args.turn = both.1 ∙ c.point-point.ensures.point in
     let point = All-get_or P old.points c.args.turn 0 c.requires.turn c.requires.back.all in
-    let way : IsWay basis asked o = ((c.requires.ready.turned.same o).0 both.0, sym c.if-remains.ensures) in
+    let way : IsWay basis asked o = (both.0, sym c.if-remains.ensures) in
     let visits : Visits basis asked o.atom.from other mid next (Ok true) = subst (λ (b : Bool). Visits basis asked o.atom.from other mid next (Ok b)) c.if-branch.true c.in_ok-visit.ensures in (
       subst (IsSide basis P) (sym visits.1) c.loop-order.invariant.side,
       (o.atom.from, goes_back basis asked c.requires.ready c.requires.asked o way (subst P (sym at) point), visits.0),
@@ -118,12 +122,12 @@ pub returns : goal.returns
 returns c =
     let basis = basis_of c.args.self.now in
     let asked = c.args.asked in
-    let items = c.orders_to-order-items.result.now in
+    let items = c.of_point-order-items.result.now in
     let was = c.loop-order.invariant in (
       was.side,
       was.extends,
       was.apart,
       λ o way near.
-          let (k, lt, e) = (c.orders_to-order-items.ensures o).1 ((c.requires.ready.turned.same o).1 way.0, near ∙ sym c.point-point.ensures.point) in
+          let (k, lt, e) = (leading c.args.self.now.net.now c.args.self.now.graph.now c.requires.ready.graph c.of_point-order-items.result.now c.point-point.result c.of_point-order-items.ensures o).1 (way.0, near ∙ sym c.point-point.ensures.point) in
           subst (λ (x : Order). IsPassedAt basis asked c.loop-order.back.points x.atom.from) e (was.passed k o (omega (arith, lt, c.loop-order-test.false)) (subst (IsWay basis asked) (sym e) way)),
     )

@@ -6,6 +6,7 @@ use Rattle.tml_score.specs.Meeting.{AreApart, IsPassedAt, IsSide, Visits}
 use Rattle.tml_score.specs.Reached.{PlainReached}
 use Rattle.tml_score.specs.Search.{Extends, IsLed, IsWay, basis_of, remains}
 use Rattle.tml_score.proofs.Searching.{asked_range, way_range, goes_on}
+use Rattle.tml_score.proofs.GraphLaws.{leaving}
 use Rattle.tml_score.proofs.Spreading.{extends_none, extends_then, marked_link}
 use Rattle.tml_score.proofs.TwoSided.{passed_at_one, side_visited}
 use Rattle.tml_score.proofs.search.Kept.spread_onward.Goals as goal
@@ -15,26 +16,29 @@ use Rattle.tml_score.proofs.search.Kept.spread_onward.Goals.{else-remains-via-th
 abbrev no_order : Order
 no_order = record { atom = record { from = 0; to = 0; strict = false }; link = None }
 
+pub of_point-order-items-requires : goal.of_point-order-items-requires
+of_point-order-items-requires c = omega (arith, c.point-point.ensures.room, c.requires.onward.room, c.requires.ready.graph.onward_points)
+
 -- the order of this turn is one of the graph, and leaves the point
-here : (c : goal.In-loop-order) → let o = get_or c.orders_from-order-items.result.now c.loop-order.order-index no_order in
-    Contains c.args.self.now.orders.now o × (o.atom.from ≡ c.point-point.result)
+here : (c : goal.In-loop-order) → let o = get_or c.of_point-order-items.result.now c.loop-order.order-index no_order in
+    Contains c.args.self.now.graph.now.onward.orders o × (o.atom.from ≡ c.point-point.result)
 here c =
-    let items = c.orders_from-order-items.result.now in
+    let items = c.of_point-order-items.result.now in
     let o = get_or items c.loop-order.order-index no_order in
-    let both = (c.orders_from-order-items.ensures o).0 (Contains-get_or items c.loop-order.order-index no_order c.loop-order-test.true) in
+    let both = (leaving c.args.self.now.net.now c.args.self.now.graph.now c.requires.ready.graph c.of_point-order-items.result.now c.point-point.result c.of_point-order-items.ensures o).0 (Contains-get_or items c.loop-order.order-index no_order c.loop-order-test.true) in
     (both.0, both.1)
 
 pub remains-requires : goal.remains-requires
 remains-requires c =
-    let o = get_or c.orders_from-order-items.result.now c.loop-order.order-index no_order in
+    let o = get_or c.of_point-order-items.result.now c.loop-order.order-index no_order in
     marked_link (basis_of c.args.self.now) c.args.asked c.requires.ready c.requires.asked o (here c).0
 
 pub visit-requires : goal.visit-requires
 visit-requires c =
     let basis = basis_of c.args.self.now in
-    let items = c.orders_from-order-items.result.now in
+    let items = c.of_point-order-items.result.now in
     let o = get_or items c.loop-order.order-index no_order in
-    let both = (c.orders_from-order-items.ensures o).0 (Contains-get_or items c.loop-order.order-index no_order c.loop-order-test.true) in
+    let both = (leaving c.args.self.now.net.now c.args.self.now.graph.now c.requires.ready.graph c.of_point-order-items.result.now c.point-point.result c.of_point-order-items.ensures o).0 (Contains-get_or items c.loop-order.order-index no_order c.loop-order-test.true) in
     let way : IsWay basis c.args.asked o = (both.0, sym c.if-remains.ensures) in
     let range = way_range basis c.args.asked c.requires.ready c.requires.asked o way in
     let own = asked_range basis c.args.asked c.requires.ready c.requires.asked in
@@ -54,14 +58,14 @@ loop-order-preserved c =
     let basis = basis_of c.args.self.now in
     let asked = c.args.asked in
     let P = IsLed basis asked in
-    let items = c.orders_from-order-items.result.now in
+    let items = c.of_point-order-items.result.now in
     let i = c.loop-order.order-index in
     let o = get_or items i no_order in
     let old = c.args.onward.now in
     let mid = c.loop-order.onward in
     let other = c.args.back.now in
     let was = c.loop-order.invariant in
-    let both = (c.orders_from-order-items.ensures o).0 (Contains-get_or items i no_order c.loop-order-test.true) in
+    let both = (leaving c.args.self.now.net.now c.args.self.now.graph.now c.requires.ready.graph c.of_point-order-items.result.now c.point-point.result c.of_point-order-items.ensures o).0 (Contains-get_or items i no_order c.loop-order-test.true) in
     let at : o.atom.from ≡ slice_index old.points c.args.turn = both.1 ∙ c.point-point.ensures.point in
     let point = All-get_or P old.points c.args.turn 0 c.requires.turn c.requires.onward.all in
     let close : (r : PlainReached) → Type 0 = λ r. record {
@@ -98,14 +102,14 @@ returns-then-branch c =
     let basis = basis_of c.args.self.now in
     let asked = c.args.asked in
     let P = IsLed basis asked in
-    let items = c.orders_from-order-items.result.now in
+    let items = c.of_point-order-items.result.now in
     let i = c.loop-order.order-index in
     let o = get_or items i no_order in
     let old = c.args.onward.now in
     let mid = c.loop-order.onward in
     let other = c.args.back.now in
     let next = c.visit.new.own in
-    let both = (c.orders_from-order-items.ensures o).0 (Contains-get_or items i no_order c.loop-order-test.true) in
+    let both = (leaving c.args.self.now.net.now c.args.self.now.graph.now c.requires.ready.graph c.of_point-order-items.result.now c.point-point.result c.of_point-order-items.ensures o).0 (Contains-get_or items i no_order c.loop-order-test.true) in
     let at : o.atom.from ≡ slice_index old.points c.args.turn = both.1 ∙ c.point-point.ensures.point in
     let point = All-get_or P old.points c.args.turn 0 c.requires.turn c.requires.onward.all in
     let way : IsWay basis asked o = (both.0, sym c.if-remains.ensures) in
@@ -118,12 +122,12 @@ pub returns : goal.returns
 returns c =
     let basis = basis_of c.args.self.now in
     let asked = c.args.asked in
-    let items = c.orders_from-order-items.result.now in
+    let items = c.of_point-order-items.result.now in
     let was = c.loop-order.invariant in (
       was.side,
       was.extends,
       was.apart,
       λ o way near.
-          let (k, lt, e) = (c.orders_from-order-items.ensures o).1 (way.0, near ∙ sym c.point-point.ensures.point) in
+          let (k, lt, e) = (leaving c.args.self.now.net.now c.args.self.now.graph.now c.requires.ready.graph c.of_point-order-items.result.now c.point-point.result c.of_point-order-items.ensures o).1 (way.0, near ∙ sym c.point-point.ensures.point) in
           subst (λ (x : Order). IsPassedAt basis asked c.loop-order.onward.points x.atom.to) e (was.passed k o (omega (arith, lt, c.loop-order-test.false)) (subst (IsWay basis asked) (sym e) way)),
     )

@@ -1,0 +1,30 @@
+use Rattle.std.proofs.Common.{◌≡◌, ℕ, ◌+◌, ◌++◌, ◌∷◌, [], nat_lt, refl, subst, arith, rules}
+use Rattle.std.proofs.lemmas.List.Sorted.{IsPartitionPoint-from_clause, IsPartitionedBy-ltb}
+use Rattle.clash.specs.declared.orders.Order.{Order}
+use Rattle.tml_score.specs.ByPoint.{end_of}
+use Rattle.tml_score.proofs.Starts.{IsCut, AreCuts, cuts_are_starts, no_cuts, one_cut_more}
+use Rattle.tml_score.proofs.by_point.starts_of.Goals as goal
+
+pub loop-point-init : goal.loop-point-init
+loop-point-init c = record { end = refl; cuts = no_cuts (end_of c.args.end) c.args.orders.now c.new-starts.result.items c.new-starts.ensures.items }
+
+pub loop-point-preserved : goal.loop-point-preserved
+loop-point-preserved c =
+    let key = end_of c.args.end in
+    let orders = c.args.orders.now in
+    let point = c.loop-point.point-counter in
+    let place = c.partition_point-start.result in
+    let pushed : c.push.new.self.items ≡ c.loop-point.starts.items ++ place ∷ [] = search rules in
+    let cut : IsCut key orders point place = IsPartitionPoint-from_clause (λ (order : Order). nat_lt (key order) point) orders place c.partition_point-start.ensures.partitioned (IsPartitionedBy-ltb key orders point c.requires.sorted) (λ a r q k. search rules) in
+    record {
+      end = c.loop-point.invariant.end;
+      cuts = one_cut_more key orders point place c.loop-point.starts.items c.push.new.self.items c.loop-point.invariant.cuts cut c.partition_point-start.ensures.bound pushed;
+    }
+
+pub returns-clause-size : goal.returns-clause-size
+returns-clause-size c = omega (arith, c.loop-point.invariant.cuts.size, c.loop-point-test.false, c.loop-point.auto.point-counter-end)
+
+pub returns-clause-starts : goal.returns-clause-starts
+returns-clause-starts c =
+    let all : c.loop-point.point-counter ≡ c.args.points + 1 = omega (arith, c.loop-point-test.false, c.loop-point.auto.point-counter-end) in
+    cuts_are_starts (end_of c.args.end) c.args.orders.now c.args.points c.loop-point.starts.items (subst (λ (n : ℕ). AreCuts (end_of c.args.end) c.args.orders.now n c.loop-point.starts.items) all c.loop-point.invariant.cuts)
