@@ -1,0 +1,92 @@
+//! Items that begin at points, sorted by point, with where those of each point lie.
+#![tactic(auto)]
+
+ghost use Rattle.point_index.specs.Index as spec;
+ghost use Rattle.point_index.specs.Index.{HaveSame};
+ghost use Rattle.std.specs.List.{Contains};
+ghost use Rattle.std.specs.Prelude.{IfOk, length, ◌+◌, ◌<◌, ◌^◌, ◌≡◌, ◌≤◌, ◌↔◌};
+
+use std::alloc::{AllocError, Global};
+use std::marker::Model;
+
+/// What begins at a point.
+pub trait OfPoint: Copy {
+    ghost use Rattle.std.specs.Prelude.{ℕ};
+
+    /// Its point.
+    ghost point_of: { Self → ℕ };
+
+    /// The point.
+    fn point(&self) -> u32
+        ensures { result ≡ point_of self.now };
+}
+
+/// Items, those with the lowest point first, with where those of each point begin. What asks for the items of a point
+/// often would spend most of its time on looking them up by halves.
+#[derive(Drop)]
+pub struct Index<T: OfPoint> {
+    items: Vec<T>,
+    starts: Vec<usize>,
+}
+
+impl<T: OfPoint> Model for Index<T> {
+    ghost use Rattle.point_index.specs.Index.{AreStarts, PlainIndex};
+    ghost use Rattle.std.specs.Prelude.{length, ◌-◌};
+
+    ghost Value = { PlainIndex T };
+
+    ghost view = { λ a. record { points = length a.starts.items - 1; items = a.items.items } };
+
+    ghost invariant = { λ a. AreStarts T.point_of (length a.starts.items - 1) a.items.items a.starts.items };
+}
+
+impl<T: OfPoint> Index<T> {
+    /// The index of these items, over so many points.
+    ///
+    /// # Errors
+    ///
+    /// Out of memory.
+    pub fn new(alloc: Global, mut items: Vec<T>, points: u32) -> Result<Index<T>, AllocError>
+        requires { points < 2 ^ 31 }
+        ensures points { IfOk result (λ index. index.points ≡ points) }
+        ensures items { IfOk result (λ index. HaveSame items.items index.items) }
+    {
+        items.sort_unstable_by_key(|item| item.point());
+        let starts = starts_of(alloc, &items, points)?;
+        Ok(Index { items, starts })
+    }
+
+    /// The items, those with the lowest point first.
+    pub fn items(&self) -> &[T]
+        ensures { result.now ≡ self.now.items }
+    {
+        &self.items
+    }
+
+    /// The items of a point.
+    pub fn of_point(&self, point: u32) -> &[T]
+        requires { point < self.now.points }
+        ensures { (item : T) → Contains result.now item ↔ (Contains self.now.items item × (T.point_of item ≡ point)) }
+    {
+        let start = self.starts[point as usize];
+        let end = self.starts[point as usize + 1];
+        &self.items[start..end]
+    }
+}
+
+/// Where the items of each point begin, of sorted ones, and after the last point where they end.
+fn starts_of<T: OfPoint>(alloc: Global, items: &[T], points: u32) -> Result<Vec<usize>, AllocError>
+    requires sorted { spec.AreSorted T.point_of items.now }
+    requires few { points < 2 ^ 31 }
+    ensures size { IfOk result (λ starts. length starts.items ≡ points + 1) }
+    ensures starts { IfOk result (λ starts. spec.AreStarts T.point_of points items.now starts.items) }
+{
+    let mut starts = Vec::new(alloc);
+    for point in 0..points + 1 {
+        let start = items.partition_point(|item| item.point() < point);
+        if starts.push(start).is_err() {
+            return Err(AllocError);
+        }
+    }
+    Ok(starts)
+}

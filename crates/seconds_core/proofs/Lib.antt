@@ -1,0 +1,4 @@
+pub mod InRange
+pub mod Kept
+pub mod Ordered
+pub mod Sums

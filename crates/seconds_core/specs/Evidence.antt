@@ -1,0 +1,16 @@
+-- What evidence holds.
+use Rattle.std.specs.Prelude.{◌≡◌, ℕ, ◌*◌, ◌^◌, ◌%◌, ◌<◌, ℤ, List, length}
+use Rattle.seconds_core.specs.declared.line.Line.{Line}
+
+-- there are fewer lines than this, and fewer intervals
+abbrev pub max_lines : ℕ
+max_lines = 2 ^ 32
+
+-- two seconds for each interval
+abbrev pub IsPlacing : List ℤ → Type 0
+IsPlacing seconds = (length seconds % 2 ≡ 0) × (length seconds < 2 * max_lines)
+
+-- the seconds of a placing, or the lines of a cycle
+pub data PlainEvidence : Type 0 where
+  Placed : List ℤ → PlainEvidence
+  Round : List Line → PlainEvidence

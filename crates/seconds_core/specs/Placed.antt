@@ -1,0 +1,56 @@
+-- Placings: a whole second for the start and one for the end of each interval.
+use Rattle.std.specs.Prelude.{◌≡◌, ℕ, ◌+◌, ◌*◌, ◌<◌, ℤ, pos, ◌-ℤ◌, ◌<ℤ◌, ◌≤ℤ◌, Bool, true, false, List, length, Option, IfSome, slice_index_or}
+use Rattle.std.specs.List.{AllByRecursion}
+use Rattle.net_core.specs.Atoms.{atoms_of}
+use Rattle.net_core.specs.Nets.{intervals, link_at, points}
+use Rattle.net_core.specs.declared.atom.Atom.{Atom}
+use Rattle.net_core.specs.declared.net.NetLink.{NetLink}
+use Rattle.seconds_core.specs.Timed.{PlainTimed, limits_at, lower_second, upper_second}
+
+-- the second of a point; that of the origin, which is past them all, is 0
+abbrev pub second_at : List ℤ → ℕ → ℤ
+second_at seconds p = slice_index_or seconds p (pos 0)
+
+-- one second is before another, or where the order is not strict they may be the same
+abbrev pub AreInOrder : Bool → ℤ → ℤ → Type 0
+AreInOrder true m n = m <ℤ n
+AreInOrder false m n = m ≤ℤ n
+
+abbrev pub KeepsOrder : List ℤ → Atom → Type 0
+KeepsOrder seconds atom = AreInOrder atom.strict (second_at seconds atom.from) (second_at seconds atom.to)
+
+-- a link holds where each order does that its relation is
+abbrev pub KeepsLink : List ℤ → NetLink → Type 0
+KeepsLink seconds link = AllByRecursion (KeepsOrder seconds) (atoms_of link.rel link.a link.b)
+
+-- the interval starts before it ends
+abbrev pub StartsFirst : List ℤ → ℕ → Type 0
+StartsFirst seconds i = second_at seconds (2 * i) <ℤ second_at seconds (2 * i + 1)
+
+-- how long an interval lasts
+abbrev pub lasts : List ℤ → ℕ → ℤ
+lasts seconds i = second_at seconds (2 * i + 1) -ℤ second_at seconds (2 * i)
+
+-- a number is within a lower and an upper one, of those that are there
+abbrev pub IsBetween : Option ℤ → Option ℤ → ℤ → Type 0
+IsBetween low high n = IfSome low (λ m. m ≤ℤ n) × IfSome high (λ m. n ≤ℤ m)
+
+-- the point is in the calendar
+abbrev pub KeepsBounds : PlainTimed → List ℤ → ℕ → Type 0
+KeepsBounds timed seconds p = IsBetween (lower_second timed p) (upper_second timed p) (second_at seconds p)
+
+-- the interval lasts as long as its limits say
+abbrev pub KeepsLimits : PlainTimed → List ℤ → ℕ → Type 0
+KeepsLimits timed seconds i = IsBetween (limits_at timed i).least (limits_at timed i).most (lasts seconds i)
+
+-- Two seconds for each interval are a placing: each interval starts before it ends, each link holds, each point is in the calendar, and each interval lasts as long as its limits say.
+pub record IsPlaced (timed : PlainTimed) (seconds : List ℤ) : Type 0 where
+  pub size : length seconds ≡ points timed.net
+  pub order : (i : ℕ) → i < intervals timed.net → StartsFirst seconds i
+  pub links : (k : ℕ) → k < length timed.net.links → KeepsLink seconds (link_at timed.net k)
+  pub bounds : (p : ℕ) → p < points timed.net → KeepsBounds timed seconds p
+  pub limits : (i : ℕ) → i < intervals timed.net → KeepsLimits timed seconds i
+
+-- there is a placing
+abbrev pub HasPlacing : PlainTimed → Type 0
+HasPlacing timed = (seconds : List ℤ) × IsPlaced timed seconds
