@@ -1,11 +1,10 @@
 -- Where the items of each point begin.
-use Rattle.std.proofs.Common.{◌≡◌, ◌↔◌, ◌⊎◌, ℕ, ◌+◌, ◌-◌, ◌<◌, ◌≤◌, nat_lt, true, false, inl, inr, List, [], ◌∷◌, ◌++◌, get_or, length, take, drop, slice_index, refl, sym, ap, subst, ◌∙◌, arith, length-drop}
+use Rattle.std.proofs.Common.{◌≡◌, ◌↔◌, ◌⊎◌, ℕ, ◌+◌, ◌-◌, ◌<◌, ◌≤◌, nat_lt, true, false, inl, inr, List, [], ◌∷◌, ◌++◌, get_or, length, take, drop, slice_index, refl, sym, ap, subst, ◌∙◌, arith, length-drop, length-take}
 use Rattle.std.specs.List.{Contains}
 use Rattle.std.specs.List.Sorted.{IsPartitionPoint}
-use Rattle.std.proofs.lemmas.Bool.{cases_lt, le-leb, lt-leb, ltb-true, ltb-false}
-use Rattle.std.proofs.lemmas.List.{get_or-drop, get_or_append_left, get_or_push, length_push}
-use Rattle.walks.proofs.Parts.{between}
-use Rattle.point_index.specs.Index.{AreStarts}
+use Rattle.std.proofs.lemmas.Bool.{cases_lt, ltb-true, ltb-false}
+use Rattle.std.proofs.lemmas.List.{get_or-drop, get_or-take, get_or_append_left, get_or_push, length_push}
+use Rattle.point_index.specs.Index.{AreNumbersOf, AreStarts}
 
 -- an item of a list that has some
 one_of : {X : Type 0} (xs : List X) → 0 < length xs → X
@@ -17,24 +16,35 @@ module _ {X : Type 0} (point_of : X → ℕ) (items : List X) where
   abbrev pub IsCut : ℕ → ℕ → Type 0
   IsCut p place = IsPartitionPoint (λ (item : X). nat_lt (point_of item) p ≡ true) (λ (item : X). nat_lt (point_of item) p ≡ false) items place
 
-  module _ (p first after : ℕ) (below : IsCut p first) (upto : IsCut (p + 1) after) (within : first ≤ length items) where
-    -- the next point's items don't begin before those of a point
-    rises : first ≤ after
-    rises = elim (cases_lt after first) [
-      | inl early ↦
-          let d = one_of items (omega (arith, early, within)) in
-          let low = ltb-true _ p (below.0 after d (omega arith) early) in
-          let high = ltb-false _ (p + 1) (upto.1 after d (omega arith) (omega (arith, early, within))) in
-          absurd (omega (arith, low, high))
-      | inr late ↦ late
-    ]
+  module _ (p first after : ℕ) (below : IsCut p first) (upto : IsCut (p + 1) after) (first_in : first ≤ length items) (after_in : after ≤ length items) where
+    low : (k : ℕ) (d : X) → k < first → point_of (get_or items k d) < p
+    low k d lt = ltb-true _ p (below.0 k d (omega arith) lt)
 
-    -- and in between lie the items of the point
-    lie_between : (item : X) → Contains (take (after - first) (drop first items)) item ↔ (Contains items item × (point_of item ≡ p))
-    lie_between = between point_of p items (drop first items) first (after - first) refl below (
-      λ k d low high. let is = ltb-true _ (p + 1) (upto.0 (first + k) d (omega arith) (omega (arith, high))) in rw get_or-drop (le-leb (point_of (get_or items (first + k) d)) p (omega (arith, is))),
-      λ k d low high. let is = ltb-false _ (p + 1) (upto.1 (first + k) d (omega (arith, low)) (omega (arith, high, length-drop first items))) in rw get_or-drop (lt-leb (point_of (get_or items (first + k) d)) p (omega (arith, is))),
-    )
+    high : (k : ℕ) (d : X) → first ≤ k → k < length items → p ≤ point_of (get_or items k d)
+    high k d ge lt = let not = ltb-false _ p (below.1 k d ge lt) in omega (arith, not)
+
+    not_higher : (k : ℕ) (d : X) → k < after → point_of (get_or items k d) ≤ p
+    not_higher k d lt = let is = ltb-true _ (p + 1) (upto.0 k d (omega arith) lt) in omega (arith, is)
+
+    higher : (k : ℕ) (d : X) → after ≤ k → k < length items → p < point_of (get_or items k d)
+    higher k d ge lt = let not = ltb-false _ (p + 1) (upto.1 k d ge lt) in omega (arith, not)
+
+    -- between two cuts lie the items of a point
+    numbers : AreNumbersOf point_of items p first after
+    numbers = record {
+      rising = elim (cases_lt after first) [
+        | inl early ↦ let d = one_of items (omega (arith, early, first_in)) in absurd (omega (arith, low after d early, higher after d (omega arith) (omega (arith, early, first_in))))
+        | inr late ↦ late
+      ];
+      within = after_in;
+      exact = λ k d lt. (
+        λ h. omega (arith, high k d h.0 lt, not_higher k d h.1),
+        λ is. (
+          elim (cases_lt k first) [ | inl early ↦ absurd (omega (arith, is, low k d early)) | inr late ↦ late ],
+          elim (cases_lt k after) [ | inl early ↦ early | inr late ↦ absurd (omega (arith, is, higher k d late lt)) ],
+        ),
+      );
+    }
 
   -- the places of all points, and one after them
   pub record AreCuts (points : ℕ) (starts : List ℕ) : Type 0 where
@@ -66,7 +76,24 @@ module _ {X : Type 0} (point_of : X → ℕ) (items : List X) where
   pub cuts_are_starts : (points : ℕ) (starts : List ℕ) → AreCuts (points + 1) starts → AreStarts point_of points items starts
   cuts_are_starts points starts cuts = record {
     size = cuts.size;
-    rising = λ p lt. rises p (slice_index starts p) (slice_index starts (p + 1)) (cuts.cut p (omega (arith, lt))) (cuts.cut (p + 1) (omega (arith, lt))) (cuts.within p (omega (arith, lt)));
-    within = λ p lt. cuts.within (p + 1) (omega (arith, lt));
-    exact = λ p lt. lie_between p (slice_index starts p) (slice_index starts (p + 1)) (cuts.cut p (omega (arith, lt))) (cuts.cut (p + 1) (omega (arith, lt))) (cuts.within p (omega (arith, lt)));
+    numbers = λ p lt. numbers p (slice_index starts p) (slice_index starts (p + 1)) (cuts.cut p (omega (arith, lt))) (cuts.cut (p + 1) (omega (arith, lt))) (cuts.within p (omega (arith, lt))) (cuts.within (p + 1) (omega (arith, lt)));
   }
+
+  -- the items from the first number of a point up to the one after the last are those of the point
+  pub stretch_is : (p first after : ℕ) → AreNumbersOf point_of items p first after → (item : X) → Contains (take (after - first) (drop first items)) item ↔ (Contains items item × (point_of item ≡ p))
+  stretch_is p first after is item = (
+    λ (k, lt, at).
+        let size = length-take (after - first) (drop first items) in
+        let rest = length-drop first items in
+        let short : k < after - first = omega (arith, lt, size) in
+        let here : get_or items (first + k) item ≡ item = sym (get_or-drop first items k item) ∙ sym (get_or-take (after - first) (drop first items) k item short) ∙ at in
+        let inside : first + k < length items = omega (arith, short, is.within) in
+        ((first + k, inside, here), ap point_of (sym here) ∙ (is.exact (first + k) item inside).0 (omega (arith, short), omega (arith, short))),
+    λ ((k, lt, at), point).
+        let between = (is.exact k item lt).1 (ap point_of at ∙ point) in
+        let same : first + (k - first) ≡ k = omega (arith, between.0) in
+        let size = length-take (after - first) (drop first items) in
+        let rest = length-drop first items in
+        let short : k - first < after - first = omega (arith, between) in
+        (k - first, omega (arith, size, rest, short, is.within), get_or-take (after - first) (drop first items) (k - first) item short ∙ get_or-drop first items (k - first) item ∙ ap (λ n. get_or items n item) same ∙ at),
+  )

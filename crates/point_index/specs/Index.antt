@@ -1,5 +1,5 @@
 -- Items that begin at points.
-use Rattle.std.specs.Prelude.{◌≡◌, ◌↔◌, ℕ, ◌+◌, ◌-◌, ◌<◌, ◌≤◌, drop, take, slice_index, List, length}
+use Rattle.std.specs.Prelude.{◌≡◌, ◌↔◌, ℕ, ◌+◌, ◌<◌, ◌≤◌, slice_index, List, length, slice_index_or}
 use Rattle.std.specs.List.{Contains}
 use Rattle.std.specs.List.Sorted.{IsNonDecreasingBy}
 
@@ -16,13 +16,13 @@ HaveSame {X} items same = (item : X) → Contains same item ↔ Contains items i
 abbrev pub AreSorted : {X : Type 0} → (X → ℕ) → List X → Type 0
 AreSorted point_of items = IsNonDecreasingBy point_of items
 
--- the items between the start of a point and that of the next one
-abbrev pub stretch : {X : Type 0} → List X → List ℕ → ℕ → List X
-stretch items starts p = take (slice_index starts (p + 1) - slice_index starts p) (drop (slice_index starts p) items)
+-- the items of a point are those from one number up to another
+pub record AreNumbersOf {X : Type 0} (point_of : X → ℕ) (items : List X) (point first after : ℕ) : Type 0 where
+  pub rising : first ≤ after
+  pub within : after ≤ length items
+  pub exact : (k : ℕ) (d : X) → k < length items → ((first ≤ k) × (k < after)) ↔ (point_of (slice_index_or items k d) ≡ point)
 
--- Between its start and the next lie the items of each point.
+-- The items of each point lie between its start and the next one.
 pub record AreStarts {X : Type 0} (point_of : X → ℕ) (points : ℕ) (items : List X) (starts : List ℕ) : Type 0 where
   pub size : length starts ≡ points + 1
-  pub rising : (p : ℕ) → p < points → slice_index starts p ≤ slice_index starts (p + 1)
-  pub within : (p : ℕ) → p < points → slice_index starts (p + 1) ≤ length items
-  pub exact : (p : ℕ) → p < points → (item : X) → Contains (stretch items starts p) item ↔ (Contains items item × (point_of item ≡ p))
+  pub numbers : (p : ℕ) → p < points → AreNumbersOf point_of items p (slice_index starts p) (slice_index starts (p + 1))

@@ -8,6 +8,7 @@ ghost use Rattle.std.specs.Prelude.{IfOk, length, ◌+◌, ◌<◌, ◌^◌, ◌
 
 use std::alloc::{AllocError, Global};
 use std::marker::Model;
+use std::ops::Range;
 
 /// What begins at a point.
 pub trait OfPoint: Copy {
@@ -41,7 +42,7 @@ impl<T: OfPoint> Model for Index<T> {
 }
 
 impl<T: OfPoint> Index<T> {
-    /// The index of these items, over so many points.
+    /// The index of these items, over so many points. The order of items of one point is unspecified.
     ///
     /// # Errors
     ///
@@ -63,13 +64,23 @@ impl<T: OfPoint> Index<T> {
         &self.items
     }
 
+    /// The numbers of the items of a point: from the first one up to the one after the last.
+    pub fn numbers_of(&self, point: u32) -> Range<usize>
+        requires { point < self.now.points }
+        ensures { spec.AreNumbersOf T.point_of self.now.items point result.start result.end }
+    {
+        Range {
+            start: self.starts[point as usize],
+            end: self.starts[point as usize + 1],
+        }
+    }
+
     /// The items of a point.
     pub fn of_point(&self, point: u32) -> &[T]
         requires { point < self.now.points }
         ensures { (item : T) → Contains result.now item ↔ (Contains self.now.items item × (T.point_of item ≡ point)) }
     {
-        let start = self.starts[point as usize];
-        let end = self.starts[point as usize + 1];
+        let Range { start, end } = self.numbers_of(point);
         &self.items[start..end]
     }
 }
