@@ -1,16 +1,11 @@
 -- Items that begin at points.
 use Rattle.std.specs.Prelude.{◌≡◌, ◌↔◌, ℕ, ◌+◌, ◌<◌, ◌≤◌, slice_index, List, length, slice_index_or}
-use Rattle.std.specs.List.{Contains}
 use Rattle.std.specs.List.Sorted.{IsNonDecreasingBy}
 
 -- how many points there are, and the items
 pub record PlainIndex (X : Type 0) : Type 0 where
   pub points : ℕ
   pub items : List X
-
--- the same items, in any order and number
-abbrev pub HaveSame : {X : Type 0} → List X → List X → Type 0
-HaveSame {X} items same = (item : X) → Contains same item ↔ Contains items item
 
 -- the items with the lowest point come first
 abbrev pub AreSorted : {X : Type 0} → (X → ℕ) → List X → Type 0

@@ -2,8 +2,8 @@
 #![tactic(auto)]
 
 ghost use Rattle.point_index.specs.Index as spec;
-ghost use Rattle.point_index.specs.Index.{HaveSame};
 ghost use Rattle.std.specs.List.{Contains};
+ghost use Rattle.std.specs.List.Sorted.{IsPermutation};
 ghost use Rattle.std.specs.Prelude.{IfOk, length, ◌+◌, ◌<◌, ◌^◌, ◌≡◌, ◌≤◌, ◌↔◌};
 
 use std::alloc::{AllocError, Global};
@@ -50,7 +50,7 @@ impl<T: OfPoint> Index<T> {
     pub fn new(alloc: Global, mut items: Vec<T>, points: u32) -> Result<Index<T>, AllocError>
         requires { points < 2 ^ 31 }
         ensures points { IfOk result (λ index. index.points ≡ points) }
-        ensures items { IfOk result (λ index. HaveSame items.items index.items) }
+        ensures items { IfOk result (λ index. IsPermutation items.items index.items) }
     {
         items.sort_unstable_by_key(|item| item.point());
         let starts = starts_of(alloc, &items, points)?;

@@ -1,5 +1,5 @@
 use Rattle.std.proofs.Common.{◌≡◌, ℕ, ◌-◌, length, sym, subst, arith, rules}
-use Rattle.std.proofs.lemmas.List.Sorted.{Contains-permutation, IsNonDecreasingBy-from_sort_by_key, IsPermutation-sym}
+use Rattle.std.proofs.lemmas.List.Sorted.{IsNonDecreasingBy-from_sort_by_key}
 use Rattle.point_index.specs.Index.{AreSorted, AreStarts}
 use Rattle.point_index.proofs.Index.new.Goals as goal
 
@@ -14,10 +14,3 @@ invariant_of-result g c =
     let starts = c.in_ok-starts.starts.items in
     let count : c.args.points ≡ length starts - 1 = omega (arith, c.in_ok-starts.ensures.size) in
     subst (λ (n : ℕ). AreStarts point_of n c.sort_unstable_by_key.new.self.items starts) count (subst (λ items. AreStarts point_of c.args.points items starts) c.deref.ensures.value c.in_ok-starts.ensures.starts)
-
-pub returns-clause-items : goal.returns-clause-items
-returns-clause-items g c =
-    let old = c.args.items.items in
-    let new = c.sort_unstable_by_key.new.self.items in
-    let moved = c.sort_unstable_by_key.ensures.permutation in
-    λ item. (Contains-permutation new old item (IsPermutation-sym old new moved), Contains-permutation old new item moved)

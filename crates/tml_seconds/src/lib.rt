@@ -1,0 +1,11 @@
+//! Placings of intervals in whole seconds, or cycles of constraints that show that there is none.
+#![tactic(auto)]
+
+mod cycle;
+mod edges;
+mod falls;
+mod deciding;
+mod placing;
+mod round;
+
+pub use deciding::{PlaceFault, place};
