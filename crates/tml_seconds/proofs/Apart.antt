@@ -1,6 +1,6 @@
 -- Numbers below n that are all apart are at most n.
-use Rattle.std.proofs.Common.{◌≡◌, ◌≢◌, ℕ, ◌<◌, ◌≤◌, ◌==◌, Bool, true, false, List, length, get_or, eqb, refl, sym, subst, arith, inl, inr}
-use Rattle.std.specs.List.{All, list_any}
+use Rattle.std.proofs.Common.{◌≡◌, ℕ, ◌<◌, ◌≤◌, Bool, true, false, List, length, get_or, eqb, refl, sym, subst}
+use Rattle.std.specs.List.{All}
 use Rattle.std.proofs.lemmas.Bool.{eqb-true}
 use Rattle.std.proofs.lemmas.List.Elements.{All-contains}
 use Rattle.std.proofs.lemmas.List.Folds.{Any-from_list_any}
@@ -16,5 +16,5 @@ not_eqb a b apart = not_eqb_by a b (eqb a b) refl apart
 
 pub few_apart : (xs : List ℕ) (n : ℕ) → ((i j d : ℕ) → i < j → j < length xs → get_or xs i d ≡ get_or xs j d → ⊥) → All (λ x. x < n) xs → length xs ≤ n
 few_apart xs n apart below = length-le_from_distinct_below xs n
-  (IsDistinct-from_apart eqb xs (λ i j d lt lj. not_eqb (get_or xs i d) (get_or xs j d) (apart i j d lt lj)))
-  (λ q is. let any = Any-from_list_any (eqb q) xs is in subst (λ m. m < n) (sym (eqb-true q any.1 any.4)) (All-contains (λ x. x < n) xs any.1 below (any.0, any.2, any.3)))
+    (IsDistinct-from_apart eqb xs (λ i j d lt lj. not_eqb (get_or xs i d) (get_or xs j d) (apart i j d lt lj)))
+    (λ q is. let any = Any-from_list_any (eqb q) xs is in subst (λ m. m < n) (sym (eqb-true q any.1 any.4)) (All-contains (λ x. x < n) xs any.1 below (any.0, any.2, any.3)))

@@ -1,5 +1,5 @@
 -- The edges of a net are all its constraints.
-use Rattle.std.proofs.Common.{◌≡◌, ℕ, zero, suc, pos, neg_ℤ, option_map, [], ◌+◌, ◌*◌, ◌<◌, ◌≤◌, nat_lt, true, false, List, length, Option, Some, None, inl, inr, refl, sym, ap, subst, ◌∙◌, arith}
+use Rattle.std.proofs.Common.{◌≡◌, ℕ, zero, suc, neg_ℤ, option_map, [], ◌+◌, ◌*◌, ◌<◌, ◌≤◌, List, length, Option, Some, None, inl, inr, refl, sym, ap, subst, ◌∙◌, arith}
 use Rattle.std.specs.List.{All, Contains, slice_get}
 use Rattle.std.proofs.lemmas.Bool.{cases_lt, le-ltb}
 use Rattle.std.proofs.lemmas.List.Elements.{All-contains, All-contains_itself, All-nil, All-weaker}
@@ -12,10 +12,9 @@ use Rattle.net_core.specs.Steps.{atom_of}
 use Rattle.net_core.specs.declared.net.NetLink.{NetLink}
 use Rattle.net_core.specs.declared.step.Step.TheVariants.{Link}
 use Rattle.net_core.proofs.AtomLaws.{atoms_counted, few_orders}
-use Rattle.seconds_core.specs.declared.line.Constraint.{Constraint}
 use Rattle.seconds_core.specs.declared.line.Line.{Line}
 use Rattle.seconds_core.specs.declared.line.Line.TheVariants.{Span, Via, Lower, Upper, Least, Most}
-use Rattle.seconds_core.specs.Constraints.{IsWithin, at_most, constraint_by, constraint_of}
+use Rattle.seconds_core.specs.Constraints.{at_most, constraint_by, constraint_of}
 use Rattle.seconds_core.specs.declared.timed.Limits.{Limits}
 use Rattle.seconds_core.specs.Timed.{IsTimed, PlainTimed, origin}
 use Rattle.seconds_core.proofs.InRange.{limits_past, lower_past, upper_past}
@@ -99,12 +98,12 @@ module _ (timed : PlainTimed) (edges : List Edge) (is : IsTimed timed)
     (by_point : (p : ℕ) → p < points timed.net → CoversAll timed edges (IsOfPoint p))
     (by_link : (k : ℕ) → k < length timed.net.links → CoversAll timed edges (IsOfLink k)) where
   whole : (line : Line) → Covers timed edges line
-  whole (Span i) = elim (cases_lt i (intervals timed.net)) [ | inl lt ↦ by_interval i lt (Span i) refl | inr ge ↦ nothing_named timed edges (Span i) (let past = le-ltb i (intervals timed.net) (omega (arith, ge)) in rw past refl) ]
-  whole (Least i) = elim (cases_lt i (intervals timed.net)) [ | inl lt ↦ by_interval i lt (Least i) refl | inr ge ↦ nothing_named timed edges (Least i) (ap (λ (l : Limits). option_map (λ n. at_most (2 * i + 1) (2 * i) (neg_ℤ n)) l.least) (limits_past timed i is (omega (arith, ge)))) ]
-  whole (Most i) = elim (cases_lt i (intervals timed.net)) [ | inl lt ↦ by_interval i lt (Most i) refl | inr ge ↦ nothing_named timed edges (Most i) (ap (λ (l : Limits). option_map (λ n. at_most (2 * i) (2 * i + 1) n) l.most) (limits_past timed i is (omega (arith, ge)))) ]
-  whole (Lower p) = elim (cases_lt p (points timed.net)) [ | inl lt ↦ by_point p lt (Lower p) refl | inr ge ↦ nothing_named timed edges (Lower p) (ap (option_map (λ n. at_most p (origin timed) (neg_ℤ n))) (lower_past timed p (omega (arith, ge)))) ]
-  whole (Upper p) = elim (cases_lt p (points timed.net)) [ | inl lt ↦ by_point p lt (Upper p) refl | inr ge ↦ nothing_named timed edges (Upper p) (ap (option_map (λ n. at_most (origin timed) p n)) (upper_past timed p (omega (arith, ge)))) ]
-  whole (Via k atom) = elim (cases_lt k (length timed.net.links)) [ | inl lt ↦ by_link k lt (Via k atom) refl | inr ge ↦ nothing_named timed edges (Via k atom) (link_past timed k atom (omega (arith, ge))) ]
+  whole (Span i) = elim (cases_lt i (intervals timed.net)) [ inl lt ↦ by_interval i lt (Span i) refl | inr ge ↦ nothing_named timed edges (Span i) (let past = le-ltb i (intervals timed.net) (omega (arith, ge)) in rw past refl) ]
+  whole (Least i) = elim (cases_lt i (intervals timed.net)) [ inl lt ↦ by_interval i lt (Least i) refl | inr ge ↦ nothing_named timed edges (Least i) (ap (λ (l : Limits). option_map (λ n. at_most (2 * i + 1) (2 * i) (neg_ℤ n)) l.least) (limits_past timed i is (omega (arith, ge)))) ]
+  whole (Most i) = elim (cases_lt i (intervals timed.net)) [ inl lt ↦ by_interval i lt (Most i) refl | inr ge ↦ nothing_named timed edges (Most i) (ap (λ (l : Limits). option_map (λ n. at_most (2 * i) (2 * i + 1) n) l.most) (limits_past timed i is (omega (arith, ge)))) ]
+  whole (Lower p) = elim (cases_lt p (points timed.net)) [ inl lt ↦ by_point p lt (Lower p) refl | inr ge ↦ nothing_named timed edges (Lower p) (ap (option_map (λ n. at_most p (origin timed) (neg_ℤ n))) (lower_past timed p (omega (arith, ge)))) ]
+  whole (Upper p) = elim (cases_lt p (points timed.net)) [ inl lt ↦ by_point p lt (Upper p) refl | inr ge ↦ nothing_named timed edges (Upper p) (ap (option_map (λ n. at_most (origin timed) p n)) (upper_past timed p (omega (arith, ge)))) ]
+  whole (Via k atom) = elim (cases_lt k (length timed.net.links)) [ inl lt ↦ by_link k lt (Via k atom) refl | inr ge ↦ nothing_named timed edges (Via k atom) (link_past timed k atom (omega (arith, ge))) ]
 
 -- the same edges in another order are all constraints too
 pub edges_are : (timed : PlainTimed) (a b c d sorted : List Edge) (m n o : ℕ) → IsTimed timed → a ≡ [] → Grows timed a b m → Grows timed b c n → Grows timed c d o
@@ -115,8 +114,8 @@ pub edges_are : (timed : PlainTimed) (a b c d sorted : List Edge) (m n o : ℕ) 
 edges_are timed a b c d sorted m n o is none g h i by_interval by_point by_link same =
     let all : All (IsEdge timed) d = i.named (h.named (g.named (subst (All (IsEdge timed)) (sym none) (All-nil (IsEdge timed))))) in
     let covers = whole timed d is
-      (λ j lt. covers_all_yet timed c d o (IsOfInterval j) i (covers_all_yet timed b c n (IsOfInterval j) h (by_interval j lt)))
-      (λ p lt. covers_all_yet timed c d o (IsOfPoint p) i (by_point p lt)) by_link in
+    (λ j lt. covers_all_yet timed c d o (IsOfInterval j) i (covers_all_yet timed b c n (IsOfInterval j) h (by_interval j lt)))
+    (λ p lt. covers_all_yet timed c d o (IsOfPoint p) i (by_point p lt)) by_link in
     record {
       named = All-weaker (Contains sorted) (IsEdge timed) (λ edge in_sorted. All-contains (IsEdge timed) d edge all (Contains-permutation sorted d edge (IsPermutation-sym d sorted same) in_sorted)) sorted (All-contains_itself sorted);
       whole = λ line con named. Contains-permutation d sorted (record { line = line; constraint = con }) same (covers line con named);

@@ -5,3 +5,5 @@ pub mod RoundLaws
 pub mod SearchLaws
 pub mod WayBack
 pub mod Settling
+pub mod Meetings
+pub mod Counted

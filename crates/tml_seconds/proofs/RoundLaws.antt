@@ -1,5 +1,5 @@
 -- One round of falls, edge by edge.
-use Rattle.std.proofs.Common.{◌≡◌, ◌≢◌, ◌↔◌, ◌⊎◌, ℕ, ◌+◌, ◌<◌, ◌≤◌, ℤ, pos, ◌+ℤ◌, ◌<ℤ◌, ◌≤ℤ◌, List, [], length, set, get_or, inl, inr, refl, sym, ap, subst, ◌∙◌, arith}
+use Rattle.std.proofs.Common.{◌≡◌, ◌⊎◌, ℕ, ◌+◌, ◌<◌, ℤ, pos, ◌<ℤ◌, ◌≤ℤ◌, List, [], length, set, get_or, inl, inr, refl, sym, ap, subst, ◌∙◌, arith}
 use Rattle.std.specs.List.{All, Contains}
 use Rattle.std.proofs.lemmas.Bool.{cases_eq, cases_lt}
 use Rattle.std.proofs.lemmas.Int.{ints}
@@ -17,7 +17,7 @@ use Rattle.tml_seconds.specs.Rounds.{ComesBefore, IsRound, Puts, head_at, led_to
 
 one_more : (k e l f : ℕ) → ComesBefore k e l (f + 1) → ComesBefore k e l f ⊎ ((k ≡ l) × (e ≡ f))
 one_more k e l f (inl less) = inl (inl less)
-one_more k e l f (inr (same, less)) = elim (cases_lt e f) [ | inl before ↦ inl (inr (same, before)) | inr last ↦ inr (same, omega (arith, last, less)) ]
+one_more k e l f (inr (same, less)) = elim (cases_lt e f) [ inl before ↦ inl (inr (same, before)) | inr last ↦ inr (same, omega (arith, last, less)) ]
 
 abbrev pub no_edge : Edge
 no_edge = record { line = Span 0; constraint = at_most 0 0 (pos 0) }
@@ -34,7 +34,7 @@ module _ (edges : List Edge) (heads : List Head) (old : List ℤ) where
     gives = All-nil (λ (x : Fall). second_at old x.point ≡ led_to edges heads x.back x.edge);
     lower = All-nil (λ (x : Fall). second_at old x.point <ℤ second_at old x.point);
     stays = λ p. inl refl;
-    met = λ k e lk le before at. elim before [ | inl less ↦ absurd (omega (arith, less)) | inr (same, less) ↦ absurd (omega (arith, less)) ];
+    met = λ k e lk le before at. elim before [ inl less ↦ absurd (omega (arith, less)) | inr (same, less) ↦ absurd (omega (arith, less)) ];
   }
 
   module _ (new : List ℤ) (falls : List Fall) (l f : ℕ) (round : IsRound edges heads old new falls l f) where
@@ -48,7 +48,14 @@ module _ (edges : List Edge) (heads : List Head) (old : List ℤ) where
     -- the next edge is met already
     pub round_stays : (second_at new (edge_at edges f).constraint.to ≤ℤ led_to edges heads l f) → IsRound edges heads old new falls l (f + 1)
     round_stays is = record {
-      size = round.size; edge = round.edge; back = round.back; from = round.from; to = round.to; gives = round.gives; lower = round.lower; stays = round.stays;
+      size = round.size;
+      edge = round.edge;
+      back = round.back;
+      from = round.from;
+      to = round.to;
+      gives = round.gives;
+      lower = round.lower;
+      stays = round.stays;
       met = λ k e lk le before at. elim (one_more k e l f before) [
         | inl so_far ↦ round.met k e lk le so_far at
         | inr (head, edge) ↦ subst (λ m. second_at new (edge_at edges e).constraint.to ≤ℤ led_to edges heads m e) (sym head) (subst (λ m. second_at new (edge_at edges m).constraint.to ≤ℤ led_to edges heads l m) (sym edge) is)
@@ -94,9 +101,9 @@ module _ (edges : List Edge) (heads : List Head) (old : List ℤ) where
         stays = λ p. elim (cases_eq p fallen.point) [
           | inl same ↦ inr (fallen, (puts fallen).1 (inl refl), sym same)
           | inr apart ↦ elim (round.stays p) [
-              | inl as_before ↦ inl (elsewhere p apart ∙ as_before)
-              | inr (x, has, at) ↦ inr (x, (puts x).1 (inr (has, λ e. apart (sym at ∙ e))), at)
-            ]
+            | inl as_before ↦ inl (elsewhere p apart ∙ as_before)
+            | inr (x, has, at) ↦ inr (x, (puts x).1 (inr (has, λ e. apart (sym at ∙ e))), at)
+          ]
         ];
         met = λ k e lk le before at. elim (one_more k e l f before) [
           | inl so_far ↦ omega (arith, ints, lowered (edge_at edges e).constraint.to, round.met k e lk le so_far at)
@@ -111,7 +118,14 @@ module _ (edges : List Edge) (heads : List Head) (old : List ℤ) where
     -- the edges before those of a point lead from others
     pub from_first : IsRound edges heads old new falls l 0 → IsRound edges heads old new falls l first
     from_first round = record {
-      size = round.size; edge = round.edge; back = round.back; from = round.from; to = round.to; gives = round.gives; lower = round.lower; stays = round.stays;
+      size = round.size;
+      edge = round.edge;
+      back = round.back;
+      from = round.from;
+      to = round.to;
+      gives = round.gives;
+      lower = round.lower;
+      stays = round.stays;
       met = λ k e lk le before at. elim before [
         | inl less ↦ round.met k e lk le (inl less) at
         | inr (same, less) ↦ let its = (numbers.exact e (edge_at edges e) le).1 (edge_read e (edge_at edges e) le ∙ at ∙ ap (λ m. (head_at heads m).point) same) in absurd (omega (arith, less, its.0))
@@ -121,15 +135,22 @@ module _ (edges : List Edge) (heads : List Head) (old : List ℤ) where
     -- and so do those after them
     pub after_last : IsRound edges heads old new falls l after → IsRound edges heads old new falls (l + 1) 0
     after_last round = record {
-      size = round.size; edge = round.edge; back = round.back; from = round.from; to = round.to; gives = round.gives; lower = round.lower; stays = round.stays;
+      size = round.size;
+      edge = round.edge;
+      back = round.back;
+      from = round.from;
+      to = round.to;
+      gives = round.gives;
+      lower = round.lower;
+      stays = round.stays;
       met = λ k e lk le before at. elim before [
         | inl less ↦ elim (cases_lt k l) [
-            | inl sooner ↦ round.met k e lk le (inl sooner) at
-            | inr last ↦
-                let same : k ≡ l = omega (arith, last, less) in
-                let its = (numbers.exact e (edge_at edges e) le).1 (edge_read e (edge_at edges e) le ∙ at ∙ ap (λ m. (head_at heads m).point) same) in
-                round.met k e lk le (inr (same, its.1)) at
-          ]
+          | inl sooner ↦ round.met k e lk le (inl sooner) at
+          | inr last ↦
+              let same : k ≡ l = omega (arith, last, less) in
+              let its = (numbers.exact e (edge_at edges e) le).1 (edge_read e (edge_at edges e) le ∙ at ∙ ap (λ m. (head_at heads m).point) same) in
+              round.met k e lk le (inr (same, its.1)) at
+        ]
         | inr (same, less) ↦ absurd (omega (arith, less))
       ];
     }

@@ -1,20 +1,18 @@
 -- A search, from round to round.
-use Rattle.std.proofs.Common.{◌≡◌, ◌≢◌, ◌⊎◌, ℕ, suc, ◌+◌, ◌*◌, ◌<◌, ◌≤◌, ℤ, pos, neg_ℤ, ◌+ℤ◌, ◌<ℤ◌, ◌≤ℤ◌, List, [], ◌∷◌, ◌++◌, length, map, replicate, get_or, inl, inr, refl, sym, ap, subst, ◌∙◌, arith}
+use Rattle.std.proofs.Common.{◌≡◌, ◌⊎◌, ℕ, suc, ◌+◌, ◌<◌, ◌≤◌, ℤ, pos, ◌+ℤ◌, ◌<ℤ◌, ◌≤ℤ◌, List, [], ◌∷◌, ◌++◌, length, map, replicate, inl, inr, sym, ap, subst, ◌∙◌, arith}
 use Rattle.std.specs.List.{All, Contains}
 use Rattle.std.proofs.lemmas.Bool.{cases_lt}
 use Rattle.std.proofs.lemmas.Int.{ints}
 use Rattle.std.proofs.lemmas.List.{get_or-map, get_or-replicate, get_or_append_left, get_or_default, get_or_push, length-map, length-replicate, length_push}
 use Rattle.std.proofs.lemmas.List.Elements.{All-contains, All-contains_itself, All-from_get_or, All-get_or, All-weaker}
-use Rattle.seconds_core.specs.Constraints.{IsMet}
 use Rattle.seconds_core.specs.Placed.{second_at}
-use Rattle.seconds_core.specs.Timed.{max_second}
 use Rattle.tml_seconds.specs.declared.edges.Edge.{Edge}
 use Rattle.tml_seconds.specs.declared.falls.Fall.{Fall}
 use Rattle.tml_seconds.specs.declared.falls.Head.{Head}
 use Rattle.tml_seconds.specs.Edges.{AreInside, IsInside, edge_at}
-use Rattle.tml_seconds.specs.Falls.{AreRounds, IsBelow, IsFall, Rounds, fall_at, point_of, second_of, width}
+use Rattle.tml_seconds.specs.Falls.{IsFall, Rounds, fall_at, second_of}
 use Rattle.tml_seconds.specs.Rounds.{AreAtStart, IsRound, head_at, head_of, led_to}
-use Rattle.tml_seconds.specs.Search.{AreSettled, HasHead, IsHead, IsNear, IsSearch, PlainSearch, max_rounds}
+use Rattle.tml_seconds.specs.Search.{AreSettled, IsHead, IsNear, IsSearch, PlainSearch, max_rounds}
 use Rattle.tml_seconds.proofs.PutLaws.{no_fall}
 use Rattle.tml_seconds.proofs.RoundLaws.{no_edge, not_later}
 
@@ -53,9 +51,16 @@ search_begins points heads edges (size, at) inside =
 pub search_settles : (edges : List Edge) (points : ℕ) (search : PlainSearch) → length search.rounds ≤ points → points ≤ max_rounds → search.heads ≡ [] → IsSearch edges points search → AreSettled edges points search.seconds
 search_settles edges points search rounds few none is = record {
   size = is.size;
-  met = λ e lt. elim (is.settled e lt) [ | inl met ↦ met | inr (k, less, at) ↦ absurd (omega (arith, less, ap length none)) ];
+  met = λ e lt. elim (is.settled e lt) [ inl met ↦ met | inr (k, less, at) ↦ absurd (omega (arith, less, ap length none)) ];
   near = All-weaker (IsNear (length search.rounds)) (IsNear max_rounds) (λ s near. (omega (arith, ints, near.0, rounds, few), near.1)) search.seconds is.near;
 }
+
+module _ (edges : List Edge) (points : ℕ) (search : PlainSearch) (inside : AreInside points edges) (rounds_few : length search.rounds ≤ max_rounds) (is : IsSearch edges points search) where
+  pub heads_inside : All (λ (head : Head). (head.point < points) × IsNear max_rounds head.second) search.heads
+  heads_inside = All-from_get_or (λ (head : Head). (head.point < points) × IsNear max_rounds head.second) search.heads (record { point = 0; second = pos 0 }) (λ k lt.
+      let head = is.heads k lt in
+      let near : IsNear (length search.rounds) (head_at search.heads k).second = subst (IsNear (length search.rounds)) (sym head.stands) (All-get_or (IsNear (length search.rounds)) search.seconds (head_at search.heads k).point (pos 0) head.inside is.near) in
+      (omega (arith, head.inside, is.size), (omega (arith, ints, near.0, rounds_few), near.1)))
 
 module _ (edges : List Edge) (points : ℕ) (search : PlainSearch) (new : List ℤ) (falls : List Fall) (inside : AreInside points edges)
     (is : IsSearch edges points search) (round : IsRound edges search.heads search.seconds new falls (length search.heads) 0) where
@@ -93,7 +98,7 @@ module _ (edges : List Edge) (points : ℕ) (search : PlainSearch) (new : List �
     to = to_of x has;
     inside = fall_inside x has;
     below = is.lowest x.point (second_of edges rounds x.back +ℤ (edge_at edges x.edge).constraint.weight) (fall_inside x has)
-      (let lower_than = All-contains (λ (y : Fall). second_at new y.point <ℤ second_at old y.point) falls x round.lower has in omega (arith, ints, lower_than, led x has));
+        (let lower_than = All-contains (λ (y : Fall). second_at new y.point <ℤ second_at old y.point) falls x round.lower has in omega (arith, ints, lower_than, led x has));
   }
 
   abbrev heads_now : List Head
@@ -148,13 +153,13 @@ module _ (edges : List Edge) (points : ℕ) (search : PlainSearch) (new : List �
     settled = λ e lt. elim (stood (edge_at edges e).constraint.from) [
       | inr head ↦ inr head
       | inl same ↦ elim (is.settled e lt) [
-          | inl met ↦ inl (omega (arith, ints, same, met, lower (edge_at edges e).constraint.to))
-          | inr (k, lk, at) ↦
-              let head = is.heads k lk in
-              let met = round.met k e lk lt (inl lk) at in
-              let from : second_at old (edge_at edges e).constraint.from ≡ (head_at search.heads k).second = ap (second_at old) at ∙ sym head.stands in
-              inl (omega (arith, ints, met, from, same))
-        ]
+        | inl met ↦ inl (omega (arith, ints, same, met, lower (edge_at edges e).constraint.to))
+        | inr (k, lk, at) ↦
+            let head = is.heads k lk in
+            let met = round.met k e lk lt (inl lk) at in
+            let from : second_at old (edge_at edges e).constraint.from ≡ (head_at search.heads k).second = ap (second_at old) at ∙ sym head.stands in
+            inl (omega (arith, ints, met, from, same))
+      ]
     ];
     near = All-from_get_or (IsNear (suc (length rounds))) new (pos 0) (λ p lt. near_now p (omega (arith, lt, round.size, is.size)));
   }

@@ -1,16 +1,13 @@
 -- Points that no longer fall are placed, counted from the origin.
-use Rattle.std.proofs.Common.{◌≡◌, ℕ, ◌+◌, ◌<◌, ◌≤◌, ℤ, pos, ◌+ℤ◌, ◌-ℤ◌, ◌<ℤ◌, ◌≤ℤ◌, List, length, get_or, Some, inl, inr, refl, sym, ap, subst, ◌∙◌, arith}
-use Rattle.std.specs.List.{All, Contains}
+use Rattle.std.proofs.Common.{◌≡◌, ℕ, ◌+◌, ◌<◌, ◌≤◌, ℤ, pos, ◌-ℤ◌, List, length, inl, inr, sym, ap, subst, ◌∙◌, arith}
 use Rattle.std.proofs.lemmas.Bool.{cases_lt}
 use Rattle.std.proofs.lemmas.Int.{ints}
 use Rattle.std.proofs.lemmas.List.{get_or_default, get_or_past}
 use Rattle.std.proofs.lemmas.List.Elements.{All-contains}
-use Rattle.seconds_core.specs.Constraints.{IsMet, constraint_of}
+use Rattle.seconds_core.specs.Constraints.{IsMet}
 use Rattle.seconds_core.specs.Laws.{MeetsAll}
 use Rattle.seconds_core.specs.Placed.{IsPlaced, second_at}
 use Rattle.seconds_core.specs.Timed.{IsTimed, PlainTimed, origin}
-use Rattle.seconds_core.specs.declared.line.Constraint.{Constraint}
-use Rattle.seconds_core.specs.declared.line.Line.{Line}
 use Rattle.seconds_core.proofs.Kept.{constraints_say_what_is_placed}
 use Rattle.tml_seconds.specs.declared.edges.Edge.{Edge}
 use Rattle.tml_seconds.specs.Edges.{AreEdges, IsEdge, edge_at}
@@ -28,10 +25,10 @@ settled_is_placed timed edges seconds counted is are settled size same =
       | inr ge ↦ let last : p ≡ origin timed = omega (arith, ge, le) in get_or_past counted p (pos 0) (omega (arith, ge, count)) ∙ subst (λ q. pos 0 ≡ second_at seconds q -ℤ second_at seconds (origin timed)) (sym last) (omega (arith, ints))
     ] in
     let meets : MeetsAll timed counted = λ line c named.
-        let (k, lt, found) = are.whole line c named in
-        let edge : Edge = record { line = line; constraint = c } in
-        let here : edge_at edges k ≡ edge = get_or_default edges k no_edge edge lt ∙ found in
-        let met : IsMet seconds c = subst (λ (e : Edge). IsMet seconds e.constraint) here (settled.met k lt) in
-        let within = (All-contains (IsEdge timed) edges edge are.named (k, lt, found)).1 in
-        omega (arith, ints, met, at c.to within.to, at c.from within.from) in
+    let (k, lt, found) = are.whole line c named in
+    let edge : Edge = record { line = line; constraint = c } in
+    let here : edge_at edges k ≡ edge = get_or_default edges k no_edge edge lt ∙ found in
+    let met : IsMet seconds c = subst (λ (e : Edge). IsMet seconds e.constraint) here (settled.met k lt) in
+    let within = (All-contains (IsEdge timed) edges edge are.named (k, lt, found)).1 in
+    omega (arith, ints, met, at c.to within.to, at c.from within.from) in
     (constraints_say_what_is_placed timed counted is).1 (count, meets)

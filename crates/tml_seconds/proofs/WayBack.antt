@@ -1,20 +1,34 @@
 -- The way back from a fall: where it meets a point twice, the lines between are a negative cycle.
-use Rattle.std.proofs.Common.{◌≡◌, ℕ, zero, suc, ◌+◌, ◌-◌, ◌<◌, ◌≤◌, ℤ, pos, ◌+ℤ◌, ◌<ℤ◌, List, [], ◌∷◌, ◌++◌, length, reverse, take, drop, get_or, slice_index, Option, Some, inl, inr, refl, sym, ap, subst, ◌∙◌, arith}
-use Rattle.std.specs.List.{All, Contains}
+use Rattle.std.proofs.Common.{◌≡◌, ℕ, zero, suc, ◌+◌, ◌-◌, ◌<◌, ◌≤◌, ℤ, ◌+ℤ◌, ◌<ℤ◌, List, [], ◌∷◌, ◌++◌, length, reverse, take, drop, get_or, slice_index, Option, Some, None, refl, sym, ap, subst, ◌∙◌, arith}
+use Rattle.std.specs.Prelude.{MatchOption}
+use Rattle.std.specs.List.{All}
 use Rattle.std.proofs.lemmas.Int.{ints}
-use Rattle.std.proofs.lemmas.List.{get_or_default, length-drop, reverse-append}
-use Rattle.std.proofs.lemmas.List.Elements.{All-contains, All-get_or}
+use Rattle.std.proofs.lemmas.List.{get_or_default, length-drop, length-take, reverse-append}
+use Rattle.std.proofs.lemmas.List.Elements.{All-get_or}
 use Rattle.seconds_core.specs.Constraints.{constraint_of}
 use Rattle.seconds_core.specs.Cycles.{IsJoined, IsNegative, sum_of, weight_in}
 use Rattle.seconds_core.specs.Timed.{PlainTimed}
-use Rattle.seconds_core.specs.declared.line.Constraint.{Constraint}
 use Rattle.seconds_core.specs.declared.line.Line.{Line}
 use Rattle.tml_seconds.specs.declared.edges.Edge.{Edge}
 use Rattle.tml_seconds.specs.declared.falls.Fall.{Fall}
 use Rattle.tml_seconds.specs.Edges.{IsEdge, edge_at}
 use Rattle.tml_seconds.specs.Falls.{AreRounds, IsBelow, IsFall, Rounds, fall_at, lines_back, point_of, points_back, second_of, width}
+use Rattle.tml_seconds.specs.declared.cycle.Meeting.{Meeting}
+use Rattle.tml_seconds.specs.Meetings.{AreApart, Meet}
+use Rattle.tml_seconds.proofs.Apart.{few_apart}
 use Rattle.tml_seconds.proofs.PutLaws.{no_fall}
 use Rattle.tml_seconds.proofs.RoundLaws.{no_edge}
+
+-- a part of lines has no more
+pub few_lines : (lines : List Line) (first again : ℕ) → length (take (again - first) (drop first lines)) ≤ length lines
+few_lines lines first again = omega (arith, length-take (again - first) (drop first lines), length-drop first lines)
+
+-- a meeting of points on the way back
+pub meet_of : (met : List ℕ) (found : Option Meeting) (m : Meeting) → MatchOption found (AreApart met) (λ m. Meet met m.first m.again) → found ≡ Some m → Meet met m.first m.again
+meet_of met found m is same = subst (λ (o : Option Meeting). MatchOption o (AreApart met) (λ m. Meet met m.first m.again)) same is
+
+pub none_met : (met : List ℕ) (found : Option Meeting) → MatchOption found (AreApart met) (λ m. Meet met m.first m.again) → found ≡ None → AreApart met
+none_met met found is same = subst (λ (o : Option Meeting). MatchOption o (AreApart met) (λ m. Meet met m.first m.again)) same is
 
 -- the fall that is so many rounds back
 abbrev pub back_by : Rounds → ℕ → ℕ → ℕ
@@ -90,7 +104,7 @@ module _ (timed : PlainTimed) (edges : List Edge) (points : ℕ) (named : All (I
       let edge = edge_at edges (fall_at falls k).edge in
       let before = leads_on older back n are.1 fall.back (omega (arith, le)) in
       let all = joined_on timed (reverse (take n (lines_back edges older back))) (edge.line ∷ []) (point_of (drop n older) (back_by older back n)) (point_of older back) (fall_at falls k).point before
-        (edge.constraint, named_at (fall_at falls k).edge fall.edge, fall.from, fall.to) in
+      (edge.constraint, named_at (fall_at falls k).edge fall.edge, fall.from, fall.to) in
       subst (λ ls. IsJoined timed ls (point_of (drop n older) (back_by older back n)) (fall_at falls k).point) (sym (reverse-append (edge.line ∷ []) (take n (lines_back edges older back)))) all
 
   -- and their sum is the difference of seconds
@@ -129,9 +143,28 @@ module _ (timed : PlainTimed) (edges : List Edge) (points : ℕ) (named : All (I
       let count : suc m ≡ again - first = omega (arith, before) in
       let size : length rest + first ≡ length rounds = omega (arith, length-drop first rounds, before, le) in
       let meets : point_of rest from ≡ point_of (drop (suc m) rest) (back_by rest from (suc m)) =
-          sym (point_back rounds k first (omega (arith, before, le))) ∙ same ∙ point_back rounds k again le
-          ∙ ap (λ n. point_of (drop n rounds) (back_by rounds k n)) (sym far)
-          ∙ sym (ap (point_of (drop (suc m) rest)) (back_on rounds k first (suc m) (omega (arith, before, le))) ∙ ap (λ (r : Rounds). point_of r (back_by rounds k (first + (suc m)))) (drop_on rounds first (suc m) (omega (arith, before, le)))) in
+      sym (point_back rounds k first (omega (arith, before, le))) ∙ same ∙ point_back rounds k again le
+      ∙ ap (λ n. point_of (drop n rounds) (back_by rounds k n)) (sym far)
+      ∙ sym (ap (point_of (drop (suc m) rest)) (back_on rounds k first (suc m) (omega (arith, before, le))) ∙ ap (λ (r : Rounds). point_of r (back_by rounds k (first + (suc m)))) (drop_on rounds first (suc m) (omega (arith, before, le)))) in
       subst (λ n. IsNegative timed (reverse (take n (drop first (lines_back edges rounds k))))) count
-        (subst (λ ls. IsNegative timed (reverse (take (suc m) ls))) (sym (lines_dropped edges rounds k first (omega (arith, before, le))))
-        (cycle_back rest from m here.0 here.1 (omega (arith, size, far, le)) meets))
+      (subst (λ ls. IsNegative timed (reverse (take (suc m) ls))) (sym (lines_dropped edges rounds k first (omega (arith, before, le))))
+      (cycle_back rest from m here.0 here.1 (omega (arith, size, far, le)) meets))
+
+module _ (edges : List Edge) (points : ℕ) where
+  its_fall : (falls : List Fall) (older : Rounds) (k : ℕ) → AreRounds edges points (falls ∷ older) → k < length falls → IsFall edges points older (fall_at falls k)
+  its_fall falls older k are lt = All-get_or (IsFall edges points older) falls k no_fall lt are.0
+
+  -- all points on the way back are points of the net
+  pub back_inside : (rounds : Rounds) (k : ℕ) → AreRounds edges points rounds → k < width points rounds → (n d : ℕ) → n < length (points_back rounds k) → get_or (points_back rounds k) n d < points
+  back_inside [] k are lt zero d le = lt
+  back_inside [] k are lt (suc n) d le = absurd (omega (arith, le))
+  back_inside (falls ∷ older) k are lt zero d le = (its_fall falls older k are lt).inside
+  back_inside (falls ∷ older) k are lt (suc n) d le = back_inside older (fall_at falls k).back are.1 (its_fall falls older k are lt).back n d (omega (arith, le))
+
+  -- so that after as many rounds as points one is met again
+  pub must_meet : (rounds : Rounds) (k : ℕ) → AreRounds edges points rounds → k < width points rounds → length rounds ≡ points → AreApart (points_back rounds k) → ⊥
+  must_meet rounds k are lt count apart =
+      let few = few_apart (points_back rounds k) points
+      (λ i j d before within same. apart i j before within (get_or_default (points_back rounds k) i 0 d (omega (arith, before, within)) ∙ same ∙ get_or_default (points_back rounds k) j d 0 within))
+      (back_inside rounds k are lt) in
+      omega (arith, few, points_counted rounds k, count)

@@ -1,9 +1,8 @@
 -- Whether intervals can be placed.
-use Rattle.std.specs.Prelude.{ℕ, ℤ, ◌+◌, ◌≤◌, ⊤, List, length, Result, Ok, Err}
+use Rattle.std.specs.Prelude.{ℤ, ◌+◌, ◌≤◌, ⊤, List, length, Result, Ok, Err}
 use Rattle.seconds_core.specs.Cycles.{IsNegative}
 use Rattle.seconds_core.specs.Placed.{IsPlaced}
 use Rattle.seconds_core.specs.Timed.{PlainTimed, origin}
-use Rattle.seconds_core.specs.declared.evidence.Placing.{Placing}
 use Rattle.seconds_core.specs.declared.line.Line.{Line}
 use Rattle.tml_seconds.specs.declared.deciding.PlaceFault.{PlaceFault}
 use Rattle.tml_seconds.specs.declared.deciding.PlaceFault.TheVariants.{Negative, Memory}

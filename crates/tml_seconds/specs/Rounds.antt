@@ -1,5 +1,5 @@
 -- One round of falls.
-use Rattle.std.specs.Prelude.{◌≡◌, ◌⊎◌, ◌↔◌, ◌≢◌, ℕ, ◌<◌, ◌≤◌, ℤ, pos, ◌+ℤ◌, ◌<ℤ◌, ◌≤ℤ◌, List, length, slice_index, slice_index_or}
+use Rattle.std.specs.Prelude.{◌≡◌, ◌⊎◌, ◌↔◌, ◌≢◌, ℕ, ◌<◌, ℤ, pos, ◌+ℤ◌, ◌<ℤ◌, ◌≤ℤ◌, List, length, slice_index, slice_index_or}
 use Rattle.std.specs.List.{All, Contains}
 use Rattle.seconds_core.specs.Placed.{second_at}
 use Rattle.tml_seconds.specs.declared.edges.Edge.{Edge}

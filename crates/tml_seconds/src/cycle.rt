@@ -33,16 +33,16 @@ pub fn cycle_of(
     ensures negative { IfOk result (λ cycle. (timed : PlainTimed) → All (IsEdge timed) edges.now → IsNegative timed cycle) }
     ensures short { IfOk result (λ cycle. length cycle ≤ points) }
 {
-    let Way {
-        points: met,
-        mut lines,
-    } = way_back(alloc, edges, rounds)?;
-    let Some(Meeting { first, again }) = first_meeting(alloc, &met, points)? else {
+    let way = way_back(alloc, edges, rounds)?;
+    let Some(Meeting { first, again }) = first_meeting(alloc, &way.points, points)? else {
         unreachable!()
     };
-    lines.truncate(again);
+    let (_, rest) = way.lines.split_at(first);
+    let (lines, _) = rest.split_at(again - first);
+    let Ok(mut lines) = Vec::from_slice(alloc, lines) else {
+        return Err(Memory);
+    };
     lines.reverse();
-    lines.truncate(again - first);
     Ok(Cycle::from_vec(lines))
 }
 

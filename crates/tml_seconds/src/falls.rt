@@ -72,14 +72,12 @@ struct Search {
 }
 
 impl Model for Search {
-    ghost use Rattle.std.specs.Prelude.{[], reverse, ◌≡◌};
+    ghost use Rattle.std.specs.Prelude.{reverse};
     ghost use Rattle.tml_seconds.specs.Search.{PlainSearch};
 
     ghost Value = { PlainSearch };
 
     ghost view = { λ a. record { rounds = reverse a.rounds.items; heads = a.heads.items; seconds = a.round.seconds } };
-
-    ghost invariant = { λ a. a.round.falls ≡ [] };
 }
 
 impl Search {
@@ -88,6 +86,7 @@ impl Search {
         requires { points ≤ max_rounds }
         ensures search { IfOk result (λ s. (edges : ListOf Edge) → AreInside points edges → IsSearch edges points s) }
         ensures rounds { IfOk result (λ s. s.rounds ≡ []) }
+        ensures few_heads { IfOk result (λ s. length s.heads ≤ max_rounds) }
     {
         Ok(Search {
             rounds: Vec::new(alloc),
@@ -102,17 +101,20 @@ impl Search {
         requires few { edges.now.points ≤ max_rounds }
         requires few_edges { length edges.now.items < 65536 }
         requires few_rounds { length self.old.rounds < max_rounds }
+        requires few_heads { length self.old.heads ≤ max_rounds }
         requires search { IsSearch edges.now.items edges.now.points self.old }
         ensures search { OnOk result (IsSearch edges.now.items edges.now.points self.new) }
         ensures rounds { OnOk result (length self.new.rounds ≡ length self.old.rounds + 1) }
+        ensures few_heads { OnOk result (length self.new.heads ≤ max_rounds) }
     {
         self.round.run(edges, &self.heads)?;
         let falls = self.round.take_falls(alloc);
         self.heads.clear();
         push_heads(&mut self.heads, &falls, self.round.seconds())?;
-        self.rounds
-            .push(List::from_vec(falls))
-            .map_err(|_| Memory)
+        if self.rounds.push(List::from_vec(falls)).is_err() {
+            return Err(Memory);
+        }
+        Ok(())
     }
 
     /// Where all points stand.
@@ -124,6 +126,7 @@ impl Search {
 }
 
 /// Each point at second 0.
+#[tactic(auto, using(crate::proofs::SearchLaws::start_more))]
 fn heads_at_start(alloc: Global, points: u32) -> Result<Vec<Head>, Memory>
     ensures { IfOk result (λ heads. AreAtStart points heads.items) }
 {

@@ -2,9 +2,9 @@
 #![tactic(auto)]
 
 mod cycle;
+mod deciding;
 mod edges;
 mod falls;
-mod deciding;
 mod placing;
 mod round;
 

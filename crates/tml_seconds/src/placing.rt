@@ -18,7 +18,16 @@ pub fn from_origin(seconds: List<i64>) -> Vec<i64>
         return seconds;
     };
     for point in 0..seconds.len() {
-        seconds[point] = seconds[point] - zero;
+        seconds[point] = since(seconds[point], zero);
     }
     seconds
+}
+
+/// How many seconds after another a second is.
+fn since(second: i64, zero: i64) -> i64
+    requires second { IsNear max_rounds second }
+    requires zero { IsNear max_rounds zero }
+    ensures { result ≡ second -ℤ zero }
+{
+    second - zero
 }

@@ -1,6 +1,8 @@
 //! One round of falls.
-ghost use Rattle.std.specs.List.{All, Contains};
-ghost use Rattle.std.specs.Prelude.{IfOk, IsTrue, MatchOption, OnOk, [], length, List as ListOf, ℤ, pos, replicate, ◌+◌, ◌<◌, ◌<ℤ◌, ◌≡◌, ◌≢◌, ◌≤◌, ◌↔◌};
+ghost use Rattle.seconds_core.specs.Placed.{second_at};
+ghost use Rattle.seconds_core.specs.Timed.{max_second};
+ghost use Rattle.std.specs.List.{All};
+ghost use Rattle.std.specs.Prelude.{IfOk, IsTrue, MatchOption, OnOk, [], length, List as ListOf, ℤ, neg_ℤ, pos, replicate, set, ◌+◌, ◌<◌, ◌<ℤ◌, ◌≤ℤ◌, ◌≡◌, ◌≢◌, ◌≤◌, ◌↔◌};
 ghost use Rattle.tml_seconds.specs.Edges.{AreInside, edge_at, from_of};
 ghost use Rattle.tml_seconds.specs.Falls.{fall_at};
 ghost use Rattle.tml_seconds.specs.Rounds as spec;
@@ -68,28 +70,38 @@ impl Round {
     }
 
     /// The falls of the round, which ends.
+    #[tactic(auto, using(crate::proofs::PutLaws::few_falls))]
     pub fn take_falls(&mut self, alloc: Global) -> Vec<Fall>
         ensures falls { result.items ≡ self.old.falls }
         ensures seconds { self.new.seconds ≡ self.old.seconds }
-        ensures none { self.new.falls ≡ [] }
+        ensures few { length result.items ≤ max_rounds }
     {
         std::mem::replace(&mut self.falls, Vec::new(alloc))
     }
 
     /// Goes on from all points that fell in the last round.
+    #[tactic(auto, using(crate::proofs::RoundLaws::round_begins))]
     pub fn run(&mut self, edges: &Index<Edge>, heads: &[Head]) -> Result<(), Memory>
         requires inside { AreInside edges.now.points edges.now.items }
         requires points { length self.old.seconds ≡ edges.now.points }
         requires few_edges { length edges.now.items < 65536 }
         requires few_heads { length heads.now ≤ max_rounds }
         requires heads { All (λ (head : Head). (head.point < edges.now.points) × IsNear max_rounds head.second) heads.now }
-        requires none { self.old.falls ≡ [] }
         ensures { OnOk result (IsRound edges.now.items heads.now self.old.seconds self.new.seconds self.new.falls (length heads.now) 0) }
     {
+        self.begin();
         for back in 0..heads.len() as u32 {
             self.go_on(edges, heads, back)?;
         }
         Ok(())
+    }
+
+    /// Begins a round: none has fallen.
+    fn begin(&mut self)
+        ensures seconds { self.new.seconds ≡ self.old.seconds }
+        ensures falls { self.new.falls ≡ [] }
+    {
+        self.falls.clear();
     }
 
     /// Goes on from one of them.
@@ -100,7 +112,8 @@ impl Round {
         requires back { back < length heads.now }
         requires point { (head_at heads.now back).point < edges.now.points }
         requires near { IsNear max_rounds (head_at heads.now back).second }
-        ensures { OnOk result ((old : ListOf ℤ) → IsRound edges.now.items heads.now old self.old.seconds self.old.falls back 0 → IsRound edges.now.items heads.now old self.new.seconds self.new.falls (back + 1) 0) }
+        ensures size { length self.new.seconds ≡ length self.old.seconds }
+        ensures round { OnOk result ((old : ListOf ℤ) → IsRound edges.now.items heads.now old self.old.seconds self.old.falls back 0 → IsRound edges.now.items heads.now old self.new.seconds self.new.falls (back + 1) 0) }
     {
         let numbers = edges.numbers_of(heads[back as usize].point);
         for edge in numbers.start..numbers.end {
@@ -116,19 +129,39 @@ impl Round {
         requires back { back < length heads.now }
         requires from { from_of (edge_at edges.now edge) ≡ (head_at heads.now back).point }
         requires near { IsNear max_rounds (head_at heads.now back).second }
-        ensures { OnOk result ((old : ListOf ℤ) → IsRound edges.now heads.now old self.old.seconds self.old.falls back edge → IsRound edges.now heads.now old self.new.seconds self.new.falls back (edge + 1)) }
+        ensures size { length self.new.seconds ≡ length self.old.seconds }
+        ensures round { OnOk result ((old : ListOf ℤ) → IsRound edges.now heads.now old self.old.seconds self.old.falls back edge → IsRound edges.now heads.now old self.new.seconds self.new.falls back (edge + 1)) }
     {
-        let Edge { constraint, .. } = edges[edge as usize];
-        let point = constraint.to;
-        let second = heads[back as usize].second + constraint.weight;
-        if is_lower(second, self.seconds[point as usize]) {
-            self.seconds[point as usize] = second;
-            return self.put(Fall { point, edge, back });
+        let point = edges[edge as usize].constraint.to;
+        let second = led_to(edges, heads, back, edge);
+        if self.stands_after(point, second) {
+            self.fall_to(Fall { point, edge, back }, second)?;
         }
         Ok(())
     }
 
+    /// Whether a point stands after a second.
+    fn stands_after(&self, point: u32, second: i64) -> bool
+        requires { point < length self.now.seconds }
+        ensures { IsTrue result ↔ (second <ℤ second_at self.now.seconds point) }
+    {
+        second < self.seconds[point as usize]
+    }
+
+    /// Lets a point fall to a second.
+    fn fall_to(&mut self, fall: Fall, second: i64) -> Result<(), Memory>
+        requires { fall.point < length self.old.seconds }
+        ensures ok { OnOk result (Puts fall self.old.falls self.new.falls) }
+        ensures seconds { OnOk result (self.new.seconds ≡ set self.old.seconds fall.point second) }
+        ensures size { length self.new.seconds ≡ length self.old.seconds }
+    {
+        self.put(fall)?;
+        self.seconds[fall.point as usize] = second;
+        Ok(())
+    }
+
     /// Keeps a fall, in place of an earlier one of the same point in this round.
+    #[tactic(auto, using(crate::proofs::PutLaws::set_puts, crate::proofs::PutLaws::set_placed))]
     fn put(&mut self, fall: Fall) -> Result<(), Memory>
         requires { fall.point < length self.old.seconds }
         ensures ok { OnOk result (Puts fall self.old.falls self.new.falls) }
@@ -156,6 +189,7 @@ impl Round {
     }
 
     /// Appends the fall of a point that has none in this round.
+    #[tactic(auto, using(crate::proofs::PutLaws::few_falls, crate::proofs::PutLaws::push_puts, crate::proofs::PutLaws::push_placed))]
     fn push(&mut self, fall: Fall) -> Result<(), Memory>
         requires inside { fall.point < length self.old.seconds }
         requires first { All (λ (f : Fall). f.point ≢ fall.point) self.old.falls }
@@ -171,9 +205,14 @@ impl Round {
     }
 }
 
-/// Whether a second is before another.
-fn is_lower(second: i64, other: i64) -> bool
-    ensures { IsTrue result ↔ (second <ℤ other) }
+/// The second that an edge leads to from a point that fell.
+fn led_to(edges: &[Edge], heads: &[Head], back: u32, edge: u32) -> i64
+    requires edge { edge < length edges.now }
+    requires back { back < length heads.now }
+    requires near { IsNear max_rounds (head_at heads.now back).second }
+    requires low { neg_ℤ (pos max_second) ≤ℤ (edge_at edges.now edge).constraint.weight }
+    requires high { (edge_at edges.now edge).constraint.weight ≤ℤ pos max_second }
+    ensures { result ≡ spec.led_to edges.now heads.now back edge }
 {
-    second < other
+    heads[back as usize].second + edges[edge as usize].constraint.weight
 }

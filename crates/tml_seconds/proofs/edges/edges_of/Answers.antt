@@ -1,7 +1,6 @@
-use Rattle.std.proofs.Common.{◌≡◌, ◌*◌, ◌+◌, ◌≤◌, length, arith}
+use Rattle.std.proofs.Common.{◌*◌, length, arith}
 use Rattle.std.proofs.lemmas.List.Sorted.{length_permutation}
 use Rattle.net_core.specs.Nets.{intervals, points}
-use Rattle.tml_seconds.specs.Edges.{AreEdges}
 use Rattle.tml_seconds.proofs.EdgeLaws.{edges_are, edges_inside}
 use Rattle.tml_seconds.proofs.edges.edges_of.Goals as goal
 
@@ -9,15 +8,15 @@ pub returns-clause-edges : goal.returns-clause-edges
 returns-clause-edges c =
     let net = c.args.timed.now.net in
     edges_are _ _ _ _ _ _ (3 * intervals net) (2 * points net) (4 * length net.links) c.origin.ensures.timed c.new-edges.ensures.items
-      c.in_ok-push_intervals.ensures.grows c.in_ok-push_points.ensures.grows c.in_ok-push_links.ensures.grows
-      c.in_ok-push_intervals.ensures.covers c.in_ok-push_points.ensures.covers c.in_ok-push_links.ensures.covers c.in-Ok.ensures.items
+    c.in_ok-push_intervals.ensures.grows c.in_ok-push_points.ensures.grows c.in_ok-push_links.ensures.grows
+    c.in_ok-push_intervals.ensures.covers c.in_ok-push_points.ensures.covers c.in_ok-push_links.ensures.covers c.in-Ok.ensures.items
 
 pub returns-clause-inside : goal.returns-clause-inside
 returns-clause-inside c =
     let net = c.args.timed.now.net in
     edges_inside _ _ (edges_are _ _ _ _ _ _ (3 * intervals net) (2 * points net) (4 * length net.links) c.origin.ensures.timed c.new-edges.ensures.items
-      c.in_ok-push_intervals.ensures.grows c.in_ok-push_points.ensures.grows c.in_ok-push_links.ensures.grows
-      c.in_ok-push_intervals.ensures.covers c.in_ok-push_points.ensures.covers c.in_ok-push_links.ensures.covers c.in-Ok.ensures.items)
+    c.in_ok-push_intervals.ensures.grows c.in_ok-push_points.ensures.grows c.in_ok-push_links.ensures.grows
+    c.in_ok-push_intervals.ensures.covers c.in_ok-push_points.ensures.covers c.in_ok-push_links.ensures.covers c.in-Ok.ensures.items)
 
 pub returns-clause-few : goal.returns-clause-few
 returns-clause-few c =
