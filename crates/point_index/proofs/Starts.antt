@@ -40,8 +40,8 @@ module _ {X : Type 0} (point_of : X → ℕ) (items : List X) where
       exact = λ k d lt. (
         λ h. omega (arith, high k d h.0 lt, not_higher k d h.1),
         λ is. (
-          elim (cases_lt k first) [ | inl early ↦ absurd (omega (arith, is, low k d early)) | inr late ↦ late ],
-          elim (cases_lt k after) [ | inl early ↦ early | inr late ↦ absurd (omega (arith, is, higher k d late lt)) ],
+          elim (cases_lt k first) [ inl early ↦ absurd (omega (arith, is, low k d early)) | inr late ↦ late ],
+          elim (cases_lt k after) [ inl early ↦ early | inr late ↦ absurd (omega (arith, is, higher k d late lt)) ],
         ),
       );
     }
