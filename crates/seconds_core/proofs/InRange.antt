@@ -1,6 +1,7 @@
 -- Numbers of a net with limits are within theirs, and past its points and intervals there are none.
-use Rattle.std.proofs.Common.{◌≡◌, ◌==◌, ℕ, ◌/◌, ◌%◌, ◌<◌, ◌≤◌, Bool, true, false, Some, None, refl, ap, arith}
+use Rattle.std.proofs.Common.{◌≡◌, ◌==◌, ℕ, ◌+◌, ◌*◌, ◌/◌, ◌%◌, ◌<◌, ◌≤◌, nat_lt, pos, neg_ℤ, Bool, true, false, Some, None, refl, ap, subst, arith}
 use Rattle.std.specs.Prelude.{IfSome}
+use Rattle.std.proofs.lemmas.Bool.{ltb-true}
 use Rattle.std.proofs.lemmas.Int.{ints}
 use Rattle.std.proofs.lemmas.List.{get_or_past}
 use Rattle.std.proofs.lemmas.List.Elements.{All-get_or}
@@ -12,8 +13,12 @@ use Rattle.net_core.specs.declared.bounds.Bounds.{Bounds}
 use Rattle.net_core.specs.declared.bounds.Bounds.TheVariants.{Exact, Within, Free}
 use Rattle.net_core.specs.declared.step.Step.TheVariants.{Link}
 use Rattle.net_core.proofs.StepLaws.{step_in_range}
-use Rattle.seconds_core.specs.Constraints.{IsWithin, constraint_by}
-use Rattle.seconds_core.specs.Timed.{AreLengths, AreSeconds, IsSecond, IsTimed, PlainTimed, limits_at, lower_second, origin, upper_second}
+use Rattle.seconds_core.specs.declared.line.Constraint.{Constraint}
+use Rattle.seconds_core.specs.declared.line.Line.{Line}
+use Rattle.seconds_core.specs.declared.line.Line.TheVariants.{Span, Via, Lower, Upper, Least, Most}
+use Rattle.seconds_core.proofs.Named.{made, tested, there, within}
+use Rattle.seconds_core.specs.Constraints.{IsWithin, at_most, constraint_by, constraint_of}
+use Rattle.seconds_core.specs.Timed.{AreLengths, AreSeconds, IsLength, IsSecond, IsTimed, PlainTimed, limits_at, lower_second, origin, upper_second}
 
 pub lengths_at : (timed : PlainTimed) (i : ℕ) → IsTimed timed → i < intervals timed.net → AreLengths (limits_at timed i)
 lengths_at timed i is lt = All-get_or AreLengths timed.limits i (record { least = None; most = None }) (omega (arith, lt, is.size)) is.lengths
@@ -64,3 +69,33 @@ pub via_in_range : (timed : PlainTimed) (link atom : ℕ) (a : Atom) → IsTimed
 via_in_range timed link atom a is e =
     let in_range = step_in_range timed.net (Link link atom) a is.net e in
     within_by timed a a.strict refl (omega (arith, in_range.0)) (omega (arith, in_range.1))
+
+-- a constraint that a line names is between points, and its weight is not too far from 0
+pub named_within : (timed : PlainTimed) (line : Line) (c : Constraint) → IsTimed timed → constraint_of timed line ≡ Some c → IsWithin timed c
+named_within timed (Span i) c is e =
+    let (lt, same) = tested (nat_lt i (intervals timed.net)) (at_most (2 * i + 1) (2 * i) (neg_ℤ (pos 1))) c e in
+    let less = ltb-true i (intervals timed.net) lt in
+    subst (IsWithin timed) same (record { from = omega (arith, less); to = omega (arith, less); low = omega (arith, ints); high = omega (arith, ints) })
+named_within timed (Via link atom) c is e =
+    let (a, at, same) = made constraint_by (atom_of timed.net (Link link atom)) c e in
+    subst (IsWithin timed) same (via_in_range timed link atom a is at)
+named_within timed (Lower p) c is e =
+    let (n, at, same) = made (λ n. at_most p (origin timed) (neg_ℤ n)) (lower_second timed p) c e in
+    let lt = within (lower_second timed p) n p (origin timed) at (lower_past timed p) in
+    let near = there IsSecond (lower_second timed p) n (lower_in_range timed p is lt) at in
+    subst (IsWithin timed) same (record { from = omega (arith, lt); to = omega arith; low = omega (arith, ints, near.1); high = omega (arith, ints, near.0) })
+named_within timed (Upper p) c is e =
+    let (n, at, same) = made (λ n. at_most (origin timed) p n) (upper_second timed p) c e in
+    let lt = within (upper_second timed p) n p (origin timed) at (upper_past timed p) in
+    let near = there IsSecond (upper_second timed p) n (upper_in_range timed p is lt) at in
+    subst (IsWithin timed) same (record { from = omega arith; to = omega (arith, lt); low = near.0; high = near.1 })
+named_within timed (Least i) c is e =
+    let (n, at, same) = made (λ n. at_most (2 * i + 1) (2 * i) (neg_ℤ n)) (limits_at timed i).least c e in
+    let lt = within (limits_at timed i).least n i (intervals timed.net) at (λ le. ap (λ l. l.least) (limits_past timed i is le)) in
+    let length = there IsLength (limits_at timed i).least n (lengths_at timed i is lt).0 at in
+    subst (IsWithin timed) same (record { from = omega (arith, lt); to = omega (arith, lt); low = omega (arith, ints, length.1); high = omega (arith, ints, length.0) })
+named_within timed (Most i) c is e =
+    let (n, at, same) = made (λ n. at_most (2 * i) (2 * i + 1) n) (limits_at timed i).most c e in
+    let lt = within (limits_at timed i).most n i (intervals timed.net) at (λ le. ap (λ l. l.most) (limits_past timed i is le)) in
+    let length = there IsLength (limits_at timed i).most n (lengths_at timed i is lt).1 at in
+    subst (IsWithin timed) same (record { from = omega (arith, lt); to = omega (arith, lt); low = omega (arith, ints, length.0); high = omega (arith, ints, length.1) })

@@ -1,8 +1,7 @@
 -- Seconds are a placing exactly where they meet all constraints.
-use Rattle.std.proofs.Common.{◌≡◌, ◌↔◌, ℕ, ◌+◌, ◌*◌, ◌<◌, ◌≤◌, ℤ, pos, neg_ℤ, ◌+ℤ◌, ◌≤ℤ◌, Bool, true, false, cond, List, length, get_or, Option, Some, None, option_map, inl, inr, refl, sym, ap, subst, ◌∙◌, arith}
-use Rattle.std.specs.Prelude.{IfSome}
+use Rattle.std.proofs.Common.{◌≡◌, ◌↔◌, ◌+◌, ◌*◌, ℤ, pos, neg_ℤ, ◌+ℤ◌, ◌≤ℤ◌, Bool, true, false, cond, List, length, get_or, Some, option_map, refl, ap, subst, arith}
 use Rattle.std.specs.List.{slice_get}
-use Rattle.std.proofs.lemmas.Bool.{cases_lt, lt-ltb, ltb-true}
+use Rattle.std.proofs.lemmas.Bool.{lt-ltb, ltb-true}
 use Rattle.std.proofs.lemmas.Int.{ints}
 use Rattle.std.proofs.lemmas.List.{get_or_past}
 use Rattle.std.proofs.lemmas.List.Elements.{All-from_recursion, All-from_get_or, recursion_from_All}
@@ -14,39 +13,13 @@ use Rattle.net_core.specs.declared.net.NetLink.{NetLink}
 use Rattle.net_core.specs.declared.rels.Rel.TheVariants as rel
 use Rattle.net_core.specs.declared.step.Step.TheVariants.{Link}
 use Rattle.net_core.proofs.StepLaws.{one_of_all}
-use Rattle.seconds_core.specs.declared.line.Constraint.{Constraint}
 use Rattle.seconds_core.specs.declared.line.Line.TheVariants.{Span, Via, Lower, Upper, Least, Most}
 use Rattle.seconds_core.specs.Constraints.{IsMet, at_most, constraint_by}
 use Rattle.seconds_core.specs.Laws.{ConstraintsSayWhatIsPlaced, MeetsAll}
 use Rattle.seconds_core.specs.Placed.{AreInOrder, IsPlaced, KeepsLink, KeepsOrder, lasts, second_at}
 use Rattle.seconds_core.specs.Timed.{IsTimed, PlainTimed, limits_at, lower_second, origin, upper_second}
+use Rattle.seconds_core.proofs.Named.{each, made, tested, there, within}
 use Rattle.seconds_core.proofs.InRange.{limits_past, lower_past, upper_past}
-
--- what an option is made of, where it is there
-made : {X Y : Type 0} (f : X → Y) (o : Option X) (y : Y) → option_map f o ≡ Some y → (x : X) × (o ≡ Some x) × (f x ≡ y)
-made f (Some x) y e = (x, refl, cc)
-made f None y e = absurd cc
-
--- what holds where there is a number
-there : {X : Type 0} (P : X → Type 0) (o : Option X) (x : X) → IfSome o P → o ≡ Some x → P x
-there P (Some y) x p e = let same : y ≡ x = cc in subst P same p
-there P None x p e = absurd cc
-
--- and what holds of each number that is there
-each : {X : Type 0} (P : X → Type 0) (o : Option X) → ((x : X) → o ≡ Some x → P x) → IfSome o P
-each P (Some x) all = all x refl
-each P None all = tt
-
-tested : (b : Bool) (a c : Constraint) → cond b (Some a) None ≡ Some c → (b ≡ true) × (a ≡ c)
-tested true a c e = (refl, cc)
-tested false a c e = absurd cc
-
--- a number that is there past the end of what there is would be no number
-within : {X : Type 0} (o : Option X) (x : X) (p n : ℕ) → o ≡ Some x → (n ≤ p → o ≡ None) → p < n
-within o x p n there past = elim (cases_lt p n) [
-  | inl lt ↦ lt
-  | inr ge ↦ let none : None ≡ Some x = sym (past (omega (arith, ge))) ∙ there in absurd cc
-]
 
 -- an order of two seconds is a constraint
 order_met : (strict : Bool) (m n : ℤ) → AreInOrder strict m n ↔ (m ≤ℤ (n +ℤ cond strict (neg_ℤ (pos 1)) (pos 0)))

@@ -1,3 +1,4 @@
+pub mod Named
 pub mod InRange
 pub mod Kept
 pub mod Ordered

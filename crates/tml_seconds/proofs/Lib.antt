@@ -7,3 +7,4 @@ pub mod WayBack
 pub mod Settling
 pub mod Meetings
 pub mod Counted
+pub mod EveryNet

@@ -45,6 +45,23 @@ module _ (edges : List Edge) (heads : List Head) (old : List ℤ) where
       | inr (x, has, at) ↦ let lower = All-contains (λ (y : Fall). second_at new y.point <ℤ second_at old y.point) falls x round.lower has in subst (λ q. second_at new q ≤ℤ second_at old q) at (omega (arith, ints, lower))
     ]
 
+    -- the next edge leads from another point
+    pub round_skips : ((edge_at edges f).constraint.from ≡ (head_at heads l).point → ⊥) → IsRound edges heads old new falls l (f + 1)
+    round_skips apart = record {
+      size = round.size;
+      edge = round.edge;
+      back = round.back;
+      from = round.from;
+      to = round.to;
+      gives = round.gives;
+      lower = round.lower;
+      stays = round.stays;
+      met = λ k e lk le before at. elim (one_more k e l f before) [
+        | inl so_far ↦ round.met k e lk le so_far at
+        | inr (head, edge) ↦ absurd (apart (ap (λ m. (edge_at edges m).constraint.from) (sym edge) ∙ at ∙ ap (λ m. (head_at heads m).point) head))
+      ];
+    }
+
     -- the next edge is met already
     pub round_stays : (second_at new (edge_at edges f).constraint.to ≤ℤ led_to edges heads l f) → IsRound edges heads old new falls l (f + 1)
     round_stays is = record {
@@ -154,3 +171,23 @@ module _ (edges : List Edge) (heads : List Head) (old : List ℤ) where
         | inr (same, less) ↦ absurd (omega (arith, less))
       ];
     }
+
+  -- after all edges comes the next head
+  pub row_ends : (new : List ℤ) (falls : List Fall) (l : ℕ) → IsRound edges heads old new falls l (length edges) → IsRound edges heads old new falls (l + 1) 0
+  row_ends new falls l round = record {
+    size = round.size;
+    edge = round.edge;
+    back = round.back;
+    from = round.from;
+    to = round.to;
+    gives = round.gives;
+    lower = round.lower;
+    stays = round.stays;
+    met = λ k e lk le before at. elim before [
+      | inl less ↦ elim (cases_lt k l) [
+        | inl sooner ↦ round.met k e lk le (inl sooner) at
+        | inr last ↦ round.met k e lk le (inr (omega (arith, last, less), le)) at
+      ]
+      | inr (same, less) ↦ absurd (omega (arith, less))
+    ];
+  }

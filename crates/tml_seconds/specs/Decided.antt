@@ -1,9 +1,11 @@
 -- Whether intervals can be placed.
-use Rattle.std.specs.Prelude.{ℤ, ◌+◌, ◌≤◌, ⊤, List, length, Result, Ok, Err}
+use Rattle.std.specs.Prelude.{◌⊎◌, ℤ, pos, neg_ℤ, ◌+◌, ◌*◌, ◌≤◌, ◌≤ℤ◌, ⊤, List, length, Result, Ok, Err}
+use Rattle.std.specs.List.{All}
 use Rattle.seconds_core.specs.Cycles.{IsNegative}
 use Rattle.seconds_core.specs.Placed.{IsPlaced}
-use Rattle.seconds_core.specs.Timed.{PlainTimed, origin}
+use Rattle.seconds_core.specs.Timed.{IsTimed, PlainTimed, max_second, origin}
 use Rattle.seconds_core.specs.declared.line.Line.{Line}
+use Rattle.tml_seconds.specs.Search.{max_rounds}
 use Rattle.tml_seconds.specs.declared.deciding.PlaceFault.{PlaceFault}
 use Rattle.tml_seconds.specs.declared.deciding.PlaceFault.TheVariants.{Negative, Memory}
 
@@ -16,3 +18,11 @@ abbrev pub IsDecided : PlainTimed → Result (List ℤ) PlaceFault → Type 0
 IsDecided timed (Ok seconds) = IsPlaced timed seconds
 IsDecided timed (Err (Negative cycle)) = IsShortCycle timed cycle
 IsDecided timed (Err Memory) = ⊤
+
+-- a second that is no further from second 0 than as many of the heaviest constraints as there can be points
+abbrev pub IsFar : ℤ → Type 0
+IsFar s = (neg_ℤ (pos (max_rounds * max_second)) ≤ℤ s) × (s ≤ℤ pos (max_rounds * max_second))
+
+-- the law: each net has a placing or a negative cycle, of numbers that are not too great
+abbrev pub EveryNetIsDecided : Type 0
+EveryNetIsDecided = (timed : PlainTimed) → IsTimed timed → ((seconds : List ℤ) × IsPlaced timed seconds × All IsFar seconds) ⊎ ((lines : List Line) × IsShortCycle timed lines)

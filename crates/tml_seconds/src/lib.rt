@@ -5,7 +5,9 @@ mod cycle;
 mod deciding;
 mod edges;
 mod falls;
+mod laws;
 mod placing;
 mod round;
 
 pub use deciding::{PlaceFault, place};
+pub use laws::every_net_is_decided;
