@@ -68,19 +68,19 @@ pub some_is : {A : Type 0} (x y : A) → one x ≡ one y → x ≡ y
 some_is x y e = cc
 
 -- a value with nothing after it
-alone_is : {A : Type 0} (a b : A) (rest : List ℕ) → alone a rest ≡ Some b → (a ≡ b) × (rest ≡ [])
+pub alone_is : {A : Type 0} (a b : A) (rest : List ℕ) → alone a rest ≡ Some b → (a ≡ b) × (rest ≡ [])
 alone_is a b [] e = (some_is a b e, refl)
 alone_is a b (x ∷ rest) e = absurd cc
 
 -- what follows a keyword follows it
-after_found : (keyword bytes rest : List ℕ) → after keyword bytes ≡ Some rest → bytes ≡ keyword ++ rest
+pub after_found : (keyword bytes rest : List ℕ) → after keyword bytes ≡ Some rest → bytes ≡ keyword ++ rest
 unfolding after
 after_found keyword bytes rest e =
     let g = cond_some _ (drop (length keyword) bytes) rest e in
     rw (← g.1) ((starts_is Decides-eqb bytes keyword _ refl).0 g.0)
 
 -- what follows a keyword is found
-after_again : (keyword rest : List ℕ) → after keyword (keyword ++ rest) ≡ Some rest
+pub after_again : (keyword rest : List ℕ) → after keyword (keyword ++ rest) ≡ Some rest
 unfolding after
 after_again keyword rest =
     rw ((starts_is Decides-eqb (keyword ++ rest) keyword _ refl).1 rest refl, drop_at keyword rest (length keyword) refl) refl

@@ -101,7 +101,7 @@ pub fn is_same(line: &[u8], wanted: &[u8]) -> bool
 /// What follows a keyword. It stands in its callers, where the keyword is a constant.
 #[inline(always)]
 #[tactic(auto, unfolding(crate::specs::Words::after))]
-fn after<'t>(keyword: &[u8], line: &'t [u8]) -> Option<&'t [u8]>
+pub fn after<'t>(keyword: &[u8], line: &'t [u8]) -> Option<&'t [u8]>
     ensures { option_map (λ r. r.now) result ≡ words.after keyword.now line.now }
 {
     line.strip_prefix(keyword)
