@@ -13,6 +13,10 @@ use Rattle.seconds_core.specs.declared.line.Line.TheVariants.{Span, Via, Lower, 
 abbrev pub IsLong : ℤ → Type 0
 IsLong second = FitsSigned w64 second
 
+-- the seconds of an interval can stand in a text
+abbrev pub IsPair : ℤ × ℤ → Type 0
+IsPair pair = IsLong pair.0 × IsLong pair.1
+
 -- the numbers of a line of a cycle can stand in a text
 abbrev pub HasNumbers : Line → Type 0
 HasNumbers (Span i) = IsNumber i

@@ -1,10 +1,10 @@
 //! Writing placings and cycles.
 ghost use Rattle.seconds_core.specs.Evidence.{IsPlacing, max_lines};
 ghost use Rattle.seconds_core.specs.View.{evidence_of};
-ghost use Rattle.seconds_format.specs.Texts.{HasNumbers, IsLong, IsText, IsWellFormed, at_line, cycle_line, pairs_of};
+ghost use Rattle.seconds_format.specs.Texts.{HasNumbers, IsLong, IsPair, IsText, IsWellFormed, at_line, cycle_line, pairs_of};
 ghost use Rattle.seconds_format.specs.Written as written;
 ghost use Rattle.std.specs.Fmt.{signed_decimal};
-ghost use Rattle.std.specs.List.{All, flat_map};
+ghost use Rattle.std.specs.List.{All, AllByRecursion, flat_map};
 ghost use Rattle.std.specs.Prelude.{IfOk, OnOk, codes, length, ◌++◌, ◌<◌, ◌≡◌};
 
 use evidence_format::line_texts::{push_one, push_two};
@@ -48,6 +48,7 @@ fn push_body(out: &mut Vec<u8>, evidence: &SecondsEvidence) -> Result<(), AllocE
     }
 }
 
+#[tactic(auto, using(crate::proofs::PairLaws::pairs_half, crate::proofs::PairLaws::all_long))]
 fn push_placing(out: &mut Vec<u8>, seconds: &[i64]) -> Result<(), AllocError>
     requires { IsPlacing seconds.now }
     ensures bytes { OnOk result (out.new.items ≡ out.old.items ++ written.placing_bytes seconds.now) }
@@ -58,9 +59,8 @@ fn push_placing(out: &mut Vec<u8>, seconds: &[i64]) -> Result<(), AllocError>
 }
 
 fn push_pairs(out: &mut Vec<u8>, seconds: &[i64]) -> Result<(), AllocError>
-    requires { IsPlacing seconds.now }
     ensures bytes { OnOk result (out.new.items ≡ out.old.items ++ flat_map at_line (pairs_of seconds.now)) }
-    ensures good { OnOk result (All IsLong seconds.now) }
+    ensures good { OnOk result (AllByRecursion IsPair (pairs_of seconds.now)) }
 {
     let mut rest = seconds;
     while let [start, finish, after @ ..] = rest {
@@ -109,7 +109,7 @@ fn push_lines(out: &mut Vec<u8>, lines: &[Line]) -> Result<(), AllocError>
 
 /// What names a constraint.
 fn push_line(out: &mut Vec<u8>, line: Line) -> Result<(), AllocError>
-    ensures bytes { OnOk result (out.new.items ≡ out.old.items ++ cycle_line line) }
+    ensures line { OnOk result (out.new.items ≡ out.old.items ++ cycle_line line) }
     ensures good { HasNumbers line }
 {
     match line {
