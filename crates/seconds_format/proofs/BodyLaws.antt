@@ -1,10 +1,8 @@
 -- The readers of placings and cycles are exact.
-use Rattle.std.proofs.Common.{◌≡◌, ℕ, ◌%◌, ◌*◌, ◌<◌, ℤ, pos, List, [], ◌∷◌, ◌++◌, length, map, Ok, refl, sym, ap, subst, ◌∙◌, arith}
-use Rattle.std.specs.Prelude.{codes}
-use Rattle.std.specs.List.{All, AllByRecursion, flat_map}
+use Rattle.std.proofs.Common.{◌≡◌, ℕ, ℤ, pos, List, [], ◌∷◌, ◌++◌, length, map, Ok, refl, sym, ap, subst, ◌∙◌, arith}
 use Rattle.std.proofs.lemmas.List.Concat.{flat_map_single}
 use Rattle.std.proofs.lemmas.List.Elements.{All-from_recursion, recursion_from_All}
-use Rattle.evidence_format.specs.Evidence.{IsNumber, one_number}
+use Rattle.evidence_format.specs.Evidence.{IsNumber}
 use Rattle.evidence_format.specs.Grammar.{Then}
 use Rattle.evidence_format.specs.Lines.{Lines}
 use Rattle.evidence_format.specs.Reading.{Read, ◌>>=◌, line_at}

@@ -1,5 +1,5 @@
 -- Each line of a text is one.
-use Rattle.std.proofs.Common.{◌≡◌, ℕ, ◌<◌, suc, true, ℤ, pos, negsuc, List, [], ◌∷◌, ◌++◌, length, refl, arith}
+use Rattle.std.proofs.Common.{◌≡◌, suc, true, ℤ, pos, negsuc, [], ◌∷◌, ◌++◌, length, refl, arith}
 use Rattle.std.specs.Prelude.{codes}
 use Rattle.std.specs.Fmt.{signed_decimal}
 use Rattle.std.specs.List.{AllByRecursion, list_all}

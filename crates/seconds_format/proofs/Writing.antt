@@ -1,5 +1,5 @@
 -- The bytes that are written are those of the lines.
-use Rattle.std.proofs.Common.{◌≡◌, List, [], ◌∷◌, refl}
+use Rattle.std.proofs.Common.{◌≡◌, [], ◌∷◌, refl}
 use Rattle.std.specs.List.{concat}
 use Rattle.evidence_format.specs.Evidence.{last_line}
 use Rattle.evidence_format.proofs.LineLaws.{concat_append}

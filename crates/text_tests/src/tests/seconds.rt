@@ -50,8 +50,14 @@ fn bad_lines_are_told(rt: HostRuntime) {
         (b"tml-seconds 1\nplacing 1\nat +0 1\nend\n", 3),
         (b"tml-seconds 1\nplacing 1\nat 0 \nend\n", 3),
         (b"tml-seconds 1\nplacing 1\nat 0 -\nend\n", 3),
-        (b"tml-seconds 1\nplacing 1\nat 0 9223372036854775808\nend\n", 3),
-        (b"tml-seconds 1\nplacing 1\nat -9223372036854775809 0\nend\n", 3),
+        (
+            b"tml-seconds 1\nplacing 1\nat 0 9223372036854775808\nend\n",
+            3,
+        ),
+        (
+            b"tml-seconds 1\nplacing 1\nat -9223372036854775809 0\nend\n",
+            3,
+        ),
         (b"tml-seconds 1\nplacing 1\nspan 0\nend\n", 3),
         (b"tml-seconds 1\nplacing 2\nat 0 1\nend\n", 4),
         (b"tml-seconds 1\nplacing 1\nat 0 1\nat 0 1\nend\n", 4),

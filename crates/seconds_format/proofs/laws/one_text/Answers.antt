@@ -1,4 +1,3 @@
-use Rattle.std.proofs.Common.{sym, ◌∙◌}
 use Rattle.seconds_format.proofs.Reading.{one_value}
 use Rattle.seconds_format.proofs.laws.one_text.Goals as goal
 

@@ -22,9 +22,9 @@ loop-preserved c =
     let finish_fits : FitsSigned w64 finish = search rules in
     let same : pairs_of c.push_pair.new.seconds ≡ pairs_of c.loop.seconds ++ (start, finish) ∷ [] = c.in_ok-push_pair.ensures.pairs ∙ (λ i. pairs_of c.loop.seconds ++ (to_z-of_z w64 start start_fits i, to_z-of_z w64 finish finish_fits i) ∷ []) in
     record {
-  pairs = rw same (goes_on (line_at pair_of) (pairs_of c.loop.seconds) c.args.count c.loop.counter (lines_of c.loop.rest.now) (c.in_ok-start.start, c.in_ok-start.finish) (lines_of c.in_ok-start.after.now) (many_at (line_at pair_of) c.args.count (lines_of c.args.text.now)) c.loop-test.true c.in_ok-start.ensures c.loop.invariant.pairs);
-  size = omega (arith, c.in_ok-push_pair.ensures.size, c.loop.invariant.size);
-}
+      pairs = rw same (goes_on (line_at pair_of) (pairs_of c.loop.seconds) c.args.count c.loop.counter (lines_of c.loop.rest.now) (c.in_ok-start.start, c.in_ok-start.finish) (lines_of c.in_ok-start.after.now) (many_at (line_at pair_of) c.args.count (lines_of c.args.text.now)) c.loop-test.true c.in_ok-start.ensures c.loop.invariant.pairs);
+      size = omega (arith, c.in_ok-push_pair.ensures.size, c.loop.invariant.size);
+    }
 
 pub returns-clause-pairs : goal.returns-clause-pairs
 returns-clause-pairs c = is_done (line_at pair_of) (pairs_of c.loop.seconds) c.args.count c.loop.counter (lines_of c.loop.rest.now) (many_at (line_at pair_of) c.args.count (lines_of c.args.text.now)) c.loop-test.false c.loop.invariant.pairs

@@ -1,4 +1,4 @@
-use Rattle.std.proofs.Common.{◌≡◌, ◌∷◌, ◌++◌, ◌-◌, length, get_or, take, drop, ℤ, pos, FitsSigned, w64, sym, ap, subst, ◌∙◌, append_assoc, to_z, of_z, rules}
+use Rattle.std.proofs.Common.{◌≡◌, ◌∷◌, ◌++◌, ◌-◌, length, get_or, take, drop, pos, FitsSigned, w64, sym, ap, subst, ◌∙◌, append_assoc, to_z, of_z, rules}
 use Rattle.std.specs.List.{AllByRecursion, flat_map}
 use Rattle.std.proofs.lemmas.Int.{to_z-of_z}
 use Rattle.seconds_format.specs.Texts.{IsPair, at_line, pairs_of}

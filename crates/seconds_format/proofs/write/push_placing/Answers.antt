@@ -1,4 +1,4 @@
-use Rattle.std.proofs.Common.{arith, length, pos, w64}
+use Rattle.std.proofs.Common.{arith}
 use Rattle.std.proofs.lemmas.Grind.{common_steps}
 use Rattle.seconds_format.proofs.PairLaws.{pairs_half}
 use Rattle.seconds_format.proofs.write.push_placing.Goals as goal
