@@ -75,7 +75,7 @@ abbrev pub AreCounted : {A : Type 0} → (A → Type 0) → List A → Type 0
 AreCounted Fits vs = All Fits vs × IsNumber (length vs)
 
 -- a line that says how many there are, and then a line for each
-pub exact_counted : {A : Type 0} (keyword : List ℕ) (line : A → List ℕ) (Fits : A → Type 0) (p : Lines → Read A) → Exact (Has Fits (λ a. line a ∷ [])) p
+exact_counted : {A : Type 0} (keyword : List ℕ) (line : A → List ℕ) (Fits : A → Type 0) (p : Lines → Read A) → Exact (Has Fits (λ a. line a ∷ [])) p
     → Exact (Has (AreCounted Fits) (λ vs. one_number keyword (length vs) ∷ map line vs)) (λ ls. line_at (one_of keyword) ls >>= λ n. many_at p n.0 n.1)
 exact_counted {A} keyword line Fits p P =
     let G = Has IsNumber (λ n. one_number keyword n ∷ []) in

@@ -123,6 +123,7 @@ exact_body =
 abbrev pub text_at : Lines → Read PlainEvidence
 text_at ls = line_at (same_of first_line) ls >>= λ first. closed (body_at first.1)
 
+-- it is read exactly
 pub exact_text : Exact HasLines text_at
 exact_text = exact_between first_line IsWellFormed body_lines body_at exact_body
 

@@ -48,6 +48,7 @@ cycle_line_again (Most i) h =
 abbrev Says : List ℕ → Line → Type 0
 Says l line = (cycle_line line ≡ l) × HasNumbers line
 
+-- a line of which something is read says it
 cycle_line_found : (l : List ℕ) (line : Line) → cycle_line_of l ≡ Some line → Says l line
 unfolding cycle_line_of
 cycle_line_found l line e =
@@ -88,6 +89,7 @@ IsHead (head.Cycle n) = IsNumber n
 abbrev SaysHead : List ℕ → Head → Type 0
 SaysHead l h = (head_line h ≡ l) × IsHead h
 
+-- a line of which a kind is read names it
 head_found : (l : List ℕ) (h : Head) → head_of l ≡ Some h → SaysHead l h
 unfolding head_of
 head_found l h e =

@@ -66,10 +66,11 @@ second_to_again stop (negsuc n) rest lt fits =
     let small : n < 2 ^ 63 = fits.sfits in
     rw (long_to_again stop (suc n) rest (omega arith) (omega arith), second_before_again n small) refl
 
--- a second that is read up to a byte stands there
+-- a second stands before a byte, and this follows the byte
 abbrev StandsAt : ℕ → List ℕ → ℤ → List ℕ → Type 0
 StandsAt stop bytes z rest = (bytes ≡ signed_decimal z ++ stop ∷ rest) × IsLong z
 
+-- a second before second 0 that is read stands there
 signed_found : (stop b : ℕ) (bytes : List ℕ) (z : ℤ) (rest : List ℕ) → b ≡ 45 → made_by second_before (long_to stop bytes) ≡ Some (z, rest) → StandsAt stop (b ∷ bytes) z rest
 signed_found stop b bytes z rest sign e =
     let m = made_found second_before (long_to stop bytes) z rest e in
@@ -78,6 +79,7 @@ signed_found stop b bytes z rest sign e =
     let whole : b ∷ bytes ≡ 45 ∷ (decimal (suc k.0) ++ stop ∷ rest) = λ i. sign i ∷ (f.0 ∙ ap (λ (n : ℕ). decimal n ++ stop ∷ rest) k.1) i in
     subst (λ (y : ℤ). StandsAt stop (b ∷ bytes) y rest) k.2 (whole, record { sfits = k.3 })
 
+-- so does one from second 0 on
 unsigned_found : (stop : ℕ) (bytes : List ℕ) (z : ℤ) (rest : List ℕ) → made_by second_of (long_to stop bytes) ≡ Some (z, rest) → StandsAt stop bytes z rest
 unsigned_found stop bytes z rest e =
     let m = made_found second_of (long_to stop bytes) z rest e in
@@ -85,6 +87,7 @@ unsigned_found stop bytes z rest e =
     let k = second_of_found m.0 z m.2 in
     subst (λ (y : ℤ). StandsAt stop bytes y rest) k.0 (f.0, record { sfits = k.1 })
 
+-- a second that is read up to a byte stands there
 second_to_found : (stop : ℕ) (bytes : List ℕ) (z : ℤ) (rest : List ℕ) → second_to stop bytes ≡ Some (z, rest) → StandsAt stop bytes z rest
 unfolding second_to
 second_to_found stop [] z rest e = absurd cc
