@@ -5,3 +5,4 @@ pub mod BodyLaws
 pub mod LineLaws
 pub mod Reading
 pub mod Writing
+pub mod PartLaws

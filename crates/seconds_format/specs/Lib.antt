@@ -1,5 +1,6 @@
 pub mod Texts
 pub mod Begun
+pub mod Parts
 pub mod Words
 pub mod Forms
 pub mod Readers

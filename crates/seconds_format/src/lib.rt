@@ -9,6 +9,6 @@ mod read;
 mod seconds;
 mod write;
 
-pub use laws::{one_bad_line, one_text, text_or_bad_line};
+pub use laws::{one_bad_line, one_text, same_begun, text_or_bad_line};
 pub use read::read_seconds;
 pub use write::write_seconds;
