@@ -10,7 +10,7 @@ use Rattle.std.proofs.lemmas.Fmt.{decimal_is_IsNumeral, decimal-digits_value, de
 use Rattle.std.proofs.lemmas.List.{take_all}
 use Rattle.std.proofs.lemmas.Option.{cond_some}
 use Rattle.std.proofs.lemmas.Str.Parse.{numerals_by_value, tells_digits}
-use Rattle.evidence_format.specs.Words.{◌>>=◌, is_not, number, digit_after, digits_to, after_one, after_byte, number_to}
+use Rattle.evidence_format.specs.Words.{◌>>=◌, is_not, number, digit_after, digits_to, after_one, after_byte, long_to}
 use Rattle.evidence_format.proofs.Numbers.{some_bind, number_again, number_none}
 
 -- there is a first byte, and it is no zero, or stands alone
@@ -18,7 +18,7 @@ abbrev begins_well : List ℕ → Bool
 begins_well [] = false
 begins_well (b ∷ bytes) = not (eqb b 48) || eqb (length bytes) 0
 
--- the number below 2 ^ 32 that digits write after a number
+-- the number below 2 ^ 64 that digits write after a number
 unfoldable digits_after : ℕ → List ℕ → Option ℕ
 digits_after n [] = Some n
 digits_after n (b ∷ bytes) = digit_after n b >>= λ m. digits_after m bytes
@@ -29,23 +29,23 @@ value_rises n [] = omega arith
 value_rises n (b ∷ bytes) = omega (arith, value_rises (n * 10 + digit_value b) bytes)
 
 -- a digit that is read is one, and its number is not too large
-digit_found : (n b m : ℕ) → digit_after n b ≡ Some m → (digit_value b < 10) × (n * 10 + digit_value b ≡ m) × (m < 2 ^ 32)
+digit_found : (n b m : ℕ) → digit_after n b ≡ Some m → (digit_value b < 10) × (n * 10 + digit_value b ≡ m) × (m < 2 ^ 64)
 unfolding digit_after
 digit_found n b m e =
     let v = n * 10 + digit_value b in
-    let g = cond_some (ltb (digit_value b) 10 && ltb v (2 ^ 32)) v m e in
-    let t = and_parts (ltb (digit_value b) 10) (ltb v (2 ^ 32)) g.0 in
-    (ltb-true (digit_value b) 10 t.0, g.1, subst (λ (k : ℕ). k < 2 ^ 32) g.1 (ltb-true v (2 ^ 32) t.1))
+    let g = cond_some (ltb (digit_value b) 10 && ltb v (2 ^ 64)) v m e in
+    let t = and_parts (ltb (digit_value b) 10) (ltb v (2 ^ 64)) g.0 in
+    (ltb-true (digit_value b) 10 t.0, g.1, subst (λ (k : ℕ). k < 2 ^ 64) g.1 (ltb-true v (2 ^ 64) t.1))
 
 -- a digit is read where its number is not too large
-digit_again : (n b : ℕ) → digit_value b < 10 → n * 10 + digit_value b < 2 ^ 32 → digit_after n b ≡ Some (n * 10 + digit_value b)
+digit_again : (n b : ℕ) → digit_value b < 10 → n * 10 + digit_value b < 2 ^ 64 → digit_after n b ≡ Some (n * 10 + digit_value b)
 unfolding digit_after
-digit_again n b digit small = rw (lt-ltb (digit_value b) 10 digit, lt-ltb (n * 10 + digit_value b) (2 ^ 32) small) refl
+digit_again n b digit small = rw (lt-ltb (digit_value b) 10 digit, lt-ltb (n * 10 + digit_value b) (2 ^ 64) small) refl
 
 -- digits that are read are digits, and write the number
-digits_found : (m : ℕ) (bytes : List ℕ) (n : ℕ) → m < 2 ^ 32 → digits_after m bytes ≡ Some n → AllDigits 10 bytes × (digits_value_after 10 m bytes ≡ n) × (n < 2 ^ 32)
+digits_found : (m : ℕ) (bytes : List ℕ) (n : ℕ) → m < 2 ^ 64 → digits_after m bytes ≡ Some n → AllDigits 10 bytes × (digits_value_after 10 m bytes ≡ n) × (n < 2 ^ 64)
 unfolding digits_after
-digits_found m [] n small e = let same : m ≡ n = cc in (tt, same, subst (λ (k : ℕ). k < 2 ^ 32) same small)
+digits_found m [] n small e = let same : m ≡ n = cc in (tt, same, subst (λ (k : ℕ). k < 2 ^ 64) same small)
 digits_found m (b ∷ bytes) n small e =
     let s = some_bind (digit_after m b) (λ k. digits_after k bytes) n e in
     let d = digit_found m b s.0 s.1 in
@@ -53,11 +53,11 @@ digits_found m (b ∷ bytes) n small e =
     ((d.0, r.0), ap (λ (k : ℕ). digits_value_after 10 k bytes) d.1 ∙ r.1, r.2)
 
 -- digits are read where their number is not too large
-digits_again : (m : ℕ) (bytes : List ℕ) → AllDigits 10 bytes → digits_value_after 10 m bytes < 2 ^ 32 → digits_after m bytes ≡ Some (digits_value_after 10 m bytes)
+digits_again : (m : ℕ) (bytes : List ℕ) → AllDigits 10 bytes → digits_value_after 10 m bytes < 2 ^ 64 → digits_after m bytes ≡ Some (digits_value_after 10 m bytes)
 unfolding digits_after
 digits_again m [] digits small = refl
 digits_again m (b ∷ bytes) digits small =
-    let next : m * 10 + digit_value b < 2 ^ 32 = omega (arith, value_rises (m * 10 + digit_value b) bytes) in
+    let next : m * 10 + digit_value b < 2 ^ 64 = omega (arith, value_rises (m * 10 + digit_value b) bytes) in
     rw (digit_again m b digits.0 next) (digits_again (m * 10 + digit_value b) bytes digits.1 small)
 
 -- a word that begins well is of the number that its digits write
@@ -115,13 +115,13 @@ up_to stop n (b ∷ bytes) =
     ]
 
 -- what begins well is read by its digits
-by_digits : (stop : ℕ) (bytes : List ℕ) → begins_well (take (prefix_len (is_not stop) bytes) bytes) ≡ true → number_to stop bytes ≡ digits_to stop 0 bytes
-unfolding number_to
+by_digits : (stop : ℕ) (bytes : List ℕ) → begins_well (take (prefix_len (is_not stop) bytes) bytes) ≡ true → long_to stop bytes ≡ digits_to stop 0 bytes
+unfolding long_to
 by_digits stop bytes well = rw (number_is (take (prefix_len (is_not stop) bytes) bytes), well) (sym (up_to stop 0 bytes))
 
 -- no byte before the one that ends a number is no number
-empty_word : (stop b : ℕ) (bytes : List ℕ) → eqb b stop ≡ true → number_to stop (b ∷ bytes) ≡ None
-unfolding number_to
+empty_word : (stop b : ℕ) (bytes : List ℕ) → eqb b stop ≡ true → long_to stop (b ∷ bytes) ≡ None
+unfolding long_to
 empty_word stop b bytes e =
     let none : number [] ≡ None = number_is [] in
     rw (e, none) refl
@@ -135,8 +135,8 @@ abbrev with_rest : ℕ → Option (List ℕ) → Option (ℕ × List ℕ)
 with_rest n after = after >>= λ rest. Some (n, rest)
 
 -- after a zero the number ends
-zero_word : (stop b : ℕ) (bytes : List ℕ) → eqb b stop ≡ false → eqb b 48 ≡ true → number_to stop (b ∷ bytes) ≡ with_rest 0 (after_byte stop bytes)
-unfolding number_to
+zero_word : (stop b : ℕ) (bytes : List ℕ) → eqb b stop ≡ false → eqb b 48 ≡ true → long_to stop (b ∷ bytes) ≡ with_rest 0 (after_byte stop bytes)
+unfolding long_to
 zero_word stop b [] e z = rw (e, zero_alone b z) refl
 zero_word stop b (c ∷ bytes) e z =
     let k = prefix_len (is_not stop) bytes in
@@ -155,20 +155,20 @@ begun_to stop [] = digits_to stop 0 []
 begun_to stop (b ∷ bytes) = if eqb b stop then None else if eqb b 48 then (with_rest 0 (after_byte stop bytes)) else digits_to stop 0 (b ∷ bytes)
 
 -- the number up to a byte is read by its first byte
-pub number_to_is : (stop : ℕ) (bytes : List ℕ) → number_to stop bytes ≡ begun_to stop bytes
-unfolding number_to digits_to
-number_to_is stop [] = let none : number [] ≡ None = number_is [] in rw none refl
-number_to_is stop (b ∷ bytes) =
-    elim (eqb b stop) as (λ t. eqb b stop ≡ t → number_to stop (b ∷ bytes) ≡ cond t None (cond (eqb b 48) (with_rest 0 (after_byte stop bytes)) (digits_to stop 0 (b ∷ bytes)))) [
+pub long_to_is : (stop : ℕ) (bytes : List ℕ) → long_to stop bytes ≡ begun_to stop bytes
+unfolding long_to digits_to
+long_to_is stop [] = let none : number [] ≡ None = number_is [] in rw none refl
+long_to_is stop (b ∷ bytes) =
+    elim (eqb b stop) as (λ t. eqb b stop ≡ t → long_to stop (b ∷ bytes) ≡ cond t None (cond (eqb b 48) (with_rest 0 (after_byte stop bytes)) (digits_to stop 0 (b ∷ bytes)))) [
       | true ↦ λ e. empty_word stop b bytes e
-      | false ↦ λ e. elim (eqb b 48) as (λ t. eqb b 48 ≡ t → number_to stop (b ∷ bytes) ≡ cond t (with_rest 0 (after_byte stop bytes)) (digits_to stop 0 (b ∷ bytes))) [
+      | false ↦ λ e. elim (eqb b 48) as (λ t. eqb b 48 ≡ t → long_to stop (b ∷ bytes) ≡ cond t (with_rest 0 (after_byte stop bytes)) (digits_to stop 0 (b ∷ bytes))) [
         | true ↦ λ z. zero_word stop b bytes e z
         | false ↦ λ z. by_digits stop (b ∷ bytes) (rw (e, one-add (prefix_len (is_not stop) bytes), z) refl)
       ] refl
     ] refl
 
 -- a zero, and what follows the byte after it
-pub zero_read : (stop : ℕ) (bytes rest : List ℕ) → 1 ≤ length bytes → get_or bytes 0 0 ≡ 48 → (get_or bytes 0 0 ≡ stop → ⊥) → Some rest ≡ after_byte stop (take (length bytes - 1) (drop 1 bytes)) → Some (0, rest) ≡ number_to stop bytes
+pub zero_read : (stop : ℕ) (bytes rest : List ℕ) → 1 ≤ length bytes → get_or bytes 0 0 ≡ 48 → (get_or bytes 0 0 ≡ stop → ⊥) → Some rest ≡ after_byte stop (take (length bytes - 1) (drop 1 bytes)) → Some (0, rest) ≡ long_to stop bytes
 zero_read stop [] rest some zero apart e = absurd (omega arith)
 zero_read stop (b ∷ bytes) rest some zero apart e =
     let other : eqb b stop ≡ false = false_by b stop apart in

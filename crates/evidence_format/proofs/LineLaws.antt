@@ -60,11 +60,11 @@ lines_again (l ∷ ls) h =
 -- ---- each line of evidence is one
 
 -- a keyword and one number are a whole line
-one_is : (keyword : List ℕ) (n : ℕ) → list_all (is_not 10) keyword ≡ true → IsNumber n → IsLine (one_number keyword n)
+pub one_is : (keyword : List ℕ) (n : ℕ) → list_all (is_not 10) keyword ≡ true → IsNumber n → IsLine (one_number keyword n)
 one_is keyword n h small = (keyword ++ decimal n, all_append (is_not 10) keyword (decimal n) h (digits_differ 10 n (omega arith) small), refl)
 
 -- a keyword and two numbers are a whole line
-two_is : (keyword : List ℕ) (m n : ℕ) → list_all (is_not 10) keyword ≡ true → IsNumber m → IsNumber n → IsLine (two_numbers keyword m n)
+pub two_is : (keyword : List ℕ) (m n : ℕ) → list_all (is_not 10) keyword ≡ true → IsNumber m → IsNumber n → IsLine (two_numbers keyword m n)
 two_is keyword m n h small_m small_n =
     let one = all_append (is_not 10) keyword (decimal m) h (digits_differ 10 m (omega arith) small_m) in
     let space = all_append (is_not 10) (keyword ++ decimal m) (codes " ") one refl in
@@ -119,7 +119,7 @@ relation_is keyword a r b h small_a small_b =
     (keyword ++ decimal a ++ codes " " ++ rel_text r ++ codes " " ++ decimal b, all_append (is_not 10) (keyword ++ decimal a ++ codes " " ++ rel_text r ++ codes " ") (decimal b) other (digits_differ 10 b (omega arith) small_b), refl)
 
 -- a line for each value, each a whole one
-mapped_are : {A : Type 0} (Fits : A → Type 0) (line : A → List ℕ) → ((a : A) → Fits a → IsLine (line a)) → (vs : List A) → AllByRecursion Fits vs → AllByRecursion IsLine (map line vs)
+pub mapped_are : {A : Type 0} (Fits : A → Type 0) (line : A → List ℕ) → ((a : A) → Fits a → IsLine (line a)) → (vs : List A) → AllByRecursion Fits vs → AllByRecursion IsLine (map line vs)
 mapped_are Fits line each [] h = tt
 mapped_are Fits line each (v ∷ vs) h = (each v h.0, mapped_are Fits line each vs h.1)
 

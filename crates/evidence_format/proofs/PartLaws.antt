@@ -23,11 +23,11 @@ use Rattle.evidence_format.proofs.BodyLaws.{HasSpares, HasWalkAndSpares, HasClas
 use Rattle.evidence_format.proofs.FormLaws.{head_line}
 
 -- how many values there are, and a line for each
-abbrev counted_lines : {A : Type 0} → List ℕ → (A → List ℕ) → List A → Lines
+abbrev pub counted_lines : {A : Type 0} → List ℕ → (A → List ℕ) → List A → Lines
 counted_lines keyword line vs = one_number keyword (length vs) ∷ map line vs
 
 -- how many values there are, and a line for each of no more: so timelines and walks are begun
-abbrev IsBegunCount : {A : Type 0} → List ℕ → (A → List ℕ) → (A → Type 0) → Lines → Type 0
+abbrev pub IsBegunCount : {A : Type 0} → List ℕ → (A → List ℕ) → (A → Type 0) → Lines → Type 0
 IsBegunCount {A} keyword line Fits ls = (n : ℕ) × (vs : List A) × IsNumber n × All Fits vs × (length vs ≤ n) × (ls ≡ one_number keyword n ∷ map line vs)
 
 -- ---- the first lines of a whole text are begun by their parts
@@ -48,7 +48,7 @@ prefix_cons [] ys l rest e = inl refl
 prefix_cons (x ∷ xs) ys l rest e = inr (xs, (let k = e in cc), (let k = e in cc))
 
 -- the first lines of a count and so many values
-counted_prefix : {A : Type 0} (keyword : List ℕ) (line : A → List ℕ) (Fits : A → Type 0) (vs : List A) (xs ys : Lines) → AreCounted Fits vs → xs ++ ys ≡ counted_lines keyword line vs → MayBegin (IsBegunCount keyword line Fits) xs
+pub counted_prefix : {A : Type 0} (keyword : List ℕ) (line : A → List ℕ) (Fits : A → Type 0) (vs : List A) (xs ys : Lines) → AreCounted Fits vs → xs ++ ys ≡ counted_lines keyword line vs → MayBegin (IsBegunCount keyword line Fits) xs
 counted_prefix keyword line Fits vs xs ys fit e =
     elim (prefix_cons xs ys (one_number keyword (length vs)) (map line vs) e) [
       | inl none ↦ inl none
@@ -156,22 +156,33 @@ closed_prefix xs ys ls e =
       ]
     ]
 
+-- the first lines of a text: none, the first line and the first ones of its body, or all
+pub between_prefix : (first : List ℕ) (body xs ys : Lines) → xs ++ ys ≡ first ∷ (body ++ last_line ∷ [])
+    → (xs ≡ []) ⊎ ((ls : Lines) × (more : Lines) × (xs ≡ first ∷ ls) × (ls ++ more ≡ body)) ⊎ (xs ≡ first ∷ (body ++ last_line ∷ []))
+between_prefix first body xs ys e =
+    elim (prefix_cons xs ys first (body ++ last_line ∷ []) e) [
+      | inl none ↦ inl none
+      | inr m ↦ elim (closed_prefix m.0 ys body m.2) [
+        | inl k ↦ inr (inl (m.0, k.0, m.1, k.1))
+        | inr all ↦ inr (inr (m.1 ∙ ap (λ (x : Lines). first ∷ x) all))
+      ]
+    ]
+
 -- lines that begin a text are begun by their parts
 begun_by_parts : (ls : Lines) → IsBegun ls → IsBegunByParts ls
 begun_by_parts ls h =
-    let e = h.0 in
-    elim (prefix_cons ls h.1 first_line (body_lines e ++ last_line ∷ []) h.2.1) [
+    elim (between_prefix first_line (body_lines h.0) ls h.1 h.2.1) [
       | inl none ↦ inl none
-      | inr m ↦ elim (closed_prefix m.0 h.1 (body_lines e) m.2) [
-        | inl k ↦ opened ls m.0 m.1 (body_prefix e m.0 k.0 h.2.0 k.1)
-        | inr all ↦ inr (inr (inr (e, h.2.0, m.1 ∙ ap (λ (x : Lines). first_line ∷ x) all)))
+      | inr k ↦ elim k [
+        | inl m ↦ opened ls m.0 m.2 (body_prefix h.0 m.0 m.1 h.2.0 m.3)
+        | inr all ↦ inr (inr (inr (h.0, h.2.0, all)))
       ]
     ]
 
 -- ---- lines that are begun by their parts go on to a whole text
 
 -- a begun count goes on to so many values
-count_begins : {A : Type 0} (keyword : List ℕ) (line : A → List ℕ) (Fits : A → Type 0) (some : A) → Fits some → (ls : Lines) → IsBegunCount keyword line Fits ls → Begins (Has (AreCounted Fits) (counted_lines keyword line)) ls
+pub count_begins : {A : Type 0} (keyword : List ℕ) (line : A → List ℕ) (Fits : A → Type 0) (some : A) → Fits some → (ls : Lines) → IsBegunCount keyword line Fits ls → Begins (Has (AreCounted Fits) (counted_lines keyword line)) ls
 count_begins {A} keyword line Fits some fits ls t =
     let more : List A = replicate (t.0 - length t.1) some in
     let all = All-append Fits t.1 more t.3 (All-replicate Fits (t.0 - length t.1) some fits) in
@@ -273,15 +284,15 @@ body_begins ls (inr (inr (inr h))) =
     (c.0, c.1, (r.0, whole))
 
 -- after the first line, a body that goes on to a whole one goes on to a text
-text_begins : (ls rest : Lines) → ls ≡ first_line ∷ rest → Begins (Has IsWellFormed body_lines) rest → IsBegun ls
-text_begins ls rest first h =
-    (h.0, h.1 ++ last_line ∷ [], (h.2.0, ap (λ (x : Lines). x ++ (h.1 ++ last_line ∷ [])) first ∙ ap (λ (x : Lines). first_line ∷ x) (sym (append_assoc rest h.1 (last_line ∷ [])) ∙ ap (λ (x : Lines). x ++ last_line ∷ []) h.2.1)))
+pub between_begins : {A : Type 0} (first : List ℕ) (Fits : A → Type 0) (body : A → Lines) (ls rest : Lines) → ls ≡ first ∷ rest → Begins (Has Fits body) rest → Begins (Has Fits (λ a. first ∷ (body a ++ last_line ∷ []))) ls
+between_begins first Fits body ls rest e h =
+    (h.0, h.1 ++ last_line ∷ [], (h.2.0, ap (λ (x : Lines). x ++ (h.1 ++ last_line ∷ [])) e ∙ ap (λ (x : Lines). first ∷ x) (sym (append_assoc rest h.1 (last_line ∷ [])) ∙ ap (λ (x : Lines). x ++ last_line ∷ []) h.2.1)))
 
 -- lines that are begun by their parts begin a text
 parts_begin : (ls : Lines) → IsBegunByParts ls → IsBegun ls
 parts_begin ls (inl none) = (timeline [], text_lines (timeline []), (no_intervals, ap (λ (x : Lines). x ++ text_lines (timeline [])) none))
-parts_begin ls (inr (inl first)) = text_begins ls [] first (timeline [], timeline_lines [], (no_intervals, refl))
-parts_begin ls (inr (inr (inl t))) = text_begins ls t.0 t.2 (body_begins t.0 t.1)
+parts_begin ls (inr (inl first)) = between_begins first_line IsWellFormed body_lines ls [] first (timeline [], timeline_lines [], (no_intervals, refl))
+parts_begin ls (inr (inr (inl t))) = between_begins first_line IsWellFormed body_lines ls t.0 t.2 (body_begins t.0 t.1)
 parts_begin ls (inr (inr (inr w))) = (w.0, [], (w.1, append-nil ls ∙ w.2))
 
 -- both definitions of begun lines are one

@@ -72,7 +72,7 @@ pub one_of_texts : {A : Type 0} {T : A → List ℕ → Type 0} {G : A → Lines
 one_of_texts P a b text h k = let one = is_read P a text h in let two = is_read P b text k in cc
 
 -- a text has one bad line at most
-one_line : {A : Type 0} (G : A → Lines → Type 0) (text : List ℕ) (m n : ℕ) → IsBadLineBy (Begins G) text m → IsBadLineBy (Begins G) text n → m ≡ n
+pub one_line : {A : Type 0} (G : A → Lines → Type 0) (text : List ℕ) (m n : ℕ) → IsBadLineBy (Begins G) text m → IsBadLineBy (Begins G) text n → m ≡ n
 one_line G text m n h k =
     let same = one_place G (lines_of text) h.1 k.1 (h.0, h.2, h.4, h.5) (k.0, k.2, k.4, k.5) in
     h.3 ∙ ap (λ (ls : Lines). length ls + 1) same ∙ sym k.3

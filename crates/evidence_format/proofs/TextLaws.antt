@@ -71,13 +71,18 @@ pub evidence_is : (ls : Lines) → evidence_at ls ≡ all_of text_at ls
 unfolding evidence_at
 evidence_is ls = ends_after (line_at (same_of first_line) ls) (λ u rest. body_at rest)
 
+-- values that fit, by the lines of each between a first line and the last one
+pub exact_between : {A : Type 0} (first : List ℕ) (Fits : A → Type 0) (body : A → Lines) (p : Lines → Read A) → Exact (Has Fits body) p
+    → Exact (Has Fits (λ a. first ∷ (body a ++ last_line ∷ []))) (λ ls. line_at (same_of first) ls >>= λ u. closed (p u.1))
+exact_between first Fits body p P =
+    exact_same (Then (Fixed first) (λ u. Closed (Has Fits body))) (Has Fits (λ a. first ∷ (body a ++ last_line ∷ []))) (λ ls. line_at (same_of first) ls >>= λ u. closed (p u.1))
+    (λ a ls t.
+    let c = t.4 in
+    (c.1.0, t.5 ∙ ap (λ (x : Lines). x ++ t.2) t.3.1 ∙ ap (λ (x : Lines). first ∷ x) (c.2 ∙ ap (λ (x : Lines). x ++ last_line ∷ []) c.1.1)))
+    (λ a ls h. (tt, first ∷ [], body a ++ last_line ∷ [], (tt, refl), (body a, (h.0, refl), refl), h.1))
+    (exact_then (Fixed first) (λ u. Closed (Has Fits body)) (line_at (same_of first)) (λ u ls. closed (p ls)) (exact_fixed first)
+    (λ u prefix g. exact_closed (Has Fits body) p P))
+
 -- evidence from its first line to its last one
 pub exact_text : Exact HasLines text_at
-exact_text =
-    exact_same (Then (Fixed first_line) (λ u. Closed (Has IsWellFormed body_lines))) HasLines text_at
-    (λ e ls t.
-    let c = t.4 in
-    (c.1.0, t.5 ∙ ap (λ (x : Lines). x ++ t.2) t.3.1 ∙ ap (λ (x : Lines). first_line ∷ x) (c.2 ∙ ap (λ (x : Lines). x ++ last_line ∷ []) c.1.1)))
-    (λ e ls h. (tt, first_line ∷ [], body_lines e ++ last_line ∷ [], (tt, refl), (body_lines e, (h.0, refl), refl), h.1))
-    (exact_then (Fixed first_line) (λ u. Closed (Has IsWellFormed body_lines)) (line_at (same_of first_line)) (λ u ls. closed (body_at ls)) (exact_fixed first_line)
-    (λ u prefix g. exact_closed (Has IsWellFormed body_lines) body_at exact_body))
+exact_text = exact_between first_line IsWellFormed body_lines body_at exact_body

@@ -1,9 +1,9 @@
 -- What is read of a line is what stands there, and what stands there is read.
-use Rattle.std.proofs.Common.{◌≡◌, ℕ, ◌+◌, ◌%◌, ◌<◌, Bool, true, false, cond, not, eqb, ◌&&◌, List, [], ◌∷◌, ◌++◌, length, take, drop, Option, Some, None, refl, sym, ap, subst, ◌∙◌, append_assoc, one-add, arith, rules}
+use Rattle.std.proofs.Common.{◌≡◌, ℕ, ◌+◌, ◌%◌, ◌^◌, ◌<◌, Bool, true, false, cond, if◌then◌else◌, not, eqb, ltb, ◌&&◌, List, [], ◌∷◌, ◌++◌, length, take, drop, Option, Some, None, refl, sym, ap, subst, ◌∙◌, append_assoc, one-add, arith, rules}
 use Rattle.std.specs.Prelude.{decimal}
 use Rattle.std.specs.List.{prefix_len, list_all}
 use Rattle.std.specs.Str.{bytes_eq}
-use Rattle.std.proofs.lemmas.Bool.{eqb-true}
+use Rattle.std.proofs.lemmas.Bool.{eqb-true, ltb-true, lt-ltb}
 use Rattle.std.proofs.lemmas.Bool.Decides.{Decides-eqb}
 use Rattle.std.proofs.lemmas.List.{take_at, drop_at, take-append-drop, append-nil}
 use Rattle.std.proofs.lemmas.Fmt.{decimal_by_steps}
@@ -14,7 +14,7 @@ use Rattle.named.specs.Texts.{AreApart, named_of}
 use Rattle.named.proofs.Tables.{found_has}
 use Rattle.net_core.specs.Rels.{rel_text, all_rels}
 use Rattle.net_core.specs.declared.rels.Rel.{Rel}
-use Rattle.evidence_format.specs.Words.{◌>>=◌, is_not, number, number_to, word_to, after, after_one, alone, one_of, two_of, two_to, relation_of, same_of}
+use Rattle.evidence_format.specs.Words.{◌>>=◌, is_not, number, long_to, number_to, word_to, after, after_one, alone, one_of, two_of, two_to, relation_of, same_of}
 use Rattle.evidence_format.specs.Evidence.{IsNumber, IsPair, one_number, two_numbers, relation_line}
 use Rattle.evidence_format.proofs.Numbers.{some_bind, number_found, number_again}
 
@@ -25,11 +25,15 @@ differs : (stop b : ℕ) → stop < b → is_not stop b ≡ true
 differs stop b lt = elim (eqb b stop) as (λ t. eqb b stop ≡ t → not t ≡ true) [ true ↦ λ e. let same = eqb-true b stop e in absurd (omega arith) | false ↦ λ e. refl ] refl
 
 -- a byte below the digits stands in no number
-pub digits_differ : (stop n : ℕ) → stop < 48 → IsNumber n → list_all (is_not stop) (decimal n) ≡ true
-digits_differ stop n lt small = decimal_by_steps (λ n ds. list_all (is_not stop) ds ≡ true)
+pub long_differ : (stop n : ℕ) → stop < 48 → n < 2 ^ 64 → list_all (is_not stop) (decimal n) ≡ true
+long_differ stop n lt small = decimal_by_steps (λ n ds. list_all (is_not stop) ds ≡ true)
     (λ m h. rw (differs stop (48 + m) (omega arith)) refl)
     (λ m ds h k. all_append (is_not stop) ds ((48 + m % 10) ∷ []) k (rw (differs stop (48 + m % 10) (omega arith)) refl))
-    n (omega arith)
+    n small
+
+-- nor in a number below 2 ^ 32
+pub digits_differ : (stop n : ℕ) → stop < 48 → IsNumber n → list_all (is_not stop) (decimal n) ≡ true
+digits_differ stop n lt small = long_differ stop n lt (omega arith)
 
 -- a prefix ends at the first byte that fails
 prefix_again : (p : ℕ → Bool) (xs rest : List ℕ) (y : ℕ) → list_all p xs ≡ true → p y ≡ false → prefix_len p (xs ++ y ∷ rest) ≡ length xs
@@ -64,40 +68,54 @@ pub some_is : {A : Type 0} (x y : A) → one x ≡ one y → x ≡ y
 some_is x y e = cc
 
 -- a value with nothing after it
-alone_is : {A : Type 0} (a b : A) (rest : List ℕ) → alone a rest ≡ Some b → (a ≡ b) × (rest ≡ [])
+pub alone_is : {A : Type 0} (a b : A) (rest : List ℕ) → alone a rest ≡ Some b → (a ≡ b) × (rest ≡ [])
 alone_is a b [] e = (some_is a b e, refl)
 alone_is a b (x ∷ rest) e = absurd cc
 
 -- what follows a keyword follows it
-after_found : (keyword bytes rest : List ℕ) → after keyword bytes ≡ Some rest → bytes ≡ keyword ++ rest
+pub after_found : (keyword bytes rest : List ℕ) → after keyword bytes ≡ Some rest → bytes ≡ keyword ++ rest
 unfolding after
 after_found keyword bytes rest e =
     let g = cond_some _ (drop (length keyword) bytes) rest e in
     rw (← g.1) ((starts_is Decides-eqb bytes keyword _ refl).0 g.0)
 
 -- what follows a keyword is found
-after_again : (keyword rest : List ℕ) → after keyword (keyword ++ rest) ≡ Some rest
+pub after_again : (keyword rest : List ℕ) → after keyword (keyword ++ rest) ≡ Some rest
 unfolding after
 after_again keyword rest =
     rw ((starts_is Decides-eqb (keyword ++ rest) keyword _ refl).1 rest refl, drop_at keyword rest (length keyword) refl) refl
 
 -- a number that is read up to a byte stands there
-number_to_found : (stop : ℕ) (bytes : List ℕ) (n : ℕ) (rest : List ℕ) → number_to stop bytes ≡ Some (n, rest) → (bytes ≡ decimal n ++ stop ∷ rest) × IsNumber n
-unfolding number_to
-number_to_found stop bytes n rest e =
+pub long_to_found : (stop : ℕ) (bytes : List ℕ) (n : ℕ) (rest : List ℕ) → long_to stop bytes ≡ Some (n, rest) → (bytes ≡ decimal n ++ stop ∷ rest) × (n < 2 ^ 64)
+unfolding long_to
+long_to_found stop bytes n rest e =
     let k = prefix_len (is_not stop) bytes in
     let a = some_bind (number (take k bytes)) (λ n. after_one (drop k bytes) >>= λ rest. Some (n, rest)) (n, rest) e in
     let b = some_bind (after_one (drop k bytes)) (λ rest. Some (a.0, rest)) (n, rest) a.2 in
     let f = number_found (take k bytes) a.0 a.1 in
     let same = some_is (a.0, b.0) (n, rest) b.2 in
     let whole : bytes ≡ decimal a.0 ++ stop ∷ b.0 = sym (take-append-drop k bytes) ∙ ap (λ (x : List ℕ). x ++ drop k bytes) (sym f.0) ∙ ap (λ (x : List ℕ). decimal a.0 ++ x) (after_one_is stop bytes b.0 b.1) in
-    subst (λ (x : ℕ × List ℕ). (bytes ≡ decimal x.0 ++ stop ∷ x.1) × IsNumber x.0) same (whole, f.1)
+    subst (λ (x : ℕ × List ℕ). (bytes ≡ decimal x.0 ++ stop ∷ x.1) × (x.0 < 2 ^ 64)) same (whole, f.1)
 
 -- a number that stands there is read
+pub long_to_again : (stop n : ℕ) (rest : List ℕ) → stop < 48 → n < 2 ^ 64 → long_to stop (decimal n ++ stop ∷ rest) ≡ Some (n, rest)
+unfolding long_to
+long_to_again stop n rest lt small =
+    rw (prefix_again (is_not stop) (decimal n) rest stop (long_differ stop n lt small) (stops stop), take_at (decimal n) (stop ∷ rest) (length (decimal n)) refl, drop_at (decimal n) (stop ∷ rest) (length (decimal n)) refl, number_again n small) refl
+
+-- the same of numbers below 2 ^ 32
+number_to_found : (stop : ℕ) (bytes : List ℕ) (n : ℕ) (rest : List ℕ) → number_to stop bytes ≡ Some (n, rest) → (bytes ≡ decimal n ++ stop ∷ rest) × IsNumber n
+unfolding number_to
+number_to_found stop bytes n rest e =
+    let a = some_bind (long_to stop bytes) (λ n. if ltb n.0 (2 ^ 32) then Some (n.0, n.1) else None) (n, rest) e in
+    let g = cond_some (ltb a.0.0 (2 ^ 32)) (a.0.0, a.0.1) (n, rest) a.2 in
+    let small : IsNumber a.0.0 = ltb-true a.0.0 (2 ^ 32) g.0 in
+    subst (λ (x : ℕ × List ℕ). (bytes ≡ decimal x.0 ++ stop ∷ x.1) × IsNumber x.0) g.1 ((long_to_found stop bytes a.0.0 a.0.1 a.1).0, small)
+
+-- and one of them that stands there is read
 number_to_again : (stop n : ℕ) (rest : List ℕ) → stop < 48 → IsNumber n → number_to stop (decimal n ++ stop ∷ rest) ≡ Some (n, rest)
 unfolding number_to
-number_to_again stop n rest lt small =
-    rw (prefix_again (is_not stop) (decimal n) rest stop (digits_differ stop n lt small) (stops stop), take_at (decimal n) (stop ∷ rest) (length (decimal n)) refl, drop_at (decimal n) (stop ∷ rest) (length (decimal n)) refl, number_again n small) refl
+number_to_again stop n rest lt small = rw (long_to_again stop n rest lt (omega arith), lt-ltb n (2 ^ 32) small) refl
 
 -- a word that is read up to a byte stands there
 word_found : (stop : ℕ) (bytes word rest : List ℕ) → word_to stop bytes ≡ Some (word, rest) → bytes ≡ word ++ stop ∷ rest

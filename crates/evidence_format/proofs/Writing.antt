@@ -13,7 +13,7 @@ use Rattle.evidence_format.specs.Written.{timeline_bytes, walk_bytes, body_bytes
 use Rattle.evidence_format.proofs.LineLaws.{concat_append}
 
 -- lines, one for each value, joined
-mapped : {A : Type 0} (f : A → List ℕ) (vs : List A) → concat (map f vs) ≡ flat_map f vs
+pub mapped : {A : Type 0} (f : A → List ℕ) (vs : List A) → concat (map f vs) ≡ flat_map f vs
 mapped f [] = refl
 mapped f (v ∷ vs) = ap (λ (x : List ℕ). f v ++ x) (mapped f vs)
 

@@ -15,15 +15,15 @@ o >>= f = option_and_then f o
 abbrev pub is_not : ℕ → ℕ → Bool
 is_not stop b = not (b == stop)
 
--- the number below 2 ^ 32 that a word writes: it is the word that the number prints
+-- the number below 2 ^ 64 that a word writes: it is the word that the number prints
 unfoldable pub number : List ℕ → Option ℕ
-number word = if nat_lt (digits_value 10 word) (2 ^ 32) && bytes_eq (decimal (digits_value 10 word)) word then Some (digits_value 10 word) else None
+number word = if nat_lt (digits_value 10 word) (2 ^ 64) && bytes_eq (decimal (digits_value 10 word)) word then Some (digits_value 10 word) else None
 
--- the number below 2 ^ 32 that one digit more writes after a number
+-- the number below 2 ^ 64 that one digit more writes after a number
 unfoldable pub digit_after : ℕ → ℕ → Option ℕ
-digit_after n b = if nat_lt (digit_value b) 10 && nat_lt (n * 10 + digit_value b) (2 ^ 32) then Some (n * 10 + digit_value b) else None
+digit_after n b = if nat_lt (digit_value b) 10 && nat_lt (n * 10 + digit_value b) (2 ^ 64) then Some (n * 10 + digit_value b) else None
 
--- the number below 2 ^ 32 that digits write after a number, up to the byte that ends them, and what follows that byte
+-- the number below 2 ^ 64 that digits write after a number, up to the byte that ends them, and what follows that byte
 unfoldable pub digits_to : ℕ → ℕ → List ℕ → Option (ℕ × List ℕ)
 digits_to stop n [] = None
 digits_to stop n (b ∷ bytes) = if b == stop then Some (n, bytes) else (digit_after n b >>= λ m. digits_to stop m bytes)
@@ -42,12 +42,18 @@ abbrev pub after_byte : ℕ → List ℕ → Option (List ℕ)
 after_byte byte [] = None
 after_byte byte (b ∷ rest) = if b == byte then Some rest else None
 
--- the number up to the byte that ends it, and what follows that byte
-unfoldable pub number_to : ℕ → List ℕ → Option (ℕ × List ℕ)
-number_to stop bytes = do
+-- the number below 2 ^ 64 up to the byte that ends it, and what follows that byte
+unfoldable pub long_to : ℕ → List ℕ → Option (ℕ × List ℕ)
+long_to stop bytes = do
   n ← number (take (prefix_len (is_not stop) bytes) bytes)
   rest ← after_one (drop (prefix_len (is_not stop) bytes) bytes)
   Some (n, rest)
+
+-- the number below 2 ^ 32 up to the byte that ends it, and what follows that byte
+unfoldable pub number_to : ℕ → List ℕ → Option (ℕ × List ℕ)
+number_to stop bytes = do
+  n ← long_to stop bytes
+  if nat_lt n.0 (2 ^ 32) then Some (n.0, n.1) else None
 
 -- the word up to the byte that ends it, and what follows that byte
 unfoldable pub word_to : ℕ → List ℕ → Option (List ℕ × List ℕ)

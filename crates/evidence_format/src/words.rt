@@ -14,11 +14,25 @@ pub fn len_to(stop: u8, bytes: &[u8]) -> usize
     bytes.iter().take_while(|b| **b != stop).count()
 }
 
-/// The number up to the byte that ends it, and what follows that byte: in decimal, without sign and without leading
-/// zeros, and below 2^32.
-#[tactic(auto, using(crate::proofs::Digits::number_to_is))]
+/// The number below 2^32 up to the byte that ends it, and what follows that byte: in decimal, without sign and without
+/// leading zeros.
+#[tactic(auto, unfolding(crate::specs::Words::number_to))]
 fn number_to(stop: u8, bytes: &[u8]) -> Option<(u32, &[u8])>
     ensures { option_map (λ r. (r.0, r.1.now)) result ≡ words.number_to stop bytes.now }
+{
+    let (n, rest) = long_to(stop, bytes)?;
+    if n <= u64::from(u32::MAX) {
+        Some((n as u32, rest))
+    } else {
+        None
+    }
+}
+
+/// The number below 2^64 up to the byte that ends it, and what follows that byte: in decimal, without sign and without
+/// leading zeros.
+#[tactic(auto, using(crate::proofs::Digits::long_to_is))]
+pub fn long_to(stop: u8, bytes: &[u8]) -> Option<(u64, &[u8])>
+    ensures { option_map (λ r. (r.0, r.1.now)) result ≡ words.long_to stop bytes.now }
 {
     match bytes {
         [first, ..] if *first == stop => None,
@@ -39,7 +53,7 @@ fn after_byte(byte: u8, bytes: &[u8]) -> Option<&[u8]>
 
 /// The number that digits write, up to the byte that ends them, and what follows that byte.
 #[tactic(auto, unfolding(crate::specs::Words::digits_to))]
-fn digits_to(stop: u8, bytes: &[u8]) -> Option<(u32, &[u8])>
+fn digits_to(stop: u8, bytes: &[u8]) -> Option<(u64, &[u8])>
     ensures { option_map (λ r. (r.0, r.1.now)) result ≡ words.digits_to stop 0 bytes.now }
 {
     let mut n = 0;
@@ -56,11 +70,11 @@ fn digits_to(stop: u8, bytes: &[u8]) -> Option<(u32, &[u8])>
 
 /// The number that one digit more writes after a number.
 #[tactic(auto, unfolding(crate::specs::Words::digit_after))]
-fn digit_after(n: u32, b: u8) -> Option<u32>
+fn digit_after(n: u64, b: u8) -> Option<u64>
     ensures { result ≡ words.digit_after n b }
 {
     match b {
-        b'0'..=b'9' => n.checked_mul(10)?.checked_add((b - b'0') as u32),
+        b'0'..=b'9' => n.checked_mul(10)?.checked_add((b - b'0') as u64),
         _ => None,
     }
 }
@@ -87,7 +101,7 @@ pub fn is_same(line: &[u8], wanted: &[u8]) -> bool
 /// What follows a keyword. It stands in its callers, where the keyword is a constant.
 #[inline(always)]
 #[tactic(auto, unfolding(crate::specs::Words::after))]
-fn after<'t>(keyword: &[u8], line: &'t [u8]) -> Option<&'t [u8]>
+pub fn after<'t>(keyword: &[u8], line: &'t [u8]) -> Option<&'t [u8]>
     ensures { option_map (λ r. r.now) result ≡ words.after keyword.now line.now }
 {
     line.strip_prefix(keyword)

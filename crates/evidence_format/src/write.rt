@@ -270,7 +270,7 @@ fn push_relation(
 }
 
 /// A keyword that ends in a space, and a number.
-fn push_one(out: &mut Vec<u8>, keyword: &[u8], n: u32) -> Result<(), AllocError>
+pub fn push_one(out: &mut Vec<u8>, keyword: &[u8], n: u32) -> Result<(), AllocError>
     ensures { OnOk result (out.new.items ≡ out.old.items ++ lines.one_number keyword.now n) }
 {
     out.extend_from_slice(keyword)?;
@@ -279,7 +279,7 @@ fn push_one(out: &mut Vec<u8>, keyword: &[u8], n: u32) -> Result<(), AllocError>
 
 /// A keyword that ends in a space, and two numbers. It stands in its callers, where the keyword is a constant.
 #[inline(always)]
-fn push_two(out: &mut Vec<u8>, keyword: &[u8], m: u32, n: u32) -> Result<(), AllocError>
+pub fn push_two(out: &mut Vec<u8>, keyword: &[u8], m: u32, n: u32) -> Result<(), AllocError>
     ensures { OnOk result (out.new.items ≡ out.old.items ++ lines.two_numbers keyword.now m n) }
 {
     out.extend_from_slice(keyword)?;

@@ -3,6 +3,7 @@ mod canonical;
 mod documents;
 mod drills;
 mod readers;
+mod seconds;
 mod tags;
 mod trees;
 mod values;

@@ -1,6 +1,6 @@
 use Rattle.std.proofs.Common.{◌≡◌, get_or, rules}
 use Rattle.evidence_format.proofs.Digits.{zero_read}
-use Rattle.evidence_format.proofs.words.number_to.Goals as goal
+use Rattle.evidence_format.proofs.words.long_to.Goals as goal
 
 pub returns-in_ok-after_byte-in-48 : goal.returns-in_ok-after_byte-in-48
 returns-in_ok-after_byte-in-48 c =

@@ -1,0 +1,72 @@
+-- Lines are begun by their parts exactly where they begin a text.
+use Rattle.std.proofs.Common.{◌≡◌, ◌↔◌, inl, inr, ℤ, pos, List, [], ◌∷◌, ◌++◌, refl, sym, ap, ◌∙◌, arith}
+use Rattle.std.specs.Prelude.{codes}
+use Rattle.std.proofs.lemmas.List.{append-nil}
+use Rattle.std.proofs.lemmas.List.Elements.{All-from_recursion, All-nil, recursion_from_All}
+use Rattle.evidence_format.specs.Grammar.{Begins}
+use Rattle.evidence_format.specs.Lines.{Lines}
+use Rattle.evidence_format.specs.Parts.{MayBegin}
+use Rattle.evidence_format.proofs.PartLaws.{between_begins, between_prefix, count_begins, counted_lines, counted_prefix}
+use Rattle.evidence_format.proofs.ReaderLaws.{AreCounted, Has}
+use Rattle.seconds_core.specs.Evidence.{IsPlacing, PlainEvidence, Placed, Round}
+use Rattle.seconds_core.specs.declared.line.Line.TheVariants.{Span}
+use Rattle.seconds_format.specs.Begun.{IsBegun}
+use Rattle.seconds_format.specs.Parts.{IsBegunBody, IsBegunByParts}
+use Rattle.seconds_format.specs.Readers.{seconds_of}
+use Rattle.seconds_format.specs.Texts.{HasNumbers, IsPair, IsWellFormed, at_line, body_lines, cycle_line, first_line, pairs_of, text_lines}
+use Rattle.seconds_format.proofs.PairLaws.{long_again, pairs_again, pairs_length, pairs_long, seconds_length}
+
+-- the pairs of seconds that are well formed are counted by a number
+counted_pairs : (seconds : List ℤ) → IsWellFormed (Placed seconds) → AreCounted IsPair (pairs_of seconds)
+counted_pairs seconds h = (All-from_recursion IsPair (pairs_of seconds) (long_again seconds h.1), omega (arith, pairs_length seconds h.0.0, h.0.1))
+
+-- and the seconds of such pairs are well formed
+well_formed : (pairs : List (ℤ × ℤ)) → AreCounted IsPair pairs → IsWellFormed (Placed (seconds_of pairs))
+well_formed pairs h =
+    let placing : IsPlacing (seconds_of pairs) = (omega (arith, seconds_length pairs), omega (arith, seconds_length pairs, h.1)) in
+    (placing, pairs_long pairs (recursion_from_All IsPair pairs h.0))
+
+-- the first lines of a body
+body_prefix : (e : PlainEvidence) (xs ys : Lines) → IsWellFormed e → xs ++ ys ≡ body_lines e → MayBegin IsBegunBody xs
+body_prefix (Placed seconds) xs ys h e = elim (counted_prefix (codes "placing ") at_line IsPair (pairs_of seconds) xs ys (counted_pairs seconds h) e) [ inl none ↦ inl none | inr begun ↦ inr (inl begun) ]
+body_prefix (Round lines) xs ys h e = elim (counted_prefix (codes "cycle ") cycle_line HasNumbers lines xs ys h e) [ inl none ↦ inl none | inr begun ↦ inr (inr begun) ]
+
+-- after the first line, a body that may begin
+opened : (ls more : Lines) → ls ≡ first_line ∷ more → MayBegin IsBegunBody more → IsBegunByParts ls
+opened ls more first (inl none) = inr (inl (first ∙ ap (λ (x : Lines). first_line ∷ x) none))
+opened ls more first (inr begun) = inr (inr (inl (more, begun, first)))
+
+-- lines that begin a text are begun by their parts
+begun_by_parts : (ls : Lines) → IsBegun ls → IsBegunByParts ls
+begun_by_parts ls h =
+    elim (between_prefix first_line (body_lines h.0) ls h.1 h.2.1) [
+      | inl none ↦ inl none
+      | inr k ↦ elim k [
+        | inl m ↦ opened ls m.0 m.2 (body_prefix h.0 m.0 m.1 h.2.0 m.3)
+        | inr all ↦ inr (inr (inr (h.0, h.2.0, all)))
+      ]
+    ]
+
+-- a begun body goes on to a whole one
+body_begins : (ls : Lines) → IsBegunBody ls → Begins (Has IsWellFormed body_lines) ls
+body_begins ls (inl h) =
+    let p = count_begins (codes "placing ") at_line IsPair (pos 0, pos 0) (record { sfits = omega arith }, record { sfits = omega arith }) ls h in
+    (Placed (seconds_of p.0), p.1, (well_formed p.0 p.2.0, p.2.1 ∙ ap (λ (pairs : List (ℤ × ℤ)). counted_lines (codes "placing ") at_line pairs) (sym (pairs_again p.0))))
+body_begins ls (inr h) =
+    let c = count_begins (codes "cycle ") cycle_line HasNumbers (Span 0) (omega arith) ls h in
+    (Round c.0, c.1, (c.2.0, c.2.1))
+
+-- no lines are a cycle
+no_lines : IsWellFormed (Round [])
+no_lines = (All-nil HasNumbers, omega arith)
+
+-- lines that are begun by their parts begin a text
+parts_begin : (ls : Lines) → IsBegunByParts ls → IsBegun ls
+parts_begin ls (inl none) = (Round [], text_lines (Round []), (no_lines, ap (λ (x : Lines). x ++ text_lines (Round [])) none))
+parts_begin ls (inr (inl first)) = between_begins first_line IsWellFormed body_lines ls [] first (Round [], body_lines (Round []), (no_lines, refl))
+parts_begin ls (inr (inr (inl t))) = between_begins first_line IsWellFormed body_lines ls t.0 t.2 (body_begins t.0 t.1)
+parts_begin ls (inr (inr (inr w))) = (w.0, [], (w.1, append-nil ls ∙ w.2))
+
+-- both definitions of begun lines are one
+pub same_begun : (ls : Lines) → IsBegunByParts ls ↔ IsBegun ls
+same_begun ls = (parts_begin ls, begun_by_parts ls)

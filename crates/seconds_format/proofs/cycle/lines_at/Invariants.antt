@@ -1,0 +1,14 @@
+use Rattle.std.proofs.Common.{◌≡◌, ◌-◌, length}
+use Rattle.evidence_format.specs.Lines.{lines_of}
+use Rattle.evidence_format.specs.Reading.{line_at}
+use Rattle.evidence_format.specs.Readers.{many_at}
+use Rattle.evidence_format.proofs.Loops.{with_prefix}
+use Rattle.seconds_format.specs.Forms.{cycle_line_of}
+use Rattle.seconds_format.proofs.cycle.lines_at.Given as goal
+
+-- what was read and what is still read are all
+abbrev pub invariant-loop : goal.invariant-loop
+invariant-loop l = record {
+  lines : with_prefix l.lines (many_at (line_at cycle_line_of) (l.count - l.counter) (lines_of l.rest)) ≡ many_at (line_at cycle_line_of) l.count (lines_of l.text);
+  size : length l.lines ≡ l.counter;
+}

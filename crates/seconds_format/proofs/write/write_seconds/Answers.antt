@@ -1,0 +1,7 @@
+use Rattle.std.proofs.Common.{sym, ◌∙◌}
+use Rattle.seconds_core.specs.View.{evidence_of}
+use Rattle.seconds_format.proofs.Writing.{text_is}
+use Rattle.seconds_format.proofs.write.write_seconds.Goals as goal
+
+pub returns-in-Ok : goal.returns-in-Ok
+returns-in-Ok c = (c.in-Ok.ensures.good, c.from_vec.ensures ∙ c.in-Ok.ensures.bytes ∙ sym (text_is (evidence_of c.args.evidence.now)))

@@ -1,0 +1,37 @@
+-- The bad line of a text.
+use Rattle.std.specs.Prelude.{◌≡◌, ◌⊎◌, ℕ, List, ⊤, Result, Ok, Err}
+use Rattle.evidence_format.specs.Begun.{IsBadLineBy}
+use Rattle.evidence_format.specs.Grammar.{Begins}
+use Rattle.evidence_format.specs.Lines.{Lines}
+use Rattle.evidence_format.specs.declared.read.ReadEvidence.{ReadEvidence}
+use Rattle.evidence_format.specs.declared.read.ReadEvidence.TheVariants.{BadLine, Memory}
+use Rattle.seconds_core.specs.Evidence.{PlainEvidence}
+use Rattle.seconds_core.specs.View.{evidence_of}
+use Rattle.seconds_core.specs.declared.evidence.SecondsEvidence.{SecondsEvidence}
+use Rattle.seconds_format.specs.Texts.{IsText, IsWellFormed, text_lines}
+
+abbrev pub HasLines : PlainEvidence → Lines → Type 0
+HasLines e ls = IsWellFormed e × (ls ≡ text_lines e)
+
+-- the lines are the first ones of the text of some placing or cycle
+abbrev pub IsBegun : Lines → Type 0
+IsBegun ls = Begins HasLines ls
+
+-- the first line with which the lines so far begin no text of a placing or a cycle, or the one after the last
+abbrev pub IsBadLine : List ℕ → ℕ → Type 0
+IsBadLine text line = IsBadLineBy IsBegun text line
+
+-- this evidence was read, unless out of memory
+abbrev pub Reads : PlainEvidence → Result SecondsEvidence ReadEvidence → Type 0
+Reads e (Ok evidence) = evidence_of evidence ≡ e
+Reads e (Err Memory) = ⊤
+Reads e (Err (BadLine line)) = ⊥
+
+-- the bad line is reported, unless out of memory
+abbrev pub TellsBadLine : List ℕ → ReadEvidence → Type 0
+TellsBadLine text Memory = ⊤
+TellsBadLine text (BadLine line) = IsBadLine text line
+
+-- a text is that of some evidence, or is that of none and has a bad line
+abbrev pub TextOrBadLine : List ℕ → Type 0
+TextOrBadLine text = ((e : PlainEvidence) × IsText e text) ⊎ (((e : PlainEvidence) → IsText e text → ⊥) × (line : ℕ) × IsBadLine text line)

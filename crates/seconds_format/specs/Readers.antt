@@ -1,0 +1,48 @@
+-- Serves the code: reading a placing or a cycle, line by line.
+use Rattle.std.specs.Prelude.{ℕ, ℤ, List, [], ◌∷◌, Result, Ok}
+use Rattle.evidence_format.specs.Lines.{Lines}
+use Rattle.evidence_format.specs.Readers.{many_at, end_at}
+use Rattle.evidence_format.specs.Reading.{Read, ◌>>=◌, line_at}
+use Rattle.evidence_format.specs.Words.{same_of}
+use Rattle.seconds_core.specs.Evidence.{PlainEvidence, Placed, Round}
+use Rattle.seconds_core.specs.declared.line.Line.{Line}
+use Rattle.seconds_format.specs.declared.head.Head.{Head}
+use Rattle.seconds_format.specs.declared.head.Head.TheVariants.{Placing, Cycle}
+use Rattle.seconds_format.specs.Forms.{cycle_line_of, head_of}
+use Rattle.seconds_format.specs.Texts.{first_line}
+use Rattle.seconds_format.specs.Words.{pair_of}
+
+-- the seconds of n intervals
+abbrev pub pairs_at : ℕ → Lines → Read (List (ℤ × ℤ))
+pairs_at n ls = many_at (λ rest. line_at pair_of rest) n ls
+
+-- n lines of a cycle
+abbrev pub cycle_at : ℕ → Lines → Read (List Line)
+cycle_at n ls = many_at (λ rest. line_at cycle_line_of rest) n ls
+
+-- the seconds of all intervals, one after another
+abbrev pub seconds_of : List (ℤ × ℤ) → List ℤ
+seconds_of [] = []
+seconds_of (pair ∷ pairs) = pair.0 ∷ pair.1 ∷ seconds_of pairs
+
+-- what follows the line that names the kind
+unfoldable pub rest_at : Head → Lines → Read PlainEvidence
+rest_at (Placing n) ls = do
+  pairs ← pairs_at n ls
+  Ok (Placed (seconds_of pairs.0), pairs.1)
+rest_at (Cycle n) ls = do
+  lines ← cycle_at n ls
+  Ok (Round lines.0, lines.1)
+
+unfoldable pub body_at : Lines → Read PlainEvidence
+body_at ls = do
+  head ← line_at head_of ls
+  rest_at head.0 head.1
+
+-- a whole text
+unfoldable pub seconds_at : Lines → Result PlainEvidence Lines
+seconds_at ls = do
+  first ← line_at (same_of first_line) ls
+  e ← body_at first.1
+  end ← end_at e.1
+  Ok e.0

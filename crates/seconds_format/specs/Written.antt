@@ -1,0 +1,20 @@
+-- Serves the code: the bytes of a placing or a cycle, as they are written.
+use Rattle.std.specs.Prelude.{ℕ, ℤ, List, ◌++◌, length, codes}
+use Rattle.std.specs.List.{flat_map}
+use Rattle.evidence_format.specs.Evidence.{last_line, one_number}
+use Rattle.seconds_core.specs.Evidence.{PlainEvidence, Placed, Round}
+use Rattle.seconds_core.specs.declared.line.Line.{Line}
+use Rattle.seconds_format.specs.Texts.{at_line, cycle_line, first_line, pairs_of}
+
+abbrev pub placing_bytes : List ℤ → List ℕ
+placing_bytes seconds = one_number (codes "placing ") (length (pairs_of seconds)) ++ flat_map at_line (pairs_of seconds)
+
+abbrev pub cycle_bytes : List Line → List ℕ
+cycle_bytes lines = one_number (codes "cycle ") (length lines) ++ flat_map cycle_line lines
+
+abbrev pub body_bytes : PlainEvidence → List ℕ
+body_bytes (Placed seconds) = placing_bytes seconds
+body_bytes (Round lines) = cycle_bytes lines
+
+abbrev pub text_bytes : PlainEvidence → List ℕ
+text_bytes e = first_line ++ (body_bytes e ++ last_line)

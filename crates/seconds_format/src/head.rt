@@ -1,0 +1,38 @@
+//! The line that names the kind of evidence.
+ghost use Rattle.evidence_format.specs.Given.{Gives};
+ghost use Rattle.evidence_format.specs.Lines.{lines_of};
+ghost use Rattle.evidence_format.specs.Reading.{line_at};
+ghost use Rattle.seconds_format.specs.Forms as forms;
+ghost use Rattle.std.specs.Prelude.{◌≡◌};
+
+use evidence_format::line_texts::{Stop, next_line, one_of};
+
+/// The kind of evidence, with what its line says.
+#[derive(Clone, Copy)]
+pub enum Head {
+    /// A placing of so many intervals.
+    Placing { intervals: u32 },
+    /// A cycle of so many lines.
+    Cycle { lines: u32 },
+}
+
+/// The kind of evidence, and what follows its line.
+pub fn head_at(text: &[u8]) -> Result<(Head, &[u8]), Stop<'_>>
+    ensures { Gives (λ x. (x.0, lines_of x.1.now)) result (line_at forms.head_of (lines_of text.now)) }
+{
+    let (line, rest) = next_line(text).ok_or(Stop::BadLine(text))?;
+    let head = head_of(line).ok_or(Stop::BadLine(text))?;
+    Ok((head, rest))
+}
+
+/// The kind that a line names. None comes exactly where it names none.
+#[tactic(auto, unfolding(crate::specs::Forms::head_of))]
+fn head_of(line: &[u8]) -> Option<Head>
+    ensures { result ≡ forms.head_of line.now }
+{
+    if let Some(intervals) = one_of(b"placing ", line) {
+        return Some(Head::Placing { intervals });
+    }
+    let lines = one_of(b"cycle ", line)?;
+    Some(Head::Cycle { lines })
+}
