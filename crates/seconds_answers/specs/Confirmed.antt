@@ -1,0 +1,57 @@
+-- The command `confirm`: whether a placing or a cycle of a document is one.
+use Rattle.std.specs.Prelude.{◌≡◌, ◌⊎◌, ℕ, List, codes}
+use Rattle.answers.specs.Judged.{Judgements, JudgesFirst, judged_rows}
+use Rattle.answers.specs.Lines.{numbered}
+use Rattle.net_core.specs.Limits.{max_evidence}
+use Rattle.seconds_build.specs.Built.{IsTimedOf}
+use Rattle.seconds_check.specs.Confirmed.{IsConfirmed}
+use Rattle.seconds_check.specs.Refusals.{IsRefused}
+use Rattle.seconds_check.specs.declared.reason.SecondsReason.{SecondsReason}
+use Rattle.seconds_core.specs.Evidence.{PlainEvidence}
+use Rattle.seconds_core.specs.Timed.{PlainTimed}
+use Rattle.seconds_format.specs.Begun.{IsBadLine}
+use Rattle.seconds_format.specs.Texts.{IsText}
+use Rattle.tml_refs.specs.Documents.{PlainDocument}
+use Rattle.tml_run.specs.Rows.{File, Rows}
+use Rattle.tml_run.specs.declared.status.Status.{Status}
+use Rattle.tml_run.specs.declared.status.Status.TheVariants.{Done, EvidenceFault}
+use Rattle.seconds_answers.specs.Placed.{OfSeconds}
+use Rattle.seconds_answers.specs.Texts.{claim_line, refusal_line}
+use Rattle.seconds_answers.specs.declared.role.TheConstants.{SECONDS_WORD}
+
+-- the file of a name that is read as a placing or a cycle
+abbrev pub seconds_file : List ℕ → File
+seconds_file name = record { name = name; word = SECONDS_WORD.now; limit = max_evidence }
+
+-- the bytes are the text of a placing that is one, or of a negative cycle that is one, and the text says which
+abbrev pub ReportsClaim : PlainTimed → List ℕ → List ℕ → Type 0
+ReportsClaim timed bytes text = (e : PlainEvidence) × IsText e bytes × IsConfirmed timed e × (text ≡ claim_line e)
+
+-- the bytes are the text of neither, and the bad line is reported
+abbrev pub ReportsBadLine : List ℕ → List ℕ → Type 0
+ReportsBadLine bytes text = ((e : PlainEvidence) → IsText e bytes → ⊥) × (line : ℕ) × IsBadLine bytes line × (text ≡ numbered (codes "evidence line ") line)
+
+-- the bytes are the text of a placing or a cycle that is refused, and the first reason is reported
+abbrev pub ReportsRefusal : PlainTimed → List ℕ → List ℕ → Type 0
+ReportsRefusal timed bytes text = (e : PlainEvidence) × (reason : SecondsReason) × IsText e bytes × IsRefused timed e reason × (text ≡ refusal_line reason)
+
+abbrev pub OfText : PlainTimed → List ℕ → Status → List ℕ → Type 0
+OfText timed bytes Done text = ReportsClaim timed bytes text
+OfText timed bytes EvidenceFault text = ReportsBadLine bytes text ⊎ ReportsRefusal timed bytes text
+OfText timed bytes other text = ⊥
+
+-- the answer to a text, by the net of an accepted document with the limits of its intervals
+abbrev pub OfConfirm : Judgements
+OfConfirm contents bytes status text = (timed : PlainTimed) × IsTimedOf contents timed × OfText timed bytes status text
+
+-- the rows of `confirm NAME SECONDS`
+abbrev pub confirm_rows : List ℕ → List ℕ → Rows
+confirm_rows name seconds = judged_rows name (seconds_file seconds) OfConfirm
+
+-- the law: `confirm BAD MISSING` is answered by the fault of the document, and the other file is not reached
+abbrev pub ConfirmJudgesFirst : Type 0
+ConfirmJudgesFirst = (name seconds : List ℕ) → JudgesFirst name (confirm_rows name seconds)
+
+-- the law: what `seconds` prints of a document, `confirm` confirms of it
+abbrev pub SecondsAreConfirmed : Type 0
+SecondsAreConfirmed = (contents : PlainDocument) (status : Status) (text : List ℕ) → OfSeconds contents status text → (line : List ℕ) × OfConfirm contents text Done line

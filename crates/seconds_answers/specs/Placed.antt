@@ -1,0 +1,40 @@
+-- The command `seconds`: a placing of a document in whole seconds, or a cycle that shows that there is none.
+use Rattle.std.specs.Prelude.{◌≡◌, ◌⊎◌, ℕ, ℤ, List}
+use Rattle.answers.specs.Documents.{Contents, document_rows}
+use Rattle.seconds_build.specs.Built.{IsTimedOf}
+use Rattle.seconds_core.specs.Evidence.{Placed, Round}
+use Rattle.seconds_core.specs.Placed.{HasPlacing, IsPlaced}
+use Rattle.seconds_core.specs.Timed.{PlainTimed}
+use Rattle.seconds_core.specs.declared.line.Line.{Line}
+use Rattle.seconds_format.specs.Texts.{IsText}
+use Rattle.tml_run.specs.Answered.{Freedom}
+use Rattle.tml_run.specs.Rows.{Rows}
+use Rattle.tml_run.specs.declared.status.Status.{Status}
+use Rattle.tml_run.specs.declared.status.Status.TheVariants.{Clash, Done}
+use Rattle.tml_seconds.specs.Decided.{IsShortCycle}
+
+-- the text is that of a placing
+abbrev pub ShowsPlacing : PlainTimed → List ℕ → Type 0
+ShowsPlacing timed text = (seconds : List ℤ) × IsPlaced timed seconds × IsText (Placed seconds) text
+
+-- there is no placing, and the text is that of a negative cycle
+abbrev pub ShowsCycle : PlainTimed → List ℕ → Type 0
+ShowsCycle timed text = (HasPlacing timed → ⊥) × (lines : List Line) × IsShortCycle timed lines × IsText (Round lines) text
+
+-- a placing is printed, or a cycle that shows that there is none
+abbrev pub OfTimed : PlainTimed → Status → List ℕ → Type 0
+OfTimed timed Done text = ShowsPlacing timed text
+OfTimed timed Clash text = ShowsCycle timed text
+OfTimed timed other text = ⊥
+
+-- the same of the net of a document, with the limits of its intervals
+abbrev pub OfSeconds : Contents
+OfSeconds contents status text = (timed : PlainTimed) × IsTimedOf contents timed × OfTimed timed status text
+
+-- the rows of `seconds NAME`
+abbrev pub seconds_rows : List ℕ → Rows
+seconds_rows name = document_rows OfSeconds name
+
+-- which placing is printed, or which cycle, is free
+abbrev pub SecondsAreFree : Freedom
+SecondsAreFree contents status = (status ≡ Done) ⊎ (status ≡ Clash)
