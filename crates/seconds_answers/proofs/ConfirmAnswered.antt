@@ -1,0 +1,98 @@
+-- A text of seconds has one answer, by its document: one status, and one line.
+use Rattle.std.proofs.Common.{◌≡◌, ◌⊎◌, ℕ, List, codes, false, refl, sym, ap, subst, ◌∙◌, inl, inr}
+use Rattle.answers.specs.Judged.{AreJudged}
+use Rattle.answers.specs.Lines.{numbered}
+use Rattle.answers.proofs.Answered.{judged_answered_once, judges_first}
+use Rattle.net_core.specs.Limits.{max_evidence}
+use Rattle.seconds_build.specs.Built.{IsTimedOf}
+use Rattle.seconds_build.proofs.Built.{one_timed}
+use Rattle.seconds_check.specs.Confirmed.{IsConfirmed}
+use Rattle.seconds_check.specs.Refusals.{IsRefused}
+use Rattle.seconds_check.proofs.Verdicts.{confirmed_or_refused, one_verdict}
+use Rattle.seconds_core.specs.Evidence.{PlainEvidence, Placed, Round}
+use Rattle.seconds_core.specs.Timed.{PlainTimed}
+use Rattle.seconds_format.specs.Texts.{IsText}
+use Rattle.seconds_format.proofs.Reading.{every_text, one_bad, one_value}
+use Rattle.tml_accept.specs.Acceptance.{Says}
+use Rattle.tml_refs.specs.Documents.{PlainDocument}
+use Rattle.tml_run.specs.Answered.{AreAnswered, NeverFree}
+use Rattle.tml_run.specs.OneReply.{is_broken_off}
+use Rattle.tml_run.specs.declared.status.Status.{Status}
+use Rattle.tml_run.specs.declared.status.Status.TheVariants.{Clash, Done, EvidenceFault}
+use Rattle.seconds_answers.specs.Confirmed.{ConfirmJudgesFirst, OfConfirm, OfText, ReportsBadLine, ReportsClaim, ReportsRefusal, SecondsAreConfirmed, confirm_rows, seconds_file}
+use Rattle.seconds_answers.specs.Placed.{OfSeconds, OfTimed}
+use Rattle.seconds_answers.specs.Texts.{claim_line, refusal_line}
+use Rattle.seconds_answers.proofs.SecondsAnswered.{its_timed}
+
+module _ (timed : PlainTimed) (bytes : List ℕ) where
+  -- what is confirmed is not refused
+  claim_or_refusal : (text line : List ℕ) → ReportsClaim timed bytes text → ReportsRefusal timed bytes line → ⊥
+  claim_or_refusal text line h k =
+      (one_verdict timed h.0).not_both k.1 h.2 (subst (λ (e : PlainEvidence). IsRefused timed e k.1) (one_value k.0 h.0 bytes k.2 h.1) k.3)
+
+  same_status : (status other : Status) (text line : List ℕ) → OfText timed bytes status text → OfText timed bytes other line → status ≡ other
+  same_status Done Done text line h k = refl
+  same_status Done EvidenceFault text line h (inl k) = absurd (k.0 h.0 h.1)
+  same_status Done EvidenceFault text line h (inr k) = absurd (claim_or_refusal text line h k)
+  same_status EvidenceFault Done text line (inl h) k = absurd (h.0 k.0 k.1)
+  same_status EvidenceFault Done text line (inr h) k = absurd (claim_or_refusal line text k h)
+  same_status EvidenceFault EvidenceFault text line h k = refl
+  same_status Done other text line h k = absurd k
+  same_status EvidenceFault other text line h k = absurd k
+  same_status status other text line h k = absurd h
+
+  same_fault : (text line : List ℕ) → ReportsBadLine bytes text ⊎ ReportsRefusal timed bytes text → ReportsBadLine bytes line ⊎ ReportsRefusal timed bytes line → text ≡ line
+  same_fault text line (inl h) (inl k) = h.3 ∙ ap (numbered (codes "evidence line ")) (one_bad bytes h.1 k.1 h.2 k.2) ∙ sym k.3
+  same_fault text line (inl h) (inr k) = absurd (h.0 k.0 k.2)
+  same_fault text line (inr h) (inl k) = absurd (k.0 h.0 h.2)
+  same_fault text line (inr h) (inr k) =
+      let same = one_value h.0 k.0 bytes h.2 k.2 in
+      h.4 ∙ ap refusal_line ((one_verdict timed k.0).one_reason h.1 k.1 (subst (λ (e : PlainEvidence). IsRefused timed e h.1) same h.3) k.3) ∙ sym k.4
+
+  same_text : (status : Status) (text line : List ℕ) → OfText timed bytes status text → OfText timed bytes status line → text ≡ line
+  same_text Done text line h k = h.3 ∙ ap claim_line (one_value h.0 k.0 bytes h.1 k.1) ∙ sym k.3
+  same_text EvidenceFault text line h k = same_fault text line h k
+  same_text status text line h k = absurd h
+
+  whole : (status : Status) (text : List ℕ) → OfText timed bytes status text → is_broken_off status ≡ false
+  whole Done text h = refl
+  whole EvidenceFault text h = refl
+  whole status text h = absurd h
+
+-- a document has one net with limits
+along : (contents : PlainDocument) (bytes : List ℕ) (status : Status) (text : List ℕ) (timed other : PlainTimed) → IsTimedOf contents timed → IsTimedOf contents other → OfText timed bytes status text → OfText other bytes status text
+along contents bytes status text timed other built too h = subst (λ (t : PlainTimed). OfText t bytes status text) (one_timed contents timed other built too) h
+
+some : (doc : List ℕ) (contents : PlainDocument) → Says doc contents → (bytes : List ℕ) → (status : Status) × (text : List ℕ) × OfConfirm contents bytes status text
+some doc contents says bytes =
+    let its = its_timed doc contents says in
+    elim (every_text bytes) [
+      | inr bad ↦ (EvidenceFault, numbered (codes "evidence line ") bad.1, (its.timed, its.built, inl (bad.0, bad.1, bad.2, refl)))
+      | inl e ↦ elim (confirmed_or_refused its.timed e.0 its.is) [
+        | inl confirmed ↦ (Done, claim_line e.0, (its.timed, its.built, (e.0, e.1, confirmed, refl)))
+        | inr refused ↦ (EvidenceFault, refusal_line refused.0, (its.timed, its.built, inr (e.0, refused.0, e.1, refused.1, refl)))
+      ]
+    ]
+
+judged : AreJudged max_evidence OfConfirm (λ contents bytes status. ⊥)
+judged = record {
+  some = λ doc short contents says bytes few. some doc contents says bytes;
+  one_status = λ doc contents says bytes status other text line h k. same_status k.0 bytes status other text line (along contents bytes status text h.0 k.0 h.1 k.1 h.2) k.2;
+  whole = λ contents bytes status text h. whole h.0 bytes status text h.2;
+  one_text = λ doc contents says bytes status text line determined h k. same_text k.0 bytes status text line (along contents bytes status text h.0 k.0 h.1 k.1 h.2) k.2;
+}
+
+pub confirm_answered : (name seconds : List ℕ) → AreAnswered (confirm_rows name seconds) NeverFree
+confirm_answered name seconds = judged_answered_once name (seconds_file seconds) OfConfirm judged
+
+pub confirm_judges_first : ConfirmJudgesFirst
+confirm_judges_first name seconds = judges_first name (seconds_file seconds) OfConfirm
+
+-- what is printed is confirmed
+shown : (contents : PlainDocument) (timed : PlainTimed) (status : Status) (text : List ℕ) → IsTimedOf contents timed → OfTimed timed status text → (line : List ℕ) × OfConfirm contents text Done line
+shown contents timed Done text built h = (claim_line (Placed h.0), timed, built, (Placed h.0, h.2, h.1, refl))
+shown contents timed Clash text built h = (claim_line (Round h.1), timed, built, (Round h.1, h.3, h.2.0, refl))
+shown contents timed status text built h = absurd h
+
+pub seconds_are_confirmed : SecondsAreConfirmed
+seconds_are_confirmed contents status text (timed, built, h) = shown contents timed status text built h

@@ -1,0 +1,69 @@
+-- A document has one answer in seconds: one status. Which placing or which cycle is printed is free.
+use Rattle.std.proofs.Common.{◌≡◌, ◌⊎◌, ℕ, List, [], ◌∷◌, false, refl, sym, subst, inl, inr}
+use Rattle.answers.specs.Documents.{AreAnswered, doc_file, document_rows, of_contents, of_its_contents}
+use Rattle.answers.proofs.Answered.{contents_answered}
+use Rattle.seconds_build.specs.Built.{IsTimedOf}
+use Rattle.seconds_build.proofs.Built.{every_timed, one_timed}
+use Rattle.seconds_core.specs.Timed.{IsTimed, PlainTimed}
+use Rattle.tml_accept.specs.Acceptance.{Says}
+use Rattle.tml_refs.specs.Documents.{PlainDocument}
+use Rattle.tml_refs.proofs.Documents.{resolved_document}
+use Rattle.tml_run.specs.Answered.{AreAnswered as RowsAreAnswered}
+use Rattle.tml_run.specs.OneFile.{of_its_bytes}
+use Rattle.tml_run.specs.OneReply.{is_broken_off}
+use Rattle.tml_run.specs.declared.status.Status.{Status}
+use Rattle.tml_run.specs.declared.status.Status.TheVariants.{Clash, Done}
+use Rattle.tml_run.proofs.OneFile.{answered, freer}
+use Rattle.seconds_answers.specs.Placed.{OfSeconds, OfTimed, SecondsAreFree, seconds_rows}
+use Rattle.seconds_answers.proofs.Whole.{timed_answered}
+
+-- what an accepted document says has a net with limits
+pub record HasItsTimed (contents : PlainDocument) : Type 0 where
+  pub timed : PlainTimed
+  pub built : IsTimedOf contents timed
+  pub is : IsTimed timed
+
+pub its_timed : (doc : List ℕ) (contents : PlainDocument) → Says doc contents → HasItsTimed contents
+its_timed doc contents (root, (tree, (tags, types, resolved))) =
+    let found = every_timed contents (resolved_document tags contents resolved) in
+    record { timed = found.0; built = found.1; is = found.2 }
+
+timed_status : (timed : PlainTimed) (status other : Status) (text line : List ℕ) → OfTimed timed status text → OfTimed timed other line → status ≡ other
+timed_status timed Done Done text line h k = refl
+timed_status timed Done Clash text line h k = absurd (k.0 (h.0, h.1))
+timed_status timed Clash Done text line h k = absurd (h.0 (k.0, k.1))
+timed_status timed Clash Clash text line h k = refl
+timed_status timed Done other text line h k = absurd k
+timed_status timed Clash other text line h k = absurd k
+timed_status timed status other text line h k = absurd h
+
+whole : (timed : PlainTimed) (status : Status) (text : List ℕ) → OfTimed timed status text → is_broken_off status ≡ false
+whole timed Done text h = refl
+whole timed Clash text h = refl
+whole timed status text h = absurd h
+
+-- the texts of a placing and of a cycle are free, and there are no others
+abbrev IsFree : PlainDocument → Status → Type 0
+IsFree contents status = (status ≡ Done) ⊎ (status ≡ Clash)
+
+no_other : (timed : PlainTimed) (status : Status) (text line : List ℕ) → ((status ≡ Done) ⊎ (status ≡ Clash) → ⊥) → OfTimed timed status text → text ≡ line
+no_other timed Done text line determined h = absurd (determined (inl refl))
+no_other timed Clash text line determined h = absurd (determined (inr refl))
+no_other timed status text line determined h = absurd h
+
+seconds : AreAnswered OfSeconds IsFree
+seconds = record {
+  some = λ doc contents says. let its = its_timed doc contents says in let answer = timed_answered its.timed its.is in (answer.0, answer.1, (its.timed, its.built, answer.2));
+  one_status = λ doc contents says status other text line h k.
+      timed_status k.0 status other text line (subst (λ (t : PlainTimed). OfTimed t status text) (one_timed contents h.0 k.0 h.1 k.1) h.2) k.2;
+  whole = λ contents status text h. whole h.0 status text h.2;
+  one_text = λ doc contents says status text line determined h k. no_other h.0 status text line determined h.2;
+}
+
+free : (contents : List (List ℕ)) (status : Status) → of_its_bytes (of_its_contents IsFree) contents status → SecondsAreFree contents status
+free (doc ∷ []) status is = is.2
+free contents status is = absurd is
+
+pub seconds_answered : (name : List ℕ) → RowsAreAnswered (seconds_rows name) SecondsAreFree
+seconds_answered name = freer (seconds_rows name) (of_its_bytes (of_its_contents IsFree)) SecondsAreFree free
+    (answered (doc_file name) (of_contents OfSeconds) (of_its_contents IsFree) (contents_answered OfSeconds IsFree seconds))
