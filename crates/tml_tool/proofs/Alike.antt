@@ -10,6 +10,7 @@ use Rattle.order_answers.specs.Solve.{OfSolve}
 use Rattle.possible_answers.specs.Matrix.{OfMatrix}
 use Rattle.possible_answers.specs.Possible.{OfPossible}
 use Rattle.score_answers.specs.Reduce.{OfReduce}
+use Rattle.seconds_answers.specs.Placed.{OfSeconds}
 use Rattle.tml_accept.specs.Acceptance.{IsAccepted, Says}
 use Rattle.tml_accept.proofs.Phases.{accepted_or_fault, one_document}
 use Rattle.tml_canon.specs.Canonical.{canonical_text}
@@ -28,7 +29,7 @@ use Rattle.tml_tree.specs.Plain.{PlainNode}
 use Rattle.tml_tool.specs.Alike.{CanonicalIsAlike, HasReply, HoldsDocument, is_of_contents}
 use Rattle.tml_tool.specs.Forms.{argument}
 use Rattle.tml_tool.specs.declared.commands.Form.{Form}
-use Rattle.tml_tool.specs.declared.commands.Form.TheVariants.{Check, Dates, Solve, Ask, Relations, Possible, Matrix, Reduce}
+use Rattle.tml_tool.specs.declared.commands.Form.TheVariants.{Check, Dates, Solve, Ask, Relations, Possible, Matrix, Reduce, Seconds}
 
 -- the canonical text of an accepted document is accepted, and says the same
 canonical_accepted : (doc : List ℕ) (root : PlainNode) (contents : PlainDocument) → IsAccepted doc root contents → IsAccepted (canonical_text root) (canonical_tree root) contents
@@ -57,6 +58,7 @@ module _ (doc other : List ℕ) (contents : PlainDocument) (says : Says doc cont
     reply_alike Possible given status line e whole (taken, h) = rows_alike (OfPossible (argument given 0) (argument given 1)) status line taken whole h
     reply_alike Matrix given status line e whole (taken, h) = rows_alike (of_net OfMatrix) status line taken whole h
     reply_alike Reduce given status line e whole (taken, h) = rows_alike (of_net OfReduce) status line taken whole h
+    reply_alike Seconds given status line e whole (taken, h) = rows_alike OfSeconds status line taken whole h
     reply_alike form given status line e whole h = absurd cc
 
 -- a canonical text is its own, and is answered as the document is

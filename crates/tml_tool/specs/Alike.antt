@@ -8,7 +8,7 @@ use Rattle.tml_run.specs.Replies.{Replies}
 use Rattle.tml_run.specs.declared.status.Status.{Status}
 use Rattle.tml_tool.specs.Commands.{rows_with}
 use Rattle.tml_tool.specs.declared.commands.Form.{Form}
-use Rattle.tml_tool.specs.declared.commands.Form.TheVariants.{Check, Dates, Solve, Ask, Relations, Possible, Matrix, Reduce}
+use Rattle.tml_tool.specs.declared.commands.Form.TheVariants.{Check, Dates, Solve, Ask, Relations, Possible, Matrix, Reduce, Seconds}
 
 -- what is asked is answered by what the document says, and not by how it is written
 abbrev pub is_of_contents : Form → Bool
@@ -20,6 +20,7 @@ is_of_contents Relations = true
 is_of_contents Possible = true
 is_of_contents Matrix = true
 is_of_contents Reduce = true
+is_of_contents Seconds = true
 is_of_contents form = false
 
 -- a file holds a document that is short enough to be read

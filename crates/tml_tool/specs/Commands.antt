@@ -20,17 +20,19 @@ use Rattle.possible_answers.specs.Matrix.{matrix_rows}
 use Rattle.possible_answers.specs.Possible.{possible_rows}
 use Rattle.score_answers.specs.Reduce.{reduce_rows}
 use Rattle.score_answers.specs.Score.{ScoreIsFree, score_rows}
+use Rattle.seconds_answers.specs.Confirmed.{confirm_rows}
+use Rattle.seconds_answers.specs.Placed.{SecondsAreFree, seconds_rows}
 use Rattle.tml_run.specs.Answered.{Freedom, NeverFree}
 use Rattle.tml_run.specs.Rows.{Rows, answers}
 use Rattle.tml_run.specs.declared.status.Status.TheVariants.{Usage}
 use Rattle.tml_tool.specs.Forms.{argument, calls_for, taken_by, texts_of, usage_of, with_arguments}
 use Rattle.tml_tool.specs.declared.commands.Form.{Form}
-use Rattle.tml_tool.specs.declared.commands.Form.TheVariants.{Spans, Check, Dates, Solve, Ask, Relations, Canon, Verify, Drill, Renew, Join, Possible, Matrix, Reduce, Score}
+use Rattle.tml_tool.specs.declared.commands.Form.TheVariants.{Spans, Check, Dates, Solve, Ask, Relations, Canon, Verify, Drill, Renew, Join, Possible, Matrix, Reduce, Score, Seconds, Confirm}
 
 -- ---- the table
 
 abbrev pub all_forms : List Form
-all_forms = Spans ∷ Check ∷ Dates ∷ Solve ∷ Ask ∷ Relations ∷ Canon ∷ Verify ∷ Drill ∷ Renew ∷ Join ∷ Possible ∷ Matrix ∷ Reduce ∷ Score ∷ []
+all_forms = Spans ∷ Check ∷ Dates ∷ Solve ∷ Ask ∷ Relations ∷ Canon ∷ Verify ∷ Drill ∷ Renew ∷ Join ∷ Possible ∷ Matrix ∷ Reduce ∷ Score ∷ Seconds ∷ Confirm ∷ []
 
 abbrev pub word_of : Form → List ℕ
 word_of Spans = codes "spans"
@@ -48,6 +50,8 @@ word_of Possible = codes "possible"
 word_of Matrix = codes "matrix"
 word_of Reduce = codes "reduce"
 word_of Score = codes "score"
+word_of Seconds = codes "seconds"
+word_of Confirm = codes "confirm"
 
 -- the names of the arguments, of most forms that of a document alone
 abbrev pub arguments_of : Form → List (List ℕ)
@@ -58,6 +62,7 @@ arguments_of Renew = codes "EVIDENCE" ∷ []
 arguments_of Join = codes "EVIDENCE" ∷ codes "SECOND" ∷ []
 arguments_of Possible = codes "DOC" ∷ codes "X" ∷ codes "Y" ∷ []
 arguments_of Score = codes "DOC" ∷ codes "KEY" ∷ []
+arguments_of Confirm = codes "DOC" ∷ codes "SECONDS" ∷ []
 arguments_of form = codes "DOC" ∷ []
 
 -- whether a form takes so many arguments with these texts: a drill has a number
@@ -72,6 +77,7 @@ limits_of Drill = []
 limits_of Renew = max_evidence ∷ []
 limits_of Join = max_evidence ∷ max_evidence ∷ []
 limits_of Score = max_document ∷ max_document ∷ []
+limits_of Confirm = max_document ∷ max_evidence ∷ []
 limits_of form = max_document ∷ []
 
 -- what comes next, by the arguments of a form
@@ -91,8 +97,10 @@ rows_with Possible arguments = possible_rows (argument arguments 0) (argument ar
 rows_with Matrix arguments = matrix_rows (argument arguments 0)
 rows_with Reduce arguments = reduce_rows (argument arguments 0)
 rows_with Score arguments = score_rows (argument arguments 0) (argument arguments 1)
+rows_with Seconds arguments = seconds_rows (argument arguments 0)
+rows_with Confirm arguments = confirm_rows (argument arguments 0) (argument arguments 1)
 
--- after which contents the text of an answer is free: which clash is printed, and which walks prove a relation
+-- after which contents the text of an answer is free: which clash is printed, which walks prove a relation, and which placing or cycle shows whether there is one
 abbrev pub is_free_with : Form → List (List ℕ) → Freedom
 is_free_with Solve arguments = ClashIsFree
 is_free_with Ask arguments = AskIsFree (argument arguments 1) (argument arguments 2) (argument arguments 3)
@@ -101,6 +109,7 @@ is_free_with Possible arguments = ClashIsFree
 is_free_with Matrix arguments = ClashIsFree
 is_free_with Reduce arguments = ClashIsFree
 is_free_with Score arguments = ScoreIsFree
+is_free_with Seconds arguments = SecondsAreFree
 is_free_with form arguments = NeverFree
 
 -- ---- words

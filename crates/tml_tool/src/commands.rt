@@ -15,6 +15,7 @@ use named::Named;
 use order_answers::{Ask, Relations, Solve, drill_number, drill_summary};
 use possible_answers::{Matrix, Possible};
 use score_answers::{KEY, Reduce, Score};
+use seconds_answers::{Confirm, SECONDS, Seconds};
 use std::alloc::Global;
 use tml_io::Inputs;
 use tml_run::{Reply, Status, reply_of_file};
@@ -52,6 +53,10 @@ pub enum Form {
     Reduce,
     /// How much of a document follows from a key, and how much of the key from the document.
     Score,
+    /// A placing of a document in whole seconds, or a cycle that shows that there is none.
+    Seconds,
+    /// Whether a placing or a cycle of a document is one.
+    Confirm,
 }
 
 impl Named for Form {
@@ -80,6 +85,8 @@ impl Named for Form {
             Form::Matrix,
             Form::Reduce,
             Form::Score,
+            Form::Seconds,
+            Form::Confirm,
         ]
     }
 
@@ -100,6 +107,8 @@ impl Named for Form {
             Form::Matrix => b"matrix",
             Form::Reduce => b"reduce",
             Form::Score => b"score",
+            Form::Seconds => b"seconds",
+            Form::Confirm => b"confirm",
         }
     }
 }
@@ -112,7 +121,7 @@ impl Form {
         match self {
             Form::Ask => 4,
             Form::Possible => 3,
-            Form::Verify | Form::Join | Form::Score => 2,
+            Form::Verify | Form::Join | Form::Score | Form::Confirm => 2,
             _ => 1,
         }
     }
@@ -138,6 +147,8 @@ tml possible DOC X Y
 tml matrix DOC
 tml reduce DOC
 tml score DOC KEY
+tml seconds DOC
+tml confirm DOC SECONDS
 "
 }
 
@@ -194,6 +205,10 @@ pub fn reply_with<I: Inputs>(
         Form::Matrix => reply_of_document(alloc, &Matrix, first, inputs),
         Form::Reduce => reply_of_document(alloc, &Reduce, first, inputs),
         Form::Score => reply_of_judged(alloc, &Score, first, KEY, word(arguments, 1), inputs),
+        Form::Seconds => reply_of_document(alloc, &Seconds, first, inputs),
+        Form::Confirm => {
+            reply_of_judged(alloc, &Confirm, first, SECONDS, word(arguments, 1), inputs)
+        }
     }
 }
 

@@ -14,7 +14,7 @@ pub fn one_status()
 {}
 
 /// Where the text of a status is not free, by what a command has read, there is one text: which clash is printed is free,
-/// and which walks prove a relation.
+/// which walks prove a relation, and which placing or cycle shows whether there is one.
 pub fn one_text()
     ensures { (words : List (List ℕ)) (contents : List (List ℕ)) (status : Status)
         → (is_free (form_of words) contents status → ⊥) → HasOneText (rows_of (form_of words)) contents status }

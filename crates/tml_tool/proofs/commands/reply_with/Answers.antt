@@ -58,3 +58,9 @@ returns-in-Reduce-clause-reply g c = rw c.in-Reduce.is (rw c.word-first.ensures 
 
 pub returns-in-Score-clause-reply : goal.returns-in-Score-clause-reply
 returns-in-Score-clause-reply g c = rw c.in-Score.is (rw (c.word-first.ensures, c.word-in-Score.ensures) at c.reply_of_judged-in-Score.ensures.reply)
+
+pub returns-in-Seconds-clause-reply : goal.returns-in-Seconds-clause-reply
+returns-in-Seconds-clause-reply g c = rw c.in-Seconds.is (rw c.word-first.ensures at c.reply_of_document-in-Seconds.ensures.reply)
+
+pub returns-in-Confirm-clause-reply : goal.returns-in-Confirm-clause-reply
+returns-in-Confirm-clause-reply g c = rw c.in-Confirm.is (rw (c.word-first.ensures, c.word-in-Confirm.ensures) at c.reply_of_judged-in-Confirm.ensures.reply)
