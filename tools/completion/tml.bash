@@ -76,16 +76,17 @@ _tml_corpus() {
         fix) options+=(--diff --write --glob --config --tml --jobs) ;;
         tags) options+=(--glob --config --tml --jobs) ;;
         clashes) options+=(--evidence --repair "${shared[@]}") ;;
-        timeline) options+=(--output -o --touching --config --tml) ;;
-        matrix) options+=(--format --touching --config --tml) ;;
+        timeline) options+=(--output -o --touching --seconds --config --tml) ;;
+        matrix | seconds) options+=(--format --touching --config --tml) ;;
         open) options+=(--limit --pairs --touching --config --tml --jobs) ;;
         agree) options+=(--links --format --touching --glob --config --tml --jobs --cluster) ;;
     esac
     case ${COMP_WORDS[COMP_CWORD - 1]}:$COMP_CWORD:${COMP_WORDS[COMP_CWORD]} in
-        *:1:*) _tml_offer check fix tags clashes timeline matrix open agree --help ;;
+        *:1:*) _tml_offer check fix tags clashes timeline matrix seconds open agree --help ;;
         --format:*)
             case ${COMP_WORDS[1]} in
                 matrix) _tml_offer text csv html ;;
+                seconds) _tml_offer text json csv ics ;;
                 agree) _tml_offer text json csv ;;
                 *) _tml_offer text json junit github ;;
             esac

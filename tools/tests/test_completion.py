@@ -113,6 +113,7 @@ class Completion(CorpusTest):
             (["check", "--format", ""], ["text", "json", "junit", "github"], False),
             (["check", "--format", "j"], ["json", "junit"], False),
             (["matrix", "--format", ""], ["text", "csv", "html"], False),
+            (["seconds", "--format", ""], ["text", "json", "csv", "ics"], False),
             (["agree", "--format", ""], ["text", "json", "csv"], False),
             (["agree", "first", ""], [], True),
             (["check", "--jobs", ""], [], False),

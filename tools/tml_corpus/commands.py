@@ -208,6 +208,7 @@ def timeline_words(commands: argparse._SubParsersAction[Parser]) -> Parser:
     words.add_argument("document", metavar="DOC", help="a file")
     words.add_argument("-o", "--output", type=picture_name, required=True, metavar="FILE", help="the picture: FILE.svg, or FILE.html with the links of each row")
     words.add_argument("--touching", action="store_true", help=TOUCHING)
+    words.add_argument("--seconds", action="store_true", help="draw a placing in whole seconds, true to scale, as tml seconds has it")
     words.set_defaults(command=timeline_command)
     return words
 
@@ -480,9 +481,9 @@ def show_clashes(options: argparse.Namespace, stop: Interruption, wanted: Wanted
 
 def timeline_command(options: argparse.Namespace, stop: Interruption) -> int:
     """`tml-corpus timeline`."""
-    from .timeline import draw, write_picture
+    from .timeline import draw, draw_placing, write_picture
 
-    drawn = draw(options.program, options.document, options.output, options.touching)
+    drawn = (draw_placing if options.seconds else draw)(options.program, options.document, options.output, options.touching)
     if drawn.picture is not None and not stop.happened.is_set():
         write_picture(options.output, drawn.picture)
     sys.stdout.write(drawn.text)

@@ -137,6 +137,12 @@ class Constraints:
             raise CannotRun("the answers of tml to `seconds` and `dates` do not belong together")
         return -total
 
+    def in_time(self, cycle: Cycle) -> list[Step]:
+        """The lines of a cycle from the origin on, or from its first point, as time goes: each goes back from a later point."""
+        begins = [self.constraint(step).begin for step in cycle.steps]
+        first = begins.index(self.origin if self.origin in begins else min(begins))
+        return [*cycle.steps[first:], *cycle.steps[:first]][::-1]
+
     def ranges(self) -> list[tuple[float, float]]:
         """Of each point the earliest and the latest second that it can have, where some placing is there; perhaps without end."""
         constraints = list(self.all())

@@ -62,7 +62,7 @@ class Unplaced:
         things = ["links"] if self.links else []
         things += ["dates and lengths"] if self.notes else []
         what = " and ".join(things).replace("links and dates", "links, dates") or "intervals"
-        return f"no placing in seconds: these {what} cannot all be met, {counted(self.short, 'second')} short"
+        return f"no placing in seconds: these {what} cannot all be met, {self.short:,} {'second' if self.short == 1 else 'seconds'} short"
 
 
 def placed_document(program: Program, path: str, touching: bool) -> Placed | Unplaced | Unfit:
@@ -114,11 +114,11 @@ def between(second: int, earliest: int | None, latest: int | None) -> bool:
 
 
 def in_words(wording: Wording, cycle: Cycle) -> Unplaced:
-    """What a cycle goes over in words, each once: links as they come, and then what the dates and lengths say."""
+    """What a cycle goes over in words, each once: links as they come in time, and then what the dates and lengths say."""
     constraints = Constraints(wording)
-    short = constraints.short_of(cycle)
-    links = list(dict.fromkeys(step.first for step in cycle.steps if step.kind == "via"))
-    others = list(dict.fromkeys(step for step in cycle.steps if step.kind not in ("via", "span")))
+    short, steps = constraints.short_of(cycle), constraints.in_time(cycle)
+    links = list(dict.fromkeys(step.first for step in steps if step.kind == "via"))
+    others = list(dict.fromkeys(step for step in steps if step.kind not in ("via", "span")))
     return Unplaced([placed_link(wording, number) for number in links], [note(constraints, step) for step in others], short)
 
 
