@@ -1,11 +1,13 @@
 """The reference for `seconds` and `confirm`: against worked examples, and against all placings within a few seconds."""
 
 import itertools
+import os
 import random
+import re
 import unittest
 from collections import Counter
 
-from corpus import document
+from corpus import TOP, document
 
 from reference import Outcome, expected, judge, judge_failing
 from reference.dates import Bounds, Time
@@ -53,6 +55,16 @@ class Lengths(unittest.TestCase):
         self.assertEqual(self.limits(None), Limits())
         for kind in (b"DATE", b"TIME", b"SET"):
             self.assertEqual(self.limits(b"P1D", None, kind), Limits())
+
+    def test_the_table_of_the_page_on_dates(self):
+        with open(os.path.join(TOP, "docs", "DATES.md"), encoding="utf-8") as file:
+            rows = re.findall(r"^\| `([^`]+)` \| (.*?) \| (\d*) \| (\d*) \| .* \|$", file.read(), re.MULTILINE)
+        self.assertGreater(len(rows), 12)
+        for value, words, least, most in (map(str.strip, row) for row in rows):
+            kind = words if words in ("SET", "DATE") else "DURATION"
+            modifier = words.strip("`").encode() if words.startswith("`") else None
+            wanted = Limits(int(least) if least else None, int(most) if most else None)
+            self.assertEqual(self.limits(value.encode(), modifier, kind.encode()), wanted, (value, words))
 
     def test_modifiers(self):
         for modifier, limits in (
