@@ -144,7 +144,7 @@ def is_negative(timed: Timed, lines: Sequence[Line]) -> bool:
 
 
 class Rounds:
-    """How late each point is at most after any of them, by rounds: a round goes over the constraints of the points that fell in the last."""
+    """How late each point is at most after any of them, by rounds, each over the constraints of the points that fell in the one before."""
 
     def __init__(self, timed: Timed) -> None:
         """Begins with all points at 0."""

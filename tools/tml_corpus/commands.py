@@ -236,14 +236,14 @@ def seconds_words(commands: argparse._SubParsersAction[Parser]) -> Parser:
     words = commands.add_parser(
         "seconds",
         help="print a placing of a document in whole seconds",
-        description="Prints for each interval of a document a second for its start and one for its end, in which all links, dates and lengths of "
-        "durations are met, as tml seconds has them and tml confirm confirmed; and how far they can move. Where they cannot all be met it says "
-        "which ones, and where the document has a fault it names that; the status is 1 then.",
+        description="Prints for each interval of a document a second for its start and one for its end, in which all links, dates and lengths "
+        "of durations are met, as tml seconds has them and tml confirm confirmed; and how far they can move. Where they cannot all be met it "
+        "says which ones, and where the document has a fault it names that; the status is 1 then.",
         epilog="Example: tools/tml-corpus seconds --format ics samples/bridge.xml > bridge.ics",
     )
     words.add_argument("document", metavar="DOC", help="a file")
     words.add_argument("--format", choices=SECONDS_FORMS, default="text", help="lines (the default), JSON, CSV, or iCalendar")
-    words.add_argument("--touching", action="store_true", help="read links between dates that touch as the relation that holds, as IBEFORE for BEFORE")
+    words.add_argument("--touching", action="store_true", help="read links between dates that touch as the relation that holds")
     words.set_defaults(command=seconds_command)
     return words
 

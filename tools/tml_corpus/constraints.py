@@ -22,7 +22,7 @@ ORDERS = {
     "BEGINS": ("A0=B0", "B0=A0", "A1<B1"), "BEGUN_BY": ("A0=B0", "B0=A0", "B1<A1"), "ENDS": ("A1=B1", "B1=A1", "B0<A0"),
     "ENDED_BY": ("A1=B1", "B1=A1", "A0<B0"), "OVERLAPS": ("A0<B0", "B0<A1", "A1<B1"), "OVERLAPPED_BY": ("B0<A0", "A0<B1", "B1<A1"),
 }  # fmt: skip
-"""The orders of each relation between A and B, as docs/DEFINITIONS.md has them: a start is 0 and an end is 1; `<` is before, `=` no later."""
+"""The orders of each relation between A and B, in their order: a start is 0 and an end is 1; `<` is before, and `=` no later."""
 
 DURATION = re.compile(r"P(?:(\d{1,9})W)?(?:(\d{1,9})D)?(?:(T)(?:(\d{1,9})H)?(?:(\d{1,9})M)?(?:(\d{1,9})S)?)?", re.ASCII)
 UNITS = (604_800, 86_400, 3_600, 60, 1)

@@ -3,7 +3,7 @@
 from __future__ import annotations
 
 import math
-from dataclasses import dataclass
+from dataclasses import dataclass, replace
 
 from .check import PlacedNote
 from .civil import civil, length
@@ -14,7 +14,7 @@ from .files import CannotRead, counted, read_document
 from .fitting import Unfit, fault_of, not_judged
 from .program import FAULT, CannotRun, Program
 from .seconds import Cycle, Placing, Step, place
-from .touching import touching_copy
+from .touching import asks, touching_changes, with_changes
 from .words import Wording
 
 
@@ -44,6 +44,9 @@ class Placed:
     order: tuple[int, ...]
     """Of each interval in this order its number in the document."""
 
+    changes: tuple[PlacedNote, ...] = ()
+    """How links between dates that touch were read."""
+
     def counts(self) -> str:
         """How many intervals and links there are."""
         return f"{counted(len(self.intervals), 'interval')}, {counted(len(self.wording.link_tags), 'link')}"
@@ -56,6 +59,8 @@ class Unplaced:
     links: list[PlacedLink]
     notes: list[PlacedNote]
     short: int
+    changes: tuple[PlacedNote, ...] = ()
+    """How links between dates that touch were read."""
 
     def text(self) -> str:
         """It in one line."""
@@ -69,7 +74,8 @@ def placed_document(program: Program, path: str, touching: bool) -> Placed | Unp
     """The placing of a file, or why there is none. Links between dates that touch may be read as the relation that holds."""
     try:
         document = read_document(path)
-        return placed(program, path, touching_copy(program, document) if touching else document)
+        found = placed(program, path, document)
+        return read_touching(program, path, document) or found if touching and isinstance(found, Unplaced) else found
     except (CannotRead, CannotRun) as problem:
         return not_judged(path, problem)
 
@@ -83,6 +89,16 @@ def placed(program: Program, path: str, document: bytes) -> Placed | Unplaced | 
     if found.status == FAULT:
         return fault_of(program, path, document)
     raise CannotRun(found.problem())
+
+
+def read_touching(program: Program, path: str, document: bytes) -> Placed | Unplaced | None:
+    """The same with links between dates that touch read as the relation that holds, where there are such: none is true as it is written."""
+    changes = touching_changes(Wording(program, document))
+    found = placed(program, path, with_changes(document, changes)) if changes else None
+    if found is None or isinstance(found, Unfit):
+        return None
+    said = (PlacedNote(one.link.place, f"read as {one.relation}: {one.reason}, and {asks(one.link.relation)}") for one in changes)
+    return replace(found, changes=tuple(said))
 
 
 def with_intervals(wording: Wording, placing: Placing) -> Placed:

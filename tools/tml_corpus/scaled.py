@@ -16,9 +16,9 @@ from .seconds_formats import span
 PLOT, NARROWEST_BAR = 720, 2.0
 
 CAPTION = (
-    "An axis of time in whole seconds. Bars stand where tml seconds placed them and tml confirm confirmed it: all links, dates and lengths are "
-    "met. Where an interval can start earlier or end later its end fades, as far as that goes; to the edge, where there is no limit or it is "
-    "farther."
+    "An axis of time in whole seconds. Bars stand where tml seconds placed them and tml confirm confirmed it: all links, dates and "
+    "lengths are met. Where an interval can start earlier or end later its end fades, as far as that goes; to the edge, where there is no "
+    "limit or it is farther."
 )
 
 FADES = (

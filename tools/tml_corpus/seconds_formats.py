@@ -32,10 +32,10 @@ def label(one: PlacedInterval) -> str:
 
 def text(path: str, found: Placed) -> str:
     """A line for each interval: when it starts and ends, how long it lasts, its text, and whether it may be elsewhere."""
-    lines = [
-        f"{civil(one.start)} to {civil(one.end)}, {length(one.end - one.start)}: {shown(label(one))}{'' if one.is_fixed() else moved(one)}\n"
-        for one in found.intervals
-    ]
+    lines = []
+    for one in found.intervals:
+        when = f"{civil(one.start)} to {civil(one.end)}, {length(one.end - one.start)}"
+        lines.append(f"{when}: {shown(label(one))}{'' if one.is_fixed() else moved(one)}\n")
     return "".join([*lines, f"{shown(path)}: placed: {found.counts()}\n"])
 
 
@@ -69,16 +69,17 @@ def json(path: str, found: Placed) -> str:
 def unplaced_json(path: str, found: Unplaced) -> str:
     """What cannot all be met as an object."""
     printed: dict[str, object] = {"path": path, "verdict": "not placed", "links": [link_object(link) for link in found.links]}
-    return formats.printable({**printed, "notes": list(map(formats.note_object, found.notes)), "short": found.short, "message": found.text()})
+    printed |= {"notes": list(map(formats.note_object, found.notes)), "short": found.short, "message": found.text()}
+    return formats.printable(printed)
 
 
 def comma_separated(path: str, found: Placed) -> str:
     """A line for each interval, after one with the names of the columns; a bound that is not there is empty."""
     del path
-    rows = [
-        (one.name, harmless(one.text), one.kind, one.start, one.end, civil(one.start), civil(one.end), *map(date_or_nothing, one.starts + one.ends))
-        for one in found.intervals
-    ]
+    rows = []
+    for one in found.intervals:
+        bounds = map(date_or_nothing, one.starts + one.ends)
+        rows.append((one.name, harmless(one.text), one.kind, one.start, one.end, civil(one.start), civil(one.end), *bounds))
     return in_lines([HEAD, *rows])
 
 
@@ -119,6 +120,11 @@ def folded(line: str) -> str:
         parts[-1] += character
         size += room
     return "\r\n ".join(parts)
+
+
+def change_lines(path: str, found: Placed | Unplaced) -> str:
+    """How links between dates that touch were read, a line for each."""
+    return "".join(located(shown(path), note.place, f"note: {note.text}") + "\n" for note in found.changes)
 
 
 def unplaced_lines(path: str, found: Unplaced) -> str:

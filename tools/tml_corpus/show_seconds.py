@@ -9,7 +9,7 @@ from .files import counted, shown
 from .fitting import Unfit
 from .placed import Placed, Unplaced, placed_document
 from .program import Program
-from .seconds_formats import FORMS, unplaced_json, unplaced_lines
+from .seconds_formats import FORMS, change_lines, unplaced_json, unplaced_lines
 from .statuses import Status
 
 
@@ -20,6 +20,7 @@ def show_seconds(program: Program, path: str, form: str, touching: bool) -> int:
     if isinstance(found, Unfit):
         apart.write(found.text)
         return found.status
+    apart.write(change_lines(path, found))
     if isinstance(found, Unplaced):
         if form == "json":
             sys.stdout.write(unplaced_json(path, found))
