@@ -8,7 +8,7 @@ use Rattle.timex_value.specs.Durations.{CountThen, CountsThen, ClockText, is_pre
 use Rattle.timex_value.specs.declared.length.Count.{Count}
 use Rattle.timex_value.specs.declared.length.Count.TheVariants.{Absent, Number, Unknown}
 use Rattle.timex_value.specs.declared.length.Length.{Length}
-use Rattle.seconds_build.specs.Lengths.{TextsAreBelowTheLimit, number_of, seconds_in}
+use Rattle.seconds_build.specs.Lengths.{DurationsAreBelowTheLimit, number_of, seconds_in}
 
 -- a number has nine digits at most
 abbrev HasFewDigits : Count → Type 0
@@ -63,8 +63,8 @@ seconds_below w d h m s few =
     then_if IsBelow (number_of m) _ few.1.1.1.0 (λ e below_e.
     then_if IsBelow (number_of s) _ few.1.1.1.1.0 (λ f below_f. omega arith)))))
 
-pub texts_are_below : TextsAreBelowTheLimit
-texts_are_below text l h =
+pub durations_are_below : DurationsAreBelowTheLimit
+durations_are_below text l h =
     let date = all_few_digits (codes "YMWD") (l.years ∷ l.months ∷ l.weeks ∷ l.days ∷ []) h.0 h.1 h.3 in
     let clock = clock_few_digits l.hours l.minutes l.seconds h.1 h.4 in
     let below = seconds_below l.weeks l.days l.hours l.minutes l.seconds (date.1.1.0, (date.1.1.1.0, clock)) in

@@ -40,7 +40,7 @@ seconds_of l =
     if is_present l.years || is_present l.months then None
     else seconds_in l.weeks l.days l.hours l.minutes l.seconds
 
--- the length of a duration, which is below a limit
+-- the length of a duration: its seconds, where they are below the limit
 abbrev pub length_of : Length → Option ℕ
 length_of l = do
   n ← seconds_of l
@@ -55,7 +55,7 @@ at_least n = record { least = Some n; most = None }
 abbrev pub at_most : ℤ → Limits
 at_most n = record { least = None; most = Some n }
 
--- the limits of what has this modifier and length
+-- the limits of what has this modifier, and lasts n seconds without it
 abbrev pub limits_by : Option Modifier → ℤ → Limits
 limits_by None n = record { least = Some n; most = Some n }
 limits_by (Some ModifierOf.LessThan) n = at_most (n -ℤ pos 1)
@@ -64,15 +64,12 @@ limits_by (Some ModifierOf.MoreThan) n = at_least (n +ℤ pos 1)
 limits_by (Some ModifierOf.EqualOrMore) n = at_least n
 limits_by (Some modifier) n = no_limits
 
--- the same, and none of what has no length
-abbrev pub limits_within : Option Modifier → Option ℕ → Limits
-limits_within modifier length = option_map_or (λ n. limits_by modifier (pos n)) length no_limits
-
--- the limits of a time: only what is a duration and has a length has any
+-- the limits of a time: those of a duration that has a length, and none of all else
 abbrev pub limits_of : TimexKind → Option Modifier → Option Value → Limits
-limits_of KindOf.Duration modifier (Some (ValueOf.Duration l)) = limits_within modifier (length_of l)
+limits_of KindOf.Duration modifier (Some (ValueOf.Duration l)) =
+    option_map_or (λ n. limits_by modifier (pos n)) (length_of l) no_limits
 limits_of kind modifier value = no_limits
 
 -- the law: the seconds of a duration that a text spells are below the limit
-abbrev pub TextsAreBelowTheLimit : Type 0
-TextsAreBelowTheLimit = (text : List ℕ) (l : Length) → SpellsLength l text → IfSome (seconds_of l) (λ n. n < max_length)
+abbrev pub DurationsAreBelowTheLimit : Type 0
+DurationsAreBelowTheLimit = (text : List ℕ) (l : Length) → SpellsLength l text → IfSome (seconds_of l) (λ n. n < max_length)

@@ -6,6 +6,7 @@ ghost use Rattle.std.specs.List.{All};
 ghost use Rattle.std.specs.Prelude.{IfOk, map, ◌≡◌};
 ghost use Rattle.tml_refs.specs.View.{plain_interval};
 
+use crate::lengths::NO_LIMITS;
 use crate::limits_of;
 use net_build::net_of;
 use net_core::{List, Memory};
@@ -44,10 +45,7 @@ fn interval_limits(interval: Interval<'_>) -> Limits
     ensures lengths { AreLengths result }
 {
     match interval {
-        Interval::Instance { .. } => Limits {
-            least: None,
-            most: None,
-        },
+        Interval::Instance { .. } => NO_LIMITS,
         Interval::Timex {
             kind,
             modifier,

@@ -1,10 +1,10 @@
 //! Laws of lengths and of nets with limits: public functions that do nothing, each with the law as its contract.
 ghost use Rattle.seconds_build.specs.Built.{EveryTimed, OneTimed};
-ghost use Rattle.seconds_build.specs.Lengths.{TextsAreBelowTheLimit};
+ghost use Rattle.seconds_build.specs.Lengths.{DurationsAreBelowTheLimit};
 
-/// The seconds of a duration that a text spells are below the limit, so that each that has any has a length.
-pub fn texts_are_below_the_limit()
-    ensures { TextsAreBelowTheLimit }
+/// The seconds of a duration that a text spells are below the limit, so no length is lost by it.
+pub fn durations_are_below_the_limit()
+    ensures { DurationsAreBelowTheLimit }
 {}
 
 /// A document has one net with limits.

@@ -12,7 +12,7 @@ const HOUR: u64 = 60 * MINUTE;
 const DAY: u64 = 24 * HOUR;
 const WEEK: u64 = 7 * DAY;
 
-const NO_LIMITS: Limits = Limits {
+pub(crate) const NO_LIMITS: Limits = Limits {
     least: None,
     most: None,
 };
@@ -50,7 +50,7 @@ fn seconds_of(length: &Length) -> Option<u64>
     Some(weeks * WEEK + days * DAY + hours * HOUR + minutes * MINUTE + seconds)
 }
 
-/// The length of a duration. No text spells one that is beyond the limit.
+/// The length of a duration: its seconds, where they are below the limit, as those of each text are.
 fn length_of(length: &Length) -> Option<i64>
     ensures length { result ≡ option_map pos (spec.length_of length.now) }
     ensures bound { IfSome result (λ n. (pos 0 ≤ℤ n) × (n <ℤ pos max_length)) }
@@ -81,7 +81,7 @@ fn at_most(seconds: i64) -> Limits
     }
 }
 
-/// The limits of what has this modifier and length.
+/// The limits of what has this modifier, and lasts so many seconds without it.
 fn limits_by(modifier: Option<Modifier>, seconds: i64) -> Limits
     requires least { pos 0 ≤ℤ seconds }
     requires most { seconds <ℤ pos max_length }
@@ -111,18 +111,21 @@ fn limits_by(modifier: Option<Modifier>, seconds: i64) -> Limits
 }
 
 /// The limits of how long a time lasts, by its kind, its modifier and its value. A duration has a length where its
-/// value has neither years nor months, and no `X`. Without a modifier it lasts as long as that. With LESS_THAN and with
-/// MORE_THAN it lasts at least a second less or more, with EQUAL_OR_LESS no longer, and with EQUAL_OR_MORE no less. All
-/// else has no limits. It takes no memory.
+/// value has neither years nor months, and no `X`. Without a modifier it lasts that long, with LESS_THAN at least a
+/// second less, with EQUAL_OR_LESS no longer, with MORE_THAN at least a second more, and with EQUAL_OR_MORE no less.
+/// All else has no limits. It takes no memory.
 pub fn limits_of(kind: TimexKind, modifier: Option<Modifier>, value: Option<&Value>) -> Limits
     ensures limits { result ≡ spec.limits_of kind modifier (option_map (λ v. v.now) value.entry) }
     ensures lengths { AreLengths result }
 {
-    match (kind, value) {
-        (TimexKind::Duration, Some(Value::Duration(length))) => match length_of(length) {
-            Some(seconds) => limits_by(modifier, seconds),
-            None => NO_LIMITS,
+    match kind {
+        TimexKind::Duration => match value {
+            Some(Value::Duration(length)) => match length_of(length) {
+                Some(seconds) => limits_by(modifier, seconds),
+                None => NO_LIMITS,
+            },
+            Some(Value::Calendar(_) | Value::Other) | None => NO_LIMITS,
         },
-        _ => NO_LIMITS,
+        TimexKind::Date | TimexKind::Time | TimexKind::Set => NO_LIMITS,
     }
 }
