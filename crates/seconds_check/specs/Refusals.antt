@@ -58,8 +58,8 @@ IsNoCycle timed lines other = ⊥
 
 -- why seconds are no placing, or lines no negative cycle
 abbrev pub IsRefused : PlainTimed → PlainEvidence → SecondsReason → Type 0
-IsRefused timed (Placed seconds) reason = IsMisplaced timed seconds reason
-IsRefused timed (Round lines) reason = IsNoCycle timed lines reason
+IsRefused timed (Placed seconds) = IsMisplaced timed seconds
+IsRefused timed (Round lines) = IsNoCycle timed lines
 
 -- the law: evidence is not both confirmed and refused, and is refused for one reason at most
 pub record Verdicts (timed : PlainTimed) (e : PlainEvidence) : Type 0 where

@@ -5,10 +5,11 @@ ghost use Rattle.seconds_check.specs.Refusals.{FirstBroken, FirstOutside, FirstU
 ghost use Rattle.seconds_core.specs.Evidence.{IsPlacing};
 ghost use Rattle.seconds_core.specs.Placed as spec;
 ghost use Rattle.seconds_core.specs.Placed.{AreInOrder, IsBetween, IsPlaced, KeepsBounds, KeepsLimits, KeepsLink, KeepsOrder, StartsFirst};
+ghost use Rattle.std.specs.List.{AllByRecursion};
 ghost use Rattle.std.specs.Prelude.{IfErr, IfSome, IsTrue, OnOk, length, true, ◌*◌, ◌+◌, ◌<◌, ◌≡◌, ◌↔◌, ◌≤ℤ◌, ◌-ℤ◌};
 
 use crate::refusal::SecondsReason;
-use net_core::{Atom, Ends, orders_of};
+use net_core::{Atom, Ends, Rel, orders_of};
 use seconds_core::{Limits, Timed};
 
 /// Ok where the seconds are a placing, else the first reason why they are none.
@@ -111,15 +112,21 @@ fn is_before(first: i64, second: i64) -> bool
     first < second
 }
 
-/// Whether the link holds: each order that its relation is.
+/// Whether the link holds.
 fn keeps_link(timed: &Timed, seconds: &[i64], link: u32) -> bool
     requires { link < length timed.now.net.links }
     ensures { IsTrue result ↔ KeepsLink seconds.now (link_at timed.now.net link) }
 {
     let link = timed.net().link(link);
-    let a = points_of(link.a);
-    let b = points_of(link.b);
-    orders_of(link.rel)
+    keeps_relation(seconds, link.rel, points_of(link.a), points_of(link.b))
+}
+
+/// Whether each order that a relation is holds between two intervals of these points.
+#[tactic(auto, using(crate::proofs::Links::orders_are_kept))]
+fn keeps_relation(seconds: &[i64], rel: Rel, a: Ends, b: Ends) -> bool
+    ensures { IsTrue result ↔ AllByRecursion (KeepsOrder seconds.now) (atoms.atoms_between rel a b) }
+{
+    orders_of(rel)
         .iter()
         .all(|order| keeps_order(seconds, order.between(a, b)))
 }
