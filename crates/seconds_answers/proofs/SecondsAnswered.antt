@@ -3,7 +3,8 @@ use Rattle.std.proofs.Common.{◌≡◌, ◌⊎◌, ℕ, List, [], ◌∷◌, fa
 use Rattle.answers.specs.Documents.{AreAnswered, doc_file, document_rows, of_contents, of_its_contents}
 use Rattle.answers.proofs.Answered.{contents_answered}
 use Rattle.seconds_build.specs.Built.{IsTimedOf}
-use Rattle.seconds_build.proofs.Built.{every_timed, one_timed}
+use Rattle.seconds_build.proofs.EveryTime.{every_timed}
+use Rattle.seconds_build.proofs.Nets.{one_timed}
 use Rattle.seconds_core.specs.Timed.{IsTimed, PlainTimed}
 use Rattle.tml_accept.specs.Acceptance.{Says}
 use Rattle.tml_refs.specs.Documents.{PlainDocument}
