@@ -25,8 +25,8 @@ use Rattle.seconds_core.specs.declared.line.Line.TheVariants.{Span, Via, Lower, 
 use Rattle.seconds_format.specs.Texts.{HasNumbers, IsLong, IsText, IsWellFormed, text_lines}
 use Rattle.tml_run.specs.declared.status.Status.{Status}
 use Rattle.tml_run.specs.declared.status.Status.TheVariants.{Clash, Done}
-use Rattle.tml_seconds.proofs.EveryNet.{every_net_is_decided}
-use Rattle.tml_seconds.specs.Decided.{IsFar, IsShortCycle}
+use Rattle.seconds_search.proofs.EveryNet.{every_net_is_decided}
+use Rattle.seconds_search.specs.Decided.{IsFar, IsShortCycle}
 use Rattle.seconds_answers.specs.Placed.{OfTimed, ShowsCycle, ShowsPlacing}
 
 -- the numbers of a line that names a constraint can stand in a text
