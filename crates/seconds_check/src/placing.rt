@@ -5,7 +5,7 @@ ghost use Rattle.seconds_check.specs.Refusals.{FirstBroken, FirstOutside, FirstU
 ghost use Rattle.seconds_core.specs.Evidence.{IsPlacing};
 ghost use Rattle.seconds_core.specs.Placed as spec;
 ghost use Rattle.seconds_core.specs.Placed.{AreInOrder, IsBetween, IsPlaced, KeepsBounds, KeepsLimits, KeepsLink, KeepsOrder, StartsFirst};
-ghost use Rattle.std.specs.List.{AllByRecursion};
+ghost use Rattle.std.specs.List.{All};
 ghost use Rattle.std.specs.Prelude.{IfErr, IfSome, IsTrue, OnOk, length, true, ◌*◌, ◌+◌, ◌<◌, ◌≡◌, ◌↔◌, ◌≤ℤ◌, ◌-ℤ◌};
 
 use crate::refusal::SecondsReason;
@@ -118,13 +118,14 @@ fn keeps_link(timed: &Timed, seconds: &[i64], link: u32) -> bool
     ensures { IsTrue result ↔ KeepsLink seconds.now (link_at timed.now.net link) }
 {
     let link = timed.net().link(link);
-    keeps_relation(seconds, link.rel, points_of(link.a), points_of(link.b))
+    let a = points_of(link.a);
+    let b = points_of(link.b);
+    keeps_relation(seconds, link.rel, a, b)
 }
 
 /// Whether each order that a relation is holds between two intervals of these points.
-#[tactic(auto, using(crate::proofs::Links::orders_are_kept))]
 fn keeps_relation(seconds: &[i64], rel: Rel, a: Ends, b: Ends) -> bool
-    ensures { IsTrue result ↔ AllByRecursion (KeepsOrder seconds.now) (atoms.atoms_between rel a b) }
+    ensures { IsTrue result ↔ All (λ order. KeepsOrder seconds.now (atoms.atom_between a b order)) (atoms.orders_of rel) }
 {
     orders_of(rel)
         .iter()
