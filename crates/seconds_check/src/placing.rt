@@ -6,7 +6,7 @@ ghost use Rattle.seconds_core.specs.Evidence.{IsPlacing};
 ghost use Rattle.seconds_core.specs.Placed as spec;
 ghost use Rattle.seconds_core.specs.Placed.{AreInOrder, IsBetween, IsPlaced, KeepsBounds, KeepsLimits, KeepsLink, KeepsOrder, StartsFirst};
 ghost use Rattle.std.specs.List.{All};
-ghost use Rattle.std.specs.Prelude.{IfErr, IfSome, IsTrue, OnOk, length, true, ◌*◌, ◌+◌, ◌<◌, ◌≡◌, ◌↔◌, ◌≤ℤ◌, ◌-ℤ◌};
+ghost use Rattle.std.specs.Prelude.{IfErr, IfSome, IsTrue, OnOk, length, ◌*◌, ◌+◌, ◌<◌, ◌≡◌, ◌↔◌, ◌<ℤ◌, ◌≤ℤ◌, ◌-ℤ◌};
 
 use crate::refusal::SecondsReason;
 use net_core::{Atom, Ends, Rel, orders_of};
@@ -107,7 +107,7 @@ fn starts_first(seconds: &[i64], interval: u32) -> bool
 }
 
 fn is_before(first: i64, second: i64) -> bool
-    ensures { IsTrue result ↔ AreInOrder true first second }
+    ensures { IsTrue result ↔ (first <ℤ second) }
 {
     first < second
 }
@@ -156,7 +156,11 @@ fn keeps_order(seconds: &[i64], atom: Atom) -> bool
 fn are_in_order(strict: bool, first: i64, second: i64) -> bool
     ensures { IsTrue result ↔ AreInOrder strict first second }
 {
-    if strict { first < second } else { first <= second }
+    if strict {
+        first < second
+    } else {
+        first <= second
+    }
 }
 
 /// Whether the point is in the calendar.
