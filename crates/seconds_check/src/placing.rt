@@ -87,15 +87,10 @@ fn first_wrong_length(timed: &Timed, seconds: &[i64]) -> Option<u32>
 }
 
 /// The second of a point; that of the origin, which is past them all, is 0.
-#[tactic(auto, using(std::proofs::lemmas::Option::gets))]
 fn second_at(seconds: &[i64], point: usize) -> i64
     ensures { result ≡ spec.second_at seconds.now point }
 {
-    if point < seconds.len() {
-        seconds[point]
-    } else {
-        0
-    }
+    seconds.get(point).copied().unwrap_or(0)
 }
 
 /// Whether the interval starts before it ends.
