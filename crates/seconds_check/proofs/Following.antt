@@ -1,5 +1,5 @@
 -- Following lines from a point, and where they stop.
-use Rattle.std.proofs.Common.{◌≡◌, ◌≢◌, ℕ, ◌+◌, ◌*◌, ◌<◌, ℤ, pos, neg_ℤ, ◌+ℤ◌, ◌≤ℤ◌, List, [], ◌∷◌, ◌++◌, length, take, get_or, refl, sym, ap, subst, ◌∙◌, add-one, arith, Option, Some, None, IfNone}
+use Rattle.std.proofs.Common.{◌≡◌, ℕ, ◌+◌, ◌*◌, ◌<◌, ℤ, pos, neg_ℤ, ◌+ℤ◌, ◌≤ℤ◌, List, [], ◌∷◌, ◌++◌, length, take, get_or, refl, sym, ap, subst, ◌∙◌, arith, Option, Some, None, IfNone}
 use Rattle.std.proofs.lemmas.Int.{ints}
 use Rattle.std.proofs.lemmas.List.{take_more}
 use Rattle.seconds_core.specs.declared.line.Constraint.{Constraint}
@@ -8,10 +8,8 @@ use Rattle.seconds_core.specs.declared.line.Line.TheVariants as lines
 use Rattle.seconds_core.specs.Constraints.{IsWithin, constraint_of}
 use Rattle.seconds_core.specs.Cycles.{IsJoined, sum_of, weight_in}
 use Rattle.seconds_core.specs.Timed.{PlainTimed, max_second}
-use Rattle.seconds_check.specs.declared.refusal.SecondsReason.TheVariants.{Step}
-use Rattle.seconds_check.specs.Following.{StopsAt}
-use Rattle.seconds_check.specs.Refusals.{GoFrom, GoOn, IsNoCycle}
-use Rattle.seconds_check.proofs.Joined.{joined_push, joined_split, one_end, start_is, sum_push}
+use Rattle.seconds_check.specs.Refusals.{GoFrom}
+use Rattle.seconds_check.proofs.Joined.{joined_push, joined_split, one_end, sum_push}
 
 -- what is read past the end of a list of lines
 abbrev pub no_line : Line
@@ -54,22 +52,3 @@ module _ (timed : PlainTimed) where
       let parts = joined_split timed (take i all) line x goes.0 (subst (λ (some : List Line). IsJoined timed some x goes.0) (take_more all i no_line lt) goes.1) in
       let same = one_end timed (take i all) x parts.0 y parts.1 so_far.joined in
       none parts.2.0 parts.2.1 (parts.2.2 ∙ same)
-
-  -- ---- a cycle, whose first line begins anywhere
-
-  -- where following from the first point stops, the lines do not go on from any point
-  pub stops_anywhere : (first : Line) (rest : List Line) (c : Constraint) (k : ℕ) → constraint_of timed first ≡ Some c → StopsAt timed c.from (first ∷ rest) k → IsNoCycle timed (first ∷ rest) (Step k)
-  stops_anywhere first rest c k named stop = (
-    stop.0,
-    (c.from, (stop.1.0, stop.1.1)),
-    λ on. stop.2 (subst (λ (x : ℕ). GoFrom timed x (take (k + 1) (first ∷ rest))) (sym (begins on)) on.1),
-  )
-    where
-      begins : (on : GoOn timed (take (k + 1) (first ∷ rest))) → c.from ≡ on.0
-      begins on =
-          let start : take (k + 1) (first ∷ rest) ≡ first ∷ take k rest = rw (add-one k) refl in
-          start_is timed first (take k rest) on.0 on.1.0 c (subst (λ (some : List Line). IsJoined timed some on.0 on.1.0) start on.1.1) named
-
-  -- a first line that names no constraint goes on from no point
-  pub names_none : (first : Line) (rest : List Line) → constraint_of timed first ≡ None → IsNoCycle timed (first ∷ rest) (Step 0)
-  names_none first rest none = (omega arith, (0, (0, refl)), λ on. let named = on.1.1.1 in cc)

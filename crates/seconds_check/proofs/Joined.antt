@@ -1,6 +1,7 @@
 -- Joined lines, and their sum.
-use Rattle.std.proofs.Common.{◌≡◌, ℕ, zero, suc, ◌≤◌, ℤ, ◌+ℤ◌, List, [], ◌∷◌, ◌++◌, take, Some, refl, sym, ap, subst, ◌∙◌, arith}
+use Rattle.std.proofs.Common.{◌≡◌, ℕ, zero, suc, ◌≤◌, ◌+ℤ◌, List, [], ◌∷◌, ◌++◌, take, Some, refl, sym, ap, subst, ◌∙◌, arith}
 use Rattle.std.proofs.lemmas.Int.{ints}
+use Rattle.std.proofs.lemmas.List.{take-take}
 use Rattle.std.proofs.lemmas.Option.{same_Some}
 use Rattle.seconds_core.specs.declared.line.Constraint.{Constraint}
 use Rattle.seconds_core.specs.declared.line.Line.{Line}
@@ -63,10 +64,4 @@ module _ (timed : PlainTimed) where
   pub goes_less : (lines : List Line) (j k : ℕ) → j ≤ k → GoOn timed (take k lines) → GoOn timed (take j lines)
   goes_less lines j k le goes =
       let less = goes_whole (take k lines) goes.0 goes.1.0 j goes.1.1 in
-      subst (GoOn timed) (take_take j k lines le) less
-    where
-      take_take : (j k : ℕ) (all : List Line) → j ≤ k → take j (take k all) ≡ take j all
-      take_take zero k all le = refl
-      take_take (suc j) zero all le = absurd (omega arith)
-      take_take (suc j) (suc k) [] le = refl
-      take_take (suc j) (suc k) (line ∷ all) le = ap (λ (some : List Line). line ∷ some) (take_take j k all (omega arith))
+      subst (GoOn timed) (take-take j k lines le) less

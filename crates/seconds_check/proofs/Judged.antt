@@ -1,14 +1,13 @@
 -- Evidence is confirmed, or refused.
-use Rattle.std.proofs.Common.{◌≡◌, ◌⊎◌, inl, inr, true, ℕ, zero, suc, ◌+◌, ◌*◌, ◌/◌, ◌%◌, ◌<◌, ℤ, pos, ◌≤ℤ◌, ◌<ℤ◌, List, length, take, refl, sym, subst, add-one, arith}
+use Rattle.std.proofs.Common.{◌≡◌, ◌⊎◌, inl, inr, true, ℕ, zero, suc, ◌+◌, ◌*◌, ◌/◌, ◌%◌, ◌<◌, ℤ, pos, List, length, take, refl, sym, subst, add-one, arith}
 use Rattle.std.proofs.Math.Seq.{take-length}
-use Rattle.std.proofs.lemmas.Int.{by_lt_z, ints}
-use mathlib.Core.Logic.Dec
+use Rattle.std.proofs.lemmas.Int.{by_lt_z}
 use native.Mathlib.Decide.{ℕ_discrete}
 use Rattle.net_core.specs.Nets.{intervals, link_at, points}
 use Rattle.net_core.proofs.FirstLaws.{first_or_none}
 use Rattle.seconds_core.specs.declared.line.Line.{Line}
 use Rattle.seconds_core.specs.Cycles.{IsJoined, IsNegative, sum_of}
-use Rattle.seconds_core.specs.Evidence.{PlainEvidence, Placed, Round}
+use Rattle.seconds_core.specs.Evidence.{Placed, Round}
 use Rattle.seconds_core.specs.Placed.{IsPlaced, KeepsBounds, KeepsLimits, KeepsLink, StartsFirst, lasts, second_at}
 use Rattle.seconds_core.specs.Timed.{PlainTimed, limits_at, lower_second, upper_second}
 use Rattle.seconds_check.specs.declared.refusal.SecondsReason.{SecondsReason}

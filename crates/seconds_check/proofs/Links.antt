@@ -1,17 +1,16 @@
--- The orders of a relation, one by one and as those of a link.
+-- A link holds of seconds where they keep each order of its relation.
 use Rattle.std.proofs.Common.{◌↔◌, ℤ, List}
-use Rattle.std.specs.List.{All, AllByRecursion}
+use Rattle.std.specs.List.{All}
 use Rattle.std.proofs.lemmas.List.Elements.{All-from_recursion, recursion_from_All}
-use Rattle.net_core.specs.Atoms.{atom_between, atoms_between, orders_of}
+use Rattle.net_core.specs.Atoms.{atom_between, orders_of, points_of}
 use Rattle.net_core.specs.declared.atom.PairOrder.{PairOrder}
-use Rattle.net_core.specs.declared.net.Ends.{Ends}
-use Rattle.net_core.specs.declared.rels.Rel.{Rel}
+use Rattle.net_core.specs.declared.net.NetLink.{NetLink}
 use Rattle.net_core.proofs.AtomLaws.{all_mapped}
-use Rattle.seconds_core.specs.Placed.{KeepsOrder}
+use Rattle.seconds_core.specs.Placed.{KeepsLink, KeepsOrder}
 
--- seconds keep each order of a relation between two intervals where they keep all of them
-pub orders_are_kept : (seconds : List ℤ) (r : Rel) (a b : Ends) → All (λ order. KeepsOrder seconds (atom_between a b order)) (orders_of r) ↔ AllByRecursion (KeepsOrder seconds) (atoms_between r a b)
-orders_are_kept seconds r a b =
-    let Kept = λ (order : PairOrder). KeepsOrder seconds (atom_between a b order) in
-    let mapped = all_mapped (KeepsOrder seconds) (atom_between a b) (orders_of r) in
-    (λ all. mapped.0 (recursion_from_All Kept (orders_of r) all), λ keeps. All-from_recursion Kept (orders_of r) (mapped.1 keeps))
+pub orders_say_the_link : (seconds : List ℤ) (link : NetLink) → All (λ order. KeepsOrder seconds (atom_between (points_of link.a) (points_of link.b) order)) (orders_of link.rel) ↔ KeepsLink seconds link
+orders_say_the_link seconds link =
+    let between = atom_between (points_of link.a) (points_of link.b) in
+    let Kept = λ (order : PairOrder). KeepsOrder seconds (between order) in
+    let mapped = all_mapped (KeepsOrder seconds) between (orders_of link.rel) in
+    (λ all. mapped.0 (recursion_from_All Kept (orders_of link.rel) all), λ keeps. All-from_recursion Kept (orders_of link.rel) (mapped.1 keeps))

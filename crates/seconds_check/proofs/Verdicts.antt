@@ -6,7 +6,7 @@ use Rattle.net_core.specs.Nets.{intervals, link_at, points}
 use Rattle.net_core.proofs.FirstLaws.{one_first}
 use Rattle.seconds_core.specs.declared.line.Line.{Line}
 use Rattle.seconds_core.specs.Cycles.{IsNegative}
-use Rattle.seconds_core.specs.Evidence.{PlainEvidence, Placed, Round}
+use Rattle.seconds_core.specs.Evidence.{Placed, Round}
 use Rattle.seconds_core.specs.Placed.{IsPlaced, KeepsBounds, KeepsLimits, KeepsLink, StartsFirst}
 use Rattle.seconds_core.specs.Timed.{PlainTimed}
 use Rattle.seconds_check.specs.declared.refusal.SecondsReason.{SecondsReason}

@@ -6,7 +6,8 @@ ghost use Rattle.seconds_core.specs.Constraints.{IsWithin};
 ghost use Rattle.seconds_core.specs.Cycles.{IsNegative};
 ghost use Rattle.seconds_core.specs.Evidence.{max_lines};
 ghost use Rattle.seconds_core.specs.declared.line.Constraint.{Constraint as ConstraintOf};
-ghost use Rattle.std.specs.Prelude.{IfErr, IfNone, IfOk, IfSome, OnOk, Some, length, ◌<◌, ◌≡◌};
+ghost use Rattle.std.specs.Int.{w128};
+ghost use Rattle.std.specs.Prelude.{FitsSigned, IfErr, IfNone, IfOk, IfSome, OnOk, Some, length, ◌+ℤ◌, ◌<◌, ◌≡◌};
 
 use crate::refusal::SecondsReason;
 use seconds_core::{Constraint, Line, Timed, constraint_of};
@@ -61,10 +62,18 @@ fn follow(timed: &Timed, from: u32, lines: &[Line]) -> Result<Reached, u32>
             return Err(k);
         };
         at = next.to;
-        sum += i128::from(next.weight);
+        sum = plus(sum, next.weight);
         k += 1;
     }
     Ok(Reached { at, sum })
+}
+
+/// The sum with one more weight.
+fn plus(sum: i128, weight: i64) -> i128
+    requires { FitsSigned w128 (sum +ℤ weight) }
+    ensures { result ≡ sum +ℤ weight }
+{
+    sum + i128::from(weight)
 }
 
 /// The constraint that a line names, where it begins at a point.

@@ -5,8 +5,8 @@ ghost use Rattle.seconds_check.specs.Refusals.{FirstBroken, FirstOutside, FirstU
 ghost use Rattle.seconds_core.specs.Evidence.{IsPlacing};
 ghost use Rattle.seconds_core.specs.Placed as spec;
 ghost use Rattle.seconds_core.specs.Placed.{AreInOrder, IsBetween, IsPlaced, KeepsBounds, KeepsLimits, KeepsLink, KeepsOrder, StartsFirst};
-ghost use Rattle.std.specs.List.{AllByRecursion};
-ghost use Rattle.std.specs.Prelude.{IfErr, IfSome, IsTrue, OnOk, length, true, ◌*◌, ◌+◌, ◌<◌, ◌≡◌, ◌↔◌, ◌≤ℤ◌, ◌-ℤ◌};
+ghost use Rattle.std.specs.List.{All};
+ghost use Rattle.std.specs.Prelude.{IfErr, IfSome, IsTrue, OnOk, length, ◌*◌, ◌+◌, ◌<◌, ◌≡◌, ◌↔◌, ◌<ℤ◌, ◌≤ℤ◌, ◌-ℤ◌};
 
 use crate::refusal::SecondsReason;
 use net_core::{Atom, Ends, Rel, orders_of};
@@ -87,15 +87,10 @@ fn first_wrong_length(timed: &Timed, seconds: &[i64]) -> Option<u32>
 }
 
 /// The second of a point; that of the origin, which is past them all, is 0.
-#[tactic(auto, using(std::proofs::lemmas::Option::gets))]
 fn second_at(seconds: &[i64], point: usize) -> i64
     ensures { result ≡ spec.second_at seconds.now point }
 {
-    if point < seconds.len() {
-        seconds[point]
-    } else {
-        0
-    }
+    seconds.get(point).copied().unwrap_or(0)
 }
 
 /// Whether the interval starts before it ends.
@@ -107,7 +102,7 @@ fn starts_first(seconds: &[i64], interval: u32) -> bool
 }
 
 fn is_before(first: i64, second: i64) -> bool
-    ensures { IsTrue result ↔ AreInOrder true first second }
+    ensures { IsTrue result ↔ (first <ℤ second) }
 {
     first < second
 }
@@ -118,13 +113,14 @@ fn keeps_link(timed: &Timed, seconds: &[i64], link: u32) -> bool
     ensures { IsTrue result ↔ KeepsLink seconds.now (link_at timed.now.net link) }
 {
     let link = timed.net().link(link);
-    keeps_relation(seconds, link.rel, points_of(link.a), points_of(link.b))
+    let a = points_of(link.a);
+    let b = points_of(link.b);
+    keeps_relation(seconds, link.rel, a, b)
 }
 
 /// Whether each order that a relation is holds between two intervals of these points.
-#[tactic(auto, using(crate::proofs::Links::orders_are_kept))]
 fn keeps_relation(seconds: &[i64], rel: Rel, a: Ends, b: Ends) -> bool
-    ensures { IsTrue result ↔ AllByRecursion (KeepsOrder seconds.now) (atoms.atoms_between rel a b) }
+    ensures { IsTrue result ↔ All (λ order. KeepsOrder seconds.now (atoms.atom_between a b order)) (atoms.orders_of rel) }
 {
     orders_of(rel)
         .iter()
@@ -155,7 +151,11 @@ fn keeps_order(seconds: &[i64], atom: Atom) -> bool
 fn are_in_order(strict: bool, first: i64, second: i64) -> bool
     ensures { IsTrue result ↔ AreInOrder strict first second }
 {
-    if strict { first < second } else { first <= second }
+    if strict {
+        first < second
+    } else {
+        first <= second
+    }
 }
 
 /// Whether the point is in the calendar.

@@ -25,5 +25,5 @@ loop-line-preserved c =
       number = omega (arith, c.loop-line.invariant.number);
       so_far = followed_more c.args.timed.now c.args.lines.now c.loop-line.line-index c.args.from c.loop-line.at _ _ c.in-Some.next
           (omega (arith, c.loop-line-test.true)) so_far c.in-Some.ensures.some c.in-Some.ensures.begins within
-          (omega (arith, ints, so_far.low, so_far.high, within.low, within.high, c.from-sum.ensures));
+          (omega (arith, ints, so_far.low, so_far.high, within.low, within.high, c.plus-sum.ensures));
     }
