@@ -1,15 +1,14 @@
 -- The net of a document with limits: there is one, and it is what a net with limits is to be.
-use Rattle.std.proofs.Common.{◌≡◌, List, length, map, refl, sym, ap, ◌∙◌, arith}
+use Rattle.std.proofs.Common.{◌≡◌, List, length, map, sym, ap, ◌∙◌, arith}
 use Rattle.std.specs.List.{All}
 use Rattle.std.proofs.lemmas.List.{length-map}
-use Rattle.std.proofs.lemmas.List.Elements.{All-map, All-weaker}
+use Rattle.std.proofs.lemmas.List.Elements.{All-weaker}
 use Rattle.std.proofs.lemmas.Slice.Zip.{AllZip-long}
 use Rattle.std.proofs.lemmas.Int.{ints}
 use Rattle.net_core.specs.Nets.{IsNet, PlainNet}
 use Rattle.net_core.specs.declared.bounds.Bounds.{Bounds}
 use Rattle.net_core.specs.declared.bounds.Bounds.TheVariants.{Exact, Within, Free}
 use Rattle.net_build.specs.Built.{IntervalBounds, IsNetOf}
-use Rattle.net_build.proofs.EveryNet.{every_net}
 use Rattle.net_build.proofs.OneNet.{one_net}
 use Rattle.seconds_core.specs.Timed.{AreLengths, AreSeconds, IsTimed}
 use Rattle.seconds_core.specs.declared.timed.Limits.{Limits}

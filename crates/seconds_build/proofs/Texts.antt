@@ -1,5 +1,5 @@
 -- The seconds of a duration that a text spells are below the limit: each of its numbers has nine digits at most.
-use Rattle.std.proofs.Common.{◌≡◌, inl, inr, ℕ, ◌+◌, ◌*◌, ◌^◌, ◌<◌, ◌≤◌, Bool, true, false, ◌||◌, if◌then◌else◌, List, [], ◌∷◌, length, Option, Some, None, codes, refl, sym, subst, arith}
+use Rattle.std.proofs.Common.{inl, inr, ℕ, ◌^◌, ◌<◌, ◌≤◌, true, false, ◌||◌, if◌then◌else◌, List, [], ◌∷◌, length, Option, Some, None, codes, arith}
 use Rattle.std.specs.Prelude.{IfSome, IsFalse, option_and_then}
 use Rattle.std.proofs.Math.Nat.{pow-le-pow_right}
 use Rattle.std.proofs.lemmas.Int.Digits.{digits_value-lt}
@@ -7,7 +7,6 @@ use Rattle.seconds_core.specs.Timed.{max_length}
 use Rattle.timex_value.specs.Durations.{CountThen, CountsThen, ClockText, is_present, has_clock}
 use Rattle.timex_value.specs.declared.length.Count.{Count}
 use Rattle.timex_value.specs.declared.length.Count.TheVariants.{Absent, Number, Unknown}
-use Rattle.timex_value.specs.declared.length.Length.{Length}
 use Rattle.seconds_build.specs.Lengths.{DurationsAreBelowTheLimit, number_of, seconds_in}
 
 -- a number has nine digits at most

@@ -8,8 +8,11 @@ use seconds_core::{Limits, MAX_LENGTH};
 use timex_value::{Count, Length, Modifier, TimexKind, Value};
 
 const MINUTE: u64 = 60;
+
 const HOUR: u64 = 60 * MINUTE;
+
 const DAY: u64 = 24 * HOUR;
+
 const WEEK: u64 = 7 * DAY;
 
 pub(crate) const NO_LIMITS: Limits = Limits {

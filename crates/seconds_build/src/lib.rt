@@ -6,5 +6,5 @@ mod laws;
 mod lengths;
 
 pub use build::timed_of;
-pub use laws::{every_document_is_timed, one_timed, durations_are_below_the_limit};
+pub use laws::{durations_are_below_the_limit, every_document_is_timed, one_timed};
 pub use lengths::limits_of;
