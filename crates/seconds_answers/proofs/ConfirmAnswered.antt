@@ -96,8 +96,8 @@ confirm_judges_first name seconds = judges_first name (seconds_file seconds) OfC
 
 -- what is printed is confirmed
 shown : (contents : PlainDocument) (timed : PlainTimed) (status : Status) (text : List ℕ) → IsTimedOf contents timed → OfTimed timed status text → (line : List ℕ) × OfConfirm contents text Done line
-shown contents timed Done text built h = (claim_line (Placed h.0), timed, built, (Placed h.0, h.2, h.1, refl))
-shown contents timed Clash text built h = (claim_line (Round h.1), timed, built, (Round h.1, h.3, h.2.0, refl))
+shown contents timed Done text built h = (claim_line (Placed h.0), (timed, built, (Placed h.0, h.2, h.1, refl)))
+shown contents timed Clash text built h = (claim_line (Round h.1), (timed, built, (Round h.1, h.3, h.2.0, refl)))
 shown contents timed status text built h = absurd h
 
 pub seconds_are_confirmed : SecondsAreConfirmed

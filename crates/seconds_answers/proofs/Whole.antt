@@ -1,6 +1,6 @@
 -- A placing or a cycle has a text, of the net of a document.
-use Rattle.std.proofs.Common.{◌≡◌, ◌⊎◌, ℕ, ℤ, pos, neg_ℤ, ◌+◌, ◌*◌, ◌<◌, ◌≤◌, nat_lt, ◌≤ℤ◌, List, [], ◌∷◌, length, concat, Option, Some, inl, inr, refl, sym, ap, subst, ◌∙◌, arith}
-use Rattle.std.specs.List.{All, AllByRecursion, slice_get}
+use Rattle.std.proofs.Common.{◌≡◌, ◌⊎◌, ℕ, ℤ, pos, neg_ℤ, ◌+◌, ◌*◌, ◌<◌, ◌≤◌, nat_lt, ◌≤ℤ◌, List, [], ◌∷◌, length, Option, Some, inl, inr, refl, sym, ap, subst, ◌∙◌, arith}
+use Rattle.std.specs.List.{All, AllByRecursion, concat, slice_get}
 use Rattle.std.proofs.lemmas.Bool.{ltb-true}
 use Rattle.std.proofs.lemmas.Int.{ints}
 use Rattle.std.proofs.lemmas.List.Elements.{All-from_recursion, All-weaker}
@@ -70,14 +70,14 @@ placing_text : (timed : PlainTimed) (seconds : List ℤ) → IsTimed timed → I
 placing_text timed seconds is placed far =
     let net = is.net in
     let size = placed.size in
-    (concat (text_lines (Placed seconds)), seconds, placed, ((omega (arith, size), omega (arith, size, net.few_intervals)), All-weaker IsFar IsLong far_is_long seconds far), refl)
+    (concat (text_lines (Placed seconds)), (seconds, placed, (((omega (arith, size), omega (arith, size, net.few_intervals)), All-weaker IsFar IsLong far_is_long seconds far), refl)))
 
 cycle_text : (timed : PlainTimed) (lines : List Line) → IsTimed timed → IsShortCycle timed lines → (text : List ℕ) × ShowsCycle timed text
 cycle_text timed lines is short =
     let net = is.net in
     let ((x, joined, below), few) = short in
-    (concat (text_lines (Round lines)), (λ has. negative_is_unplaced timed lines is (x, joined, below) has), lines, short,
-      ((All-from_recursion HasNumbers lines (joined_numbers timed is lines x x joined), omega (arith, few, net.few_intervals)), refl))
+    (concat (text_lines (Round lines)), ((λ has. negative_is_unplaced timed lines is (x, joined, below) has), lines, short,
+      ((All-from_recursion HasNumbers lines (joined_numbers timed is lines x x joined), omega (arith, few, net.few_intervals)), refl)))
 
 -- so there is an answer
 pub timed_answered : (timed : PlainTimed) → IsTimed timed → (status : Status) × (text : List ℕ) × OfTimed timed status text

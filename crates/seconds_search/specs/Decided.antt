@@ -2,7 +2,7 @@
 use Rattle.std.specs.Prelude.{◌⊎◌, ℤ, pos, neg_ℤ, ◌+◌, ◌*◌, ◌≤◌, ◌≤ℤ◌, ⊤, List, length, Result, Ok, Err}
 use Rattle.std.specs.List.{All}
 use Rattle.seconds_core.specs.Cycles.{IsNegative}
-use Rattle.seconds_core.specs.Placed.{IsPlaced}
+use Rattle.seconds_core.specs.Placed.{HasPlacing, IsPlaced}
 use Rattle.seconds_core.specs.Timed.{IsTimed, PlainTimed, max_second, origin}
 use Rattle.seconds_core.specs.declared.line.Line.{Line}
 use Rattle.seconds_search.specs.Search.{max_rounds}
@@ -13,10 +13,10 @@ use Rattle.seconds_search.specs.declared.deciding.PlaceFault.TheVariants.{Negati
 abbrev pub IsShortCycle : PlainTimed → List Line → Type 0
 IsShortCycle timed lines = IsNegative timed lines × (length lines ≤ origin timed + 1)
 
--- There is a placing, or a negative cycle shows that there is none, or memory ran out.
+-- A placing is answered, or there is none and a negative cycle shows it, or memory ran out.
 abbrev pub IsDecided : PlainTimed → Result (List ℤ) PlaceFault → Type 0
 IsDecided timed (Ok seconds) = IsPlaced timed seconds
-IsDecided timed (Err (Negative cycle)) = IsShortCycle timed cycle
+IsDecided timed (Err (Negative cycle)) = (HasPlacing timed → ⊥) × IsShortCycle timed cycle
 IsDecided timed (Err Memory) = ⊤
 
 -- a second that is no further from second 0 than as many of the heaviest constraints as there can be points
