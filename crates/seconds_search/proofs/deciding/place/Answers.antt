@@ -1,4 +1,4 @@
-use Rattle.std.proofs.Common.{ℕ, ◌+◌, ◌≤◌, sym, ap, subst, arith}
+use Rattle.std.proofs.Common.{ℕ, ◌+◌, sym, ap, subst, arith}
 use Rattle.std.specs.List.{All}
 use Rattle.seconds_core.proofs.Sums.{negative_is_unplaced}
 use Rattle.seconds_search.specs.Edges.{IsEdge}
