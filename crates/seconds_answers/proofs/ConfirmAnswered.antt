@@ -6,7 +6,6 @@ use Rattle.answers.proofs.Answered.{judged_answered_once, judges_first}
 use Rattle.net_core.specs.Limits.{max_evidence}
 use Rattle.seconds_build.specs.Built.{IsTimedOf}
 use Rattle.seconds_build.proofs.Nets.{one_timed}
-use Rattle.seconds_check.specs.Confirmed.{IsConfirmed}
 use Rattle.seconds_check.specs.Refusals.{IsPaired, IsRefused}
 use Rattle.seconds_check.proofs.Judged.{confirmed_or_refused}
 use Rattle.seconds_check.proofs.Verdicts.{one_verdict}
@@ -21,7 +20,7 @@ use Rattle.tml_run.specs.OneReply.{is_broken_off}
 use Rattle.tml_run.specs.declared.status.Status.{Status}
 use Rattle.tml_run.specs.declared.status.Status.TheVariants.{Clash, Done, EvidenceFault}
 use Rattle.seconds_answers.specs.Confirmed.{ConfirmJudgesFirst, OfConfirm, OfText, ReportsBadLine, ReportsClaim, ReportsRefusal, SecondsAreConfirmed, confirm_rows, seconds_file}
-use Rattle.seconds_answers.specs.Placed.{OfSeconds, OfTimed}
+use Rattle.seconds_answers.specs.Placed.{OfTimed}
 use Rattle.seconds_answers.specs.Texts.{claim_line, refusal_line}
 use Rattle.seconds_answers.proofs.SecondsAnswered.{its_timed}
 

@@ -1,6 +1,6 @@
 -- A document has one answer in seconds: one status. Which placing or which cycle is printed is free.
-use Rattle.std.proofs.Common.{◌≡◌, ◌⊎◌, ℕ, List, [], ◌∷◌, false, refl, sym, subst, inl, inr}
-use Rattle.answers.specs.Documents.{AreAnswered, doc_file, document_rows, of_contents, of_its_contents}
+use Rattle.std.proofs.Common.{◌≡◌, ◌⊎◌, ℕ, List, [], ◌∷◌, false, refl, subst, inl, inr}
+use Rattle.answers.specs.Documents.{AreAnswered, doc_file, of_contents, of_its_contents}
 use Rattle.answers.proofs.Answered.{contents_answered}
 use Rattle.seconds_build.specs.Built.{IsTimedOf}
 use Rattle.seconds_build.proofs.EveryTime.{every_timed}
