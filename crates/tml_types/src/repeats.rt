@@ -13,15 +13,14 @@ use tml_span::{Attr, Memory};
 /// Up to so many attributes are compared each with each, which takes no memory.
 const FEW: usize = 8;
 
-/// Whether two attributes have one name. It takes time in n log n for n attributes.
+/// Whether two attributes have one name. It takes time in n log n for n attributes. It stands in its callers, since most
+/// tags have few attributes.
+#[inline(always)]
 pub fn is_repeated(alloc: Global, attrs: &[Attr<'_>]) -> Result<bool, Memory>
     ensures { IfOk result (λ r. r ≡ rules.is_repeated (map attribute_of attrs.now)) }
 {
     if attrs.len() <= FEW {
         return Ok(is_repeated_in_few(attrs));
-    }
-    if have_distinct_heads(alloc, attrs)? {
-        return Ok(false);
     }
     is_repeated_in_many(alloc, attrs)
 }
@@ -50,7 +49,18 @@ fn has_name(name: &[u8], attrs: &[Attr<'_>]) -> bool
     false
 }
 
-/// Whether the first bytes of each name tell it from the others. Numbers take the least time to sort.
+/// Mostly the first bytes of the names tell them apart, and numbers take the least time to sort.
+#[inline(never)]
+fn is_repeated_in_many(alloc: Global, attrs: &[Attr<'_>]) -> Result<bool, Memory>
+    ensures { IfOk result (λ r. r ≡ rules.is_repeated (map attribute_of attrs.now)) }
+{
+    if have_distinct_heads(alloc, attrs)? {
+        return Ok(false);
+    }
+    has_repeated_name(alloc, attrs)
+}
+
+/// Whether the first bytes of each name tell it from the others.
 fn have_distinct_heads(alloc: Global, attrs: &[Attr<'_>]) -> Result<bool, Memory>
     ensures { IfOk result (λ d. d ≡ true → rules.is_repeated (map attribute_of attrs.now) ≡ false) }
 {
@@ -84,7 +94,8 @@ fn rise(numbers: &[u64]) -> bool
     true
 }
 
-fn is_repeated_in_many(alloc: Global, attrs: &[Attr<'_>]) -> Result<bool, Memory>
+/// Whether two attributes have one name, by all bytes of their names.
+fn has_repeated_name(alloc: Global, attrs: &[Attr<'_>]) -> Result<bool, Memory>
     ensures { IfOk result (λ r. r ≡ rules.is_repeated (map attribute_of attrs.now)) }
 {
     let Ok(mut names) = names_of(alloc, attrs) else {
