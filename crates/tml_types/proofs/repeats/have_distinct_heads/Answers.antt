@@ -1,4 +1,3 @@
-use Rattle.std.proofs.Common.{refl}
 use Rattle.tml_types.proofs.DistinctHeads.{rising_heads}
 use Rattle.tml_types.proofs.repeats.have_distinct_heads.Goals as goal
 
