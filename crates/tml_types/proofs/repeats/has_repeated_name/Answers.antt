@@ -1,5 +1,5 @@
 use Rattle.tml_types.proofs.RepeatedNames.{repeats_by_names}
-use Rattle.tml_types.proofs.repeats.is_repeated_in_many.Goals as goal
+use Rattle.tml_types.proofs.repeats.has_repeated_name.Goals as goal
 
 pub returns : goal.returns
 returns c =
