@@ -4,7 +4,7 @@ pub mod ClosedWalks
 pub mod Marks
 pub mod Soundness
 pub mod Verdicts
-pub mod Spares
+pub mod SpareLaws
 pub mod Cites
 pub mod Deciding
 pub mod Reasons
