@@ -13,5 +13,6 @@ pub mod WalksJudged
 pub mod Judged
 pub mod Bundles
 pub mod PairSets
+pub mod RunLaws
 pub mod OrderSets
 pub mod Calendars
