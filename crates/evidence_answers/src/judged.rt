@@ -100,11 +100,7 @@ impl Judged {
 }
 
 /// Appends what a supported claim of a document shows.
-fn push_claim(
-    out: &mut Vec<u8>,
-    document: &Document<'_>,
-    claim: &Body,
-) -> Result<(), AllocError>
+fn push_claim(out: &mut Vec<u8>, document: &Document<'_>, claim: &Body) -> Result<(), AllocError>
     requires { NamesIntervals document.now (plain_body claim.now) }
     ensures { OnOk result (out.new.items ≡ out.old.items ++ texts.claim_line document.now (plain_body claim.now)) }
 {

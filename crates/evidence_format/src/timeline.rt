@@ -67,11 +67,7 @@ pub fn ranks_at<'t>(
 
 /// Appends the ranks of so many intervals, and answers what follows them. Nothing is reserved by the count, which comes
 /// from a stranger.
-fn push_ranks_at<'t>(
-    ranks: &mut Ranks,
-    count: u32,
-    text: &'t [u8],
-) -> Result<&'t [u8], Stop<'t>>
+fn push_ranks_at<'t>(ranks: &mut Ranks, count: u32, text: &'t [u8]) -> Result<&'t [u8], Stop<'t>>
     ensures { Appends ranks.old ranks.new result (readers.ranks_at count (lines_of text.now)) }
 {
     let mut rest = text;

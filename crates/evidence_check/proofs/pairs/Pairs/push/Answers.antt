@@ -1,6 +1,5 @@
 use Rattle.std.proofs.Common.{◌<◌, [], ◌∷◌, length, take, rules, arith}
 use Rattle.std.proofs.lemmas.List.{take_more_set}
-use Rattle.evidence_check.specs.Pairs.{AreRuns}
 use Rattle.evidence_check.proofs.RunLaws.{runs_before}
 use Rattle.evidence_check.proofs.pairs.Pairs.push.Goals as goal
 
