@@ -1,5 +1,5 @@
 //! Lists of pairs of numbers that take no memory.
-ghost use Rattle.evidence_check.specs.Pairs.{AreRuns, HaveSame, IsKept, IsWithin};
+ghost use Rattle.evidence_check.specs.Pairs.{HaveSame, IsKept, IsWithin};
 ghost use Rattle.evidence_check.specs.declared.pairs.TheConstants.{MAX_PAIRS as most_pairs};
 ghost use Rattle.net_core.specs.Ranks.{timeline_of};
 ghost use Rattle.std.specs.List.{All, Contains};

@@ -1,7 +1,7 @@
 //! Timelines that stand end to end.
 ghost use Rattle.evidence_format.specs.Timelines.{AreParts, parts_of};
 ghost use Rattle.net_core.specs.Ranks.{AreEven};
-ghost use Rattle.std.specs.Prelude.{[], ◌∷◌, ◌++◌, ◌≡◌, ◌<◌, length, slice_index_or, slice_index, IfOk};
+ghost use Rattle.std.specs.Prelude.{[], ◌∷◌, ◌≡◌, ◌<◌, length, slice_index, slice_index_or, IfOk};
 
 use net_core::{List, Memory, Ranks};
 use std::alloc::Global;
