@@ -5,7 +5,7 @@ use Rattle.net_core.specs.Ranks.{timeline_of}
 use Rattle.evidence_check.specs.Pairs.{IsKept}
 use Rattle.evidence_check.specs.declared.pairs.Pair.{Pair}
 use Rattle.evidence_check.proofs.PairSets.{all_further, test_more}
-use Rattle.evidence_check.proofs.pairs.are_kept.Goals as goal
+use Rattle.evidence_check.proofs.runs.is_each_kept.Goals as goal
 
 pub loop-pair-preserved : goal.loop-pair-preserved
 loop-pair-preserved c =

@@ -13,14 +13,14 @@ use Rattle.evidence_check.specs.declared.refusal.Reason.{Reason}
 use Rattle.evidence_check.specs.Refusals.{IsMisfit, IsSpareAt, IsSpareRefused, cite_at, ranks_at}
 use Rattle.evidence_check.proofs.Verdicts.{no_misfit}
 
-module _ (spares : List (List ℕ)) (i : ℕ) (x ranks : List ℕ) (below : i < length spares) (read : x ≡ get_or spares i x) (same : ranks ≡ x) where
+module _ (spares : List (List ℕ)) (i : ℕ) (ranks : List ℕ) (below : i < length spares) (same : ranks ≡ get_or spares i []) where
   -- the pairs that were read are those of their number
   pairs_are : pairs_of ranks ≡ get_or (map pairs_of spares) i []
-  pairs_are = ap pairs_of (same ∙ read) ∙ sym (get_or-map pairs_of spares i x [] below)
+  pairs_are = ap pairs_of same ∙ sym (get_or-map pairs_of spares i [] [] below)
 
   -- so are the ranks
-  pub spare_is : AreEven x → ranks ≡ ranks_of (ranks_at (map pairs_of spares) i)
-  spare_is even = sym (ranks_again ranks (subst AreEven (sym same) even)) ∙ ap ranks_of pairs_are
+  pub spare_is : AreEven ranks → ranks ≡ ranks_of (ranks_at (map pairs_of spares) i)
+  spare_is even = sym (ranks_again ranks even) ∙ ap ranks_of pairs_are
 
   -- and there are no more than can stand in a text
   pub spare_is_short : All AreRanks (map pairs_of spares) → IsNumber (length (pairs_of ranks))

@@ -1,4 +1,4 @@
-use Rattle.evidence_answers.proofs.judged.push_claim.Goals as goal
+use Rattle.evidence_answers.proofs.judged.push_shown.Goals as goal
 
 pub returns-in-Entails : goal.returns-in-Entails
 returns-in-Entails c = rw c.in-Entails.is c.push_relation.ensures
