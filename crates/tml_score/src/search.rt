@@ -101,6 +101,17 @@ impl Kept<'_> {
         }
     }
 
+    /// Whether an order is of no link, or of one that is kept.
+    pub fn has(&self, order: &Order) -> bool
+        requires { spec.AreMarks (basis_of self.now) order.now }
+        ensures { result ≡ spec.is_kept (basis_of self.now) order.now }
+    {
+        match order.link {
+            Some(link) => self.keep[link as usize],
+            None => true,
+        }
+    }
+
     /// Goes over an order that remains. True comes where it is enough.
     fn take(&self, asked: Asked, order: &Order, reached: &mut Reached) -> Result<bool, Memory>
         requires ready { IsReady (basis_of self.now) }
