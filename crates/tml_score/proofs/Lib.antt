@@ -7,4 +7,5 @@ pub mod ReachedLaws
 pub mod Searching
 pub mod Spreading
 pub mod TwoSided
+pub mod TreeLaws
 pub mod Counted

@@ -3,7 +3,7 @@ ghost use Rattle.clash.specs.Orders as orders;
 ghost use Rattle.net_core.specs.Nets.{points};
 ghost use Rattle.std.specs.Bool.{OnTrue};
 ghost use Rattle.std.specs.List.{Contains};
-ghost use Rattle.std.specs.Prelude.{IfOk, IfSome, OnOk, [], false, length, ℕ, ◌++◌, ◌<◌, ◌∷◌, ◌≡◌, ◌≤◌};
+ghost use Rattle.std.specs.Prelude.{IfOk, IfSome, OnOk, [], false, length, slice_index_or, ℕ, ◌++◌, ◌<◌, ◌∷◌, ◌≡◌, ◌≤◌};
 ghost use Rattle.tml_score.specs.ByPoint.{far_end_of};
 ghost use Rattle.tml_score.specs.Search.{IsReady, basis_of};
 ghost use Rattle.tml_score.specs.Ties.{AreTies};

@@ -76,9 +76,13 @@ impl Trees {
             return false;
         }
         let (from, to) = (asked.order.from, asked.order.to);
-        self.ties.roots[from as usize] == self.ties.roots[to as usize]
-            && self.back.covers(&self.ties, from)
-            && self.onward.covers(&self.ties, to)
+        if self.ties.roots[from as usize] != self.ties.roots[to as usize] {
+            return false;
+        }
+        if !self.back.covers(&self.ties, from) {
+            return false;
+        }
+        self.onward.covers(&self.ties, to)
     }
 
     /// Counts points that a search has reached.

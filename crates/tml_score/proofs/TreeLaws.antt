@@ -1,0 +1,192 @@
+-- What a tree joins, and how it changes.
+use Rattle.std.proofs.Common.{◌≡◌, ◌≢◌, ◌↔◌, ◌⊎◌, inl, inr, ℕ, ◌+◌, ◌<◌, ◌≤◌, ◌==◌, Bool, true, false, List, [], ◌∷◌, ◌++◌, length, slice_index, slice_index_or, slice_set, take, Option, Some, None, IfSome, refl, sym, ap, subst, ◌∙◌, arith, get_or-set_other, get_or-set_same}
+use Rattle.std.specs.List.{All, Contains}
+use Rattle.std.proofs.lemmas.Bool.{cases_eq, cases_lt, eq-eqb}
+use Rattle.std.proofs.lemmas.List.{get_or-take, get_or_append_left, get_or_default, get_or_push, length-set, length_push}
+use Rattle.std.proofs.lemmas.List.Elements.{All-contains, All-get_or, All-push, All-weaker}
+use Rattle.clash.specs.Orders.{is_link, is_of}
+use Rattle.clash.specs.declared.orders.Order.{Order}
+use Rattle.clash.proofs.Rounds.{others_set}
+use Rattle.net_core.specs.Atoms.{IsInOrder, Satisfies}
+use Rattle.net_core.specs.Fits.{FitsWith}
+use Rattle.net_core.specs.Nets.{points}
+use Rattle.net_core.specs.Relations.{Timeline}
+use Rattle.net_core.proofs.WalkLaws.{in_order_weaker}
+use Rattle.tml_score.specs.ByPoint.{end_of, far_end_of}
+use Rattle.tml_score.specs.Graph.{counts}
+use Rattle.tml_score.specs.Search.{Basis, Decides, IsAsked, IsReady, IsWay, Rest, is_kept, is_other}
+use Rattle.tml_score.specs.Tree.{HoldBefore, IsBeyond, IsBranch, IsCovered, IsJoined, IsTree, LeadsOn, is_used, no_order, order_at, with_link, without}
+use Rattle.tml_score.specs.Trees.{AreTrees}
+use Rattle.tml_score.specs.declared.by_point.End.{End}
+use Rattle.tml_score.specs.declared.by_point.End.TheVariants.{From, To}
+use Rattle.tml_score.specs.declared.search.Asked.{Asked}
+use Rattle.tml_score.specs.declared.tree.Tree.{Tree}
+use Rattle.tml_score.specs.declared.trees.Trees.{Trees}
+use Rattle.tml_score.proofs.Searching.{other_kept, way_true}
+
+-- ---- what a tree joins
+
+-- an order leads on from what is beyond a root
+beyond_then : (near : End) (t : Timeline) (root : ℕ) (o : Order) → IsBeyond near t root (end_of near o) → Satisfies t o.atom → IsBeyond near t root (far_end_of near o)
+beyond_then From t root o first holds = let step : t o.atom.from ≤ t o.atom.to = in_order_weaker false o.atom.strict (t o.atom.from) (t o.atom.to) (λ e. cc) holds in omega (arith, first, step)
+beyond_then To t root o first holds = let step : t o.atom.from ≤ t o.atom.to = in_order_weaker false o.atom.strict (t o.atom.from) (t o.atom.to) (λ e. cc) holds in omega (arith, first, step)
+
+-- a point is beyond itself
+beyond_self : (near : End) (t : Timeline) (root point : ℕ) → root ≡ point → IsBeyond near t root point
+beyond_self From t root point same = let e = ap t same in omega arith
+beyond_self To t root point same = let e = ap t same in omega arith
+
+module _ (basis : Basis) (roots : List ℕ) (near : End) (tree : Tree) (is : IsTree basis roots near tree) where
+  -- what a tree covers is joined by its orders
+  pub covered_joined : (point : ℕ) → IsCovered roots tree point → IsJoined near roots tree.orders.items (length tree.orders.items) point
+  covered_joined point covered = elim covered [
+    | inl root ↦ λ t hold. beyond_self near t (slice_index roots point) point root
+    | inr at ↦
+        let i = at.0 in
+        let same : far_end_of near (order_at tree.orders.items i) ≡ point = subst (λ (n : End). far_end_of n (order_at tree.orders.items i) ≡ point) is.end at.2 in
+        λ t hold. subst (λ (x : ℕ). IsBeyond near t (slice_index roots x) x) same (is.joined i at.1 t (λ j less lt. hold j lt lt))
+  ]
+
+-- ---- one order more
+
+-- the links in use stay so
+used_more : (in_use : List Bool) (l m : Option ℕ) → IfSome l (λ k. k < length in_use) → counts (λ k. slice_index_or in_use k false) m ≡ true → counts (λ k. slice_index_or (with_link in_use l) k false) m ≡ true
+used_more in_use None m below used = used
+used_more in_use (Some k) None below used = refl
+used_more in_use (Some k) (Some j) below used = elim (cases_eq j k) [
+  | inl same ↦ subst (λ (i : ℕ). slice_index_or (slice_set in_use k true) i false ≡ true) (sym same) (get_or-set_same in_use k true false below)
+  | inr other ↦ get_or-set_other in_use k j true false other ∙ used
+]
+
+used_last : (in_use : List Bool) (l : Option ℕ) → IfSome l (λ k. k < length in_use) → counts (λ k. slice_index_or (with_link in_use l) k false) l ≡ true
+used_last in_use None below = refl
+used_last in_use (Some k) below = get_or-set_same in_use k true false below
+
+length_with : (in_use : List Bool) (l : Option ℕ) → length (with_link in_use l) ≡ length in_use
+length_with in_use None = refl
+length_with in_use (Some k) = length-set in_use k true
+
+-- the orders of a list are those of a longer one
+same_order : (orders : List Order) (o : Order) (new : List Order) → new ≡ orders ++ o ∷ [] → (i : ℕ) → i < length orders → order_at new i ≡ order_at orders i
+same_order orders o new is i lt = ap (λ (xs : List Order). order_at xs i) is ∙ get_or_append_left orders (o ∷ []) no_order i lt
+
+last_order : (orders : List Order) (o : Order) (new : List Order) → new ≡ orders ++ o ∷ [] → (i : ℕ) → length orders ≡ i → order_at new i ≡ o
+last_order orders o new is i end = ap (λ (xs : List Order). order_at xs i) is ∙ get_or_push orders o no_order i end
+
+hold_fewer : (orders : List Order) (o : Order) (new : List Order) → new ≡ orders ++ o ∷ [] → (t : Timeline) (n : ℕ) → HoldBefore t new n → HoldBefore t orders n
+hold_fewer orders o new is t n hold = λ i less lt. subst (λ (x : Order). Satisfies t x.atom) (same_order orders o new is i lt)
+    (hold i less (omega (arith, lt, ap length is, length_push orders o)))
+
+module _ (basis : Basis) (roots : List ℕ) (near : End) (old new : Tree) (o : Order) (is : IsTree basis roots near old) (on : LeadsOn basis roots old o) (of_net : Contains basis.graph.onward.orders o) (link : IfSome o.link (λ k. k < length old.in_use.items)) where
+  -- a tree with an order that leads on
+  pub taken_tree : new.near ≡ old.near → length new.turns.items ≡ length old.turns.items → new.orders.items ≡ old.orders.items ++ o ∷ [] → new.in_use.items ≡ with_link old.in_use.items o.link → IsTree basis roots near new
+  taken_tree end turns orders in_use =
+      let branch : IsBranch basis new.in_use.items o = record {
+        of_net = of_net;
+        kept = on.kept;
+        used = subst (λ (xs : List Bool). is_used xs o ≡ true) (sym in_use) (used_last old.in_use.items o.link link);
+      } in
+      let branches : All (IsBranch basis new.in_use.items) old.orders.items = All-weaker (IsBranch basis old.in_use.items) (IsBranch basis new.in_use.items) (λ x b. record {
+        of_net = b.of_net;
+        kept = b.kept;
+        used = subst (λ (xs : List Bool). is_used xs x ≡ true) (sym in_use) (used_more old.in_use.items o.link x.link link b.used);
+      }) old.orders.items is.branches in
+      let size = length_push old.orders.items o in
+      let count = ap length orders in
+      let far_end : far_end_of near o ≡ far_end_of old.near o = ap (λ (n : End). far_end_of n o) (sym is.end) in
+      record {
+        end = end ∙ is.end;
+        turns = turns ∙ is.turns;
+        in_use = ap length in_use ∙ length_with old.in_use.items o.link ∙ is.in_use;
+        branches = subst (All (IsBranch basis new.in_use.items)) (sym orders) (All-push (IsBranch basis new.in_use.items) old.orders.items o branches branch);
+        joined = λ i lt. elim (cases_lt i (length old.orders.items)) [
+          | inl before ↦ λ t hold. subst (λ (x : Order). IsBeyond near t (slice_index roots (far_end_of near x)) (far_end_of near x)) (sym (same_order old.orders.items o new.orders.items orders i before))
+              (is.joined i before t (hold_fewer old.orders.items o new.orders.items orders t (i + 1) hold))
+          | inr last ↦
+              let at : length old.orders.items ≡ i = omega (arith, last, lt, size, count) in
+              let here : order_at new.orders.items i ≡ o = last_order old.orders.items o new.orders.items orders i at in
+              λ t hold. subst (λ (x : Order). IsBeyond near t (slice_index roots (far_end_of near x)) (far_end_of near x)) (sym here) (
+                let all : HoldBefore t old.orders.items (length old.orders.items) = λ j less within. hold_fewer old.orders.items o new.orders.items orders t (i + 1) hold j (omega (arith, less, at)) within in
+                let from : IsBeyond near t (slice_index roots (end_of old.near o)) (end_of old.near o) = covered_joined basis roots near old is (end_of old.near o) on.covered t all in
+                let holds : Satisfies t o.atom = subst (λ (x : Order). Satisfies t x.atom) here (hold i (omega arith) lt) in
+                let root : IsBeyond near t (slice_index roots (far_end_of old.near o)) (end_of old.near o) = subst (λ (r : ℕ). IsBeyond near t r (end_of old.near o)) on.one_root from in
+                subst (λ (x : ℕ). IsBeyond near t (slice_index roots x) x) (sym far_end)
+                (subst (λ (n : End). IsBeyond near t (slice_index roots (far_end_of n o)) (far_end_of n o)) (sym is.end)
+                (beyond_then near t (slice_index roots (far_end_of near o)) o
+                (subst (λ (n : End). IsBeyond near t (slice_index roots (far_end_of n o)) (end_of n o)) is.end root) holds)))
+        ];
+      }
+
+-- ---- fewer orders
+
+module _ (basis : Basis) (roots : List ℕ) (near : End) where
+  -- no orders are a tree
+  pub no_tree : (tree : Tree) → tree.near ≡ near → length tree.turns.items ≡ points basis.net → length tree.in_use.items ≡ length basis.net.links → tree.orders.items ≡ [] → IsTree basis roots near tree
+  no_tree tree end turns in_use none = let size = ap length none in record {
+    end = end;
+    turns = turns;
+    in_use = in_use;
+    branches = λ i d lt. absurd (omega (arith, lt, size));
+    joined = λ i lt. absurd (omega (arith, lt, size));
+  }
+
+-- an order of another link is kept without one
+kept_without : (keep : List Bool) (link : ℕ) (m : Option ℕ) → is_link link m ≡ false → counts (λ k. slice_index_or keep k false) m ≡ true → counts (λ k. slice_index_or (slice_set keep link false) k false) m ≡ true
+kept_without keep link None other kept = refl
+kept_without keep link (Some k) other kept = elim (cases_eq k link) [
+  | inl same ↦ absurd (let is = eq-eqb k link same in let both : true ≡ false = sym is ∙ other in cc)
+  | inr ne ↦ others_set keep link k (kept, ne)
+]
+
+module _ (basis : Basis) (roots : List ℕ) (near : End) (old new : Tree) (link : ℕ) (is : IsTree basis roots near old) where
+  -- what is left of a tree, before the first order of a link, is one without the link
+  pub cut_tree : (n : ℕ) → new.near ≡ old.near → length new.turns.items ≡ length old.turns.items → new.in_use.items ≡ old.in_use.items → new.orders.items ≡ take n old.orders.items → length new.orders.items ≤ n → length new.orders.items ≤ length old.orders.items
+      → ((i : ℕ) → i < n → is_of link (order_at old.orders.items i) ≡ false) → IsTree (without basis link) roots near new
+  cut_tree n end turns in_use orders few fewer others =
+      let at : (i : ℕ) (d : Order) → i < length new.orders.items → slice_index_or new.orders.items i d ≡ slice_index_or old.orders.items i d = λ i d lt. ap (λ (xs : List Order). slice_index_or xs i d) orders ∙ get_or-take n old.orders.items i d (omega (arith, lt, few)) in
+      record {
+        end = end ∙ is.end;
+        turns = turns ∙ is.turns;
+        in_use = ap length in_use ∙ is.in_use;
+        branches = λ i d lt.
+            let within : i < length old.orders.items = omega (arith, lt, fewer) in
+            let was = is.branches i d within in
+            let other : is_of link (slice_index_or old.orders.items i d) ≡ false = subst (λ (x : Order). is_of link x ≡ false) (get_or_default old.orders.items i no_order d within) (others i (omega (arith, lt, few))) in
+            let branch : IsBranch (without basis link) new.in_use.items (slice_index_or old.orders.items i d) = record {
+              of_net = was.of_net;
+              kept = kept_without basis.keep link (slice_index_or old.orders.items i d).link other was.kept;
+              used = subst (λ (xs : List Bool). is_used xs (slice_index_or old.orders.items i d) ≡ true) (sym in_use) was.used;
+            } in
+            subst (IsBranch (without basis link) new.in_use.items) (sym (at i d lt)) branch;
+        joined = λ i lt t hold.
+            let within : i < length old.orders.items = omega (arith, lt, fewer) in
+            subst (λ (x : Order). IsBeyond near t (slice_index roots (far_end_of near x)) (far_end_of near x)) (sym (at i no_order lt))
+            (is.joined i within t (λ j less there. let before : j < length new.orders.items = omega (arith, less, lt) in subst (λ (x : Order). Satisfies t x.atom) (at j no_order before) (hold j less before)));
+      }
+
+-- ---- what trees show
+
+-- an order in use is of no link, or of another one that is kept
+other_used : (keep in_use : List Bool) (link : ℕ) (m : Option ℕ) → slice_index_or in_use link false ≡ false → counts (λ k. slice_index_or keep k false) m ≡ true → counts (λ k. slice_index_or in_use k false) m ≡ true → counts (is_other keep link) m ≡ true
+other_used keep in_use link None unused kept used = refl
+other_used keep in_use link (Some k) unused kept used = (other_kept keep link k).1 (kept, λ same. let at = ap (λ (j : ℕ). slice_index_or in_use j false) same in let both : true ≡ false = sym used ∙ at ∙ unused in cc)
+
+module _ (basis : Basis) (asked : Asked) (ready : IsReady basis) (asks : IsAsked basis asked) (roots : List ℕ) where
+  -- the orders of a tree that doesn't use a link hold with the other links
+  all_hold : (near : End) (tree : Tree) → IsTree basis roots near tree → slice_index_or tree.in_use.items asked.link false ≡ false
+      → (t : Timeline) → FitsWith basis.net (Rest basis asked) t → HoldBefore t tree.orders.items (length tree.orders.items)
+  all_hold near tree is unused t fits = λ i less lt.
+      let o = order_at tree.orders.items i in
+      let branch = All-get_or (IsBranch basis tree.in_use.items) tree.orders.items i no_order lt is.branches in
+      way_true basis asked ready asks t fits o (branch.of_net, other_used basis.keep tree.in_use.items asked.link o.link unused branch.kept branch.used)
+
+  -- an order of points that are covered holds with the other links
+  pub trees_show : (onward back : Tree) → IsTree basis roots From onward → IsTree basis roots To back
+      → slice_index_or onward.in_use.items asked.link false ≡ false → slice_index_or back.in_use.items asked.link false ≡ false
+      → asked.order.strict ≡ false → slice_index roots asked.order.from ≡ slice_index roots asked.order.to
+      → IsCovered roots back asked.order.from → IsCovered roots onward asked.order.to → Decides basis asked true
+  trees_show onward back first second unused too weak same from to = λ t fits.
+      let before : t asked.order.from ≤ t (slice_index roots asked.order.from) = covered_joined basis roots To back second asked.order.from from t (all_hold To back second too t fits) in
+      let after : t (slice_index roots asked.order.to) ≤ t asked.order.to = covered_joined basis roots From onward first asked.order.to to t (all_hold From onward first unused t fits) in
+      let root = ap t same in
+      subst (λ (b : Bool). IsInOrder b (t asked.order.from) (t asked.order.to)) (sym weak) (omega (arith, before, after, root))
