@@ -1,7 +1,7 @@
 -- What a tree joins, and how it changes.
 use Rattle.std.proofs.Common.{◌≡◌, ◌≢◌, ◌↔◌, ◌⊎◌, inl, inr, ℕ, ◌+◌, ◌<◌, ◌≤◌, ◌==◌, Bool, true, false, List, [], ◌∷◌, ◌++◌, length, slice_index, slice_index_or, slice_set, take, Option, Some, None, IfSome, refl, sym, ap, subst, ◌∙◌, arith, get_or-set_other, get_or-set_same}
 use Rattle.std.specs.List.{All, Contains}
-use Rattle.std.proofs.lemmas.Bool.{cases_eq, cases_lt, eq-eqb}
+use Rattle.std.proofs.lemmas.Bool.{cases_eq, cases_lt, eq-eqb, ne_eqb}
 use Rattle.std.proofs.lemmas.List.{get_or-take, get_or_append_left, get_or_default, get_or_push, length-set, length_push}
 use Rattle.std.proofs.lemmas.List.Elements.{All-contains, All-get_or, All-push, All-weaker}
 use Rattle.clash.specs.Orders.{is_link, is_of}
@@ -15,11 +15,13 @@ use Rattle.net_core.proofs.WalkLaws.{in_order_weaker}
 use Rattle.tml_score.specs.ByPoint.{end_of, far_end_of}
 use Rattle.tml_score.specs.Graph.{counts}
 use Rattle.tml_score.specs.Search.{Basis, Decides, IsAsked, IsReady, IsWay, Rest, is_kept, is_other}
+use Rattle.tml_score.specs.Ties.{AreTies}
 use Rattle.tml_score.specs.Tree.{HoldBefore, IsBeyond, IsBranch, IsCovered, IsJoined, IsTree, LeadsOn, is_used, no_order, order_at, with_link, without}
 use Rattle.tml_score.specs.Trees.{AreTrees}
 use Rattle.tml_score.specs.declared.by_point.End.{End}
 use Rattle.tml_score.specs.declared.by_point.End.TheVariants.{From, To}
 use Rattle.tml_score.specs.declared.search.Asked.{Asked}
+use Rattle.tml_score.specs.declared.ties.Ties.{Ties}
 use Rattle.tml_score.specs.declared.tree.Tree.{Tree}
 use Rattle.tml_score.specs.declared.trees.Trees.{Trees}
 use Rattle.tml_score.proofs.Searching.{other_kept, way_true}
@@ -163,6 +165,20 @@ module _ (basis : Basis) (roots : List ℕ) (near : End) (old new : Tree) (link 
             subst (λ (x : Order). IsBeyond near t (slice_index roots (far_end_of near x)) (far_end_of near x)) (sym (at i no_order lt))
             (is.joined i within t (λ j less there. let before : j < length new.orders.items = omega (arith, less, lt) in subst (λ (x : Order). Satisfies t x.atom) (at j no_order before) (hold j less before)));
       }
+
+-- ties stay ties without a link
+pub ties_without : (basis : Basis) (link : ℕ) (ties : Ties) → AreTies basis ties → AreTies (without basis link) ties
+ties_without basis link ties are = record { orders = are.orders; onward = are.onward; back = are.back; roots = are.roots }
+
+-- an order in use isn't of a link that isn't
+unused_order : (in_use : List Bool) (link : ℕ) (m : Option ℕ) → slice_index_or in_use link false ≡ false → counts (λ k. slice_index_or in_use k false) m ≡ true → is_link link m ≡ false
+unused_order in_use link None unused used = refl
+unused_order in_use link (Some k) unused used = ne_eqb k link (λ same. let at = ap (λ (j : ℕ). slice_index_or in_use j false) same in let both : true ≡ false = sym used ∙ at ∙ unused in cc)
+
+-- a tree has no orders of a link that it doesn't use
+pub unused_orders : (basis : Basis) (roots : List ℕ) (near : End) (tree : Tree) (link : ℕ) → IsTree basis roots near tree → slice_index_or tree.in_use.items link false ≡ false
+    → (i : ℕ) → i < length tree.orders.items → is_of link (order_at tree.orders.items i) ≡ false
+unused_orders basis roots near tree link is unused i lt = unused_order tree.in_use.items link (order_at tree.orders.items i).link unused (All-get_or (IsBranch basis tree.in_use.items) tree.orders.items i no_order lt is.branches).used
 
 -- ---- what trees show
 

@@ -97,8 +97,7 @@ impl Tree {
         requires ready { IsReady (basis_of kept.now) }
         requires ties { AreTies (basis_of kept.now) ties.now }
         requires tree { IsTree (basis_of kept.now) ties.now.roots.items self.old.near self.old }
-        ensures near { self.new.near ≡ self.old.near }
-        ensures tree { OnOk result (IsTree (basis_of kept.now) ties.now.roots.items self.old.near self.new) }
+        ensures { OnOk result (IsTree (basis_of kept.now) ties.now.roots.items self.old.near self.new) }
     {
         if self.whole {
             return Ok(());
@@ -125,7 +124,7 @@ impl Tree {
         requires ready { IsReady (basis_of kept.now) }
         requires ties { AreTies (basis_of kept.now) ties.now }
         requires tree { IsTree (basis_of kept.now) ties.now.roots.items self.old.near self.old }
-        ensures tree { OnOk result (IsTree (basis_of kept.now) ties.now.roots.items self.old.near self.new) }
+        ensures { OnOk result (IsTree (basis_of kept.now) ties.now.roots.items self.old.near self.new) }
     {
         let links = kept.net.links();
         self.leave_roots(kept, ties, Open { next, from: links })?;
@@ -149,7 +148,7 @@ impl Tree {
         requires ready { IsReady (basis_of kept.now) }
         requires ties { AreTies (basis_of kept.now) ties.now }
         requires tree { IsTree (basis_of kept.now) ties.now.roots.items self.old.near self.old }
-        ensures tree { OnOk result (IsTree (basis_of kept.now) ties.now.roots.items self.old.near self.new) }
+        ensures { OnOk result (IsTree (basis_of kept.now) ties.now.roots.items self.old.near self.new) }
     {
         for point in 0..kept.table.points() {
             if ties.roots[point as usize] == point {
@@ -170,7 +169,7 @@ impl Tree {
         requires ready { IsReady (basis_of kept.now) }
         requires ties { AreTies (basis_of kept.now) ties.now }
         requires tree { IsTree (basis_of kept.now) ties.now.roots.items self.old.near self.old }
-        ensures tree { OnOk result (IsTree (basis_of kept.now) ties.now.roots.items self.old.near self.new) }
+        ensures { OnOk result (IsTree (basis_of kept.now) ties.now.roots.items self.old.near self.new) }
     {
         let end = self.turns.len();
         for turn in first..end {
@@ -195,7 +194,7 @@ impl Tree {
         requires ties { AreTies (basis_of kept.now) ties.now }
         requires point { point < points kept.now.net.now }
         requires tree { IsTree (basis_of kept.now) ties.now.roots.items self.old.near self.old }
-        ensures tree { OnOk result (IsTree (basis_of kept.now) ties.now.roots.items self.old.near self.new) }
+        ensures { OnOk result (IsTree (basis_of kept.now) ties.now.roots.items self.old.near self.new) }
     {
         for order in ties.of_point(kept, self.near, point) {
             if open.has(order) {
@@ -211,7 +210,7 @@ impl Tree {
         requires ties { AreTies (basis_of kept.now) ties.now }
         requires order { Contains kept.now.graph.now.onward.orders order.now }
         requires tree { IsTree (basis_of kept.now) ties.now.roots.items self.old.near self.old }
-        ensures tree { OnOk result (IsTree (basis_of kept.now) ties.now.roots.items self.old.near self.new) }
+        ensures { OnOk result (IsTree (basis_of kept.now) ties.now.roots.items self.old.near self.new) }
     {
         if !self.leads_on(kept, ties, order) {
             return Ok(false);
@@ -229,10 +228,13 @@ impl Tree {
         ensures { OnTrue result (LeadsOn (basis_of kept.now) ties.now.roots.items self.now order.now) }
     {
         let (near, far) = (self.near.of(order), self.near.across(order));
-        if self.covers(ties, far) || ties.roots[near as usize] != ties.roots[far as usize] {
+        if ties.roots[near as usize] != ties.roots[far as usize] || !kept.has(order) {
             return false;
         }
-        self.covers(ties, near) && kept.has(order)
+        if self.covers(ties, far) {
+            return false;
+        }
+        self.covers(ties, near)
     }
 
     /// Puts an order last.
@@ -272,10 +274,8 @@ impl Tree {
             return;
         }
         let turn = self.first_of(link);
-        if turn < self.orders.len() {
-            self.orders.truncate(turn);
-            self.whole = false;
-        }
+        self.whole = self.whole && turn == self.orders.len();
+        self.orders.truncate(turn);
     }
 
     /// The turn of the first order of a link, or how many orders there are.

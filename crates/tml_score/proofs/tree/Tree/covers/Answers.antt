@@ -1,5 +1,5 @@
 use Rattle.std.proofs.Common.{◌≡◌, ◌<◌, ℕ, List, length, inr, sym, ap, subst, ◌∙◌}
-use Rattle.std.proofs.lemmas.Bool.{OnTrue_from, eqb-eq}
+use Rattle.std.proofs.lemmas.Bool.{OnTrue_from, eqb-true}
 use Rattle.clash.specs.declared.orders.Order.{Order}
 use Rattle.tml_score.specs.ByPoint.{far_end_of}
 use Rattle.tml_score.specs.Tree.{IsCovered, no_order, order_at}
@@ -14,4 +14,4 @@ returns-in-Some c =
     let lt : turn < length tree.orders.items = subst (λ (xs : List Order). turn < length xs) orders here.0 in
     let at : c.in-Some.order.now ≡ order_at tree.orders.items turn = subst (λ (xs : List Order). c.in-Some.order.now ≡ order_at xs turn) orders (here.1 no_order) in
     OnTrue_from _ (IsCovered c.args.ties.now.roots.items tree c.args.point)
-    (λ is. inr (turn, lt, ap (far_end_of tree.near) (sym at) ∙ sym c.across.ensures ∙ eqb-eq c.across.result c.args.point is))
+    (λ is. inr (turn, lt, ap (far_end_of tree.near) (sym at) ∙ sym c.across.ensures ∙ eqb-true c.across.result c.args.point is))
