@@ -4,16 +4,19 @@ use Rattle.std.specs.List.{All, Contains}
 use Rattle.std.proofs.lemmas.Bool.{cases_eq, cases_lt, eq-eqb, ne_eqb}
 use Rattle.std.proofs.lemmas.List.{get_or-take, get_or_append_left, get_or_default, get_or_push, length-set, length_push}
 use Rattle.std.proofs.lemmas.List.Elements.{All-contains, All-get_or, All-push, All-weaker}
+use Rattle.clash.specs.Closures.{IsClosureOf}
 use Rattle.clash.specs.Orders.{is_link, is_of}
 use Rattle.clash.specs.declared.orders.Order.{Order}
 use Rattle.clash.proofs.Rounds.{others_set}
 use Rattle.net_core.specs.Atoms.{IsInOrder, Satisfies}
+use Rattle.net_core.specs.Entailment.{HasTimeline}
 use Rattle.net_core.specs.Fits.{FitsWith}
-use Rattle.net_core.specs.Nets.{points}
+use Rattle.net_core.specs.Nets.{IsNet, points}
 use Rattle.net_core.specs.Relations.{Timeline}
 use Rattle.net_core.proofs.WalkLaws.{in_order_weaker}
 use Rattle.tml_score.specs.ByPoint.{end_of, far_end_of}
-use Rattle.tml_score.specs.Graph.{counts}
+use Rattle.tml_score.specs.Graph.{IsGraphOf, counts}
+use Rattle.tml_score.specs.Reducing.{AreGoneOver}
 use Rattle.tml_score.specs.Search.{Basis, Decides, IsAsked, IsReady, IsWay, Rest, is_kept, is_other}
 use Rattle.tml_score.specs.Ties.{AreTies}
 use Rattle.tml_score.specs.Tree.{HoldBefore, IsBeyond, IsBranch, IsCovered, IsJoined, IsTree, LeadsOn, is_used, no_order, order_at, with_link, without}
@@ -179,6 +182,12 @@ unused_order in_use link (Some k) unused used = ne_eqb k link (λ same. let at =
 pub unused_orders : (basis : Basis) (roots : List ℕ) (near : End) (tree : Tree) (link : ℕ) → IsTree basis roots near tree → slice_index_or tree.in_use.items link false ≡ false
     → (i : ℕ) → i < length tree.orders.items → is_of link (order_at tree.orders.items i) ≡ false
 unused_orders basis roots near tree link is unused i lt = unused_order tree.in_use.items link (order_at tree.orders.items i).link unused (All-get_or (IsBranch basis tree.in_use.items) tree.orders.items i no_order lt is.branches).used
+
+-- ---- links that are gone over
+
+-- what is gone over so far says the same as all links
+pub ready_so_far : (basis : Basis) (n : ℕ) → IsNet basis.net → HasTimeline basis.net → IsClosureOf basis.net basis.table → IsGraphOf basis.net basis.graph → AreGoneOver basis.net n basis.keep → IsReady basis
+ready_so_far basis n net fits closure graph are = record { net = net; fits = fits; closure = closure; graph = graph; marks = are.size; same = are.same }
 
 -- ---- what trees show
 
