@@ -1,7 +1,7 @@
 -- What a tree joins, and how it changes.
 use Rattle.std.proofs.Common.{◌≡◌, ◌≢◌, ◌↔◌, ◌⊎◌, inl, inr, ℕ, ◌+◌, ◌<◌, ◌≤◌, ◌==◌, Bool, true, false, List, [], ◌∷◌, ◌++◌, length, slice_index, slice_index_or, slice_set, take, Option, Some, None, IfSome, refl, sym, ap, subst, ◌∙◌, arith, get_or-set_other, get_or-set_same}
 use Rattle.std.specs.List.{All, Contains}
-use Rattle.std.proofs.lemmas.Bool.{cases_eq, cases_lt, eq-eqb, ne_eqb}
+use Rattle.std.proofs.lemmas.Bool.{OnTrue_at, cases_eq, cases_lt, eq-eqb, eqb-false, ne_eqb}
 use Rattle.std.proofs.lemmas.List.{get_or-take, get_or_append_left, get_or_default, get_or_push, length-set, length_push}
 use Rattle.std.proofs.lemmas.List.Elements.{All-contains, All-get_or, All-push, All-weaker}
 use Rattle.clash.specs.Closures.{IsClosureOf}
@@ -17,16 +17,17 @@ use Rattle.net_core.proofs.WalkLaws.{in_order_weaker}
 use Rattle.tml_score.specs.ByPoint.{end_of, far_end_of}
 use Rattle.tml_score.specs.Graph.{IsGraphOf, counts}
 use Rattle.tml_score.specs.Reducing.{AreGoneOver}
-use Rattle.tml_score.specs.Search.{Basis, Decides, IsAsked, IsReady, IsWay, Rest, is_kept, is_other}
+use Rattle.tml_score.specs.Search.{Basis, IsAsked, IsLed, IsReady, Rest, is_kept, is_other}
 use Rattle.tml_score.specs.Ties.{AreTies}
-use Rattle.tml_score.specs.Tree.{HoldBefore, IsBeyond, IsBranch, IsCovered, IsJoined, IsTree, LeadsOn, is_used, no_order, order_at, with_link, without}
-use Rattle.tml_score.specs.Trees.{AreTrees}
+use Rattle.tml_score.specs.Tree.{HoldBefore, IsBefore, IsBeyond, IsBranch, IsCovered, IsJoined, IsTree, LeadsOn, is_used, no_order, order_at, with_link, without}
+use Rattle.tml_score.specs.Trees.{IsKnown}
+use Rattle.tml_score.specs.Meeting.{IsLedTo}
 use Rattle.tml_score.specs.declared.by_point.End.{End}
 use Rattle.tml_score.specs.declared.by_point.End.TheVariants.{From, To}
 use Rattle.tml_score.specs.declared.search.Asked.{Asked}
 use Rattle.tml_score.specs.declared.ties.Ties.{Ties}
 use Rattle.tml_score.specs.declared.tree.Tree.{Tree}
-use Rattle.tml_score.specs.declared.trees.Trees.{Trees}
+use Rattle.tml_score.specs.declared.trees.Known.{Known}
 use Rattle.tml_score.proofs.Searching.{other_kept, way_true}
 
 -- ---- what a tree joins
@@ -42,14 +43,15 @@ beyond_self From t root point same = let e = ap t same in omega arith
 beyond_self To t root point same = let e = ap t same in omega arith
 
 module _ (basis : Basis) (roots : List ℕ) (near : End) (tree : Tree) (is : IsTree basis roots near tree) where
-  -- what a tree covers is joined by its orders
-  pub covered_joined : (point : ℕ) → IsCovered roots tree point → IsJoined near roots tree.orders.items (length tree.orders.items) point
-  covered_joined point covered = elim covered [
+  -- what the first orders of a tree cover is joined by these
+  pub covered_joined : (n point : ℕ) → IsCovered roots tree n point → IsJoined near roots tree.orders.items n point
+  covered_joined n point covered = elim covered [
     | inl root ↦ λ t hold. beyond_self near t (slice_index roots point) point root
     | inr at ↦
         let i = at.0 in
-        let same : far_end_of near (order_at tree.orders.items i) ≡ point = subst (λ (n : End). far_end_of n (order_at tree.orders.items i) ≡ point) is.end at.2 in
-        λ t hold. subst (λ (x : ℕ). IsBeyond near t (slice_index roots x) x) same (is.joined i at.1 t (λ j less lt. hold j lt lt))
+        let same : far_end_of near (order_at tree.orders.items i) ≡ point = subst (λ (e : End). far_end_of e (order_at tree.orders.items i) ≡ point) is.end at.3 in
+        let before = at.1 in
+        λ t hold. subst (λ (x : ℕ). IsBeyond near t (slice_index roots x) x) same (is.joined i at.2 t (λ j less lt. hold j (omega (arith, less, before)) lt))
   ]
 
 -- ---- one order more
@@ -112,7 +114,7 @@ module _ (basis : Basis) (roots : List ℕ) (near : End) (old new : Tree) (o : O
               let here : order_at new.orders.items i ≡ o = last_order old.orders.items o new.orders.items orders i at in
               λ t hold. subst (λ (x : Order). IsBeyond near t (slice_index roots (far_end_of near x)) (far_end_of near x)) (sym here) (
                 let all : HoldBefore t old.orders.items (length old.orders.items) = λ j less within. hold_fewer old.orders.items o new.orders.items orders t (i + 1) hold j (omega (arith, less, at)) within in
-                let from : IsBeyond near t (slice_index roots (end_of old.near o)) (end_of old.near o) = covered_joined basis roots near old is (end_of old.near o) on.covered t all in
+                let from : IsBeyond near t (slice_index roots (end_of old.near o)) (end_of old.near o) = covered_joined basis roots near old is (length old.orders.items) (end_of old.near o) on.covered t all in
                 let holds : Satisfies t o.atom = subst (λ (x : Order). Satisfies t x.atom) here (hold i (omega arith) lt) in
                 let root : IsBeyond near t (slice_index roots (far_end_of old.near o)) (end_of old.near o) = subst (λ (r : ℕ). IsBeyond near t r (end_of old.near o)) on.one_root from in
                 subst (λ (x : ℕ). IsBeyond near t (slice_index roots x) x) (sym far_end)
@@ -146,7 +148,7 @@ kept_without keep link (Some k) other kept = elim (cases_eq k link) [
 module _ (basis : Basis) (roots : List ℕ) (near : End) (old new : Tree) (link : ℕ) (is : IsTree basis roots near old) where
   -- what is left of a tree, before the first order of a link, is one without the link
   pub cut_tree : (n : ℕ) → new.near ≡ old.near → length new.turns.items ≡ length old.turns.items → new.in_use.items ≡ old.in_use.items → new.orders.items ≡ take n old.orders.items → length new.orders.items ≤ n → length new.orders.items ≤ length old.orders.items
-      → ((i : ℕ) → i < n → is_of link (order_at old.orders.items i) ≡ false) → IsTree (without basis link) roots near new
+      → IsBefore link old n → IsTree (without basis link) roots near new
   cut_tree n end turns in_use orders few fewer others =
       let at : (i : ℕ) (d : Order) → i < length new.orders.items → slice_index_or new.orders.items i d ≡ slice_index_or old.orders.items i d = λ i d lt. ap (λ (xs : List Order). slice_index_or xs i d) orders ∙ get_or-take n old.orders.items i d (omega (arith, lt, few)) in
       record {
@@ -156,7 +158,7 @@ module _ (basis : Basis) (roots : List ℕ) (near : End) (old new : Tree) (link 
         branches = λ i d lt.
             let within : i < length old.orders.items = omega (arith, lt, fewer) in
             let was = is.branches i d within in
-            let other : is_of link (slice_index_or old.orders.items i d) ≡ false = subst (λ (x : Order). is_of link x ≡ false) (get_or_default old.orders.items i no_order d within) (others i (omega (arith, lt, few))) in
+            let other : is_of link (slice_index_or old.orders.items i d) ≡ false = subst (λ (x : Order). is_of link x ≡ false) (get_or_default old.orders.items i no_order d within) (others basis roots near is i (omega (arith, lt, few))) in
             let branch : IsBranch (without basis link) new.in_use.items (slice_index_or old.orders.items i d) = record {
               of_net = was.of_net;
               kept = kept_without basis.keep link (slice_index_or old.orders.items i d).link other was.kept;
@@ -191,27 +193,39 @@ ready_so_far basis n net fits closure graph are = record { net = net; fits = fit
 
 -- ---- what trees show
 
--- an order in use is of no link, or of another one that is kept
-other_used : (keep in_use : List Bool) (link : ℕ) (m : Option ℕ) → slice_index_or in_use link false ≡ false → counts (λ k. slice_index_or keep k false) m ≡ true → counts (λ k. slice_index_or in_use k false) m ≡ true → counts (is_other keep link) m ≡ true
-other_used keep in_use link None unused kept used = refl
-other_used keep in_use link (Some k) unused kept used = (other_kept keep link k).1 (kept, λ same. let at = ap (λ (j : ℕ). slice_index_or in_use j false) same in let both : true ≡ false = sym used ∙ at ∙ unused in cc)
+-- an order of the tree that isn't of a link is of none, or of another one that is kept
+other_kept_link : (keep : List Bool) (link : ℕ) (m : Option ℕ) → is_link link m ≡ false → counts (λ k. slice_index_or keep k false) m ≡ true → counts (is_other keep link) m ≡ true
+other_kept_link keep link None other kept = refl
+other_kept_link keep link (Some k) other kept = (other_kept keep link k).1 (kept, eqb-false k link other)
 
-module _ (basis : Basis) (asked : Asked) (ready : IsReady basis) (asks : IsAsked basis asked) (roots : List ℕ) where
-  -- the orders of a tree that doesn't use a link hold with the other links
-  all_hold : (near : End) (tree : Tree) → IsTree basis roots near tree → slice_index_or tree.in_use.items asked.link false ≡ false
-      → (t : Timeline) → FitsWith basis.net (Rest basis asked) t → HoldBefore t tree.orders.items (length tree.orders.items)
-  all_hold near tree is unused t fits = λ i less lt.
+module _ (basis : Basis) (asked : Asked) (ready : IsReady basis) (asks : IsAsked basis asked) (roots : List ℕ) (near : End) (tree : Tree) (is : IsTree basis roots near tree) (n : ℕ) (before : IsBefore asked.link tree n) where
+  -- the orders of a tree before those of a link hold with the other links
+  others_hold : (t : Timeline) → FitsWith basis.net (Rest basis asked) t → HoldBefore t tree.orders.items n
+  others_hold t fits = λ i less lt.
       let o = order_at tree.orders.items i in
       let branch = All-get_or (IsBranch basis tree.in_use.items) tree.orders.items i no_order lt is.branches in
-      way_true basis asked ready asks t fits o (branch.of_net, other_used basis.keep tree.in_use.items asked.link o.link unused branch.kept branch.used)
+      way_true basis asked ready asks t fits o (branch.of_net, other_kept_link basis.keep asked.link o.link (before basis roots near is i less) branch.kept)
 
-  -- an order of points that are covered holds with the other links
-  pub trees_show : (onward back : Tree) → IsTree basis roots From onward → IsTree basis roots To back
-      → slice_index_or onward.in_use.items asked.link false ≡ false → slice_index_or back.in_use.items asked.link false ≡ false
-      → asked.order.strict ≡ false → slice_index roots asked.order.from ≡ slice_index roots asked.order.to
-      → IsCovered roots back asked.order.from → IsCovered roots onward asked.order.to → Decides basis asked true
-  trees_show onward back first second unused too weak same from to = λ t fits.
-      let before : t asked.order.from ≤ t (slice_index roots asked.order.from) = covered_joined basis roots To back second asked.order.from from t (all_hold To back second too t fits) in
-      let after : t (slice_index roots asked.order.to) ≤ t asked.order.to = covered_joined basis roots From onward first asked.order.to to t (all_hold From onward first unused t fits) in
+  -- and so a point that they cover is beyond its root
+  pub covered_beyond : (point : ℕ) → IsCovered roots tree n point → (t : Timeline) → FitsWith basis.net (Rest basis asked) t → IsBeyond near t (slice_index roots point) point
+  covered_beyond point covered t fits = covered_joined basis roots near tree is n point covered t (others_hold t fits)
+
+module _ (basis : Basis) (asked : Asked) (ready : IsReady basis) (asks : IsAsked basis asked) (known : Known) (are : IsKnown basis asked known) where
+  abbrev roots_of : List ℕ
+  roots_of = known.trees.now.ties.roots.items
+
+  -- a point that the tree onward covers is no earlier than the first one
+  pub comes_after : (point : ℕ) → known.from ≡ true → slice_index roots_of asked.order.from ≡ slice_index roots_of point → IsCovered roots_of known.trees.now.onward known.onward point → IsLed basis asked point
+  comes_after point from same covered = λ t fits.
+      let first : t asked.order.from ≤ t (slice_index roots_of asked.order.from) = covered_beyond basis asked ready asks roots_of To known.trees.now.back are.trees.back known.back are.back asked.order.from (OnTrue_at from are.from) t fits in
+      let on : t (slice_index roots_of point) ≤ t point = covered_beyond basis asked ready asks roots_of From known.trees.now.onward are.trees.onward known.onward are.onward point covered t fits in
       let root = ap t same in
-      subst (λ (b : Bool). IsInOrder b (t asked.order.from) (t asked.order.to)) (sym weak) (omega (arith, before, after, root))
+      omega (arith, first, on, root)
+
+  -- and one that the tree back covers is no later than the last one
+  pub comes_before : (point : ℕ) → known.to ≡ true → slice_index roots_of point ≡ slice_index roots_of asked.order.to → IsCovered roots_of known.trees.now.back known.back point → IsLedTo basis asked point
+  comes_before point to same covered = λ t fits.
+      let back : t point ≤ t (slice_index roots_of point) = covered_beyond basis asked ready asks roots_of To known.trees.now.back are.trees.back known.back are.back point covered t fits in
+      let last : t (slice_index roots_of asked.order.to) ≤ t asked.order.to = covered_beyond basis asked ready asks roots_of From known.trees.now.onward are.trees.onward known.onward are.onward asked.order.to (OnTrue_at to are.to) t fits in
+      let root = ap t same in
+      omega (arith, back, last, root)

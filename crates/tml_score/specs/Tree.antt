@@ -1,6 +1,7 @@
 -- A tree: orders that lead from the root of each place to its points, or from these back to it.
 use Rattle.std.specs.Prelude.{◌≡◌, ◌⊎◌, ℕ, ◌+◌, ◌<◌, ◌≤◌, Bool, true, false, List, length, Option, Some, None, slice_index, slice_index_or, slice_set}
 use Rattle.std.specs.List.{All, Contains}
+use Rattle.clash.specs.Orders.{is_of}
 use Rattle.clash.specs.declared.orders.Order.{Order}
 use Rattle.net_core.specs.Atoms.{Satisfies}
 use Rattle.net_core.specs.Nets.{points}
@@ -50,14 +51,18 @@ pub record IsTree (basis : Basis) (roots : List ℕ) (near : End) (tree : Tree) 
   pub branches : All (IsBranch basis tree.in_use.items) tree.orders.items
   pub joined : (i : ℕ) → i < length tree.orders.items → IsJoined near roots tree.orders.items (i + 1) (far_end_of near (order_at tree.orders.items i))
 
--- a point is a root, or an order of the tree leads to it
-abbrev pub IsCovered : List ℕ → Tree → ℕ → Type 0
-IsCovered roots tree point =
-    (slice_index roots point ≡ point) ⊎ ((i : ℕ) × (i < length tree.orders.items) × (far_end_of tree.near (order_at tree.orders.items i) ≡ point))
+-- a point is a root, or one of the first n orders of the tree leads to it
+abbrev pub IsCovered : List ℕ → Tree → ℕ → ℕ → Type 0
+IsCovered roots tree n point =
+    (slice_index roots point ≡ point) ⊎ ((i : ℕ) × (i < n) × (i < length tree.orders.items) × (far_end_of tree.near (order_at tree.orders.items i) ≡ point))
+
+-- none of the first n orders of a tree is of this link
+abbrev pub IsBefore : ℕ → Tree → ℕ → Type 0
+IsBefore link tree n = (basis : Basis) (roots : List ℕ) (near : End) → IsTree basis roots near tree → (i : ℕ) → i < n → is_of link (order_at tree.orders.items i) ≡ false
 
 -- A kept order leads from a point that is covered to another one of its place.
 pub record LeadsOn (basis : Basis) (roots : List ℕ) (tree : Tree) (o : Order) : Type 0 where
-  pub covered : IsCovered roots tree (end_of tree.near o)
+  pub covered : IsCovered roots tree (length tree.orders.items) (end_of tree.near o)
   pub one_root : slice_index roots (end_of tree.near o) ≡ slice_index roots (far_end_of tree.near o)
   pub kept : is_kept basis o ≡ true
 

@@ -114,7 +114,7 @@ fn link_follows(
     Ok(true)
 }
 
-/// Whether an order of a link follows from the others that are kept: it is searched where the trees don't show it.
+/// Whether an order of a link follows from the others that are kept, by what the trees show and a search.
 fn order_follows(
     kept: &Kept<'_>,
     asked: Asked,
@@ -129,10 +129,8 @@ fn order_follows(
     ensures trees { OnOk result (AreTrees (basis_of kept.now) trees.new) }
     ensures room { OnOk result (HaveRoom (basis_of kept.now) sides.new) }
 {
-    if trees.show(kept, asked) {
-        return Ok(true);
-    }
-    let follows = kept.follows(asked, sides)?;
+    let known = trees.known(kept, asked);
+    let follows = kept.follows(asked, &known, sides)?;
     trees.spend(sides.onward.len());
     Ok(follows)
 }

@@ -1,6 +1,6 @@
 //! Orders of points that are at one place.
 ghost use Rattle.net_core.specs.Nets.{points};
-ghost use Rattle.std.specs.Prelude.{IfOk, OnOk, length, ◌<◌, ◌≡◌};
+ghost use Rattle.std.specs.Prelude.{IfOk, OnOk, length, slice_index, ◌<◌, ◌≡◌};
 ghost use Rattle.tml_score.specs.Search.{IsReady, basis_of};
 ghost use Rattle.tml_score.specs.Ties.{AreOrders, AreOrdersBy, ArePoints, AreTies};
 
@@ -42,6 +42,14 @@ impl Ties {
             back,
             roots,
         })
+    }
+
+    /// The first point at the place of a point.
+    pub fn root(&self, point: u32) -> u32
+        requires { point < length self.now.roots.items }
+        ensures { result ≡ slice_index self.now.roots.items point }
+    {
+        self.roots[point as usize]
     }
 
     /// The ties that have a point at this end.

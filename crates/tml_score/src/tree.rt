@@ -7,7 +7,7 @@ ghost use Rattle.std.specs.Prelude.{IfOk, IfSome, OnOk, [], false, length, slice
 ghost use Rattle.tml_score.specs.ByPoint.{far_end_of};
 ghost use Rattle.tml_score.specs.Search.{IsReady, basis_of};
 ghost use Rattle.tml_score.specs.Ties.{AreTies};
-ghost use Rattle.tml_score.specs.Tree.{IsCovered, IsCut, IsTree, LeadsOn, order_at, with_link};
+ghost use Rattle.tml_score.specs.Tree.{IsBefore, IsCovered, IsCut, IsTree, LeadsOn, order_at, with_link};
 
 use crate::by_point::End;
 use crate::search::Kept;
@@ -72,16 +72,20 @@ impl Tree {
         })
     }
 
-    /// Whether a point is a root, or an order of the tree leads to it.
-    pub fn covers(&self, ties: &Ties, point: u32) -> bool
+    /// Whether a point is a root, or one of so many orders of the tree leads to it.
+    pub fn covers(&self, ties: &Ties, point: u32, turns: usize) -> bool
         requires turns { point < length self.now.turns.items }
         requires roots { point < length ties.now.roots.items }
-        ensures { OnTrue result (IsCovered ties.now.roots.items self.now point) }
+        ensures { OnTrue result (IsCovered ties.now.roots.items self.now turns point) }
     {
-        if ties.roots[point as usize] == point {
+        if ties.root(point) == point {
             return true;
         }
-        match self.orders.get(self.turns[point as usize]) {
+        let turn = self.turns[point as usize];
+        if turns <= turn {
+            return false;
+        }
+        match self.orders.get(turn) {
             Some(order) => self.near.across(order) == point,
             None => false,
         }
@@ -228,13 +232,14 @@ impl Tree {
         ensures { OnTrue result (LeadsOn (basis_of kept.now) ties.now.roots.items self.now order.now) }
     {
         let (near, far) = (self.near.of(order), self.near.across(order));
-        if ties.roots[near as usize] != ties.roots[far as usize] || !kept.has(order) {
+        if ties.root(near) != ties.root(far) || !kept.has(order) {
             return false;
         }
-        if self.covers(ties, far) {
+        let turns = self.orders.len();
+        if self.covers(ties, far, turns) {
             return false;
         }
-        self.covers(ties, near)
+        self.covers(ties, near, turns)
     }
 
     /// Puts an order last.
@@ -257,12 +262,17 @@ impl Tree {
         Ok(())
     }
 
-    /// Whether an order of the tree may be one of this link.
-    pub fn uses(&self, link: u32) -> bool
+    /// How many orders come before the first one of a link.
+    pub fn before(&self, link: u32) -> usize
         requires { link < length self.now.in_use.items }
-        ensures { result ≡ slice_index_or self.now.in_use.items link false }
+        ensures within { result ≤ length self.now.orders.items }
+        ensures before { IsBefore link self.now result }
     {
-        self.in_use[link as usize]
+        if self.in_use[link as usize] {
+            self.first_of(link)
+        } else {
+            self.orders.len()
+        }
     }
 
     /// Takes the orders of a link away, with all after the first of them.
@@ -270,10 +280,7 @@ impl Tree {
         requires { link < length self.old.in_use.items }
         ensures { IsCut link self.old self.new }
     {
-        if !self.in_use[link as usize] {
-            return;
-        }
-        let turn = self.first_of(link);
+        let turn = self.before(link);
         self.whole = self.whole && turn == self.orders.len();
         self.orders.truncate(turn);
     }

@@ -1,8 +1,10 @@
 //! Trees that show of most orders of points at one place that they follow.
+ghost use Rattle.net_core.specs.Nets.{points};
 ghost use Rattle.std.specs.Bool.{OnTrue};
-ghost use Rattle.std.specs.Prelude.{IfOk, OnOk, length, true, ◌<◌};
-ghost use Rattle.tml_score.specs.Search.{Decides, IsAsked, IsReady, basis_of};
-ghost use Rattle.tml_score.specs.Trees.{AreCut, AreTrees, StayTrees};
+ghost use Rattle.std.specs.Prelude.{IfOk, OnOk, length, ◌<◌};
+ghost use Rattle.tml_score.specs.Meeting.{IsLedTo};
+ghost use Rattle.tml_score.specs.Search.{IsAsked, IsLed, IsReady, basis_of};
+ghost use Rattle.tml_score.specs.Trees.{AreCut, AreTrees, IsKnown, StayTrees};
 
 use crate::by_point::End;
 use crate::search::{Asked, Kept};
@@ -64,25 +66,22 @@ impl Trees {
         self.back.refresh(kept, &self.ties, next)
     }
 
-    /// Whether the trees show that an order of a link follows: the one leads back from its first point to the root of the
-    /// place, the other onward from there to its last point, and neither uses the link.
-    pub fn show(&self, kept: &Kept<'_>, asked: Asked) -> bool
+    /// What the trees show beside the link that an order is of.
+    pub fn known(&self, kept: &Kept<'_>, asked: Asked) -> Known<'_>
         requires ready { IsReady (basis_of kept.now) }
         requires asked { IsAsked (basis_of kept.now) asked }
         requires trees { AreTrees (basis_of kept.now) self.now }
-        ensures { OnTrue result (Decides (basis_of kept.now) asked true) }
+        ensures { IsKnown (basis_of kept.now) asked result }
     {
-        if asked.order.strict || self.onward.uses(asked.link) || self.back.uses(asked.link) {
-            return false;
+        let onward = self.onward.before(asked.link);
+        let back = self.back.before(asked.link);
+        Known {
+            trees: self,
+            onward,
+            back,
+            from: self.back.covers(&self.ties, asked.order.from, back),
+            to: self.onward.covers(&self.ties, asked.order.to, onward),
         }
-        let (from, to) = (asked.order.from, asked.order.to);
-        if self.ties.roots[from as usize] != self.ties.roots[to as usize] {
-            return false;
-        }
-        if !self.back.covers(&self.ties, from) {
-            return false;
-        }
-        self.onward.covers(&self.ties, to)
     }
 
     /// Counts points that a search has reached.
@@ -100,5 +99,48 @@ impl Trees {
     {
         self.onward.cut(link);
         self.back.cut(link);
+    }
+}
+
+/// What the trees show beside the link of an order: how many orders of each come before those of the link, and whether these
+/// lead back from the first point of the order to its root, and onward from the root to the last point.
+#[derive(Clone, Copy)]
+pub struct Known<'a> {
+    pub trees: &'a Trees,
+    pub onward: usize,
+    pub back: usize,
+    pub from: bool,
+    pub to: bool,
+}
+
+impl Known<'_> {
+    /// Whether they show that a point is no earlier than the first one of the order.
+    pub fn comes_after(&self, kept: &Kept<'_>, asked: Asked, point: u32) -> bool
+        requires ready { IsReady (basis_of kept.now) }
+        requires asked { IsAsked (basis_of kept.now) asked }
+        requires known { IsKnown (basis_of kept.now) asked self.now }
+        requires point { point < points kept.now.net.now }
+        ensures { OnTrue result (IsLed (basis_of kept.now) asked point) }
+    {
+        let trees = self.trees;
+        if !self.from || trees.ties.root(asked.order.from) != trees.ties.root(point) {
+            return false;
+        }
+        trees.onward.covers(&trees.ties, point, self.onward)
+    }
+
+    /// Whether they show that a point is no later than the last one of the order.
+    pub fn comes_before(&self, kept: &Kept<'_>, asked: Asked, point: u32) -> bool
+        requires ready { IsReady (basis_of kept.now) }
+        requires asked { IsAsked (basis_of kept.now) asked }
+        requires known { IsKnown (basis_of kept.now) asked self.now }
+        requires point { point < points kept.now.net.now }
+        ensures { OnTrue result (IsLedTo (basis_of kept.now) asked point) }
+    {
+        let trees = self.trees;
+        if !self.to || trees.ties.root(point) != trees.ties.root(asked.order.to) {
+            return false;
+        }
+        trees.back.covers(&trees.ties, point, self.back)
     }
 }

@@ -41,7 +41,7 @@ returns c =
     let same : slice_index roots c.of-near.result ≡ slice_index roots c.across-far.result =
         get_or_default roots c.of-near.result 0 c.index.result.now near ∙ sym c.index.ensures ∙ c.if-index.false ∙ c.index-2.ensures ∙ get_or_default roots c.across-far.result c.index-2.result.now 0 far in
     OnTrue_from _ (LeadsOn basis roots tree o) (λ is. record {
-      covered = subst (IsCovered roots tree) c.of-near.ensures (OnTrue_at is c.covers-2.ensures);
+      covered = subst (IsCovered roots tree (length tree.orders.items)) c.of-near.ensures (OnTrue_at is c.covers-2.ensures);
       one_root = subst (λ x. slice_index roots x ≡ slice_index roots (far_end_of tree.near o)) c.of-near.ensures (subst (λ y. slice_index roots c.of-near.result ≡ slice_index roots y) c.across-far.ensures same);
       kept = sym c.has.ensures ∙ c.if-not-has.false;
     })
