@@ -42,6 +42,10 @@ beyond_self : (near : End) (t : Timeline) (root point : ℕ) → root ≡ point 
 beyond_self From t root point same = let e = ap t same in omega arith
 beyond_self To t root point same = let e = ap t same in omega arith
 
+-- what some orders of a tree cover all do
+pub covered_by_all : (roots : List ℕ) (tree : Tree) (n point : ℕ) → IsCovered roots tree n point → IsCovered roots tree (length tree.orders.items) point
+covered_by_all roots tree n point covered = elim covered [ inl root ↦ inl root | inr at ↦ inr (at.0, at.2, at.2, at.3) ]
+
 module _ (basis : Basis) (roots : List ℕ) (near : End) (tree : Tree) (is : IsTree basis roots near tree) where
   -- what the first orders of a tree cover is joined by these
   pub covered_joined : (n point : ℕ) → IsCovered roots tree n point → IsJoined near roots tree.orders.items n point

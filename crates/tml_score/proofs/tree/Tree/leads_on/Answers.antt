@@ -7,13 +7,14 @@ use Rattle.tml_score.specs.Search.{basis_of}
 use Rattle.tml_score.specs.Tree.{IsCovered, LeadsOn}
 use Rattle.tml_score.proofs.Spreading.{marked_link}
 use Rattle.tml_score.proofs.TieLaws.{far_within, near_within}
+use Rattle.tml_score.proofs.TreeLaws.{covered_by_all}
 use Rattle.tml_score.proofs.tree.Tree.leads_on.Goals as goal
 
-pub index-requires : goal.index-requires
-index-requires c = omega (arith, near_within (basis_of c.args.kept.now) c.requires.ready c.args.self.now.near c.args.order.now c.requires.order, c.of-near.ensures, c.requires.ties.roots)
+pub root-requires : goal.root-requires
+root-requires c = omega (arith, near_within (basis_of c.args.kept.now) c.requires.ready c.args.self.now.near c.args.order.now c.requires.order, c.of-near.ensures, c.requires.ties.roots)
 
-pub index-requires-2 : goal.index-requires-2
-index-requires-2 c = omega (arith, far_within (basis_of c.args.kept.now) c.requires.ready c.args.self.now.near c.args.order.now c.requires.order, c.across-far.ensures, c.requires.ties.roots)
+pub root-requires-2 : goal.root-requires-2
+root-requires-2 c = omega (arith, far_within (basis_of c.args.kept.now) c.requires.ready c.args.self.now.near c.args.order.now c.requires.order, c.across-far.ensures, c.requires.ties.roots)
 
 pub has-requires : goal.has-requires
 has-requires c = marked_link (basis_of c.args.kept.now) c.requires.ready c.args.order.now c.requires.order
@@ -36,12 +37,9 @@ returns c =
     let roots = c.args.ties.now.roots.items in
     let tree = c.args.self.now in
     let o = c.args.order.now in
-    let near : c.of-near.result < length roots = omega (arith, near_within basis c.requires.ready tree.near o c.requires.order, c.of-near.ensures, c.requires.ties.roots) in
-    let far : c.across-far.result < length roots = omega (arith, far_within basis c.requires.ready tree.near o c.requires.order, c.across-far.ensures, c.requires.ties.roots) in
-    let same : slice_index roots c.of-near.result ≡ slice_index roots c.across-far.result =
-        get_or_default roots c.of-near.result 0 c.index.result.now near ∙ sym c.index.ensures ∙ c.if-index.false ∙ c.index-2.ensures ∙ get_or_default roots c.across-far.result c.index-2.result.now 0 far in
+    let same : slice_index roots c.of-near.result ≡ slice_index roots c.across-far.result = sym c.root.ensures ∙ c.if-root.false ∙ c.root-2.ensures in
     OnTrue_from _ (LeadsOn basis roots tree o) (λ is. record {
-      covered = subst (IsCovered roots tree (length tree.orders.items)) c.of-near.ensures (OnTrue_at is c.covers-2.ensures);
+      covered = subst (IsCovered roots tree (length tree.orders.items)) c.of-near.ensures (covered_by_all roots tree c.len-turns.result c.of-near.result (OnTrue_at is c.covers-2.ensures));
       one_root = subst (λ x. slice_index roots x ≡ slice_index roots (far_end_of tree.near o)) c.of-near.ensures (subst (λ y. slice_index roots c.of-near.result ≡ slice_index roots y) c.across-far.ensures same);
       kept = sym c.has.ensures ∙ c.if-not-has.false;
     })
