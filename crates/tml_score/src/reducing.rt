@@ -131,6 +131,7 @@ fn order_follows(
 {
     let known = trees.known(kept, asked);
     let follows = kept.follows(asked, &known, sides)?;
-    trees.spend(sides.onward.len());
+    let reached = if follows { sides.onward.len() } else { 0 };
+    trees.spend(reached);
     Ok(follows)
 }

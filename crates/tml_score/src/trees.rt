@@ -14,8 +14,9 @@ use net_core::Memory;
 use std::alloc::Global;
 
 /// Orders that lead from the root of each place to its points, and others that lead back to it. They show that an order of two
-/// points of a place follows, of a link that they don't use. `spent` counts the points that searches have reached since the
-/// trees last grew: these grow again where that was many, and else links that they use no more are searched.
+/// points of a place follows, of a link that they don't use, and they end a search for one of a link that they use. `spent`
+/// counts the points that such searches have reached, since the trees last grew, for orders that follow: where that is many
+/// the trees grow again.
 #[derive(Drop)]
 pub struct Trees {
     pub ties: Ties,
@@ -39,12 +40,11 @@ impl Trees {
         let links = kept.net.links();
         let onward = Tree::new(alloc, End::From, points, links)?;
         let back = Tree::new(alloc, End::To, points, links)?;
-        let spent = ties.orders.len();
         Ok(Trees {
             ties,
             onward,
             back,
-            spent,
+            spent: 0,
         })
     }
 
@@ -58,7 +58,7 @@ impl Trees {
         requires trees { AreTrees (basis_of kept.now) self.old }
         ensures { OnOk result (AreTrees (basis_of kept.now) self.new) }
     {
-        if self.spent < self.ties.orders.len() / 4 {
+        if self.spent < self.ties.orders.len() / 2 {
             return Ok(());
         }
         self.spent = 0;
