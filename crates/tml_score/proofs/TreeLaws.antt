@@ -1,14 +1,14 @@
 -- What a tree joins, and how it changes.
-use Rattle.std.proofs.Common.{◌≡◌, ◌≢◌, ◌↔◌, ◌⊎◌, inl, inr, ℕ, ◌+◌, ◌<◌, ◌≤◌, ◌==◌, Bool, true, false, List, [], ◌∷◌, ◌++◌, length, slice_index, slice_index_or, slice_set, take, Option, Some, None, IfSome, refl, sym, ap, subst, ◌∙◌, arith, get_or-set_other, get_or-set_same}
+use Rattle.std.proofs.Common.{◌≡◌, inl, inr, ℕ, ◌+◌, ◌<◌, ◌≤◌, Bool, true, false, List, [], ◌∷◌, ◌++◌, length, slice_index, slice_index_or, slice_set, take, Option, Some, None, IfSome, refl, sym, ap, subst, ◌∙◌, arith, get_or-set_other, get_or-set_same}
 use Rattle.std.specs.List.{All, Contains}
 use Rattle.std.proofs.lemmas.Bool.{OnTrue_at, cases_eq, cases_lt, eq-eqb, eqb-false, ne_eqb}
 use Rattle.std.proofs.lemmas.List.{get_or-take, get_or_append_left, get_or_default, get_or_push, length-set, length_push}
-use Rattle.std.proofs.lemmas.List.Elements.{All-contains, All-get_or, All-push, All-weaker}
+use Rattle.std.proofs.lemmas.List.Elements.{All-get_or, All-push, All-weaker}
 use Rattle.clash.specs.Closures.{IsClosureOf}
 use Rattle.clash.specs.Orders.{is_link, is_of}
 use Rattle.clash.specs.declared.orders.Order.{Order}
 use Rattle.clash.proofs.Rounds.{others_set}
-use Rattle.net_core.specs.Atoms.{IsInOrder, Satisfies}
+use Rattle.net_core.specs.Atoms.{Satisfies}
 use Rattle.net_core.specs.Entailment.{HasTimeline}
 use Rattle.net_core.specs.Fits.{FitsWith}
 use Rattle.net_core.specs.Nets.{IsNet, points}
@@ -17,7 +17,7 @@ use Rattle.net_core.proofs.WalkLaws.{in_order_weaker}
 use Rattle.tml_score.specs.ByPoint.{end_of, far_end_of}
 use Rattle.tml_score.specs.Graph.{IsGraphOf, counts}
 use Rattle.tml_score.specs.Reducing.{AreGoneOver}
-use Rattle.tml_score.specs.Search.{Basis, IsAsked, IsLed, IsReady, Rest, is_kept, is_other}
+use Rattle.tml_score.specs.Search.{Basis, IsAsked, IsLed, IsReady, Rest, is_other}
 use Rattle.tml_score.specs.Ties.{AreTies}
 use Rattle.tml_score.specs.Tree.{HoldBefore, IsBefore, IsBeyond, IsBranch, IsCovered, IsJoined, IsTree, LeadsOn, is_used, no_order, order_at, with_link, without}
 use Rattle.tml_score.specs.Trees.{IsKnown}
@@ -117,14 +117,14 @@ module _ (basis : Basis) (roots : List ℕ) (near : End) (old new : Tree) (o : O
               let at : length old.orders.items ≡ i = omega (arith, last, lt, size, count) in
               let here : order_at new.orders.items i ≡ o = last_order old.orders.items o new.orders.items orders i at in
               λ t hold. subst (λ (x : Order). IsBeyond near t (slice_index roots (far_end_of near x)) (far_end_of near x)) (sym here) (
-                let all : HoldBefore t old.orders.items (length old.orders.items) = λ j less within. hold_fewer old.orders.items o new.orders.items orders t (i + 1) hold j (omega (arith, less, at)) within in
-                let from : IsBeyond near t (slice_index roots (end_of old.near o)) (end_of old.near o) = covered_joined basis roots near old is (length old.orders.items) (end_of old.near o) on.covered t all in
-                let holds : Satisfies t o.atom = subst (λ (x : Order). Satisfies t x.atom) here (hold i (omega arith) lt) in
-                let root : IsBeyond near t (slice_index roots (far_end_of old.near o)) (end_of old.near o) = subst (λ (r : ℕ). IsBeyond near t r (end_of old.near o)) on.one_root from in
-                subst (λ (x : ℕ). IsBeyond near t (slice_index roots x) x) (sym far_end)
-                (subst (λ (n : End). IsBeyond near t (slice_index roots (far_end_of n o)) (far_end_of n o)) (sym is.end)
-                (beyond_then near t (slice_index roots (far_end_of near o)) o
-                (subst (λ (n : End). IsBeyond near t (slice_index roots (far_end_of n o)) (end_of n o)) is.end root) holds)))
+              let all : HoldBefore t old.orders.items (length old.orders.items) = λ j less within. hold_fewer old.orders.items o new.orders.items orders t (i + 1) hold j (omega (arith, less, at)) within in
+              let from : IsBeyond near t (slice_index roots (end_of old.near o)) (end_of old.near o) = covered_joined basis roots near old is (length old.orders.items) (end_of old.near o) on.covered t all in
+              let holds : Satisfies t o.atom = subst (λ (x : Order). Satisfies t x.atom) here (hold i (omega arith) lt) in
+              let root : IsBeyond near t (slice_index roots (far_end_of old.near o)) (end_of old.near o) = subst (λ (r : ℕ). IsBeyond near t r (end_of old.near o)) on.one_root from in
+              subst (λ (x : ℕ). IsBeyond near t (slice_index roots x) x) (sym far_end)
+              (subst (λ (n : End). IsBeyond near t (slice_index roots (far_end_of n o)) (far_end_of n o)) (sym is.end)
+              (beyond_then near t (slice_index roots (far_end_of near o)) o
+              (subst (λ (n : End). IsBeyond near t (slice_index roots (far_end_of n o)) (end_of n o)) is.end root) holds)))
         ];
       }
 

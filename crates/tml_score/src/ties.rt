@@ -91,12 +91,7 @@ fn ties_of(alloc: Global, kept: &Kept<'_>) -> Result<Vec<Order>, Memory>
 }
 
 /// Orders by the point at an end.
-fn by_point(
-    alloc: Global,
-    kept: &Kept<'_>,
-    orders: &[Order],
-    end: End,
-) -> Result<ByPoint, Memory>
+fn by_point(alloc: Global, kept: &Kept<'_>, orders: &[Order], end: End) -> Result<ByPoint, Memory>
     requires ready { IsReady (basis_of kept.now) }
     requires orders { AreOrders (basis_of kept.now) orders.now }
     ensures { IfOk result (AreOrdersBy (basis_of kept.now)) }

@@ -1,7 +1,6 @@
-use Rattle.std.proofs.Common.{List, sym, subst}
+use Rattle.std.proofs.Common.{sym, subst}
 use Rattle.std.specs.List.{Contains}
 use Rattle.std.proofs.lemmas.List.Elements.{All-get_or}
-use Rattle.clash.specs.declared.orders.Order.{Order}
 use Rattle.tml_score.specs.Search.{basis_of}
 use Rattle.tml_score.specs.Ties.{AreOrders}
 use Rattle.tml_score.specs.Tree.{no_order}

@@ -1,8 +1,6 @@
-use Rattle.std.proofs.Common.{◌≡◌, ◌<◌, ◌∙◌, length, slice_index, sym, true, subst, arith}
+use Rattle.std.proofs.Common.{◌≡◌, ◌∙◌, length, slice_index, sym, subst, arith}
 use Rattle.std.proofs.lemmas.Bool.{OnTrue_at, OnTrue_from}
-use Rattle.std.proofs.lemmas.List.{get_or_default}
-use Rattle.net_core.specs.Nets.{points}
-use Rattle.tml_score.specs.ByPoint.{end_of, far_end_of}
+use Rattle.tml_score.specs.ByPoint.{far_end_of}
 use Rattle.tml_score.specs.Search.{basis_of}
 use Rattle.tml_score.specs.Tree.{IsCovered, LeadsOn}
 use Rattle.tml_score.proofs.Spreading.{marked_link}
