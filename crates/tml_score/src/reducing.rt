@@ -36,7 +36,7 @@ pub fn reduce(alloc: Global, net: &Net) -> Result<List<u32>, Memory>
 }
 
 /// The same, by the closure of the net. It takes time near linear in the number of orders, but for links whose points
-/// are at one place: each of these is searched through all others.
+/// are at one place: of these, those that trees don't show to follow are searched there.
 ///
 /// # Errors
 ///
