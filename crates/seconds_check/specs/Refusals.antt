@@ -69,7 +69,7 @@ pub record Verdicts (timed : PlainTimed) (e : PlainEvidence) : Type 0 where
 abbrev pub OneVerdict : Type 0
 OneVerdict = (timed : PlainTimed) (e : PlainEvidence) → Verdicts timed e
 
--- the seconds are a start and an end of each of some intervals, as in every placing; lines may be any
+-- seconds come in pairs, as those of every placing do; lines may be any
 abbrev pub IsPaired : PlainEvidence → Type 0
 IsPaired (Placed seconds) = length seconds % 2 ≡ 0
 IsPaired (Round lines) = ⊤

@@ -19,6 +19,6 @@ pub enum SecondsReason {
     Step { step: u32 },
     /// The cycle does not end where it begins.
     End,
-    /// The sum of the cycle is not below 0.
+    /// The sum of the cycle is not below 0. That of no lines is 0.
     Sum,
 }
