@@ -34,6 +34,7 @@ COMMANDS = (
     "tml-corpus check --lint --clashes --tml TML a.xml",
     "tml-corpus fix --tml TML a.xml",
     "tml-corpus agree --links --tml TML good.xml good.xml",
+    "tml-corpus seconds --tml TML good.xml",
 )
 """Commands that ask `tml`; of a.xml each has something to tell."""
 
@@ -146,7 +147,7 @@ class Programs(AttackTest):
                     ended = self.ended(command, tml=fake)
                     self.assertEqual(ended.status, 2, ended)
                     self.assertNotIn("Traceback", ended.error)
-                    self.assertRegex(ended.out + ended.error, r"tml (answered status \d+ to `(check|solve|spans|reduce|score)`|printed more than [\d,]+ bytes)")
+                    self.assertRegex(ended.out + ended.error, r"tml (answered status \d+ to `(check|solve|spans|reduce|score|seconds)`|printed more than [\d,]+ bytes)")
                     self.assertLess(ended.mebibytes, 400)
         self.assertFalse(os.path.exists(self.path("good.svg")))
 
