@@ -21,18 +21,15 @@ from pathlib import Path
 
 from beside import built
 from measure import least, shown
-from reduce import Links, all_simultaneous, chain, chain_in_order, chain_in_reverse, chain_shuffled, many_of_many, milliseconds, shuffled, some_of_many
+from reduce import (
+    Links, all_simultaneous, chain, chain_in_order, chain_in_reverse, chain_shuffled, layers_of_32, many_of_many, milliseconds,
+    shuffled, some_of_many,
+)
 from solve import document
 from verify import INTERVALS
 
 HERE = Path(__file__).resolve().parent
 RUNS = 9
-
-
-def layers() -> Links:
-    """32 layers of intervals, each of which lies during some of the next, and those of the last during some of the first."""
-    draw = random.Random(41)
-    return [(one, "DURING", (one // 32 + 1) % 32 * 32 + draw.randrange(32)) for one in range(INTERVALS) for _ in range(4)]
 
 
 def ring() -> Links:
@@ -95,7 +92,7 @@ def no_time_at_all() -> tuple[Links, list[str]]:
 
 Timed = tuple[Links, list[str]]
 LINKED: Sequence[Callable[[], Links | tuple[Links, Links]]] = (
-    some_of_many, many_of_many, chain_in_order, chain_in_reverse, chain_shuffled, all_simultaneous, layers, ring, wide_ring,
+    some_of_many, many_of_many, chain_in_order, chain_in_reverse, chain_shuffled, all_simultaneous, layers_of_32, ring, wide_ring,
 )
 TIMED: Sequence[Callable[[], Timed]] = (
     all_dates, events_in_dates, chain_of_lengths, lengths_in_no_order, ring_of_lengths, too_short, no_time_at_all,
