@@ -34,12 +34,17 @@ def timeline(ranks):
     return b"timeline %d\n" % len(ranks) + b"".join(b"at %d %d\n" % pair for pair in ranks)
 
 
-# Documents of as many links as there can be, all of which hold in one timeline: four of each two of 32 intervals; one that
-# is three orders of points of each two of 91; and such links from each of 64 intervals to each of 64 others.
+# Documents of as many links as there can be, all of which hold in one timeline: four of each two of 32 intervals; three of
+# each two of 52; one that is two orders of points of each two of 64; one that is three of each two of 91; such links from
+# each of 64 intervals to each of 64 others; and such links between 101 intervals in five rows, from each of a lower row to
+# each of a higher one.
 WITHIN = ("SIMULTANEOUS", "IDENTITY", "DURING", "DURING_INV")
 EQUAL = related(32, [(a, rel, b) for a in range(32) for b in range(32) for rel in WITHIN])
+THREE = related(52, [(a, rel, b) for rel in WITHIN[2:] + WITHIN[:1] for a in range(52) for b in range(a)])
+WITHINS = related(64, [(a, "DURING", b) for a in range(64) for b in range(64)])
 CHAIN = related(91, [(a, "OVERLAPS", b) for b in range(91) for a in range(b)])
 CROWD = related(128, [(a, "OVERLAPS", b) for a in range(64) for b in range(64, 128)])
+ROWS = related(101, [(a, "OVERLAPS", b) for a in range(101) for b in range(101) if a % 5 < b % 5])
 
 
 def text(bodies):
@@ -76,19 +81,38 @@ def cites(size):
     return text([b"clash %d\n" % len(lines) + b"".join(lines) + b"walk 0\n" + b"timeline 0\n" * len(lines)])
 
 
+def spares(intervals):
+    """A clash of as many cites as fit, with spares of so many intervals."""
+
+    def clash(size):
+        spare, lines, left = timeline([(0, 1)] * intervals), [], size - 64
+        while left > len(spare) + 20:
+            lines.append(b"cite %d\n" % len(lines))
+            left -= len(lines[-1]) + len(spare)
+        return text([b"clash %d\n" % len(lines) + b"".join(lines) + b"walk 0\n" + spare * len(lines)])
+
+    return clash
+
+
 TEXTS = [
     ("one timeline, shortest lines", NONE, one_timeline),
     ("one timeline, longest lines", NONE, long_numbers),
     ("one walk", NONE, one_walk),
     ("a clash of cites", NONE, cites),
+    ("a clash, spares of 1 interval", NONE, spares(1)),
+    ("a clash, spares of 5", NONE, spares(5)),
+    ("a clash, spares of 33", NONE, spares(33)),
     ("timelines of no interval", NONE, lambda size: repeated(b"timeline 0\n", size)),
     ("clashes of nothing", NONE, lambda size: repeated(b"clash 0\nwalk 0\n", size)),
     ("relations by empty walks", ONE, lambda size: repeated(b"entails 0 DURING 0\nwalk 0\nwalk 0\n", size)),
     ("timelines of one interval", ONE, lambda size: repeated(b"timeline 1\nat 0 1\n", size)),
     ("the same over 4,096 links", SELVES, lambda size: repeated(b"timeline 1\nat 0 1\n", size)),
     ("of 32 equal intervals", EQUAL, lambda size: repeated(timeline([(0, 1)] * 32), size)),
+    ("of 52 equal intervals", THREE, lambda size: repeated(timeline([(0, 1)] * 52), size)),
+    ("of 64 by DURING", WITHINS, lambda size: repeated(timeline([(0, 1)] * 64), size)),
     ("of 91 intervals that overlap", CHAIN, lambda size: repeated(timeline([(k, 91 + k) for k in range(91)]), size)),
     ("of 128 intervals that overlap", CROWD, lambda size: repeated(timeline([(0, 2)] * 64 + [(1, 3)] * 64), size)),
+    ("of 101 intervals in five rows", ROWS, lambda size: repeated(timeline([(k % 5, 5 + k % 5) for k in range(101)]), size)),
     ("clashes of one link", SELVES, lambda size: repeated(b"clash 1\ncite 0\nwalk 2\nvia 0 0\nspan 0\ntimeline 1\nat 0 1\n", size)),
 ]
 

@@ -5,7 +5,7 @@ ghost use Rattle.evidence_answers.specs.Texts.{NamesIntervals};
 ghost use Rattle.evidence_check.specs.Demands.{AreDemands};
 ghost use Rattle.evidence_format.specs.Bundles.{IsTextOfEither, RefusesText};
 ghost use Rattle.evidence_format.specs.Evidence.{IsWellFormed, PlainEvidence};
-ghost use Rattle.evidence_format.specs.View.{plain};
+ghost use Rattle.evidence_format.specs.View.{plain, plain_body};
 ghost use Rattle.net_build.specs.Built.{IsNetOf};
 ghost use Rattle.net_core.specs.Limits.{max_evidence};
 ghost use Rattle.net_core.specs.Nets.{PlainNet};
@@ -14,8 +14,8 @@ ghost use Rattle.std.specs.Prelude.{◌≡◌, ◌<◌, ◌≤◌, ◌++◌, ◌
 ghost use Rattle.tml_refs.specs.Documents.{PlainDocument};
 
 use answers::{push_number, push_related};
-use evidence_check::{Demands, RefusedClaim, verify_next};
-use evidence_format::{Evidence, ReadEvidence, Unread};
+use evidence_check::{Demands, RefusedClaim, verify_body};
+use evidence_format::{Body, Evidence, ReadEvidence, Unread};
 use net_core::{Net, Rel};
 use std::alloc::{AllocError, Global};
 use tml_refs::Document;
@@ -78,18 +78,18 @@ impl Judged {
         net: &Net,
         demands: &Demands,
         number: u32,
-        claim: &Evidence,
+        claim: &Body,
     ) -> Result<(), AllocError>
         requires built { IsNetOf document.now net.now }
         requires demands { AreDemands net.now demands.now }
-        requires well_formed { IsWellFormed (plain claim.now) }
+        requires well_formed { IsWellFormed (plain_body claim.now) }
         ensures { OnOk result ((es : ListOf PlainEvidence) → IsJudged document.now net.now es self.old → length es ≡ number
-            → IsJudged document.now net.now (es ++ plain claim.now ∷ []) self.new) }
+            → IsJudged document.now net.now (es ++ plain_body claim.now ∷ []) self.new) }
     {
         if self.refused.is_some() {
             return Ok(());
         }
-        match verify_next(net, demands, number, claim) {
+        match verify_body(net, demands, number, claim) {
             Ok(()) => push_claim(&mut self.lines, document, claim),
             Err(refused) => {
                 self.refused = Some(refused);
@@ -100,7 +100,18 @@ impl Judged {
 }
 
 /// Appends what a supported claim of a document shows.
-fn push_claim(
+fn push_claim(out: &mut Vec<u8>, document: &Document<'_>, claim: &Body) -> Result<(), AllocError>
+    requires { NamesIntervals document.now (plain_body claim.now) }
+    ensures { OnOk result (out.new.items ≡ out.old.items ++ texts.claim_line document.now (plain_body claim.now)) }
+{
+    match claim {
+        Body::Whole(evidence) => push_shown(out, document, evidence),
+        Body::Clash { cites, .. } => push_clash(out, b"verified clash", cites.as_slice()),
+    }
+}
+
+/// Appends what supported evidence of a document shows.
+fn push_shown(
     out: &mut Vec<u8>,
     document: &Document<'_>,
     evidence: &Evidence,

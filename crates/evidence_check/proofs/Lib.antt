@@ -4,7 +4,7 @@ pub mod ClosedWalks
 pub mod Marks
 pub mod Soundness
 pub mod Verdicts
-pub mod Spares
+pub mod SpareLaws
 pub mod Cites
 pub mod Deciding
 pub mod Reasons
@@ -13,5 +13,6 @@ pub mod WalksJudged
 pub mod Judged
 pub mod Bundles
 pub mod PairSets
+pub mod RunLaws
 pub mod OrderSets
 pub mod Calendars

@@ -8,3 +8,4 @@ pub mod Pairs
 pub mod Orders
 pub mod Demands
 pub mod Following
+pub mod Spares

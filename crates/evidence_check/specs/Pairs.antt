@@ -1,6 +1,6 @@
 -- Pairs of points and of intervals, and how a timeline is to order them.
-use Rattle.std.specs.Prelude.{◌≡◌, ◌↔◌, ℕ, ◌*◌, ◌+◌, ◌<◌, ◌≤◌, List, length, take, drop}
-use Rattle.std.specs.List.{Contains}
+use Rattle.std.specs.Prelude.{◌≡◌, ◌↔◌, ℕ, ◌*◌, ◌+◌, ◌<◌, ◌≤◌, ⊤, List, [], ◌∷◌, length, take, drop}
+use Rattle.std.specs.List.{All, Contains}
 use Rattle.net_core.specs.Relations.{Equals, Timeline, ends_of}
 use Rattle.evidence_check.specs.declared.pairs.Order.{Order}
 use Rattle.evidence_check.specs.declared.pairs.Order.TheVariants.{Before, NoLater, Equal}
@@ -28,3 +28,17 @@ abbrev pub IsKept : Order → Timeline → Pair → Type 0
 IsKept Before t pair = t pair.first < t pair.second
 IsKept NoLater t pair = t pair.first ≤ t pair.second
 IsKept Equal t pair = Equals (ends_of t pair.first) (ends_of t pair.second)
+
+-- the first number of the first pair
+abbrev pub first_of : List Pair → ℕ
+first_of [] = 0
+first_of (pair ∷ pairs) = pair.first
+
+-- all pairs have one first number
+abbrev pub IsRun : List Pair → Type 0
+IsRun pairs = All (λ pair. pair.first ≡ first_of pairs) pairs
+
+-- so many of the first pairs are a run, so many of those after them, and so on
+abbrev pub AreRuns : List ℕ → List Pair → Type 0
+AreRuns [] pairs = ⊤
+AreRuns (len ∷ lens) pairs = (len ≤ length pairs) × IsRun (take len pairs) × AreRuns lens (drop len pairs)

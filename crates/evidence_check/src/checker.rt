@@ -3,6 +3,7 @@ ghost use Rattle.evidence_check.specs.Claims.{ShowsTruth, claim_of};
 ghost use Rattle.evidence_check.specs.Asked.{AreRisingLinks};
 ghost use Rattle.evidence_check.specs.Demands.{AreDemands};
 ghost use Rattle.evidence_check.specs.Refusals.{AreSparesRefused, IsCiteRefused, IsNumberRefused, IsRefused};
+ghost use Rattle.evidence_check.specs.Spares.{spares_of};
 ghost use Rattle.evidence_check.specs.Supported.{AllFitOthers, AreLinks, IsSupported};
 ghost use Rattle.evidence_format.specs.Evidence.{AreRanks, IsWellFormed, clash, counter, entails, timeline};
 ghost use Rattle.evidence_format.specs.View.{plain};
@@ -19,6 +20,7 @@ ghost use Rattle.std.specs.Prelude.{IfErr, IfOk, IsOk, List, OnOk, length, map, 
 use crate::demands::Demands;
 use crate::refusal::{Claim, Reason, Refused};
 use crate::rounds::check_closed;
+use crate::spares::{Spares, spare_at};
 use crate::timeline::{Asked, fit};
 use crate::walks::prove_all;
 use evidence_format::Evidence;
@@ -77,7 +79,7 @@ pub fn verify_by(net: &Net, demands: &Demands, evidence: &Evidence) -> Result<Cl
             demands,
             cites.as_slice(),
             walk.as_slice(),
-            spares.as_slice(),
+            Spares::Listed(spares.as_slice()),
         ),
     }
 }
@@ -161,18 +163,18 @@ fn check_numbers(net: &Net, a: u32, b: u32) -> Result<(), Refused>
 
 /// Links that are to clash, a walk that is to be closed and to go over exactly these, and timelines that are to fit with
 /// all but one.
-fn check_clash(
+pub fn check_clash(
     net: &Net,
     demands: &Demands,
     cites: &[u32],
     walk: &[Step],
-    spares: &[Ranks],
+    spares: Spares<'_>,
 ) -> Result<Claim, Refused>
     requires demands { AreDemands net.now demands.now }
-    requires well_formed { IsWellFormed (clash cites.now walk.now (map pairs_of spares.now)) }
+    requires well_formed { IsWellFormed (clash cites.now walk.now (map pairs_of (spares_of spares))) }
     ensures claim { IfOk result (λ claim. claim ≡ Claim.Clashes) }
-    ensures ok { OnOk result (IsSupported net.now (clash cites.now walk.now (map pairs_of spares.now))) }
-    ensures err { IfErr result (IsRefused net.now (clash cites.now walk.now (map pairs_of spares.now))) }
+    ensures ok { OnOk result (IsSupported net.now (clash cites.now walk.now (map pairs_of (spares_of spares.entry)))) }
+    ensures err { IfErr result (IsRefused net.now (clash cites.now walk.now (map pairs_of (spares_of spares.entry)))) }
 {
     check_cites(net, cites)?;
     if let Err(reason) = check_closed(net, cites, walk) {
@@ -205,22 +207,22 @@ fn check_spares(
     net: &Net,
     demands: &Demands,
     cites: &[u32],
-    spares: &[Ranks],
+    spares: Spares<'_>,
 ) -> Result<(), Refused>
     requires demands { AreDemands net.now demands.now }
     requires cites { AreRisingLinks net.now cites.now }
     requires few { length cites.now ≤ max_links }
-    requires one_each { length spares.now ≡ length cites.now }
-    requires ranks { All AreRanks (map pairs_of spares.now) }
-    ensures ok { OnOk result (AllFitOthers net.now cites.now (map pairs_of spares.now)) }
-    ensures err { IfErr result (AreSparesRefused net.now cites.now (map pairs_of spares.now)) }
+    requires one_each { length (spares_of spares) ≡ length cites.now }
+    requires ranks { All AreRanks (map pairs_of (spares_of spares)) }
+    ensures ok { OnOk result (AllFitOthers net.now cites.now (map pairs_of (spares_of spares.entry))) }
+    ensures err { IfErr result (AreSparesRefused net.now cites.now (map pairs_of (spares_of spares.entry))) }
 {
     for i in 0..cites.len() {
         let own = cites[i];
         if let Err(reason) = fit(
             net,
             demands,
-            spares[i].as_slice(),
+            spare_at(spares, i),
             Asked::Others { cites, own },
         ) {
             return Err(Refused {

@@ -11,7 +11,7 @@ ghost use Rattle.net_core.specs.declared.net.Ends.{Ends as EndsOf};
 ghost use Rattle.std.specs.List.{All};
 ghost use Rattle.std.specs.Prelude.{IsTrue, [], length, ℕ, ◌<◌, ◌+◌, ◌-◌, ◌*◌, ◌≡◌, ◌↔◌};
 
-use crate::pairs::{Order, Pair, Pairs, are_kept};
+use crate::pairs::{Order, Pair, Pairs};
 use net_core::{Atom, Atoms, Net, Rel, atoms_of};
 
 /// Orders that are asked of a timeline, each kind in a list of its own: so a list is gone over without a branch. They take
@@ -136,9 +136,9 @@ impl Orders {
         requires { AreWithin (length ranks.now) self.now }
         ensures { IsTrue result ↔ KeepsOrders (timeline_of ranks.now) self.now }
     {
-        are_kept(Order::Before, self.befores.as_slice(), ranks)
-            && are_kept(Order::NoLater, self.no_laters.as_slice(), ranks)
-            && are_kept(Order::Equal, self.equals.as_slice(), ranks)
+        self.befores.are_kept(Order::Before, ranks)
+            && self.no_laters.are_kept(Order::NoLater, ranks)
+            && self.equals.are_kept(Order::Equal, ranks)
     }
 }
 

@@ -2,12 +2,12 @@
 ghost use Rattle.evidence_check.specs.Pairs.{HaveSame, IsKept, IsWithin};
 ghost use Rattle.evidence_check.specs.declared.pairs.TheConstants.{MAX_PAIRS as most_pairs};
 ghost use Rattle.net_core.specs.Ranks.{timeline_of};
-ghost use Rattle.net_core.specs.Relations.{Equals};
 ghost use Rattle.std.specs.List.{All, Contains};
 ghost use Rattle.std.specs.List.Sorted.{IsPermutation};
 ghost use Rattle.std.specs.Prelude.{IsTrue, [], ◌∷◌, ◌++◌, length, take, ◌<◌, ◌≤◌, ◌≡◌, ◌↔◌};
 
-use net_core::{Ends, MAX_LINKS, ends_at};
+use crate::runs::{are_kept, find_runs};
+use net_core::MAX_LINKS;
 use std::marker::Model;
 
 /// How a timeline is to order two points or two intervals.
@@ -36,10 +36,14 @@ pub const MAX_PAIRS: usize = 4 * MAX_LINKS as usize;
 pub struct Pairs {
     items: [Pair; MAX_PAIRS],
     count: usize,
+    /// How many of the first pairs have one first number, how many of those after them, and so on.
+    lens: [u16; MAX_PAIRS],
+    runs: usize,
 }
 
 impl Model for Pairs {
     ghost use Rattle.evidence_check.specs.declared.pairs.Pair.{Pair as PairOf};
+    ghost use Rattle.evidence_check.specs.Pairs.{AreRuns};
     ghost use Rattle.evidence_check.specs.declared.pairs.TheConstants.{MAX_PAIRS as most_pairs};
     ghost use Rattle.std.specs.Prelude.{List as ListOf, take, ◌≤◌};
 
@@ -47,7 +51,7 @@ impl Model for Pairs {
 
     ghost view = { λ a. take a.count a.items };
 
-    ghost invariant = { λ a. a.count ≤ most_pairs };
+    ghost invariant = { λ a. (a.count ≤ most_pairs) × (a.runs ≤ most_pairs) × AreRuns (take a.runs a.lens) (take a.count a.items) };
 }
 
 impl Pairs {
@@ -62,14 +66,9 @@ impl Pairs {
         Pairs {
             items: [none; MAX_PAIRS],
             count: 0,
+            lens: [0; MAX_PAIRS],
+            runs: 0,
         }
-    }
-
-    /// The pairs.
-    pub fn as_slice(&self) -> &[Pair]
-        ensures { result.now ≡ self.now }
-    {
-        &self.items[..self.count]
     }
 
     /// Appends a pair.
@@ -81,11 +80,25 @@ impl Pairs {
         self.count += 1;
     }
 
-    /// Leaves each pair once.
+    /// Leaves each pair once, beside those of the same first number.
     pub fn drop_repeats(&mut self)
         ensures { HaveSame self.old self.new }
     {
         self.count = move_distinct(&mut self.items[..self.count]);
+        self.runs = find_runs(&self.items[..self.count], &mut self.lens);
+    }
+
+    /// Whether all pairs are in this order by these ranks.
+    pub fn are_kept(&self, order: Order, ranks: &[u32]) -> bool
+        requires { All (IsWithin order (length ranks.now)) self.now }
+        ensures { IsTrue result ↔ All (IsKept order (timeline_of ranks.now)) self.now }
+    {
+        are_kept(
+            order,
+            &self.items[..self.count],
+            &self.lens[..self.runs],
+            ranks,
+        )
     }
 }
 
@@ -130,49 +143,4 @@ fn ends_with(pairs: &[Pair], pair: Pair) -> bool
         Some(last) => last.first == pair.first && last.second == pair.second,
         None => false,
     }
-}
-
-/// Whether all pairs are in this order by these ranks. It goes over all of them without a branch on ranks.
-pub fn are_kept(order: Order, pairs: &[Pair], ranks: &[u32]) -> bool
-    requires { All (IsWithin order (length ranks.now)) pairs.now }
-    ensures { IsTrue result ↔ All (IsKept order (timeline_of ranks.now)) pairs.now }
-{
-    let mut all = true;
-    for pair in pairs {
-        all &= is_kept(order, *pair, ranks);
-    }
-    all
-}
-
-/// Whether a pair is in this order by these ranks.
-#[inline]
-fn is_kept(order: Order, pair: Pair, ranks: &[u32]) -> bool
-    requires { IsWithin order (length ranks.now) pair }
-    ensures { IsTrue result ↔ IsKept order (timeline_of ranks.now) pair }
-{
-    match order {
-        Order::Before => is_before(pair.first, pair.second, ranks),
-        Order::NoLater => !is_before(pair.second, pair.first, ranks),
-        Order::Equal => is_same(
-            ends_at(ranks, u32::from(pair.first)),
-            ends_at(ranks, u32::from(pair.second)),
-        ),
-    }
-}
-
-/// Whether one point is before another by these ranks.
-#[inline]
-fn is_before(a: u16, b: u16, ranks: &[u32]) -> bool
-    requires a { a < length ranks.now }
-    requires b { b < length ranks.now }
-    ensures { IsTrue result ↔ timeline_of ranks.now a < timeline_of ranks.now b }
-{
-    ranks[a as usize] < ranks[b as usize]
-}
-
-#[inline]
-fn is_same(a: Ends, b: Ends) -> bool
-    ensures { IsTrue result ↔ Equals a b }
-{
-    (a.start == b.start) & (a.finish == b.finish)
 }

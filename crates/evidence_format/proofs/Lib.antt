@@ -5,6 +5,7 @@ pub mod Exact
 pub mod WordLaws
 pub mod FormLaws
 pub mod ReaderLaws
+pub mod Parted
 pub mod Loops
 pub mod Rising
 pub mod CiteLaws

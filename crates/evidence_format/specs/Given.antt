@@ -1,6 +1,7 @@
 -- Serves the code: what it answers, beside what reading lines gives.
 use Rattle.std.specs.Borrow.{Bor}
-use Rattle.std.specs.Prelude.{◌≡◌, ⊤, ℕ, List, Result, Ok, Err}
+use Rattle.std.specs.Prelude.{◌≡◌, ⊤, ℕ, List, ◌++◌, Result, Ok, Err}
+use Rattle.net_core.specs.Ranks.{ranks_of}
 use Rattle.evidence_format.specs.declared.stop.Stop.{Stop}
 use Rattle.evidence_format.specs.declared.stop.Stop.TheVariants.{BadLine, Memory}
 use Rattle.evidence_format.specs.declared.bodies.Bodies.{Bodies}
@@ -22,6 +23,11 @@ Gives view (Err e) read = StopsAt e read
 abbrev pub Passes : {A : Type 0} → Result (Bor (List ℕ)) Stop → Read (List A) → Type 0
 Passes {A} (Ok rest) read = (vs : List A) × (read ≡ Ok (vs, lines_of rest.now))
 Passes (Err e) read = StopsAt e read
+
+-- what was appended to ranks are those of the intervals that reading gives, and the rest of a text follows them, unless out of memory
+abbrev pub Appends : List ℕ → List ℕ → Result (Bor (List ℕ)) Stop → Read (List (ℕ × ℕ)) → Type 0
+Appends old new (Ok rest) read = (pairs : List (ℕ × ℕ)) × (read ≡ Ok (pairs, lines_of rest.now)) × (new ≡ old ++ ranks_of pairs)
+Appends old new (Err e) read = StopsAt e read
 
 -- the bodies are those of the claims that reading gives, unless out of memory
 abbrev pub GivesBodies : Result Bodies Stop → Result (List PlainEvidence) Lines → Type 0

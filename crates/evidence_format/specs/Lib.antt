@@ -11,4 +11,5 @@ pub mod Readers
 pub mod Given
 pub mod OneByOne
 pub mod Written
+pub mod Timelines
 pub mod View

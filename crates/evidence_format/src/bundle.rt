@@ -126,7 +126,10 @@ fn kept_claims(alloc: Global, text: &[u8]) -> Result<Vec<Evidence>, ReadEvidence
     let mut claims = Vec::new(alloc);
     for _ in 0..unread.left {
         let claim = unread.next_claim(alloc)?;
-        let Ok(()) = claims.push(claim) else {
+        let Ok(evidence) = claim.into_evidence(alloc) else {
+            return Err(ReadEvidence::Memory);
+        };
+        let Ok(()) = claims.push(evidence) else {
             return Err(ReadEvidence::Memory);
         };
     }

@@ -4,18 +4,18 @@ ghost use Rattle.evidence_format.specs.Evidence.{IsText, PlainEvidence};
 ghost use Rattle.evidence_format.specs.Given.{Gives};
 ghost use Rattle.evidence_format.specs.Lines.{is_lf, lines_of};
 ghost use Rattle.evidence_format.specs.Readers as readers;
-ghost use Rattle.evidence_format.specs.View.{plain};
+ghost use Rattle.evidence_format.specs.View.{plain, plain_body};
 ghost use Rattle.net_core.specs.Limits.{max_evidence};
 ghost use Rattle.std.specs.List.{count_by};
 ghost use Rattle.std.specs.Prelude.{◌≡◌, ◌≤◌, ◌+◌, ◌-◌, length, take, IfOk, IfErr};
 
-use crate::Evidence;
 use crate::cites::cites_at;
 use crate::head::{Head, head_at};
 use crate::lines::{end_at, same_at};
 use crate::stop::Stop;
 use crate::timeline::{ranks_at, timeline_at, timelines_at};
 use crate::walks::{walk_at, walks_at};
+use crate::{Body, Evidence};
 use std::alloc::Global;
 
 /// Why no evidence was read.
@@ -54,15 +54,16 @@ fn evidence_at(alloc: Global, text: &[u8]) -> Result<Evidence, Stop<'_>>
     ensures { Gives plain result (readers.evidence_at (lines_of text.now)) }
 {
     let (_, rest) = same_at(b"tml-evidence 1\n", text)?;
-    let (evidence, rest) = body_at(alloc, rest)?;
+    let (body, rest) = body_at(alloc, rest)?;
     end_at(rest)?;
+    let evidence = body.into_evidence(alloc)?;
     Ok(evidence)
 }
 
 /// What stands between the first line and the last one.
 #[tactic(auto, unfolding(crate::specs::Readers::body_at))]
-pub fn body_at<'t>(alloc: Global, text: &'t [u8]) -> Result<(Evidence, &'t [u8]), Stop<'t>>
-    ensures { Gives (λ x. (plain x.0, lines_of x.1.now)) result (readers.body_at (lines_of text.now)) }
+pub fn body_at<'t>(alloc: Global, text: &'t [u8]) -> Result<(Body, &'t [u8]), Stop<'t>>
+    ensures { Gives (λ x. (plain_body x.0, lines_of x.1.now)) result (readers.body_at (lines_of text.now)) }
 {
     let (head, rest) = head_at(text)?;
     rest_at(alloc, head, rest)
@@ -70,27 +71,27 @@ pub fn body_at<'t>(alloc: Global, text: &'t [u8]) -> Result<(Evidence, &'t [u8])
 
 /// What follows the line that names the kind.
 #[tactic(auto, unfolding(crate::specs::Readers::rest_at))]
-fn rest_at<'t>(alloc: Global, head: Head, text: &'t [u8]) -> Result<(Evidence, &'t [u8]), Stop<'t>>
-    ensures { Gives (λ x. (plain x.0, lines_of x.1.now)) result (readers.rest_at head (lines_of text.now)) }
+fn rest_at<'t>(alloc: Global, head: Head, text: &'t [u8]) -> Result<(Body, &'t [u8]), Stop<'t>>
+    ensures { Gives (λ x. (plain_body x.0, lines_of x.1.now)) result (readers.rest_at head (lines_of text.now)) }
 {
     match head {
         Head::Timeline { intervals } => {
             let (ranks, rest) = ranks_at(alloc, intervals, text)?;
-            Ok((Evidence::Timeline { ranks }, rest))
+            Ok((Body::Whole(Evidence::Timeline { ranks }), rest))
         }
         Head::Entails { a, rel, b } => {
             let (walks, rest) = walks_at(alloc, rel.atom_count(), text)?;
-            Ok((Evidence::Entails { a, rel, b, walks }, rest))
+            Ok((Body::Whole(Evidence::Entails { a, rel, b, walks }), rest))
         }
         Head::Counter { a, rel, b } => {
             let (ranks, rest) = timeline_at(alloc, text)?;
-            Ok((Evidence::Counter { a, rel, b, ranks }, rest))
+            Ok((Body::Whole(Evidence::Counter { a, rel, b, ranks }), rest))
         }
         Head::Clash { links } => {
             let (cites, rest) = cites_at(alloc, links, text)?;
             let (walk, rest) = walk_at(alloc, rest)?;
             let (spares, rest) = timelines_at(alloc, links, rest)?;
-            let clash = Evidence::Clash {
+            let clash = Body::Clash {
                 cites,
                 walk,
                 spares,

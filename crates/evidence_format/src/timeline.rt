@@ -1,5 +1,5 @@
 //! Reading timelines.
-ghost use Rattle.evidence_format.specs.Given.{Gives};
+ghost use Rattle.evidence_format.specs.Given.{Appends, Gives};
 ghost use Rattle.evidence_format.specs.Lines.{lines_of};
 ghost use Rattle.evidence_format.specs.Readers as readers;
 ghost use Rattle.evidence_format.specs.Reading.{line_at};
@@ -7,6 +7,7 @@ ghost use Rattle.evidence_format.specs.Words as words;
 ghost use Rattle.net_core.specs.Ranks.{pairs_of};
 ghost use Rattle.std.specs.Prelude.{map, codes};
 
+use crate::Timelines;
 use crate::lines::one_at;
 use crate::stop::Stop;
 use crate::words::two_to;
@@ -18,18 +19,27 @@ pub fn timelines_at<'t>(
     alloc: Global,
     count: u32,
     text: &'t [u8],
-) -> Result<(List<Ranks>, &'t [u8]), Stop<'t>>
+) -> Result<(Timelines, &'t [u8]), Stop<'t>>
     ensures { Gives (λ x. (map pairs_of x.0, lines_of x.1.now)) result
         (readers.many_at readers.timeline_at count (lines_of text.now)) }
 {
-    let mut timelines = List::new(alloc);
+    let mut ranks = Ranks::new(alloc);
+    let mut ends = List::new(alloc);
     let mut rest = text;
     for _ in 0..count {
-        let (ranks, after) = timeline_at(alloc, rest)?;
-        timelines.push(ranks)?;
-        rest = after;
+        rest = push_timeline_at(&mut ranks, rest)?;
+        ends.push(ranks.as_slice().len())?;
     }
-    Ok((timelines, rest))
+    Ok((Timelines::from_parts(ranks, ends), rest))
+}
+
+/// Appends the ranks of a timeline, and answers what follows it.
+#[tactic(auto, unfolding(crate::specs::Readers::timeline_at))]
+fn push_timeline_at<'t>(ranks: &mut Ranks, text: &'t [u8]) -> Result<&'t [u8], Stop<'t>>
+    ensures { Appends ranks.old ranks.new result (readers.timeline_at (lines_of text.now)) }
+{
+    let (count, rest) = one_at(b"timeline ", text)?;
+    push_ranks_at(ranks, count, rest)
 }
 
 /// A timeline, and what follows it.
@@ -41,8 +51,8 @@ pub fn timeline_at<'t>(alloc: Global, text: &'t [u8]) -> Result<(Ranks, &'t [u8]
     ranks_at(alloc, count, rest)
 }
 
-/// The ranks of so many intervals, and what follows them. Nothing is reserved by the count, which comes from a
-/// stranger.
+/// The ranks of so many intervals, and what follows them.
+#[tactic(auto, using(crate::proofs::Parted::pairs_again))]
 pub fn ranks_at<'t>(
     alloc: Global,
     count: u32,
@@ -51,13 +61,22 @@ pub fn ranks_at<'t>(
     ensures { Gives (λ x. (pairs_of x.0, lines_of x.1.now)) result (readers.ranks_at count (lines_of text.now)) }
 {
     let mut ranks = Ranks::new(alloc);
+    let rest = push_ranks_at(&mut ranks, count, text)?;
+    Ok((ranks, rest))
+}
+
+/// Appends the ranks of so many intervals, and answers what follows them. Nothing is reserved by the count, which comes
+/// from a stranger.
+fn push_ranks_at<'t>(ranks: &mut Ranks, count: u32, text: &'t [u8]) -> Result<&'t [u8], Stop<'t>>
+    ensures { Appends ranks.old ranks.new result (readers.ranks_at count (lines_of text.now)) }
+{
     let mut rest = text;
     for _ in 0..count {
         let ((start, finish), after) = interval_at(rest)?;
         ranks.push(start, finish)?;
         rest = after;
     }
-    Ok((ranks, rest))
+    Ok(rest)
 }
 
 /// The ranks of one interval, and what follows its line. The line is not cut off first: it ends where its second number

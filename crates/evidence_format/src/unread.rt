@@ -5,7 +5,7 @@ ghost use Rattle.evidence_format.specs.Given.{StopsAt};
 ghost use Rattle.evidence_format.specs.Lines.{lines_of};
 ghost use Rattle.evidence_format.specs.Readers as readers;
 ghost use Rattle.evidence_format.specs.OneByOne.{HasRead};
-ghost use Rattle.evidence_format.specs.View.{plain};
+ghost use Rattle.evidence_format.specs.View.{plain_body};
 ghost use Rattle.net_core.specs.Limits.{max_evidence};
 ghost use Rattle.std.specs.Prelude.{◌≡◌, ◌<◌, ◌≤◌, ◌-◌, ◌++◌, ◌∷◌, [], List as ListOf, length, IfErr, IfOk, OnOk};
 
@@ -13,7 +13,7 @@ use crate::lines::end_at;
 use crate::read::{body_at, line_of};
 use crate::stop::Stop;
 use crate::versions::opening_at;
-use crate::{Evidence, ReadEvidence};
+use crate::{Body, ReadEvidence};
 use std::alloc::Global;
 
 /// The claims of a text that are still to be read.
@@ -50,12 +50,12 @@ impl<'t> Unread<'t> {
     /// # Errors
     ///
     /// The bad line, where it is in this claim, or out of memory. The claims are then left as they were.
-    pub fn next_claim(&mut self, alloc: Global) -> Result<Evidence, ReadEvidence>
+    pub fn next_claim(&mut self, alloc: Global) -> Result<Body, ReadEvidence>
         requires limit { length self.old.text.now ≤ max_evidence }
         requires left { 0 < self.old.left }
         requires read { (es : ListOf PlainEvidence) × HasRead es self.old }
-        ensures ok { (es : ListOf PlainEvidence) → HasRead es self.old → IfOk result (λ claim. HasRead (es ++ plain claim ∷ []) self.new) }
-        ensures good { IfOk result (λ claim. IsWellFormed (plain claim)) }
+        ensures ok { (es : ListOf PlainEvidence) → HasRead es self.old → IfOk result (λ claim. HasRead (es ++ plain_body claim ∷ []) self.new) }
+        ensures good { IfOk result (λ claim. IsWellFormed (plain_body claim)) }
         ensures left { OnOk result (self.new.left ≡ self.old.left - 1) }
         ensures err { IfErr result (RefusesText self.old.text.now) }
         ensures text { self.new.text ≡ self.old.text }

@@ -5,10 +5,10 @@ use Rattle.answers.specs.Lines.{numbered}
 use Rattle.answers.proofs.Answered.{judged_answered_once, judges_first}
 use Rattle.net_core.specs.Limits.{max_evidence}
 use Rattle.seconds_build.specs.Built.{IsTimedOf}
-use Rattle.seconds_build.proofs.Built.{one_timed}
-use Rattle.seconds_check.specs.Confirmed.{IsConfirmed}
-use Rattle.seconds_check.specs.Refusals.{IsRefused}
-use Rattle.seconds_check.proofs.Verdicts.{confirmed_or_refused, one_verdict}
+use Rattle.seconds_build.proofs.Nets.{one_timed}
+use Rattle.seconds_check.specs.Refusals.{IsPaired, IsRefused}
+use Rattle.seconds_check.proofs.Judged.{confirmed_or_refused}
+use Rattle.seconds_check.proofs.Verdicts.{one_verdict}
 use Rattle.seconds_core.specs.Evidence.{PlainEvidence, Placed, Round}
 use Rattle.seconds_core.specs.Timed.{PlainTimed}
 use Rattle.seconds_format.specs.Texts.{IsText}
@@ -20,7 +20,7 @@ use Rattle.tml_run.specs.OneReply.{is_broken_off}
 use Rattle.tml_run.specs.declared.status.Status.{Status}
 use Rattle.tml_run.specs.declared.status.Status.TheVariants.{Clash, Done, EvidenceFault}
 use Rattle.seconds_answers.specs.Confirmed.{ConfirmJudgesFirst, OfConfirm, OfText, ReportsBadLine, ReportsClaim, ReportsRefusal, SecondsAreConfirmed, confirm_rows, seconds_file}
-use Rattle.seconds_answers.specs.Placed.{OfSeconds, OfTimed}
+use Rattle.seconds_answers.specs.Placed.{OfTimed}
 use Rattle.seconds_answers.specs.Texts.{claim_line, refusal_line}
 use Rattle.seconds_answers.proofs.SecondsAnswered.{its_timed}
 
@@ -47,7 +47,7 @@ module _ (timed : PlainTimed) (bytes : List ℕ) where
   same_fault text line (inr h) (inl k) = absurd (k.0 h.0 h.2)
   same_fault text line (inr h) (inr k) =
       let same = one_value h.0 k.0 bytes h.2 k.2 in
-      h.4 ∙ ap refusal_line ((one_verdict timed k.0).one_reason h.1 k.1 (subst (λ (e : PlainEvidence). IsRefused timed e h.1) same h.3) k.3) ∙ sym k.4
+      h.4 ∙ ap refusal_line ((one_verdict timed k.0).one_refusal h.1 k.1 (subst (λ (e : PlainEvidence). IsRefused timed e h.1) same h.3) k.3) ∙ sym k.4
 
   same_text : (status : Status) (text line : List ℕ) → OfText timed bytes status text → OfText timed bytes status line → text ≡ line
   same_text Done text line h k = h.3 ∙ ap claim_line (one_value h.0 k.0 bytes h.1 k.1) ∙ sym k.3
@@ -63,12 +63,17 @@ module _ (timed : PlainTimed) (bytes : List ℕ) where
 along : (contents : PlainDocument) (bytes : List ℕ) (status : Status) (text : List ℕ) (timed other : PlainTimed) → IsTimedOf contents timed → IsTimedOf contents other → OfText timed bytes status text → OfText other bytes status text
 along contents bytes status text timed other built too h = subst (λ (t : PlainTimed). OfText t bytes status text) (one_timed contents timed other built too) h
 
+-- the seconds of a text are a start and an end of each interval
+paired : (e : PlainEvidence) (bytes : List ℕ) → IsText e bytes → IsPaired e
+paired (Placed seconds) bytes is = is.0.0.0
+paired (Round lines) bytes is = tt
+
 some : (doc : List ℕ) (contents : PlainDocument) → Says doc contents → (bytes : List ℕ) → (status : Status) × (text : List ℕ) × OfConfirm contents bytes status text
 some doc contents says bytes =
     let its = its_timed doc contents says in
     elim (every_text bytes) [
       | inr bad ↦ (EvidenceFault, numbered (codes "evidence line ") bad.1, (its.timed, its.built, inl (bad.0, bad.1, bad.2, refl)))
-      | inl e ↦ elim (confirmed_or_refused its.timed e.0 its.is) [
+      | inl e ↦ elim (confirmed_or_refused its.timed e.0 (paired e.0 bytes e.1)) [
         | inl confirmed ↦ (Done, claim_line e.0, (its.timed, its.built, (e.0, e.1, confirmed, refl)))
         | inr refused ↦ (EvidenceFault, refusal_line refused.0, (its.timed, its.built, inr (e.0, refused.0, e.1, refused.1, refl)))
       ]
@@ -90,8 +95,8 @@ confirm_judges_first name seconds = judges_first name (seconds_file seconds) OfC
 
 -- what is printed is confirmed
 shown : (contents : PlainDocument) (timed : PlainTimed) (status : Status) (text : List ℕ) → IsTimedOf contents timed → OfTimed timed status text → (line : List ℕ) × OfConfirm contents text Done line
-shown contents timed Done text built h = (claim_line (Placed h.0), timed, built, (Placed h.0, h.2, h.1, refl))
-shown contents timed Clash text built h = (claim_line (Round h.1), timed, built, (Round h.1, h.3, h.2.0, refl))
+shown contents timed Done text built h = (claim_line (Placed h.0), (timed, built, (Placed h.0, h.2, h.1, refl)))
+shown contents timed Clash text built h = (claim_line (Round h.1), (timed, built, (Round h.1, h.3, h.2.0, refl)))
 shown contents timed status text built h = absurd h
 
 pub seconds_are_confirmed : SecondsAreConfirmed

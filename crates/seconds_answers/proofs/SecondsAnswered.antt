@@ -1,9 +1,10 @@
 -- A document has one answer in seconds: one status. Which placing or which cycle is printed is free.
-use Rattle.std.proofs.Common.{◌≡◌, ◌⊎◌, ℕ, List, [], ◌∷◌, false, refl, sym, subst, inl, inr}
-use Rattle.answers.specs.Documents.{AreAnswered, doc_file, document_rows, of_contents, of_its_contents}
+use Rattle.std.proofs.Common.{◌≡◌, ◌⊎◌, ℕ, List, [], ◌∷◌, false, refl, subst, inl, inr}
+use Rattle.answers.specs.Documents.{AreAnswered, doc_file, of_contents, of_its_contents}
 use Rattle.answers.proofs.Answered.{contents_answered}
 use Rattle.seconds_build.specs.Built.{IsTimedOf}
-use Rattle.seconds_build.proofs.Built.{every_timed, one_timed}
+use Rattle.seconds_build.proofs.EveryTime.{every_timed}
+use Rattle.seconds_build.proofs.Nets.{one_timed}
 use Rattle.seconds_core.specs.Timed.{IsTimed, PlainTimed}
 use Rattle.tml_accept.specs.Acceptance.{Says}
 use Rattle.tml_refs.specs.Documents.{PlainDocument}

@@ -1,6 +1,6 @@
 -- A placing or a cycle has a text, of the net of a document.
-use Rattle.std.proofs.Common.{◌≡◌, ◌⊎◌, ℕ, ℤ, pos, neg_ℤ, ◌+◌, ◌*◌, ◌<◌, ◌≤◌, nat_lt, ◌≤ℤ◌, List, [], ◌∷◌, length, concat, Option, Some, inl, inr, refl, sym, ap, subst, ◌∙◌, arith}
-use Rattle.std.specs.List.{All, AllByRecursion, slice_get}
+use Rattle.std.proofs.Common.{◌≡◌, ℕ, ℤ, pos, neg_ℤ, ◌+◌, ◌*◌, nat_lt, List, [], ◌∷◌, Some, inl, inr, refl, ap, arith}
+use Rattle.std.specs.List.{All, AllByRecursion, concat, slice_get}
 use Rattle.std.proofs.lemmas.Bool.{ltb-true}
 use Rattle.std.proofs.lemmas.Int.{ints}
 use Rattle.std.proofs.lemmas.List.Elements.{All-from_recursion, All-weaker}
@@ -12,9 +12,9 @@ use Rattle.net_core.specs.declared.net.NetLink.{NetLink}
 use Rattle.net_core.specs.declared.step.Step.TheVariants.{Link}
 use Rattle.net_core.proofs.AtomLaws.{atoms_counted, few_orders}
 use Rattle.seconds_core.specs.Constraints.{at_most, constraint_by, constraint_of}
-use Rattle.seconds_core.specs.Cycles.{IsJoined, IsNegative}
-use Rattle.seconds_core.specs.Evidence.{IsPlacing, PlainEvidence, Placed, Round}
-use Rattle.seconds_core.specs.Placed.{HasPlacing, IsPlaced}
+use Rattle.seconds_core.specs.Cycles.{IsJoined}
+use Rattle.seconds_core.specs.Evidence.{Placed, Round}
+use Rattle.seconds_core.specs.Placed.{IsPlaced}
 use Rattle.seconds_core.specs.Timed.{IsTimed, PlainTimed, limits_at, lower_second, origin, upper_second}
 use Rattle.seconds_core.proofs.InRange.{limits_past, lower_past, upper_past}
 use Rattle.seconds_core.proofs.Named.{made, tested, within}
@@ -22,11 +22,11 @@ use Rattle.seconds_core.proofs.Sums.{negative_is_unplaced}
 use Rattle.seconds_core.specs.declared.line.Constraint.{Constraint}
 use Rattle.seconds_core.specs.declared.line.Line.{Line}
 use Rattle.seconds_core.specs.declared.line.Line.TheVariants.{Span, Via, Lower, Upper, Least, Most}
-use Rattle.seconds_format.specs.Texts.{HasNumbers, IsLong, IsText, IsWellFormed, text_lines}
+use Rattle.seconds_format.specs.Texts.{HasNumbers, IsLong, text_lines}
 use Rattle.tml_run.specs.declared.status.Status.{Status}
 use Rattle.tml_run.specs.declared.status.Status.TheVariants.{Clash, Done}
-use Rattle.tml_seconds.proofs.EveryNet.{every_net_is_decided}
-use Rattle.tml_seconds.specs.Decided.{IsFar, IsShortCycle}
+use Rattle.seconds_search.proofs.EveryNet.{every_net_is_decided}
+use Rattle.seconds_search.specs.Decided.{IsFar, IsShortCycle}
 use Rattle.seconds_answers.specs.Placed.{OfTimed, ShowsCycle, ShowsPlacing}
 
 -- the numbers of a line that names a constraint can stand in a text
@@ -70,14 +70,20 @@ placing_text : (timed : PlainTimed) (seconds : List ℤ) → IsTimed timed → I
 placing_text timed seconds is placed far =
     let net = is.net in
     let size = placed.size in
-    (concat (text_lines (Placed seconds)), seconds, placed, ((omega (arith, size), omega (arith, size, net.few_intervals)), All-weaker IsFar IsLong far_is_long seconds far), refl)
+    (concat (text_lines (Placed seconds)), (seconds, placed, (((omega (arith, size), omega (arith, size, net.few_intervals)), All-weaker IsFar IsLong far_is_long seconds far), refl)))
 
 cycle_text : (timed : PlainTimed) (lines : List Line) → IsTimed timed → IsShortCycle timed lines → (text : List ℕ) × ShowsCycle timed text
 cycle_text timed lines is short =
     let net = is.net in
-    let ((x, joined, below), few) = short in
-    (concat (text_lines (Round lines)), (λ has. negative_is_unplaced timed lines is (x, joined, below) has), lines, short,
-      ((All-from_recursion HasNumbers lines (joined_numbers timed is lines x x joined), omega (arith, few, net.few_intervals)), refl))
+    let ((x, joined, below), few) = short in (
+      concat (text_lines (Round lines)),
+      (
+        (λ has. negative_is_unplaced timed lines is (x, joined, below) has),
+        lines,
+        short,
+        ((All-from_recursion HasNumbers lines (joined_numbers timed is lines x x joined), omega (arith, few, net.few_intervals)), refl),
+      ),
+    )
 
 -- so there is an answer
 pub timed_answered : (timed : PlainTimed) → IsTimed timed → (status : Status) × (text : List ℕ) × OfTimed timed status text

@@ -6,7 +6,7 @@ use Rattle.net_core.specs.Limits.{max_evidence}
 use Rattle.seconds_build.specs.Built.{IsTimedOf}
 use Rattle.seconds_check.specs.Confirmed.{IsConfirmed}
 use Rattle.seconds_check.specs.Refusals.{IsRefused}
-use Rattle.seconds_check.specs.declared.reason.SecondsReason.{SecondsReason}
+use Rattle.seconds_check.specs.declared.refusal.SecondsReason.{SecondsReason}
 use Rattle.seconds_core.specs.Evidence.{PlainEvidence}
 use Rattle.seconds_core.specs.Timed.{PlainTimed}
 use Rattle.seconds_format.specs.Begun.{IsBadLine}

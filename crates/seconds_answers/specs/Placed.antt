@@ -11,7 +11,7 @@ use Rattle.tml_run.specs.Answered.{Freedom}
 use Rattle.tml_run.specs.Rows.{Rows}
 use Rattle.tml_run.specs.declared.status.Status.{Status}
 use Rattle.tml_run.specs.declared.status.Status.TheVariants.{Clash, Done}
-use Rattle.tml_seconds.specs.Decided.{IsShortCycle}
+use Rattle.seconds_search.specs.Decided.{IsShortCycle}
 
 -- the text is that of a placing
 abbrev pub ShowsPlacing : PlainTimed → List ℕ → Type 0

@@ -1,8 +1,8 @@
 -- The printed texts of `confirm`.
 use Rattle.std.specs.Prelude.{ℕ, List, ◌++◌, codes}
 use Rattle.answers.specs.Lines.{numbered}
-use Rattle.seconds_check.specs.declared.reason.SecondsReason.{SecondsReason}
-use Rattle.seconds_check.specs.declared.reason.SecondsReason.TheVariants.{Size, Order, Link, Bound, Length, Step, End, Sum}
+use Rattle.seconds_check.specs.declared.refusal.SecondsReason.{SecondsReason}
+use Rattle.seconds_check.specs.declared.refusal.SecondsReason.TheVariants.{Size, Order, Link, Bound, Length, Step, End, Sum}
 use Rattle.seconds_core.specs.Evidence.{PlainEvidence, Placed, Round}
 
 -- what is confirmed

@@ -7,13 +7,10 @@ use answers::{OfJudged, push_numbered};
 use evidence_answers::malformed_answer;
 use evidence_format::ReadEvidence;
 use net_core::Memory;
-use seconds_build::timed_of;
-use seconds_check::{SecondsReason, confirm};
-use seconds_core::SecondsEvidence;
-use seconds_format::read_seconds;
 use std::alloc::{AllocError, Global};
 use tml_refs::Document;
 use tml_run::{Answer, Finding};
+use tml_seconds::{SecondsEvidence, SecondsReason, confirm, read_seconds, timed_of};
 
 /// The command `confirm`.
 #[derive(Clone, Copy)]

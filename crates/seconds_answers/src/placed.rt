@@ -5,13 +5,10 @@ ghost use Rattle.std.specs.Prelude.{IfOk, ◌≡◌};
 
 use answers::OfDocument;
 use net_core::Memory;
-use seconds_build::timed_of;
-use seconds_core::SecondsEvidence;
-use seconds_format::write_seconds;
 use std::alloc::{AllocError, Global};
 use tml_refs::Document;
 use tml_run::{Answer, Finding};
-use tml_seconds::{PlaceFault, place};
+use tml_seconds::{PlaceFault, SecondsEvidence, place, timed_of, write_seconds};
 
 /// The command `seconds`.
 #[derive(Clone, Copy)]

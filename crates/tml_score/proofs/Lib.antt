@@ -7,4 +7,6 @@ pub mod ReachedLaws
 pub mod Searching
 pub mod Spreading
 pub mod TwoSided
+pub mod TieLaws
+pub mod TreeLaws
 pub mod Counted

@@ -36,7 +36,7 @@ abbrev atom_of : Order → Atom
 atom_of o = o.atom
 
 -- another link that is kept passes the test, and the other way round
-other_kept : (keep : List Bool) (link k : ℕ) → (is_other keep link k ≡ true) ↔ Others (IsKept keep) link k
+pub other_kept : (keep : List Bool) (link k : ℕ) → (is_other keep link k ≡ true) ↔ Others (IsKept keep) link k
 other_kept keep link k = elim (cases_eq k link) [
   | inl same ↦ (
     λ passes. absurd (let is : (k == link) ≡ true = eq-eqb k link same in let both : false ≡ true = sym (ap (λ (b : Bool). not b && slice_index_or keep k false) is) ∙ passes in cc),

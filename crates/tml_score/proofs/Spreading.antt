@@ -31,6 +31,13 @@ module _ (old new : PlainReached) (more : Extends old new) where
   pub passed_more : (basis : Basis) (asked : Asked) (o : Order) → IsPassed basis asked old.points o → IsPassed basis asked new.points o
   passed_more basis asked o passed = (passed.0, elim passed.1 [ inl out ↦ inl out | inr among ↦ inr (still_there o.atom.to among) ])
 
+-- there is a mark for the link of each order
+pub marked_link : (basis : Basis) → IsReady basis → (o : Order) → Contains basis.graph.onward.orders o → AreMarks basis o
+marked_link basis ready o among = elim ((ready.graph.orders.all o).0 among) [
+  | inl fixed ↦ subst (λ (l : Option ℕ). IfSome l (λ k. k < length basis.keep)) (sym fixed.0) tt
+  | inr linked ↦ subst (λ (l : Option ℕ). IfSome l (λ k. k < length basis.keep)) (sym linked.2.0) (omega (arith, linked.1, ready.marks))
+]
+
 module _ (basis : Basis) (asked : Asked) (ready : IsReady basis) (is : IsAsked basis asked) where
   -- a way to a point that was reached is passed
   pub passed_there : (reached : PlainReached) → IsSearch basis asked reached → (order o : Order) → Contains reached.points order.atom.to → o ≡ order → IsPassed basis asked reached.points o
@@ -63,13 +70,6 @@ module _ (basis : Basis) (asked : Asked) (ready : IsReady basis) (is : IsAsked b
         let not : IsEnough basis asked order → ⊥ = λ enough. let is_true = says.1 enough in absurd (search rules) in
         (λ enough. not (subst (IsEnough basis asked) e enough), inl (subst (LeadsOut basis asked) (sym e) out)),
   )
-
-  -- there is a mark for the link of each order
-  pub marked_link : (o : Order) → Contains basis.graph.onward.orders o → AreMarks basis o
-  marked_link o among = elim ((ready.graph.orders.all o).0 among) [
-    | inl fixed ↦ subst (λ (l : Option ℕ). IfSome l (λ k. k < length basis.keep)) (sym fixed.0) tt
-    | inr linked ↦ subst (λ (l : Option ℕ). IfSome l (λ k. k < length basis.keep)) (sym linked.2.0) (omega (arith, linked.1, ready.marks))
-  ]
 
   -- one way more of a list is passed, or no way
   pub passed_one : (items : List Order) (i : ℕ) (d : Order) (mid new : PlainReached) → i < length items → Extends mid new

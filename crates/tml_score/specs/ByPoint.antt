@@ -11,6 +11,11 @@ abbrev pub end_of : End → Order → ℕ
 end_of From order = order.atom.from
 end_of To order = order.atom.to
 
+-- the point at the other end
+abbrev pub far_end_of : End → Order → ℕ
+far_end_of From order = order.atom.to
+far_end_of To order = order.atom.from
+
 -- the end, how many points there are, and the orders
 pub record PlainByPoint : Type 0 where
   pub end : End

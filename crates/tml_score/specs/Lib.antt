@@ -5,5 +5,8 @@ pub mod Graph
 pub mod Reached
 pub mod Search
 pub mod Meeting
+pub mod Ties
+pub mod Tree
+pub mod Trees
 pub mod Reducing
 pub mod Scoring

@@ -39,9 +39,9 @@ Visits basis asked x other old new (Ok false) =
     ((new ≡ old) ⊎ (new ≡ record { points = old.points ++ x ∷ []; room = old.room })) × IsPassedAt basis asked new.points x × (Contains other.points x → ⊥)
 Visits basis asked x other old new (Err e) = ⊤
 
--- a side went on from a point: to the other side, or all ways from there are passed
-abbrev pub GoesFrom : Basis → Asked → (ℕ → Type 0) → (Order → ℕ) → (Order → ℕ) → ℕ → PlainReached → PlainReached → PlainReached → Result Bool Memory → Type 0
-GoesFrom basis asked IsTrue near far x other old new (Ok true) = IsSide basis IsTrue new × ((y : ℕ) × IsTrue y × Contains other.points y)
-GoesFrom basis asked IsTrue near far x other old new (Ok false) =
+-- a side went on from a point: to one of which the same is true as of the other side, or all ways from there are passed
+abbrev pub GoesFrom : Basis → Asked → (ℕ → Type 0) → (ℕ → Type 0) → (Order → ℕ) → (Order → ℕ) → ℕ → PlainReached → PlainReached → PlainReached → Result Bool Memory → Type 0
+GoesFrom basis asked IsTrue IsOther near far x other old new (Ok true) = IsSide basis IsTrue new × ((y : ℕ) × IsTrue y × IsOther y)
+GoesFrom basis asked IsTrue IsOther near far x other old new (Ok false) =
     IsSide basis IsTrue new × Extends old new × AreApart new other × ((o : Order) → IsWay basis asked o → near o ≡ x → IsPassedAt basis asked new.points (far o))
-GoesFrom basis asked IsTrue near far x other old new (Err e) = ⊤
+GoesFrom basis asked IsTrue IsOther near far x other old new (Err e) = ⊤

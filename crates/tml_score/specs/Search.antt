@@ -59,6 +59,10 @@ is_other keep link k = not (k == link) && slice_index_or keep k false
 abbrev pub remains : Basis → Asked → Order → Bool
 remains basis asked o = counts (is_other basis.keep asked.link) o.link
 
+-- whether an order is of no link, or of one that is kept
+abbrev pub is_kept : Basis → Order → Bool
+is_kept basis o = counts (λ k. slice_index_or basis.keep k false) o.link
+
 -- there is a mark for the link of an order, if it is of one
 abbrev pub AreMarks : Basis → Order → Type 0
 AreMarks basis o = IfSome o.link (λ k. k < length basis.keep)

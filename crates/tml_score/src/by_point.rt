@@ -3,7 +3,7 @@ ghost use Rattle.net_core.specs.Limits.{max_points};
 ghost use Rattle.std.specs.List.{Contains};
 ghost use Rattle.std.specs.Prelude.{IfOk, length, ◌+◌, ◌<◌, ◌≡◌, ◌≤◌, ◌↔◌};
 ghost use Rattle.tml_score.specs.ByPoint as spec;
-ghost use Rattle.tml_score.specs.ByPoint.{AreStarts, HaveSame, PlainByPoint, end_of};
+ghost use Rattle.tml_score.specs.ByPoint.{AreStarts, HaveSame, PlainByPoint, end_of, far_end_of};
 
 use clash::Order;
 use net_core::Memory;
@@ -21,12 +21,22 @@ pub enum End {
 
 impl End {
     /// The point at this end of an order.
-    fn of(self, order: &Order) -> u32
+    pub fn of(self, order: &Order) -> u32
         ensures { result ≡ end_of self order.now }
     {
         match self {
             End::From => order.atom.from,
             End::To => order.atom.to,
+        }
+    }
+
+    /// The point at the other end of an order.
+    pub fn across(self, order: &Order) -> u32
+        ensures { result ≡ far_end_of self order.now }
+    {
+        match self {
+            End::From => order.atom.to,
+            End::To => order.atom.from,
         }
     }
 }

@@ -9,6 +9,9 @@ mod reached;
 mod reducing;
 mod scoring;
 mod search;
+mod ties;
+mod tree;
+mod trees;
 
 pub use laws::{
     every_net_is_reduced, every_score, one_reduced_list, one_score, reduced_links_say_the_same,

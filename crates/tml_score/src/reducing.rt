@@ -6,11 +6,13 @@ ghost use Rattle.std.specs.Prelude.{IfOk, OnOk, length, ◌<◌};
 ghost use Rattle.tml_score.specs.Graph.{IsGraphOf};
 ghost use Rattle.tml_score.specs.Reduced.{IsReduced};
 ghost use Rattle.tml_score.specs.Reducing.{AreGoneOver, DecidesLink};
-ghost use Rattle.tml_score.specs.Search.{HaveRoom, IsReady, basis_of};
+ghost use Rattle.tml_score.specs.Search.{Decides, HaveRoom, IsAsked, IsReady, basis_of};
+ghost use Rattle.tml_score.specs.Trees.{AreTrees};
 
 use crate::graph::Graph;
 use crate::reached::{Reached, Sides};
 use crate::search::{Asked, Kept};
+use crate::trees::Trees;
 use clash::{CloseFault, atoms_of_link, close, marked, nth_order};
 use net_core::{List, Memory, Net};
 use order_closure::Closed;
@@ -34,7 +36,7 @@ pub fn reduce(alloc: Global, net: &Net) -> Result<List<u32>, Memory>
 }
 
 /// The same, by the closure of the net. It takes time near linear in the number of orders, but for links whose points
-/// are at one place: each of these is searched through all others.
+/// are at one place: of these, those that trees don't show to follow are searched there.
 ///
 /// # Errors
 ///
@@ -63,6 +65,13 @@ fn marks(alloc: Global, net: &Net, table: &Closed, graph: &Graph) -> Result<Vec<
         onward: Reached::new(alloc, table.points())?,
         back: Reached::new(alloc, table.points())?,
     };
+    let all = Kept {
+        net,
+        table,
+        graph,
+        keep: &keep,
+    };
+    let mut trees = Trees::new(alloc, &all)?;
     for link in 0..net.links() {
         let kept = Kept {
             net,
@@ -70,28 +79,59 @@ fn marks(alloc: Global, net: &Net, table: &Closed, graph: &Graph) -> Result<Vec<
             graph,
             keep: &keep,
         };
-        if link_follows(kept, link, &mut sides)? {
+        trees.refresh(&kept, link)?;
+        if link_follows(&kept, link, &mut trees, &mut sides)? {
             keep[link as usize] = false;
+            trees.cut(link);
         }
     }
     Ok(keep)
 }
 
 /// Whether a link follows from the others that are kept: whether all its orders do.
-fn link_follows(kept: Kept<'_>, link: u32, sides: &mut Sides) -> Result<bool, Memory>
-    requires ready { IsReady (basis_of kept) }
-    requires link { link < length kept.net.now.links }
-    requires kept { IsKept kept.keep.now link }
-    requires room { HaveRoom (basis_of kept) sides.old }
-    ensures decides { IfOk result (DecidesLink kept.entry.net.now kept.entry.keep.now link) }
-    ensures room { OnOk result (HaveRoom (basis_of kept.entry) sides.new) }
+fn link_follows(
+    kept: &Kept<'_>,
+    link: u32,
+    trees: &mut Trees,
+    sides: &mut Sides,
+) -> Result<bool, Memory>
+    requires ready { IsReady (basis_of kept.now) }
+    requires link { link < length kept.now.net.now.links }
+    requires kept { IsKept kept.now.keep.now link }
+    requires trees { AreTrees (basis_of kept.now) trees.old }
+    requires room { HaveRoom (basis_of kept.now) sides.old }
+    ensures decides { IfOk result (DecidesLink kept.now.net.now kept.now.keep.now link) }
+    ensures trees { OnOk result (AreTrees (basis_of kept.now) trees.new) }
+    ensures room { OnOk result (HaveRoom (basis_of kept.now) sides.new) }
 {
     let atoms = atoms_of_link(kept.net, link);
     for number in 0..atoms.count() {
         let order = nth_order(&atoms, number);
-        if !kept.follows(Asked { link, order }, sides)? {
+        if !order_follows(kept, Asked { link, order }, trees, sides)? {
             return Ok(false);
         }
     }
     Ok(true)
+}
+
+/// Whether an order of a link follows from the others that are kept, by what the trees show and a search.
+fn order_follows(
+    kept: &Kept<'_>,
+    asked: Asked,
+    trees: &mut Trees,
+    sides: &mut Sides,
+) -> Result<bool, Memory>
+    requires ready { IsReady (basis_of kept.now) }
+    requires asked { IsAsked (basis_of kept.now) asked }
+    requires trees { AreTrees (basis_of kept.now) trees.old }
+    requires room { HaveRoom (basis_of kept.now) sides.old }
+    ensures decides { IfOk result (Decides (basis_of kept.now) asked) }
+    ensures trees { OnOk result (AreTrees (basis_of kept.now) trees.new) }
+    ensures room { OnOk result (HaveRoom (basis_of kept.now) sides.new) }
+{
+    let known = trees.known(kept, asked);
+    let follows = kept.follows(asked, &known, sides)?;
+    let reached = if follows { sides.onward.len() } else { 0 };
+    trees.spend(reached);
+    Ok(follows)
 }

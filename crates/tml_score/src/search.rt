@@ -3,9 +3,11 @@ ghost use Rattle.net_core.specs.Nets.{points};
 ghost use Rattle.std.specs.Prelude.{IfOk, IsTrue, OnOk, length, slice_index, true, ◌<◌, ◌≡◌, ◌≢◌, ◌↔◌};
 ghost use Rattle.tml_score.specs.Search as spec;
 ghost use Rattle.tml_score.specs.Search.{Decides, GoesOn, HaveRoom, IsAsked, IsReady, IsSearch, IsWay, IsLed, basis_of};
+ghost use Rattle.tml_score.specs.Trees.{IsKnown};
 
 use crate::graph::Graph;
 use crate::reached::{Reached, Sides};
+use crate::trees::Known;
 use clash::Order;
 use net_core::{Atom, Memory, Net};
 use order_closure::{Cell, Closed};
@@ -32,9 +34,15 @@ impl Kept<'_> {
     /// # Errors
     ///
     /// Out of memory.
-    pub fn follows(&self, asked: Asked, sides: &mut Sides) -> Result<bool, Memory>
+    pub fn follows(
+        &self,
+        asked: Asked,
+        known: &Known<'_>,
+        sides: &mut Sides,
+    ) -> Result<bool, Memory>
         requires ready { IsReady (basis_of self.now) }
         requires asked { IsAsked (basis_of self.now) asked }
+        requires known { IsKnown (basis_of self.now) asked known.now }
         requires room { HaveRoom (basis_of self.now) sides.old }
         ensures decides { IfOk result (Decides (basis_of self.now) asked) }
         ensures room { OnOk result (HaveRoom (basis_of self.now) sides.new) }
@@ -43,7 +51,7 @@ impl Kept<'_> {
             return Ok(true);
         }
         if !asked.order.strict && self.table.cell(asked.order.to, asked.order.from) != Cell::Free {
-            return self.meets(asked, &mut sides.onward, &mut sides.back);
+            return self.meets(asked, known, &mut sides.onward, &mut sides.back);
         }
         self.leads(asked, &mut sides.onward)
     }
@@ -97,6 +105,17 @@ impl Kept<'_> {
     {
         match order.link {
             Some(link) => link != asked.link && self.keep[link as usize],
+            None => true,
+        }
+    }
+
+    /// Whether an order is of no link, or of one that is kept.
+    pub fn has(&self, order: &Order) -> bool
+        requires { spec.AreMarks (basis_of self.now) order.now }
+        ensures { result ≡ spec.is_kept (basis_of self.now) order.now }
+    {
+        match order.link {
+            Some(link) => self.keep[link as usize],
             None => true,
         }
     }

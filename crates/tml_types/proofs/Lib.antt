@@ -1,5 +1,7 @@
 pub mod HeadBytes
+pub mod IdBytes
 pub mod RepeatedNames
+pub mod DistinctHeads
 pub mod KindNames
 pub mod OneRule
 pub mod OneTag

@@ -16,6 +16,10 @@ number_from n (b ∷ bytes) = number_from ((n * 256 % 2 ^ 64 + b) % 2 ^ 64) byte
 abbrev pub head_of : List ℕ → ℕ
 head_of name = number_from 0 (take 8 name)
 
+-- the first eight bytes of the name of an attribute, as a number
+abbrev pub name_head : Attr → ℕ
+name_head attr = head_of attr.name.now
+
 -- the name of an attribute
 abbrev pub headed_name : Attr → HeadedName
 headed_name attr = record { head = head_of attr.name.now; name = attr.name }

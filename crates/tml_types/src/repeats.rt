@@ -1,18 +1,21 @@
 //! Attributes of one name.
 ghost use Rattle.std.specs.List.{IsDistinct};
-ghost use Rattle.std.specs.Prelude.{◌≡◌, ◌↔◌, map, IfOk, IsFalse, IsSorted};
+ghost use Rattle.std.specs.List.Sorted.{IsStrictlyIncreasing};
+ghost use Rattle.std.specs.Prelude.{◌≡◌, ◌↔◌, false, map, true, IfOk, IsFalse, IsSorted};
 ghost use Rattle.tml_span.specs.View.{attribute_of};
-ghost use Rattle.tml_types.specs.Heads.{are_same, by_heads, headed_name};
+ghost use Rattle.tml_types.specs.Heads.{are_same, by_heads, headed_name, name_head};
 ghost use Rattle.tml_types.specs.Rules as rules;
 
 use crate::heads::head_of;
-use std::alloc::Global;
+use std::alloc::{AllocError, Global};
 use tml_span::{Attr, Memory};
 
 /// Up to so many attributes are compared each with each, which takes no memory.
 const FEW: usize = 8;
 
-/// Whether two attributes have one name. It takes time in n log n for n attributes.
+/// Whether two attributes have one name. It takes time in n log n for n attributes. It stands in its callers, since most
+/// tags have few attributes.
+#[inline(always)]
 pub fn is_repeated(alloc: Global, attrs: &[Attr<'_>]) -> Result<bool, Memory>
     ensures { IfOk result (λ r. r ≡ rules.is_repeated (map attribute_of attrs.now)) }
 {
@@ -46,7 +49,53 @@ fn has_name(name: &[u8], attrs: &[Attr<'_>]) -> bool
     false
 }
 
+/// Mostly the first bytes of the names tell them apart, and numbers take the least time to sort.
+#[inline(never)]
 fn is_repeated_in_many(alloc: Global, attrs: &[Attr<'_>]) -> Result<bool, Memory>
+    ensures { IfOk result (λ r. r ≡ rules.is_repeated (map attribute_of attrs.now)) }
+{
+    if have_distinct_heads(alloc, attrs)? {
+        return Ok(false);
+    }
+    has_repeated_name(alloc, attrs)
+}
+
+/// Whether the first bytes of each name tell it from the others.
+fn have_distinct_heads(alloc: Global, attrs: &[Attr<'_>]) -> Result<bool, Memory>
+    ensures { IfOk result (λ d. d ≡ true → rules.is_repeated (map attribute_of attrs.now) ≡ false) }
+{
+    let Ok(mut heads) = heads_of(alloc, attrs) else {
+        return Err(Memory);
+    };
+    heads.sort_unstable();
+    Ok(rise(heads.as_slice()))
+}
+
+/// The first bytes of the names of attributes as numbers, in their order.
+fn heads_of(alloc: Global, attrs: &[Attr<'_>]) -> Result<Vec<u64>, AllocError>
+    ensures { IfOk result (λ heads. heads.items ≡ map name_head attrs.now) }
+{
+    let mut heads = Vec::with_capacity(alloc, attrs.len())?;
+    for attr in attrs {
+        heads.push(head_of(attr.name))?;
+    }
+    Ok(heads)
+}
+
+/// Whether each number is below the next one.
+fn rise(numbers: &[u64]) -> bool
+    ensures { result ≡ true → IsStrictlyIncreasing numbers.now }
+{
+    for later in 1..numbers.len() {
+        if numbers[later] <= numbers[later - 1] {
+            return false;
+        }
+    }
+    true
+}
+
+/// Whether two attributes have one name, by all bytes of their names.
+fn has_repeated_name(alloc: Global, attrs: &[Attr<'_>]) -> Result<bool, Memory>
     ensures { IfOk result (λ r. r ≡ rules.is_repeated (map attribute_of attrs.now)) }
 {
     let Ok(mut names) = names_of(alloc, attrs) else {

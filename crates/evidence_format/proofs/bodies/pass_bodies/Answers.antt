@@ -2,7 +2,7 @@ use Rattle.std.proofs.Common.{[], ◌∷◌, ◌++◌}
 use Rattle.std.proofs.lemmas.Result.{err_from_is_err_and}
 use Rattle.evidence_format.specs.Lines.{lines_of}
 use Rattle.evidence_format.specs.Readers.{many_at, body_at}
-use Rattle.evidence_format.specs.View.{plain}
+use Rattle.evidence_format.specs.View.{plain_body}
 use Rattle.evidence_format.proofs.Loops.{goes_on, ends, is_done}
 use Rattle.evidence_format.proofs.bodies.pass_bodies.Goals as goal
 
@@ -15,7 +15,7 @@ returns-in_err-after c =
 pub loop-preserved : goal.loop-preserved
 loop-preserved c =
     let so_far = c.loop.invariant in
-    let e = plain c.in_ok-after.field-0-0 in
+    let e = plain_body c.in_ok-after.field-0-0 in
     (so_far.0 ++ e ∷ [], goes_on body_at so_far.0 c.args.count c.loop.counter (lines_of c.loop.rest.now) e (lines_of c.in_ok-after.after.now) (many_at body_at c.args.count (lines_of c.args.text.now)) c.loop-test.true c.in_ok-after.ensures so_far.1)
 
 pub returns : goal.returns

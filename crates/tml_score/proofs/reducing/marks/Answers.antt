@@ -1,9 +1,25 @@
 use Rattle.std.proofs.Common.{◌≡◌, ◌+◌, ◌<◌, ℕ, Bool, true, false, List, length, replicate, slice_set, ap, sym, subst, ◌∙◌, arith, rules}
+use Rattle.net_core.specs.Nets.{PlainNet}
+use Rattle.order_closure.specs.Tables.{Table}
 use Rattle.tml_score.specs.Reached.{PlainReached}
 use Rattle.tml_score.specs.Reducing.{AreGoneOver, DecidesLink}
+use Rattle.tml_score.specs.Search.{Basis}
+use Rattle.tml_score.specs.Trees.{AreTrees}
+use Rattle.tml_score.specs.declared.graph.Graph.{Graph}
 use Rattle.tml_score.proofs.Redundancy.{gone_over_left, gone_over_stays, none_gone_over}
+use Rattle.tml_score.proofs.TreeLaws.{ready_so_far}
 use Rattle.tml_score.proofs.reducing.marks.Goals as goal
 use Rattle.tml_score.proofs.reducing.marks.Goals.{then-branch, else-branch}
+
+-- what a search goes by, with these marks
+abbrev with_marks : PlainNet → Table → Graph → List Bool → Basis
+with_marks net table graph keep = record { net = net; table = table; graph = graph; keep = keep }
+
+pub new-requires-3 : goal.new-requires-3
+new-requires-3 c =
+    let net = c.args.net.now in
+    let all : c.deref.result.now ≡ replicate (length net.links) true = c.deref.ensures.value ∙ c.in-Ok.ensures.items_if_clones_equal (λ y e. e) ∙ ap (λ (n : ℕ). replicate n true) c.links.ensures.count in
+    ready_so_far (with_marks net c.args.table.now c.args.graph.now c.deref.result.now) 0 c.links.ensures.net c.requires.fits c.requires.closure c.requires.graph (subst (AreGoneOver net 0) (sym all) (none_gone_over net))
 
 pub loop-link-init : goal.loop-link-init
 loop-link-init c =
@@ -15,25 +31,31 @@ loop-link-init c =
         ap (λ (r : PlainReached). r.room) c.in_ok-new.ensures ∙ c.points.ensures.points ∙ c.requires.closure.size,
         ap (λ (r : PlainReached). r.room) c.in_ok-new-2.ensures ∙ c.points-2.ensures.points ∙ c.requires.closure.size,
       );
+      trees = subst (λ (ks : List Bool). AreTrees (with_marks net c.args.table.now c.args.graph.now ks) c.in_ok-trees.trees) c.deref.ensures.value c.in_ok-trees.ensures;
       so_far = subst (AreGoneOver net 0) (sym all) (none_gone_over net);
     }
+
+pub refresh-requires-clause-ready : goal.refresh-requires-clause-ready
+refresh-requires-clause-ready c =
+    let net = c.args.net.now in
+    ready_so_far (with_marks net c.args.table.now c.args.graph.now c.deref-in-loop-link.result.now) c.loop-link.link c.links.ensures.net c.requires.fits c.requires.closure c.requires.graph
+    (subst (AreGoneOver net c.loop-link.link) (sym c.deref-in-loop-link.ensures.value) c.loop-link.invariant.so_far)
+
+pub refresh-requires-clause-trees : goal.refresh-requires-clause-trees
+refresh-requires-clause-trees c =
+    subst (λ (ks : List Bool). AreTrees (with_marks c.args.net.now c.args.table.now c.args.graph.now ks) c.loop-link.trees) (sym c.deref-in-loop-link.ensures.value) c.loop-link.invariant.trees
 
 pub link_follows-requires : goal.link_follows-requires
 link_follows-requires c =
     let net = c.args.net.now in
-    let so_far : AreGoneOver net c.loop-link.link c.deref.result.now = subst (AreGoneOver net c.loop-link.link) (sym c.deref.ensures.value) c.loop-link.invariant.so_far in
-    let below : c.loop-link.link < length net.links = omega (arith, c.loop-link-test.true, c.loop-link.invariant.end) in
+    let link = c.loop-link.link in
+    let so_far : AreGoneOver net link c.deref-in-loop-link.result.now = subst (AreGoneOver net link) (sym c.deref-in-loop-link.ensures.value) c.loop-link.invariant.so_far in
+    let below : link < length net.links = omega (arith, c.loop-link-test.true, c.loop-link.invariant.end) in
     record {
-      ready = record {
-        net = c.links.ensures.net;
-        fits = c.requires.fits;
-        closure = c.requires.closure;
-        graph = c.requires.graph;
-        marks = so_far.size;
-        same = so_far.same;
-      };
+      ready = ready_so_far (with_marks net c.args.table.now c.args.graph.now c.deref-in-loop-link.result.now) link c.links.ensures.net c.requires.fits c.requires.closure c.requires.graph so_far;
       link = below;
-      kept = so_far.later c.loop-link.link (omega arith) below;
+      kept = so_far.later link (omega arith) below;
+      trees = c.in_ok-refresh.ensures;
       room = c.loop-link.invariant.room;
     }
 
@@ -42,21 +64,31 @@ loop-link-preserved c =
     let net = c.args.net.now in
     let link = c.loop-link.link in
     let keep = c.loop-link.keep.items in
+    let basis : List Bool → Basis = with_marks net c.args.table.now c.args.graph.now in
     let was = c.loop-link.invariant in
     let below : link < length net.links = omega (arith, c.loop-link-test.true, was.end) in
-    let decides : DecidesLink net keep link c.in_ok-link_follows.field-0 = subst (λ (ks : List Bool). DecidesLink net ks link c.in_ok-link_follows.field-0) c.deref.ensures.value c.in_ok-link_follows.ensures.decides in
-    record {
-      end = was.end;
-      room = c.in_ok-link_follows.ensures.room;
-      so_far = elim c.if-branch.branch [
-        | then-branch w ↦
-            let now : c.if-branch.keep.items ≡ slice_set keep link false = search rules in
-            subst (AreGoneOver net (link + 1)) (sym now) (gone_over_left net link keep was.so_far below (subst (DecidesLink net keep link) w.if-branch.true decides))
-        | else-branch w ↦
-            let now : c.if-branch.keep.items ≡ keep = ap (λ v. v.items) w.keep-is in
-            subst (AreGoneOver net (link + 1)) (sym now) (gone_over_stays net link keep was.so_far below (subst (DecidesLink net keep link) w.if-branch.false decides))
-      ];
-    }
+    let value = c.deref-in-loop-link.ensures.value in
+    let decides : DecidesLink net keep link c.in_ok-link_follows.field-0 = subst (λ (ks : List Bool). DecidesLink net ks link c.in_ok-link_follows.field-0) value c.in_ok-link_follows.ensures.decides in
+    let trees : AreTrees (basis keep) c.link_follows.new.trees = subst (λ (ks : List Bool). AreTrees (basis ks) c.link_follows.new.trees) value c.in_ok-link_follows.ensures.trees in
+    elim c.if-branch.branch [
+      | then-branch w ↦
+          let now : c.if-branch.keep.items ≡ slice_set keep link false = search rules in
+          let cut : AreTrees (basis (slice_set keep link false)) w.cut.new.self = w.cut.ensures (basis keep) trees in
+          record {
+            end = was.end;
+            room = c.in_ok-link_follows.ensures.room;
+            trees = subst (λ (ks : List Bool). AreTrees (basis ks) c.if-branch.trees) (sym now) (subst (AreTrees (basis (slice_set keep link false))) (sym w.trees-is) cut);
+            so_far = subst (AreGoneOver net (link + 1)) (sym now) (gone_over_left net link keep was.so_far below (subst (DecidesLink net keep link) w.if-branch.true decides));
+          }
+      | else-branch w ↦
+          let now : c.if-branch.keep.items ≡ keep = ap (λ v. v.items) w.keep-is in
+          record {
+            end = was.end;
+            room = c.in_ok-link_follows.ensures.room;
+            trees = subst (λ (ks : List Bool). AreTrees (basis ks) c.if-branch.trees) (sym now) (subst (AreTrees (basis keep)) (sym w.trees-is) trees);
+            so_far = subst (AreGoneOver net (link + 1)) (sym now) (gone_over_stays net link keep was.so_far below (subst (DecidesLink net keep link) w.if-branch.false decides));
+          }
+    ]
 
 pub returns : goal.returns
 returns c =

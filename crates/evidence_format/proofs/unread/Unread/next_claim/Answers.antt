@@ -1,5 +1,5 @@
 use Rattle.evidence_format.specs.Lines.{lines_of}
-use Rattle.evidence_format.specs.View.{plain}
+use Rattle.evidence_format.specs.View.{plain_body}
 use Rattle.evidence_format.proofs.OneByOne.{good_claim, none_follows, one_read}
 use Rattle.evidence_format.proofs.unread.Unread.next_claim.Goals as goal
 
@@ -12,7 +12,7 @@ stopped-requires-clause-stop c =
 pub returns-in-Ok-clause-ok : goal.returns-in-Ok-clause-ok
 returns-in-Ok-clause-ok c = λ es read.
     let unread = c.args.self.now in
-    one_read es (plain c.in-Ok.claim) unread.left (lines_of unread.rest.now) (lines_of c.in-Ok.rest.now) (lines_of unread.text.now) c.requires.left c.in-Ok.ensures read
+    one_read es (plain_body c.in-Ok.claim) unread.left (lines_of unread.rest.now) (lines_of c.in-Ok.rest.now) (lines_of unread.text.now) c.requires.left c.in-Ok.ensures read
 
 pub returns-in-Ok-clause-good : goal.returns-in-Ok-clause-good
-returns-in-Ok-clause-good c = good_claim (lines_of c.args.self.now.rest.now) (lines_of c.in-Ok.rest.now) (plain c.in-Ok.claim) c.in-Ok.ensures
+returns-in-Ok-clause-good c = good_claim (lines_of c.args.self.now.rest.now) (lines_of c.in-Ok.rest.now) (plain_body c.in-Ok.claim) c.in-Ok.ensures

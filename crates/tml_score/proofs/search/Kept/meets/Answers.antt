@@ -12,8 +12,8 @@ pub spread_back-requires-clause-apart : goal.spread_back-requires-clause-apart
 spread_back-requires-clause-apart c =
     let basis = basis_of c.args.self.now in
     let asked = c.args.asked in
-    let goes : GoesFrom basis asked (IsLed basis asked) (λ o. o.atom.from) (λ o. o.atom.to) (slice_index c.loop-turn.onward.points c.loop-turn.turn) c.loop-turn.back c.loop-turn.onward c.spread_onward.new.onward (Ok false) =
-    subst (λ (b : Bool). GoesFrom basis asked (IsLed basis asked) (λ o. o.atom.from) (λ o. o.atom.to) (slice_index c.loop-turn.onward.points c.loop-turn.turn) c.loop-turn.back c.loop-turn.onward c.spread_onward.new.onward (Ok b)) c.if-branch.false c.in_ok-spread_onward.ensures in
+    let goes : GoesFrom basis asked (IsLed basis asked) (IsLedTo basis asked) (λ o. o.atom.from) (λ o. o.atom.to) (slice_index c.loop-turn.onward.points c.loop-turn.turn) c.loop-turn.back c.loop-turn.onward c.spread_onward.new.onward (Ok false) =
+    subst (λ (b : Bool). GoesFrom basis asked (IsLed basis asked) (IsLedTo basis asked) (λ o. o.atom.from) (λ o. o.atom.to) (slice_index c.loop-turn.onward.points c.loop-turn.turn) c.loop-turn.back c.loop-turn.onward c.spread_onward.new.onward (Ok b)) c.if-branch.false c.in_ok-spread_onward.ensures in
     λ x there here. goes.2 x here there
 
 pub loop-turn-preserved : goal.loop-turn-preserved
@@ -24,10 +24,10 @@ loop-turn-preserved c =
     let was = c.loop-turn.invariant in
     let on = c.spread_onward.new.onward in
     let behind = c.spread_back.new.back in
-    let goes : GoesFrom basis asked (IsLed basis asked) (λ o. o.atom.from) (λ o. o.atom.to) (slice_index c.loop-turn.onward.points turn) c.loop-turn.back c.loop-turn.onward on (Ok false) =
-    subst (λ (b : Bool). GoesFrom basis asked (IsLed basis asked) (λ o. o.atom.from) (λ o. o.atom.to) (slice_index c.loop-turn.onward.points turn) c.loop-turn.back c.loop-turn.onward on (Ok b)) c.if-branch.false c.in_ok-spread_onward.ensures in
-    let comes : GoesFrom basis asked (IsLedTo basis asked) (λ o. o.atom.to) (λ o. o.atom.from) (slice_index c.loop-turn.back.points turn) on c.loop-turn.back behind (Ok false) =
-    subst (λ (b : Bool). GoesFrom basis asked (IsLedTo basis asked) (λ o. o.atom.to) (λ o. o.atom.from) (slice_index c.loop-turn.back.points turn) on c.loop-turn.back behind (Ok b)) c.if-branch-2.false c.in_ok-spread_back.ensures in
+    let goes : GoesFrom basis asked (IsLed basis asked) (IsLedTo basis asked) (λ o. o.atom.from) (λ o. o.atom.to) (slice_index c.loop-turn.onward.points turn) c.loop-turn.back c.loop-turn.onward on (Ok false) =
+    subst (λ (b : Bool). GoesFrom basis asked (IsLed basis asked) (IsLedTo basis asked) (λ o. o.atom.from) (λ o. o.atom.to) (slice_index c.loop-turn.onward.points turn) c.loop-turn.back c.loop-turn.onward on (Ok b)) c.if-branch.false c.in_ok-spread_onward.ensures in
+    let comes : GoesFrom basis asked (IsLedTo basis asked) (IsLed basis asked) (λ o. o.atom.to) (λ o. o.atom.from) (slice_index c.loop-turn.back.points turn) on c.loop-turn.back behind (Ok false) =
+    subst (λ (b : Bool). GoesFrom basis asked (IsLedTo basis asked) (IsLed basis asked) (λ o. o.atom.to) (λ o. o.atom.from) (slice_index c.loop-turn.back.points turn) on c.loop-turn.back behind (Ok b)) c.if-branch-2.false c.in_ok-spread_back.ensures in
     let lt : turn < length c.loop-turn.onward.points = omega (arith, c.loop-turn-test.true, c.min.ensures, c.len.ensures.count, c.len-in-loop-turn.ensures.count) in
     let less : turn < length c.loop-turn.back.points = omega (arith, c.loop-turn-test.true, c.min.ensures, c.len.ensures.count, c.len-in-loop-turn.ensures.count) in
     record {

@@ -27,7 +27,7 @@ here c =
 pub remains-requires : goal.remains-requires
 remains-requires c =
     let o = get_or c.of_point-order-items.result.now c.loop-order.order-index no_order in
-    marked_link (basis_of c.args.self.now) c.args.asked c.requires.ready c.requires.asked o (here c).0
+    marked_link (basis_of c.args.self.now) c.requires.ready o (here c).0
 
 pub take-requires : goal.take-requires
 take-requires c =

@@ -1,0 +1,6 @@
+pub mod Links
+pub mod Joined
+pub mod Following
+pub mod Verdicts
+pub mod Deciding
+pub mod Judged

@@ -1,0 +1,3 @@
+pub mod Confirmed
+pub mod Refusals
+pub mod Following

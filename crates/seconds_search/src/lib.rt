@@ -1,0 +1,13 @@
+//! Placings of intervals in whole seconds, or cycles of constraints that show that there is none.
+#![tactic(auto)]
+
+mod cycle;
+mod deciding;
+mod edges;
+mod falls;
+mod laws;
+mod placing;
+mod round;
+
+pub use deciding::{PlaceFault, place};
+pub use laws::every_net_is_decided;

@@ -1,0 +1,10 @@
+use Rattle.std.proofs.Common.{◌≡◌, length}
+use Rattle.net_core.specs.Nets.{points}
+use Rattle.tml_score.specs.Ties.{ArePoints}
+use Rattle.tml_score.proofs.ties.flood.Given as goal
+
+abbrev pub invariant-flood : goal.invariant-flood
+invariant-flood l = record {
+  size : length l.roots ≡ points l.kept.net.now;
+  met : ArePoints (points l.kept.net.now) l.met.items;
+}

@@ -1,0 +1,11 @@
+use Rattle.std.proofs.Common.{◌∙◌, sym}
+use Rattle.std.proofs.lemmas.Bool.{OnTrue_at, OnTrue_from}
+use Rattle.tml_score.specs.Search.{IsLed, basis_of}
+use Rattle.tml_score.proofs.TreeLaws.{comes_after}
+use Rattle.tml_score.proofs.trees.Known.comes_after.Goals as goal
+
+pub returns : goal.returns
+returns c =
+    let basis = basis_of c.args.kept.now in
+    OnTrue_from _ (IsLed basis c.args.asked c.args.point) (λ is. comes_after basis c.args.asked c.requires.ready c.requires.asked c.args.self.now c.requires.known c.args.point c.if-not-self.false
+    (sym c.root.ensures ∙ c.if-root.false ∙ c.root-else-not-self.ensures) (OnTrue_at is c.covers.ensures))

@@ -1,7 +1,0 @@
-use Rattle.tml_types.proofs.RepeatedNames.{repeats_by_names}
-use Rattle.tml_types.proofs.repeats.is_repeated_in_many.Goals as goal
-
-pub returns : goal.returns
-returns c =
-    let sort = c.sort_unstable in
-    repeats_by_names c.args.attrs.now c.as_slice.result.now c.has_equal_neighbours.result (rw (c.as_slice.ensures.value, ← c.in-Ok.ensures) sort.ensures.permutation) c.has_equal_neighbours.ensures
