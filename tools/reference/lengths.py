@@ -1,4 +1,4 @@
-"""How long a time lasts, in seconds: the lengths of *Placings in whole seconds*."""
+"""How long a time lasts: the lengths of the section *Placings in whole seconds* of docs/DEFINITIONS.md."""
 
 from __future__ import annotations
 

@@ -1,4 +1,4 @@
-"""Placings in whole seconds, and the cycles of constraints that show that there is none: *Placings in whole seconds*.
+"""Placings, and cycles that show that there is none: the section *Placings in whole seconds* of docs/DEFINITIONS.md.
 
 A placing is looked for by rounds over the constraints, as any point is no later than a constraint says. What is found is held against
 the definitions before it is given.
@@ -135,7 +135,7 @@ def is_placed(timed: Timed, seconds: Seconds) -> bool:
 
 
 def is_negative(timed: Timed, lines: Sequence[Line]) -> bool:
-    """*Cycles*: whether each line names a constraint, each begins where the one before it ended, the first where the last ends, and
+    """*Negative cycles*: whether each line names a constraint, each begins where the one before it ended, the first where the last ends, and
     the sum of the weights is below 0.
     """
     constraints = [one for line in lines if (one := constraint_of(timed, line))]

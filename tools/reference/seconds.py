@@ -1,4 +1,4 @@
-"""The text of placings and of negative cycles, and why they are refused: *Placings in whole seconds*."""
+"""Placings and cycles as texts: the section *The text of seconds, and checking it* of docs/DEFINITIONS.md."""
 
 from __future__ import annotations
 
