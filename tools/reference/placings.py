@@ -135,8 +135,8 @@ def is_placed(timed: Timed, seconds: Seconds) -> bool:
 
 
 def is_negative(timed: Timed, lines: Sequence[Line]) -> bool:
-    """*Negative cycles*: whether each line names a constraint, each begins where the one before it ended, the first where the last ends, and
-    the sum of the weights is below 0.
+    """*Negative cycles*: whether each line names a constraint and begins where the one before it ended, the first one where the last one
+    did, and the sum of the weights is below 0.
     """
     constraints = [one for line in lines if (one := constraint_of(timed, line))]
     joined = all(one.end == constraints[(number + 1) % len(constraints)].begin for number, one in enumerate(constraints))
