@@ -1,0 +1,65 @@
+"""The walk of a clash in words, step by step: each point is no later than the next one, and the last one is the first one again.
+
+What a step says of two points is looked up in the table of docs/DEFINITIONS.md. That the walk is one is for `tml verify` to say.
+"""
+
+from __future__ import annotations
+
+from collections.abc import Sequence
+from dataclasses import dataclass
+
+from .clash_search import is_equal_end
+from .clashes import Step
+from .program import CannotRun
+from .words import Wording
+
+ORDERS = {
+    "BEFORE": ("A1<B0",), "AFTER": ("B1<A0",), "INCLUDES": ("A0<B0", "B1<A1"), "IS_INCLUDED": ("B0<A0", "A1<B1"),
+    "DURING": ("B0=A0", "A1=B1"), "DURING_INV": ("A0=B0", "B1=A1"), "SIMULTANEOUS": ("A0=B0", "B0=A0", "A1=B1", "B1=A1"),
+    "IDENTITY": ("A0=B0", "B0=A0", "A1=B1", "B1=A1"), "IBEFORE": ("A1=B0", "B0=A1"), "IAFTER": ("B1=A0", "A0=B1"),
+    "BEGINS": ("A0=B0", "B0=A0", "A1<B1"), "BEGUN_BY": ("A0=B0", "B0=A0", "B1<A1"), "ENDS": ("A1=B1", "B1=A1", "B0<A0"),
+    "ENDED_BY": ("A1=B1", "B1=A1", "A0<B0"), "OVERLAPS": ("A0<B0", "B0<A1", "A1<B1"), "OVERLAPPED_BY": ("B0<A0", "A0<B1", "B1<A1"),
+}  # fmt: skip
+"""The orders of each relation between A and B, as docs/DEFINITIONS.md has them: a start is 0 and an end is 1; `<` is before, `=` no later."""
+
+
+@dataclass(frozen=True)
+class WalkStep:
+    """A step of a walk: the points from which and to which it leads, whether the one is before the other, and why."""
+
+    first: int
+    second: int
+    strict: bool
+    reason: str
+    link: int | None = None
+
+
+def steps_in_words(wording: Wording, walk: Sequence[Step]) -> list[WalkStep]:
+    """The steps of a walk, each of which begins where the one before it ends."""
+    steps = [step_in_words(wording, step) for step in walk]
+    joined = zip(steps, steps[1:] + steps[:1], strict=True)
+    if not all(one.second == other.first for one, other in joined) or not any(step.strict for step in steps):
+        raise CannotRun("the walk that tml printed cannot be read")
+    return steps
+
+
+def step_in_words(wording: Wording, step: Step) -> WalkStep:
+    """One step, by a link, by the calendar, or from the start of an interval to its end."""
+    if step.kind == "span":
+        return WalkStep(2 * step.first, 2 * step.first + 1, True, "since it starts before it ends")
+    if step.kind == "calendar":
+        _, text = wording.calendar(step.first, step.second)
+        return WalkStep(step.first, step.second, not is_equal_end(wording, step.first, step.second), f"since {text}")
+    link = wording.link(step.first)
+    orders = ORDERS.get(link.relation, ())
+    if step.second >= len(orders):
+        raise CannotRun("the walk that tml printed cannot be read")
+    order = orders[step.second]
+    numbers = {"A": wording.intervals.index(link.left), "B": wording.intervals.index(link.right)}
+    first, second = (2 * numbers[point[0]] + int(point[1]) for point in (order[:2], order[3:]))
+    return WalkStep(first, second, order[2] == "<", f"since {wording.in_words(link)}", step.first)
+
+
+def point_in_words(wording: Wording, point: int) -> str:
+    """A point, by the text of its interval."""
+    return f"the {'end' if point % 2 else 'start'} of {wording.text_of(wording.intervals[point // 2])}"
