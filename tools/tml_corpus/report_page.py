@@ -18,7 +18,7 @@ from .places import Place
 from .report_documents import Entry, Examined, entry_of, free_dates
 from .report_text import Words, marked_text
 from .rows import Timeline
-from .walk_words import WalkStep, point_in_words, steps_in_words
+from .walk_words import WalkStep, steps_in_words
 from .words import Wording
 
 POLICY = "default-src 'none'; style-src 'self' file:; script-src 'self' file:; base-uri 'none'; form-action 'none'"
@@ -85,10 +85,8 @@ def sections(examined: Examined) -> Iterator[str]:
     yield section("faults", "Faults", "".join(map(fault_part, report.judgement.faults)))
     if wording is not None:
         words = Words(wording)
-        clashes = enumerate(report.shown_clashes(), 1)
-        yield section("clashes", "Clashes", "".join(clash_part(wording, words, clash, number) for number, clash in clashes))
         yield section("touching", "Dates that touch", touching_part(examined))
-        yield reading(wording, words, examined.timeline, bool(report.touching))
+        yield reading(examined, wording, words)
         yield section("links", "Links", links_part(wording, words, notes_on_links(examined)))
         free = "".join(f"<li>{isolated(f'{wording.text_of(name)} ({name})')}</li>\n" for name in free_dates(wording))
         yield section("free", "Free dates", free and f"<p>The calendar does not place these dates:</p>\n<ul>\n{free}</ul>\n")
@@ -137,12 +135,12 @@ def clash_part(wording: Wording, words: Words, clash: PlacedClash, number: int) 
     notes = "".join(f"<li>{at(note.place)}: {isolated(note.text)}</li>\n" for note in clash.calendar + clash.cures)
     steps = steps_in_words(wording, clash.walk)
     walk = "".join(step_part(wording, words, step) for step in steps)
-    first = said(point_in_words(wording, steps[0].first))
+    first = point_part(wording, steps[0].first)
     return (
         f'<div class="clash" id="clash{number}">\n<h3>Clash {number}: {title}</h3>\n<ul class="cited">\n{links}</ul>\n'
         + (f"<ul>\n{notes}</ul>\n" if notes else "")
         + f'<p>Why: each step leads to a point that cannot be earlier.</p>\n<ol class="walk">\n{walk}</ol>\n'
-        f'<p class="end">So <bdi>{first}</bdi> would be before itself, which cannot be. Any one of the links, left out, lets the others be true; '
+        f'<p class="end">So {first} would be before itself, which cannot be. Any one of the links, left out, lets the others be true; '
         "or a date that a step goes by is wrong.</p>\n</div>\n"
     )
 
@@ -155,12 +153,15 @@ def link_reference(link: PlacedLink) -> str:
 def step_part(wording: Wording, words: Words, step: WalkStep) -> str:
     """One step of a walk."""
     ends = [words.identifier(wording.intervals[point // 2]) for point in (step.first, step.second)]
-    is_span = step.link is None and step.first // 2 == step.second // 2
-    second = "its end" if is_span else said(point_in_words(wording, step.second))
     verb = "is before" if step.strict else "is no later than"
-    link = "" if step.link is None else f' data-link="link{step.link}"'
-    sentence = f"<bdi>{said(point_in_words(wording, step.first))}</bdi> {verb} <bdi>{second}</bdi>, {isolated(step.reason)}"
-    return f'<li data-left="{ends[0]}" data-right="{ends[1]}"{link}>{sentence}</li>\n'
+    sentence = f"{point_part(wording, step.first)} {verb} {point_part(wording, step.second)}, {isolated(step.reason)}"
+    return f'<li data-left="{ends[0]}" data-right="{ends[1]}" data-relation="{said(step.relation)}">{sentence}</li>\n'
+
+
+def point_part(wording: Wording, point: int) -> str:
+    """The start or the end of an interval, by its text and its name."""
+    name = wording.intervals[point // 2]
+    return f'the {"end" if point % 2 else "start"} of <em>{isolated(wording.text_of(name))}</em> <span class="place">{said(name)}</span>'
 
 
 def touching_part(examined: Examined) -> str:
@@ -170,19 +171,27 @@ def touching_part(examined: Examined) -> str:
     return f"<ul>\n{items}</ul>\n" if items else ""
 
 
-def reading(wording: Wording, words: Words, timeline: Timeline | None, touching: bool) -> str:
-    """The text, and the timeline beside it."""
+def reading(examined: Examined, wording: Wording, words: Words) -> str:
+    """The text, and beside it the timeline, or the clashes where no timeline fits."""
+    timeline = examined.timeline
     bars = {row.name: place for place, row in enumerate(timeline.rows)} if timeline else {}
     text = marked_text(wording, words, bars)
     legend = '<p class="legend">In the text: <span class="mark event">an event</span>, <span class="mark time">a date or time</span>, '
     legend += '<span class="mark signal">a signal</span>.</p>\n'
     left = f'<section id="text" aria-label="Text">\n<h2>Text</h2>\n{legend}<div class="text" dir="auto">{text}</div>\n</section>\n'
     if timeline is None:
-        return f'<div class="reading alone">\n{left}</div>\n'
+        clashes = enumerate(examined.report.shown_clashes(), 1)
+        right = section("clashes", "Clashes", "".join(clash_part(wording, words, clash, number) for number, clash in clashes))
+    else:
+        right = timeline_part(timeline, words, bool(examined.report.touching))
+    return f'<div class="reading">\n{left}{right}</div>\n'
+
+
+def timeline_part(timeline: Timeline, words: Words, touching: bool) -> str:
+    """The timeline, of which each row leads to its word."""
     note = "<p>Links between dates that touch are read here as the relation that holds.</p>\n" if touching else ""
     picture = drawing(timeline, lambda place, row: barred(timeline, words, place, row), style="")
-    right = f'<section id="timeline" aria-label="Timeline">\n<h2>Timeline</h2>\n{note}<div class="picture">{picture}</div>\n</section>\n'
-    return f'<div class="reading">\n{left}{right}</div>\n'
+    return section("timeline", "Timeline", f'{note}<div class="picture">{picture}</div>\n')
 
 
 def barred(timeline: Timeline, words: Words, place: int, row: str) -> str:
@@ -218,11 +227,12 @@ def link_part(wording: Wording, words: Words, number: int, notes: list[str]) -> 
     left, right = (
         f'<a href="#{word}">{isolated(wording.text_of(name))}</a>' for word, name in zip(ends, (link.left, link.right), strict=True)
     )
-    names = " ".join(part for part in (wording.source.value(wording.link_tags[number], "lid"), f"{link.left}, {link.right},") if part)
+    called = wording.source.value(wording.link_tags[number], "lid")
+    names = (f"{called}: " if called else "") + f"{link.left}, {link.right}; line {link.place.line}"
     noted = "".join(f' <strong class="noted">{said(note)}</strong>' for note in notes)
     return (
         f'<li id="link{number}" data-left="{ends[0]}" data-right="{ends[1]}" data-relation="{said(link.relation)}">{left} {said(link.relation)} {right} '
-        f'<span class="place">{said(names)} line {link.place.line}</span>{noted}</li>\n'
+        f'<span class="place">({said(names)})</span>{noted}</li>\n'
     )
 
 

@@ -86,7 +86,10 @@ const steps = Array.from(document.querySelectorAll(".walk li"));
 const bars = Array.from(document.querySelectorAll("a.leading"));
 const titles = bars.map((bar) => bar.querySelector("title").textContent.split("\\n"));
 const ofWord = new Map();
-const add = (word, link) => { if (word) ofWord.set(word, [...(ofWord.get(word) || []), link]); };
+const add = (word, link) => {
+  if (!ofWord.has(word)) ofWord.set(word, []);
+  ofWord.get(word).push(link);
+};
 links.forEach((link) => {
   add(link.dataset.left, link);
   if (link.dataset.right !== link.dataset.left) add(link.dataset.right, link);
@@ -178,6 +181,7 @@ const drawLink = (link, frame) => {
 };
 const draw = () => {
   arcs.replaceChildren();
+  text.classList.toggle("drawn", drawn.size > 0);
   if (!drawn.size) return;
   const frame = text.getBoundingClientRect();
   drawn.forEach((link) => drawLink(link, frame));
@@ -200,7 +204,7 @@ const tools = () => {
   made.className = "tools";
   made.append(
     button("Draw all links", () => { links.forEach((link) => turn(link, true)); draw(); }),
-    button("Draw none", () => { links.forEach((link) => turn(link, false)); draw(); }),
+    button("Draw none", () => { links.forEach((link) => turn(link, false)); drawn.clear(); draw(); }),
   );
   return made;
 };
@@ -210,7 +214,7 @@ if (text) {
   text.append(arcs);
   panel.id = "panel";
   panel.setAttribute("role", "status");
-  document.querySelector(".reading").append(panel);
+  document.body.append(panel);
   new ResizeObserver(draw).observe(text);
   links.forEach((link) => link.append(button("draw", () => { turn(link, !drawn.has(link)); draw(); })));
   if (links.length) document.querySelector(".links").before(tools());
@@ -218,9 +222,8 @@ if (text) {
 const goTo = (walk, step) => {
   pinned = null;
   clear();
-  walk.forEach((one) => { if (one.dataset.link && drawn.has(byId(one.dataset.link))) turn(byId(one.dataset.link), false); });
-  const link = byId(step.dataset.link);
-  if (link) turn(link, true);
+  walk.forEach((one) => drawn.delete(one));
+  if (step.dataset.left !== step.dataset.right) drawn.add(step);
   draw();
   mark(step, "on");
   [step.dataset.left, step.dataset.right].forEach((name) => light(byId(name), "on"));

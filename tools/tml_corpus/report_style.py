@@ -12,7 +12,7 @@ PLAIN = """
 body{margin:16px;background:var(--paper);color:var(--ink);font:15px/1.5 "DejaVu Sans",Verdana,Helvetica,Arial,sans-serif}
 h1{font-size:1.4em;margin:.3em 0;overflow-wrap:anywhere}h2{font-size:1.15em;margin:1.2em 0 .4em}h3{font-size:1em;margin:.8em 0 .3em}
 a{color:var(--strong)}a:focus-visible,[tabindex]:focus-visible,button:focus-visible{outline:3px solid var(--strong);outline-offset:1px}
-p,li,td,th,.text{overflow-wrap:anywhere}.path,.place,.meaning,.explained,.back,.legend{color:var(--soft);font-size:.9em}.path{margin:0}
+p,li,td,th,.text{overflow-wrap:anywhere}th button{overflow-wrap:normal}caption{white-space:nowrap}.path,.place,.meaning,.explained,.back,.legend{color:var(--soft);font-size:.9em}.path{margin:0}
 pre{margin:.2em 0 .6em;padding:4px 8px;overflow-x:auto;background:var(--odd);border-left:3px solid var(--line);font-size:.85em}
 .fault strong,.noted,.clash h3{color:var(--wrong)}section{margin-bottom:1em}button,input{font:inherit}
 """
@@ -20,7 +20,7 @@ pre{margin:.2em 0 .6em;padding:4px 8px;overflow-x:auto;background:var(--odd);bor
 INDEX = """
 .totals{display:flex;flex-wrap:wrap;gap:8px 32px;align-items:flex-start}caption{text-align:left;font-weight:bold;padding:4px 0}
 table{border-collapse:collapse}td,th{padding:2px 8px;border-bottom:1px solid var(--line);text-align:left;font-weight:normal;vertical-align:top}
-.number{text-align:right;font-variant-numeric:tabular-nums}.wide{overflow:auto}#documents thead th{font-weight:bold;vertical-align:bottom}
+.number{text-align:right;font-variant-numeric:tabular-nums}.wide{overflow:auto}#documents thead th{font-weight:bold;vertical-align:bottom;overflow-wrap:normal}
 #documents tbody th{min-width:14em}#documents tbody tr:hover{background:var(--odd)}
 th button{background:none;border:0;padding:0;color:inherit;font-weight:bold;text-align:left;cursor:pointer;text-decoration:underline dotted}
 th[aria-sort=ascending] button::after{content:" \\2191"}th[aria-sort=descending] button::after{content:" \\2193"}
@@ -28,8 +28,9 @@ th[aria-sort=ascending] button::after{content:" \\2191"}th[aria-sort=descending]
 """
 
 MARKS = """
-.reading{display:grid;grid-template-columns:minmax(18em,2fr) minmax(0,3fr);gap:0 24px}.reading.alone{display:block}
-.text{position:relative;white-space:pre-wrap;max-width:48em;line-height:2;unicode-bidi:plaintext}
+.reading{display:grid;grid-template-columns:minmax(18em,2fr) minmax(0,3fr);gap:0 24px}.reading>*{min-width:0}
+.text{position:relative;white-space:pre-wrap;max-width:48em;line-height:2;padding-top:.5em;unicode-bidi:plaintext}
+.text.drawn{line-height:3.4;padding-top:2em}
 .picture{overflow:auto}.text,.picture{max-height:76vh;overflow:auto}
 @media (max-width: 60em){.reading{display:block}}
 .mark{color:inherit;text-decoration:none;unicode-bidi:isolate;padding:1px 2px;border-radius:2px}a.mark{cursor:pointer}

@@ -31,7 +31,8 @@ class WalkStep:
     second: int
     strict: bool
     reason: str
-    link: int | None = None
+    relation: str = ""
+    """The relation of its link, or by what else it goes."""
 
 
 def steps_in_words(wording: Wording, walk: Sequence[Step]) -> list[WalkStep]:
@@ -46,10 +47,10 @@ def steps_in_words(wording: Wording, walk: Sequence[Step]) -> list[WalkStep]:
 def step_in_words(wording: Wording, step: Step) -> WalkStep:
     """One step, by a link, by the calendar, or from the start of an interval to its end."""
     if step.kind == "span":
-        return WalkStep(2 * step.first, 2 * step.first + 1, True, "since it starts before it ends")
+        return WalkStep(2 * step.first, 2 * step.first + 1, True, "since an interval starts before it ends")
     if step.kind == "calendar":
         _, text = wording.calendar(step.first, step.second)
-        return WalkStep(step.first, step.second, not is_equal_end(wording, step.first, step.second), f"since {text}")
+        return WalkStep(step.first, step.second, not is_equal_end(wording, step.first, step.second), f"since {text}", "calendar")
     link = wording.link(step.first)
     orders = ORDERS.get(link.relation, ())
     if step.second >= len(orders):
@@ -57,9 +58,4 @@ def step_in_words(wording: Wording, step: Step) -> WalkStep:
     order = orders[step.second]
     numbers = {"A": wording.intervals.index(link.left), "B": wording.intervals.index(link.right)}
     first, second = (2 * numbers[point[0]] + int(point[1]) for point in (order[:2], order[3:]))
-    return WalkStep(first, second, order[2] == "<", f"since {wording.in_words(link)}", step.first)
-
-
-def point_in_words(wording: Wording, point: int) -> str:
-    """A point, by the text of its interval."""
-    return f"the {'end' if point % 2 else 'start'} of {wording.text_of(wording.intervals[point // 2])}"
+    return WalkStep(first, second, order[2] == "<", f"since {wording.in_words(link)}", link.relation)
