@@ -79,8 +79,8 @@ def report_file(program: Program, folder: str, found: Found, wanted: Wanted) -> 
     name = own_name(found.path, "html")
     try:
         text = page_of(examined)
-    except CannotRun as problem:
-        examined = lost(found, str(problem))
+    except (CannotRun, MemoryError) as problem:
+        examined = lost(found, str(problem) or "no memory to make its page")
         text = page_of(examined)
     write_page(os.path.join(folder, DOCUMENTS, name), text)
     return Reported(examined.report, entry_of(examined, name))

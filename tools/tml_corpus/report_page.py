@@ -101,7 +101,7 @@ def section(name: str, title: str, content: str) -> str:
 def source_part(lines: Iterable[str]) -> str:
     """Lines of the document as they are written, with a mark below; their columns stay."""
     shown = "\n".join("".join(" " if character.isspace() else character for character in line) for line in lines)
-    return f"<pre>{escaped(shown)}</pre>\n"
+    return f'<pre dir="ltr">{escaped(shown)}</pre>\n'
 
 
 def at(place: Place) -> str:

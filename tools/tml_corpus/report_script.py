@@ -109,11 +109,15 @@ const line = (words) => {
   return part;
 };
 const sentence = (link) => [...link.childNodes].filter((part) => part.nodeName !== "BUTTON").map((part) => part.textContent).join("").trim();
+const named = (word) => {
+  const words = [...word.childNodes].filter((part) => part.className !== "name").map((part) => part.textContent);
+  return `${words.join("")} (${word.dataset.intervals})`;
+};
 const tell = (word, only) => {
   const shown = only ? [only] : barsOf(word);
   const known = shown.flatMap((bar) => titles[bars.indexOf(bar)].filter((one) => !/ \\(link \\d+: [^)]*\\)$/.test(one) && one !== "no links"));
   const told = (ofWord.get(word.id) || []).map((link) => `link ${links.indexOf(link)}: ${sentence(link)}`);
-  panel.replaceChildren(...(known.length ? known : [word.textContent]).map(line), ...told.map(line));
+  panel.replaceChildren(...(known.length ? known : [named(word)]).map(line), ...told.map(line));
 };
 const show = (word, bar) => {
   clear();
@@ -127,6 +131,7 @@ const show = (word, bar) => {
 const keep = (word, bar) => {
   pinned = pinned === word ? null : word;
   show(word, bar);
+  draw();
 };
 const near = (one) => { if (one) one.scrollIntoView({ block: "nearest", inline: "nearest" }); };
 
@@ -158,6 +163,7 @@ document.addEventListener("keydown", (event) => {
   if (event.key !== "Escape") return;
   pinned = null;
   clear();
+  draw();
   panel.replaceChildren();
 });
 
@@ -181,10 +187,9 @@ const drawLink = (link, frame) => {
 };
 const draw = () => {
   arcs.replaceChildren();
-  text.classList.toggle("drawn", drawn.size > 0);
-  if (!drawn.size) return;
+  const ofPinned = pinned ? ofWord.get(pinned.id) || [] : [];
   const frame = text.getBoundingClientRect();
-  drawn.forEach((link) => drawLink(link, frame));
+  new Set([...drawn, ...ofPinned]).forEach((link) => drawLink(link, frame));
 };
 const button = (words, action) => {
   const made = document.createElement("button");

@@ -29,8 +29,7 @@ th[aria-sort=ascending] button::after{content:" \\2191"}th[aria-sort=descending]
 
 MARKS = """
 .reading{display:grid;grid-template-columns:minmax(18em,2fr) minmax(0,3fr);gap:0 24px}.reading>*{min-width:0}
-.text{position:relative;white-space:pre-wrap;max-width:48em;line-height:2;padding-top:.5em;unicode-bidi:plaintext}
-.text.drawn{line-height:3.4;padding-top:2em}
+.text{position:relative;white-space:pre-wrap;max-width:48em;line-height:2.5;padding-top:1em;unicode-bidi:plaintext}
 .picture{overflow:auto}.text,.picture{max-height:76vh;overflow:auto}
 @media (max-width: 60em){.reading{display:block}}
 .mark{color:inherit;text-decoration:none;unicode-bidi:isolate;padding:1px 2px;border-radius:2px}a.mark{cursor:pointer}
