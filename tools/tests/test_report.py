@@ -93,7 +93,7 @@ class Pages(ReportTest):
             ["corpus/clash.xml", "clash", "", "1", "0", "0", "0", "13", "13", "", "", ""],
             ["corpus/fault.xml", "fault", "10 MissingAttribute", *[""] * 9],
             ["corpus/fits.xml", "accepted", "", "0", "0", "0", "0", "13", "13", str(len(matrix)), str(decided), str(100 * decided // len(matrix))],
-            ["corpus/touching.xml", "dates that touch", "", "0", "1", "2", "1", "4", "1", "6", "2", "33"],
+            ["corpus/touching.xml", "dates that touch", "", "0", "1", "2", "1", "4", "1", "6", "1", "16"],
         ]
         self.assertEqual(self.rows(), rows)
 
@@ -168,17 +168,16 @@ class Pages(ReportTest):
 
     def test_the_same_again_and_no_folder_of_others(self):
         self.made({"a.xml": TOUCHING}, status=1)
-        names = [os.path.join(place, name) for place, _, names in os.walk(self.path("pages")) for name in names]
-        before = {name: open(name, "rb").read() for name in names}
+        names = [os.path.relpath(os.path.join(place, name), self.path("pages")) for place, _, names in os.walk(self.path("pages")) for name in names]
+        before = {name: self.text(name) for name in names}
         self.made({}, "--jobs", "1", status=1)
-        self.assertEqual({name: open(name, "rb").read() for name in names}, before)
+        self.assertEqual({name: self.text(name) for name in names}, before)
         self.write("other/index.html", "mine")
         status, lines, error = self.run_it("report", "corpus", "-o", "other")
         self.assertEqual((status, lines, os.listdir(self.path("other"))), (2, [], ["index.html"]))
         self.assertIn("other has files that are no report", error)
-        for target in ("corpus/a.xml", "corpus/a.xml/x", "\0"):
-            if target != "\0":
-                self.assertEqual(self.run_it("report", "corpus", "-o", target)[0], 2)
+        for target in ("corpus/a.xml", "corpus/a.xml/x"):
+            self.assertEqual(self.run_it("report", "corpus", "-o", target)[0], 2)
 
     def test_what_cannot_be_read(self):
         os.mkdir(self.path("corpus"))
