@@ -171,25 +171,29 @@ const arcs = document.createElementNS(SVG, "svg");
 const part = (name, attributes) => {
   const made = document.createElementNS(SVG, name);
   Object.entries(attributes).forEach(([key, value]) => made.setAttribute(key, value));
-  arcs.append(made);
   return made;
 };
-const drawLink = (link, frame) => {
-  const [left, right] = [byId(link.dataset.left), byId(link.dataset.right)];
-  if (!left || !right) return;
-  const [from, to] = [left, right].map((one) => one.getClientRects()[0]);
-  const [x, y] = [from.left + from.width / 2 - frame.left + text.scrollLeft, from.top - frame.top + text.scrollTop];
-  const [endX, endY] = [to.left + to.width / 2 - frame.left + text.scrollLeft, to.top - frame.top + text.scrollTop];
-  const height = Math.min(46, 12 + Math.abs(endX - x) / 8);
-  part("path", { d: `M${x} ${y}C${x} ${y - height} ${endX} ${endY - height} ${endX} ${endY}` });
-  part("path", { class: "head", d: `M${endX - 4} ${endY - 7}L${endX} ${endY}L${endX + 4} ${endY - 7}Z` });
-  part("text", { x: (x + endX) / 2, y: (y + endY) / 2 - 0.75 * height - 2 }).textContent = link.dataset.relation || "";
+const placeOf = (name, frame) => {
+  const box = byId(name).getClientRects()[0];
+  return [box.left + box.width / 2 - frame.left + text.scrollLeft, box.top - frame.top + text.scrollTop];
 };
+const drawLink = ([[x, y], [endX, endY]], relation) => {
+  const height = Math.min(46, 12 + Math.abs(endX - x) / 8);
+  const name = part("text", { x: (x + endX) / 2, y: (y + endY) / 2 - 0.75 * height - 2 });
+  name.textContent = relation;
+  return [
+    part("path", { d: `M${x} ${y}C${x} ${y - height} ${endX} ${endY - height} ${endX} ${endY}` }),
+    part("path", { class: "head", d: `M${endX - 4} ${endY - 7}L${endX} ${endY}L${endX + 4} ${endY - 7}Z` }),
+    name,
+  ];
+};
+// All places are asked for before anything is drawn: each question after a change lays the text out anew.
 const draw = () => {
-  arcs.replaceChildren();
   const ofPinned = pinned ? ofWord.get(pinned.id) || [] : [];
+  const wanted = [...new Set([...drawn, ...ofPinned])].filter((link) => byId(link.dataset.left) && byId(link.dataset.right));
   const frame = text.getBoundingClientRect();
-  new Set([...drawn, ...ofPinned]).forEach((link) => drawLink(link, frame));
+  const ends = wanted.map((link) => [placeOf(link.dataset.left, frame), placeOf(link.dataset.right, frame)]);
+  arcs.replaceChildren(...wanted.flatMap((link, place) => drawLink(ends[place], link.dataset.relation || "")));
 };
 const button = (words, action) => {
   const made = document.createElement("button");
