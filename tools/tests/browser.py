@@ -1,8 +1,10 @@
 """A browser for the tests of pages: headless Chromium, told over two pipes what to do. Nothing else is needed for it."""
 
 import base64
+import contextlib
 import json
 import os
+import select
 import shutil
 import subprocess
 import tempfile
@@ -12,6 +14,9 @@ CHROMIUM = next(filter(None, map(shutil.which, ("chromium", "chromium-browser", 
 needs_browser = unittest.skipUnless(CHROMIUM, "no program chromium")
 
 WORDS = ("--headless", "--no-sandbox", "--disable-gpu", "--disable-dev-shm-usage", "--no-first-run", "--disable-extensions", "--hide-scrollbars")
+PATIENCE = 60
+"""So many seconds the browser may say nothing where it is waited for."""
+
 IN_PIPES = 'exec "$@" 3<&0 4>&1 </dev/null >/dev/null 2>&1'
 
 
@@ -19,10 +24,10 @@ class Browser:
     """One browser with one page. What the page says on the console, and what the browser says of it, is in `said`."""
 
     def __init__(self, width=1400, height=900):
-        self.folder = tempfile.TemporaryDirectory()
+        self.folder = tempfile.TemporaryDirectory(ignore_cleanup_errors=True)
         program = [CHROMIUM, *WORDS, "--remote-debugging-pipe", f"--user-data-dir={self.folder.name}", f"--window-size={width},{height}", "about:blank"]
         self.child = subprocess.Popen(["sh", "-c", IN_PIPES, "sh", *program], stdin=subprocess.PIPE, stdout=subprocess.PIPE)
-        self.number, self.session, self.said, self.loaded = 0, None, [], False
+        self.number, self.session, self.said, self.loaded, self.received = 0, None, [], False, bytearray()
         [page] = [one for one in self.ask("Target.getTargets")["targetInfos"] if one["type"] == "page"][:1]
         self.session = self.ask("Target.attachToTarget", targetId=page["targetId"], flatten=True)["sessionId"]
         for domain in ("Page", "Runtime", "Log"):
@@ -33,10 +38,15 @@ class Browser:
 
     def __exit__(self, *error):
         self.session = None
-        self.send("Browser.close", {})
+        with contextlib.suppress(OSError):
+            self.send("Browser.close", {})
         self.child.stdin.close()
+        try:
+            self.child.wait(PATIENCE)
+        except subprocess.TimeoutExpired:
+            self.child.kill()
+            self.child.wait()
         self.child.stdout.close()
-        self.child.wait(30)
         self.folder.cleanup()
 
     def send(self, method, words):
@@ -48,13 +58,14 @@ class Browser:
 
     def receive(self):
         """The next message of the browser."""
-        message = bytearray()
-        while not message.endswith(b"\0"):
-            part = os.read(self.child.stdout.fileno(), 1)
+        while b"\0" not in self.received:
+            ready, _, _ = select.select([self.child.stdout], [], [], PATIENCE)
+            part = os.read(self.child.stdout.fileno(), 65536) if ready else b""
             if not part:
-                raise EOFError("the browser has ended")
-            message += part
-        return json.loads(message[:-1])
+                raise EOFError("the browser has ended, or says nothing")
+            self.received += part
+        message, _, self.received = self.received.partition(b"\0")
+        return json.loads(message)
 
     def ask(self, method, **words):
         """What the browser answers; events are noted on the way."""

@@ -183,7 +183,8 @@ class Pages(ReportTest):
         os.mkdir(self.path("corpus"))
         os.symlink("nowhere", self.path("corpus/a.xml"))
         lines = self.made({}, status=2)
-        self.assertEqual((lines[0], self.rows()[0][:2]), ("1 file: 0 accepted, 0 with a clash, 0 with a fault, 1 not judged", ["corpus/a.xml", "not judged"]))
+        self.assertEqual(lines[0], "corpus/a.xml: not judged: no such file or directory")
+        self.assertEqual((lines[1], self.rows()[0][:2]), ("1 file: 0 accepted, 0 with a clash, 0 with a fault, 1 not judged", ["corpus/a.xml", "not judged"]))
 
 
 class Strangers(ReportTest):
@@ -333,6 +334,25 @@ class InABrowser(ReportTest):
             light = browser.value(colours)
             browser.ask("Emulation.setEmulatedMedia", features=[{"name": "prefers-color-scheme", "value": "dark"}])
             self.assertEqual((light, browser.value(colours)), ("rgb(255, 255, 255) rgb(17, 17, 17)", "rgb(21, 24, 28) rgb(232, 232, 232)"))
+
+
+class Parts(unittest.TestCase):
+    def test_an_index_that_was_interrupted(self):
+        from tml_corpus.report_documents import Entry
+        from tml_corpus.report_index import index_of
+
+        entries = [Entry("a.xml", None, "not judged", "why")]
+        self.assertNotIn("Interrupted", index_of(entries, 1))
+        self.assertIn("Interrupted: 1 of 3 documents were looked at.", index_of(entries, 3))
+        self.assertIn("Report on 0 documents", index_of([], 0))
+
+    def test_readable_texts(self):
+        from tml_corpus.report_text import readable
+
+        rows = [("a\r\nb\rc\td", "a\nb\nc d"), ("\u202ea\u2066", "a"), ("\x1b[0m\x00", "\ufffd[0m\ufffd"), ("\u200cx\u200d", "\u200cx\u200d"), ("\ud800", "\ufffd")]
+        for text, shown in rows:
+            with self.subTest(text):
+                self.assertEqual(readable(text), shown)
 
 
 class Walks(unittest.TestCase):

@@ -541,7 +541,8 @@ def report_command(options: argparse.Namespace, stop: Interruption) -> int:
     def reported(one: report.Reported) -> str:
         summary.add(one.report)
         folder.entries.append(one.entry)
-        return ""
+        problem = one.report.judgement.problem
+        return f"{shown(one.entry.path)}: not judged: {shown(problem)}\n" if problem is not None else ""
 
     each(options, stop, found, partial(report.report_file, options.program, folder.path, wanted=wanted), report.ended, reported)
     folder.write_index(len(found))

@@ -49,11 +49,11 @@ class Folder:
             names = os.listdir(self.path)
             if names and not set(SHARED) <= set(names):
                 raise CannotRun(f"{self.path} has files that are no report: name a new folder, or one that has an earlier report")
+            for name, text in SHARED.items():
+                write_page(os.path.join(self.path, name), text)
             os.makedirs(os.path.join(self.path, DOCUMENTS), exist_ok=True)
         except (OSError, ValueError) as error:
             raise CannotRun(f"the folder {self.path} cannot be made: {reason(error)}") from None
-        for name, text in SHARED.items():
-            write_page(os.path.join(self.path, name), text)
 
     def write_index(self, expected: int) -> None:
         """Writes the index of the documents that were looked at."""
