@@ -123,9 +123,26 @@ def dense_overlaps() -> tuple[Links, Links]:
     return [(a, "OVERLAPS", b) for a, b in itertools.combinations(range(91), 2)], dense()[0][::-1]
 
 
+def in_layers(width: int, seed: int) -> Links:
+    """Layers of so many intervals, each of which lies during some of the next, and those of the last during some of the first."""
+    draw, layers = random.Random(seed), INTERVALS // width
+    last = layers * width
+    return [(one, "DURING", (one // width + 1) % layers * width + draw.randrange(width)) for one in range(last) for _ in range(4)]
+
+
+def layers_of_32() -> tuple[Links, Links]:
+    """Many links from layer to layer, in a ring; and so that all intervals are one."""
+    return in_layers(32, 46), chain("SIMULTANEOUS", range(INTERVALS - 1))
+
+
+def layers_of_3() -> tuple[Links, Links]:
+    """The same of narrow layers, with the links in no order."""
+    return shuffled(in_layers(3, 47), 48), chain("SIMULTANEOUS", range(INTERVALS - 1))
+
+
 DOCUMENTS: Sequence[Callable[[], tuple[Links, Links]]] = (
     some_of_many, many_of_many, chain_in_order, chain_in_reverse, chain_shuffled, ring_of_simultaneous, ring_of_during, all_simultaneous,
-    dense, dense_shuffled, dense_overlaps,
+    layers_of_32, layers_of_3, dense, dense_shuffled, dense_overlaps,
 )
 
 

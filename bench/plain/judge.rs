@@ -10,6 +10,7 @@ use crate::names::Index;
 use crate::orders;
 use crate::print::{push_all, push_number};
 use crate::profile::{Rule, Tag, MOST_FIELDS};
+use crate::seconds;
 use crate::units::{cut, is, Attribute, Piece, Unit, Visitor, SPACE};
 use crate::values::date;
 use crate::{Fault, Kind};
@@ -272,6 +273,13 @@ pub fn possible(document: &[u8], first: &OsStr, second: &OsStr) -> Result<Vec<u8
 pub fn reduce(document: &[u8]) -> Result<Vec<u8>, Fault> {
     let judge = judged(document)?;
     let found = (!judge.has_dates).then(|| links::reduce(&judge)).flatten();
+    Ok(found.unwrap_or_default())
+}
+
+/// A placing in seconds; none of a document with dates or a clash. Lengths of durations are not looked at.
+pub fn seconds(document: &[u8]) -> Result<Vec<u8>, Fault> {
+    let judge = judged(document)?;
+    let found = (!judge.has_dates).then(|| seconds::seconds(&judge)).flatten();
     Ok(found.unwrap_or_default())
 }
 

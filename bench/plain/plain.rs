@@ -1,7 +1,8 @@
 //! The commands `check DOC`, `spans DOC` and `canon DOC` of `tml`, written by hand: ordinary Rust that cares for speed,
-//! without proofs, to measure what these cost; and `matrix DOC`, `possible DOC X Y`, `reduce DOC` and `score DOC KEY` of
-//! documents without dates and clashes. It prints the same bytes and ends with the same status. The rules are those of
-//! docs/DEFINITIONS.md. bench/beside.py, bench/matrix.py and bench/reduce.py build and run it.
+//! without proofs, to measure what these cost; and `matrix DOC`, `possible DOC X Y`, `reduce DOC`, `score DOC KEY` and
+//! `seconds DOC` of documents without dates and clashes. It prints the same bytes and ends with the same status, but for
+//! which placing `seconds` prints. The rules are those of
+//! docs/DEFINITIONS.md. bench/beside.py, bench/matrix.py, bench/reduce.py and bench/seconds.py build and run it.
 //!
 //! rustc compiles the modules apart, so what runs for each unit or each name is marked `#[inline]`: without that the
 //! program is slower.
@@ -15,6 +16,7 @@ mod names;
 mod orders;
 mod print;
 mod profile;
+mod seconds;
 mod spans;
 mod units;
 mod values;
@@ -57,8 +59,8 @@ fn read(name: &OsStr) -> io::Result<Vec<u8>> {
 }
 
 const USAGE: &[u8] = b"usage:\nplain spans DOC\nplain check DOC\nplain canon DOC\nplain matrix DOC\nplain possible DOC X Y\n\
-    plain reduce DOC\nplain score DOC KEY\n";
-const PERHAPS_NOT_DONE: [&str; 4] = ["matrix", "possible", "reduce", "score"];
+    plain reduce DOC\nplain score DOC KEY\nplain seconds DOC\n";
+const PERHAPS_NOT_DONE: [&str; 5] = ["matrix", "possible", "reduce", "score", "seconds"];
 
 /// The status and the text of a run.
 fn answer(words: &[OsString]) -> (u8, Vec<u8>) {
@@ -70,6 +72,7 @@ fn answer(words: &[OsString]) -> (u8, Vec<u8>) {
         [word, name] if word == "canon" => (&canon::canon, name),
         [word, name] if word == "matrix" => (&judge::matrix, name),
         [word, name] if word == "reduce" => (&judge::reduce, name),
+        [word, name] if word == "seconds" => (&judge::seconds, name),
         [word, name, key] if word == "score" => (&move |document: &[u8]| judge::score(document, &read(key).unwrap_or_default()), name),
         [word, name, first, second] if word == "possible" => (&move |document: &[u8]| judge::possible(document, first, second), name),
         _ => return usage,

@@ -1,7 +1,7 @@
 # Completion for tml and its companions in bash: `. tools/completion/tml.bash`, or let an installed package load it.
 # Where a file is asked for, nothing is offered here, and readline offers the names of files.
 
-_tml_commands=(spans check dates solve ask relations canon verify drill renew join possible matrix reduce score)
+_tml_commands=(spans check dates solve ask relations canon verify drill renew join possible matrix reduce score seconds confirm)
 _tml_relations=(
     BEFORE AFTER INCLUDES IS_INCLUDED DURING DURING_INV SIMULTANEOUS IDENTITY
     IBEFORE IAFTER BEGINS BEGUN_BY ENDS ENDED_BY OVERLAPS OVERLAPPED_BY
@@ -54,7 +54,7 @@ _tml() {
         *:1) _tml_offer "${_tml_commands[@]}" ;;
         ask:[35] | possible:[34]) _tml_offer_intervals "${COMP_WORDS[2]}" ;;
         ask:4) _tml_offer "${_tml_relations[@]}" ;;
-        spans:2 | check:2 | dates:2 | solve:2 | ask:2 | relations:2 | canon:2 | verify:[23] | renew:2 | join:[23] | possible:2 | matrix:2 | reduce:2 | score:[23]) ;;
+        spans:2 | check:2 | dates:2 | solve:2 | ask:2 | relations:2 | canon:2 | verify:[23] | renew:2 | join:[23] | possible:2 | matrix:2 | reduce:2 | score:[23] | seconds:2 | confirm:[23]) ;;
         *) _tml_offer ;;
     esac
 }
@@ -76,17 +76,18 @@ _tml_corpus() {
         fix) options+=(--diff --write --glob --config --tml --jobs) ;;
         tags) options+=(--glob --config --tml --jobs) ;;
         clashes) options+=(--evidence --repair "${shared[@]}") ;;
-        timeline) options+=(--output -o --touching --config --tml) ;;
-        matrix) options+=(--format --touching --config --tml) ;;
+        timeline) options+=(--output -o --touching --seconds --config --tml) ;;
+        matrix | seconds) options+=(--format --touching --config --tml) ;;
         open) options+=(--limit --pairs --touching --config --tml --jobs) ;;
         agree) options+=(--links --format --touching --glob --config --tml --jobs --cluster) ;;
         report) options+=(--output -o --more --glob --config --tml --jobs) ;;
     esac
     case ${COMP_WORDS[COMP_CWORD - 1]}:$COMP_CWORD:${COMP_WORDS[COMP_CWORD]} in
-        *:1:*) _tml_offer check fix tags clashes timeline matrix open agree report --help ;;
+        *:1:*) _tml_offer check fix tags clashes timeline matrix seconds open agree report --help ;;
         --format:*)
             case ${COMP_WORDS[1]} in
                 matrix) _tml_offer text csv html ;;
+                seconds) _tml_offer text json csv ics ;;
                 agree) _tml_offer text json csv ;;
                 *) _tml_offer text json junit github ;;
             esac

@@ -60,11 +60,11 @@ class Case:
         match self.words:
             case ():
                 return [STANDARD_INPUT]
-            case (b"spans" | b"check" | b"dates" | b"solve" | b"relations" | b"canon" | b"matrix" | b"reduce", name):
+            case (b"spans" | b"check" | b"dates" | b"solve" | b"relations" | b"canon" | b"matrix" | b"reduce" | b"seconds", name):
                 return [name]
             case (b"ask", name, _, _, _) | (b"possible", name, _, _):
                 return [name]
-            case (b"verify" | b"join" | b"score", name, other):
+            case (b"verify" | b"join" | b"score" | b"confirm", name, other):
                 return [name, other]
             case (b"renew", name):
                 return [name]

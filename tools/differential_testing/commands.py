@@ -21,6 +21,11 @@ from differential_testing.trying import Difference, Trial, batches, said_of
 LONG = 2000
 REDUCING_SECONDS = 8.0
 SHOWN = 20
+SUBJECTS = {
+    "evidence": "evidence that was written and damaged, for verify, renew and join",
+    "links": "links that follow from others, for reduce and score",
+    "placings": "placings in whole seconds and cycles, for seconds and confirm",
+}
 
 
 def parsed(words: Sequence[str]) -> argparse.Namespace:
@@ -34,8 +39,8 @@ def parsed(words: Sequence[str]) -> argparse.Namespace:
     parser.add_argument("seed", type=int, nargs="?", default=1, help="what decides the cases (1); their number depends on time alone")
     parser.add_argument("--count", type=int, help="end after so many cases, in place of so many seconds")
     about = parser.add_mutually_exclusive_group()
-    about.add_argument("--evidence", action="store_true", help="only evidence that was written and damaged, for verify, renew and join")
-    about.add_argument("--links", action="store_true", help="only links that follow from others, for reduce and score")
+    for subject, said_of_it in SUBJECTS.items():
+        about.add_argument(f"--{subject}", dest="about", action="store_const", const=subject, help=f"only {said_of_it}")
     parser.add_argument("--processes", action="store_true", help="a process for each case, and no tables")
     parser.add_argument("--keep", type=Path, help="the folder for differences (a new one)")
     parser.add_argument("--small", type=int, default=3, metavar="N", help="how many differences are reduced at once (3)")
@@ -84,7 +89,7 @@ def reduce_kept(trial: Trial, folder: Path) -> int:
 def go_on(trial: Trial, given: argparse.Namespace) -> None:
     """Tries batch after batch until the time is over or there are cases enough."""
     late = time.monotonic() + given.seconds
-    for number, batch in enumerate(batches(trial, given.evidence, given.links)):
+    for number, batch in enumerate(batches(trial, given.about)):
         if trial.tally.cases >= given.count if given.count is not None else time.monotonic() >= late:
             return
         batch(Random(f"{given.seed}/{number}"))

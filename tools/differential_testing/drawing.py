@@ -7,6 +7,7 @@ from collections.abc import Callable, Sequence
 from dataclasses import dataclass, replace
 from random import Random
 
+from differential_testing import placings
 from differential_testing.cases import DOCUMENT_LIMIT, EVIDENCE_LIMIT, STANDARD_INPUT, Case
 from differential_testing.chances import chance
 from differential_testing.devices import draw_memory, draw_real, with_memory
@@ -14,9 +15,10 @@ from differential_testing.documents import document_of, draw_document, draw_pair
 from differential_testing.evidence import draw_claims, draw_damaged, draw_invented, older_text
 from differential_testing.faulty import draw_faulty
 from differential_testing.hostile import draw_hostile
+from differential_testing.lengths import draw_timed_net
 from differential_testing.mutated import draw_mutated, draw_noise
 from differential_testing.nets import Net, draw_net, draw_other_links
-from differential_testing.words import DOCUMENT, EVIDENCE, KEY, SECOND, draw_ask, draw_question, draw_words
+from differential_testing.words import DOCUMENT, EVIDENCE, KEY, SECOND, SECONDS, draw_ask, draw_question, draw_words
 
 
 @dataclass(frozen=True)
@@ -49,15 +51,15 @@ def draw_right(random: Random) -> Case:
 
 
 def draw_canonical(random: Random) -> Case:
-    """The canonical text, the dates, the relations, the matrix or the reduced links of a document without a fault."""
-    command = random.choice((b"canon", b"dates", b"dates", b"relations", b"matrix", b"reduce"))
+    """The canonical text, the dates, the relations, the matrix, the reduced links or the seconds of a document without a fault."""
+    command = random.choice((b"canon", b"dates", b"dates", b"relations", b"matrix", b"reduce", b"seconds"))
     return Case("right", (command, DOCUMENT), {DOCUMENT: draw_document(random)})
 
 
 def draw_wrong(random: Random) -> Case:
     """A question about a document with a fault that was made."""
     document = draw_faulty(random, draw_document(random))
-    command = random.choice((b"check", b"check", b"check", b"solve", b"spans", b"canon", b"matrix", b"reduce"))
+    command = random.choice((b"check", b"check", b"check", b"solve", b"spans", b"canon", b"matrix", b"reduce", b"seconds"))
     return redirected(random, Case("faulty", (command, DOCUMENT), {DOCUMENT: document}))
 
 
@@ -90,6 +92,17 @@ def draw_scored(random: Random) -> Case:
     return redirected(random, Case("scored", words, files))
 
 
+def draw_timed(random: Random) -> Case:
+    """A question to `seconds` about dates and durations, or to `confirm` about the hidden placing, some seconds of which may be moved."""
+    net = draw_timed_net(random)
+    document = document_of(random, net)
+    if chance(random, 0.8):
+        return redirected(random, Case("timed", (b"seconds", DOCUMENT), {DOCUMENT: document}))
+    text = placings.placing_of(net.hidden)
+    text = placings.draw_damaged(random, text) if chance(random, 0.5) else text
+    return redirected(random, Case("timed", (b"confirm", DOCUMENT, SECONDS), {DOCUMENT: document, SECONDS: text}))
+
+
 def draw_hard(random: Random) -> Case:
     """A question about a hostile document."""
     return of_document(random, "hostile", draw_hostile(random))
@@ -102,7 +115,7 @@ def draw_long(random: Random) -> Case:
     more = random.choice((-1, 0, 1, 2))
     if chance(random, 0.3):
         commands = ((b"verify", DOCUMENT, EVIDENCE), (b"renew", EVIDENCE), (b"join", EVIDENCE, SECOND), (b"join", SECOND, EVIDENCE))
-        words = random.choice(commands)
+        words = random.choice((*commands, (b"confirm", DOCUMENT, EVIDENCE)))
         files = {DOCUMENT: b"<TimeML/>", EVIDENCE: fill * (EVIDENCE_LIMIT + more), SECOND: b"tml-evidence 1\ntimeline 0\nend\n"}
         return redirected(random, Case("long", words, {name: content for name, content in files.items() if name in words}))
     document = before + fill * (DOCUMENT_LIMIT + more - len(before + after)) + after
@@ -113,6 +126,7 @@ def draw_worded(random: Random) -> Case:
     """Words of any kind."""
     document = draw_document(random)
     files = {DOCUMENT: document, EVIDENCE: draw_invented(random, 3), SECOND: draw_invented(random, 1), STANDARD_INPUT: draw_noise(random)}
+    files[SECONDS] = placings.draw_invented(random, 3)
     return Case("words", draw_words(random, document), files)
 
 
@@ -123,6 +137,7 @@ SUBJECTS: Sequence[tuple[float, Callable[[Random], Case]]] = (
     (20, draw_mutation),
     (6, draw_reducing),
     (10, draw_scored),
+    (10, draw_timed),
     (6, draw_hard),
     (6, draw_worded),
     (0.1, draw_long),
@@ -202,6 +217,26 @@ def draw_joining(random: Random, written: Sequence[Written]) -> Case:
 def draw_of_evidence(random: Random, written: Sequence[Written]) -> Case:
     """A question to `verify`, `renew` or `join`."""
     return draw_joining(random, written) if chance(random, 0.25) else draw_verifying(random, written)
+
+
+def draw_placing(random: Random) -> Case:
+    """A question to `seconds` about a small document of dates and durations."""
+    net = draw_timed_net(random, random.choice((1, 2, 2, 3, 3, 4, 5)))
+    return Case("placing", (b"seconds", DOCUMENT), {DOCUMENT: document_of(random, net)})
+
+
+def draw_confirming(random: Random, written: Sequence[Written]) -> Case:
+    """A question to `confirm`: a placing or a cycle that was written, mostly damaged, of the document or of another one."""
+    one = random.choice(written)
+    document = one.document if chance(random, 0.93) else random.choice(written).document
+    if chance(random, 0.05):
+        text = placings.draw_invented(random, len(re.findall(rb"\s(?:eiid|tid)\s*=", document)))
+    else:
+        text = one.text if chance(random, 0.1) else placings.draw_damaged(random, one.text)
+    if chance(random, 0.02):
+        document = draw_faulty(random, document)
+    case = redirected(random, Case("confirming", (b"confirm", DOCUMENT, SECONDS), {DOCUMENT: document, SECONDS: text}))
+    return with_devices(random, case, 0.05)
 
 
 def with_devices(random: Random, case: Case, share: float) -> Case:

@@ -62,7 +62,12 @@ def draw_net(random: Random, size: int | None = None) -> Net:
     count = draw_size(random) if size is None else size
     share = random.choice((0.0, 0.2, 0.5, 0.5, 0.9))
     times = tuple(draw_time(random, near=chance(random, 0.8)) if chance(random, share) else None for _ in range(count))
-    hidden = draw_hidden(random, times)
+    return with_links(random, times, draw_hidden(random, times))
+
+
+def with_links(random: Random, times: tuple[Time | None, ...], hidden: tuple[tuple[int, int], ...]) -> Net:
+    """A net of these times with links that are drawn: mostly such as hold in the hidden timeline."""
+    count = len(times)
     way = random.choice(WAYS)
     number = random.randrange(count * 2 + 1) if count else 0
     if way == "ring" and count > 1:

@@ -16,7 +16,16 @@ from differential_testing.cases import Case
 from differential_testing.chances import chance
 from differential_testing.comparing import complaint
 from differential_testing.documents import draw_document
-from differential_testing.drawing import Written, draw_case, draw_of_evidence, draw_reducing, draw_scored, draw_writing
+from differential_testing.drawing import (
+    Written,
+    draw_case,
+    draw_confirming,
+    draw_of_evidence,
+    draw_placing,
+    draw_reducing,
+    draw_scored,
+    draw_writing,
+)
 from differential_testing.programs import Programs
 from differential_testing.rows import Rows, is_for_rows
 from differential_testing.words import DOCUMENT
@@ -117,6 +126,13 @@ class Trial:
         if written:
             self.try_all([draw_of_evidence(random, written) for _ in range(OF_EVIDENCE)], random)
 
+    def placings(self, random: Random) -> None:
+        """Tries a batch of placings and cycles: lets the program write some, and damages them."""
+        done = self.try_all([draw_placing(random) for _ in range(WRITINGS)], random)
+        written = [Written(case.files[DOCUMENT], outcome.text) for case, outcome in done if outcome.status in (0, 2) and outcome.text]
+        if written:
+            self.try_all([draw_confirming(random, written) for _ in range(OF_EVIDENCE)], random)
+
     def links(self, random: Random) -> None:
         """Tries a batch of documents of which links follow from others, and of pairs of documents."""
         self.try_all([draw_scored(random) if chance(random, 0.6) else draw_reducing(random) for _ in range(CASES)], random)
@@ -149,7 +165,8 @@ def said_of_all(case: Case, outcome: Outcome, others: Sequence[tuple[Case, Outco
         return f"A referee failed: {error!r}"
 
 
-def batches(trial: Trial, evidence_only: bool, links_only: bool) -> Iterator[Callable[[Random], None]]:
-    """What each batch does: one of four is evidence, or all are, and one of four is answers that are to agree; or all are about links."""
-    ordinary = (trial.ordinary, trial.ordinary, trial.evidence, trial.agreement)
-    yield from itertools.cycle((trial.evidence,) if evidence_only else (trial.links,) if links_only else ordinary)
+def batches(trial: Trial, about: str | None) -> Iterator[Callable[[Random], None]]:
+    """What each batch does: one of five is evidence, one is placings and one is answers that are to agree; or all are about one subject."""
+    ordinary = (trial.ordinary, trial.ordinary, trial.evidence, trial.placings, trial.agreement)
+    alone = {"evidence": trial.evidence, "links": trial.links, "placings": trial.placings}
+    yield from itertools.cycle((alone[about],) if about else ordinary)

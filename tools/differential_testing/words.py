@@ -8,7 +8,7 @@ from random import Random
 from differential_testing.chances import chance
 from differential_testing.nets import INVERSES, RELATIONS
 
-ONE_FILE = (b"spans", b"check", b"dates", b"solve", b"relations", b"canon", b"matrix", b"reduce")
+ONE_FILE = (b"spans", b"check", b"dates", b"solve", b"relations", b"canon", b"matrix", b"reduce", b"seconds")
 NAME = re.compile(rb"""\s(?:eiid|tid)\s*=\s*["']([\w.-]{1,64})["']""", re.ASCII)
 LINK = re.compile(rb"<TLINK\b[^<>]*>")
 ENDS = tuple(
@@ -20,7 +20,7 @@ WEAKER = {
     b"ENDED_BY": (b"DURING_INV",),
 }  # fmt: skip
 OTHER_NAME = re.compile(rb"""\s(?:eid|sid|lid|value)\s*=\s*["']([^"'<]{1,64})["']""")
-DOCUMENT, EVIDENCE, SECOND, KEY = b"d.xml", b"e", b"f", b"k.xml"
+DOCUMENT, EVIDENCE, SECOND, KEY, SECONDS = b"d.xml", b"e", b"f", b"k.xml", b"s"
 DRILLS = (
     "0", "1", "2", "3", "5", "8", "17", "00", "01", "002", "1025", "2000", "10240", "-1", "+1", " 1", "1 ", "1.0", "1e1", "0x1", "\u0661",
     "4294967297", "4294967296",
@@ -42,6 +42,8 @@ STRANGE = (
     (b"possible",), (b"possibles", DOCUMENT, b"a", b"b"), (b"matrix",), (b"matrix", DOCUMENT, b""), (b"matrix", b"a", DOCUMENT),
     (b"Matrix", DOCUMENT), (b"reduce",), (b"reduce", DOCUMENT, b""), (b"Reduce", DOCUMENT), (b"reduced", DOCUMENT), (b"score",),
     (b"score", DOCUMENT), (b"score", DOCUMENT, KEY, KEY), (b"scores", DOCUMENT, KEY), (b"score", b"--", DOCUMENT, KEY),
+    (b"seconds",), (b"seconds", DOCUMENT, b""), (b"Seconds", DOCUMENT), (b"second", DOCUMENT), (b"confirm",), (b"confirm", DOCUMENT),
+    (b"confirm", DOCUMENT, SECONDS, SECONDS), (b"confirms", DOCUMENT, SECONDS), (b"confirm", b"--", DOCUMENT, SECONDS),
 )  # fmt: skip
 NOT_UTF8 = ((b"\xff",), (b"check", b"\xff"), (b"\xc3", DOCUMENT), (b"ask", DOCUMENT, b"a", b"\xe9", b"b"), (b"drill", b"1\x80"))
 MISSING = (b"none", b"d", b"d.xml ", b"D.XML", b"", b"./none", b"a/b", b"--", b"n" * 300, b"\xc3\xa9", b"d.xml/x")
@@ -102,5 +104,5 @@ def draw_words(random: Random, document: bytes) -> tuple[bytes, ...]:
     if kind == "missing":
         question = draw_question(random, document)
         return question[0], random.choice(MISSING), *question[2:]
-    command, count = random.choice(((b"verify", 2), (b"join", 2), (b"renew", 1), (b"score", 2)))
-    return (command, *(random.choice((DOCUMENT, EVIDENCE, SECOND, b"none", b"-")) for _ in range(count)))
+    command, count = random.choice(((b"verify", 2), (b"join", 2), (b"renew", 1), (b"score", 2), (b"confirm", 2)))
+    return (command, *(random.choice((DOCUMENT, EVIDENCE, SECOND, SECONDS, b"none", b"-")) for _ in range(count)))

@@ -15,10 +15,12 @@ from .drill import drill_text
 from .evidence import Claims, Clash, Counterexample, Entailment, Evidence, Timeline, read_claims, text_of_claims, timeline_lines
 from .faults import Fault
 from .nets import Net
+from .placings import Placing, place, timed_of
 from .possible import least_of_each, possible_rows
 from .reduced import reduced, scores_of
 from .references import Document
 from .relations import RELATIONS, orders_of
+from .seconds import HEAD, read_seconds, why_refused, wrong_seconds
 from .timelines import all_links, entailed_rows, false_timeline, is_minimal_clash, least_timeline
 from .units import cut, longest_utf8, source_fault, table_of
 
@@ -42,6 +44,8 @@ FORMS = (
     "matrix DOC",
     "reduce DOC",
     "score DOC KEY",
+    "seconds DOC",
+    "confirm DOC SECONDS",
 )
 DRILLS = {b"%d" % number: number for number in range(1, 1025)}
 
@@ -70,11 +74,24 @@ class Outcome:
 
 
 @dataclass(frozen=True)
+class Form:
+    """The texts of a kind: how those begin that are printed, and what a text says, or its bad line."""
+
+    head: bytes
+    read: Callable[[bytes], object]
+
+
+OF_CLAIM = Form(b"tml-evidence 2\nclaims 1\n", read_claims)
+OF_SECONDS = Form(HEAD, read_seconds)
+
+
+@dataclass(frozen=True)
 class Free:
-    """An outcome whose text is free: its status, and what is wrong with a text, if something is."""
+    """An outcome whose text is free: its status, what is wrong with a text, if something is, and of which kind the text is."""
 
     status: int
     complaint: Callable[[bytes], str | None] = field(compare=False)
+    form: Form = OF_CLAIM
 
     def is_right(self, text: bytes) -> bool:
         """Whether it may be the text."""
@@ -277,6 +294,25 @@ def score(accepted: Accepted, source: bytes) -> Answer:
     return done(lines(*scores_of(accepted.document, key.document).lines()))
 
 
+def seconds(accepted: Accepted) -> Free:
+    """`seconds DOC`: a placing in whole seconds, or a negative cycle; which one is free."""
+    timed = timed_of(accepted.document)
+    has_placing = isinstance(place(timed), Placing)
+    status = Status.DONE if has_placing else Status.CLASH
+    return Free(status, functools.partial(wrong_seconds, timed, has_placing), OF_SECONDS)
+
+
+def confirm(accepted: Accepted, text: bytes) -> Outcome:
+    """`confirm DOC SECONDS`: what is confirmed, the bad line, or the first reason to refuse it."""
+    evidence = read_seconds(text)
+    if isinstance(evidence, int):
+        return Outcome(Status.EVIDENCE_FAULT, b"evidence line %d\n" % evidence)
+    refused = why_refused(timed_of(accepted.document), evidence)
+    if refused:
+        return Outcome(Status.EVIDENCE_FAULT, b"seconds %s\n" % refused.text())
+    return done(b"confirmed placing\n" if isinstance(evidence, Placing) else b"confirmed cycle\n")
+
+
 def claims_of(text: bytes, word: bytes) -> Claims | Outcome:
     """The claims of a text; or the reply where it has none, with the word that stands before its bad line."""
     claims = read_claims(text)
@@ -344,6 +380,7 @@ ABOUT_DOCUMENTS: Mapping[bytes, Callable[[Accepted], Answer]] = {
     b"canon": canon,
     b"matrix": matrix,
     b"reduce": reduce,
+    b"seconds": seconds,
 }
 
 
@@ -359,11 +396,11 @@ def files_of(words: Sequence[bytes]) -> list[bytes] | None:
     match list(words):
         case []:
             return [b"-"]
-        case [b"spans" | b"check" | b"dates" | b"solve" | b"relations" | b"canon" | b"matrix" | b"reduce", name]:
+        case [b"spans" | b"check" | b"dates" | b"solve" | b"relations" | b"canon" | b"matrix" | b"reduce" | b"seconds", name]:
             return [name]
         case [b"ask", name, _, _, _] | [b"possible", name, _, _]:
             return [name]
-        case [b"verify" | b"join" | b"score", name, other]:
+        case [b"verify" | b"join" | b"score" | b"confirm", name, other]:
             return [name, other]
         case [b"renew", name]:
             return [name]
@@ -389,6 +426,9 @@ def about_document(words: Sequence[bytes], accepted: Accepted, files: Files) -> 
     if words[0] == b"score":
         source = read(after_reading(words[1], files), words[2], LONGEST_DOCUMENT, b"KEY")
         return source if isinstance(source, Outcome) else score(accepted, source)
+    if words[0] == b"confirm":
+        text = read(after_reading(words[1], files), words[2], LONGEST_EVIDENCE, b"SECONDS")
+        return text if isinstance(text, Outcome) else confirm(accepted, text)
     return ABOUT_DOCUMENTS[words[0]](accepted)
 
 

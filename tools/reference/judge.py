@@ -5,10 +5,6 @@ from __future__ import annotations
 from collections.abc import Sequence
 
 from .answers import READ_FAULT, Answer, Files, Free, Outcome, Status, answer, files_of
-from .evidence import read_claims
-
-HEAD = b"tml-evidence 2\nclaims 1\n"
-"""With these lines all evidence begins that is printed."""
 
 
 def expected(words: Sequence[bytes], files: Files) -> Outcome | Free:
@@ -79,9 +75,10 @@ def wrong_prefix(wanted: Answer, text: bytes) -> str | None:
         cut_off = len(text) < len(wanted.text) and wanted.text.startswith(text)
         return None if cut_off else f"The text {quoted(text)} is not cut off from {quoted(wanted.text)}."
     whole_lines = text[: text.rfind(b"\n") + 1]
-    if not HEAD.startswith(whole_lines[: len(HEAD)]):
-        return f"The text {quoted(text)} does not begin as that of one claim, of version 2."
-    bad = read_claims(whole_lines)
+    head = wanted.form.head
+    if not head.startswith(whole_lines[: len(head)]):
+        return f"The text {quoted(text)} does not begin with {quoted(head)}."
+    bad = wanted.form.read(whole_lines)
     if not isinstance(bad, int):
         return f"The text {quoted(text)} is whole, and was not cut off."
     return None if bad == whole_lines.count(b"\n") + 1 else f"The text {quoted(text)} begins the text of no evidence: line {bad} is bad."

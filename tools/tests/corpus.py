@@ -29,6 +29,7 @@ def forms():
 
 
 needs_matrix = unittest.skipUnless("tml matrix DOC" in forms(), f"no program {TML} that has the commands possible and matrix")
+needs_seconds = unittest.skipUnless("tml seconds DOC" in forms(), f"no program {TML} that has the commands seconds and confirm")
 needs_score = unittest.skipUnless("tml score DOC KEY" in forms(), f"no program {TML} that has the commands reduce and score")
 
 

@@ -123,6 +123,21 @@ KEYS = {
     "a fault of names": FAULTY["UnknownReference"],
 }
 """The second documents of `score`."""
+LENGTHS = (
+    '<TIMEX3 tid="d" type="DATE" value="1998-01-08"/><TIMEX3 tid="p" type="DURATION" value="P1D"/>'
+    '<TLINK timeID="p" relatedToTime="d" relType="%s"/>'
+)
+TIMED = {"placing": document(LENGTHS % "DURING"), "cycle": document(LENGTHS % "IS_INCLUDED")}
+"""Documents of a duration, which has a placing and none."""
+SECONDS = {
+    "placing": b"placing 2\nat 884217600 884304000\nat 884217600 884304000\n",
+    "length": b"placing 2\nat 884217600 884304000\nat 884217600 884303999\n",
+    "size": b"placing 1\nat -1 0\n",
+    "cycle": b"cycle 5\nupper 1\nvia 0 1\nleast 1\nvia 0 0\nlower 0\n",
+    "step": b"cycle 2\nspan 1\nmost 0\n",
+    "bad number": b"placing 1\nat -0 1\n",
+}
+"""Placings and cycles, for `confirm`."""
 OTHERS = b"at 0 1\nat 1 2\nat 0 1\n"
 CLASH = b"clash 3\ncite 0\ncite 1\ncite 2\nwalk 6\nvia 0 0\nspan 1\nvia 1 0\nspan 2\nvia 2 0\nspan 0\n"
 SPARES = (b"at 4 5\nat 0 1\nat 2 3\n", b"at 2 3\nat 4 5\nat 0 1\n", b"at 0 1\nat 2 3\nat 4 5\n")
@@ -166,7 +181,7 @@ OF_EVIDENCE = (
 def runs() -> Iterator[Case]:
     """Runs that take every path: each command over each document, each fault, each kind of evidence, and words of no form."""
     for name, content in DOCUMENTS.items():
-        for command in (b"spans", b"check", b"dates", b"solve", b"relations", b"canon", b"matrix", b"reduce"):
+        for command in (b"spans", b"check", b"dates", b"solve", b"relations", b"canon", b"matrix", b"reduce", b"seconds"):
             yield Case(f"{command.decode()}, {name}", (command, b"d"), {b"d": content})
     for name, content in FAULTY.items():
         yield Case(f"check, {name}", (b"check", b"-"), {b"-": content})
@@ -181,6 +196,10 @@ def runs() -> Iterator[Case]:
             yield Case(f"possible {pair}, {name}", (b"possible", b"d", *pair.encode().split(b" ")), {b"d": DOCUMENTS[name]})
     for (name, content), of in itertools.product(KEYS.items(), ("fits", "redundant", "clash")):
         yield Case(f"score, {of}, with the key {name}", (b"score", b"d", b"k"), {b"d": DOCUMENTS[of], b"k": content})
+    for (of, content), (name, text) in itertools.product(TIMED.items(), SECONDS.items()):
+        yield Case(f"confirm, {name}, {of}", (b"confirm", b"d", b"s"), {b"d": content, b"s": b"tml-seconds 1\n" + text + b"end\n"})
+    for name, content in TIMED.items():
+        yield Case(f"seconds, {name}", (b"seconds", b"d"), {b"d": content})
     for name, text in EVIDENCE.items():
         yield verifying(name, "fits", text)
     for name, text in CLASHES.items():
@@ -193,7 +212,7 @@ def runs() -> Iterator[Case]:
     yield Case("no words", (), {b"-": DOCUMENTS["units"]})
     yield Case("no form", (b"check", b"d", b"e"))
     yield Case("read fault", (b"check", b"none"))
-    for command in (b"verify", b"score"):
+    for command in (b"verify", b"score", b"confirm"):
         yield Case(f"{command.decode()}, nothing second", (command, b"d", b"none"), {b"d": DOCUMENTS["fits"]})
 
 

@@ -34,6 +34,7 @@ COMMANDS = (
     "tml-corpus check --lint --clashes --tml TML a.xml",
     "tml-corpus fix --tml TML a.xml",
     "tml-corpus agree --links --tml TML good.xml good.xml",
+    "tml-corpus seconds --tml TML good.xml",
     "tml-corpus report --tml TML a.xml -o pages",
 )
 """Commands that ask `tml`; of a.xml each has something to tell."""
@@ -147,7 +148,7 @@ class Programs(AttackTest):
                     ended = self.ended(command, tml=fake)
                     self.assertEqual(ended.status, 2, ended)
                     self.assertNotIn("Traceback", ended.error)
-                    self.assertRegex(ended.out + ended.error, r"tml (answered status \d+ to `(check|solve|spans|reduce|score)`|printed more than [\d,]+ bytes)")
+                    self.assertRegex(ended.out + ended.error, r"tml (answered status \d+ to `(check|solve|spans|reduce|score|seconds)`|printed more than [\d,]+ bytes)")
                     self.assertLess(ended.mebibytes, 400)
         self.assertFalse(os.path.exists(self.path("good.svg")))
 
@@ -443,7 +444,7 @@ class Tables(AttackTest):
 class WhereItLies(AttackTest):
     def test_the_sample_is_judged(self):
         """What the attacks are measured against: the real program, and all as it should be."""
-        for command, status in zip(COMMANDS, (1, 1, 1, 1, 1, 0, 0, 1, 0, 1, 1, 0, 1), strict=True):
+        for command, status in zip(COMMANDS, (1, 1, 1, 1, 1, 0, 0, 1, 0, 1, 1, 0, 0, 1), strict=True):
             with self.subTest(command):
                 self.assertEqual(self.ended(command).status, status)
         self.assertTrue(os.path.exists(os.path.join(TOP, "samples", "port.xml")))

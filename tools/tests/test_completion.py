@@ -73,7 +73,7 @@ class Completion(CorpusTest):
             for number, name in enumerate(names):
                 with self.subTest(command=command, name=name):
                     files = self.offered(TML, command, *["gone"] * number, "")[1]
-                    self.assertEqual(files, name in ("DOC", "EVIDENCE", "SECOND", "KEY"))
+                    self.assertEqual(files, name in ("DOC", "EVIDENCE", "SECOND", "KEY", "SECONDS"))
             self.assertEqual(self.offered(TML, command, *["gone"] * len(names), ""), ([], False))
 
     def test_relations(self):
@@ -113,6 +113,7 @@ class Completion(CorpusTest):
             (["check", "--format", ""], ["text", "json", "junit", "github"], False),
             (["check", "--format", "j"], ["json", "junit"], False),
             (["matrix", "--format", ""], ["text", "csv", "html"], False),
+            (["seconds", "--format", ""], ["text", "json", "csv", "ics"], False),
             (["agree", "--format", ""], ["text", "json", "csv"], False),
             (["agree", "first", ""], [], True),
             (["check", "--jobs", ""], [], False),

@@ -15,7 +15,7 @@ from dataclasses import replace
 from pathlib import Path
 from random import Random
 
-from corpus import TML, TOOLS, needs_matrix, needs_score
+from corpus import TML, TOOLS, needs_matrix, needs_score, needs_seconds
 
 sys.path.insert(0, TOOLS)
 
@@ -24,7 +24,17 @@ from differential_testing.cases import Case, Memory, Output, Real
 from differential_testing.comparing import complaint
 from differential_testing.datetimes import bounds
 from differential_testing.documents import draw_document
-from differential_testing.drawing import Written, draw_case, draw_joining, draw_of_evidence, draw_scored, draw_writing, draw_wrong
+from differential_testing.drawing import (
+    Written,
+    draw_case,
+    draw_confirming,
+    draw_joining,
+    draw_of_evidence,
+    draw_scored,
+    draw_timed,
+    draw_writing,
+    draw_wrong,
+)
 from differential_testing.evidence import blocks_of, joined, older_text, text_of
 from differential_testing.faulty import draw_too_many
 from differential_testing.keeping import keep, kept
@@ -41,6 +51,12 @@ EVIDENCE = (
 )
 NO_INTERVALS = b"tml-evidence 2\nclaims 1\ntimeline 0\nend\n"
 WRITTEN = [Written(b"<TimeML/>\n", EVIDENCE), Written(b"<TimeML></TimeML>", NO_INTERVALS)]
+DAY = b"""<TimeML><TIMEX3 tid="d" type="DATE" value="1998-01-08"/><TIMEX3 tid="p" type="DURATION" value="P1D"/>
+<TLINK timeID="p" relatedToTime="d" relType="%s"/></TimeML>"""
+PLACINGS = [
+    Written(DAY % b"DURING", b"tml-seconds 1\nplacing 2\nat 884217600 884304000\nat 884217600 884304000\nend\n"),
+    Written(DAY % b"IS_INCLUDED", b"tml-seconds 1\ncycle 5\nupper 1\nvia 0 1\nleast 1\nvia 0 0\nlower 0\nend\n"),
+]
 KINDS = 17
 NOTHING = "no difference"
 DATES = {
@@ -121,6 +137,20 @@ class Drawing(unittest.TestCase):
             answers[re.sub(r"[1-9]\d*", "N", text) if text.startswith("precision") else re.sub(r"^fault.*", "fault", " ".join(text.split()[:2]))] += 1
         scores = ("precision N of N\nrecall N of N\n", "precision 0 of N\nrecall N of N\n", "precision 0 of 0\nrecall 0 of 0\n")
         for answer in (*scores, "fault", "key fault", "clash", "key clash", "read fault"):
+            self.assertGreater(answers[answer], 0, (answer, answers))
+
+    def test_all_answers_to_seconds_and_confirm_are_drawn(self) -> None:
+        random, answers = Random(8), Counter[str]()
+        for case in (draw_timed(random) for _ in range(400)):
+            found = expected(case.words, case.files)
+            answers[f"{case.words[0].decode()} {found.status}"] += 1
+        self.assertGreater(min(answers["seconds 0"], answers["seconds 2"], answers["confirm 0"], answers["confirm 7"]), 0, answers)
+        for case in (draw_confirming(random, PLACINGS) for _ in range(3000)):
+            found = expected(case.words, case.files)
+            if isinstance(found, Outcome):
+                answers[" ".join(found.text.decode().split()[:2])] += 1
+        reasons = ("Size", "Order", "Link", "Bound", "Length", "Step", "End", "Sum")
+        for answer in ("confirmed placing", "confirmed cycle", "evidence line", *(f"seconds {reason}" for reason in reasons)):
             self.assertGreater(answers[answer], 0, (answer, answers))
 
     def test_a_second_file_that_fails_is_drawn(self) -> None:
@@ -336,6 +366,12 @@ class Runs(unittest.TestCase):
         self.assertEqual(status, 0, said)
         self.assertRegex(said, r"(?m)^reducing \d+; scored \d+$")
 
+    @needs_seconds
+    def test_placings_without_a_difference(self) -> None:
+        status, said = self.differential("--placings", "--count", "100", "2", "10")
+        self.assertEqual(status, 0, said)
+        self.assertRegex(said, r"(?m)^confirming \d+;.* placing \d+$")
+
     def test_a_lie_about_a_fault_is_found_and_made_small(self) -> None:
         lie = self.lying('if [ "$1" = check ]; then "$T" "$@" > out; S=$?; sed "s/^fault [4-9] /fault 3 /" out; exit $S; fi')
         status, said = self.differential("--processes", "--count", "100", "--small", "1", "2", "1", tml=lie)
@@ -382,6 +418,18 @@ class Runs(unittest.TestCase):
             status, said = self.differential("--processes", "--links", "--count", "100", "--small", "0", "2", "1", tml=program)
             self.assertEqual(status, 1, said)
             self.assertRegex(said, r"difference \((scored|reducing)\)")
+
+    @needs_seconds
+    def test_lies_about_placings_are_found(self) -> None:
+        for command, lie, subject in (
+            ("seconds", 's/^at \\(.*\\) .*/at \\1 9/', "placing"),
+            ("seconds", "s/^least /most /", "placing"),
+            ("confirm", "s/^seconds Length/seconds Bound/", "confirming"),
+        ):
+            program = self.lying(f'if [ "$1" = {command} ]; then "$T" "$@" > out; S=$?; sed "{lie}" out; exit $S; fi')
+            status, said = self.differential("--processes", "--placings", "--count", "200", "--small", "0", "2", "1", tml=program)
+            self.assertEqual(status, 1, said)
+            self.assertIn(f"difference ({subject})", said)
 
     def test_tables_and_processes_agree(self) -> None:
         if not os.access(rows_path(), os.X_OK):

@@ -146,7 +146,8 @@ class ReducedLinks(unittest.TestCase):
     def test_words(self):
         for line in ("reduce", "reduce d d", "Reduce d", "score", "score d", "score d d d", "scores d d"):
             found = expected([word.encode() for word in line.split()], {b"d": b"<TimeML/>"})
-            self.assertEqual((found.status, found.text.splitlines()[-2:]), (3, [b"tml reduce DOC", b"tml score DOC KEY"]), line)
+            self.assertEqual(found.status, 3, line)
+            self.assertLessEqual({b"tml reduce DOC", b"tml score DOC KEY"}, set(found.text.splitlines()), line)
 
 
 if __name__ == "__main__":

@@ -273,7 +273,8 @@ class PossibleRelations(unittest.TestCase):
     def test_words(self):
         for line in ("possible d", "possible d a", "possible d a b c", "possible", "matrix", "matrix d d", "Matrix d"):
             found = expected([word.encode() for word in line.split()], {b"d": b"<TimeML/>"})
-            self.assertEqual((found.status, found.text.splitlines()[-4:-2]), (3, [b"tml possible DOC X Y", b"tml matrix DOC"]), line)
+            self.assertEqual(found.status, 3, line)
+            self.assertLessEqual({b"tml possible DOC X Y", b"tml matrix DOC"}, set(found.text.splitlines()), line)
 
 
 class Overlaps(unittest.TestCase):

@@ -359,12 +359,12 @@ class Walks(unittest.TestCase):
     def test_orders_are_those_of_the_reference(self):
         from reference.relations import ORDERS
 
-        from tml_corpus import walk_words
+        from tml_corpus.constraints import ORDERS as PLACED
 
         names = {"A0": "a.start", "A1": "a.finish", "B0": "b.start", "B1": "b.finish"}
         signs = {"<": "<", "=": "<="}
         orders = {
-            relation.encode(): tuple(f"{names[one[:2]]} {signs[one[2]]} {names[one[3:]]}" for one in texts) for relation, texts in walk_words.ORDERS.items()
+            relation.encode(): tuple(f"{names[one[:2]]} {signs[one[2]]} {names[one[3:]]}" for one in texts) for relation, texts in PLACED.items()
         }
         self.assertEqual(orders, dict(ORDERS))
 

@@ -49,6 +49,17 @@ def report_of(program: Program, found: Found, document: bytes, wanted: Wanted, r
     return ClashSearch(program, found, document, wanted).report(read_clash(reply))
 
 
+def placed_link(wording: Wording, number: int) -> PlacedLink:
+    """A link in words, with its line."""
+    link, tag = wording.link(number), wording.link_tags[number]
+    attribute = relation_of(tag)
+    start, end = tag.start, tag.end
+    if attribute is not None and b"\n" not in wording.document[tag.start : attribute.start]:
+        start, end = attribute.start, attribute.end
+    places = wording.places
+    return PlacedLink(link, wording.in_words(link), places.marked(places.place(start), places.place(end)))
+
+
 class ClashSearch:
     """The search in one accepted document."""
 
@@ -121,13 +132,7 @@ class ClashSearch:
 
     def placed_link(self, number: int) -> PlacedLink:
         """A link in words, with its line."""
-        link, tag = self.wording.link(number), self.wording.link_tags[number]
-        attribute = relation_of(tag)
-        start, end = tag.start, tag.end
-        if attribute is not None and b"\n" not in self.document[tag.start : attribute.start]:
-            start, end = attribute.start, attribute.end
-        places = self.wording.places
-        return PlacedLink(link, self.wording.in_words(link), places.marked(places.place(start), places.place(end)))
+        return placed_link(self.wording, number)
 
     def placed_change(self, change: Change) -> PlacedChange:
         """A link between dates that touch, with its line."""

@@ -43,6 +43,7 @@ EXAMPLES = """Examples:
 FORMS = ("text", "json", "junit", "github")
 MATRIX_FORMS = ("text", "csv", "html")
 AGREE_FORMS = ("text", "json", "csv")
+SECONDS_FORMS = ("text", "json", "csv", "ics")
 TOUCHING = "read links between dates that touch as the relation that holds, as IBEFORE for BEFORE, and list them"
 
 
@@ -150,7 +151,7 @@ def parser() -> Parser:
         command.add_argument("--jobs", type=int, metavar="N", help="how many files at once (default: one a processor)")
     for command in (check, clashes, agrees):
         command.add_argument("--cluster", metavar="ADDRESS", help="work on a Dask cluster, whose workers see the files and tml by the same paths; --jobs says nothing then")
-    for command in (check, tags, clashes, fixes, timeline_words(commands), matrix_words(commands), opens, agrees, reports):
+    for command in (check, tags, clashes, fixes, timeline_words(commands), matrix_words(commands), opens, agrees, seconds_words(commands), reports):
         command.add_argument("--config", metavar="FILE", help="the settings (default: tml-corpus.toml in the folder of the paths or nearest above)")
         command.add_argument("--tml", metavar="PROGRAM", help="the program tml (default: that of this repository, else that on PATH)")
     return whole
@@ -207,6 +208,7 @@ def timeline_words(commands: argparse._SubParsersAction[Parser]) -> Parser:
     words.add_argument("document", metavar="DOC", help="a file")
     words.add_argument("-o", "--output", type=picture_name, required=True, metavar="FILE", help="the picture: FILE.svg, or FILE.html with the links of each row")
     words.add_argument("--touching", action="store_true", help=TOUCHING)
+    words.add_argument("--seconds", action="store_true", help="draw a placing in whole seconds, true to scale, as tml seconds has it")
     words.set_defaults(command=timeline_command)
     return words
 
@@ -226,6 +228,23 @@ def matrix_words(commands: argparse._SubParsersAction[Parser]) -> Parser:
     words.add_argument("--format", choices=MATRIX_FORMS, default="text", help="lines (the default), CSV, or a page with a table")
     words.add_argument("--touching", action="store_true", help=TOUCHING)
     words.set_defaults(command=matrix_command)
+    return words
+
+
+def seconds_words(commands: argparse._SubParsersAction[Parser]) -> Parser:
+    """The words of `seconds`, which is about one document too."""
+    words = commands.add_parser(
+        "seconds",
+        help="print a placing of a document in whole seconds",
+        description="Prints for each interval of a document a second for its start and one for its end, in which all links, dates and lengths "
+        "of durations are met, as tml seconds has them and tml confirm confirmed; and how far they can move. Where they cannot all be met it "
+        "says which ones, and where the document has a fault it names that; the status is 1 then.",
+        epilog="Example: tools/tml-corpus seconds --format ics samples/bridge.xml > bridge.ics",
+    )
+    words.add_argument("document", metavar="DOC", help="a file")
+    words.add_argument("--format", choices=SECONDS_FORMS, default="text", help="lines (the default), JSON, CSV, or iCalendar")
+    words.add_argument("--touching", action="store_true", help="read links between dates that touch as the relation that holds")
+    words.set_defaults(command=seconds_command)
     return words
 
 
@@ -477,9 +496,9 @@ def show_clashes(options: argparse.Namespace, stop: Interruption, wanted: Wanted
 
 def timeline_command(options: argparse.Namespace, stop: Interruption) -> int:
     """`tml-corpus timeline`."""
-    from .timeline import draw, write_picture
+    from .timeline import draw, draw_placing, write_picture
 
-    drawn = draw(options.program, options.document, options.output, options.touching)
+    drawn = (draw_placing if options.seconds else draw)(options.program, options.document, options.output, options.touching)
     if drawn.picture is not None and not stop.happened.is_set():
         write_picture(options.output, drawn.picture)
     sys.stdout.write(drawn.text)
@@ -491,6 +510,13 @@ def matrix_command(options: argparse.Namespace, stop: Interruption) -> int:
     from .show_matrix import show_matrix
 
     return show_matrix(options.program, options.document, options.format, options.touching, stop)
+
+
+def seconds_command(options: argparse.Namespace, _: Interruption) -> int:
+    """`tml-corpus seconds`."""
+    from .show_seconds import show_seconds
+
+    return show_seconds(options.program, options.document, options.format, options.touching)
 
 
 def open_command(options: argparse.Namespace, stop: Interruption) -> int:

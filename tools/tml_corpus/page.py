@@ -8,6 +8,7 @@ from __future__ import annotations
 import base64
 import hashlib
 import json
+from collections.abc import Callable
 
 from .lettering import escaped, plain
 from .matrix import INVERSES, Matrix
@@ -117,8 +118,8 @@ def possible(matrix: Matrix, order: tuple[int, ...]) -> str:
     return json.dumps(whole, ensure_ascii=False, separators=(",", ":"))
 
 
-def page(timeline: Timeline) -> str:
-    """The page. It is XML too, so that whoever likes can read it with such a reader."""
+def page(timeline: Timeline, draw: Callable[[Timeline], str] = drawing) -> str:
+    """The page, with the picture that is drawn. It is XML too, so that whoever likes can read it with such a reader."""
     digest = base64.b64encode(hashlib.sha256(SCRIPT.encode()).digest()).decode()
     policy = f"default-src 'none'; style-src 'unsafe-inline'; script-src 'sha256-{digest}'"
     assert timeline.matrix is not None
@@ -127,7 +128,7 @@ def page(timeline: Timeline) -> str:
         '<!DOCTYPE html>\n<html xmlns="http://www.w3.org/1999/xhtml" lang="en">\n<head>\n<meta charset="utf-8"/>\n'
         f'<meta http-equiv="Content-Security-Policy" content="{policy}"/>\n'
         f"<title>Timeline of {escaped(plain(timeline.title))}</title>\n<style>{STYLE}</style>\n</head>\n<body>\n"
-        f"<main>\n{drawing(timeline)}</main>\n"
+        f"<main>\n{draw(timeline)}</main>\n"
         '<div id="links" role="status" tabindex="0">Point at a row, or go to it with the tabulator and the arrow keys, to see its links and '
         "what it can be to the others; a click, or the enter key, keeps them here.</div>\n"
         f"<noscript><p>{WITHOUT}</p></noscript>\n"

@@ -108,11 +108,11 @@ def drawing(timeline: Timeline, wrapped: Callable[[int, str], str] = alone, styl
     return f"{opening}{style}{HATCH}\n{paper}{head}\n{behind}{rows}</svg>\n"
 
 
-def heading(timeline: Timeline, width: float) -> tuple[str, float]:
-    """The title, what the ranks mean, and the kinds of bars that there are; and how far down they reach."""
+def heading(timeline: Timeline, width: float, title: str = "Timeline of ", caption: str = CAPTION) -> tuple[str, float]:
+    """The title, what the axis means, and the kinds of bars that there are; and how far down they reach."""
     room, y = width - 2 * MARGIN, float(MARGIN + HEAD)
-    parts = [words(MARGIN, y, fitted("Timeline of " + plain(timeline.title), room, HEAD * 1.1), "head")]
-    for line in in_lines(CAPTION, room, SMALL):
+    parts = [words(MARGIN, y, fitted(title + plain(timeline.title), room, HEAD * 1.1), "head")]
+    for line in in_lines(caption, room, SMALL):
         y += 18 if len(parts) > 1 else 24
         parts.append(words(MARGIN, y, line, "small"))
     x, y = float(MARGIN), y + 26

@@ -30,21 +30,26 @@ DONE = {
     "verify": re.compile(rb"(?:%s)+" % CLAIM),
     "reduce": re.compile(rb"reduced (\d+) of (\d+)\n((?:tlink \d+ %s (?:%s) %s\n)*)" % (NAME, RELATION, NAME)),
     "score": re.compile(rb"precision (\d+) of (\d+)\nrecall (\d+) of (\d+)\n"),
+    "seconds": re.compile(rb"tml-seconds 1\nplacing (\d+)\n((?:at -?\d+ -?\d+\n)*)end\n"),
+    "confirm": re.compile(rb"confirmed (?:placing|cycle)\n"),
 }
 """The texts with status 0; of `check`, `spans`, `reduce` and `score` more is asked, and of `matrix` line by line."""
 
 OF_KEY = b"key "
 """What stands before a line of `score` that is about its second document."""
 
+CYCLE = re.compile(rb"tml-seconds 1\ncycle (\d+)\n((?:(?:via \d+|span|lower|upper|least|most) \d+\n)+)end\n")
+"""What `seconds` answers where there is no placing."""
+
 OF_NETS = ("solve", "relations", "matrix", "reduce", "score")
 """The commands that answer a clash where no timeline fits."""
 
 OTHER = {
-    TmlStatus.CLASH: (OF_NETS, re.compile(EVIDENCE + rb"clash \d+\ncite \d+\n(?s:.*)(?<=\n)end\n")),
+    TmlStatus.CLASH: ((*OF_NETS, "seconds"), re.compile(EVIDENCE + rb"clash \d+\ncite \d+\n(?s:.*)(?<=\n)end\n")),
     TmlStatus.READ_FAULT: (None, re.compile(rb"read fault\n")),
     TmlStatus.NO_MEMORY: (None, re.compile(rb"")),
-    TmlStatus.EVIDENCE_FAULT: (("verify",), re.compile(rb"evidence (?:line \d+|claim \d+ part \d+ [ \w]+)\n")),
-    TmlStatus.TOO_LONG: (None, re.compile(rb"too long (?:DOC|EVIDENCE|KEY)\n")),
+    TmlStatus.EVIDENCE_FAULT: (("verify", "confirm"), re.compile(rb"evidence (?:line \d+|claim \d+ part \d+ [ \w]+)\n|seconds \w+(?: \d+)?\n")),
+    TmlStatus.TOO_LONG: (None, re.compile(rb"too long (?:DOC|EVIDENCE|KEY|SECONDS)\n")),
 }
 """The commands that may end with a status, where not all may, and the text that goes with it."""
 
@@ -85,6 +90,9 @@ def fits(words: Sequence[str], status: TmlStatus, text: bytes, size: int | None)
         return rest == b"clash\n" if status == TmlStatus.CLASH else status == TmlStatus.DOC_FAULT and fault_fits("score", rest, None)
     if status == TmlStatus.DOC_FAULT:
         return fault_fits(words[0], text, size)
+    if words[0] == "seconds" and status == TmlStatus.CLASH:
+        found = CYCLE.fullmatch(text)
+        return found is not None and lines_fit(found)
     if status in OTHER:
         return OTHER[status][1].fullmatch(text) is not None
     if words[0] == "check":
@@ -107,7 +115,12 @@ def scores_fit(found: re.Match[bytes]) -> bool:
     return matched <= links and found_links <= key_links
 
 
-COUNTED: Mapping[str, Callable[[re.Match[bytes]], bool]] = {"reduce": reduced_fits, "score": scores_fit}
+def lines_fit(found: re.Match[bytes]) -> bool:
+    """Whether there are as many lines as the first of them says."""
+    return found[2].count(b"\n") == int(found[1])
+
+
+COUNTED: Mapping[str, Callable[[re.Match[bytes]], bool]] = {"reduce": reduced_fits, "score": scores_fit, "seconds": lines_fit}
 """What is asked of the counts in a text with status 0, besides its form."""
 
 

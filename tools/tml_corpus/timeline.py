@@ -58,6 +58,34 @@ def undrawn(unfit: Unfit) -> Drawn:
     return Drawn(unfit.text, unfit.status)
 
 
+def draw_placing(program: Program, path: str, target: str, touching: bool) -> Drawn:
+    """The picture of a placing of one file in whole seconds, or why there is none."""
+    from .placed import Unplaced, placed_document
+    from .scaled import scaled_page, scaled_svg, with_ranges
+    from .seconds_formats import change_lines, unplaced_lines
+
+    try:
+        if os.path.exists(target) and os.path.exists(path) and os.path.samefile(path, target):
+            raise CannotRead("the picture would be written over it")
+        found = placed_document(program, path, touching)
+        if isinstance(found, Unfit):
+            return undrawn(found)
+        if isinstance(found, Unplaced):
+            return Drawn(change_lines(path, found) + unplaced_lines(path, found), Status.FINDING)
+        seconds = dict(zip(found.order, ((one.start, one.end) for one in found.intervals), strict=True))
+        timeline = in_rows(os.path.basename(path), found.wording, [seconds[number] for number in range(len(seconds))])
+        timeline = with_ranges(timeline, found)
+        if form_of(target) == ".svg":
+            picture = scaled_svg(timeline)
+        else:
+            matrix = matrix_of(program, found.wording.document, found.wording.intervals)
+            picture = scaled_page(replace(timeline, matrix=matrix))
+        said = f"{shown(path)}: drawn in {shown(target)}: {found.counts()}, in seconds\n"
+        return Drawn(change_lines(path, found) + said, Status.SUCCESS, picture)
+    except (CannotRead, CannotRun) as problem:
+        return undrawn(not_judged(path, problem))
+
+
 def draw_document(program: Program, path: str, document: bytes, target: str, touching: bool) -> Drawn:
     """The picture of a document in memory, or its fault, or the links that clash."""
     found = fitting(program, path, document, "drawn", touching)

@@ -10,18 +10,9 @@ from dataclasses import dataclass
 
 from .clash_search import is_equal_end
 from .clashes import Step
+from .constraints import ORDERS
 from .program import CannotRun
 from .words import Wording
-
-ORDERS = {
-    "BEFORE": ("A1<B0",), "AFTER": ("B1<A0",), "INCLUDES": ("A0<B0", "B1<A1"), "IS_INCLUDED": ("B0<A0", "A1<B1"),
-    "DURING": ("B0=A0", "A1=B1"), "DURING_INV": ("A0=B0", "B1=A1"), "SIMULTANEOUS": ("A0=B0", "B0=A0", "A1=B1", "B1=A1"),
-    "IDENTITY": ("A0=B0", "B0=A0", "A1=B1", "B1=A1"), "IBEFORE": ("A1=B0", "B0=A1"), "IAFTER": ("B1=A0", "A0=B1"),
-    "BEGINS": ("A0=B0", "B0=A0", "A1<B1"), "BEGUN_BY": ("A0=B0", "B0=A0", "B1<A1"), "ENDS": ("A1=B1", "B1=A1", "B0<A0"),
-    "ENDED_BY": ("A1=B1", "B1=A1", "A0<B0"), "OVERLAPS": ("A0<B0", "B0<A1", "A1<B1"), "OVERLAPPED_BY": ("B0<A0", "A0<B1", "B1<A1"),
-}  # fmt: skip
-"""The orders of each relation between A and B, as docs/DEFINITIONS.md has them: a start is 0 and an end is 1; `<` is before, `=` no later."""
-
 
 @dataclass(frozen=True)
 class WalkStep:
