@@ -14,6 +14,7 @@ from .constraints import ORDERS
 from .program import CannotRun
 from .words import Wording
 
+
 @dataclass(frozen=True)
 class WalkStep:
     """A step of a walk: the points from which and to which it leads, whether the one is before the other, and why."""
