@@ -201,7 +201,7 @@ class Strangers(ReportTest):
             with self.subTest(name):
                 page, parsed = self.text(name), Parsed(self.text(name))
                 self.assertEqual((parsed.open, parsed.wrong), ([], []))
-                self.assertIn("default-src 'none'; style-src 'self' file:; script-src 'self' file:; base-uri 'none'; form-action 'none'", page)
+                self.assertIn("default-src 'none'; style-src 'self'; script-src 'self'; base-uri 'none'; form-action 'none'", page)
                 self.assertFalse(set(parsed.names) & {"img", "b", "i", "style", "form", "iframe", "object"})
                 scripts = [one for one in self.root(name).iter(XHTML + "script")]
                 self.assertEqual([(one.text, os.path.basename(one.get("src"))[-3:]) for one in scripts], [(None, ".js")])

@@ -21,8 +21,8 @@ from .rows import Timeline
 from .walk_words import WalkStep, steps_in_words
 from .words import Wording
 
-POLICY = "default-src 'none'; style-src 'self' file:; script-src 'self' file:; base-uri 'none'; form-action 'none'"
-"""Styles and scripts of files beside the page alone. Some browsers do not take a file that lies beside a page for one of its own."""
+POLICY = "default-src 'none'; style-src 'self'; script-src 'self'; base-uri 'none'; form-action 'none'"
+"""Styles and scripts of files beside the page alone."""
 
 HEAD = """<!DOCTYPE html>
 <html xmlns="http://www.w3.org/1999/xhtml" lang="en">
@@ -136,12 +136,12 @@ def clash_part(wording: Wording, words: Words, clash: PlacedClash, number: int) 
     steps = steps_in_words(wording, clash.walk)
     walk = "".join(step_part(wording, words, step) for step in steps)
     first = point_part(wording, steps[0].first)
+    cure = "Any one of these links, left out, lets the others be true; one of them is wrong" if len(clash.links) > 1 else "This link is wrong"
     return (
         f'<div class="clash" id="clash{number}">\n<h3>Clash {number}: {title}</h3>\n<ul class="cited">\n{links}</ul>\n'
         + (f"<ul>\n{notes}</ul>\n" if notes else "")
         + f'<p>Why: each step leads to a point that cannot be earlier.</p>\n<ol class="walk">\n{walk}</ol>\n'
-        f'<p class="end">So {first} would be before itself, which cannot be. Any one of the links, left out, lets the others be true; '
-        "or a date that a step goes by is wrong.</p>\n</div>\n"
+        f'<p class="end">So {first} would be before itself, which cannot be. {cure}, or a date that a step goes by is.</p>\n</div>\n'
     )
 
 
