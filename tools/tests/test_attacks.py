@@ -35,6 +35,7 @@ COMMANDS = (
     "tml-corpus fix --tml TML a.xml",
     "tml-corpus agree --links --tml TML good.xml good.xml",
     "tml-corpus seconds --tml TML good.xml",
+    "tml-corpus report --tml TML a.xml -o pages",
 )
 """Commands that ask `tml`; of a.xml each has something to tell."""
 
@@ -248,12 +249,18 @@ def numbered(before, part, after):
 
 CHECK, LINT, FIX = "tml-corpus check --tml TML d.xml", "tml-corpus check --lint --clashes --tml TML d.xml", "tml-corpus fix --tml TML d.xml"
 TIMELINE, TAGS = "tml-corpus timeline --tml TML d.xml -o d.svg", "tml-corpus tags --tml TML d.xml"
+REPORT = "tml-corpus report --tml TML d.xml -o pages"
 DOCUMENTS = {
     "one long text of many instances": (TIMELINE, 0, lambda: one_event(LINKS)),
     "one long text in a clash": ("tml-corpus clashes --tml TML d.xml", 1, lambda: one_event(CIRCLE)),
     "nested events with tags": (TIMELINE, 0, lambda: nested(b"<P/>")),
     "nested events with spaces": (TIMELINE, 0, lambda: nested(b"&#32;<P/>")),
     "very many units": (TAGS, 0, lambda: filled(b"<TimeML>", b"<p/>x", b"</TimeML>\n")),
+    "very many units in a report": (REPORT, 0, lambda: filled(b"<TimeML>", b"<p/>x", b"</TimeML>\n")),
+    "very many marks in a report": (REPORT, 0, lambda: numbered(b"<TimeML>", b'<SIGNAL sid="s%d"/>', b"</TimeML>\n")),
+    "one long text of many instances in a report": (REPORT, 0, lambda: one_event(LINKS)),
+    "nested events in a report": (REPORT, 0, lambda: nested(b"&#32;<P/>")),
+    "very many lines in a report": (REPORT, 0, lambda: filled(b"<TimeML>\n", b" \n", b"</TimeML>\n")),
     "very many attributes": (TAGS, 0, lambda: filled(b"<TimeML><P", b' a=""', b"/></TimeML>\n")),
     "very many bad tags": (TAGS, 0, lambda: filled(b"<TimeML>", b"x", b"< " * 300 + b"</TimeML>\n")),
     "very many links to drop": (
@@ -308,6 +315,7 @@ class Files(AttackTest):
         rows = [
             ("tml-corpus clashes --tml TML --evidence kept clash.xml", "kept", 60, "its evidence cannot be kept: file too large"),
             ("tml-corpus timeline --tml TML good.xml -o made/good.svg", "made", 1000, "made/good.svg cannot be written: file too large"),
+            ("tml-corpus report --tml TML good.xml -o made", "made", 60, "made/report.css cannot be written: file too large"),
             ("from-tempeval2 in made", "made", 20, "made cannot be written: file too large"),
         ]
         for command, folder, size, said in rows:
@@ -436,7 +444,7 @@ class Tables(AttackTest):
 class WhereItLies(AttackTest):
     def test_the_sample_is_judged(self):
         """What the attacks are measured against: the real program, and all as it should be."""
-        for command, status in zip(COMMANDS, (1, 1, 1, 1, 1, 0, 0, 1, 0, 1, 1, 0), strict=True):
+        for command, status in zip(COMMANDS, (1, 1, 1, 1, 1, 0, 0, 1, 0, 1, 1, 0, 0, 1), strict=True):
             with self.subTest(command):
                 self.assertEqual(self.ended(command).status, status)
         self.assertTrue(os.path.exists(os.path.join(TOP, "samples", "port.xml")))

@@ -5,6 +5,7 @@ from __future__ import annotations
 from dataclasses import dataclass, field
 
 from .check import Judgement, PlacedNote
+from .clashes import Step
 from .files import counted
 from .formats import WarningCounts
 from .lint import Lint
@@ -48,12 +49,13 @@ class PlacedLink:
 
 @dataclass(frozen=True)
 class PlacedClash:
-    """A minimal clash: its links, what the calendar says of it, other relations that would not clash, and its evidence."""
+    """A minimal clash: its links, what the calendar says of it, other relations that would not clash, its evidence, and its walk."""
 
     links: list[PlacedLink]
     calendar: list[PlacedNote]
     cures: list[PlacedNote]
     evidence: str | None
+    walk: tuple[Step, ...] = ()
 
 
 @dataclass(frozen=True)

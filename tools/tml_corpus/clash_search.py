@@ -145,7 +145,7 @@ class ClashSearch:
             evidence = os.path.join(folder, evidence_name(self.path if number == 1 else f"{self.path}.{number}"))
         verify_clash(self.program, self.document, clash, evidence and os.path.join(self.found.base, evidence))
         links = [self.placed_link(link) for link in clash.links]
-        return PlacedClash(links, self.calendar_notes(clash), self.cures(clash), evidence)
+        return PlacedClash(links, self.calendar_notes(clash), self.cures(clash), evidence, clash.walk)
 
     def calendar_notes(self, clash: Clash) -> list[PlacedNote]:
         """What the walk takes from the calendar; places are asked for in their order, since lines may be long."""
@@ -178,7 +178,7 @@ class ClashSearch:
         orders: dict[int, set[int]] = {}
         equal_ends = False
         for step in clash.walk:
-            if step.kind == "calendar" and self.is_equal_end(step.first, step.second):
+            if step.kind == "calendar" and is_equal_end(self.wording, step.first, step.second):
                 equal_ends = True
             elif step.kind != "via":
                 return {}
@@ -193,10 +193,11 @@ class ClashSearch:
         relation = self.wording.relation(number)
         return GAP.get(relation) or INCLUSIONS[relation][2 if len(orders) == 2 else min(orders)]
 
-    def is_equal_end(self, first: int, second: int) -> bool:
-        """Whether the calendar has two points no further apart than at one second."""
-        upper, lower = (self.wording.dates.get(self.wording.intervals[point // 2], ["free"]) for point in (first, second))
-        return upper[0] != "free" and lower[0] != "free" and number_at(upper, first, 2) == number_at(lower, second, 1)
+
+def is_equal_end(wording: Wording, first: int, second: int) -> bool:
+    """Whether the calendar has two points no further apart than at one second."""
+    upper, lower = (wording.dates.get(wording.intervals[point // 2], ["free"]) for point in (first, second))
+    return upper[0] != "free" and lower[0] != "free" and number_at(upper, first, 2) == number_at(lower, second, 1)
 
 
 def number_at(date: list[str], point: int, bound: int) -> int:

@@ -98,7 +98,12 @@ def evidence_file(evidence: bytes, kept: str | None) -> Iterator[IO[bytes]]:
 
 
 def evidence_name(path: str) -> str:
-    """A name for the evidence of a file: its own name as far as it is plain, and a digest of the path, so that no two are the same."""
+    """A name for the evidence of a file."""
+    return own_name(path, "evidence")
+
+
+def own_name(path: str, end: str) -> str:
+    """A name for what is made of a file: its own name as far as it is plain, and a digest of the path, so that no two are the same."""
     plain = re.sub(r"[^A-Za-z0-9._-]", "_", os.path.basename(path))[:100]
     digest = hashlib.sha256(os.fsencode(path)).hexdigest()[:12]
-    return f"{plain}.{digest}.evidence"
+    return f"{plain}.{digest}.{end}"

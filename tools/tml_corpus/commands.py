@@ -143,15 +143,15 @@ def parser() -> Parser:
     clashes.set_defaults(command=clashes_command)
     shared_words(check, "faults or clashes")
     shared_words(clashes, "clashes")
-    fixes, opens, agrees = fix_words(commands), open_words(commands), agree_words(commands)
-    for command in (check, tags, clashes, fixes):
+    fixes, opens, agrees, reports = fix_words(commands), open_words(commands), agree_words(commands), report_words(commands)
+    for command in (check, tags, clashes, fixes, reports):
         command.add_argument("paths", nargs="+", metavar="PATH", help="a file, or a folder to search")
-    for command in (check, tags, clashes, fixes, agrees):
+    for command in (check, tags, clashes, fixes, agrees, reports):
         command.add_argument("--glob", action="append", metavar="PATTERN", help=f"names to look for in folders (default {' '.join(PATTERNS)})")
         command.add_argument("--jobs", type=int, metavar="N", help="how many files at once (default: one a processor)")
     for command in (check, clashes, agrees):
         command.add_argument("--cluster", metavar="ADDRESS", help="work on a Dask cluster, whose workers see the files and tml by the same paths; --jobs says nothing then")
-    for command in (check, tags, clashes, fixes, timeline_words(commands), matrix_words(commands), opens, agrees, seconds_words(commands)):
+    for command in (check, tags, clashes, fixes, timeline_words(commands), matrix_words(commands), opens, agrees, seconds_words(commands), reports):
         command.add_argument("--config", metavar="FILE", help="the settings (default: tml-corpus.toml in the folder of the paths or nearest above)")
         command.add_argument("--tml", metavar="PROGRAM", help="the program tml (default: that of this repository, else that on PATH)")
     return whole
@@ -285,6 +285,21 @@ def agree_words(commands: argparse._SubParsersAction[Parser]) -> Parser:
     words.add_argument("--format", choices=AGREE_FORMS, default="text", help="the form of the output")
     words.add_argument("--touching", action="store_true", help=TOUCHING)
     words.set_defaults(command=agree_command)
+    return words
+
+
+def report_words(commands: argparse._SubParsersAction[Parser]) -> Parser:
+    """The words of `report`, which writes pages."""
+    words = commands.add_parser(
+        "report",
+        help="write pages about all documents, to be opened in a browser",
+        description="Writes a folder of pages that open from the disk: an index of all documents, and of each one its text beside its timeline, its "
+        "links, its clashes step by step, its faults and warnings. The status is 0 where a timeline fits each document.",
+        epilog="Example: tools/tml-corpus report samples -o pages",
+    )
+    words.add_argument("-o", "--output", required=True, metavar="FOLDER", help="the folder of the pages: a new one, or that of an earlier report")
+    words.add_argument("--more", type=number_from_zero, default=0, metavar="N", help="go on to at most N further faults or clashes of each document")
+    words.set_defaults(command=report_command)
     return words
 
 
@@ -537,4 +552,25 @@ def agree_command(options: argparse.Namespace, stop: Interruption) -> int:
         sys.stdout.write(form.not_counted(one))
     sys.stdout.write(form.sums(summary.corpus))
     write_summary(options, form.summary_apart, summary.text(stop.happened.is_set()))
+    return summary.status()
+
+
+def report_command(options: argparse.Namespace, stop: Interruption) -> int:
+    """`tml-corpus report`."""
+    from . import report
+
+    found, folder = search(options), report.Folder(options.output)
+    folder.prepare()
+    wanted = Wanted(more=options.more, lint=chosen(options.settings.ignore, options.settings.warn), every_clash=False)
+    summary = ClashSummary(len(found), checked=True)
+
+    def reported(one: report.Reported) -> str:
+        summary.add(one.report)
+        folder.entries.append(one.entry)
+        problem = one.report.judgement.problem
+        return f"{shown(one.entry.path)}: not judged: {shown(problem)}\n" if problem is not None else ""
+
+    each(options, stop, found, partial(report.report_file, options.program, folder.path, wanted=wanted), report.ended, reported)
+    folder.write_index(len(found))
+    sys.stdout.write(summary.text(stop.happened.is_set()) + folder.last_line())
     return summary.status()

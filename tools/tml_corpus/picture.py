@@ -2,6 +2,7 @@
 
 from __future__ import annotations
 
+from collections.abc import Callable
 from dataclasses import dataclass
 
 from .lettering import escaped, fitted, in_lines, measured, plain
@@ -85,20 +86,26 @@ def svg(timeline: Timeline) -> str:
     return '<?xml version="1.0" encoding="UTF-8"?>\n' + drawing(timeline)
 
 
-def drawing(timeline: Timeline) -> str:
-    """The picture as an element."""
+def alone(place: int, row: str) -> str:
+    """A row as it is drawn."""
+    del place
+    return row
+
+
+def drawing(timeline: Timeline, wrapped: Callable[[int, str], str] = alone, style: str = f"<style>{STYLE}</style>\n") -> str:
+    """The picture as an element. Each row may stand in something else, and the style elsewhere."""
     layout = layout_of(timeline)
     head, y = heading(timeline, layout.width())
     top = y + 2 * GAP
     bottom = top + ROW * max(layout.rows, 1)
-    rows = "".join(drawn_row(row, place, layout, top) for place, row in enumerate(timeline.rows))
+    rows = "".join(wrapped(place, drawn_row(row, place, layout, top)) for place, row in enumerate(timeline.rows))
     if not rows:
         rows = words(MARGIN, top + BAR, "There is no interval: the document has no event instance and no time.") + "\n"
     behind = axis(layout, top, bottom) if layout.rows else ""
     width, height = number(layout.width()), number(bottom + 2 * GAP)
     opening = f'<svg xmlns="http://www.w3.org/2000/svg" width="{width}" height="{height}" viewBox="0 0 {width} {height}">\n'
     paper = f'<rect width="{width}" height="{height}" fill="#fff"/>\n'
-    return f"{opening}<style>{STYLE}</style>\n{HATCH}\n{paper}{head}\n{behind}{rows}</svg>\n"
+    return f"{opening}{style}{HATCH}\n{paper}{head}\n{behind}{rows}</svg>\n"
 
 
 def heading(timeline: Timeline, width: float, title: str = "Timeline of ", caption: str = CAPTION) -> tuple[str, float]:

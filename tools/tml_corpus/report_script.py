@@ -1,0 +1,252 @@
+"""The scripts of the pages of a report. They put texts in by `textContent` alone, and the pages can be read without them."""
+
+from __future__ import annotations
+
+INDEX_SCRIPT = """
+"use strict";
+const table = document.getElementById("documents");
+const body = table.tBodies[0];
+const rows = Array.from(body.rows);
+const heads = Array.from(table.tHead.rows[0].cells);
+const order = new Map(rows.map((row, place) => [row, place]));
+const words = new Map(rows.map((row) => [row, [...row.cells].slice(0, 3).map((cell) => cell.textContent).join(" ") + " " + row.dataset.kinds]));
+const collator = new Intl.Collator(undefined, { numeric: true });
+const valueOf = (row, column, kind) => {
+  const text = row.cells[column].textContent;
+  return kind === "number" ? (text === "" ? null : Number(text)) : text;
+};
+const compared = (first, second) => {
+  if (first === second) return 0;
+  if (first === null || first === "") return 1;
+  if (second === null || second === "") return -1;
+  return typeof first === "number" ? first - second : collator.compare(first, second);
+};
+const sortBy = (head, column) => {
+  const kind = head.dataset.kind;
+  const before = head.getAttribute("aria-sort");
+  const turn = before === null ? kind === "number" : before === "ascending";
+  heads.forEach((one) => one.removeAttribute("aria-sort"));
+  head.setAttribute("aria-sort", turn ? "descending" : "ascending");
+  const isEmpty = (value) => value === null || value === "";
+  const values = new Map(rows.map((row) => [row, valueOf(row, column, kind)]));
+  rows.sort((first, second) => {
+    const [one, other] = [values.get(first), values.get(second)];
+    const sign = isEmpty(one) || isEmpty(other) ? 1 : turn ? -1 : 1;
+    return sign * compared(one, other) || order.get(first) - order.get(second);
+  });
+  body.append(...rows);
+};
+heads.forEach((head, column) => {
+  const button = document.createElement("button");
+  button.type = "button";
+  button.textContent = head.textContent;
+  button.addEventListener("click", () => sortBy(head, column));
+  head.replaceChildren(button);
+});
+const field = document.createElement("input");
+const found = document.createElement("output");
+const look = () => {
+  const wanted = field.value.toLowerCase().split(" ").filter((word) => word !== "");
+  let count = 0;
+  rows.forEach((row) => {
+    const text = words.get(row).toLowerCase();
+    row.hidden = !wanted.every((word) => text.includes(word));
+    count += !row.hidden;
+  });
+  found.textContent = ` ${count} of ${rows.length}`;
+};
+field.type = "search";
+field.placeholder = "Search names, verdicts, faults, warnings";
+field.setAttribute("aria-label", field.placeholder);
+field.addEventListener("input", look);
+found.setAttribute("role", "status");
+document.getElementById("search").append(field, found);
+document.querySelectorAll("[data-search]").forEach((head) => {
+  if (head.closest("table").caption.textContent === "Sums") return;
+  const button = document.createElement("button");
+  button.type = "button";
+  button.textContent = head.textContent;
+  button.addEventListener("click", () => {
+    field.value = head.dataset.search;
+    look();
+    field.focus();
+  });
+  head.replaceChildren(button);
+});
+look();
+"""
+
+DOCUMENT_SCRIPT = """
+"use strict";
+const SVG = "http://www.w3.org/2000/svg";
+const byId = (name) => document.getElementById(name);
+const text = document.querySelector(".text");
+const links = Array.from(document.querySelectorAll(".links li"));
+const steps = Array.from(document.querySelectorAll(".walk li"));
+const bars = Array.from(document.querySelectorAll("a.leading"));
+const titles = bars.map((bar) => bar.querySelector("title").textContent.split("\\n"));
+const ofWord = new Map();
+const add = (word, link) => {
+  if (!ofWord.has(word)) ofWord.set(word, []);
+  ofWord.get(word).push(link);
+};
+links.forEach((link) => {
+  add(link.dataset.left, link);
+  if (link.dataset.right !== link.dataset.left) add(link.dataset.right, link);
+});
+const barsOf = (word) => (word && word.dataset.bars ? word.dataset.bars.split(" ").map((place) => bars[Number(place)]) : []);
+const panel = document.createElement("div");
+const drawn = new Set();
+let marked = [];
+let pinned = null;
+
+const mark = (one, name) => { if (one) { one.classList.add(name); marked.push(one); } };
+const clear = () => { marked.forEach((one) => one.classList.remove("on", "near")); marked = []; };
+const light = (word, name) => { mark(word, name); barsOf(word).forEach((bar) => mark(bar, name)); };
+const line = (words) => {
+  const part = document.createElement("div");
+  part.textContent = words;
+  return part;
+};
+const sentence = (link) => [...link.childNodes].filter((part) => part.nodeName !== "BUTTON").map((part) => part.textContent).join("").trim();
+const named = (word) => {
+  const words = [...word.childNodes].filter((part) => part.className !== "name").map((part) => part.textContent);
+  return `${words.join("")} (${word.dataset.intervals})`;
+};
+const tell = (word, only) => {
+  const shown = only ? [only] : barsOf(word);
+  const known = shown.flatMap((bar) => titles[bars.indexOf(bar)].filter((one) => !/ \\(link \\d+: [^)]*\\)$/.test(one) && one !== "no links"));
+  const told = (ofWord.get(word.id) || []).map((link) => `link ${links.indexOf(link)}: ${sentence(link)}`);
+  panel.replaceChildren(...(known.length ? known : [named(word)]).map(line), ...told.map(line));
+};
+const show = (word, bar) => {
+  clear();
+  if (word) light(word, "on");
+  if (bar) mark(bar, "on");
+  (word && ofWord.get(word.id) || []).forEach((link) => {
+    [link.dataset.left, link.dataset.right].filter((name) => name !== word.id).forEach((name) => light(byId(name), "near"));
+  });
+  if (word) tell(word, bar);
+};
+const keep = (word, bar) => {
+  pinned = pinned === word ? null : word;
+  show(word, bar);
+  draw();
+};
+const near = (one) => { if (one) one.scrollIntoView({ block: "nearest", inline: "nearest" }); };
+
+const both = (word, bar, one, other) => {
+  one.addEventListener("pointerenter", () => { if (pinned === null) show(word, bar); });
+  one.addEventListener("focus", () => { if (pinned === null) show(word, bar); });
+  one.addEventListener("click", (event) => {
+    event.preventDefault();
+    event.stopPropagation();
+    keep(word, bar);
+    near(other());
+  });
+};
+document.querySelectorAll(".text .mark[data-intervals]").forEach((word) => {
+  if (word.dataset.intervals !== "") both(word, null, word, () => barsOf(word)[0]);
+});
+bars.forEach((bar, place) => {
+  const word = byId(bar.dataset.word);
+  bar.querySelector("title").remove();
+  both(word, bar, bar, () => word);
+  bar.addEventListener("keydown", (event) => {
+    const other = bars[place + { ArrowUp: -1, ArrowDown: 1 }[event.key]];
+    if (!other) return;
+    event.preventDefault();
+    other.focus();
+  });
+});
+document.addEventListener("keydown", (event) => {
+  if (event.key !== "Escape") return;
+  pinned = null;
+  clear();
+  draw();
+  panel.replaceChildren();
+});
+
+const arcs = document.createElementNS(SVG, "svg");
+const part = (name, attributes) => {
+  const made = document.createElementNS(SVG, name);
+  Object.entries(attributes).forEach(([key, value]) => made.setAttribute(key, value));
+  return made;
+};
+const placeOf = (name, frame) => {
+  const box = byId(name).getClientRects()[0];
+  return [box.left + box.width / 2 - frame.left + text.scrollLeft, box.top - frame.top + text.scrollTop];
+};
+const drawLink = ([[x, y], [endX, endY]], relation) => {
+  const height = Math.min(46, 12 + Math.abs(endX - x) / 8);
+  const name = part("text", { x: (x + endX) / 2, y: (y + endY) / 2 - 0.75 * height - 2 });
+  name.textContent = relation;
+  return [
+    part("path", { d: `M${x} ${y}C${x} ${y - height} ${endX} ${endY - height} ${endX} ${endY}` }),
+    part("path", { class: "head", d: `M${endX - 4} ${endY - 7}L${endX} ${endY}L${endX + 4} ${endY - 7}Z` }),
+    name,
+  ];
+};
+// All places are asked for before anything is drawn: each question after a change lays the text out anew.
+const draw = () => {
+  const ofPinned = pinned ? ofWord.get(pinned.id) || [] : [];
+  const wanted = [...new Set([...drawn, ...ofPinned])].filter((link) => byId(link.dataset.left) && byId(link.dataset.right));
+  const frame = text.getBoundingClientRect();
+  const ends = wanted.map((link) => [placeOf(link.dataset.left, frame), placeOf(link.dataset.right, frame)]);
+  arcs.replaceChildren(...wanted.flatMap((link, place) => drawLink(ends[place], link.dataset.relation || "")));
+};
+const button = (words, action) => {
+  const made = document.createElement("button");
+  made.type = "button";
+  made.textContent = words;
+  made.addEventListener("click", () => action(made));
+  return made;
+};
+const turn = (link, isDrawn) => {
+  if (isDrawn) drawn.add(link); else drawn.delete(link);
+  const made = link.querySelector("button");
+  made.textContent = isDrawn ? "hide" : "draw";
+  made.setAttribute("aria-pressed", String(isDrawn));
+};
+const tools = () => {
+  const made = document.createElement("p");
+  made.className = "tools";
+  made.append(
+    button("Draw all links", () => { links.forEach((link) => turn(link, true)); draw(); }),
+    button("Draw none", () => { links.forEach((link) => turn(link, false)); drawn.clear(); draw(); }),
+  );
+  return made;
+};
+if (text) {
+  arcs.setAttribute("class", "arcs");
+  arcs.setAttribute("aria-hidden", "true");
+  text.append(arcs);
+  panel.id = "panel";
+  panel.setAttribute("role", "status");
+  document.body.append(panel);
+  new ResizeObserver(draw).observe(text);
+  links.forEach((link) => link.append(button("draw", () => { turn(link, !drawn.has(link)); draw(); })));
+  if (links.length) document.querySelector(".links").before(tools());
+}
+const goTo = (walk, step) => {
+  pinned = null;
+  clear();
+  walk.forEach((one) => drawn.delete(one));
+  if (step.dataset.left !== step.dataset.right) drawn.add(step);
+  draw();
+  mark(step, "on");
+  [step.dataset.left, step.dataset.right].forEach((name) => light(byId(name), "on"));
+  panel.replaceChildren(line(sentence(step)));
+  near(byId(step.dataset.left));
+};
+document.querySelectorAll(".walk").forEach((list) => {
+  const walk = steps.filter((step) => step.parentNode === list);
+  let at = -1;
+  const made = document.createElement("p");
+  const move = (by) => { at = (at + by + walk.length) % walk.length; goTo(walk, walk[at]); };
+  made.className = "tools";
+  made.append(button("Next step", () => move(1)), button("Step before", () => move(at < 0 ? 0 : -1)));
+  list.before(made);
+  walk.forEach((step, place) => step.append(button("show", () => { at = place; goTo(walk, step); })));
+});
+"""
