@@ -7,7 +7,7 @@ looking at one block.
 from __future__ import annotations
 
 import re
-from bisect import bisect_left, bisect_right
+from bisect import bisect_right
 from itertools import accumulate
 
 from .edits import Edit
@@ -66,7 +66,7 @@ class ClientPlaces:
         wanted = self.units_before(start) + character
         if wanted >= self.units_before(end):
             return end
-        return start + bisect_left(range(start, end), wanted, key=self.units_before)
+        return start + bisect_right(range(start, end), wanted, key=self.units_before) - 1
 
     def end_of_line(self, line: int) -> int:
         """Where a line ends, without what ends it."""
