@@ -94,7 +94,12 @@ def prepared(options: argparse.Namespace, stop: Interruption) -> Iterator[None]:
 
 
 def settings_of(options: argparse.Namespace) -> Settings:
-    """What the file of settings says that lies where the paths are; standard input lies in the current folder."""
+    """What the file of settings says that lies where the paths are; standard input lies in the current folder.
+
+    A server looks for it where each document lies.
+    """
+    if options.command is serve_command:
+        return Settings()
     paths = getattr(options, "paths", None) or [options.document, getattr(options, "key", options.document)]
     return settings_for(["." if path == STANDARD_INPUT else path for path in paths], options.config)
 
@@ -150,7 +155,7 @@ def parser() -> Parser:
         command.add_argument("--jobs", type=int, metavar="N", help="how many files at once (default: one a processor)")
     for command in (check, clashes, agrees):
         command.add_argument("--cluster", metavar="ADDRESS", help="work on a Dask cluster, whose workers see the files and tml by the same paths; --jobs says nothing then")
-    for command in (check, tags, clashes, fixes, timeline_words(commands), matrix_words(commands), opens, agrees):
+    for command in (check, tags, clashes, fixes, timeline_words(commands), matrix_words(commands), opens, agrees, serve_words(commands)):
         command.add_argument("--config", metavar="FILE", help="the settings (default: tml-corpus.toml in the folder of the paths or nearest above)")
         command.add_argument("--tml", metavar="PROGRAM", help="the program tml (default: that of this repository, else that on PATH)")
     return whole
@@ -266,6 +271,19 @@ def agree_words(commands: argparse._SubParsersAction[Parser]) -> Parser:
     words.add_argument("--format", choices=AGREE_FORMS, default="text", help="the form of the output")
     words.add_argument("--touching", action="store_true", help=TOUCHING)
     words.set_defaults(command=agree_command)
+    return words
+
+
+def serve_words(commands: argparse._SubParsersAction[Parser]) -> Parser:
+    """The words of `serve`, which an editor starts."""
+    words = commands.add_parser(
+        "serve",
+        help="serve an editor, by the Language Server Protocol",
+        description="Speaks the Language Server Protocol over standard input and output: while a document is written it says which faults, "
+        "clashes and warnings it has, what a time, a link or an event is, where an identifier stands, what may be written, and mends what has "
+        "one cure. An editor starts it; docs/EDITORS.md says how.",
+    )
+    words.set_defaults(command=serve_command)
     return words
 
 
@@ -484,6 +502,13 @@ def open_command(options: argparse.Namespace, stop: Interruption) -> int:
 
     bounds = Bounds(options.pairs, options.limit)
     return show_open(options.program, options.document, bounds, options.touching, options.in_order, stop)
+
+
+def serve_command(options: argparse.Namespace, stop: Interruption) -> int:
+    """`tml-corpus serve`."""
+    from .serve import serve
+
+    return serve(options.program.path, options.config, stop.happened)
 
 
 def agree_command(options: argparse.Namespace, stop: Interruption) -> int:

@@ -68,7 +68,10 @@ class Named:
 
 def path_of(uri: str) -> str | None:
     """The path of a file that a URI names; None of another one."""
-    parts = urlsplit(uri)
+    try:
+        parts = urlsplit(uri)
+    except ValueError:
+        return None
     return os.path.abspath(unquote(parts.path, errors="surrogateescape")) if parts.scheme == "file" and parts.path else None
 
 

@@ -14,6 +14,9 @@ ERROR, WARNING, INFORMATION = 1, 2, 3
 FURTHER = 10
 """So many further faults are looked for, and a third as many further clashes."""
 
+MOST_RELATED = 16
+"""So many other links of a clash stand beside each: those that come next in it."""
+
 SOURCE = "tml"
 
 
@@ -85,7 +88,8 @@ def of_clash(document: OpenDocument, clash: PlacedClash) -> Iterator[Json]:
     for number, (start, end, text) in enumerate(others):
         one = f"clash, {number + 1} of {len(others)}: {text}"
         found = of_stretch(document, start, end, ERROR, "clash", one)
-        yield with_related(document, found, others[:number] + others[number + 1 :] + beside)
+        following = (others[number + 1 :] + others[:number])[:MOST_RELATED]
+        yield with_related(document, found, following + beside[:MOST_RELATED])
 
 
 def of_change(document: OpenDocument, change: PlacedChange, severity: int) -> Json:

@@ -49,7 +49,7 @@ def read_message(body: bytes) -> Arrived | None:
         value = json.loads(body)
     except (ValueError, RecursionError):
         return Unreadable(-32700, "a message is not JSON")
-    method, number = member(value, "method", kind=str, default=None), member(value, "id", kind=(int, str), default=None)  # type: ignore[arg-type]
+    method, number = member(value, "method", kind=str, default=None), member(value, "id", kind=(int, str), default=None)
     if method is None:
         return None if isinstance(value, dict) and "id" in value else Unreadable(-32600, "a message has no method")
     params = member(value, "params", default={})
@@ -85,7 +85,7 @@ class Inbox:
             self.moved.wait_for(lambda: len(self.waiting) < MOST_WAITING)
             if isinstance(arrived, Message):
                 if arrived.method == CANCEL:
-                    self.cancel(member(arrived.params, "id", kind=(int, str), default=None))  # type: ignore[arg-type]
+                    self.cancel(member(arrived.params, "id", kind=(int, str), default=None))
                     return
                 self.note(arrived)
             if arrived is not None:

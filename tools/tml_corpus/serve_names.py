@@ -3,6 +3,7 @@
 from __future__ import annotations
 
 from collections.abc import Iterator
+from heapq import nsmallest
 
 from .profile import IDENTIFIERS, LEFT, RIGHT, TABLE, Kind, Row
 from .serve_document import OF_TEXT, Named, OpenDocument
@@ -13,6 +14,10 @@ from .units import Unit
 
 SYMBOLS = {"EVENT": 24, "MAKEINSTANCE": 19, "TIMEX3": 14, "SIGNAL": 20, "TLINK": 25, "ALINK": 25, "SLINK": 25}
 """The kinds of symbols in the protocol that are nearest to the tags: event, object, constant, key and operator."""
+
+
+MOST_SYMBOLS = 10_000
+"""So many tags are listed at most, the first ones."""
 
 
 def location(document: OpenDocument, start: int, end: int) -> Json:
@@ -62,7 +67,7 @@ def refers_to(row: Row, kind: str) -> bool:
 
 def symbols(document: OpenDocument, *, as_tree: bool) -> list[Json]:
     """The tags with a meaning; where the client has no tree of them, as a plain list."""
-    tags = sorted((tag for tags in document.source.by_kind.values() for tag in tags), key=lambda tag: tag.start)
+    tags = nsmallest(MOST_SYMBOLS, (tag for tags in document.source.by_kind.values() for tag in tags), key=lambda tag: tag.start)
     ends = document.units.end_tags()
     found = []
     for tag in tags:

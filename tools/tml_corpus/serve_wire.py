@@ -81,7 +81,7 @@ def send(output: IO[bytes], message: dict[str, Json]) -> None:
     output.flush()
 
 
-def member(value: Json, *path: str, kind: type = object, default: Json = BadParams) -> Json:
+def member(value: Json, *path: str, kind: type | tuple[type, ...] = object, default: Json = BadParams) -> Json:
     """What stands in an object at a path, where it is of this kind; else the default, or no answer where there is none."""
     for name in path:
         value = value.get(name) if isinstance(value, dict) else None
