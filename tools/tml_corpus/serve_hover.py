@@ -30,7 +30,8 @@ def hover(document: OpenDocument, offset: int) -> Json:
     if not lines or tag is None:
         return None
     text = "\n\n".join([f"**{markdown(lines[0])}**", *map(markdown, lines[1:])])
-    return {"contents": {"kind": "markdown", "value": text}, "range": document.places.range(tag.start, tag.end)}
+    start, end = (named.start, named.end) if named is not None else (tag.start, tag.end)
+    return {"contents": {"kind": "markdown", "value": text}, "range": document.places.range(start, end)}
 
 
 def markdown(text: str) -> str:
