@@ -3,6 +3,7 @@
 import json
 import os
 import random
+import shutil
 import subprocess
 import sys
 import time
@@ -13,6 +14,7 @@ from corpus import COMPANION, EVENT, INSTANCE, TML, TOP, CorpusTest, document
 from tml_corpus.serve_places import UTF_8, UTF_16, ClientPlaces
 from tml_corpus.serve_wire import Incoming
 
+HERE = os.path.dirname(os.path.abspath(__file__))
 DAYS = '<TIMEX3 tid="t1" type="DATE" value="1998-02-26">Thursday</TIMEX3> <TIMEX3 tid="t2" type="DATE" value="1998-02-27">Friday</TIMEX3>\n'
 TOUCHING = document(DAYS + '<TLINK timeID="t1" relatedToTime="t2" relType="BEFORE"/>\n')
 
@@ -413,6 +415,62 @@ class Protocol(ServeTest):
         self.assertGreater(len(text), 90_000)
         # Some hundredths of a second are usual; this leaves room for a busy machine.
         self.assertLess(sorted(taken)[len(taken) // 2], 0.5)
+
+
+class Editors(CorpusTest):
+    """Clients that others wrote."""
+
+    def run_editor(self, *words):
+        """What an editor prints that is started with a document with one fault."""
+        self.write("d.xml", document('<EVENT eid="e1" class="State">x</EVENT>\n'))
+        done = subprocess.run(
+            words,
+            cwd=self.folder,
+            env={
+                **os.environ,
+                "HOME": self.folder,
+                "XDG_STATE_HOME": self.folder,
+                "TML_SERVE": " ".join((sys.executable, COMPANION, "serve", "--tml", TML)),
+                "TML_DOCUMENT": self.path("d.xml"),
+            },
+            stdin=subprocess.DEVNULL,
+            stdout=subprocess.PIPE,
+            stderr=subprocess.STDOUT,
+            check=False,
+            timeout=120,
+        )
+        return done.stdout.decode("utf-8", "replace").replace("\r", "")
+
+    def check_printed(self, printed, *wanted):
+        for line in wanted:
+            self.assertRegex(printed, rf"(?m)^{line}", printed)
+
+    @unittest.skipUnless(shutil.which("nvim"), "no program nvim")
+    def test_neovim(self):
+        script = os.path.join(HERE, "serve.lua")
+        printed = self.run_editor("nvim", "--headless", "--clean", "-n", "d.xml", "-c", f"luafile {script}", "-c", "qa!")
+        self.check_printed(
+            printed,
+            'said: class="State" is not a class: .*did you mean STATE',
+            r"offered: Mend names and values in other letters \(1 change\)",
+            'line: <EVENT eid="e1" class="STATE">x</EVENT>',
+            "then: the document has no creation time",
+            r"hover: \*\*x \(e1, STATE\)",
+            "stopped: true",
+        )
+
+    @unittest.skipUnless(shutil.which("emacs"), "no program emacs")
+    def test_emacs(self):
+        printed = self.run_editor("emacs", "--batch", "--no-init-file", "-l", os.path.join(HERE, "serve.el"))
+        if "no eglot" in printed:
+            self.skipTest("Emacs has no Eglot")
+        self.check_printed(
+            printed,
+            r'said: tml \[11 BadValue\]: class="State" is not a class: .*did you mean STATE',
+            r"then: tml \[no-creation-time\]: the document has no creation time",
+            r"hover: \*\*x \(e1, STATE\)",
+            "stopped",
+        )
 
 
 if __name__ == "__main__":
