@@ -129,7 +129,7 @@ class Server:
         if opened is None:
             raise Refused(BAD_PARAMS, "the document is not open")
         opened.document.program.wanted = partial(self.is_wanted, message)
-        return self.without_slips(lambda: REQUESTS[message.method](self, opened.document, message.params))
+        return self.without_slips(partial(REQUESTS[message.method], self, opened.document, message.params))
 
     def without_slips(self, work: Callable[[], Json]) -> Json:
         """Does some work, in which a slip of this program ends nothing else."""
@@ -155,7 +155,8 @@ class Server:
         if self.client.initialized:
             raise Refused(INVALID, "initialize comes once")
         offered = member(params, "capabilities", "general", "positionEncodings", kind=list, default=[])
-        tree = member(params, "capabilities", "textDocument", "documentSymbol", "hierarchicalDocumentSymbolSupport", kind=bool, default=False)
+        of_symbols = member(params, "capabilities", "textDocument", "documentSymbol", kind=dict, default={})
+        tree = member(of_symbols, "hierarchicalDocumentSymbolSupport", kind=bool, default=False)
         self.client = Client(UTF_8 if UTF_8 in offered else UTF_16, tree, initialized=True)
         capabilities = {
             "positionEncoding": self.client.encoding,
@@ -177,8 +178,9 @@ class Server:
     def change(self, message: Message) -> None:
         """Takes the new text of a document, which comes whole; of several the last one counts."""
         changes = member(message.params, "contentChanges", kind=list)
+        version = member(message.params, "textDocument", "version", kind=int, default=0)
         if changes and member(changes[-1], "range", default=None) is None:
-            self.take_text(message, member(changes[-1], "text", kind=str), member(message.params, "textDocument", "version", kind=int, default=0))
+            self.take_text(message, member(changes[-1], "text", kind=str), version)
 
     def take_text(self, message: Message, text: str, version: int) -> None:
         """Takes a text, of which there is something to say then."""
@@ -215,7 +217,7 @@ class Server:
         document, further = opened.document, opened.left[0]
         document.program.wanted = partial(self.is_next, opened, further)
         try:
-            found = self.without_slips(lambda: findings(document, further=further) if not further or has_further(document) else None)
+            found = self.without_slips(partial(findings, document, further=further)) if not further or has_further(document) else None
         except Overtaken:
             if self.inbox.is_overtaken(document.uri, opened.state):
                 opened.left.clear()

@@ -27,7 +27,7 @@ REST = re.compile(rb"[A-Za-z0-9_.:-]*")
 
 @dataclass(frozen=True)
 class Written:
-    """What is being written in a tag: its name, those of its attributes, and an attribute whose value is begun, or none; and since where."""
+    """What is being written in a tag: its name, those of its attributes, an attribute whose value is begun or none, and where it begins."""
 
     tag: str
     others: frozenset[str]

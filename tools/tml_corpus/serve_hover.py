@@ -56,7 +56,8 @@ def of_event(document: OpenDocument, tag: Unit) -> Iterator[str]:
     name = document.source.value(tag, "eid")
     instances = document.source.instances.get(name, [])
     text = document.inner_text(tag) or name
-    said = f"instances {', '.join(instances)}" if len(instances) > 1 else f"instance {instances[0]}" if instances else "no instance, so no link can name it"
+    noun = "instance" if len(instances) == 1 else "instances"
+    said = f"{noun} {', '.join(instances)}" if instances else "no instance, so no link can name it"
     yield f"{text} ({name}, {document.source.value(tag, 'class')}): {said}"
     for instance in instances:
         yield from what_follows(document, instance)

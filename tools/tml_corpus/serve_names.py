@@ -72,7 +72,7 @@ def symbols(document: OpenDocument, *, as_tree: bool) -> list[Json]:
     found = []
     for tag in tags:
         end = document.units[ends[tag.start]].end if tag.start in ends else tag.end
-        symbol = {"name": name_of(document, tag), "kind": SYMBOLS[tag.name]}
+        symbol: dict[str, Json] = {"name": name_of(document, tag), "kind": SYMBOLS[tag.name]}
         if as_tree:
             whole, own = document.places.range(tag.start, end), document.places.range(tag.start, tag.end)
             found.append({**symbol, "detail": detail_of(document, tag), "range": whole, "selectionRange": own})
@@ -97,4 +97,5 @@ def detail_of(document: OpenDocument, tag: Unit) -> str:
         left, right = source.value(tag, "eventInstanceID"), source.value(tag, OTHER_ENDS[tag.name])
     else:
         left, right = (next(filter(None, (source.value(tag, name) for name in pair)), "") for pair in (LEFT, RIGHT))
-    return " ".join(part for part in (left and wording.text_of(left), source.value(tag, "relType"), right and wording.text_of(right)) if part)
+    parts = left and wording.text_of(left), source.value(tag, "relType"), right and wording.text_of(right)
+    return " ".join(filter(None, parts))
