@@ -7,6 +7,7 @@ from collections.abc import Callable, Iterator
 
 from .lint import INVERSES
 from .program import CLASH
+from .references import MOST_NAMED, some
 from .rows import KINDS, Row
 from .serve_document import OpenDocument
 from .serve_wire import Json
@@ -57,9 +58,9 @@ def of_event(document: OpenDocument, tag: Unit) -> Iterator[str]:
     instances = document.source.instances.get(name, [])
     text = document.inner_text(tag) or name
     noun = "instance" if len(instances) == 1 else "instances"
-    said = f"{noun} {', '.join(instances)}" if instances else "no instance, so no link can name it"
+    said = f"{noun} {some(instances)}" if instances else "no instance, so no link can name it"
     yield f"{text} ({name}, {document.source.value(tag, 'class')}): {said}"
-    for instance in instances:
+    for instance in instances[:MOST_NAMED]:
         yield from what_follows(document, instance)
 
 
