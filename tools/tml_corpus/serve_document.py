@@ -12,8 +12,8 @@ from urllib.parse import unquote, urlsplit
 
 from .check import Judgement, judge_document, placed_warnings
 from .clash_report import ClashReport, Wanted
-from .clash_search import report_of
-from .clashes import is_timeline
+from .clash_search import ClashSearch
+from .clashes import is_timeline, read_clash
 from .cutting import units_of_whole
 from .faults import BAD_MARKUP, Fault, read_fault
 from .files import Found
@@ -133,7 +133,8 @@ class OpenDocument:
 
     def clashes(self, more: int) -> ClashReport:
         """The clash of a document that no timeline fits, with at most so many further ones, and what is suspect."""
-        return report_of(self.program, Found(self.path), self.text, Wanted(more=more, lint=self.lint, every_clash=False), self.reply)
+        wanted = Wanted(more=more, lint=self.lint, every_clash=False)
+        return ClashSearch(self.program, Found(self.path), self.text, wanted, self.wording).report(read_clash(self.reply))
 
     @cached_property
     def touching(self) -> list[Change]:
