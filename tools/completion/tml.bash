@@ -81,9 +81,10 @@ _tml_corpus() {
         open) options+=(--limit --pairs --touching --config --tml --jobs) ;;
         agree) options+=(--links --format --touching --glob --config --tml --jobs --cluster) ;;
         report) options+=(--output -o --more --glob --config --tml --jobs) ;;
+        serve) options+=(--config --tml) ;;
     esac
     case ${COMP_WORDS[COMP_CWORD - 1]}:$COMP_CWORD:${COMP_WORDS[COMP_CWORD]} in
-        *:1:*) _tml_offer check fix tags clashes timeline matrix seconds open agree report --help ;;
+        *:1:*) _tml_offer check fix tags clashes timeline matrix seconds open agree report serve --help ;;
         --format:*)
             case ${COMP_WORDS[1]} in
                 matrix) _tml_offer text csv html ;;

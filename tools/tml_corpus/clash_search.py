@@ -63,10 +63,10 @@ def placed_link(wording: Wording, number: int) -> PlacedLink:
 class ClashSearch:
     """The search in one accepted document."""
 
-    def __init__(self, program: Program, found: Found, document: bytes, wanted: Wanted) -> None:
+    def __init__(self, program: Program, found: Found, document: bytes, wanted: Wanted, wording: Wording | None = None) -> None:
         self.program, self.found, self.document, self.wanted = program, found, document, wanted
         self.path = found.path
-        self.wording = Wording(program, document)
+        self.wording = Wording(program, document) if wording is None else wording
         self.changes = touching_changes(self.wording)
 
     @cached_property

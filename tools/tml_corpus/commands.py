@@ -95,7 +95,12 @@ def prepared(options: argparse.Namespace, stop: Interruption) -> Iterator[None]:
 
 
 def settings_of(options: argparse.Namespace) -> Settings:
-    """What the file of settings says that lies where the paths are; standard input lies in the current folder."""
+    """What the file of settings says that lies where the paths are; standard input lies in the current folder.
+
+    A server looks for it where each document lies.
+    """
+    if options.command is serve_command:
+        return Settings()
     paths = getattr(options, "paths", None) or [options.document, getattr(options, "key", options.document)]
     return settings_for(["." if path == STANDARD_INPUT else path for path in paths], options.config)
 
@@ -151,7 +156,7 @@ def parser() -> Parser:
         command.add_argument("--jobs", type=int, metavar="N", help="how many files at once (default: one a processor)")
     for command in (check, clashes, agrees):
         command.add_argument("--cluster", metavar="ADDRESS", help="work on a Dask cluster, whose workers see the files and tml by the same paths; --jobs says nothing then")
-    for command in (check, tags, clashes, fixes, timeline_words(commands), matrix_words(commands), opens, agrees, seconds_words(commands), reports):
+    for command in (check, tags, clashes, fixes, timeline_words(commands), matrix_words(commands), opens, agrees, seconds_words(commands), reports, serve_words(commands)):
         command.add_argument("--config", metavar="FILE", help="the settings (default: tml-corpus.toml in the folder of the paths or nearest above)")
         command.add_argument("--tml", metavar="PROGRAM", help="the program tml (default: that of this repository, else that on PATH)")
     return whole
@@ -300,6 +305,19 @@ def report_words(commands: argparse._SubParsersAction[Parser]) -> Parser:
     words.add_argument("-o", "--output", required=True, metavar="FOLDER", help="the folder of the pages: a new one, or that of an earlier report")
     words.add_argument("--more", type=number_from_zero, default=0, metavar="N", help="go on to at most N further faults or clashes of each document")
     words.set_defaults(command=report_command)
+    return words
+
+
+def serve_words(commands: argparse._SubParsersAction[Parser]) -> Parser:
+    """The words of `serve`, which an editor starts."""
+    words = commands.add_parser(
+        "serve",
+        help="serve an editor, by the Language Server Protocol",
+        description="Speaks the Language Server Protocol over standard input and output: while a document is written it says which faults, "
+        "clashes and warnings it has, what a time, a link or an event is, where an identifier stands, what may be written, and mends what has "
+        "one cure. An editor starts it; docs/EDITORS.md says how.",
+    )
+    words.set_defaults(command=serve_command)
     return words
 
 
@@ -525,6 +543,13 @@ def open_command(options: argparse.Namespace, stop: Interruption) -> int:
 
     bounds = Bounds(options.pairs, options.limit)
     return show_open(options.program, options.document, bounds, options.touching, options.in_order, stop)
+
+
+def serve_command(options: argparse.Namespace, stop: Interruption) -> int:
+    """`tml-corpus serve`."""
+    from .serve import serve
+
+    return serve(options.program.path, options.config, stop.happened)
 
 
 def agree_command(options: argparse.Namespace, stop: Interruption) -> int:

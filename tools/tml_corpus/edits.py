@@ -2,7 +2,7 @@
 
 from __future__ import annotations
 
-from collections.abc import Iterable
+from collections.abc import Iterable, Iterator
 from dataclasses import dataclass
 
 from .units import Attribute, Unit
@@ -20,11 +20,19 @@ class Edit:
 def applied(document: bytes, edits: Iterable[Edit]) -> bytes:
     """The document with the edits; of two that overlap only the first one is made."""
     parts, at = [], 0
+    for edit in disjoint(edits):
+        parts += [document[at : edit.start], edit.text]
+        at = edit.end
+    return b"".join([*parts, document[at:]])
+
+
+def disjoint(edits: Iterable[Edit]) -> Iterator[Edit]:
+    """The edits in the order of their places; of two that overlap the first one."""
+    at = 0
     for edit in sorted(edits, key=lambda edit: edit.start):
         if edit.start >= at:
-            parts += [document[at : edit.start], edit.text]
+            yield edit
             at = edit.end
-    return b"".join([*parts, document[at:]])
 
 
 def blank(thing: Attribute | Unit) -> Edit:

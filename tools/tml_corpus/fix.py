@@ -50,6 +50,16 @@ FIXERS: dict[int, list[tuple[str, Edits]]] = {
 """What may help against a fault, each with the words for it."""
 
 
+@dataclass(frozen=True)
+class Step:
+    """A kind of slip that was mended: the words for it, its edits, the document after them, and the fault that is first then."""
+
+    words: str
+    edits: list[Edit]
+    after: bytes
+    following: Fault | None
+
+
 @dataclass
 class Fixed:
     """A document that was mended as far as there is one cure only, what was changed, and the fault that is left."""
@@ -100,13 +110,13 @@ def mended(program: Program, document: bytes) -> Fixed:
         step = next(steps(program, fixed.after, fault), None) if fault is not None else None
         if step is None:
             break
-        words, fixed.after, fault = step
-        fixed.changes.append(words)
+        fixed.after, fault = step.after, step.following
+        fixed.changes.append(step.words)
     fixed.left = fault
     return fixed
 
 
-def steps(program: Program, document: bytes, fault: Fault) -> Iterator[tuple[str, bytes, Fault | None]]:
+def steps(program: Program, document: bytes, fault: Fault) -> Iterator[Step]:
     """The changes that help against a fault: after each the document is accepted, or its first fault comes later."""
     units = units_of_whole(program, document) if fault.number > faults.BAD_MARKUP else None
     for words, edits_of in FIXERS.get(fault.number, []):
@@ -117,7 +127,7 @@ def steps(program: Program, document: bytes, fault: Fault) -> Iterator[tuple[str
             shift = sum(len(edit.text) - (edit.end - edit.start) for edit in edits if edit.end <= fault.offset)
             moved = Fault(fault.number, fault.name, fault.offset + shift)
             if following is None or following.order() > moved.order():
-                yield f"{words} ({counted(len(edits), 'change')})", changed, following
+                yield Step(f"{words} ({counted(len(edits), 'change')})", edits, changed, following)
 
 
 def first_fault(program: Program, document: bytes) -> Fault | None:

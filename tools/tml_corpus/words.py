@@ -37,7 +37,7 @@ class Wording:
 
     def __init__(self, program: Program, document: bytes, units: Units | None = None) -> None:
         self.program, self.document = program, document
-        self.units = units or units_of_whole(program, document)
+        self.units = units_of_whole(program, document) if units is None else units
         self.source = Source(document, self.units)
         self.places = self.source.places
         self.tags = {kind: self.source.identified(kind) for kind in ("EVENT", "MAKEINSTANCE", "TIMEX3")}
