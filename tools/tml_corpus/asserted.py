@@ -59,7 +59,7 @@ def asserted_copy(program: Program, document: bytes) -> AssertedCopy:
     names = set(unasserted(wording))
     instances = [tag for tag, values in wording.source.valued("MAKEINSTANCE") if values.get("eiid", "") in names]
     links = list(links_of(wording, names))
-    edits = [blank(unit) for tag in instances + links for unit in whole(wording, tag)]
+    edits = [blank(unit) for unit in whole(wording, instances + links)]
     temporal = sum(tag.name == "TLINK" for tag in links)
     return AssertedCopy(applied(document, edits), len(instances), temporal)
 
@@ -72,7 +72,11 @@ def links_of(wording: Wording, names: Collection[str]) -> Iterator[Unit]:
                 yield tag
 
 
-def whole(wording: Wording, tag: Unit) -> list[Unit]:
-    """A tag that holds nothing, with its end tag where it has one."""
+def whole(wording: Wording, tags: list[Unit]) -> Iterator[Unit]:
+    """Tags that hold nothing, with the end tags of those that have one."""
     units = wording.units
-    return [tag] if tag.kind == "empty" else [tag, units[units.end_tags()[tag.start]]]
+    ends = units.end_tags() if any(tag.kind == "start" for tag in tags) else {}
+    for tag in tags:
+        yield tag
+        if tag.start in ends:
+            yield units[ends[tag.start]]
