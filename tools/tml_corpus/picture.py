@@ -27,6 +27,7 @@ CAPTION = (
     "so far it reaches in each of these timelines; a dotted one is merely the earliest."
 )
 APART = "Order not known: no link or date ties these to anything."
+MOVING = "merely the earliest, with the spans of its ends"
 NO_INTERVAL = "There is no interval: the document has no event instance and no time."
 
 STYLE = (
@@ -184,17 +185,26 @@ def heading(timeline: Timeline, width: float, title: str = "Timeline of ", capti
 
 def legend(timeline: Timeline, width: float, y: float) -> tuple[list[str], float]:
     """The kinds of bars that there are, in lines from a height on; and how far down they reach."""
-    kinds = [(kind, KINDS[kind], BAR) for kind in KINDS if any(row.kind == kind for row in timeline.rows)]
-    kinds += [("event unasserted", NOT_ASSERTED, THIN)] if any(row.unasserted for row in timeline.rows) else []
+    kinds = [(kind, KINDS[kind]) for kind in KINDS if any(row.kind == kind for row in timeline.rows)]
+    kinds += [("event unasserted", NOT_ASSERTED)] if any(row.unasserted for row in timeline.rows) else []
+    kinds += [("event moving", MOVING)] if any(is_moving(row) for row in timeline.rows) else []
     parts, x = [], float(MARGIN)
-    for kind, said, height in kinds:
+    for kind, said in kinds:
         broad = 36 + measured(said, SMALL) + GAP
         if x + broad > width and x > MARGIN:
             x, y = float(MARGIN), y + 20
-        sign = bar(kind.split(" ", 1)[0], x, y - 4 - height / 2, 28, height)
-        parts.append(f'<g class="{kind}">{sign}{words(x + 36, y, said, "small")}</g>')
+        parts.append(f'<g class="{kind}">{sign(kind, x, y - 4)}{words(x + 36, y, said, "small")}</g>')
         x += broad
     return parts, y
+
+
+def sign(kind: str, x: float, middle: float) -> str:
+    """The sign of a kind of bars."""
+    height = THIN if kind.endswith("unasserted") else BAR
+    if not kind.endswith("moving"):
+        return bar(kind.split(" ", 1)[0], x, middle - height / 2, 28, height)
+    lines = span(x, x + 12, middle - 8) + span(x + 20, x + 28, middle + 8)
+    return bar("event", x, middle - height / 2, 20) + bar("event", x + 12, middle - height / 2, 8, called="core") + lines
 
 
 def axis(layout: Layout, lines: Lines) -> str:
@@ -211,27 +221,30 @@ def axis(layout: Layout, lines: Lines) -> str:
 
 def drawn_row(row: Row, layout: Layout, y: float) -> str:
     """One interval: its text and name, its dates, its bar, and what is shown where it is pointed at."""
-    latest = row.latest or (row.start, row.finish)
-    is_moving = row.is_tied and latest != (row.start, row.finish)
-    parts = [opened(row, y, layout.width(), layout.labels, is_moving)]
+    parts = [opened(row, y, layout.width(), layout.labels)]
     if not row.is_tied:
-        parts.append(anywhere(layout.x(0), layout.x(layout.ranks), y))
-    else:
-        parts.append(bar_of(row, layout.x(row.start), y, layout.x(row.finish) - layout.x(row.start)))
-    if is_moving:
-        parts += moving(row, layout, y, latest)
-    if row.is_tied and layout.ranks * layout.step > FAR:
+        return "".join([*parts, anywhere(layout.x(0), layout.x(layout.ranks), y)]) + "</g>\n"
+    parts.append(bar_of(row, layout.x(row.start), y, layout.x(row.finish) - layout.x(row.start)))
+    if is_moving(row):
+        parts += moving(row, layout, y)
+    if layout.ranks * layout.step > FAR:
         parts.append(beside(row, layout, y + 15))
     return "".join(parts) + "</g>\n"
 
 
-def opened(row: Row, y: float, width: float, labels: float, is_moving: bool = False) -> str:
+def is_moving(row: Row) -> bool:
+    """Whether an end of an interval can move below the same highest rank."""
+    return row.is_tied and row.latest not in (None, (row.start, row.finish))
+
+
+def opened(row: Row, y: float, width: float, labels: float) -> str:
     """The beginning of a row: what is shown where it is pointed at, its label, and its dates or the words around it."""
     text, name = label(row)
     called = f' <tspan class="name">{escaped(name)}</tspan>' if name else ""
-    kinds = [row.kind, *(["unasserted"] if row.unasserted else []), *(["moving"] if is_moving else []), *([] if row.is_tied else ["untied"])]
+    states = {"unasserted": bool(row.unasserted), "moving": is_moving(row), "untied": not row.is_tied}
+    kinds = " ".join([row.kind, *(name for name, is_so in states.items() if is_so)])
     parts = [
-        f'<g class="row {" ".join(kinds)}"><title>{escaped(row.description())}</title>',
+        f'<g class="row {kinds}"><title>{escaped(row.description())}</title>',
         f'<rect class="back" y="{number(y)}" width="{number(width)}" height="{ROW}"/>',
         f'<text x="{MARGIN}" y="{number(y + 15)}">{escaped(text)}{called}</text>',
     ]
@@ -250,17 +263,22 @@ def anywhere(left: float, right: float, y: float) -> str:
     return f'<path class="anywhere" d="M{number(left)} {number(y + ROW / 2)}H{number(right)}"/>'
 
 
-def moving(row: Row, layout: Layout, y: float, latest: tuple[int, int]) -> list[str]:
+def moving(row: Row, layout: Layout, y: float) -> list[str]:
     """How far the ends of an interval can move, above its bar and below it; and what is solid, where it reaches in any case."""
+    latest = row.latest or (row.start, row.finish)
     parts = []
     if latest[0] < row.finish:
         parts.append(bar_of(row, layout.x(latest[0]), y, layout.x(row.finish) - layout.x(latest[0]), "core"))
     for first, last, height in ((row.start, latest[0], y + 3), (row.finish, latest[1], y + ROW - 3)):
         if first < last:
-            left, right = number(layout.x(first)), number(layout.x(last))
-            caps = f"M{left} {number(height - 2)}v4M{right} {number(height - 2)}v4"
-            parts.append(f'<path class="span" d="M{left} {number(height)}H{right}{caps}"/>')
+            parts.append(span(layout.x(first), layout.x(last), height))
     return parts
+
+
+def span(left: float, right: float, y: float) -> str:
+    """The line of a span within which an end can move."""
+    begin, end, caps = number(left), number(right), number(y - 2)
+    return f'<path class="span" d="M{begin} {number(y)}H{end}M{begin} {caps}v4M{end} {caps}v4"/>'
 
 
 def beside(row: Row, layout: Layout, y: float) -> str:
