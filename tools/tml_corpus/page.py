@@ -79,8 +79,8 @@ const named = (place, touching) => {
   });
 };
 const drawLinks = (place) => {
-  const of = links.filter(([left, , right]) => left !== right && (left === place || right === place));
-  const touching = of.filter(([left, , right]) => anchor(left) && anchor(right));
+  const joins = ([left, , right]) => left !== right ? [left, right].includes(place) : false;
+  const touching = links.filter((one) => joins(one) ? [one[0], one[2]].every(anchor) : false);
   drawn.replaceChildren(...touching.map(curve), ...named(place, touching));
 };
 const mark = (row, name) => { row.classList.add(name); marked.push(row); };
@@ -162,7 +162,7 @@ const found = () => {
 search.addEventListener("input", () => {
   const places = found();
   const isOn = search.value.trim() !== "";
-  rows.forEach((row, place) => row.classList.toggle("dim", isOn && !places.includes(place)));
+  rows.forEach((row, place) => row.classList.toggle("dim", isOn ? !places.includes(place) : false));
   document.getElementById("count").textContent = isOn ? `${places.length} of ${rows.length} rows` : "";
 });
 search.addEventListener("keydown", (event) => {

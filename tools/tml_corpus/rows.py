@@ -20,7 +20,7 @@ KINDS = {
 
 
 NOT_ASSERTED = "event that the document does not assert"
-NOT_KNOWN = "order not known: no link or date ties it to anything"
+NOT_KNOWN = "order not known, since no link or date ties it to anything"
 
 
 @dataclass(frozen=True)
