@@ -53,7 +53,7 @@ def day_before(day: Day) -> Day:
         return year, month, number - 1
     if month == 1:
         return year - 1, 12, 31
-    return year, month - 1, calendar.mdays[month - 1] + (month == 3 and calendar.isleap(year))
+    return year, month - 1, calendar.monthrange(year, month - 1)[1]
 
 
 def between(first: Day, last: Day, parts: int) -> str:

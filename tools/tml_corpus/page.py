@@ -74,7 +74,7 @@ const named = (place, touching) => {
   return [...names].map(([other, relations]) => {
     const [x, y] = anchor(other);
     const part = shape("text", { class: "relation", x: x + 10, y: y + 4 });
-    part.textContent = relations.join(", ");
+    part.textContent = [...new Set(relations)].join(", ");
     return part;
   });
 };

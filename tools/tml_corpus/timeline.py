@@ -107,7 +107,7 @@ def picture_of_placing(program: Program, path: str, target: str, found: Placed, 
     ranks = [seconds[number] for number in range(len(seconds))]
     timeline = with_ranges(in_rows(os.path.basename(path), found.wording, ranks, untied(matrix)), found)
     timeline = ordered(replace(timeline, matrix=matrix), choices)
-    return (scaled_svg if form_of(target) == ".svg" else scaled_page)(timeline)
+    return scaled_svg(timeline) if form_of(target) == ".svg" else scaled_page(timeline)
 
 
 def draw_document(program: Program, path: str, document: bytes, target: str, choices: Choices) -> Drawn:
