@@ -69,7 +69,8 @@ class Greatest(unittest.TestCase):
             found = list(itertools.chain(*greatest_timeline(matrix, list(zip(least[::2], least[1::2], strict=True)))))
             self.assertTrue(fits(net, tuple(found), range(len(net.links))))
             if len(found) <= 4:
-                fitting = [ranks for ranks in itertools.product(range(highest + 1), repeat=len(found)) if fits(net, ranks, range(len(net.links)))]
+                tried = itertools.product(range(highest + 1), repeat=len(found))
+                fitting = [ranks for ranks in tried if fits(net, ranks, range(len(net.links)))]
                 self.assertEqual(found, [max(ranks) for ranks in zip(*fitting, strict=True)])
 
 
@@ -95,8 +96,8 @@ class Known(test_timeline.TimelineTest):
         self.assertNotIn("Order not known", self.drawn(document(event(1) + event(2) + link(1, "BEFORE", 2))))
 
     def test_spans_are_drawn_and_told(self):
-        content = "".join(map(event, range(1, 6))) + link(1, "BEFORE", 2) + link(2, "BEFORE", 3) + link(1, "BEFORE", 4) + link(5, "INCLUDES", 2)
-        picture = self.drawn(document(content))
+        links = link(1, "BEFORE", 2) + link(2, "BEFORE", 3) + link(1, "BEFORE", 4) + link(5, "INCLUDES", 2)
+        picture = self.drawn(document("".join(map(event, range(1, 6))) + links))
         groups = self.groups(picture)
         counts = {name: sum(path.get("class") == "span" for path in group.iter(SVG + "path")) for name, group in groups.items()}
         self.assertEqual(counts, {"i1": 0, "i2": 0, "i3": 0, "i4": 2, "i5": 2})

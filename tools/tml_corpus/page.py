@@ -223,8 +223,8 @@ def page(timeline: Timeline, draw: Callable[[Timeline], str] = drawing) -> str:
         f'<meta http-equiv="Content-Security-Policy" content="{policy}"/>\n'
         f"<title>Timeline of {escaped(plain(timeline.title))}</title>\n<style>{STYLE}</style>\n</head>\n<body>\n"
         f"{TOOLS}<main>\n{draw(timeline)}</main>\n"
-        '<div id="links" role="status" tabindex="0">Point at a row, or go to it with the tabulator and the arrow keys, to see its links and '
-        "what it can be to the others; a click, or the enter key, keeps them here.</div>\n"
+        '<div id="links" role="status" tabindex="0">Point at a row, or go to it with the tabulator and the arrow keys, to see its links '
+        "and what it can be to the others; a click, or the enter key, keeps them here.</div>\n"
         f"<noscript><p>{WITHOUT}</p></noscript>\n"
         f'<script type="application/json" id="partners">{partners}</script>\n'
         f'<script type="application/json" id="ends">{compact(timeline.ends)}</script>\n'

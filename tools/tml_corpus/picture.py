@@ -23,8 +23,8 @@ PLOT, WIDEST_STEP, NARROWEST_STEP, FAR = 720, 30, 4, 480
 CAPTION = (
     "An axis of ranks, which have no lengths: each start and end stands as early as the links and dates allow. Equal ranks are at the "
     "same time as far as is known. What stands farther left here need not come first in every timeline that fits: where an end can move, "
-    "below the same highest rank, the line above a bar is the span of its start, and the line below it that of its end. A solid bar is known: "
-    "so far it reaches in each of these timelines; a dotted one is merely the earliest."
+    "below the same highest rank, the line above a bar is the span of its start, and the line below it that of its end. A solid bar is "
+    "known: so far it reaches in each of these timelines; a dotted one is merely the earliest."
 )
 APART = "Order not known: no link or date ties these to anything."
 MOVING = "merely the earliest, with the spans of its ends"

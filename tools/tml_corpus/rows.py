@@ -90,7 +90,8 @@ class Row:
 def moved(end: str, rank: int, latest: int, leeway: Leeway) -> str:
     """How far one end of an interval can move: within the ranks that are drawn, in other timelines without a gap, and by the calendar."""
     here = f"up to {latest} within these ranks, " if latest > rank else ""
-    ranks = f"{end} at rank {rank}, {here}" + (f"elsewhere up to {leeway.most}" if leeway.most > rank else "as in each timeline without a gap")
+    elsewhere = f"elsewhere up to {leeway.most}" if leeway.most > rank else "as in each timeline without a gap"
+    ranks = f"{end} at rank {rank}, {here}{elsewhere}"
     if leeway.dates is None or leeway.dates[0] == leeway.dates[1]:
         return ranks
     return f"{ranks}; by the calendar between {leeway.dates[0]} and {leeway.dates[1]}"

@@ -8,7 +8,9 @@ from .axis import Mark, extent, marks
 from .civil import civil, length
 from .lettering import measured
 from .page import page
-from .picture import BAR, GAP, HATCH, LEAST_WIDTH, MARGIN, ROW, SMALL, STYLE, Lines, anywhere, bar_of, columns_of, framed, heading, number, opened, words
+from .picture import (
+    BAR, GAP, HATCH, LEAST_WIDTH, MARGIN, ROW, SMALL, STYLE, Lines, anywhere, bar_of, columns_of, framed, heading, number, opened, words,
+)  # fmt: skip
 from .placed import Placed, PlacedInterval
 from .rows import NOT_KNOWN, Row, Timeline
 from .seconds_formats import span

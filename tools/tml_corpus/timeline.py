@@ -8,7 +8,7 @@ from __future__ import annotations
 
 import os
 import re
-from collections.abc import Collection, Sequence
+from collections.abc import Callable, Collection, Mapping, Sequence
 from dataclasses import dataclass, replace
 
 from .around import Around, Text, text_around
@@ -30,13 +30,13 @@ from .statuses import Status
 from .units import room_for
 from .words import Wording
 
-FORMS = {".svg": svg, ".html": page, ".htm": page}
+FORMS: Mapping[str, Callable[[Timeline], str]] = {".svg": svg, ".html": page, ".htm": page}
 """How a timeline is drawn, by the end of the file's name."""
 
 
 @dataclass(frozen=True)
 class Choices:
-    """How a timeline is asked for: links between dates that touch may be read so, what is not asserted left out, rows put as in the text."""
+    """How a timeline is asked for: dates that touch may be read so, what is not asserted left out, and rows put as in the text."""
 
     touching: bool = False
     asserted: bool = False
