@@ -103,7 +103,7 @@ class Known(test_timeline.TimelineTest):
         self.assertEqual(counts, {"i1": 0, "i2": 0, "i3": 0, "i4": 2, "i5": 2})
         told = next(title for title in self.titles(picture) if "(i4)" in title.split("\n")[0])
         self.assertIn("\nstart at rank 2, up to 4 within these ranks, elsewhere up to ", told)
-        cores = [rect for rect in groups["i5"].iter(SVG + "rect") if rect.get("class") == "core"]
+        cores = [rect for rect in groups["i5"].iter(SVG + "rect") if rect.get("class") == "bar core"]
         self.assertEqual(len(cores), 1)
 
     def test_greatest_timelines_are_verified(self):

@@ -33,13 +33,12 @@ NO_INTERVAL = "There is no interval: the document has no event instance and no t
 STYLE = (
     'text{font:13px "DejaVu Sans",Verdana,Helvetica,Arial,sans-serif;fill:#111}'
     "text.small{font-size:12px}text.head{font-size:17px;font-weight:bold}text.apart{font-weight:bold}.name{fill:#555}.small{fill:#333}"
-    ".number{text-anchor:middle}.around{fill:#555}.around tspan{fill:#111;font-weight:bold}"
+    ".number{text-anchor:middle}.around tspan{font-weight:bold}"
     ".odd{fill:#eef1f4}.grid{stroke:#c3cad1;fill:none}.axis{stroke:#333;fill:none}.back{fill:#f6b800;fill-opacity:0}"
-    ".bar,.core{fill:#fff;stroke:#16324f;stroke-width:1.5}.exact .bar,.exact .core{fill:#16324f}"
-    ".within .bar,.within .core{fill:url(#hatch)}.free .bar,.free .core{stroke-dasharray:4 2.5}"
-    ".moving .bar{fill-opacity:.18;stroke-width:1;stroke-dasharray:1 2.2}.span{stroke:#a34b00;stroke-width:1.5;fill:none}"
+    ".bar{fill:#fff;stroke:#16324f;stroke-width:1.5}.exact .bar{fill:#16324f}.within .bar{fill:url(#hatch)}"
+    ".free .bar{stroke-dasharray:4 2.5}.moving .bar:not(.core){fill-opacity:.18;stroke-width:1;stroke-dasharray:1 2.2}.span{stroke:#a34b00;stroke-width:1.5;fill:none}"
     ".anywhere{stroke:#777;stroke-dasharray:1 5;fill:none}"
-    ".unasserted text{font-style:italic}.unasserted .bar,.unasserted .core{stroke:#777;fill:#ddd}"
+    ".unasserted text{font-style:italic}.unasserted .bar{stroke:#777;fill:#ddd}"
 )
 
 HATCH = (
@@ -204,7 +203,7 @@ def sign(kind: str, x: float, middle: float) -> str:
     if not kind.endswith("moving"):
         return bar(kind.split(" ", 1)[0], x, middle - height / 2, 28, height)
     lines = span(x, x + 12, middle - 8) + span(x + 20, x + 28, middle + 8)
-    return bar("event", x, middle - height / 2, 20) + bar("event", x + 12, middle - height / 2, 8, called="core") + lines
+    return bar("event", x, middle - height / 2, 20) + bar("event", x + 12, middle - height / 2, 8, called="bar core") + lines
 
 
 def axis(layout: Layout, lines: Lines) -> str:
@@ -268,7 +267,7 @@ def moving(row: Row, layout: Layout, y: float) -> list[str]:
     latest = row.latest or (row.start, row.finish)
     parts = []
     if latest[0] < row.finish:
-        parts.append(bar_of(row, layout.x(latest[0]), y, layout.x(row.finish) - layout.x(latest[0]), "core"))
+        parts.append(bar_of(row, layout.x(latest[0]), y, layout.x(row.finish) - layout.x(latest[0]), "bar core"))
     for first, last, height in ((row.start, latest[0], y + 3), (row.finish, latest[1], y + ROW - 3)):
         if first < last:
             parts.append(span(layout.x(first), layout.x(last), height))
