@@ -76,7 +76,7 @@ _tml_corpus() {
         fix) options+=(--diff --write --glob --config --tml --jobs) ;;
         tags) options+=(--glob --config --tml --jobs) ;;
         clashes) options+=(--evidence --repair "${shared[@]}") ;;
-        timeline) options+=(--output -o --touching --seconds --config --tml) ;;
+        timeline) options+=(--output -o --touching --seconds --asserted --text-order --config --tml) ;;
         matrix | seconds) options+=(--format --touching --config --tml) ;;
         open) options+=(--limit --pairs --touching --config --tml --jobs) ;;
         agree) options+=(--links --format --touching --glob --config --tml --jobs --cluster) ;;

@@ -1,41 +1,74 @@
 // Runs the script of a page of `tml-corpus timeline` over rows that stand for those of a browser: node page.js PAGE WORD ..
-// Each word is what is done to a row, as focus:3, pointermove:0, click:2 or, a key, Enter:1; what the panel has then is printed
-// as JSON.
+// Each word is what is done to a row, as focus:3, pointermove:0, click:2 or, a key, Enter:1; or to what is above the rows, as
+// click:order, search:WORD or Enter:search. What the panel has then is printed as JSON; see:drawn, see:shifts and see:dim print
+// the names of the links that are drawn, how far rows were moved, and which rows were not found.
 "use strict";
 const page = require("fs").readFileSync(process.argv[2], "utf8");
 const NAMES = { lt: "<", gt: ">", quot: '"', "#x27": "'", amp: "&" };
 const plain = (text) => text.replace(/&(lt|gt|quot|#x27|amp);/g, (whole, name) => NAMES[name]);
 
 class Element {
-  constructor(text = "") {
+  constructor(text = "", values = {}) {
     this.textContent = text;
+    this.values = values;
     this.children = [];
     this.handlers = {};
     this.names = new Set();
-    this.classList = { add: (name) => this.names.add(name), remove: (...names) => names.forEach((name) => this.names.delete(name)) };
+    this.classList = {
+      add: (name) => this.names.add(name),
+      remove: (...names) => names.forEach((name) => this.names.delete(name)),
+      toggle: (name, isOn) => (isOn ? this.names.add(name) : this.names.delete(name)),
+    };
   }
   addEventListener(name, handler) { this.handlers[name] = handler; }
+  dispatchEvent(event) { this.handlers[event.type](event); }
   focus() { this.handlers.focus(); }
-  setAttribute() {}
+  setAttribute(name, value) { this.values[name] = value; }
+  getAttribute(name) { return this.values[name] ?? null; }
+  append(...children) { this.children.push(...children); }
   remove() {}
+  scrollIntoView() {}
   replaceChildren(...children) { this.children = children; }
 }
 
-const titles = [...page.matchAll(/<g class="row [^"]*"><title>([^]*?)<\/title>/g)].map((found) => new Element(plain(found[1])));
-const rows = titles.map((title) => Object.assign(new Element(), { querySelector: () => title }));
-const panel = new Element();
+const values = (tag) => Object.fromEntries([...tag.matchAll(/([a-z]+)="([^"]*)"/g)].map((found) => [found[1], found[2]]));
+const part = (row, name) => {
+  const found = row.match(new RegExp(`<rect class="${name}"[^>]*>`));
+  return found && new Element("", values(found[0]));
+};
+const rows = [...page.matchAll(/<g class="row [^"]*"><title>([^]*?)<\/title>([^]*?)<\/g>/g)].map(([, title, row]) => {
+  const parts = { title: new Element(plain(title)), ".bar": part(row, "bar"), ".back": part(row, "back") };
+  const texts = [...row.matchAll(/<text[^>]*>([^]*?)<\/text>/g)].map((found) => new Element(plain(found[1].replace(/<[^>]*>/g, ""))));
+  return Object.assign(new Element(), { querySelector: (name) => parts[name], querySelectorAll: () => texts });
+});
+const others = { links: new Element(), search: new Element(), order: new Element(), count: new Element(), tools: new Element() };
+const svg = new Element();
 const data = (name) => new Element(page.match(new RegExp(`id="${name}">(.*?)</script>`))[1]);
 const script = page.match(/<script>([^]*?)<\/script>/)[1];
 new Function("document", script)({
-  getElementById: (name) => (name === "links" ? panel : data(name)),
+  getElementById: (name) => others[name] || data(name),
+  querySelector: () => svg,
   querySelectorAll: () => rows,
   createElement: () => new Element(),
+  createElementNS: () => new Element(),
 });
-const shown = process.argv.slice(3).map((word) => {
-  const [kind, place] = word.split(":");
-  const handlers = rows[Number(place)].handlers;
+const drawn = () => svg.children[1].children.filter((one) => one.getAttribute("class") === "relation").map((one) => one.textContent);
+const seen = {
+  links: () => others.links.children.map((line) => line.textContent),
+  drawn,
+  shifts: () => rows.map((row) => row.getAttribute("transform")),
+  dim: () => rows.map((row) => row.names.has("dim")),
+};
+const act = (kind, place) => {
+  const handlers = (others[place] || rows[Number(place)]).handlers;
   if (kind in handlers) handlers[kind]({});
   else handlers.keydown({ key: kind, preventDefault() {} });
-  return panel.children.map((line) => line.textContent);
+};
+const shown = process.argv.slice(3).map((word) => {
+  const [kind, place] = word.split(":");
+  if (kind === "see") return seen[place]();
+  if (kind === "search") Object.assign(others.search, { value: place }).handlers.input();
+  else act(kind, place);
+  return seen.links();
 });
 console.log(JSON.stringify(shown));

@@ -215,7 +215,9 @@ class Pictures(CorpusTest):
         self.assertEqual(len([rect for rect in root.iter(SVG + "rect") if rect.get("class") == "before"]), 1)
 
     def test_what_has_no_limit_fades_to_the_edges(self):
-        content = document('<TIMEX3 tid="a" type="DATE" value="1998-01-08"/><TIMEX3 tid="b" type="SET"/>')
+        content = document(
+            '<TIMEX3 tid="a" type="DATE" value="1998-01-08"/><TIMEX3 tid="b" type="SET"/><TLINK timeID="b" relatedToTime="a" relType="AFTER"/>'
+        )
         root = ElementTree.fromstring(self.drawn(content, "d.svg").encode())
         self.assertGreaterEqual(len([rect for rect in root.iter(SVG + "rect") if rect.get("class") in ("before", "after")]), 1)
 
@@ -224,7 +226,7 @@ class Pictures(CorpusTest):
         titles = [title.text for title in root.iter(SVG + "title")]
         self.assertEqual(len(titles), 9)
         self.assertIn("more than 30 hours", "".join(titles))
-        self.assertEqual(len(list(root.iter(XHTML + "script"))), 3)
+        self.assertEqual(len(list(root.iter(XHTML + "script"))), 5)
 
     def test_nothing_is_drawn_where_there_is_no_placing(self):
         self.write("d.xml", bridge().replace("P2D", "P3D"))

@@ -214,6 +214,8 @@ def timeline_words(commands: argparse._SubParsersAction[Parser]) -> Parser:
     words.add_argument("-o", "--output", type=picture_name, required=True, metavar="FILE", help="the picture: FILE.svg, or FILE.html with the links of each row")
     words.add_argument("--touching", action="store_true", help=TOUCHING)
     words.add_argument("--seconds", action="store_true", help="draw a placing in whole seconds, true to scale, as tml seconds has it")
+    words.add_argument("--asserted", action="store_true", help="leave out the events that the document does not assert, and their links")
+    words.add_argument("--text-order", action="store_true", help="put the rows in the order of the text")
     words.set_defaults(command=timeline_command)
     return words
 
@@ -514,9 +516,10 @@ def show_clashes(options: argparse.Namespace, stop: Interruption, wanted: Wanted
 
 def timeline_command(options: argparse.Namespace, stop: Interruption) -> int:
     """`tml-corpus timeline`."""
-    from .timeline import draw, draw_placing, write_picture
+    from .timeline import Choices, draw, draw_placing, write_picture
 
-    drawn = (draw_placing if options.seconds else draw)(options.program, options.document, options.output, options.touching)
+    choices = Choices(options.touching, options.asserted, options.text_order)
+    drawn = (draw_placing if options.seconds else draw)(options.program, options.document, options.output, choices)
     if drawn.picture is not None and not stop.happened.is_set():
         write_picture(options.output, drawn.picture)
     sys.stdout.write(drawn.text)

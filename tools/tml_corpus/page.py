@@ -1,6 +1,6 @@
 """A timeline as a page of HTML: the picture, and below it the links of the row that is pointed at and what it can be to the others.
 
-It loads nothing.
+Its links are drawn too; rows can be searched for, and put in the order of the text. It loads nothing.
 """
 
 from __future__ import annotations
@@ -23,8 +23,12 @@ main{overflow-x:auto;padding-bottom:38vh}
 background:#fff;border-top:2px solid #16324f;columns:28em;font-size:13px}
 #links div{break-inside:avoid;padding-left:1.5em;text-indent:-1.5em;overflow-wrap:anywhere}#links div:first-child{font-weight:bold}
 #links .open{color:#16324f}
+#tools{position:sticky;top:0;left:0;padding:6px 16px;background:#fff;border-bottom:1px solid #c3cad1}#tools[hidden]{display:none}
+#tools input,#tools button{font:inherit;margin-right:12px}#tools button[aria-pressed=true]{background:#16324f;color:#fff}
+.row.dim{opacity:.25}.link{fill:none;stroke:#8a1c5c;stroke-width:1.5}.relation{font-size:11px;fill:#8a1c5c;stroke:#fff;stroke-width:3;
+paint-order:stroke}#arrow{fill:#8a1c5c}
 .row{outline:none;cursor:pointer}.row.on .back{fill-opacity:.5}.row.near .back{fill-opacity:.2}.row.on .bar,.row.near .bar{stroke-width:3}
-@media print{#links{display:none}main{padding:0;overflow:visible}}
+@media print{#links,#tools{display:none}main{padding:0;overflow:visible}}
 """
 
 SCRIPT = """
@@ -35,8 +39,50 @@ const partners = JSON.parse(document.getElementById("partners").textContent);
 const possible = JSON.parse(document.getElementById("possible").textContent);
 const texts = rows.map((row) => row.querySelector("title").textContent);
 const labels = texts.map((text) => text.split("\\n", 1)[0].replace(/: [^:]*$/, ""));
+const links = JSON.parse(document.getElementById("ends").textContent);
+const inText = JSON.parse(document.getElementById("intext").textContent);
+const tops = rows.map((row) => Number(row.querySelector(".back").getAttribute("y")));
+const shifts = rows.map(() => 0);
+let sequence = rows.map((row, place) => place);
 let marked = [];
 let pinned = null;
+const shape = (name, values) => {
+  const part = document.createElementNS("http://www.w3.org/2000/svg", name);
+  Object.entries(values).forEach(([key, value]) => part.setAttribute(key, value));
+  return part;
+};
+const arrow = shape("marker", { id: "arrow", markerWidth: 7, markerHeight: 7, refX: 6, refY: 3, orient: "auto" });
+arrow.append(shape("path", { d: "M0 0L6 3L0 6z" }));
+const drawn = shape("g", { "aria-hidden": "true", "pointer-events": "none" });
+document.querySelector("svg").append(arrow, drawn);
+const anchor = (place) => {
+  const bar = rows[place].querySelector(".bar");
+  const number = (name) => Number(bar.getAttribute(name));
+  return bar ? [number("x") + number("width") / 2, tops[place] + shifts[place] + 11] : null;
+};
+const curve = ([left, , right]) => {
+  const [[x, y], [toX, toY]] = [anchor(left), anchor(right)];
+  const bend = (y + toY) / 2;
+  return shape("path", { class: "link", d: `M${x} ${y}C${x} ${bend} ${toX} ${bend} ${toX} ${toY}`, "marker-end": "url(#arrow)" });
+};
+const named = (place, touching) => {
+  const names = new Map();
+  touching.forEach(([left, relation, right]) => {
+    const other = left === place ? right : left;
+    names.set(other, [...(names.get(other) || []), relation]);
+  });
+  return [...names].map(([other, relations]) => {
+    const [x, y] = anchor(other);
+    const part = shape("text", { class: "relation", x: x + 10, y: y + 4 });
+    part.textContent = [...new Set(relations)].join(", ");
+    return part;
+  });
+};
+const drawLinks = (place) => {
+  const joins = ([left, , right]) => left !== right ? [left, right].includes(place) : false;
+  const touching = links.filter((one) => joins(one) ? [one[0], one[2]].every(anchor) : false);
+  drawn.replaceChildren(...touching.map(curve), ...named(place, touching));
+};
 const mark = (row, name) => { row.classList.add(name); marked.push(row); };
 const line = (text, kind) => {
   const part = document.createElement("div");
@@ -64,7 +110,10 @@ const standing = (place) => {
     return (all ? "any relation" : relations.map((one) => possible.names[one]).join(" or ")) + ": " + others.join(", ");
   });
 };
-const go = (place) => { if (place in rows) rows[place].focus(); };
+const go = (from, step) => {
+  const place = sequence[sequence.indexOf(from) + step];
+  if (place !== undefined) rows[place].focus();
+};
 rows.forEach((row, place) => {
   const words = texts[place];
   row.querySelector("title").remove();
@@ -79,21 +128,62 @@ rows.forEach((row, place) => {
     panel.replaceChildren(...words.split("\\n").map((text) => line(text)), line("What it can be to the others:", "open"), ...others);
     panel.scrollTop = 0;
     mark(row, "on");
+    drawLinks(place);
     partners[place].forEach((other) => mark(rows[other], "near"));
   };
   row.addEventListener("pointermove", () => { if (pinned === null) show(); });
   row.addEventListener("focus", () => { if (pinned === null) show(); });
   const pin = () => { pinned = pinned === row ? null : row; show(); };
   row.addEventListener("click", pin);
-  const keys = new Map([["Enter", pin], [" ", pin], ["ArrowUp", () => go(place - 1)], ["ArrowDown", () => go(place + 1)]]);
+  const keys = new Map([["Enter", pin], [" ", pin], ["ArrowUp", () => go(place, -1)], ["ArrowDown", () => go(place, 1)]]);
   row.addEventListener("keydown", (event) => {
     if (!keys.has(event.key)) return;
     event.preventDefault();
     keys.get(event.key)();
   });
 });
+const order = document.getElementById("order");
+order.addEventListener("click", () => {
+  const isOn = order.getAttribute("aria-pressed") !== "true";
+  order.setAttribute("aria-pressed", String(isOn));
+  sequence = isOn ? inText : rows.map((row, place) => place);
+  sequence.forEach((place, number) => {
+    shifts[place] = tops[number] - tops[place];
+    rows[place].setAttribute("transform", `translate(0 ${shifts[place]})`);
+  });
+  if (marked.length) drawLinks(rows.indexOf(marked[0]));
+});
+const search = document.getElementById("search");
+const seen = rows.map((row) => Array.from(row.querySelectorAll("text"), (one) => one.textContent).join(" ").toLowerCase());
+const found = () => {
+  const wanted = search.value.trim().toLowerCase();
+  return wanted ? sequence.filter((place) => seen[place].includes(wanted)) : [];
+};
+search.addEventListener("input", () => {
+  const places = found();
+  const isOn = search.value.trim() !== "";
+  rows.forEach((row, place) => row.classList.toggle("dim", isOn ? !places.includes(place) : false));
+  document.getElementById("count").textContent = isOn ? `${places.length} of ${rows.length} rows` : "";
+});
+search.addEventListener("keydown", (event) => {
+  if (event.key !== "Enter") return;
+  const places = found();
+  const next = places.find((place) => sequence.indexOf(place) > sequence.indexOf(rows.indexOf(marked[0])));
+  const place = next === undefined ? places[0] : next;
+  if (place === undefined) return;
+  pinned = null;
+  rows[place].scrollIntoView({ block: "center" });
+  rows[place].dispatchEvent(new Event("focus"));
+});
+document.getElementById("tools").hidden = false;
 """
 """Words go in by `textContent` alone. Without the script a browser shows them beside the pointer, as any title of SVG."""
+
+TOOLS = (
+    '<div id="tools" hidden=""><label>Search <input id="search" type="search" autocomplete="off"/></label>'
+    '<button id="order" type="button" aria-pressed="false">Order of the text</button><output id="count" for="search"></output></div>\n'
+)
+"""What is above the picture. It is shown where there are scripts."""
 
 FIRST = 0x100
 """The character of the first set of relations; that of a further one comes after it. There are 82 sets at most that `tml` prints."""
@@ -114,8 +204,12 @@ def possible(matrix: Matrix, order: tuple[int, ...]) -> str:
     places = {relation: place for place, relation in enumerate(BASE_RELATIONS)}
     sets = [[places[relation] for relation in relations] for relations in numbers]
     inverses = [places[INVERSES[relation]] for relation in BASE_RELATIONS]
-    whole = {"names": BASE_RELATIONS, "inverses": inverses, "first": FIRST, "sets": sets, "rows": rows}
-    return json.dumps(whole, ensure_ascii=False, separators=(",", ":"))
+    return compact({"names": BASE_RELATIONS, "inverses": inverses, "first": FIRST, "sets": sets, "rows": rows})
+
+
+def compact(value: object) -> str:
+    """A value as JSON without spaces."""
+    return json.dumps(value, ensure_ascii=False, separators=(",", ":"))
 
 
 def page(timeline: Timeline, draw: Callable[[Timeline], str] = drawing) -> str:
@@ -128,11 +222,13 @@ def page(timeline: Timeline, draw: Callable[[Timeline], str] = drawing) -> str:
         '<!DOCTYPE html>\n<html xmlns="http://www.w3.org/1999/xhtml" lang="en">\n<head>\n<meta charset="utf-8"/>\n'
         f'<meta http-equiv="Content-Security-Policy" content="{policy}"/>\n'
         f"<title>Timeline of {escaped(plain(timeline.title))}</title>\n<style>{STYLE}</style>\n</head>\n<body>\n"
-        f"<main>\n{draw(timeline)}</main>\n"
-        '<div id="links" role="status" tabindex="0">Point at a row, or go to it with the tabulator and the arrow keys, to see its links and '
-        "what it can be to the others; a click, or the enter key, keeps them here.</div>\n"
+        f"{TOOLS}<main>\n{draw(timeline)}</main>\n"
+        '<div id="links" role="status" tabindex="0">Point at a row, or go to it with the tabulator and the arrow keys, to see its links '
+        "and what it can be to the others; a click, or the enter key, keeps them here.</div>\n"
         f"<noscript><p>{WITHOUT}</p></noscript>\n"
         f'<script type="application/json" id="partners">{partners}</script>\n'
+        f'<script type="application/json" id="ends">{compact(timeline.ends)}</script>\n'
+        f'<script type="application/json" id="intext">{compact(timeline.in_text_order())}</script>\n'
         f'<script type="application/json" id="possible">{possible(timeline.matrix, timeline.order)}</script>\n'
         f"<script>{SCRIPT}</script>\n</body>\n</html>\n"
     )

@@ -1,4 +1,8 @@
-"""A timeline as SVG: a row for each interval over an axis of ranks. It can be read in black and white."""
+"""A timeline as SVG: a row for each interval over an axis of ranks. It can be read in black and white.
+
+What is known looks different from what is merely earliest: a bar is drawn solid as far as the interval reaches in each of the timelines
+with no higher rank, dotted where it stands in the least of them, and beside it lie the spans within which its ends can move.
+"""
 
 from __future__ import annotations
 
@@ -6,25 +10,35 @@ from collections.abc import Callable
 from dataclasses import dataclass
 
 from .lettering import escaped, fitted, in_lines, measured, plain
-from .rows import KINDS, Row, Timeline
+from .rows import KINDS, NOT_ASSERTED, Row, Timeline
 
-ROW, BAR, MARGIN, GAP = 22, 12, 16, 16
+ROW, BAR, THIN, MARGIN, GAP = 22, 12, 5, 16, 16
+"""The heights of a row, of a bar, and of the bar of an event that is not asserted; and what is left free at edges and between columns."""
+
 TEXT, SMALL, HEAD = 13, 12, 17
-MOST_LABEL, MOST_NAME, LEAST_WIDTH = 300, 120, 680
+MOST_LABEL, MOST_NAME, MOST_AROUND, LEAST_WIDTH = 300, 120, 380, 680
 PLOT, WIDEST_STEP, NARROWEST_STEP, FAR = 720, 30, 4, 480
 """The ranks together are about so broad, and each of them between so much. Where they are broader than the last, bars have texts."""
 
 CAPTION = (
     "An axis of ranks, which have no lengths: each start and end stands as early as the links and dates allow. Equal ranks are at the "
-    "same time as far as is known. What stands farther left here need not come first in every timeline that fits."
+    "same time as far as is known. What stands farther left here need not come first in every timeline that fits: where an end can move, "
+    "below the same highest rank, the line above a bar is the span of its start, and the line below it that of its end. A solid bar is "
+    "known: so far it reaches in each of these timelines; a dotted one is merely the earliest."
 )
+APART = "Order not known: no link or date ties these to anything."
+MOVING = "merely the earliest, with the spans of its ends"
+NO_INTERVAL = "There is no interval: the document has no event instance and no time."
 
 STYLE = (
     'text{font:13px "DejaVu Sans",Verdana,Helvetica,Arial,sans-serif;fill:#111}'
-    "text.small{font-size:12px}text.head{font-size:17px;font-weight:bold}.name{fill:#555}.small{fill:#333}.number{text-anchor:middle}"
+    "text.small{font-size:12px}text.head{font-size:17px;font-weight:bold}text.apart{font-weight:bold}.name{fill:#555}.small{fill:#333}"
+    ".number{text-anchor:middle}.around tspan{font-weight:bold}"
     ".odd{fill:#eef1f4}.grid{stroke:#c3cad1;fill:none}.axis{stroke:#333;fill:none}.back{fill:#f6b800;fill-opacity:0}"
     ".bar{fill:#fff;stroke:#16324f;stroke-width:1.5}.exact .bar{fill:#16324f}.within .bar{fill:url(#hatch)}"
-    ".free .bar{stroke-dasharray:4 2.5}"
+    ".free .bar{stroke-dasharray:4 2.5}.moving .bar:not(.core){fill-opacity:.18;stroke-width:1;stroke-dasharray:1 2.2}.span{stroke:#a34b00;stroke-width:1.5;fill:none}"
+    ".anywhere{stroke:#777;stroke-dasharray:1 5;fill:none}"
+    ".unasserted text{font-style:italic}.unasserted .bar{stroke:#777;fill:#ddd}"
 )
 
 HATCH = (
@@ -34,14 +48,47 @@ HATCH = (
 
 
 @dataclass(frozen=True)
+class Lines:
+    """Where rows stand, from a top on: first those that are tied, and below a heading of their own the others."""
+
+    rows: int
+    tied: int
+    top: float = 0
+
+    def apart(self) -> int:
+        """How many rows have room between the two blocks: there the axis ends, and the other heading stands."""
+        return 0 if self.tied == self.rows else 2 if self.tied else 1
+
+    def y(self, place: int) -> float:
+        """Where a row begins."""
+        return self.top + ROW * (place + (self.apart() if place >= self.tied else 0))
+
+    def axis_end(self) -> float:
+        """Where the rows end that the axis is for."""
+        return self.top + ROW * self.tied
+
+    def end(self) -> float:
+        """Where all rows end."""
+        return self.top + ROW * max(self.rows + self.apart(), 1)
+
+    def striped(self, width: float) -> str:
+        """Every other row darker."""
+        odd = "".join(f"M0 {number(self.y(place))}h{number(width)}v{ROW}H0z" for place in range(1, self.rows, 2))
+        return f'<path class="odd" d="{odd}"/>\n' if odd else ""
+
+    def heading(self) -> str:
+        """What stands above the rows that nothing ties."""
+        return words(MARGIN, self.y(self.tied) - 7, APART, "apart") + "\n" if self.apart() else ""
+
+
+@dataclass(frozen=True)
 class Layout:
-    """Where things stand: the width of the columns of texts and dates, how broad a rank is, and where the rows begin."""
+    """Where things stand: the width of the columns of texts and dates, how broad a rank is, and how many of these there are."""
 
     labels: float
     dates: float
     step: float
     ranks: int
-    rows: int
 
     def plot(self) -> float:
         """Where rank 0 stands."""
@@ -62,13 +109,26 @@ class Layout:
         return list(range(0, self.ranks + 1, every))
 
 
+def columns_of(timeline: Timeline) -> tuple[float, float]:
+    """How broad the columns of labels and of dates and words around events are."""
+    labels = max((measured(" ".join(label(row)), TEXT) for row in timeline.rows), default=0.0)
+    return labels, max((measured("".join(beside_label(row)), SMALL) for row in timeline.rows), default=0.0)
+
+
 def layout_of(timeline: Timeline) -> Layout:
     """The layout that a timeline needs."""
     ranks = timeline.greatest()
-    labels = max((measured(" ".join(label(row)), TEXT) for row in timeline.rows), default=0.0)
-    dates = max((measured(row.dates(), SMALL) for row in timeline.rows), default=0.0)
     step = min(WIDEST_STEP, max(NARROWEST_STEP, PLOT // max(ranks, 1)))
-    return Layout(labels, dates, step, ranks, len(timeline.rows))
+    return Layout(*columns_of(timeline), step, ranks)
+
+
+def beside_label(row: Row) -> tuple[str, str, str]:
+    """What stands beside the label: of a time its dates, of an event its text between the words around it, as far as there is room."""
+    if row.kind != "event":
+        return row.dates(), "", ""
+    text = fitted(plain(row.text), MOST_LABEL, SMALL)
+    around = row.around.fitted(text, MOST_AROUND, SMALL)
+    return (around.before, text, around.after) if around.before or around.after else ("", "", "")
 
 
 def label(row: Row) -> tuple[str, str]:
@@ -96,16 +156,19 @@ def drawing(timeline: Timeline, wrapped: Callable[[int, str], str] = alone, styl
     """The picture as an element. Each row may stand in something else, and the style elsewhere."""
     layout = layout_of(timeline)
     head, y = heading(timeline, layout.width())
-    top = y + 2 * GAP
-    bottom = top + ROW * max(layout.rows, 1)
-    rows = "".join(wrapped(place, drawn_row(row, place, layout, top)) for place, row in enumerate(timeline.rows))
-    if not rows:
-        rows = words(MARGIN, top + BAR, "There is no interval: the document has no event instance and no time.") + "\n"
-    behind = axis(layout, top, bottom) if layout.rows else ""
-    width, height = number(layout.width()), number(bottom + 2 * GAP)
-    opening = f'<svg xmlns="http://www.w3.org/2000/svg" width="{width}" height="{height}" viewBox="0 0 {width} {height}">\n'
-    paper = f'<rect width="{width}" height="{height}" fill="#fff"/>\n'
-    return f"{opening}{style}{HATCH}\n{paper}{head}\n{behind}{rows}</svg>\n"
+    lines = Lines(len(timeline.rows), timeline.tied(), y + 2 * GAP)
+    rows = "".join(wrapped(place, drawn_row(row, layout, lines.y(place))) for place, row in enumerate(timeline.rows))
+    behind = axis(layout, lines) if lines.tied else ""
+    return framed(layout.width(), lines, f"{style}{HATCH}\n", head, behind, rows)
+
+
+def framed(width: float, lines: Lines, style: str, head: str, behind: str, rows: str) -> str:
+    """The element of a picture: its style, its heading, what lies behind the rows, and these."""
+    inside = rows or words(MARGIN, lines.top + BAR, NO_INTERVAL) + "\n"
+    size = number(width), number(lines.end() + 2 * GAP)
+    opening = f'<svg xmlns="http://www.w3.org/2000/svg" width="{size[0]}" height="{size[1]}" viewBox="0 0 {size[0]} {size[1]}">\n'
+    paper = f'<rect width="{size[0]}" height="{size[1]}" fill="#fff"/>\n'
+    return f"{opening}{style}{paper}{head}\n{lines.striped(width)}{behind}{lines.heading()}{inside}</svg>\n"
 
 
 def heading(timeline: Timeline, width: float, title: str = "Timeline of ", caption: str = CAPTION) -> tuple[str, float]:
@@ -115,62 +178,130 @@ def heading(timeline: Timeline, width: float, title: str = "Timeline of ", capti
     for line in in_lines(caption, room, SMALL):
         y += 18 if len(parts) > 1 else 24
         parts.append(words(MARGIN, y, line, "small"))
-    x, y = float(MARGIN), y + 26
-    for kind in (kind for kind in KINDS if any(row.kind == kind for row in timeline.rows)):
-        broad = 36 + measured(KINDS[kind], SMALL) + GAP
+    signs, y = legend(timeline, width, y + 26)
+    return "\n".join(parts + signs), y
+
+
+def legend(timeline: Timeline, width: float, y: float) -> tuple[list[str], float]:
+    """The kinds of bars that there are, in lines from a height on; and how far down they reach."""
+    kinds = [(kind, KINDS[kind]) for kind in KINDS if any(row.kind == kind for row in timeline.rows)]
+    kinds += [("event unasserted", NOT_ASSERTED)] if any(row.unasserted for row in timeline.rows) else []
+    kinds += [("event moving", MOVING)] if any(is_moving(row) for row in timeline.rows) else []
+    parts, x = [], float(MARGIN)
+    for kind, said in kinds:
+        broad = 36 + measured(said, SMALL) + GAP
         if x + broad > width and x > MARGIN:
             x, y = float(MARGIN), y + 20
-        parts.append(f'<g class="{kind}">{bar(kind, x, y - 10, 28)}{words(x + 36, y, KINDS[kind], "small")}</g>')
+        parts.append(f'<g class="{kind}">{sign(kind, x, y - 4)}{words(x + 36, y, said, "small")}</g>')
         x += broad
-    return "\n".join(parts), y
+    return parts, y
 
 
-def axis(layout: Layout, top: float, bottom: float) -> str:
-    """What lies behind the rows: every other one darker, and a line at the ranks that have a number, which stands above and below."""
-    width, left, right = number(layout.width()), layout.x(0), layout.x(layout.ranks)
-    odd = "".join(f"M0 {number(top + ROW * place)}h{width}v{ROW}H0z" for place in range(1, layout.rows, 2))
-    lines = "".join(f"M{number(layout.x(rank))} {number(top)}V{number(bottom)}" for rank in layout.numbered())
+def sign(kind: str, x: float, middle: float) -> str:
+    """The sign of a kind of bars."""
+    height = THIN if kind.endswith("unasserted") else BAR
+    if not kind.endswith("moving"):
+        return bar(kind.split(" ", 1)[0], x, middle - height / 2, 28, height)
+    lines = span(x, x + 12, middle - 8) + span(x + 20, x + 28, middle + 8)
+    return bar("event", x, middle - height / 2, 20) + bar("event", x + 12, middle - height / 2, 8, called="bar core") + lines
+
+
+def axis(layout: Layout, lines: Lines) -> str:
+    """What lies behind the rows: a line at the ranks that have a number, which stands above and below."""
+    left, right, top, bottom = layout.x(0), layout.x(layout.ranks), lines.top, lines.axis_end()
+    upright = "".join(f"M{number(layout.x(rank))} {number(top)}V{number(bottom)}" for rank in layout.numbered())
     ends = f"M{number(left)} {number(top)}H{number(right)}M{number(left)} {number(bottom)}H{number(right)}"
-    parts = [f'<path class="odd" d="{odd}"/>\n' if odd else "", f'<path class="grid" d="{lines}"/>\n<path class="axis" d="{ends}"/>\n']
+    parts = [f'<path class="grid" d="{upright}"/>\n<path class="axis" d="{ends}"/>\n']
     for y in (top - 6, bottom + 15):
         numbers = "".join(words(layout.x(rank), y, str(rank), "small number") for rank in layout.numbered())
         parts.append(f'{numbers}<text class="small" x="{number(left - GAP)}" y="{number(y)}" text-anchor="end">ranks</text>\n')
     return "".join(parts)
 
 
-def drawn_row(row: Row, place: int, layout: Layout, top: float) -> str:
+def drawn_row(row: Row, layout: Layout, y: float) -> str:
     """One interval: its text and name, its dates, its bar, and what is shown where it is pointed at."""
-    y = top + ROW * place
-    text, name = label(row)
-    called = f' <tspan class="name">{escaped(name)}</tspan>' if name else ""
-    parts = [
-        f'<g class="row {row.kind}"><title>{escaped(row.description())}</title>',
-        f'<rect class="back" y="{number(y)}" width="{number(layout.width())}" height="{ROW}"/>',
-        f'<text x="{MARGIN}" y="{number(y + 15)}">{escaped(text)}{called}</text>',
-    ]
-    if row.dates():
-        parts.append(words(MARGIN + layout.labels + GAP, y + 15, row.dates(), "small"))
-    parts.append(bar(row.kind, layout.x(row.start), y + (ROW - BAR) / 2, (row.finish - row.start) * layout.step))
+    parts = [opened(row, y, layout.width(), layout.labels)]
+    if not row.is_tied:
+        return "".join([*parts, anywhere(layout.x(0), layout.x(layout.ranks), y)]) + "</g>\n"
+    parts.append(bar_of(row, layout.x(row.start), y, layout.x(row.finish) - layout.x(row.start)))
+    if is_moving(row):
+        parts += moving(row, layout, y)
     if layout.ranks * layout.step > FAR:
         parts.append(beside(row, layout, y + 15))
     return "".join(parts) + "</g>\n"
+
+
+def is_moving(row: Row) -> bool:
+    """Whether an end of an interval can move below the same highest rank."""
+    return row.is_tied and row.latest not in (None, (row.start, row.finish))
+
+
+def opened(row: Row, y: float, width: float, labels: float) -> str:
+    """The beginning of a row: what is shown where it is pointed at, its label, and its dates or the words around it."""
+    text, name = label(row)
+    called = f' <tspan class="name">{escaped(name)}</tspan>' if name else ""
+    states = {"unasserted": bool(row.unasserted), "moving": is_moving(row), "untied": not row.is_tied}
+    kinds = " ".join([row.kind, *(name for name, is_so in states.items() if is_so)])
+    parts = [
+        f'<g class="row {kinds}"><title>{escaped(row.description())}</title>',
+        f'<rect class="back" y="{number(y)}" width="{number(width)}" height="{ROW}"/>',
+        f'<text x="{MARGIN}" y="{number(y + 15)}">{escaped(text)}{called}</text>',
+    ]
+    before, word, after = beside_label(row)
+    x = MARGIN + labels + GAP
+    if word:
+        words_around = f"{escaped(before)}<tspan>{escaped(word)}</tspan>{escaped(after)}"
+        parts.append(f'<text class="small around" x="{number(x)}" y="{number(y + 15)}">{words_around}</text>')
+    elif before:
+        parts.append(words(x, y + 15, before, "small"))
+    return "".join(parts)
+
+
+def anywhere(left: float, right: float, y: float) -> str:
+    """The line of an interval that may be anywhere."""
+    return f'<path class="anywhere" d="M{number(left)} {number(y + ROW / 2)}H{number(right)}"/>'
+
+
+def moving(row: Row, layout: Layout, y: float) -> list[str]:
+    """How far the ends of an interval can move, above its bar and below it; and what is solid, where it reaches in any case."""
+    latest = row.latest or (row.start, row.finish)
+    parts = []
+    if latest[0] < row.finish:
+        parts.append(bar_of(row, layout.x(latest[0]), y, layout.x(row.finish) - layout.x(latest[0]), "bar core"))
+    for first, last, height in ((row.start, latest[0], y + 3), (row.finish, latest[1], y + ROW - 3)):
+        if first < last:
+            parts.append(span(layout.x(first), layout.x(last), height))
+    return parts
+
+
+def span(left: float, right: float, y: float) -> str:
+    """The line of a span within which an end can move."""
+    begin, end, caps = number(left), number(right), number(y - 2)
+    return f'<path class="span" d="M{begin} {number(y)}H{end}M{begin} {caps}v4M{end} {caps}v4"/>'
 
 
 def beside(row: Row, layout: Layout, y: float) -> str:
     """The text and name of a row after its bar, or before it where there is no room; nothing where there is none at all."""
     text = " ".join(label(row)).strip()
     room = measured(text, SMALL) + 8
-    if layout.x(row.finish) + room <= layout.width():
-        return words(layout.x(row.finish) + 8, y, text, "small")
+    right = layout.x(max(row.finish, row.latest[1]) if row.latest else row.finish)
+    if right + room <= layout.width():
+        return words(right + 8, y, text, "small")
     if layout.x(row.start) - room >= layout.x(0):
         return f'<text class="small" x="{number(layout.x(row.start) - 8)}" y="{number(y)}" text-anchor="end">{escaped(text)}</text>'
     return ""
 
 
-def bar(kind: str, x: float, y: float, width: float) -> str:
+def bar_of(row: Row, x: float, y: float, width: float, called: str = "bar") -> str:
+    """The bar of a row that begins at a height; that of an event which is not asserted is thin."""
+    height = THIN if row.unasserted else BAR
+    return bar(row.kind, x, y + (ROW - height) / 2, width, height, called)
+
+
+def bar(kind: str, x: float, y: float, width: float, height: float = BAR, called: str = "bar") -> str:
     """A bar: events have round ends."""
-    round_ends = f' rx="{number(min(BAR / 2, width / 2))}"' if kind == "event" else ""
-    return f'<rect class="bar" x="{number(x)}" y="{number(y)}" width="{number(width)}" height="{BAR}"{round_ends}/>'
+    round_ends = f' rx="{number(min(height / 2, width / 2))}"' if kind == "event" else ""
+    return f'<rect class="{called}" x="{number(x)}" y="{number(y)}" width="{number(width)}" height="{number(height)}"{round_ends}/>'
 
 
 def words(x: float, y: float, text: str, kind: str = "") -> str:

@@ -73,15 +73,19 @@ class Unplaced:
 def placed_document(program: Program, path: str, touching: bool) -> Placed | Unplaced | Unfit:
     """The placing of a file, or why there is none. Links between dates that touch may be read as the relation that holds."""
     try:
-        document = read_document(path)
-        found = placed(program, path, document)
-        return read_touching(program, path, document) or found if touching and isinstance(found, Unplaced) else found
+        return document_placed(program, path, read_document(path), touching)
     except (CannotRead, CannotRun) as problem:
         return not_judged(path, problem)
 
 
-def placed(program: Program, path: str, document: bytes) -> Placed | Unplaced | Unfit:
+def document_placed(program: Program, path: str, document: bytes, touching: bool) -> Placed | Unplaced | Unfit:
     """The same of a document in memory."""
+    found = placed(program, path, document)
+    return read_touching(program, path, document) or found if touching and isinstance(found, Unplaced) else found
+
+
+def placed(program: Program, path: str, document: bytes) -> Placed | Unplaced | Unfit:
+    """The placing of a document whose links are read as they are written."""
     found = place(program, document)
     if isinstance(found, Placing | Cycle):
         wording = Wording(program, document)

@@ -6,11 +6,13 @@ from dataclasses import dataclass, fields, replace
 
 from .axis import Mark, extent, marks
 from .civil import civil, length
-from .lettering import escaped, measured, plain
+from .lettering import measured
 from .page import page
-from .picture import BAR, GAP, HATCH, LEAST_WIDTH, MARGIN, ROW, SMALL, STYLE, TEXT, bar, heading, label, number, words
-from .placed import Placed
-from .rows import KINDS, Row, Timeline
+from .picture import (
+    BAR, GAP, HATCH, LEAST_WIDTH, MARGIN, ROW, SMALL, STYLE, Lines, anywhere, bar_of, columns_of, framed, heading, number, opened, words,
+)  # fmt: skip
+from .placed import Placed, PlacedInterval
+from .rows import NOT_KNOWN, Row, Timeline
 from .seconds_formats import span
 
 PLOT, NARROWEST_BAR = 720, 2.0
@@ -37,13 +39,13 @@ class ScaledRow(Row):
 
     def description(self) -> str:
         """All that is known of it, in lines: its whole text, when it is, how far it can move, and each of its links."""
-        called = f"{plain(self.text)} ({self.name})" if plain(self.text) else self.name
-        lines = [f"{called}: {KINDS[self.kind]}"]
-        lines += [f"{civil(self.start)} to {civil(self.finish)}, {length(self.finish - self.start)}"]
+        if not self.is_tied:
+            return "\n".join(self.described(NOT_KNOWN) + self.linked())
+        lines = self.described(f"{civil(self.start)} to {civil(self.finish)}, {length(self.finish - self.start)}")
         for end, second, limits in (("start", self.start, self.starts), ("end", self.finish, self.ends)):
             if limits != (second, second):
                 lines.append(f"{end}: {span(*limits)}")
-        return "\n".join(lines + ([plain(link) for link in self.links] or ["no links"]))
+        return "\n".join(lines + self.linked())
 
 
 @dataclass(frozen=True)
@@ -73,23 +75,22 @@ class Scale:
         return marks(self.first, self.last, int(PLOT // (measured("0000-00-00 ", SMALL) + 8)))
 
 
-def scaled_row(row: Row, found: Placed, place: int) -> Row:
+def scaled_row(row: Row, one: PlacedInterval) -> Row:
     """A row with how far it can move."""
-    one = found.intervals[place]
     return ScaledRow(**{field.name: getattr(row, field.name) for field in fields(Row)}, starts=one.starts, ends=one.ends)
 
 
 def scale_of(timeline: Timeline) -> Scale:
     """The scale that a placing needs."""
-    labels = max((measured(" ".join(label(row)), TEXT) for row in timeline.rows), default=0.0)
-    dates = max((measured(row.dates(), SMALL) for row in timeline.rows), default=0.0)
-    first, last = extent([second for row in timeline.rows for second in (row.start, row.finish)] or [0])
-    return Scale(labels, dates, first, last)
+    first, last = extent([second for row in timeline.rows if row.is_tied for second in (row.start, row.finish)] or [0])
+    return Scale(*columns_of(timeline), first, last)
 
 
 def with_ranges(timeline: Timeline, found: Placed) -> Timeline:
     """The rows with how far each can move."""
-    return replace(timeline, rows=[scaled_row(row, found, place) for place, row in enumerate(timeline.rows)])
+    intervals = dict(zip(found.order, found.intervals, strict=True))
+    rows = [scaled_row(row, intervals[number]) for row, number in zip(timeline.rows, timeline.order, strict=True)]
+    return replace(timeline, rows=rows)
 
 
 def scaled_svg(timeline: Timeline) -> str:
@@ -106,47 +107,33 @@ def scaled_drawing(timeline: Timeline) -> str:
     """The picture as an element."""
     scale = scale_of(timeline)
     head, y = heading(timeline, scale.width(), "Placing of ", CAPTION)
-    top = y + 2 * GAP
-    bottom = top + ROW * max(len(timeline.rows), 1)
-    rows = "".join(drawn_row(row, place, scale, top) for place, row in enumerate(timeline.rows))
-    if not rows:
-        rows = words(MARGIN, top + BAR, "There is no interval: the document has no event instance and no time.") + "\n"
-    behind = axis(scale, len(timeline.rows), top, bottom) if timeline.rows else ""
-    width, height = number(scale.width()), number(bottom + 2 * GAP)
-    opening = f'<svg xmlns="http://www.w3.org/2000/svg" width="{width}" height="{height}" viewBox="0 0 {width} {height}">\n'
-    paper = f'<rect width="{width}" height="{height}" fill="#fff"/>\n'
-    return f"{opening}<style>{STYLE}</style>\n{HATCH}{FADES}\n{paper}{head}\n{behind}{rows}</svg>\n"
+    lines = Lines(len(timeline.rows), timeline.tied(), y + 2 * GAP)
+    rows = "".join(drawn_row(row, scale, lines.y(place)) for place, row in enumerate(timeline.rows))
+    behind = axis(scale, lines) if lines.tied else ""
+    return framed(scale.width(), lines, f"<style>{STYLE}</style>\n{HATCH}{FADES}\n", head, behind, rows)
 
 
-def axis(scale: Scale, rows: int, top: float, bottom: float) -> str:
-    """What lies behind the rows: every other one darker, and a line at each mark, which is written above and below."""
-    width, left, right = number(scale.width()), number(scale.plot()), number(scale.plot() + PLOT)
-    odd = "".join(f"M0 {number(top + ROW * place)}h{width}v{ROW}H0z" for place in range(1, rows, 2))
+def axis(scale: Scale, lines: Lines) -> str:
+    """What lies behind the rows: a line at each mark, which is written above and below."""
+    left, right, top, bottom = number(scale.plot()), number(scale.plot() + PLOT), lines.top, lines.axis_end()
     found = scale.marks()
-    lines = "".join(f"M{number(scale.x(mark.second))} {number(top)}V{number(bottom)}" for mark in found)
+    upright = "".join(f"M{number(scale.x(mark.second))} {number(top)}V{number(bottom)}" for mark in found)
     ends = f"M{left} {number(top)}H{right}M{left} {number(bottom)}H{right}"
-    parts = [f'<path class="odd" d="{odd}"/>\n' if odd else "", f'<path class="grid" d="{lines}"/>\n<path class="axis" d="{ends}"/>\n']
+    parts = [f'<path class="grid" d="{upright}"/>\n<path class="axis" d="{ends}"/>\n']
     for y in (top - 6, bottom + 15):
         parts.append("".join(words(scale.x(mark.second), y, mark.text, "small number") for mark in found) + "\n")
     return "".join(parts)
 
 
-def drawn_row(row: Row, place: int, scale: Scale, top: float) -> str:
+def drawn_row(row: Row, scale: Scale, y: float) -> str:
     """One interval: its text and name, its dates, its bar with the ends that can move, and what is shown where it is pointed at."""
-    y = top + ROW * place
-    text, name = label(row)
-    called = f' <tspan class="name">{escaped(name)}</tspan>' if name else ""
-    parts = [
-        f'<g class="row {row.kind}"><title>{escaped(row.description())}</title>',
-        f'<rect class="back" y="{number(y)}" width="{number(scale.width())}" height="{ROW}"/>',
-        f'<text x="{MARGIN}" y="{number(y + 15)}">{escaped(text)}{called}</text>',
-    ]
-    if row.dates():
-        parts.append(words(MARGIN + scale.labels + GAP, y + 15, row.dates(), "small"))
+    parts = [opened(row, y, scale.width(), scale.labels)]
+    if not row.is_tied:
+        return "".join([*parts, anywhere(scale.plot(), scale.plot() + PLOT, y)]) + "</g>\n"
     if isinstance(row, ScaledRow):
         parts += faded(row, scale, y + (ROW - BAR) / 2)
     start, finish = scale.x(row.start), scale.x(row.finish)
-    parts.append(bar(row.kind, start, y + (ROW - BAR) / 2, max(finish - start, NARROWEST_BAR)))
+    parts.append(bar_of(row, start, y, max(finish - start, NARROWEST_BAR)))
     return "".join(parts) + "</g>\n"
 
 

@@ -1,27 +1,46 @@
-"""The least timeline of one document in rows: printed by `tml solve`, and accepted by `tml verify` before it is looked at."""
+"""The least timeline of one document in rows: printed by `tml solve`, and accepted by `tml verify` before it is looked at.
+
+With it stands how far each end can move below the same highest rank: to where it is in the greatest such timeline, which `tml verify`
+accepts too.
+"""
 
 from __future__ import annotations
 
 import os
 import re
+from collections.abc import Callable, Collection, Mapping, Sequence
 from dataclasses import dataclass, replace
 
-from .clashes import verify_timeline
+from .around import Around, Text, text_around
+from .asserted import AssertedCopy, asserted_copy, unasserted
+from .clashes import verify_ranks, verify_timeline
 from .files import CannotRead, counted, read_document, reason, shown, written
 from .fitting import Unfit, fitting, not_judged
+from .greatest import Ranks, as_evidence, greatest_timeline, untied
 from .leeway import base_relation, leeways
-from .matrix import matrix_of
+from .matrix import Matrix, matrix_of
 from .page import page
 from .picture import svg
-from .program import CannotRun, Program, Reply
+from .placed import Placed, Unplaced, document_placed
+from .program import ACCEPTED, CannotRun, Program, Reply
 from .replies import EVIDENCE
 from .rows import Row, Timeline
+from .seconds_formats import change_lines, unplaced_lines
 from .statuses import Status
 from .units import room_for
 from .words import Wording
 
-FORMS = {".svg": svg, ".html": page, ".htm": page}
+FORMS: Mapping[str, Callable[[Timeline], str]] = {".svg": svg, ".html": page, ".htm": page}
 """How a timeline is drawn, by the end of the file's name."""
+
+
+@dataclass(frozen=True)
+class Choices:
+    """How a timeline is asked for: dates that touch may be read so, what is not asserted left out, and rows put as in the text."""
+
+    touching: bool = False
+    asserted: bool = False
+    in_text_order: bool = False
 
 
 @dataclass(frozen=True)
@@ -41,16 +60,22 @@ def form_of(target: str) -> str:
     return end
 
 
-def draw(program: Program, path: str, target: str, touching: bool) -> Drawn:
-    """The picture of the timeline of one file, or why there is none; links between dates that touch may be read so."""
+def draw(program: Program, path: str, target: str, choices: Choices) -> Drawn:
+    """The picture of the timeline of one file, or why there is none."""
     try:
-        document = read_document(path)
-        if os.path.exists(target) and os.path.samefile(path, target):
-            raise CannotRead("the picture would be written over it")
+        document = readable(path, target)
         with room_for(document):
-            return draw_document(program, path, document, target, touching)
+            return draw_document(program, path, document, target, choices)
     except (CannotRead, CannotRun) as problem:
         return undrawn(not_judged(path, problem))
+
+
+def readable(path: str, target: str) -> bytes:
+    """The document of a file, over which the picture is not to be written."""
+    document = read_document(path)
+    if os.path.exists(target) and os.path.samefile(path, target):
+        raise CannotRead("the picture would be written over it")
+    return document
 
 
 def undrawn(unfit: Unfit) -> Drawn:
@@ -58,43 +83,57 @@ def undrawn(unfit: Unfit) -> Drawn:
     return Drawn(unfit.text, unfit.status)
 
 
-def draw_placing(program: Program, path: str, target: str, touching: bool) -> Drawn:
+def draw_placing(program: Program, path: str, target: str, choices: Choices) -> Drawn:
     """The picture of a placing of one file in whole seconds, or why there is none."""
-    from .placed import Unplaced, placed_document
-    from .scaled import scaled_page, scaled_svg, with_ranges
-    from .seconds_formats import change_lines, unplaced_lines
-
     try:
-        if os.path.exists(target) and os.path.exists(path) and os.path.samefile(path, target):
-            raise CannotRead("the picture would be written over it")
-        found = placed_document(program, path, touching)
+        document, copy = chosen(program, readable(path, target), choices)
+        found = document_placed(program, path, document, choices.touching)
         if isinstance(found, Unfit):
             return undrawn(found)
         if isinstance(found, Unplaced):
             return Drawn(change_lines(path, found) + unplaced_lines(path, found), Status.FINDING)
-        seconds = dict(zip(found.order, ((one.start, one.end) for one in found.intervals), strict=True))
-        timeline = in_rows(os.path.basename(path), found.wording, [seconds[number] for number in range(len(seconds))])
-        timeline = with_ranges(timeline, found)
-        if form_of(target) == ".svg":
-            picture = scaled_svg(timeline)
-        else:
-            matrix = matrix_of(program, found.wording.document, found.wording.intervals)
-            picture = scaled_page(replace(timeline, matrix=matrix))
-        said = f"{shown(path)}: drawn in {shown(target)}: {found.counts()}, in seconds\n"
-        return Drawn(change_lines(path, found) + said, Status.SUCCESS, picture)
+        picture = picture_of_placing(program, path, target, found, choices)
+        return Drawn(change_lines(path, found) + drawn_line(path, target, f"{found.counts()}, in seconds", copy), Status.SUCCESS, picture)
     except (CannotRead, CannotRun) as problem:
         return undrawn(not_judged(path, problem))
 
 
-def draw_document(program: Program, path: str, document: bytes, target: str, touching: bool) -> Drawn:
+def picture_of_placing(program: Program, path: str, target: str, found: Placed, choices: Choices) -> str:
+    """The picture of a placing."""
+    from .scaled import scaled_page, scaled_svg, with_ranges
+
+    matrix = matrix_of(program, found.wording.document, found.wording.intervals)
+    seconds = dict(zip(found.order, ((one.start, one.end) for one in found.intervals), strict=True))
+    ranks = [seconds[number] for number in range(len(seconds))]
+    timeline = with_ranges(in_rows(os.path.basename(path), found.wording, ranks, untied(matrix)), found)
+    timeline = ordered(replace(timeline, matrix=matrix), choices)
+    return scaled_svg(timeline) if form_of(target) == ".svg" else scaled_page(timeline)
+
+
+def draw_document(program: Program, path: str, document: bytes, target: str, choices: Choices) -> Drawn:
     """The picture of a document in memory, or its fault, or the links that clash."""
-    found = fitting(program, path, document, "drawn", touching)
+    document, copy = chosen(program, document, choices)
+    found = fitting(program, path, document, "drawn", choices.touching)
     if isinstance(found, Unfit):
         return undrawn(found)
-    form = FORMS[form_of(target)]
-    timeline = verified(program, path, found.document, found.reply, is_open=form is page)
+    timeline = ordered(verified(program, path, found.document, found.reply, is_open=True), choices)
     counts = f"{counted(len(timeline.rows), 'interval')}, {counted(timeline.links, 'link')}, ranks 0 to {timeline.greatest()}"
-    return Drawn(f"{found.text}{shown(path)}: drawn in {shown(target)}: {counts}\n", Status.SUCCESS, form(timeline))
+    picture = FORMS[form_of(target)](timeline)
+    return Drawn(found.text + drawn_line(path, target, counts, copy), Status.SUCCESS, picture)
+
+
+def chosen(program: Program, document: bytes, choices: Choices) -> tuple[bytes, AssertedCopy | None]:
+    """The document that is asked about: the whole one, or a copy of what it asserts. Of a fault the whole one tells."""
+    if not choices.asserted or program.check(document).status != ACCEPTED:
+        return document, None
+    copy = asserted_copy(program, document)
+    return copy.document, copy
+
+
+def drawn_line(path: str, target: str, counts: str, copy: AssertedCopy | None) -> str:
+    """What is printed of a document that was drawn."""
+    left_out = f"; {copy.said()}" if copy is not None else ""
+    return f"{shown(path)}: drawn in {shown(target)}: {counts}{left_out}\n"
 
 
 def verified(program: Program, path: str, document: bytes, reply: Reply, *, is_open: bool) -> Timeline:
@@ -108,40 +147,87 @@ def verified(program: Program, path: str, document: bytes, reply: Reply, *, is_o
     points = {point for pair in ranks for point in pair}
     if points and len(points) != max(points) + 1:
         raise CannotRun("the timeline that tml solve printed is not the least one")
-    wording = Wording(program, document)
-    timeline = in_rows(os.path.basename(path), wording, ranks)
-    return with_matrix(program, wording, timeline) if is_open else timeline
-
-
-def with_matrix(program: Program, wording: Wording, timeline: Timeline) -> Timeline:
-    """The same with what is open: what `tml matrix` printed, and how far each end can move by that."""
+    wording, title = Wording(program, document), os.path.basename(path)
+    if not is_open:
+        return in_rows(title, wording, ranks)
     matrix = matrix_of(program, wording.document, wording.intervals)
-    ranks = dict(zip(timeline.order, ((row.start, row.finish) for row in timeline.rows), strict=True))
+    return with_matrix(program, wording, in_rows(title, wording, ranks, untied(matrix)), ranks, matrix)
+
+
+def with_matrix(program: Program, wording: Wording, timeline: Timeline, ranks: list[Ranks], matrix: Matrix) -> Timeline:
+    """The same with what is open: what `tml matrix` printed, and how far each end can move by that."""
     if any(base_relation(ranks[left], ranks[right]) not in matrix.sets[number] for left, right, number in matrix.pairs()):
         raise CannotRun("the answers of tml to `solve` and `matrix` do not belong together")
+    latest = greatest_timeline(matrix, ranks)
+    verify_ranks(program, wording.document, as_evidence(latest), "the greatest timeline that was counted from tml matrix")
     found = leeways(matrix, wording.dates)
-    ends = [tuple(found[2 * number : 2 * number + 2]) for number in timeline.order]
-    rows = [replace(row, leeway=leeway) for row, leeway in zip(timeline.rows, ends, strict=True)]
+    rows = [
+        replace(row, leeway=tuple(found[2 * number : 2 * number + 2]), latest=latest[number])
+        for row, number in zip(timeline.rows, timeline.order, strict=True)
+    ]
     return replace(timeline, rows=rows, matrix=matrix)
 
 
-def in_rows(title: str, wording: Wording, ranks: list[tuple[int, int]]) -> Timeline:
-    """The intervals in the order of their starts; of those that start together the ones that end later come first."""
+def in_rows(title: str, wording: Wording, ranks: Sequence[Ranks], loose: Collection[int] = ()) -> Timeline:
+    """The intervals in the order of their starts; of those that start together the ones that end later come first.
+
+    Those of some numbers nothing ties: they come last, in the order of the text, but for times that the calendar places.
+    """
     if len(ranks) != len(wording.intervals):
         raise CannotRun("the answers of tml to `check` and `solve` do not belong together")
-    order = sorted(range(len(ranks)), key=lambda number: (ranks[number][0], -ranks[number][1], number))
-    rows = [row_of(wording, number, ranks[number]) for number in order]
+    found = rows_of(wording, ranks, loose)
+    order = sorted(range(len(ranks)), key=lambda number: sorting(found[number], number))
+    rows = [found[number] for number in order]
     places = {row.name: place for place, row in enumerate(rows)}
+    ends = []
     for link in map(wording.link, range(len(wording.link_tags))):
         left, right = places[link.left], places[link.right]
+        ends.append((left, link.relation, right))
         words = wording.in_words(link)
         for place, other in {left: right, right: left}.items():
             rows[place].links.append(words)
             rows[place].partners.append(other)
-    return Timeline(title, rows, len(wording.link_tags), order=tuple(order))
+    return Timeline(title, rows, len(wording.link_tags), order=tuple(order), ends=tuple(ends))
 
 
-def row_of(wording: Wording, number: int, ranks: tuple[int, int]) -> Row:
+def sorting(row: Row, number: int) -> tuple[bool, int, int, int]:
+    """Where a row stands among the others."""
+    return (False, row.start, -row.finish, number) if row.is_tied else (True, row.place, 0, number)
+
+
+def ordered(timeline: Timeline, choices: Choices) -> Timeline:
+    """The same timeline, with its rows in the order of the text where that is wanted."""
+    if not choices.in_text_order:
+        return timeline
+    old = timeline.in_text_order()
+    new = {place: number for number, place in enumerate(old)}
+    rows = [replace(timeline.rows[place], partners=[new[other] for other in timeline.rows[place].partners]) for place in old]
+    ends = tuple((new[left], relation, new[right]) for left, relation, right in timeline.ends)
+    return replace(timeline, rows=rows, order=tuple(timeline.order[place] for place in old), ends=ends)
+
+
+def rows_of(wording: Wording, ranks: Sequence[Ranks], loose: Collection[int]) -> list[Row]:
+    """The rows of the intervals by their numbers, without their links."""
+    tags = {tag.start for tag in map(wording.tag_of, wording.intervals) if tag is not None}
+    text, reasons = text_around(wording.units, wording.document, tags), unasserted(wording)
+    rows = []
+    for number, pair in enumerate(ranks):
+        row = row_of(wording, number, pair)
+        is_tied = number not in loose or row.kind in ("exact", "within")
+        found = replace(row, unasserted=reasons.get(row.name, ""), is_tied=is_tied)
+        rows.append(standing(wording, found, text))
+    return rows
+
+
+def standing(wording: Wording, row: Row, text: Text) -> Row:
+    """A row with its place in the document and, where it is an event, the words around it."""
+    tag = wording.tag_of(row.name)
+    if tag is None:
+        return row
+    return replace(row, place=tag.start, around=text.around(tag.start) if row.kind == "event" else Around())
+
+
+def row_of(wording: Wording, number: int, ranks: Ranks) -> Row:
     """The row of one interval, without its links."""
     name = wording.intervals[number]
     date = wording.dates.get(name)
