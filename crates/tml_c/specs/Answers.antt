@@ -1,8 +1,7 @@
 -- What a call answers: the reply of a run over its words and files in which no device fails.
 use Rattle.std.specs.Prelude.{◌≡◌, ◌≢◌, ◌⊎◌, ℕ, List, [], ◌++◌, drop, length, take, Some}
-use Rattle.std.specs.declared.option.Option.{Option}
 use Rattle.tml_c.specs.Given.{two_files}
-use Rattle.tml_c.specs.Words.{AsksFor}
+use Rattle.tml_c.specs.Words.{AreTakenFor}
 use Rattle.tml_io.specs.Files.{Files}
 use Rattle.tml_run.specs.Reading.{AllThere}
 use Rattle.tml_run.specs.Replies.{Replies}
@@ -11,7 +10,6 @@ use Rattle.tml_run.specs.Status.{number_of}
 use Rattle.tml_run.specs.declared.status.Status.{Status}
 use Rattle.tml_run.specs.declared.status.Status.TheVariants.{NoMemory, ReadFault, WriteFault}
 use Rattle.tml_tool.specs.Commands.{form_of, rows_of}
-use Rattle.tml_tool.specs.declared.commands.Form.{Form}
 
 -- The reply to a command over known files. No write fails, and no read of a file that is there.
 pub record IsReply (files : Files) (rows : Rows) (status : Status) (text : List ℕ) : Type 0 where
@@ -28,7 +26,7 @@ IsOutOfMemory status text = (status ≡ NoMemory) × (text ≡ [])
 abbrev pub Answers : List ℕ → List ℕ → List ℕ → Status → List ℕ → Type 0
 Answers words first second status text =
     IsOutOfMemory status text
-    ⊎ ((asked : Option (Form × List (List ℕ))) × AsksFor form_of words asked × IsReply (two_files first second) (rows_of asked) status text)
+    ⊎ ((texts : List (List ℕ)) × AreTakenFor words texts × IsReply (two_files first second) (rows_of (form_of texts)) status text)
 
 -- a text laid over the bytes of a room: as much of it as there is room for, and then what was there
 abbrev pub laid_over : List ℕ → List ℕ → List ℕ

@@ -1,8 +1,7 @@
 -- The words of a call, as bytes.
-use Rattle.std.specs.Prelude.{◌≡◌, ◌⊎◌, ◌==◌, ℕ, List, [], ◌∷◌, ◌++◌, None}
+use Rattle.std.specs.Prelude.{◌≡◌, ◌⊎◌, ◌==◌, ℕ, List, [], ◌∷◌, ◌++◌}
 use Rattle.std.specs.List.{slice_split}
 use Rattle.std.specs.Str.{IsUtf8}
-use Rattle.std.specs.declared.option.Option.{Option}
 
 -- what stands between the zero bytes
 abbrev pub between_zeros : List ℕ → List (List ℕ)
@@ -17,6 +16,6 @@ pub record AreWords (bytes : List ℕ) (words : List (List ℕ)) : Type 0 where
 abbrev pub HaveNoWords : List ℕ → Type 0
 HaveNoWords bytes = (words : List (List ℕ)) → AreWords bytes words → ⊥
 
--- what the words in some bytes ask for, which is nothing where there are none
-abbrev pub AsksFor : {Q : Type 0} → (List (List ℕ) → Option Q) → List ℕ → Option Q → Type 0
-AsksFor asked_by bytes asked = ((words : List (List ℕ)) × AreWords bytes words × (asked ≡ asked_by words)) ⊎ (HaveNoWords bytes × (asked ≡ None))
+-- some bytes are taken for these words: those that they have, or else the empty word, which has no form
+abbrev pub AreTakenFor : List ℕ → List (List ℕ) → Type 0
+AreTakenFor bytes words = AreWords bytes words ⊎ (HaveNoWords bytes × (words ≡ [] ∷ []))

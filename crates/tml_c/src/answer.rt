@@ -33,10 +33,10 @@ impl Answer {
 pub fn answer_to_bytes(alloc: Global, words: &[u8], first: &[u8], second: &[u8]) -> Answer
     ensures { Answers words.now first.now second.now result.status result.text.items }
 {
-    match words_in(alloc, words) {
-        Ok(words) => answer_to_words(alloc, words.as_slice(), first, second),
-        Err(_) => Answer::out_of_memory(alloc),
-    }
+    let Ok(words) = words_in(alloc, words) else {
+        return Answer::out_of_memory(alloc);
+    };
+    answer_to_words(alloc, words.as_slice(), first, second)
 }
 
 /// The answer to some words. A text for which there was no memory is given up, with its status.
@@ -47,8 +47,8 @@ fn answer_to_words(alloc: Global, words: &[String], first: &[u8], second: &[u8])
     let mut inputs = TwoFiles::new(first, second);
     let mut sink = Growing::new(alloc);
     let status = run(alloc, words, &mut inputs, &mut sink);
-    match sink.into_text() {
-        Some(text) => Answer { status, text },
-        None => Answer::out_of_memory(alloc),
-    }
+    let Some(text) = sink.into_text() else {
+        return Answer::out_of_memory(alloc);
+    };
+    Answer { status, text }
 }

@@ -1,7 +1,6 @@
 //! The words of a call.
-ghost use Rattle.std.specs.Prelude.{◌≡◌, ◌++◌, [], ◌∷◌, IfOk, MatchOption, None};
-ghost use Rattle.tml_c.specs.Words.{AsksFor, HaveNoWords, between_zeros};
-ghost use Rattle.tml_tool.specs.Commands.{form_of};
+ghost use Rattle.std.specs.Prelude.{◌≡◌, ◌++◌, [], ◌∷◌, IfOk, MatchOption};
+ghost use Rattle.tml_c.specs.Words.{AreTakenFor, HaveNoWords, between_zeros};
 ghost use Rattle.tml_tool.specs.Forms.{texts_of};
 
 use std::alloc::{AllocError, Global};
@@ -9,7 +8,7 @@ use std::str;
 
 /// The words in some bytes, each ended by a zero byte. Bytes that have none give the empty word, which has no form.
 pub fn words_in(alloc: Global, bytes: &[u8]) -> Result<Vec<String>, AllocError>
-    ensures { IfOk result (λ words. AsksFor form_of bytes.now (form_of (texts_of words.items))) }
+    ensures { IfOk result (λ words. AreTakenFor bytes.now (texts_of words.items)) }
 {
     let Ok(text) = str::from_utf8(bytes) else {
         return no_form(alloc);
@@ -39,7 +38,7 @@ fn ended_words(alloc: Global, text: &str) -> Result<Option<Vec<String>>, AllocEr
 
 /// The empty word.
 fn no_form(alloc: Global) -> Result<Vec<String>, AllocError>
-    ensures { IfOk result (λ words. form_of (texts_of words.items) ≡ None) }
+    ensures { IfOk result (λ words. texts_of words.items ≡ [] ∷ []) }
 {
     let mut words = Vec::new(alloc);
     words.push(String::new(alloc))?;
