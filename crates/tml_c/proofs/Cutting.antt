@@ -1,5 +1,5 @@
 -- Cutting bytes at their zero bytes, word by word.
-use Rattle.std.proofs.Common.{◌≡◌, ◌==◌, ◌<◌, ℕ, false, List, [], ◌∷◌, ◌++◌, length, map, All, String, refl, ap, sym, ◌∙◌, reverse, arith}
+use Rattle.std.proofs.Common.{◌≡◌, ◌==◌, ◌<◌, ℕ, false, List, [], ◌∷◌, ◌++◌, length, String, ap, sym, ◌∙◌, reverse, arith}
 use Rattle.std.specs.List.{after_first, before_first, position_or_len}
 use Rattle.std.specs.Prelude.{string_bytes}
 use Rattle.std.specs.declared.alloc.Global.{Global}
@@ -8,7 +8,7 @@ use Rattle.std.proofs.lemmas.List.{append_assoc, map-append, reverse-append}
 use Rattle.std.proofs.lemmas.List.Elements.{All-from_get_or}
 use Rattle.std.proofs.lemmas.List.Splits.{slice_split_first, slice_split_none}
 use Rattle.std.proofs.lemmas.List.Sums.{fails_before_first}
-use Rattle.tml_c.specs.Words.{AreWords, HaveNoWords, between_zeros}
+use Rattle.tml_c.specs.Words.{HaveNoWords, between_zeros}
 use Rattle.tml_tool.specs.Forms.{texts_of}
 
 -- where the first zero byte stands
@@ -23,11 +23,11 @@ pub next_word : (bytes rest after : List ℕ) (words more : List (String Global)
 next_word bytes rest after words more word h within is_word is_after is_more =
     let p = λ (byte : ℕ). byte == 0 in
     let cut : between_zeros rest ≡ string_bytes word ∷ between_zeros after =
-      slice_split_first p rest 0 within ∙ ap (λ w. w ∷ between_zeros (after_first p rest)) (sym is_word) ∙ ap (λ a. string_bytes word ∷ between_zeros a) (sym is_after) in
+    slice_split_first p rest 0 within ∙ ap (λ w. w ∷ between_zeros (after_first p rest)) (sym is_word) ∙ ap (λ a. string_bytes word ∷ between_zeros a) (sym is_after) in
     let texts : texts_of more ≡ texts_of words ++ string_bytes word ∷ [] =
-      ap (λ m. texts_of m) is_more ∙ map-append (λ (w : String Global). string_bytes w) words (word ∷ []) in
+    ap (λ m. texts_of m) is_more ∙ map-append (λ (w : String Global). string_bytes w) words (word ∷ []) in
     h ∙ ap (λ parts. texts_of words ++ parts) cut ∙ sym (append_assoc (texts_of words) (string_bytes word ∷ []) (between_zeros after))
-      ∙ ap (λ t. t ++ between_zeros after) (sym texts)
+    ∙ ap (λ t. t ++ between_zeros after) (sym texts)
 
 -- where there is no zero byte, the bytes are one part
 pub last_part : (rest : List ℕ) → first_zero rest ≡ length rest → between_zeros rest ≡ rest ∷ []

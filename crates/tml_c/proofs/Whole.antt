@@ -48,7 +48,7 @@ reply_is files rows status given given_now calls calls_now text read read_now h 
 
 -- the same of inputs and a sink as they are seen before and after
 pub reply_of_run : (known : Option Files) (files : Files) (rows : Rows) (status : Status) (given given_now calls calls_now : ℕ) (old new : Option (List ℕ))
-      (text : List ℕ) (before now read read_now : ℕ)
+    (text : List ℕ) (before now read read_now : ℕ)
     → Outcome known rows status given given_now old new before now calls calls_now
     → known ≡ Some files → old ≡ Some [] → new ≡ Some text → before ≡ 0 → now ≡ 0
     → read ≡ 0 → (status ≡ ReadFault → HasRisen read read_now) → (AllThere known rows → read_now ≡ read)

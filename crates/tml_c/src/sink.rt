@@ -28,7 +28,11 @@ impl Growing {
         ensures { MatchOption result (⟦<Growing as Sink>⟧.faults self ≢ 0)
             (λ text. (⟦<Growing as Sink>⟧.faults self ≡ 0) × (⟦<Growing as Sink>⟧.written self ≡ Some text.items)) }
     {
-        if self.faults == 0 { Some(self.text) } else { None }
+        if self.faults == 0 {
+            Some(self.text)
+        } else {
+            None
+        }
     }
 }
 

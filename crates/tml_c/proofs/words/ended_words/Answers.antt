@@ -9,7 +9,7 @@ loop-word-preserved c =
     record {
       text = search rules;
       cut = next_word c.args.text.now c.loop-word.rest.now c.in-Some.after.now c.loop-word.words.items c.push.new.self.items c.in_ok-from_str.field-0
-        c.loop-word.invariant.cut found.2 (c.in_ok-from_str.ensures.ok ∙ found.0) found.1 c.in_ok-push.ensures.items;
+          c.loop-word.invariant.cut found.2 (c.in_ok-from_str.ensures.ok ∙ found.0) found.1 c.in_ok-push.ensures.items;
     }
 
 pub returns-then-not-is_empty : goal.returns-then-not-is_empty
