@@ -129,6 +129,12 @@ class Library(unittest.TestCase):
             with self.subTest(case.subject):
                 self.assertEqual(self.call(case, before=watched)[:2], self.call(case)[:2])
 
+    @unittest.skipUnless(shutil.which("prlimit"), "no prlimit")
+    def test_a_stack_of_one_mebibyte(self):
+        for case in self.cases(2):
+            with self.subTest(case.subject):
+                self.assertEqual(self.call(case, before=("prlimit", "--stack=1048576")), self.call(case))
+
     def test_each_allocation_refused(self):
         library, tally, refused, no_memory = self.folder / "refused_memory.so", self.folder / "tally", 0, 0
         ran("cc", "-shared", "-fPIC", "-O1", "-o", library, REFUSING)
