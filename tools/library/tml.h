@@ -32,7 +32,7 @@ enum tml_status {
  * words: the words of the program's command line, without `tml`, each ended by a zero byte, the last one too. They name
  *     the files `first` and `second`: "check\0first" is the words `check first`, with sizeof as its length.
  * first, second: what the two files hold. One that no word names is not read, and may be "" with length 0.
- * text, room: where the text goes. Its first `room` bytes are written, and no zero byte after them.
+ * text, room: where the text goes, as much of it as there is room for. No zero byte is written after it.
  * needed: gets the length of the text. Where that is more than `room`, the text was cut there.
  *
  * No pointer is NULL, even where its length is 0, and what `text` and `needed` point to overlaps nothing else. */

@@ -89,6 +89,12 @@ class Library(unittest.TestCase):
         said = ran(program, env={**os.environ, "LD_LIBRARY_PATH": f"{self.root}/{LIBRARIES}"})
         self.assertEqual(said.splitlines()[0], "accepted")
 
+    @unittest.skipUnless(shutil.which("pkg-config"), "no pkg-config")
+    def test_the_file_of_pkg_config(self):
+        places = {"PKG_CONFIG_SYSROOT_DIR": str(self.root), "PKG_CONFIG_PATH": f"{self.root}/{LIBRARIES}/pkgconfig"}
+        words = ran("pkg-config", "--cflags", "--libs", "libtml", env={**os.environ, **places, "PKG_CONFIG_ALLOW_SYSTEM_LIBS": "1", "PKG_CONFIG_ALLOW_SYSTEM_CFLAGS": "1"})
+        ran("cc", CALLER, "-o", self.folder / "by-pkg-config", *words.split(), "-pthread")
+
     @unittest.skipUnless(os.access(TML, os.X_OK), f"no program {TML}")
     def test_it_answers_as_the_program(self):
         for case in self.cases():
@@ -164,7 +170,7 @@ class Library(unittest.TestCase):
         version = re.search(r"^## ([\d.]+), ", Path(TOP, "CHANGELOG.md").read_text(encoding="utf-8"), re.MULTILINE)[1]
         self.assertEqual([os.path.basename(name) for name in self.made], [f"{name}_{version}_amd64.deb" for name in ("libtml", "libtml-dev")])
         found = {str(path.relative_to(self.root)) for path in self.root.rglob("*") if path.is_file()}
-        wanted = {f"{LIBRARIES}/{name}" for name in (f"libtml.so.0.{version}", "libtml.so.0", "libtml.so", "libtml.a", "pkgconfig/libtml.pc")}
+        wanted = {f"{LIBRARIES}/{name}" for name in (f"libtml.so.{version}", "libtml.so.0", "libtml.so", "libtml.a", "pkgconfig/libtml.pc")}
         wanted |= {"usr/include/tml.h", "usr/share/doc/libtml-dev/LIBRARY.md"}
         wanted |= {f"usr/share/doc/{package}/{name}" for package in ("libtml", "libtml-dev") for name in ("copyright", "changelog.gz")}
         self.assertEqual(found, wanted)
