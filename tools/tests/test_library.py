@@ -32,7 +32,7 @@ def ran(*words, **settings):
     return done.stdout.decode()
 
 
-@unittest.skipUnless(os.path.isfile(ARCHIVE), f"no library {ARCHIVE}: `rt lib` makes it in crates/tml_c, or name one by TML_LIBRARY=ARCHIVE")
+@unittest.skipUnless(os.path.isfile(ARCHIVE), f"no library {ARCHIVE}: `rt lib` makes it in crates/tml_c, or name one by TML_LIBRARY=")
 @unittest.skipIf(MISSING, f"not installed: {', '.join(MISSING)}")
 class Library(unittest.TestCase):
     @classmethod
@@ -54,15 +54,16 @@ class Library(unittest.TestCase):
         shutil.copytree(os.path.join(TOP, "docs"), copy / "docs")
         changes = Path(TOP, "CHANGELOG.md").read_text(encoding="utf-8")
         (copy / "CHANGELOG.md").write_text(changes.replace(", not yet released", ", 2026-11-29"), encoding="utf-8")
-        words = (sys.executable, copy / "tools/package", "--library", ARCHIVE, "--output", cls.folder, "--maintainer", "A Name <a@example.org>")
-        return ran(*words, env={**os.environ, "SOURCE_DATE_EPOCH": "1795824000"}).splitlines()
+        words = ("--library", ARCHIVE, "--output", cls.folder, "--maintainer", "A Name <a@example.org>")
+        return ran(sys.executable, copy / "tools/package", *words, env={**os.environ, "SOURCE_DATE_EPOCH": "1795824000"}).splitlines()
 
     @classmethod
     def built(cls, name, source, *options):
         """A program over the library that was unpacked."""
         program = cls.folder / name
         places = (f"-I{cls.root}/usr/include", f"-L{cls.root}/{LIBRARIES}")
-        ran("cc", "-std=c11", "-D_DEFAULT_SOURCE", "-Wall", "-Wextra", "-Werror", "-O1", "-g", *places, source, "-o", program, *options, "-pthread")
+        strict = ("-std=c11", "-D_DEFAULT_SOURCE", "-Wall", "-Wextra", "-Werror", "-O1", "-g")
+        ran("cc", *strict, *places, source, "-o", program, *options, "-pthread")
         return program
 
     def call(self, case, *, before=(), program=None, threads=1, room=1 << 22, **variables):
@@ -92,7 +93,8 @@ class Library(unittest.TestCase):
     @unittest.skipUnless(shutil.which("pkg-config"), "no pkg-config")
     def test_the_file_of_pkg_config(self):
         places = {"PKG_CONFIG_SYSROOT_DIR": str(self.root), "PKG_CONFIG_PATH": f"{self.root}/{LIBRARIES}/pkgconfig"}
-        words = ran("pkg-config", "--cflags", "--libs", "libtml", env={**os.environ, **places, "PKG_CONFIG_ALLOW_SYSTEM_LIBS": "1", "PKG_CONFIG_ALLOW_SYSTEM_CFLAGS": "1"})
+        kept = {f"PKG_CONFIG_ALLOW_SYSTEM_{kind}": "1" for kind in ("LIBS", "CFLAGS")}
+        words = ran("pkg-config", "--cflags", "--libs", "libtml", env={**os.environ, **places, **kept})
         ran("cc", CALLER, "-o", self.folder / "by-pkg-config", *words.split(), "-pthread")
 
     @unittest.skipUnless(os.access(TML, os.X_OK), f"no program {TML}")
@@ -159,8 +161,8 @@ class Library(unittest.TestCase):
 
     def test_what_is_shown(self):
         for option, name in (("-D", "libtml.so"), ("-g", "libtml.a")):
-            shown = {line.split()[-1].split("@")[0] for line in ran("nm", option, "--defined-only", self.root / LIBRARIES / name).splitlines() if " T " in line}
-            self.assertEqual(shown, EXPORTS, name)
+            lines = ran("nm", option, "--defined-only", self.root / LIBRARIES / name).splitlines()
+            self.assertEqual({line.split()[-1].split("@")[0] for line in lines if re.search(" [TDBRW] ", line)}, EXPORTS, name)
         header = (self.root / "usr/include/tml.h").read_text(encoding="utf-8")
         self.assertEqual(set(re.findall(r"^uint\d+_t (\w+)\(", header, re.MULTILINE)), EXPORTS)
         self.assertIn("TML_0.4", ran("nm", "-D", self.root / LIBRARIES / "libtml.so"))
