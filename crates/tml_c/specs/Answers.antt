@@ -1,0 +1,42 @@
+-- What a call answers: the reply of a run over its words and files in which no device fails.
+use Rattle.std.specs.Prelude.{◌≡◌, ◌≢◌, ◌⊎◌, ℕ, List, [], ◌++◌, drop, length, take, Some}
+use Rattle.tml_c.specs.Given.{two_files}
+use Rattle.tml_c.specs.Words.{AreTakenFor}
+use Rattle.tml_io.specs.Files.{Files}
+use Rattle.tml_run.specs.Reading.{AllThere}
+use Rattle.tml_run.specs.Replies.{Replies}
+use Rattle.tml_run.specs.Rows.{Rows}
+use Rattle.tml_run.specs.Status.{number_of}
+use Rattle.tml_run.specs.declared.status.Status.{Status}
+use Rattle.tml_run.specs.declared.status.Status.TheVariants.{NoMemory, ReadFault, WriteFault}
+use Rattle.tml_tool.specs.Commands.{form_of, rows_of}
+
+-- The reply to a command over known files. No write fails, and no read of a file that is there.
+pub record IsReply (files : Files) (rows : Rows) (status : Status) (text : List ℕ) : Type 0 where
+  pub taken : ℕ
+  pub replies : Replies (Some files) rows status text taken
+  pub no_write_fault : status ≢ WriteFault
+  pub no_read_fault : AllThere (Some files) rows → status ≢ ReadFault
+
+-- out of memory there is no text
+abbrev pub IsOutOfMemory : Status → List ℕ → Type 0
+IsOutOfMemory status text = (status ≡ NoMemory) × (text ≡ [])
+
+-- The status and the text that a call answers to the words in some bytes, over two files.
+abbrev pub Answers : List ℕ → List ℕ → List ℕ → Status → List ℕ → Type 0
+Answers words first second status text =
+    IsOutOfMemory status text
+    ⊎ ((texts : List (List ℕ)) × AreTakenFor words texts × IsReply (two_files first second) (rows_of (form_of texts)) status text)
+
+-- a text laid over the bytes of a room: as much of it as there is room for, and then what was there
+abbrev pub laid_over : List ℕ → List ℕ → List ℕ
+laid_over text room = take (length room) text ++ drop (length text) room
+
+-- What a call leaves: the number of a status, how long its text is, and the text laid over what was in the room for it.
+pub record Leaves (words first second : List ℕ) (number : ℕ) (needed : ℕ) (before now : List ℕ) : Type 0 where
+  pub status : Status
+  pub text : List ℕ
+  pub answers : Answers words first second status text
+  pub number_is : number ≡ number_of status
+  pub needed_is : needed ≡ length text
+  pub room_is : now ≡ laid_over text before

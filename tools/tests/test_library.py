@@ -1,0 +1,189 @@
+"""The library for C: that its example runs, that it answers as the program does, in what memory, and how it is packed."""
+
+from __future__ import annotations
+
+import os
+import re
+import shutil
+import struct
+import subprocess
+import sys
+import tempfile
+import unittest
+from pathlib import Path
+
+from refused_memory import ALL, LIBRARY as REFUSING, NO_MEMORY, runs
+
+from corpus import TML, TOOLS, TOP
+
+ARCHIVE = os.environ.get("TML_LIBRARY") or os.path.join(TOP, "crates", "tml_c", "out", "libtml_c.a")
+CALLER = os.path.join(TOOLS, "tests", "library_caller.c")
+EXPORTS = {"tml_answer", "tml_most_of_document", "tml_most_of_evidence"}
+LIBRARIES = "usr/lib/x86_64-linux-gnu"
+MISSING = [name for name in ("cc", "ld", "objcopy", "ar", "rt", "dpkg-deb") if shutil.which(name) is None]
+STRIDE = 40
+
+
+def ran(*words, **settings):
+    """A program that has to end with status 0, and what it printed."""
+    done = subprocess.run(words, capture_output=True, check=False, timeout=300, **settings)
+    if done.returncode != 0:
+        raise AssertionError(f"{words}: {done.returncode}: {done.stderr.decode('utf-8', 'replace')}")
+    return done.stdout.decode()
+
+
+@unittest.skipUnless(os.path.isfile(ARCHIVE), f"no library {ARCHIVE}: `rt lib` makes it in crates/tml_c, or name one by TML_LIBRARY=")
+@unittest.skipIf(MISSING, f"not installed: {', '.join(MISSING)}")
+class Library(unittest.TestCase):
+    @classmethod
+    def setUpClass(cls):
+        held = tempfile.TemporaryDirectory(prefix="library-")
+        cls.addClassCleanup(held.cleanup)
+        cls.folder = Path(held.name)
+        cls.made = cls.packages()
+        cls.root = cls.folder / "root"
+        for name in cls.made:
+            ran("dpkg-deb", "-x", name, cls.root)
+        cls.caller = cls.built("caller", CALLER, "-l:libtml.a")
+
+    @classmethod
+    def packages(cls):
+        """Makes the packages by `tools/package` of a copy that has a date for each version."""
+        copy = cls.folder / "copy"
+        shutil.copytree(TOOLS, copy / "tools", ignore=shutil.ignore_patterns("__pycache__"))
+        shutil.copytree(os.path.join(TOP, "docs"), copy / "docs")
+        changes = Path(TOP, "CHANGELOG.md").read_text(encoding="utf-8")
+        (copy / "CHANGELOG.md").write_text(changes.replace(", not yet released", ", 2026-11-29"), encoding="utf-8")
+        words = ("--library", ARCHIVE, "--output", cls.folder, "--maintainer", "A Name <a@example.org>")
+        return ran(sys.executable, copy / "tools/package", *words, env={**os.environ, "SOURCE_DATE_EPOCH": "1795824000"}).splitlines()
+
+    @classmethod
+    def built(cls, name, source, *options):
+        """A program over the library that was unpacked."""
+        program = cls.folder / name
+        places = (f"-I{cls.root}/usr/include", f"-L{cls.root}/{LIBRARIES}")
+        strict = ("-std=c11", "-D_DEFAULT_SOURCE", "-Wall", "-Wextra", "-Werror", "-O1", "-g")
+        ran("cc", *strict, *places, source, "-o", program, *options, "-pthread")
+        return program
+
+    def call(self, case, *, before=(), program=None, threads=1, room=1 << 22, **variables):
+        """The status and the text of a call on a case of the program, whose first two files are there by the library's names."""
+        names = list(case.files)[:2]
+        called = dict(zip(names, (b"first", b"second")))
+        words = b"".join(called.get(word, word) + b"\0" for word in case.words)
+        files = [*case.files.values(), b"", b""]
+        for name, content in zip(("first", "second", "words"), (files[0], files[1], words)):
+            (self.folder / name).write_bytes(content)
+        line = [*before, program or self.caller, str(threads), str(room), "first", "second", "words"]
+        done = subprocess.run(line, cwd=self.folder, env={**os.environ, **variables}, capture_output=True, check=False, timeout=300)
+        return done.returncode, done.stdout, done.stderr
+
+    def cases(self, stride=1):
+        """Runs that take every path, each of so many."""
+        return [case for case in runs() if case.words][::stride]
+
+    def test_the_example(self):
+        text = Path(TOP, "docs/LIBRARY.md").read_text(encoding="utf-8")
+        source = self.folder / "example.c"
+        source.write_text(re.search(r"```c\n(.*?)```", text, re.DOTALL)[1], encoding="utf-8")
+        program = self.built("example", source, "-ltml")
+        said = ran(program, env={**os.environ, "LD_LIBRARY_PATH": f"{self.root}/{LIBRARIES}"})
+        self.assertEqual(said.splitlines()[0], "accepted")
+
+    @unittest.skipUnless(shutil.which("pkg-config"), "no pkg-config")
+    def test_the_file_of_pkg_config(self):
+        places = {"PKG_CONFIG_SYSROOT_DIR": str(self.root), "PKG_CONFIG_PATH": f"{self.root}/{LIBRARIES}/pkgconfig"}
+        kept = {f"PKG_CONFIG_ALLOW_SYSTEM_{kind}": "1" for kind in ("LIBS", "CFLAGS")}
+        words = ran("pkg-config", "--cflags", "--libs", "libtml", env={**os.environ, **places, **kept})
+        ran("cc", CALLER, "-o", self.folder / "by-pkg-config", *words.split(), "-pthread")
+
+    @unittest.skipUnless(os.access(TML, os.X_OK), f"no program {TML}")
+    def test_it_answers_as_the_program(self):
+        for case in self.cases():
+            with self.subTest(case.subject), tempfile.TemporaryDirectory() as folder:
+                files = {name: content for name, content in case.files.items() if name != b"-"}
+                for name, content in files.items():
+                    Path(folder, name.decode()).write_bytes(content)
+                given = case.files.get(b"-", b"")
+                done = subprocess.run([TML, *case.words], cwd=folder, input=given, capture_output=True, check=False, timeout=300)
+                self.assertEqual(self.call(case)[:2], (done.returncode, done.stdout))
+
+    def test_threads_side_by_side(self):
+        for case in self.cases(5):
+            with self.subTest(case.subject):
+                self.assertEqual(self.call(case, threads=8), self.call(case))
+
+    def test_a_room_that_is_too_small(self):
+        for case in self.cases(9):
+            status, text, _ = self.call(case)
+            for room in {0, 1, len(text) // 2, max(len(text) - 1, 0)} - {len(text)}:
+                with self.subTest(case.subject, room=room):
+                    self.assertEqual(self.call(case, room=room)[:2], (status, b"needs %d\n" % len(text)))
+            self.assertEqual(self.call(case, room=len(text))[:2], (status, text))
+
+    def test_with_an_address_sanitizer(self):
+        try:
+            program = self.built("sanitized", CALLER, "-l:libtml.a", "-fsanitize=address,undefined", "-fno-sanitize-recover=all")
+        except AssertionError:
+            self.skipTest("cc has no AddressSanitizer")
+        for case in self.cases(3):
+            with self.subTest(case.subject):
+                self.assertEqual(self.call(case, program=program, threads=2), self.call(case))
+
+    @unittest.skipUnless(shutil.which("valgrind"), "no valgrind")
+    def test_with_valgrind(self):
+        watched = ("valgrind", "-q", "--error-exitcode=99", "--leak-check=full", "--max-stackframe=90000000")
+        for case in self.cases(STRIDE):
+            with self.subTest(case.subject):
+                self.assertEqual(self.call(case, before=watched)[:2], self.call(case)[:2])
+
+    @unittest.skipUnless(shutil.which("prlimit"), "no prlimit")
+    def test_a_stack_of_one_mebibyte(self):
+        for case in self.cases(2):
+            with self.subTest(case.subject):
+                self.assertEqual(self.call(case, before=("prlimit", "--stack=1048576")), self.call(case))
+
+    def test_each_allocation_refused(self):
+        library, tally, refused, no_memory = self.folder / "refused_memory.so", self.folder / "tally", 0, 0
+        ran("cc", "-shared", "-fPIC", "-O1", "-o", library, REFUSING)
+        for case in self.cases(STRIDE // 2):
+            wanted, first, count = self.call(case)[:2], 0, 1
+            while first <= count:
+                for number in (1, ALL) if first else (0,):
+                    tally.write_bytes(struct.pack("=QQQ", 0, first, number))
+                    found = self.call(case, LD_PRELOAD=str(library), REFUSED_MEMORY=str(tally))[:2]
+                    with self.subTest(case.subject, first=first, number=number):
+                        self.assertIn(found, (wanted, (NO_MEMORY, b"")))
+                    refused, no_memory = refused + bool(first), no_memory + (found != wanted)
+                    count = count if first else struct.unpack("=QQQ", tally.read_bytes())[0]
+                first += 1 + (count // 20 if first else 0)
+        self.assertGreater(no_memory, 0, f"of {refused} refusals")
+
+    def test_what_is_shown(self):
+        for option, name in (("-D", "libtml.so"), ("-g", "libtml.a")):
+            lines = ran("nm", option, "--defined-only", self.root / LIBRARIES / name).splitlines()
+            self.assertEqual({line.split()[-1].split("@")[0] for line in lines if re.search(" [TDBRW] ", line)}, EXPORTS, name)
+        header = (self.root / "usr/include/tml.h").read_text(encoding="utf-8")
+        self.assertEqual(set(re.findall(r"^uint\d+_t (\w+)\(", header, re.MULTILINE)), EXPORTS)
+        self.assertIn("TML_0.4", ran("nm", "-D", self.root / LIBRARIES / "libtml.so"))
+        self.assertIn("libtml.so.0", ran("readelf", "-d", self.root / LIBRARIES / "libtml.so"))
+
+    def test_names_and_fields(self):
+        version = re.search(r"^## ([\d.]+), ", Path(TOP, "CHANGELOG.md").read_text(encoding="utf-8"), re.MULTILINE)[1]
+        self.assertEqual([os.path.basename(name) for name in self.made], [f"{name}_{version}_amd64.deb" for name in ("libtml", "libtml-dev")])
+        found = {str(path.relative_to(self.root)) for path in self.root.rglob("*") if path.is_file()}
+        wanted = {f"{LIBRARIES}/{name}" for name in (f"libtml.so.{version}", "libtml.so.0", "libtml.so", "libtml.a", "pkgconfig/libtml.pc")}
+        wanted |= {"usr/include/tml.h", "usr/share/doc/libtml-dev/LIBRARY.md"}
+        wanted |= {f"usr/share/doc/{package}/{name}" for package in ("libtml", "libtml-dev") for name in ("copyright", "changelog.gz")}
+        self.assertEqual(found, wanted)
+        self.assertRegex(ran("dpkg-deb", "-f", self.made[0], "Depends"), r"^libc6 \(>= 2\.\d+\)$")
+        self.assertEqual(ran("dpkg-deb", "-f", self.made[1], "Depends"), f"libtml (= {version})\n")
+
+    def test_the_same_again(self):
+        before = [Path(name).read_bytes() for name in self.made]
+        shutil.rmtree(self.folder / "copy")
+        self.assertEqual([Path(name).read_bytes() for name in self.packages()], before)
+
+
+if __name__ == "__main__":
+    unittest.main()
