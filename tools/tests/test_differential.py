@@ -409,7 +409,7 @@ class Runs(unittest.TestCase):
             program = self.lying(f'if [ "$1" = matrix ]; then "$T" "$@" > out; S=$?; sed "{lie}" out; exit $S; fi')
             status, said = self.differential("--processes", "--count", "320", "--small", "0", "2", "1", tml=program)
             self.assertEqual(status, 1, said)
-            self.assertIn("difference (agreed)", said)
+            self.assertRegex(said, r"difference \((agreed|right)\)")
 
     @needs_score
     def test_lies_about_links_are_found(self) -> None:

@@ -225,7 +225,7 @@ class Answers(ServeTest):
         client = self.client()
         self.opened(client, self.sample("rates.xml"))
         time_of = self.hover(client, "<TIMEX3", 2)
-        self.assertRegex(time_of, r"\*\*.* \(t\d+, (?:DATE|TIME) .*\)\*\*\n\ntime fixed by the calendar: \S+ – \S+")
+        self.assertRegex(time_of, r"\*\*.* \(t\d+, (?:DATE|TIME) .*\)\*\*\n\ntime fixed by the calendar: \d+ \w+ \d{4}, \d\d:\d\d to \d\d:\d\d:\d\d\n")
         self.assertRegex(self.hover(client, "<EVENT", 2), r"^\*\*\w+ \(e\d+, [A-Z_]+\): instance ei\d+\*\*\n\n\w+ [A-Z_, ]+ .* \(ei\d+, \w+\)")
         self.assertRegex(self.hover(client, "<TLINK", 2), r"^\*\*.* \(link 0: \w+ [A-Z_]+ \w+\)\*\*")
         self.assertRegex(self.hover(client, "<MAKEINSTANCE", 2), r"^\*\*.* \(ei\d+\), an instance of e\d+\*\*")
