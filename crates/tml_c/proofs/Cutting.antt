@@ -36,9 +36,9 @@ last_part rest e =
     slice_split_none p rest (All-from_get_or (λ byte. p byte ≡ false) rest 0 (λ i within. fails_before_first p rest i 0 (omega (arith, e, within))))
 
 -- lists with one last item
-pub same_last : (front other : List (List ℕ)) (x y : List ℕ) → front ++ x ∷ [] ≡ other ++ y ∷ [] → x ≡ y
-same_last front other x y e =
-    ap (λ parts. get_or parts 0 []) (sym (reverse-append front (x ∷ [])) ∙ ap (λ parts. reverse parts) e ∙ reverse-append other (y ∷ []))
+pub same_last : (words other : List (List ℕ)) (x y : List ℕ) → words ++ x ∷ [] ≡ other ++ y ∷ [] → x ≡ y
+same_last words other x y e =
+    ap (λ parts. get_or parts 0 []) (sym (reverse-append words (x ∷ [])) ∙ ap (λ parts. reverse parts) e ∙ reverse-append other (y ∷ []))
 
 -- where something comes after the last zero byte there are no words
 pub not_ended : (bytes rest : List ℕ) (words : List (List ℕ)) → between_zeros bytes ≡ words ++ between_zeros rest → first_zero rest ≡ length rest
