@@ -182,7 +182,7 @@ class PlacesOfFaults(CorpusTest):
                 self.assertEqual((status, lines[0].split(": ")[0]), (1, f"{shown}:2:1"))
 
     def test_source_line_and_caret(self):
-        from tml_corpus.places import Places, caret_lines
+        from tml.places import Places, caret_lines
 
         rows = [("\té<EVENT/>", 3, "     é<EVENT/>", 6), ("日<", 2, "    日<", 6), ("e\u0301<", 3, "    e\u0301<", 5), ("\x1b<", 2, "    \ufffd<", 5)]
         for text, column, line, before in rows:

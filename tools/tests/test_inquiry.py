@@ -174,7 +174,7 @@ class Forms(InquiryTest):
         ElementTree.fromstring("\n".join(lines).encode())
 
     def test_lines_of_the_document(self):
-        from tml_corpus.places import Places
+        from tml.places import Places
 
         rows = [
             ("a\n\tx<b r='é'/>\r\nc", "r='é'", ["     x<b r='é'/>", "         ^~~~~"]),

@@ -12,8 +12,8 @@ from reference.relations import holds
 from reference.timelines import all_timelines, closure
 from tml_corpus.leeway import SIGNS, Orders, base_relation, leeways
 from tml_corpus.matrix import INVERSES, Matrix, read_matrix, turned
-from tml_corpus.running import CannotRun
-from tml_corpus.statuses import BASE_RELATIONS
+from tml.running import CannotRun
+from tml.statuses import BASE_RELATIONS
 
 
 def civil(number):

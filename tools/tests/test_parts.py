@@ -13,11 +13,12 @@ from unittest import mock
 
 from corpus import TOOLS, TOP
 
-from tml_corpus import places, profile, running, statuses
+from tml import places, running, statuses as tml_statuses
+from tml_corpus import profile, statuses
 from tml_corpus.files import shown, written
-from tml_corpus.places import Places, caret_lines
+from tml.places import Places, caret_lines
 from tml_corpus.program import CannotRun, Reply
-from tml_corpus.replies import refusal
+from tml.replies import refusal
 from tml_corpus.tables import BadTable, rows
 from tml_corpus.texts import texts_of
 from tml_corpus.units import end_of, read_units, unit_at
@@ -42,20 +43,20 @@ class Numbers(unittest.TestCase):
     def test_are_those_of_the_definitions(self):
         definitions = self.page("DEFINITIONS.md")
         table = re.findall(r"^\| ([A-Z]\w+) \| (\d+) \| ", definitions, re.MULTILINE)
-        self.assertEqual([(name.replace("_", "").lower(), number) for name, number in statuses.TmlStatus.__members__.items()], [(a.lower(), int(b)) for a, b in table])
+        self.assertEqual([(name.replace("_", "").lower(), number) for name, number in tml_statuses.TmlStatus.__members__.items()], [(a.lower(), int(b)) for a, b in table])
         names = re.findall(r"\b(\d+) ([A-Z]\w+)", re.search(r"\| phase \| faults \|\n(.*?)\n\n", definitions, re.DOTALL)[1])
-        self.assertEqual([name for _, name in sorted(names, key=lambda one: int(one[0]))], list(statuses.FAULT_NAMES))
+        self.assertEqual([name for _, name in sorted(names, key=lambda one: int(one[0]))], list(tml_statuses.FAULT_NAMES))
 
     def test_are_those_of_the_manual_pages(self):
         limits = re.search(r"^\.Sh LIMITS\n(.*?)^\.Sh ", self.page("tml.1"), re.MULTILINE | re.DOTALL)[1]
-        for limit in (statuses.DOCUMENT_LIMIT, statuses.EVIDENCE_LIMIT, statuses.INTERVAL_LIMIT, statuses.LINK_LIMIT):
+        for limit in (tml_statuses.DOCUMENT_LIMIT, tml_statuses.EVIDENCE_LIMIT, tml_statuses.INTERVAL_LIMIT, tml_statuses.LINK_LIMIT):
             self.assertRegex(limits, rf"\b{limit:,}\b")
         printed = re.findall(r"^\.It (\d+)$", self.page("tml-corpus.1"), re.MULTILINE)
         self.assertEqual([int(number) for number in printed], list(statuses.Status))
-        self.assertEqual(set(re.findall(r"^\.Ql ([A-Z_]{4,})", self.page("tml.1"), re.MULTILINE)) & set(statuses.RELATIONS), set(statuses.RELATIONS))
+        self.assertEqual(set(re.findall(r"^\.Ql ([A-Z_]{4,})", self.page("tml.1"), re.MULTILINE)) & set(tml_statuses.RELATIONS), set(tml_statuses.RELATIONS))
 
     def test_relations_are_those_of_the_profile(self):
-        self.assertEqual(statuses.RELATIONS, profile.RELATION.values)
+        self.assertEqual(tml_statuses.RELATIONS, profile.RELATION.values)
 
 
 class PlacesOfBlocks(unittest.TestCase):

@@ -6,14 +6,15 @@ import os
 from collections.abc import Iterator
 from dataclasses import dataclass, field
 
+from tml.replies import OF_KEY
+from tml.statuses import TmlStatus
+
 from .disagreements import Disagreement, Side, links_that_do_not_follow
 from .files import CannotRead, Found, find_files, read_document
 from .fitting import Fitting, fitting
 from .program import ACCEPTED, CLASH, FAULT, CannotRun, Program, Reply
 from .reduced import problem_of
-from .replies import OF_KEY
 from .scores import Scores, read_scores
-from .statuses import TmlStatus
 from .units import room_for
 from .words import Wording
 

@@ -7,15 +7,16 @@ from dataclasses import dataclass, field
 from heapq import nsmallest
 from typing import IO
 
+from tml.places import Place, Places
+from tml.replies import refusal
+
 from .cutting import units_of_whole
 from .explain import explain
 from .faults import Fault, read_fault
 from .files import CannotRead, Found, opened, read_open
 from .further import further_faults
 from .lint import MOST_WARNINGS, Lint, warnings_of
-from .places import Place, Places
 from .program import ACCEPTED, FAULT, CannotRun, Program, Reply
-from .replies import refusal
 from .source import Explanation, Source
 from .units import room_for
 

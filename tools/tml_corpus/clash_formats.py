@@ -4,11 +4,12 @@ from __future__ import annotations
 
 from collections.abc import Callable
 
+from tml.places import Place
+
 from . import formats
 from .clash_report import TOUCHING, ClashReport, ClashSummary, PlacedChange, PlacedClash, PlacedLink, PlacedRepair
 from .files import counted, shown
 from .formats import data_text, property_text
-from .places import Place
 
 
 class Text:

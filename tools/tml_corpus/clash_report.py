@@ -4,12 +4,13 @@ from __future__ import annotations
 
 from dataclasses import dataclass, field
 
+from tml.places import Place
+
 from .check import Judgement, PlacedNote
 from .clashes import Step
 from .files import counted
 from .formats import WarningCounts
 from .lint import Lint
-from .places import Place
 from .words import Link
 
 TOUCHING = "dates that touch"

@@ -11,9 +11,10 @@ from collections.abc import Iterator, Sequence
 from dataclasses import dataclass
 from typing import IO
 
+from tml.replies import kind_of
+
 from .files import CannotRead, reason, written
 from .program import ACCEPTED, CannotRun, Program, Reply
-from .replies import kind_of
 
 
 STRICT_ORDERS = {

@@ -24,10 +24,12 @@ from contextlib import contextmanager
 from itertools import islice
 from typing import TYPE_CHECKING, TypeVar
 
+from tml.finding import built_program
+
 from .batch import FAMILY, read, written
 from .files import Found, counted
 from .pool import PATIENCE, Interruption
-from .program import CannotRun, Program, built_program
+from .program import CannotRun, Program
 
 if TYPE_CHECKING:
     from distributed import Client, Future

@@ -12,7 +12,8 @@ from array import array
 from collections.abc import Iterator
 from itertools import accumulate
 
-from .places import BYTE_ORDER_MARK
+from tml.places import BYTE_ORDER_MARK
+
 from .program import ACCEPTED, CannotRun, Program
 from .units import EMPTY, END, KINDS, START, TEXT, Attribute, Units, read_units
 

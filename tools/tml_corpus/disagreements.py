@@ -9,10 +9,11 @@ from __future__ import annotations
 from collections.abc import Iterable
 from dataclasses import dataclass
 
+from tml.places import Place
+
 from .lint import INVERSES
 from .matrix import matrix_of
 from .matrix_formats import in_words
-from .places import Place
 from .program import ACCEPTED, CannotRun, Program
 from .reduced import ask_reduced
 from .words import Link, Wording

@@ -5,13 +5,14 @@ Where nothing is found the general sentence of the fault has to do.
 
 from __future__ import annotations
 
+from tml.places import Places
+
 from . import attributes, references
 from .cutting import units_of_whole
 from .encoding import not_utf8
 from .faults import BAD_MARKUP, BAD_REFERENCE, NOT_UTF8, TOO_DEEP, Fault
 from .markup import bad_markup, bad_reference
 from .nesting import nesting
-from .places import Places
 from .program import Program
 from .source import Explanation, Source
 from .units import unit_at

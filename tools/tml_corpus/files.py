@@ -9,7 +9,7 @@ from contextlib import contextmanager, suppress
 from dataclasses import dataclass
 from typing import IO
 
-from .statuses import DOCUMENT_LIMIT
+from tml.statuses import DOCUMENT_LIMIT
 
 PATTERNS = ("*.tml", "*.xml")
 

@@ -6,6 +6,8 @@ from collections.abc import Callable, Iterator
 from dataclasses import dataclass, field
 from itertools import islice
 
+from tml.places import characters
+
 from . import faults
 from .attributes import spelling_edits
 from .baseline import replace_file
@@ -17,7 +19,6 @@ from .faults import Fault, read_fault
 from .files import CannotRead, Found, counted, read_document, shown
 from .markup import cdata_edits, quote_edits, reference_edits
 from .nesting import end_edits, name_edits
-from .places import characters
 from .program import FAULT, CannotRun, Program
 from .references import instance_edits
 from .source import Source

@@ -10,9 +10,10 @@ from collections import Counter
 from dataclasses import dataclass, field
 from xml.etree import ElementTree
 
+from tml.places import Place
+
 from .check import Judgement, Mark, PlacedFault, PlacedNote, PlacedWarning
 from .files import counted, shown
-from .places import Place
 
 CONSEQUENCE = "(perhaps only a consequence)"
 

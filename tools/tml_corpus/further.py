@@ -10,6 +10,8 @@ import re
 from collections.abc import Iterator
 from dataclasses import dataclass, field
 
+from tml.places import Places
+
 from . import faults
 from .attributes import spelling_edits
 from .edits import Edit, applied, blank
@@ -18,7 +20,6 @@ from .explain import explain
 from .faults import Fault, read_fault
 from .markup import NAME, quotes_of_tag
 from .nesting import name_edits, open_link
-from .places import Places
 from .program import FAULT, Program
 from .source import Explanation, Source
 from .units import Unit, Units, end_of, open_tags, unit_at

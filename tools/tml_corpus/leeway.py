@@ -17,8 +17,9 @@ import math
 from collections.abc import Mapping, Sequence
 from dataclasses import dataclass
 
+from tml.statuses import BASE_RELATIONS
+
 from .matrix import Matrix, Relations
-from .statuses import BASE_RELATIONS
 
 SIGNS = dict(
     zip(

@@ -8,9 +8,10 @@ from array import array
 from collections.abc import Iterable, Iterator, Sequence
 from dataclasses import dataclass, field
 
+from tml.statuses import BASE_RELATIONS
+
 from .files import reason
 from .program import ACCEPTED, CannotRun, Program, Reply
-from .statuses import BASE_RELATIONS
 
 INVERSES = {
     "BEFORE": "AFTER", "IBEFORE": "IAFTER", "IS_INCLUDED": "INCLUDES", "BEGINS": "BEGUN_BY", "ENDS": "ENDED_BY",

@@ -16,8 +16,9 @@ from collections.abc import Callable, Sequence
 from contextlib import suppress
 from typing import NoReturn
 
+from tml.running import CannotRun
+
 from .files import CannotRead, reason, shown
-from .running import CannotRun
 from .statuses import Status
 
 INPUT, OUTPUT, ERROR = range(3)

@@ -10,11 +10,12 @@ import hashlib
 import json
 from collections.abc import Callable
 
+from tml.statuses import BASE_RELATIONS
+
 from .lettering import escaped, plain
 from .matrix import INVERSES, Matrix
 from .picture import drawing
 from .rows import Timeline
-from .statuses import BASE_RELATIONS
 
 STYLE = """
 body{margin:0;background:#fff;color:#111;font:14px/1.45 "DejaVu Sans",Verdana,Helvetica,Arial,sans-serif}

@@ -19,7 +19,8 @@ from itertools import islice
 from multiprocessing.synchronize import Lock
 from typing import Any, Generic, TypeVar
 
-from .running import CannotRun, end_all
+from tml.running import CannotRun, end_all
+
 from .units import Room
 
 Item = TypeVar("Item")

@@ -3,16 +3,17 @@
 from __future__ import annotations
 
 import io
-import os
-import shutil
 import tempfile
 from collections.abc import Iterator
 from dataclasses import dataclass
 from typing import IO
 
-from .replies import longest, refusal
-from .running import CannotRun, run
-from .statuses import DOCUMENT_LIMIT, MEANINGS, TmlStatus
+from tml.finding import find_program
+from tml.replies import longest, refusal
+from tml.running import CannotRun, run
+from tml.statuses import DOCUMENT_LIMIT, TmlStatus
+
+from .statuses import MEANINGS
 
 __all__ = ["ACCEPTED", "CLASH", "DOCUMENT_LIMIT", "FAULT", "MEANINGS", "CannotRun", "Program", "Reply", "find_program"]
 
@@ -37,26 +38,6 @@ class Reply:
         """Why a reply that is no judgement is none."""
         known = MEANINGS.get(self.status)  # type: ignore[call-overload]
         return known or f"tml answered status {self.status}, which `{self.command}` should not"
-
-
-def find_program(chosen: str | None) -> str:
-    """The program to run: the chosen one, else the one that was built beside this folder, else the one on PATH."""
-    if chosen is not None:
-        found = shutil.which(chosen)
-        if found is None:
-            raise CannotRun(f"no program {chosen}")
-        return os.path.abspath(found)
-    found = built_program() or shutil.which("tml")
-    if found is None:
-        raise CannotRun("no program tml: build it as README.md says, or choose one by --tml PROGRAM")
-    return os.path.abspath(found)
-
-
-def built_program() -> str | None:
-    """The program that was built beside this folder."""
-    top = os.path.dirname(os.path.dirname(os.path.dirname(os.path.realpath(__file__))))
-    built = os.path.join(top, "crates", "tml", "out", "tml")
-    return built if os.access(built, os.X_OK) else None
 
 
 class Program:

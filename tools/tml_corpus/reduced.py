@@ -4,8 +4,9 @@ from __future__ import annotations
 
 from dataclasses import dataclass
 
+from tml.places import Places
+
 from .faults import read_fault
-from .places import Places
 from .program import ACCEPTED, CLASH, FAULT, CannotRun, Program, Reply
 from .words import Link, Wording
 

@@ -8,13 +8,14 @@ from __future__ import annotations
 import os
 from collections.abc import Iterable, Iterator
 
+from tml.places import Place
+
 from .check import Mark, PlacedFault, PlacedWarning
 from .clash_report import PlacedClash, PlacedLink
 from .files import counted
 from .formats import CONSEQUENCE
 from .lettering import escaped, plain
 from .picture import drawing
-from .places import Place
 from .report_documents import Entry, Examined, entry_of, free_dates
 from .report_text import Words, marked_text
 from .rows import Timeline

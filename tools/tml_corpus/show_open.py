@@ -8,6 +8,8 @@ from collections.abc import Callable, Iterable, Iterator, Sequence
 from dataclasses import dataclass
 from typing import Any, NoReturn, TypeVar
 
+from tml.statuses import LINK_LIMIT
+
 from .files import counted, shown
 from .fitting import Unfit, not_judged
 from .leftout import Copies, enclosed
@@ -17,7 +19,7 @@ from .pool import Interruption, Progress
 from .program import CannotRun, Program
 from .settling import Settled, Settling
 from .show_matrix import Worded, worded_matrix
-from .statuses import ENDED, LINK_LIMIT, Status
+from .statuses import ENDED, Status
 from .words import Wording
 
 Item = TypeVar("Item")

@@ -8,8 +8,9 @@ from dataclasses import dataclass, field
 from functools import cached_property
 from typing import Protocol
 
+from tml.places import Places
+
 from .edits import Edit
-from .places import Places
 from .profile import IDENTIFIERS, LEFT, RIGHT, ROOT, TABLE
 from .units import END, MANY_BYTES, START, TEXT, Attribute, Unit, Units
 from .values import CALENDAR

@@ -5,9 +5,10 @@ from __future__ import annotations
 import re
 from dataclasses import dataclass, field
 
+from tml.places import Place, Places
+
 from .faults import BAD_MARKUP, UNKNOWN_TAG, read_fault
 from .files import CannotRead, Found, read_document, shown
-from .places import Place, Places
 from .program import FAULT, CannotRun, Program, Reply
 from .units import read_units, room_for
 

@@ -11,6 +11,8 @@ import re
 from collections.abc import Callable, Collection, Mapping, Sequence
 from dataclasses import dataclass, replace
 
+from tml.replies import EVIDENCE
+
 from .around import Around, Text, text_around
 from .asserted import AssertedCopy, asserted_copy, unasserted
 from .clashes import verify_ranks, verify_timeline
@@ -23,7 +25,6 @@ from .page import page
 from .picture import svg
 from .placed import Placed, Unplaced, document_placed
 from .program import ACCEPTED, CannotRun, Program, Reply
-from .replies import EVIDENCE
 from .rows import Row, Timeline
 from .seconds_formats import change_lines, unplaced_lines
 from .statuses import Status

@@ -23,14 +23,16 @@ import sys
 from collections.abc import Sequence
 from itertools import count
 
+from tml.places import Places
+from tml.statuses import TmlStatus
+
 from .cutting import units_of_whole
 from .faults import BAD_MARKUP, read_fault
 from .files import CannotRead, read_document, shown
 from .output import Parser, complain, run, standard_input
-from .places import Places
 from .edits import Edit, applied, with_value
 from .program import ACCEPTED, DOCUMENT_LIMIT, FAULT, MEANINGS, CannotRun, Program, find_program
-from .statuses import Status, TmlStatus
+from .statuses import Status
 from .tables import BadTable, Word, rows
 from .touching import Change, asks, touching_changes, with_changes
 from .units import Attribute, Unit

@@ -6,9 +6,10 @@ import html
 from dataclasses import dataclass
 from functools import cached_property
 
+from tml.places import Place
+
 from .cutting import units_of_whole
 from .dates import dates_of
-from .places import Place
 from .profile import IDENTIFIERS
 from .program import CannotRun, Program
 from .source import Source
