@@ -14,8 +14,8 @@ BUILT_PROGRAM, BUILT_LIBRARY = CRATES / "tml" / "out" / "tml", CRATES / "tml_c" 
 SYSTEM_LIBRARY = "libtml.so.0"
 """The name by which the loader of the system finds the library, where it is installed."""
 
-LIBRARY_VARIABLE = "TML_LIBRARY"
-"""The variable of the environment that names a library."""
+LIBRARY_VARIABLE, PROGRAM_VARIABLE = "TML_LIBRARY", "TML"
+"""The variables of the environment that name a library and a program."""
 
 
 def built_program() -> str | None:
@@ -23,27 +23,33 @@ def built_program() -> str | None:
     return str(BUILT_PROGRAM) if os.access(BUILT_PROGRAM, os.X_OK) else None
 
 
+def present_program() -> str | None:
+    """The program that was built beside this folder, else the one on PATH."""
+    return built_program() or shutil.which("tml")
+
+
 def find_program(chosen: str | None) -> str:
-    """The program to run: the chosen one, else the one that was built beside this folder, else the one on PATH."""
-    if chosen is not None:
-        found = shutil.which(chosen)
-        if found is None:
-            raise CannotRun(f"no program {chosen}")
-        return os.path.abspath(found)
-    found = built_program() or shutil.which("tml")
+    """The program to run: the chosen one, else the one that is present."""
+    found = shutil.which(chosen) if chosen is not None else present_program()
+    if found is None and chosen is not None:
+        raise CannotRun(f"no program {chosen}")
     if found is None:
         raise CannotRun("no program tml: build it as README.md says, or choose one by --tml PROGRAM")
     return os.path.abspath(found)
 
 
 def library_for(program: str | None) -> str | None:
-    """The library that answers as a program does, or None: the one that the environment names; of the program that was built here the
-    one that was built after it; of another program, or where there is none, that of the system.
+    """The library that answers as a program does, or None.
+
+    It is the one that the environment names, or none where it names the empty text. Else, of the program that was built here, it is the
+    one that was built after it; of another program that of the system; and where there is no program the one that is there.
     """
     named = os.environ.get(LIBRARY_VARIABLE)
     if named is not None:
         return named or None
-    if program is None or program != built_program():
+    if program is not None and program != built_program():
         return SYSTEM_LIBRARY
-    is_new = BUILT_LIBRARY.is_file() and BUILT_LIBRARY.stat().st_mtime >= BUILT_PROGRAM.stat().st_mtime
+    if not BUILT_LIBRARY.is_file():
+        return None if program is not None else SYSTEM_LIBRARY
+    is_new = program is None or BUILT_LIBRARY.stat().st_mtime >= BUILT_PROGRAM.stat().st_mtime
     return str(BUILT_LIBRARY) if is_new else None

@@ -19,8 +19,13 @@ FAULT = re.compile(rb"fault (\d{1,2}) (\w+) (\d{1,7})\n")
 EVIDENCE = rb"tml-evidence (?:1|2\nclaims 1)\n"
 """How the text of one claim begins, of either version."""
 
+CLAIMS = rb"tml-evidence 2\nclaims [1-9]\d*\n(?s:.*)(?<=\n)end\n"
+"""A text of claims of version 2."""
+
 KIND = re.compile(EVIDENCE + rb"(timeline|entails|counter|clash) ")
-CLAIM = rb"verified (?:timeline|(?:entails|counter) %s (?:%s) %s|clash \d+(?: \d+)*)\n" % (NAME, RELATION, NAME)
+NUMBERS = rb"(?: \d+)*"
+PART = rb"relation (?:%s)\ntimeline \d+\n(?:at \d+ \d+\n)*" % RELATION
+CLAIM = rb"verified (?:timeline|(?:entails|counter) %s (?:%s) %s|clash%s)\n" % (NAME, RELATION, NAME, NUMBERS)
 
 DONE = {
     "dates": re.compile(rb"(?:%s (?:free|(?:exact|within) -?\d+ -?\d+ [\dT:-]+ [\dT:-]+)\n)*" % NAME),
@@ -32,8 +37,14 @@ DONE = {
     "score": re.compile(rb"precision (\d+) of (\d+)\nrecall (\d+) of (\d+)\n"),
     "seconds": re.compile(rb"tml-seconds 1\nplacing (\d+)\n((?:at -?\d+ -?\d+\n)*)end\n"),
     "confirm": re.compile(rb"confirmed (?:placing|cycle)\n"),
+    "ask": re.compile(EVIDENCE + rb"(?:entails|counter) \d+ (?:%s) \d+\n(?s:.*)(?<=\n)end\n" % RELATION),
+    "possible": re.compile(rb"possible (\d+)\n((?:%s)+)" % PART),
+    "matrix": re.compile(rb"(?:%s %s(?: (?:%s))+\n)*" % (NAME, NAME, RELATION)),
+    "renew": re.compile(CLAIMS),
+    "join": re.compile(CLAIMS),
+    "drill": re.compile(rb"drill \d+\nbytes \d+\nlinks \d+\ngreatest \d+\nrelations \d+\nverified timeline\n"),
 }
-"""The texts with status 0; of `check`, `spans`, `reduce` and `score` more is asked, and of `matrix` line by line."""
+"""The texts with status 0; of `check`, `spans`, `reduce` and `score` more is asked."""
 
 OF_KEY = b"key "
 """What stands before a line of `score` that is about its second document."""
@@ -41,22 +52,27 @@ OF_KEY = b"key "
 CYCLE = re.compile(rb"tml-seconds 1\ncycle (\d+)\n((?:(?:via \d+|span|lower|upper|least|most) \d+\n)+)end\n")
 """What `seconds` answers where there is no placing."""
 
-OF_NETS = ("solve", "relations", "matrix", "reduce", "score")
+OF_NETS = ("solve", "relations", "matrix", "reduce", "score", "ask", "possible")
 """The commands that answer a clash where no timeline fits."""
 
 OTHER = {
     TmlStatus.CLASH: ((*OF_NETS, "seconds"), re.compile(EVIDENCE + rb"clash \d+\ncite \d+\n(?s:.*)(?<=\n)end\n")),
     TmlStatus.READ_FAULT: (None, re.compile(rb"read fault\n")),
     TmlStatus.NO_MEMORY: (None, re.compile(rb"")),
-    TmlStatus.EVIDENCE_FAULT: (("verify", "confirm"), re.compile(rb"evidence (?:line \d+|claim \d+ part \d+ [ \w]+)\n|seconds \w+(?: \d+)?\n")),
-    TmlStatus.TOO_LONG: (None, re.compile(rb"too long (?:DOC|EVIDENCE|KEY|SECONDS)\n")),
+    TmlStatus.EVIDENCE_FAULT: (
+        ("verify", "confirm", "renew", "join"),
+        re.compile(rb"(?:evidence|second) line \d+\n|evidence claim \d+ part \d+ [ \w]+\n|seconds \w+(?: \d+)?\n"),
+    ),
+    TmlStatus.UNKNOWN_NAME: (("ask", "possible"), re.compile(rb"unknown (?:X|REL|Y)\n")),
+    TmlStatus.TOO_LONG: (None, re.compile(rb"too long (?:DOC|EVIDENCE|SECOND|KEY|SECONDS)\n")),
 }
 """The commands that may end with a status, where not all may, and the text that goes with it."""
 
 MEBIBYTE = 1024 * 1024
 LONGEST = {
     "solve": EVIDENCE_LIMIT, "relations": 64 * MEBIBYTE, "canon": 32 * MEBIBYTE, "spans": 64 * MEBIBYTE,
-    "matrix": 128 * MEBIBYTE, "reduce": EVIDENCE_LIMIT, "score": EVIDENCE_LIMIT,
+    "matrix": 128 * MEBIBYTE, "reduce": EVIDENCE_LIMIT, "score": EVIDENCE_LIMIT, "ask": EVIDENCE_LIMIT, "possible": EVIDENCE_LIMIT,
+    "verify": 6 * EVIDENCE_LIMIT, "renew": EVIDENCE_LIMIT + MEBIBYTE, "join": 2 * EVIDENCE_LIMIT + MEBIBYTE,
 }  # fmt: skip
 """So many bytes a reply may have, where it may have more than one MiB: more is not read."""
 

@@ -1,0 +1,182 @@
+"""From the texts that are answered to the classes of results. The texts are those that docs/DEFINITIONS.md describes."""
+
+from __future__ import annotations
+
+import re
+from collections.abc import Sequence
+from itertools import islice
+from typing import Any
+
+from .lines import Evidence, lines_of, step_of
+from .places import Places
+from .results import (
+    Accepted,
+    Attribute,
+    Claim,
+    Clash,
+    Counterexample,
+    Cycle,
+    Date,
+    Drill,
+    Fault,
+    Link,
+    Malformed,
+    Placing,
+    Possible,
+    Proof,
+    Reduced,
+    Refused,
+    Relation,
+    Score,
+    Seconds,
+    Timeline,
+    Unit,
+)
+
+TOO_LONG = {"DOC": "document", "KEY": "key", "EVIDENCE": "evidence", "SECOND": "second", "SECONDS": "seconds"}
+"""The files as the text names them that says which one is too long."""
+
+
+def read_fault(text: bytes, document: bytes, file: Any) -> Fault:
+    """The fault of a document, by the line that names it."""
+    _, number, name, offset = text.decode("ascii").split()
+    place = Places(document).place(int(offset))
+    return Fault(int(number), name, place.offset, place.line, place.column, file)
+
+
+def read_accepted(text: bytes) -> Accepted:
+    """An accepted document, by what `check` says of it."""
+    _, *lines = lines_of(text)
+    counts = [int(count) for _, count in lines[:7]]
+    intervals = tuple(words[2] for words in lines[7:] if words[0] == "interval")
+    return Accepted(*counts, intervals, links_of(lines[7 + len(intervals) :]))  # type: ignore[call-arg,arg-type]
+
+
+def links_of(lines: Sequence[Sequence[str]]) -> tuple[Link, ...]:
+    """Links, by the lines of `check` and `reduce`."""
+    return tuple(Link(int(number), first, relation, second) for _, number, first, relation, second in lines)
+
+
+def read_dates(text: bytes) -> dict[str, Date]:
+    """What the calendar says of each time, by its name."""
+    return {name: date_of(words) for name, *words in lines_of(text)}
+
+
+def date_of(words: Sequence[str]) -> Date:
+    """What the calendar says of one time, by the words after its name."""
+    if words[0] == "free":
+        return Date("free")
+    kind: Any = words[0]
+    return Date(kind, int(words[1]), int(words[2]), words[3], words[4])
+
+
+def read_units(text: bytes) -> list[Unit]:
+    """The units of a document, which may be very many. A name may have any letters."""
+    units: list[Unit] = []
+    attributes: list[Attribute] = []
+    for start, end, kind, *name in lines_of(text):
+        if kind == "attribute":
+            attributes.append(Attribute(int(start), int(end), name[0]))
+            continue
+        if attributes:
+            units[-1] = with_attributes(units[-1], attributes)
+            attributes = []
+        units.append(unit_of(int(start), int(end), kind, name))
+    if attributes:
+        units[-1] = with_attributes(units[-1], attributes)
+    return units
+
+
+def unit_of(start: int, end: int, kind: Any, name: Sequence[str]) -> Unit:
+    """A unit without attributes."""
+    return Unit(start, end, kind, name[0] if name else None)
+
+
+def with_attributes(unit: Unit, attributes: Sequence[Attribute]) -> Unit:
+    """The same tag with its attributes."""
+    return Unit(unit.start, unit.end, unit.kind, unit.name, tuple(attributes))
+
+
+def read_relations(text: bytes) -> list[Relation]:
+    """The relations that follow, each as a triple of names."""
+    return [Relation(first, relation, second) for first, relation, second in lines_of(text)]
+
+
+def read_timeline(text: bytes, of: Accepted) -> Timeline:
+    """A timeline that was printed as evidence."""
+    return Timeline(Evidence(text).ranks(of.intervals), text)
+
+
+def read_clash(text: bytes, of: Accepted) -> Clash:
+    """A clash that was printed as evidence."""
+    lines = Evidence(text)
+    links = tuple(of.links[int(number)] for _, number in lines.counted())
+    return Clash(links, lines.walk(), of.intervals, text)
+
+
+def read_proof(text: bytes, relation: Relation, of: Accepted) -> Proof | Counterexample:
+    """What was printed as evidence on a relation."""
+    lines = Evidence(text)
+    if next(lines.rest)[0] == "counter":
+        return Counterexample(relation, lines.ranks(of.intervals), text)
+    walks = []
+    while lines.peek() != ["end"]:
+        walks.append(lines.walk())
+    return Proof(relation, tuple(walks), text)
+
+
+def read_possible(text: bytes, names: Sequence[str]) -> Possible:
+    """The possible relations between two intervals, with their timelines."""
+    lines = Evidence(text, 0)
+    count = int(next(lines.rest)[1])
+    return Possible({next(lines.rest)[1]: lines.ranks(names) for _ in range(count)})
+
+
+def read_reduced(text: bytes) -> Reduced:
+    """The links that stay."""
+    (_, _, _, total), *lines = lines_of(text)
+    return Reduced(links_of(lines), int(total))
+
+
+def read_score(text: bytes) -> Score:
+    """Precision and recall as counts."""
+    (_, matched, _, links), (_, found, _, key_links) = lines_of(text)
+    return Score(int(matched), int(links), int(found), int(key_links))
+
+
+def read_seconds(text: bytes, names: Sequence[str]) -> Placing | Cycle:
+    """A placing by the names of the intervals, or a cycle."""
+    _, (kind, _), *lines, _ = lines_of(text)
+    if kind == "cycle":
+        return Cycle(tuple(map(step_of, lines)), text)
+    return Placing({name: Seconds(int(start), int(end)) for name, (_, start, end) in zip(names, lines, strict=True)}, text)
+
+
+def read_claims(text: bytes) -> tuple[Claim, ...]:
+    """What the claims of evidence show."""
+    return tuple(claim_of(*words[1:]) for words in lines_of(text))
+
+
+def claim_of(kind: Any, *words: str) -> Claim:
+    """What one claim shows."""
+    if kind == "clash":
+        return Claim(kind, links=tuple(map(int, words)))
+    return Claim(kind, Relation(*words) if words else None)
+
+
+def read_malformed(text: bytes, file: Any) -> Malformed | None:
+    """The bad line that a text names: of a second file, or else of this one. None where it is right in its form."""
+    found = re.fullmatch(rb"(evidence|second) line (\d+)\n", text)
+    return Malformed("second" if found[1] == b"second" else file, int(found[2])) if found else None
+
+
+def read_refused(text: bytes) -> Refused:
+    """Why evidence, a placing or a cycle is refused."""
+    line = text.decode("ascii").removesuffix("\n")
+    found = re.fullmatch(r"evidence claim (\d+) part (\d+) (.+)", line)
+    return Refused(found[3], int(found[1]), int(found[2])) if found else Refused(line.removeprefix("seconds "))
+
+
+def read_drill(text: bytes) -> Drill:
+    """The summary of a drill."""
+    return Drill(*(int(words[1]) for words in islice(lines_of(text), 5)))
