@@ -104,6 +104,8 @@ class Answer:
 
 def answer_to(by: Answerer | None, command: str, *files: File, arguments: Sequence[str] = ()) -> Answer:
     """Asks a question. Out of memory, and what can only be a wrong call, is raised."""
+    if b"\0" in "".join(arguments).encode():
+        raise ValueError("a word has a zero byte")
     answerer = by or default_answerer()
     given = tuple(content(file, limit) for file, limit in zip(files, LIMITS.get(command, (DOCUMENT_LIMIT,)), strict=False))
     number, text = answerer.answer(command, given, arguments)

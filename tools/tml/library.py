@@ -29,11 +29,9 @@ class Library:
         self.path, self._answer, self._kept = path, answer, threading.local()
 
     def answer(self, command: str, files: Sequence[bytes], arguments: Sequence[str] = ()) -> tuple[int, bytes]:
-        """The status and the text of a command over files, two at most, with the words that follow them."""
-        words = (command, *FILES[: len(files)], *arguments)
-        if any("\0" in word for word in words):
-            raise ValueError("a word has a zero byte")
+        """The status and the text of a command over files, two at most, with the words that follow them. No word has a zero byte."""
         first, second = (*files, b"", b"")[:2]
+        words = (command, *FILES[: len(files)], *arguments)
         return self.call("".join(f"{word}\0" for word in words).encode(), first, second)
 
     def call(self, words: bytes, first: bytes, second: bytes) -> tuple[int, bytes]:
