@@ -50,7 +50,7 @@ from .results import (
     Unit,
     Verified,
 )
-from .statuses import TmlStatus
+from .statuses import INTERVAL_LIMIT, TmlStatus
 
 
 def accepted_of(answer: Answer) -> Accepted:
@@ -169,4 +169,6 @@ def join(evidence: File, second: File, by: Answerer | None = None) -> bytes | Ma
 
 def drill(number: int, by: Answerer | None = None) -> Drill:
     """The self-test of the library or the program, over a document of so many events, from 1 to 1024."""
+    if number not in range(1, INTERVAL_LIMIT + 1):
+        raise ValueError(f"there is no drill {number}")
     return read_drill(answer_to(by, "drill", arguments=(str(number),)).text)
