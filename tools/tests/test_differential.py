@@ -546,14 +546,15 @@ class Runs(unittest.TestCase):
         status, said = self.differential("--library", lie, "--count", "100", "--small", "1", "2", "1")
         self.assertEqual(status, 1, said)
         self.assertRegex(said, r"(?m)^difference .*The library answers 8 b''\.$")
-        kept_case = str(self.folder / "kept" / "0")
-        self.assertEqual(self.differential("--library", lie, "--reduce", kept_case)[0], 1)
-        status, said = self.differential("--no-library", "--reduce", kept_case)
+        case = self.folder / "kept" / "0"
+        self.assertLess((case / "reduced" / "file0").stat().st_size, (case / "file0").stat().st_size)
+        self.assertEqual(self.differential("--library", lie, "--reduce", str(case))[0], 1)
+        status, said = self.differential("--no-library", "--reduce", str(case))
         self.assertEqual((status, said.splitlines()[-1]), (0, NOTHING))
 
     @unittest.skipUnless(shutil.which("cc"), "no cc")
     def test_a_library_that_crashes_is_found(self) -> None:
-        library = library_that(self.folder, 'if (strcmp((const char *)words, "canon") == 0) abort();')
+        library = library_that(self.folder, 'if (strcmp((const char *)words, "check") == 0) abort();')
         status, said = self.differential("--library", library, "--count", "100", "--small", "0", "2", "1")
         self.assertEqual(status, 1, said)
         self.assertIn("The process of the library was ended by signal 6.", said)

@@ -48,10 +48,9 @@ def failed(row: Row) -> str | None:
 
 def on_a_machine(case: Case) -> Case:
     """The case without devices in memory. There standard input can be read twice, as a file can on a machine."""
-    count = len(case.readings())
     if case.readings() != [STANDARD_INPUT, STANDARD_INPUT]:
         return replace(case, memory=None)
-    words = (case.words[0], *(ANOTHER_NAME,) * count, *case.words[1 + count :])
+    words = (case.words[0], ANOTHER_NAME, ANOTHER_NAME)
     return replace(case, words=words, files={ANOTHER_NAME: case.files[STANDARD_INPUT]}, memory=None)
 
 
@@ -69,8 +68,8 @@ class Tried:
         """The rows that are answered, each as a case on a machine."""
         table = Table((ROWS / "stdin").read_bytes())
         for row in table.rows():
-            case, reason = on_a_machine(row.case), failed(row)
-            reason = reason or obstacle(case)
+            case = on_a_machine(row.case)
+            reason = failed(row) or obstacle(case)
             if reason is not None:
                 self.left_out[row.section] += 1
                 self.reasons[reason] += 1
