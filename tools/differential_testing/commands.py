@@ -8,15 +8,20 @@ import sys
 import tempfile
 import time
 from collections.abc import Sequence
+from contextlib import nullcontext
 from pathlib import Path
 from random import Random
 
+from tml.finding import BUILT_LIBRARY
+from tml.running import CannotRun
+
 from differential_testing import reals
 from differential_testing.keeping import keep, kept
+from differential_testing.libraries import Libraries, library_path
 from differential_testing.programs import Programs, program_path, rows_path
 from differential_testing.reducing import reduced
 from differential_testing.rows import Rows
-from differential_testing.trying import Difference, Trial, batches, said_of
+from differential_testing.trying import Difference, Trial, batches
 
 LONG = 2000
 REDUCING_SECONDS = 8.0
@@ -42,6 +47,9 @@ def parsed(words: Sequence[str]) -> argparse.Namespace:
     for subject, said_of_it in SUBJECTS.items():
         about.add_argument(f"--{subject}", dest="about", action="store_const", const=subject, help=f"only {said_of_it}")
     parser.add_argument("--processes", action="store_true", help="a process for each case, and no tables")
+    asked = parser.add_mutually_exclusive_group()
+    asked.add_argument("--library", type=Path, metavar="FILE", help="a library that is asked too (TML_LIBRARY, or the one that was built)")
+    asked.add_argument("--no-library", action="store_true", help="ask no library")
     parser.add_argument("--keep", type=Path, help="the folder for differences (a new one)")
     parser.add_argument("--small", type=int, default=3, metavar="N", help="how many differences are reduced at once (3)")
     parser.add_argument("--reduce", type=Path, metavar="FOLDER", help="reduce the difference that is kept in this folder, and no more")
@@ -68,7 +76,7 @@ def report(trial: Trial, folder: Path, count: int) -> None:
         if number < count:
             case = reduced(difference.case, trial.differs, REDUCING_SECONDS)
             outcome = trial.outcome(case)
-            small = Difference(case, outcome, said_of(case, outcome) or difference.said)
+            small = Difference(case, outcome, trial.said(case, outcome) or difference.said)
             keep(case, folder / str(number) / "reduced")
         print(f"{said(small)}\n  kept in {folder / str(number)}", flush=True)
 
@@ -82,7 +90,7 @@ def reduce_kept(trial: Trial, folder: Path) -> int:
     small = reduced(case, trial.differs, REDUCING_SECONDS * 2)
     keep(small, folder / "reduced")
     outcome = trial.outcome(small)
-    print(f"{said(Difference(small, outcome, said_of(small, outcome) or ''))}\n  kept in {folder / 'reduced'}")
+    print(f"{said(Difference(small, outcome, trial.said(small, outcome) or ''))}\n  kept in {folder / 'reduced'}")
     return 1
 
 
@@ -95,8 +103,47 @@ def go_on(trial: Trial, given: argparse.Namespace) -> None:
         batch(Random(f"{given.seed}/{number}"))
 
 
+def libraries_of(given: argparse.Namespace) -> Libraries | None:
+    """The library that is asked too; without one a line says so."""
+    path = str(given.library.absolute()) if given.library is not None else library_path()
+    if given.no_library:
+        return None
+    if path is None:
+        print(f"no library is asked: build {BUILT_LIBRARY}, or name one by --library or TML_LIBRARY")
+        return None
+    return Libraries(path)
+
+
+def print_tally(trial: Trial, seed: int, seconds: float) -> None:
+    """Prints how many cases there were."""
+    tally = trial.tally
+    print("; ".join(f"{subject} {number}" for subject, number in sorted(tally.subjects.items())))
+    print("statuses: " + ", ".join(f"{number} of {status}" for status, number in sorted(tally.statuses.items())))
+    if tally.not_asked:
+        print("not asked of the library: " + ", ".join(f"{number} for {reason}" for reason, number in sorted(tally.not_asked.items())))
+    speed = tally.cases / max(seconds, 0.001)
+    by_library = f", {tally.by_library} of them by the library too" if trial.libraries is not None else ""
+    print(f"{tally.cases} cases, {len(tally.differences)} differences, seed {seed}, {speed:.0f} cases a second{by_library}")
+
+
+def tried(trial: Trial, given: argparse.Namespace) -> int:
+    """Reduces a difference that was kept, or goes on until the end; the status is 1 where there is a difference."""
+    if given.reduce is not None:
+        return reduce_kept(trial, given.reduce)
+    begun = time.monotonic()
+    try:
+        go_on(trial, given)
+    except KeyboardInterrupt:
+        print("interrupted")
+    seconds = time.monotonic() - begun
+    if trial.tally.differences:
+        report(trial, given.keep or Path(tempfile.mkdtemp(prefix="differences-")), given.small)
+    print_tally(trial, given.seed, seconds)
+    return 1 if trial.tally.differences else 0
+
+
 def main(words: Sequence[str] | None = None) -> int:
-    """Runs the command; the status is 1 where there is a difference, and 2 where there is no program."""
+    """Runs the command; the status is 1 where there is a difference, and 2 where there is no program or a library cannot be loaded."""
     given = parsed(sys.argv[1:] if words is None else words)
     program, tables = program_path(), rows_path()
     if not os.access(program, os.X_OK):
@@ -107,20 +154,10 @@ def main(words: Sequence[str] | None = None) -> int:
         print(f"no program {tables}: each case is a process, and cases of devices in memory are left out")
     if not reals.IS_THERE:
         print("no module z3: relations and clashes are not compared with it")
-    begun = time.monotonic()
-    with Programs(program) as programs:
-        trial = Trial(programs, Rows(tables) if has_rows else None)
-        if given.reduce is not None:
-            return reduce_kept(trial, given.reduce)
-        try:
-            go_on(trial, given)
-        except KeyboardInterrupt:
-            print("interrupted")
-        tally, seconds = trial.tally, time.monotonic() - begun
-        if tally.differences:
-            report(trial, given.keep or Path(tempfile.mkdtemp(prefix="differences-")), given.small)
-    print("; ".join(f"{subject} {number}" for subject, number in sorted(tally.subjects.items())))
-    print("statuses: " + ", ".join(f"{number} of {status}" for status, number in sorted(tally.statuses.items())))
-    speed = tally.cases / max(seconds, 0.001)
-    print(f"{tally.cases} cases, {len(tally.differences)} differences, seed {given.seed}, {speed:.0f} cases a second")
-    return 1 if tally.differences else 0
+    try:
+        libraries = libraries_of(given)
+    except CannotRun as error:
+        print(f"differential: {error}", file=sys.stderr)
+        return 2
+    with Programs(program) as programs, libraries or nullcontext():
+        return tried(Trial(programs, Rows(tables) if has_rows else None, libraries), given)

@@ -26,6 +26,7 @@ from differential_testing.drawing import (
     draw_scored,
     draw_writing,
 )
+from differential_testing.libraries import Libraries, obstacle
 from differential_testing.programs import Programs
 from differential_testing.rows import Rows, is_for_rows
 from differential_testing.words import DOCUMENT
@@ -55,6 +56,8 @@ class Tally:
     skipped: int = 0
     subjects: Counter[str] = field(default_factory=Counter)
     statuses: Counter[int] = field(default_factory=Counter)
+    by_library: int = 0
+    not_asked: Counter[str] = field(default_factory=Counter)
     differences: list[Difference] = field(default_factory=list)
 
     def take(self, case: Case, outcome: Outcome) -> None:
@@ -65,11 +68,12 @@ class Tally:
 
 
 class Trial:
-    """Runs and compares cases: by tables where that program is there, else by a process each."""
+    """Runs and compares cases: by tables where that program is there, else by a process each; and by a library too, where one is there."""
 
-    def __init__(self, programs: Programs, rows: Rows | None) -> None:
+    def __init__(self, programs: Programs, rows: Rows | None, libraries: Libraries | None = None) -> None:
         self.programs = programs
         self.rows = rows
+        self.libraries = libraries
         self.tally = Tally()
 
     def try_all(self, cases: Sequence[Case], random: Random) -> list[tuple[Case, Outcome]]:
@@ -88,9 +92,18 @@ class Trial:
     def take(self, case: Case, outcome: Outcome) -> None:
         """Compares and counts a case."""
         self.tally.take(case, outcome)
-        said = said_of(case, outcome)
+        if self.libraries is not None:
+            reason = obstacle(case)
+            self.tally.by_library += reason is None
+            self.tally.not_asked.update([reason] if reason else [])
+        said = self.said(case, outcome)
         if said is not None:
             self.tally.differences.append(Difference(case, outcome, said))
+
+    def said(self, case: Case, outcome: Outcome) -> str | None:
+        """What is wrong with an outcome, and with what the library answers to the same."""
+        by_library = self.libraries.complaint(case, outcome) if self.libraries is not None and obstacle(case) is None else None
+        return " ".join(filter(None, (said_of(case, outcome), by_library))) or None
 
     def by_rows(self, case: Case) -> bool:
         """Whether a table is to have a case."""
@@ -107,7 +120,7 @@ class Trial:
         if case.memory is not None and not self.by_rows(case):
             return False
         outcome = self.outcome(case)
-        return said_of(case, outcome) is not None or self.disagrees(case, outcome) is not None
+        return self.said(case, outcome) is not None or self.disagrees(case, outcome) is not None
 
     def disagrees(self, case: Case, outcome: Outcome) -> str | None:
         """What is wrong with an answer by those to further questions."""

@@ -5,6 +5,7 @@ from __future__ import annotations
 import itertools
 import os
 import re
+import shutil
 import stat
 import subprocess
 import sys
@@ -32,17 +33,20 @@ from differential_testing.drawing import (
     draw_of_evidence,
     draw_scored,
     draw_timed,
+    draw_worded,
     draw_writing,
     draw_wrong,
 )
 from differential_testing.evidence import blocks_of, joined, older_text, text_of
 from differential_testing.faulty import draw_too_many
 from differential_testing.keeping import keep, kept
+from differential_testing.libraries import Libraries, Question, library_path, obstacle, question_of
 from differential_testing.programs import Programs, rows_path
 from differential_testing.reducing import reduced
 from differential_testing.rows import Rows, answers_of, is_for_rows, row_of
 from differential_testing.trees import tree_of
 from reference import Outcome, expected
+from tml.running import CannotRun
 
 DIFFERENTIAL = os.path.join(TOOLS, "differential")
 EVIDENCE = (
@@ -329,6 +333,105 @@ class Keeping(unittest.TestCase):
         self.assertEqual(answers_of(printed), [Outcome(5, b"a\n[5]"), Outcome(6, b"")])
 
 
+LIBRARY = """
+#include <signal.h>
+#include <stddef.h>
+#include <stdint.h>
+#include <stdlib.h>
+#include <string.h>
+#include <unistd.h>
+uint8_t tml_answer(const uint8_t *words, size_t words_length, const uint8_t *first, size_t first_length, const uint8_t *second,
+                   size_t second_length, uint8_t *text, size_t room, size_t *needed) {
+    *needed = 0;
+    %s
+    return 9;
+}
+"""
+"""A library in C that answers nothing, with a status that hardly any case has, but for what it does before that."""
+
+
+def library_that(folder: Path, does: str) -> str:
+    """A library that does something at each call."""
+    source, library = folder / "library.c", folder / "library.so"
+    source.write_text(LIBRARY % does, encoding="ascii")
+    subprocess.run(["cc", "-shared", "-fPIC", "-o", library, source], check=True)
+    return str(library)
+
+
+class AskedOfLibrary(unittest.TestCase):
+    """Cases as questions to a library."""
+
+    def test_words_that_name_files(self) -> None:
+        rows: list[tuple[tuple[bytes, ...], dict[bytes, bytes], Question]] = [
+            ((b"check", b"d"), {b"d": b"x"}, Question(b"check\0first\0", b"x")),
+            ((b"ask", b"a", b"a", b"BEFORE", b"first"), {b"a": b"x"}, Question(b"ask\0first\0a\0BEFORE\0first\0", b"x")),
+            ((b"possible", b"d", b"d", b"d"), {b"d": b"x"}, Question(b"possible\0first\0d\0d\0", b"x")),
+            ((b"join", b"second", b"first"), {b"first": b"x", b"second": b"y"}, Question(b"join\0first\0second\0", b"y", b"x")),
+            ((b"join", b"e", b"e"), {b"e": b"x", b"f": b"y"}, Question(b"join\0first\0first\0", b"x")),
+            ((b"join", b"-", b"-"), {b"-": b"x"}, Question(b"join\0first\0second\0", b"x", b"")),
+            ((b"join", b"second", b"e"), {b"e": b"x"}, Question(b"join\0none\0first\0", b"x")),
+            ((b"renew", b"-"), {}, Question(b"renew\0-\0")),
+            ((b"drill", b"d"), {b"d": b"x"}, Question(b"drill\0d\0")),
+            ((b"check", b"d", b"e"), {b"d": b"x"}, Question(b"check\0d\0e\0")),
+            ((b"check", b"\xff"), {b"\xff": b"x"}, Question(b"check\0\xff\0")),
+            ((), {b"-": b"x"}, Question(b"spans\0first\0", b"x")),
+            ((), {}, Question(b"")),
+        ]
+        for words, files, wanted in rows:
+            self.assertEqual(question_of(Case("", words, files)), wanted)
+
+    def test_a_question_has_the_answer_of_its_case(self) -> None:
+        random = Random(11)
+        cases = [draw_worded(random) for _ in range(100)] + [draw_joining(random, WRITTEN) for _ in range(60)]
+        for case in cases + [draw_case(random) for _ in range(60)]:
+            if obstacle(case) is None:
+                question = question_of(case)
+                words = question.words.split(b"\0")[:-1]
+                found, wanted = expected(words, {b"first": question.first, b"second": question.second}), expected(case.words, case.files)
+                self.assertEqual(found.status, wanted.status, case.words)
+                self.assertTrue(found == wanted or not isinstance(wanted, Outcome), case.words)
+
+    def test_what_cannot_be_asked(self) -> None:
+        case = Case("", (b"check", b"d"), {b"d": b"x"})
+        for one, wanted in (
+            (case, None),
+            (replace(case, files={}, real=Real(Output.PIPE, True, (b"d",))), None),
+            (replace(case, real=Real(Output.CLOSED)), "an output that fails"),
+            (replace(case, memory=Memory()), "devices in memory"),
+            (replace(case, words=(b"check", b"\0")), "a zero byte in a word"),
+        ):
+            self.assertEqual(obstacle(one), wanted)
+
+
+@unittest.skipUnless(shutil.which("cc"), "no cc")
+class LibrariesThatFail(unittest.TestCase):
+    def complaints(self, does: str, *words: bytes, seconds: float = 20) -> list[str | None]:
+        """What is said of a library that does something, where the program answers these words, one after another, with nothing."""
+        with tempfile.TemporaryDirectory() as folder, Libraries(library_that(Path(folder), does), seconds) as libraries:
+            return [libraries.complaint(Case("", (word,)), Outcome(9, b"")) for word in words]
+
+    def test_a_library_that_lies(self) -> None:
+        said = self.complaints('if (words[0] == 108) { *needed = 3; memcpy(text, "lie", 3); return 0; }', b"a", b"l", b"b")
+        self.assertEqual(said, [None, "The library answers 0 b'lie'.", None])
+
+    def test_a_long_lie(self) -> None:
+        said = self.complaints("*needed = 300; if (room > 300) memset(text, 65, 300);", b"a")
+        self.assertEqual(said, [f"The library answers 9 {b'A' * 200!r} from byte 0 of 300 on."])
+
+    def test_one_that_ends_its_process(self) -> None:
+        said = self.complaints("if (words[0] == 99) raise(SIGSEGV); if (words[0] == 101) exit(0);", b"c", b"a", b"e", b"a")
+        self.assertEqual(said[0], "The process of the library was ended by signal 11.")
+        self.assertEqual(said[1:], [None, "The process of the library ended with status 0.", None])
+
+    def test_one_that_never_ends(self) -> None:
+        said = self.complaints("while (words[0] == 110) pause();", b"n", b"a", seconds=1)
+        self.assertEqual(said, ["The library took longer than 1 seconds.", None])
+
+    def test_no_library(self) -> None:
+        with self.assertRaisesRegex(CannotRun, "the library /none/libtml.so cannot be loaded"):
+            Libraries("/none/libtml.so")
+
+
 class Runs(unittest.TestCase):
     def setUp(self) -> None:
         if not os.access(TML, os.X_OK):
@@ -338,8 +441,8 @@ class Runs(unittest.TestCase):
         self.folder = Path(held.name)
 
     def differential(self, *words: str, tml: str = TML) -> tuple[int, str]:
-        """Runs the tool over a program, and gives its status and what it printed."""
-        environment = {**os.environ, "TML": tml, "PYTHONDONTWRITEBYTECODE": "1"}
+        """Runs the tool over a program, and gives its status and what it printed. A library is asked where the words name one."""
+        environment = {**os.environ, "TML": tml, "TML_LIBRARY": "", "PYTHONDONTWRITEBYTECODE": "1"}
         command = [sys.executable, DIFFERENTIAL, "--keep", str(self.folder / "kept"), *words]
         done = subprocess.run(command, env=environment, capture_output=True, text=True, check=False, timeout=300)
         return done.returncode, done.stdout + done.stderr
@@ -430,6 +533,37 @@ class Runs(unittest.TestCase):
             status, said = self.differential("--processes", "--placings", "--count", "200", "--small", "0", "2", "1", tml=program)
             self.assertEqual(status, 1, said)
             self.assertIn(f"difference ({subject})", said)
+
+    @unittest.skipUnless(library_path(), "no library")
+    def test_two_seconds_of_a_library_without_a_difference(self) -> None:
+        status, said = self.differential("--library", library_path() or "", "2", "7")
+        self.assertEqual(status, 0, said)
+        self.assertRegex(said, r"(?m)^\d\d+ cases, 0 differences, seed 7, \d+ cases a second, \d\d+ of them by the library too$")
+
+    @unittest.skipUnless(shutil.which("cc"), "no cc")
+    def test_a_library_that_lies_is_found(self) -> None:
+        lie = library_that(self.folder, "return 8;")
+        status, said = self.differential("--library", lie, "--count", "100", "--small", "1", "2", "1")
+        self.assertEqual(status, 1, said)
+        self.assertRegex(said, r"(?m)^difference .*The library answers 8 b''\.$")
+        case = self.folder / "kept" / "0"
+        self.assertLess((case / "reduced" / "file0").stat().st_size, (case / "file0").stat().st_size)
+        self.assertEqual(self.differential("--library", lie, "--reduce", str(case))[0], 1)
+        status, said = self.differential("--no-library", "--reduce", str(case))
+        self.assertEqual((status, said.splitlines()[-1]), (0, NOTHING))
+
+    @unittest.skipUnless(shutil.which("cc"), "no cc")
+    def test_a_library_that_crashes_is_found(self) -> None:
+        library = library_that(self.folder, 'if (strcmp((const char *)words, "check") == 0) abort();')
+        status, said = self.differential("--library", library, "--count", "100", "--small", "0", "2", "1")
+        self.assertEqual(status, 1, said)
+        self.assertIn("The process of the library was ended by signal 6.", said)
+        self.assertIn("The library answers 9 b''.", said)
+
+    def test_no_library_to_load(self) -> None:
+        status, said = self.differential("--library", str(self.folder / "none.so"), "2", "1")
+        self.assertEqual(status, 2, said)
+        self.assertIn("none.so cannot be loaded", said)
 
     def test_tables_and_processes_agree(self) -> None:
         if not os.access(rows_path(), os.X_OK):
