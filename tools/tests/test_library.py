@@ -12,16 +12,21 @@ import tempfile
 import unittest
 from pathlib import Path
 
-from refused_memory import ALL, LIBRARY as REFUSING, NO_MEMORY, runs
+from refused_memory import runs
 
 from corpus import TML, TOOLS, TOP
 
-ARCHIVE = os.environ.get("TML_LIBRARY") or os.path.join(TOP, "crates", "tml_c", "out", "libtml_c.a")
-CALLER = os.path.join(TOOLS, "tests", "library_caller.c")
+ARCHIVE = os.path.abspath(os.environ.get("TML_ARCHIVE") or os.path.join(TOP, "crates", "tml_c", "out", "libtml_c.a"))
+CALLER, REFUSING, WRONG = (os.path.join(TOOLS, "tests", name) for name in ("library_caller.c", "refusing_caller.c", "wrong_library.c"))
 EXPORTS = {"tml_answer", "tml_most_of_document", "tml_most_of_evidence"}
 LIBRARIES = "usr/lib/x86_64-linux-gnu"
 MISSING = [name for name in ("cc", "ld", "objcopy", "ar", "rt", "dpkg-deb") if shutil.which(name) is None]
 STRIDE = 40
+STRICT = ("-std=c11", "-D_DEFAULT_SOURCE", "-Wall", "-Wextra", "-Werror", "-O1", "-g")
+SANITIZED = ("-fsanitize=address,undefined", "-fno-sanitize-recover=all")
+VALGRIND = ("valgrind", "-q", "--error-exitcode=99", "--leak-check=full", "--max-stackframe=90000000")
+WRAPPED = "-Wl,--wrap=malloc,--wrap=realloc,--wrap=free"
+REFUSED = r"(\d+) allocations of (\d+) calls refused, each alone and with all after it: (\d+) deviations \((\d+) of (\d+) times .*\n"
 
 
 def ran(*words, **settings):
@@ -32,7 +37,39 @@ def ran(*words, **settings):
     return done.stdout.decode()
 
 
-@unittest.skipUnless(os.path.isfile(ARCHIVE), f"no library {ARCHIVE}: `rt lib` makes it in crates/tml_c, or name one by TML_LIBRARY=")
+def given(case):
+    """What crosses for a case of the program: the words, and its first two files, which are there by the library's names."""
+    called = dict(zip(list(case.files)[:2], (b"first", b"second")))
+    first, second = (*case.files.values(), b"", b"")[:2]
+    return b"".join(called.get(word, word) + b"\0" for word in case.words), first, second
+
+
+def refusing(program, cases, before=()):
+    """What `refusing_caller.c` found of some cases: its status, and what it printed, with the subjects of the cases."""
+    packed = b"".join(struct.pack("=QQQ", *map(len, pieces)) + b"".join(pieces) for pieces in map(given, cases))
+    done = subprocess.run([*before, program], input=packed, capture_output=True, check=False, timeout=300)
+    text = (done.stdout + done.stderr).decode("utf-8", "replace")
+    return done.returncode, re.sub(r"^case (\d+),", lambda found: f"{cases[int(found[1])].subject}:", text, flags=re.MULTILINE)
+
+
+@unittest.skipUnless(shutil.which("cc"), "no cc")
+class Refusing(unittest.TestCase):
+    """That `refusing_caller.c` finds libraries that go wrong where memory is refused."""
+
+    def test_wrong_libraries(self):
+        cases, header = list(runs())[:2], f"-I{TOOLS}/library"
+        with tempfile.TemporaryDirectory() as folder:
+            for number in range(6):
+                program = os.path.join(folder, str(number))
+                ran("cc", *STRICT, header, f"-DWRONG={number}", REFUSING, WRONG, "-o", program, WRAPPED)
+                status, text = refusing(program, cases)
+                with self.subTest(number, text=text):
+                    found = re.search(REFUSED, text)
+                    self.assertEqual((status, found[1], found[2], found[5]), (int(number > 0), "4", "2", "8"))
+                    self.assertEqual(found[3] == "0", number == 0)
+
+
+@unittest.skipUnless(os.path.isfile(ARCHIVE), f"no archive {ARCHIVE}: tools/library/build makes it, or name one by TML_ARCHIVE=")
 @unittest.skipIf(MISSING, f"not installed: {', '.join(MISSING)}")
 class Library(unittest.TestCase):
     @classmethod
@@ -62,20 +99,22 @@ class Library(unittest.TestCase):
         """A program over the library that was unpacked."""
         program = cls.folder / name
         places = (f"-I{cls.root}/usr/include", f"-L{cls.root}/{LIBRARIES}")
-        strict = ("-std=c11", "-D_DEFAULT_SOURCE", "-Wall", "-Wextra", "-Werror", "-O1", "-g")
-        ran("cc", *strict, *places, source, "-o", program, *options, "-pthread")
+        ran("cc", *STRICT, *places, source, "-o", program, *options, "-pthread")
         return program
 
-    def call(self, case, *, before=(), program=None, threads=1, room=1 << 22, **variables):
-        """The status and the text of a call on a case of the program, whose first two files are there by the library's names."""
-        names = list(case.files)[:2]
-        called = dict(zip(names, (b"first", b"second")))
-        words = b"".join(called.get(word, word) + b"\0" for word in case.words)
-        files = [*case.files.values(), b"", b""]
-        for name, content in zip(("first", "second", "words"), (files[0], files[1], words)):
+    def sanitized(self, name, source, *options):
+        """The same with AddressSanitizer; where `cc` has none the test is skipped."""
+        try:
+            return self.built(name, source, "-l:libtml.a", *options, *SANITIZED)
+        except AssertionError:
+            return self.skipTest("cc has no AddressSanitizer")
+
+    def call(self, case, *, before=(), program=None, threads=1, room=1 << 22):
+        """The status and the text of a call on a case of the program."""
+        for name, content in zip(("words", "first", "second"), given(case)):
             (self.folder / name).write_bytes(content)
         line = [*before, program or self.caller, str(threads), str(room), "first", "second", "words"]
-        done = subprocess.run(line, cwd=self.folder, env={**os.environ, **variables}, capture_output=True, check=False, timeout=300)
+        done = subprocess.run(line, cwd=self.folder, capture_output=True, check=False, timeout=300)
         return done.returncode, done.stdout, done.stderr
 
     def cases(self, stride=1):
@@ -104,8 +143,8 @@ class Library(unittest.TestCase):
                 files = {name: content for name, content in case.files.items() if name != b"-"}
                 for name, content in files.items():
                     Path(folder, name.decode()).write_bytes(content)
-                given = case.files.get(b"-", b"")
-                done = subprocess.run([TML, *case.words], cwd=folder, input=given, capture_output=True, check=False, timeout=300)
+                piped = case.files.get(b"-", b"")
+                done = subprocess.run([TML, *case.words], cwd=folder, input=piped, capture_output=True, check=False, timeout=300)
                 self.assertEqual(self.call(case)[:2], (done.returncode, done.stdout))
 
     def test_threads_side_by_side(self):
@@ -122,20 +161,16 @@ class Library(unittest.TestCase):
             self.assertEqual(self.call(case, room=len(text))[:2], (status, text))
 
     def test_with_an_address_sanitizer(self):
-        try:
-            program = self.built("sanitized", CALLER, "-l:libtml.a", "-fsanitize=address,undefined", "-fno-sanitize-recover=all")
-        except AssertionError:
-            self.skipTest("cc has no AddressSanitizer")
+        program = self.sanitized("sanitized", CALLER)
         for case in self.cases(3):
             with self.subTest(case.subject):
                 self.assertEqual(self.call(case, program=program, threads=2), self.call(case))
 
     @unittest.skipUnless(shutil.which("valgrind"), "no valgrind")
     def test_with_valgrind(self):
-        watched = ("valgrind", "-q", "--error-exitcode=99", "--leak-check=full", "--max-stackframe=90000000")
         for case in self.cases(STRIDE):
             with self.subTest(case.subject):
-                self.assertEqual(self.call(case, before=watched)[:2], self.call(case)[:2])
+                self.assertEqual(self.call(case, before=VALGRIND)[:2], self.call(case)[:2])
 
     @unittest.skipUnless(shutil.which("prlimit"), "no prlimit")
     def test_a_stack_of_one_mebibyte(self):
@@ -143,26 +178,32 @@ class Library(unittest.TestCase):
             with self.subTest(case.subject):
                 self.assertEqual(self.call(case, before=("prlimit", "--stack=1048576")), self.call(case))
 
+    def refused(self, program, cases, before=()):
+        """Refuses each allocation of some cases, and answers how many there were."""
+        status, text = refusing(program, cases, before)
+        self.assertEqual(status, 0, text)
+        allocations, calls, deviations, no_memory, refusals = map(int, re.fullmatch(REFUSED, text).groups())
+        self.assertEqual((calls, deviations, refusals), (len(cases), 0, 2 * allocations))
+        self.assertGreater(no_memory, 0)
+        return allocations
+
     def test_each_allocation_refused(self):
-        library, tally, refused, no_memory = self.folder / "refused_memory.so", self.folder / "tally", 0, 0
-        ran("cc", "-shared", "-fPIC", "-O1", "-o", library, REFUSING)
-        for case in self.cases(STRIDE // 2):
-            wanted, first, count = self.call(case)[:2], 0, 1
-            while first <= count:
-                for number in (1, ALL) if first else (0,):
-                    tally.write_bytes(struct.pack("=QQQ", 0, first, number))
-                    found = self.call(case, LD_PRELOAD=str(library), REFUSED_MEMORY=str(tally))[:2]
-                    with self.subTest(case.subject, first=first, number=number):
-                        self.assertIn(found, (wanted, (NO_MEMORY, b"")))
-                    refused, no_memory = refused + bool(first), no_memory + (found != wanted)
-                    count = count if first else struct.unpack("=QQQ", tally.read_bytes())[0]
-                first += 1 + (count // 20 if first else 0)
-        self.assertGreater(no_memory, 0, f"of {refused} refusals")
+        program = self.built("refusing", REFUSING, "-l:libtml.a", WRAPPED)
+        self.assertGreater(self.refused(program, self.cases()), len(self.cases()))
+
+    def test_allocations_refused_with_an_address_sanitizer(self):
+        self.refused(self.sanitized("sanitized-refusing", REFUSING, WRAPPED), self.cases(3))
+
+    @unittest.skipUnless(shutil.which("valgrind"), "no valgrind")
+    def test_allocations_refused_with_valgrind(self):
+        self.refused(self.built("watched-refusing", REFUSING, "-l:libtml.a", WRAPPED), self.cases(STRIDE), VALGRIND)
 
     def test_what_is_shown(self):
         for option, name in (("-D", "libtml.so"), ("-g", "libtml.a")):
             lines = ran("nm", option, "--defined-only", self.root / LIBRARIES / name).splitlines()
             self.assertEqual({line.split()[-1].split("@")[0] for line in lines if re.search(" [TDBRW] ", line)}, EXPORTS, name)
+        used = set(re.findall(r" U (\w+)", ran("nm", "-g", self.root / LIBRARIES / "libtml.a")))
+        self.assertEqual(used - {"memcpy", "memmove", "memset", "memcmp"}, {"malloc", "realloc", "free"}, "other ways to take memory")
         header = (self.root / "usr/include/tml.h").read_text(encoding="utf-8")
         self.assertEqual(set(re.findall(r"^uint\d+_t (\w+)\(", header, re.MULTILINE)), EXPORTS)
         self.assertIn("TML_0.4", ran("nm", "-D", self.root / LIBRARIES / "libtml.so"))

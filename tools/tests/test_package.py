@@ -14,6 +14,7 @@ from corpus import TML, TOOLS, TOP
 
 DOCS = "usr/share/doc/tml-timeml"
 SHARE = "usr/share/tml-timeml"
+IMPORTED = "usr/lib/python3/dist-packages"
 SCRIPTS = {
     "tml-corpus": "tml-corpus",
     "tml-redundant-links": "redundant-links",
@@ -32,7 +33,8 @@ def expected_names():
     """What is to be in the package; the mode and the target of each are in other tests."""
     names = {"usr/bin/tml", "usr/share/lintian/overrides/tml-timeml"}
     names |= {f"usr/bin/{called}" for called in SCRIPTS} | {f"{SHARE}/{name}" for name in SCRIPTS.values()}
-    names |= {f"{SHARE}/tml_corpus/{name}" for name in files_in("tools/tml_corpus", ".py")}
+    names |= {f"{SHARE}/{package}/{name}" for package in ("tml", "tml_corpus") for name in files_in(f"tools/{package}", ".py")}
+    names.add(f"{IMPORTED}/tml")
     names |= {f"usr/share/bash-completion/completions/{name}" for name in ("tml", *SCRIPTS)}
     names |= {f"usr/share/man/man1/{name}.1.gz" for name in ("tml", "tml-tools", *SCRIPTS)}
     names |= {f"{DOCS}/{name}" for name in ("README.md", "CHANGELOG.md", "changelog.gz", "copyright")}
@@ -98,7 +100,7 @@ class Package(unittest.TestCase):
             with self.subTest(name):
                 kinds = {"d": "drwxr-xr-x", "l": "lrwxrwxrwx"}
                 self.assertEqual(mode, kinds.get(mode[0], "-rwxr-xr-x" if name in programs else "-rw-r--r--"))
-                self.assertTrue(target is None or os.path.isfile(os.path.join(self.root, name)), f"{name} leads nowhere")
+                self.assertTrue(target is None or os.path.exists(os.path.join(self.root, name)), f"{name} leads nowhere")
 
     def test_fields(self):
         with open(os.path.join(TOP, "CHANGELOG.md"), encoding="utf-8") as file:
@@ -108,6 +110,7 @@ class Package(unittest.TestCase):
         wanted = {"Package": "tml-timeml", "Version": version, "Architecture": "amd64", "Conflicts": "tml", "Maintainer": "A Name <a@example.org>"}
         self.assertEqual({name: fields.get(name) for name in wanted}, wanted)
         self.assertRegex(fields["Depends"], r"^libc6 \(>= 2\.\d+\), python3 \(>= 3\.11\)$")
+        self.assertEqual(fields["Recommends"], f"libtml (= {version})")
         self.assertEqual(os.path.basename(self.made), f"tml-timeml_{version}_amd64.deb")
 
     def test_contents(self):
@@ -127,6 +130,10 @@ class Package(unittest.TestCase):
         files = {name for name in expected_names() if not os.path.islink(os.path.join(self.root, name))}
         self.assertEqual(sums, {name: hashlib.md5(self.content(name)).hexdigest() for name in files})
 
+    def test_what_is_taken_away(self):
+        printed = subprocess.run(["dpkg-deb", "-I", self.made, "prerm"], check=True, capture_output=True, text=True).stdout
+        self.assertIn(f"\nrm -rf /{SHARE}/tml/__pycache__ /{SHARE}/tml_corpus/__pycache__\n", printed)
+
     def test_the_same_again(self):
         again = os.path.join(self.folder, "made", "again")
         done = self.package(TML, "--output", again, umask=0o077)
@@ -144,6 +151,13 @@ class Package(unittest.TestCase):
             with self.subTest(name):
                 status, out = self.unpacked(name, "--help")
                 self.assertEqual((status, out.split()[:2]), (0, ["usage:", name]))
+
+    def test_python_finds_the_package_tml(self):
+        words = [sys.executable, "-c", "import tml.library, tml.process; print(tml.__file__)"]
+        variables = {"PYTHONPATH": os.path.join(self.root, IMPORTED), "PYTHONDONTWRITEBYTECODE": "1"}
+        done = subprocess.run(words, cwd=self.folder, env=variables, capture_output=True, text=True, check=False, timeout=120)
+        self.assertEqual((done.stdout, done.stderr), (os.path.join(self.root, IMPORTED, "tml/__init__.py\n"), ""))
+        self.assertEqual(os.readlink(os.path.join(self.root, IMPORTED, "tml")), f"../../../share/{os.path.basename(SHARE)}/tml")
 
     def test_what_is_refused(self):
         other = "/bin/true" if os.path.exists("/bin/true") else "/usr/bin/true"
