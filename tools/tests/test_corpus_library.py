@@ -24,6 +24,7 @@ from tml_corpus.archive import archive
 from tml_corpus.libraries import AtPath, library_of
 
 LIBRARY = os.path.abspath(os.environ.get("TML_LIBRARY") or finding.BUILT_LIBRARY)
+COMPANION = [sys.executable, os.path.join(TOOLS, "tml-corpus")]
 STAND_IN = os.path.join(TOOLS, "tests", "library_stand_in.c")
 FAULTY = document("<EVENT/>")
 CLASH = '<TIMEX3 tid="a" type="SET"/><TLINK timeID="a" relatedToTime="a" relType="BEFORE"/>'
@@ -33,7 +34,7 @@ TOUCHING = (
 )
 SUSPECT = '<TIMEX3 tid="a" type="DATE" value="1998-1-7">x</TIMEX3><SIGNAL sid="s"/>'
 
-needs_library = unittest.skipUnless(os.path.isfile(LIBRARY), f"no library {LIBRARY}: tools/library/build makes it, or name one by TML_LIBRARY=")
+needs_library = unittest.skipUnless(os.path.isfile(LIBRARY), f"no library {LIBRARY}: name one by TML_LIBRARY=")
 needs_cc = unittest.skipUnless(shutil.which("cc"), "no program cc")
 
 
@@ -62,9 +63,11 @@ class LibraryTest(CorpusTest):
 
     def files(self, folder="d"):
         """Documents that are accepted, faulty, suspect, that clash, that are too long or cannot be read."""
-        contents = [EVENT, "<EVENT/>", EVENT + INSTANCE, CLASH, EVENT + "<EVENT/>" * 3 + "<P>&</P>", TOUCHING, SUSPECT, EVENT + INSTANCE + CLASH.replace("BEFORE", "IDENTITY")]
+        fits, faults = EVENT + INSTANCE + CLASH.replace("BEFORE", "IDENTITY"), EVENT + "<EVENT/>" * 3 + "<P>&</P>"
+        contents = [EVENT, "<EVENT/>", EVENT + INSTANCE, CLASH, faults, TOUCHING, SUSPECT, fits]
         for number in range(80):
-            self.write(f"{folder}/{number % 3}/{number:03}.xml", document(contents[number % len(contents)]) + "\n" * (number // len(contents)))
+            content = document(contents[number % len(contents)]) + "\n" * (number // len(contents))
+            self.write(f"{folder}/{number % 3}/{number:03}.xml", content)
         for path in Path(TOP, "samples").glob("*.xml"):
             self.write(f"{folder}/samples/{path.name}", path.read_bytes())
         self.write(f"{folder}/wrapped.xml", document(f"<TXT>{CLASH}</TXT>"))
@@ -97,8 +100,8 @@ class SameAnswers(LibraryTest):
 
     def test_check(self):
         self.files()
-        rows = [[], ["--lint"], ["--more", "3"], ["--lint", "--strict", "--format", "json"], ["--format", "junit"], ["--format", "github", "--no-explain"]]
-        for words in rows:
+        rows = ["", "--lint", "--more 3", "--lint --strict --format json", "--format junit", "--format github --no-explain"]
+        for words in map(str.split, rows):
             with self.subTest(words):
                 status, out, _ = self.same("check", *words, "d", "gone.xml", "d")
                 self.assertEqual(status, 2)
@@ -141,7 +144,7 @@ class SameAnswers(LibraryTest):
         self.write("a.xml", document(CLASH))
         for option in (["--no-library"], ["--library", LIBRARY]):
             with open(self.path("a.xml"), "rb") as given:
-                words = [sys.executable, os.path.join(TOOLS, "tml-corpus"), "check", "--clashes", "--tml", os.path.abspath(TML), *option, "--stdin-name", "b.xml", "-"]
+                words = [*COMPANION, "check", "--clashes", "--tml", os.path.abspath(TML), *option, "--stdin-name", "b.xml", "-"]
                 done = subprocess.run(words, cwd=self.folder, stdin=given, capture_output=True, check=False, timeout=60)
             self.assertEqual(done.returncode, 1)
             self.assertTrue(done.stdout.startswith(b"b.xml:2:"), done.stdout)
@@ -253,9 +256,13 @@ class WrongLibrary(LibraryTest):
         """A run of `check` that is under way, and the file in which each call leaves the number of its process."""
         asked = self.path("asked")
         child = subprocess.Popen(
-            [sys.executable, os.path.join(TOOLS, "tml-corpus"), "check", "--tml", os.path.abspath(TML), "--library", self.library, *words, "d"],
-            cwd=self.folder, env={**os.environ, "STAND_IN": asked}, stdin=subprocess.DEVNULL, stdout=subprocess.PIPE, stderr=subprocess.PIPE,
-        )  # fmt: skip
+            [*COMPANION, "check", "--tml", os.path.abspath(TML), "--library", self.library, *words, "d"],
+            cwd=self.folder,
+            env={**os.environ, "STAND_IN": asked},
+            stdin=subprocess.DEVNULL,
+            stdout=subprocess.PIPE,
+            stderr=subprocess.PIPE,
+        )
         self.addCleanup(child.wait)
         self.addCleanup(child.kill)
         return child, Path(asked)
@@ -343,7 +350,8 @@ class Archive(CorpusTest):
     def test_names_have_a_digest_of_all_that_is_in_it(self):
         self.write("a.so", "one")
         self.write("b.so", "other")
-        made = [self.made(library, f"made-{number}") for number, library in enumerate((None, None, AtPath(self.path("a.so")), AtPath(self.path("b.so")), AtPath("libtml.so.0")))]
+        libraries = (None, None, AtPath(self.path("a.so")), AtPath(self.path("b.so")), AtPath("libtml.so.0"))
+        made = [self.made(library, f"made-{number}") for number, library in enumerate(libraries)]
         self.assertEqual([made[0][1], made[0][1]], [made[1][1], made[4][1]])
         self.assertEqual(len({package for _, package, _ in made}), 3)
         self.assertEqual([library and type(library).__name__ for _, _, library in made], [None, None, "Sent", "Sent", "AtPath"])
@@ -363,7 +371,8 @@ class Archive(CorpusTest):
                 f"assert Sent({package!r}, 'other').load() is None\nassert before == os.listdir(tempfile.gettempdir())\n"
             )
             with tempfile.TemporaryDirectory() as own:
-                done = subprocess.run([sys.executable, "-c", script], cwd=self.folder, env={**os.environ, "TMPDIR": own}, capture_output=True, check=False)
+                words, variables = [sys.executable, "-c", script], {**os.environ, "TMPDIR": own}
+                done = subprocess.run(words, cwd=self.folder, env=variables, capture_output=True, check=False)
             self.assertEqual((done.returncode, done.stderr), (0, b""))
 
 
@@ -384,8 +393,8 @@ class OnACluster(LibraryTest):
     def test_same_bytes(self):
         self.files()
         self.files("e")
-        rows = [["check", "--lint", "--more", "1", "d"], ["check", "--clashes", "--format", "json", "d"], ["clashes", "--repair", "d"], ["agree", "--links", "d", "e"]]
-        for words in rows:
+        rows = ["check --lint --more 1 d", "check --clashes --format json d", "clashes --repair d", "agree --links d e"]
+        for words in map(str.split, rows):
             with self.subTest(words):
                 one = self.run_bytes(*words, "--no-library", python=PYTHON)
                 self.assertEqual(self.run_bytes(*words, "--library", LIBRARY, "--cluster", self.address, python=PYTHON), one)
@@ -394,13 +403,15 @@ class OnACluster(LibraryTest):
     def test_it_is_the_library_that_answers(self):
         self.write("bad.xml", FAULTY)
         self.write("wrong.so", "no library")
-        rows = [(["--library", self.stand_in()], 0), ([], 1), (["--library", "wrong.so"], 1), (["--library", "libgone.so.7"], 1), (["--no-library"], 1)]
+        rows = [(["--library", self.stand_in()], 0), ([], 1), (["--no-library"], 1)]
+        rows += [(["--library", name], 1) for name in ("wrong.so", "libgone.so.7")]
         for words, status in rows:
             with self.subTest(words):
                 found = self.run_bytes("check", *words, "--cluster", self.address, "bad.xml", python=PYTHON)
                 self.assertEqual((found[0], found[2]), (status, b""), found)
         # A program has to be there all the same.
-        status, _, error = self.run_bytes("check", "--library", self.stand_in(), "--cluster", self.address, "bad.xml", tml="/no/such/tml", python=PYTHON)
+        words = ["--library", self.stand_in(), "--cluster", self.address]
+        status, _, error = self.run_bytes("check", *words, "bad.xml", tml="/no/such/tml", python=PYTHON)
         self.assertEqual(status, 2)
         self.assertIn(b"no program /no/such/tml at 2 of 2 workers", error)
 

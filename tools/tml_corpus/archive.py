@@ -1,4 +1,4 @@
-"""The tools as they go to the workers of a cluster: this package and the package `tml` in a zip file, with the library of `tml` beside them.
+"""The tools as they go to the workers of a cluster: this package and the package `tml` in a zip file, with the library beside them.
 
 Both packages have names there with a digest of all that is in it, so that a worker which serves several versions mixes none of them up.
 """

@@ -32,14 +32,14 @@ def parser(chosen: str | None = None) -> Parser:
 def check_words(words: Parser) -> None:
     """The words of `check`."""
     words.epilog, words.formatter_class = EXAMPLES.format("check"), RawFormatter
-    words.add_argument(
-        "--explain", action=argparse.BooleanOptionalAction, default=True, help="say what is at fault and how to mend it, and mark it (the default)"
-    )
+    explain = "say what is at fault and how to mend it, and mark it (the default)"
+    words.add_argument("--explain", action=argparse.BooleanOptionalAction, default=True, help=explain)
     words.add_argument("--clashes", action="store_true", help="show the links that contradict each other too")
     names = f"one of {', '.join(NAMES)}"
     words.add_argument("--lint", action="store_true", help="warn of what tml accepts and an annotator probably did not mean")
     words.add_argument("--ignore", action="append", choices=NAMES, default=[], metavar="NAME", help=f"no warnings of this kind: {names}")
-    words.add_argument("--warn", action="append", choices=NAMES, default=[], metavar="NAME", help="warnings of this kind too, as unknown-attribute")
+    too = "warnings of this kind too, as unknown-attribute"
+    words.add_argument("--warn", action="append", choices=NAMES, default=[], metavar="NAME", help=too)
     words.add_argument("--strict", action="store_true", help="status 1 where there is a warning")
     words.add_argument("--baseline", metavar="FILE", help="no warnings that this file has, which were there before")
     words.add_argument("--write-baseline", action="store_true", help="write the warnings that there are to the file of --baseline")
@@ -91,7 +91,8 @@ def timeline_words(words: Parser) -> None:
     )
     words.epilog = "Example: tools/tml-corpus timeline samples/rates.xml -o rates.html"
     words.add_argument("document", metavar="DOC", help="a file")
-    words.add_argument("-o", "--output", type=picture_name, required=True, metavar="FILE", help="the picture: FILE.svg, or FILE.html with the links of each row")
+    picture = "the picture: FILE.svg, or FILE.html with the links of each row"
+    words.add_argument("-o", "--output", type=picture_name, required=True, metavar="FILE", help=picture)
     words.add_argument("--touching", action="store_true", help=TOUCHING)
     words.add_argument("--seconds", action="store_true", help="draw a placing in whole seconds, true to scale, as tml seconds has it")
     words.add_argument("--asserted", action="store_true", help="leave out the events that the document does not assert, and their links")
@@ -103,7 +104,8 @@ def matrix_words(words: Parser) -> None:
     """The words of `matrix`, which is about one document too."""
     words.description = (
         "Prints of each two intervals of a document the relations of Allen that its links and dates leave open, in the words of the text, "
-        "as tml matrix has them. Where links clash it says which ones, and where the document has a fault it names that; the status is 1 then."
+        "as tml matrix has them. Where links clash it says which ones, and where the document has a fault it names that; the status is 1 "
+        "then."
     )
     words.epilog = "Example: tools/tml-corpus matrix --format html samples/rates.xml > rates.html"
     words.add_argument("document", metavar="DOC", help="a file")
@@ -148,8 +150,8 @@ def agree_words(words: Parser) -> None:
     """The words of `agree`, which is about two annotations of the same texts."""
     words.description = (
         "Compares the links of documents with those of the key, file by file of the same name: precision, recall and F1 over links without "
-        "redundancy, as tml score counts them, then their sums and means over the corpus. What has no partner, a fault or a clash is listed "
-        "and not counted."
+        "redundancy, as tml score counts them, then their sums and means over the corpus. What has no partner, a fault or a clash is "
+        "listed and not counted."
     )
     words.epilog = "Example: tools/tml-corpus agree --links first second"
     words.add_argument("document", metavar="DIR", help="a folder, or a file")
@@ -169,8 +171,9 @@ def report_words(words: Parser) -> None:
         "links, its clashes step by step, its faults and warnings. The status is 0 where a timeline fits each document."
     )
     words.epilog = "Example: tools/tml-corpus report samples -o pages"
-    words.add_argument("-o", "--output", required=True, metavar="FOLDER", help="the folder of the pages: a new one, or that of an earlier report")
-    words.add_argument("--more", type=number_from_zero, default=0, metavar="N", help="go on to at most N further faults or clashes of each document")
+    folder = "the folder of the pages: a new one, or that of an earlier report"
+    words.add_argument("-o", "--output", required=True, metavar="FOLDER", help=folder)
+    more_words(words, "faults or clashes")
     path_words(words)
     pool_words(words)
     shared_words(words)
@@ -180,8 +183,8 @@ def serve_words(words: Parser) -> None:
     """The words of `serve`, which an editor starts."""
     words.description = (
         "Speaks the Language Server Protocol over standard input and output: while a document is written it says which faults, clashes and "
-        "warnings it has, what a time, a link or an event is, where an identifier stands, what may be written, and mends what has one cure. "
-        "An editor starts it; docs/EDITORS.md says how."
+        "warnings it has, what a time, a link or an event is, where an identifier stands, what may be written, and mends what has one "
+        "cure. An editor starts it; docs/EDITORS.md says how."
     )
     shared_words(words)
 
@@ -189,12 +192,19 @@ def serve_words(words: Parser) -> None:
 def report_words_of(words: Parser, things: str) -> None:
     """The words that `check` and `clashes` share."""
     words.add_argument("--format", choices=FORMS, default="text", help="the form of the output")
-    words.add_argument("--more", type=number_from_zero, default=0, metavar="N", help=f"go on to at most N further {things} of each document")
+    more_words(words, things)
     words.add_argument("--touching", action="store_true", help=TOUCHING)
-    words.add_argument("--stdin-name", metavar="NAME", help="the name in the reports of the document of standard input, which is the path -")
+    name = "the name in the reports of the document of standard input, which is the path -"
+    words.add_argument("--stdin-name", metavar="NAME", help=name)
     words.add_argument("--quiet", action="store_true", help="print no summary, and no list of links that are read as touching")
     words.add_argument("--watch", action="store_true", help="go on, and look again at files that change, until interrupted")
     words.set_defaults(found=None)
+
+
+def more_words(words: Parser, things: str) -> None:
+    """The word of a command that goes on after the first fault or clash."""
+    more = f"go on to at most N further {things} of each document"
+    words.add_argument("--more", type=number_from_zero, default=0, metavar="N", help=more)
 
 
 def path_words(words: Parser) -> None:
@@ -212,15 +222,18 @@ def pool_words(words: Parser, things: str = "files", cluster: bool = False) -> N
     """The words of a command that works on all processors, and perhaps on a cluster."""
     words.add_argument("--jobs", type=int, metavar="N", help=f"how many {things} at once (default: one a processor)")
     if cluster:
-        words.add_argument("--cluster", metavar="ADDRESS", help="work on a Dask cluster, whose workers see the files and tml by the same paths; --jobs says nothing then")
+        address = "work on a Dask cluster, whose workers see the files and tml by the same paths; --jobs says nothing then"
+        words.add_argument("--cluster", metavar="ADDRESS", help=address)
+    library = "the library of tml to ask (default: without --tml that of this repository or of the system, if it is there)"
     which = words.add_mutually_exclusive_group()
-    which.add_argument("--library", metavar="FILE", help="the library of tml to ask (default: without --tml that of this repository or of the system, if it is there)")
+    which.add_argument("--library", metavar="FILE", help=library)
     which.add_argument("--no-library", action="store_const", const="", dest="library", help="start tml for each question")
 
 
 def shared_words(words: Parser) -> None:
     """The words of all commands."""
-    words.add_argument("--config", metavar="FILE", help="the settings (default: tml-corpus.toml in the folder of the paths or nearest above)")
+    settings = "the settings (default: tml-corpus.toml in the folder of the paths or nearest above)"
+    words.add_argument("--config", metavar="FILE", help=settings)
     words.add_argument("--tml", metavar="PROGRAM", help="the program tml (default: that of this repository, else that on PATH)")
 
 
