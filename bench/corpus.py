@@ -36,7 +36,10 @@ NOUNS = ("bank", "port", "union", "minister", "court", "council", "company", "bo
 VERBS = ("fell", "rose", "closed", "opened", "met", "voted", "signed", "left", "struck", "paid", "sold", "ruled")
 WORDS = "in the morning as its members had asked for when the talks with the other side of the river came to nothing".split()
 CLASSES = ("OCCURRENCE", "STATE", "REPORTING", "I_ACTION", "ASPECTUAL")
-FAULTS = ('<EVENT/>', "<FILEID>A1</FILEID>", '<TLINK eventInstanceID="gone" relatedToTime="gone" relType="BEFORE"/>', "AT&T", "<s>", '<SIGNAL sid="1998-01-08"/>' * 2)
+FAULTS = (
+    "<EVENT/>", "<FILEID>A1</FILEID>", '<TLINK eventInstanceID="gone" relatedToTime="gone" relType="BEFORE"/>', "AT&T", "<s>",
+    '<SIGNAL sid="1998-01-08"/>' * 2,
+)  # fmt: skip
 CLASH = '<TIMEX3 tid="once" type="SET"/><TLINK timeID="once" relatedToTime="once" relType="BEFORE"/>'
 
 
@@ -65,7 +68,8 @@ class Item:
         """A day of its own month, so that days do not touch; it is after the day before it."""
         name = self.named("t", number)
         value = f"{1990 + number // 12}-{number % 12 + 1:02}-{self.draw.randint(2, 27):02}"
-        self.text.append(f'On <TIMEX3 tid="{name}" type="DATE" value="{value}">that {self.draw.choice(("day", "Monday", "morning"))}</TIMEX3>')
+        word = self.draw.choice(("day", "Monday", "morning"))
+        self.text.append(f'On <TIMEX3 tid="{name}" type="DATE" value="{value}">that {word}</TIMEX3>')
         if self.times and self.draw.random() < 0.3:
             self.add(f'<TLINK lid="{self.named("lt", number)}" timeID="{self.times[-1]}" relatedToTime="{name}" relType="BEFORE"/>')
         self.times.append(name)
@@ -77,10 +81,11 @@ class Item:
         kind = draw.choice(CLASSES)
         self.text.append(f'the {draw.choice(NOUNS)} <EVENT eid="{event}" class="{kind}">{draw.choice(VERBS)}</EVENT> {words},')
         self.add(f'<MAKEINSTANCE eiid="{instance}" eventID="{event}" tense="PAST" aspect="NONE" pos="VERB" polarity="POS"/>')
-        self.add(f'<TLINK lid="{self.named("l", number)}" eventInstanceID="{instance}" relatedToTime="{self.times[-1]}" relType="IS_INCLUDED"/>')
+        first, other = self.named("l", number), self.named("m", number)
+        self.add(f'<TLINK lid="{first}" eventInstanceID="{instance}" relatedToTime="{self.times[-1]}" relType="IS_INCLUDED"/>')
         if self.events and draw.random() < 0.8:
             left, right, relation = draw.choice(((self.events[-1], instance, "BEFORE"), (instance, self.events[-1], "AFTER")))
-            self.add(f'<TLINK lid="{self.named("m", number)}" eventInstanceID="{left}" relatedToEventInstance="{right}" relType="{relation}"/>')
+            self.add(f'<TLINK lid="{other}" eventInstanceID="{left}" relatedToEventInstance="{right}" relType="{relation}"/>')
         self.events.append(instance)
 
     def document(self, slip: str = "") -> str:
@@ -145,7 +150,7 @@ class Row:
 
     def text(self) -> str:
         """The row in columns."""
-        return f"{self.folder:8} {self.name:32} {self.at_once:2} {self.wall:8.2f} {self.own:8.2f} {self.others:6.1f}"
+        return f"{self.folder:6} {self.name:36} {self.at_once:7} {self.wall:7.2f} {self.own:7.2f} {self.others:6.1f}"
 
 
 def busy() -> float:
@@ -161,10 +166,13 @@ def busy() -> float:
 def companions(chosen: argparse.Namespace) -> dict[str, tuple[list[str], bool]]:
     """The ways in which the companion is started, and whether each is slow."""
     companion = [sys.executable, str(TOP / "tools" / "tml-corpus")]
-    ways = {"by the library": (["--tml", chosen.tml, "--library", chosen.library], False), "by processes": (["--tml", chosen.tml, "--no-library"], True)}
-    found = {name: ([*companion, "COMMAND", *options], is_slow) for name, (options, is_slow) in ways.items()}
+    found = {
+        "by the library": ([*companion, "COMMAND", "--tml", chosen.tml, "--library", chosen.library], False),
+        "by processes": ([*companion, "COMMAND", "--tml", chosen.tml, "--no-library"], True),
+    }
     if chosen.old:
-        found["of the old tools"] = ([sys.executable, str(Path(chosen.old).resolve() / "tml-corpus"), "COMMAND", "--tml", chosen.tml], True)
+        old = [sys.executable, str(Path(chosen.old).resolve() / "tml-corpus")]
+        found["of the old tools"] = ([*old, "COMMAND", "--tml", chosen.tml], True)
     return found
 
 
@@ -229,7 +237,7 @@ def main() -> None:
         print(f"{chosen.files} documents a folder, of {sizes[0] // chosen.files} bytes each", flush=True)
         measured = rows(chosen)
         measure(place, measured, chosen.runs)
-    print(f"{'folder':8} {'command':32} {'at once':>2} {'wall s':>6} {'own s':>8} {'others':>6}")
+    print(f"{'folder':6} {'command':36} {'at once':>7} {'wall s':>7} {'own s':>7} {'others':>6}")
     for row in measured:
         print(row.text())
 
