@@ -155,7 +155,7 @@ def each(
     """Does the work for each file on all processors or a cluster, and prints in the order of the files what there is to report."""
     progress = Progress(len(found), "files")
     try:
-        for one, result in zip(found, options.in_order(work, found, stop=stop, lost=lost), strict=False):
+        for result, one in zip(options.in_order(work, found, stop=stop, lost=lost), found, strict=False):
             text = report(one, result)
             if text:
                 progress.clear()

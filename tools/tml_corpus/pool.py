@@ -107,6 +107,10 @@ def in_order(
                 groups.break_up(group, lambda number: lost(items[number]))
 
 
+class HasEnded(Exception):
+    """A process has ended, and answers no more."""
+
+
 class Group(Generic[Result]):
     """Items that go to a process together, by the number of the first one; whether they go with nothing beside them; and their results."""
 
@@ -203,10 +207,10 @@ class Worker(Generic[Result]):
             os.write(self.told, PAIR.pack(group.first, group.count))
 
     def answer(self) -> tuple[list[Any], float] | None:
-        """The results that it answers and the seconds that they took, once all of that is there; an `EOFError` where it has ended."""
+        """The results that it answers and the seconds that they took, once all of that is there."""
         part = os.read(self.answers, PART)
         if not part:
-            raise EOFError
+            raise HasEnded
         self.answered += part
         if len(self.answered) < HEAD.size:
             return None
@@ -301,7 +305,7 @@ class Crew(Generic[Item, Result]):
             worker = self.busy.get(handle) or next(one for one in self.idle if one.answers == handle)
             try:
                 answer = worker.answer()
-            except EOFError:
+            except HasEnded:
                 ended += self.replace(worker)
                 continue
             if answer is not None and worker.group is not None:
