@@ -66,21 +66,22 @@ _tml_warnings=(
 
 # Completes the words of tml-corpus: its commands, their options, and the values of these.
 _tml_corpus() {
-    local options=(--help) shared=(--format --more --touching --stdin-name --quiet --watch --glob --config --tml --jobs --cluster)
+    local options=(--help) asked=(--config --tml --library --no-library --jobs)
+    local shared=(--format --more --touching --stdin-name --quiet --watch --glob "${asked[@]}" --cluster)
     COMPREPLY=()
     case ${COMP_WORDS[1]} in
         check)
             options+=(--explain --no-explain --clashes "${shared[@]}")
             options+=(--lint --ignore --warn --strict --baseline --write-baseline)
             ;;
-        fix) options+=(--diff --write --glob --config --tml --jobs) ;;
-        tags) options+=(--glob --config --tml --jobs) ;;
+        fix) options+=(--diff --write --glob "${asked[@]}") ;;
+        tags) options+=(--glob "${asked[@]}") ;;
         clashes) options+=(--evidence --repair "${shared[@]}") ;;
         timeline) options+=(--output -o --touching --seconds --asserted --text-order --config --tml) ;;
         matrix | seconds) options+=(--format --touching --config --tml) ;;
-        open) options+=(--limit --pairs --touching --config --tml --jobs) ;;
-        agree) options+=(--links --format --touching --glob --config --tml --jobs --cluster) ;;
-        report) options+=(--output -o --more --glob --config --tml --jobs) ;;
+        open) options+=(--limit --pairs --touching "${asked[@]}") ;;
+        agree) options+=(--links --format --touching --glob "${asked[@]}" --cluster) ;;
+        report) options+=(--output -o --more --glob "${asked[@]}") ;;
         serve) options+=(--config --tml) ;;
     esac
     case ${COMP_WORDS[COMP_CWORD - 1]}:$COMP_CWORD:${COMP_WORDS[COMP_CWORD]} in

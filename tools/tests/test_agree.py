@@ -17,6 +17,7 @@ from test_timeline import event, link
 from tml_corpus.agree import Wanted, compare, sides_of
 from tml_corpus.batch import do_batch, read, written
 from tml_corpus.files import Found
+from tml_corpus.pool import nothing
 from tml_corpus.program import Program
 from tml_corpus.scores import Corpus, Scores
 
@@ -268,7 +269,7 @@ class Elsewhere(AgreeTest):
         finally:
             os.chdir(here)
         work = partial(compare, Program(os.path.abspath(TML)), sides, wanted=Wanted(links=True))
-        [report] = read(do_batch(written((work, [Found("a/chain.xml", None, self.folder)]))))
+        [report] = read(do_batch(written((nothing, work, [Found("a/chain.xml", None, self.folder)]))))
         self.assertEqual((report.name, report.key_path, report.scores), ("chain.xml", "b/chain.xml", Scores(0, 2, 1, 1)))
         self.assertEqual(len(report.disagreements), 2)
 

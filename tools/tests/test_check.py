@@ -78,7 +78,7 @@ class Statuses(CorpusTest):
         self.assertEqual(lines[5], "5 files: 0 accepted, 2 with a fault, 3 not judged")
 
     def test_a_file_that_vanishes_after_the_search(self):
-        from tml_corpus.check import judge
+        from tml_corpus.first_check import judge
         from tml_corpus.files import find_files
         from tml_corpus.program import Program
 

@@ -98,7 +98,7 @@ class Completion(CorpusTest):
         self.assertFalse(os.path.exists(self.path("made")))
 
     def test_the_companion(self):
-        from tml_corpus.commands import parser
+        from tml_corpus.command_line import parser
         from tml_corpus.lint import KINDS
 
         [commands] = [action.choices for action in parser()._actions if isinstance(action.choices, dict)]
@@ -119,6 +119,7 @@ class Completion(CorpusTest):
             (["check", "--jobs", ""], [], False),
             (["check", ""], [], True),
             (["check", "--tml", ""], [], True),
+            (["check", "--library", ""], [], True),
             (["check", "--baseline", ""], [], True),
             (["check", "--config", ""], [], True),
             (["check", "--warn", ""], list(KINDS), False),

@@ -223,8 +223,11 @@ class Baselines(CorpusTest):
 
 class Names(unittest.TestCase):
     def test_pages_have_them(self):
+        from tml_corpus.kinds import NAMES, ON_DEMAND
         from tml_corpus.lint import KINDS
 
+        self.assertEqual(tuple(KINDS), NAMES)
+        self.assertLess(ON_DEMAND, set(NAMES))
         for name in ("docs/RECIPES.md", "docs/tml-corpus.1"):
             with open(os.path.join(TOP, name), encoding="utf-8") as file:
                 page = file.read()

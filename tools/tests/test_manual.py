@@ -70,7 +70,7 @@ class Examples(unittest.TestCase):
 
 class OfTheCompanion(unittest.TestCase):
     def test_commands_and_options_are_those_that_are_understood(self):
-        from tml_corpus.commands import parser
+        from tml_corpus.command_line import parser
 
         [commands] = [action.choices for action in parser()._actions if isinstance(action.choices, dict)]
         printed = {form[0].split()[1]: set(re.findall(r"Fl (-?[\w-]+)", "\n".join(form))) for form in forms_of("tml-corpus.1")}
@@ -85,6 +85,19 @@ class OfTheCompanion(unittest.TestCase):
                 self.assertLessEqual(in_synopsis, {name for names in options for name in names})
                 self.assertLessEqual({name for names in options for name in names}, explained)
                 self.assertIn(f".It Cm {command}\n", section("tml-corpus.1", "DESCRIPTION"))
+
+    def test_the_words_of_one_command_are_those_among_all(self):
+        from tml_corpus.command_line import COMMANDS, parser
+
+        [commands] = [action.choices for action in parser()._actions if isinstance(action.choices, dict)]
+        self.assertEqual(list(commands), list(COMMANDS))
+        for name, words in commands.items():
+            with self.subTest(name):
+                [alone] = [action.choices for action in parser(name)._actions if isinstance(action.choices, dict)]
+                self.assertEqual(list(alone), [name])
+                self.assertEqual(alone[name].format_help(), words.format_help())
+        for chosen in (None, "no-such-command", "--help"):
+            self.assertEqual(parser(chosen).format_help(), parser().format_help())
 
     def test_statuses(self):
         self.assertEqual(re.findall(r"^\.It (\d+)$", section("tml-corpus.1", "EXIT STATUS"), re.MULTILINE), ["0", "1", "2", "130"])

@@ -69,7 +69,7 @@ class Forms(MatrixTest):
 
 class Words(unittest.TestCase):
     def test_the_forms_that_are_understood(self):
-        from tml_corpus.commands import MATRIX_FORMS
+        from tml_corpus.command_line import MATRIX_FORMS
         from tml_corpus.matrix_formats import FORMS, SYMBOLS
 
         self.assertEqual(list(FORMS), list(MATRIX_FORMS))

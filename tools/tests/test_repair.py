@@ -126,7 +126,7 @@ class Repairs(CorpusTest):
         from tml_corpus import leftout
         from tml_corpus.clash_formats import Text
         from tml_corpus.clash_report import Wanted
-        from tml_corpus.clash_search import find_clashes
+        from tml_corpus.first_clash import find_clashes
         from tml_corpus.files import Found
         from tml_corpus.program import Program
 

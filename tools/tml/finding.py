@@ -3,13 +3,11 @@
 from __future__ import annotations
 
 import os
-import shutil
-from pathlib import Path
 
 from .running import CannotRun
 
-CRATES = Path(os.path.realpath(__file__)).parent.parent.parent / "crates"
-BUILT_PROGRAM, BUILT_LIBRARY = CRATES / "tml" / "out" / "tml", CRATES / "tml_c" / "out" / "libtml.so"
+TOP = os.path.dirname(os.path.dirname(os.path.dirname(os.path.realpath(__file__))))
+BUILT_PROGRAM, BUILT_LIBRARY = os.path.join(TOP, "crates/tml/out/tml"), os.path.join(TOP, "crates/tml_c/out/libtml.so")
 
 SYSTEM_LIBRARY = "libtml.so.0"
 """The name by which the loader of the system finds the library, where it is installed."""
@@ -20,17 +18,26 @@ LIBRARY_VARIABLE, PROGRAM_VARIABLE = "TML_LIBRARY", "TML"
 
 def built_program() -> str | None:
     """The program that was built beside this folder."""
-    return str(BUILT_PROGRAM) if os.access(BUILT_PROGRAM, os.X_OK) else None
+    return BUILT_PROGRAM if os.access(BUILT_PROGRAM, os.X_OK) else None
 
 
 def present_program() -> str | None:
     """The program that was built beside this folder, else the one on PATH."""
-    return built_program() or shutil.which("tml")
+    return built_program() or on_path("tml")
+
+
+def on_path(name: str) -> str | None:
+    """The program that a name means: the one that lies there, where it has a folder, else the one on PATH."""
+    if os.path.dirname(name):
+        return name if os.access(name, os.X_OK) and not os.path.isdir(name) else None
+    import shutil
+
+    return shutil.which(name)
 
 
 def find_program(chosen: str | None) -> str:
     """The program to run: the chosen one, else the one that is present."""
-    found = shutil.which(chosen) if chosen is not None else present_program()
+    found = on_path(chosen) if chosen is not None else present_program()
     if found is None and chosen is not None:
         raise CannotRun(f"no program {chosen}")
     if found is None:
@@ -49,7 +56,7 @@ def library_for(program: str | None) -> str | None:
         return named or None
     if program is not None and program != built_program():
         return SYSTEM_LIBRARY
-    if not BUILT_LIBRARY.is_file():
+    if not os.path.isfile(BUILT_LIBRARY):
         return None if program is not None else SYSTEM_LIBRARY
-    is_new = program is None or BUILT_LIBRARY.stat().st_mtime >= BUILT_PROGRAM.stat().st_mtime
-    return str(BUILT_LIBRARY) if is_new else None
+    is_new = program is None or os.path.getmtime(BUILT_LIBRARY) >= os.path.getmtime(BUILT_PROGRAM)
+    return BUILT_LIBRARY if is_new else None

@@ -5,12 +5,13 @@ from __future__ import annotations
 import os
 import select
 import signal
-import subprocess
 import time
 from collections.abc import Callable, Sequence
 from contextlib import suppress
-from dataclasses import dataclass, field
-from typing import IO
+from typing import IO, TYPE_CHECKING
+
+if TYPE_CHECKING:
+    import subprocess
 
 SECONDS = 300.0
 """No question takes `tml` more than a second or two; a run that is longer than this is given up."""
@@ -40,6 +41,8 @@ def run(
     No shell is used. The child gets a session of its own, so that Ctrl-C ends this program in its own way and does not end
     a judgement half-way.
     """
+    import subprocess
+
     given = document if isinstance(document, bytes) else None
     try:
         child = subprocess.Popen(
@@ -107,16 +110,12 @@ def end_all() -> None:
             os.killpg(child.pid, signal.SIGKILL)
 
 
-@dataclass
 class Talk:
     """What a child is still to read, and how much it has printed."""
 
-    child: subprocess.Popen[bytes]
-    rest: memoryview
-    most: int
-    take: Callable[[bytes], object]
-    size: int = 0
-    late: float = field(default_factory=lambda: time.monotonic() + SECONDS)
+    def __init__(self, child: subprocess.Popen[bytes], rest: memoryview, most: int, take: Callable[[bytes], object]) -> None:
+        self.child, self.rest, self.most, self.take, self.size = child, rest, most, take, 0
+        self.late = time.monotonic() + SECONDS
 
     def seconds_left(self) -> float:
         """How long the child may still take."""

@@ -14,8 +14,8 @@ from .files import CannotRead, Found, find_files, read_document
 from .fitting import Fitting, fitting
 from .program import ACCEPTED, CLASH, FAULT, CannotRun, Program, Reply
 from .reduced import problem_of
+from .room import room_for
 from .scores import Scores, read_scores
-from .units import room_for
 from .words import Wording
 
 NO_PARTNER, WITH_FAULT, WITH_CLASH, NOT_JUDGED = "without a partner", "with a fault", "with a clash", "not judged"

@@ -10,8 +10,8 @@ import json
 import os
 from collections import Counter
 
-from .check import Judgement, PlacedWarning
 from .files import CannotRead, opened, read_open, reason
+from .judgement import Judgement, PlacedWarning
 from .program import CannotRun
 
 FIRST = '["tml-corpus baseline", 1]'

@@ -3,13 +3,16 @@
 from __future__ import annotations
 
 from collections.abc import Callable
-
-from tml.places import Place
+from typing import TYPE_CHECKING
 
 from . import formats
 from .clash_report import TOUCHING, ClashReport, ClashSummary, PlacedChange, PlacedClash, PlacedLink, PlacedRepair
 from .files import counted, shown
 from .formats import data_text, property_text
+from .judgement import Judgement
+
+if TYPE_CHECKING:
+    from tml.places import Place
 
 
 class Text:
@@ -23,6 +26,10 @@ class Text:
     def file(self, report: ClashReport) -> str:
         """What is printed of one file."""
         return self.judgements.file(report.judgement) + "".join(line + "\n" for line in self.lines(report))
+
+    def plain(self, path: str) -> str:
+        """What is printed of a file that some timeline fits, and of which there is nothing to say."""
+        return ""
 
     def lines(self, report: ClashReport) -> list[str]:
         """The lines of the clashes of one file."""
@@ -109,6 +116,9 @@ class Json(Text):
             printed["repair"] = repair_object(report.repair)
         return formats.printable(printed)
 
+    def plain(self, path: str) -> str:
+        return self.file(ClashReport(Judgement(path)))
+
 
 def link_object(link: PlacedLink) -> dict[str, object]:
     """A link as JSON has it."""
@@ -159,7 +169,9 @@ class JUnit(Text):
 
     def __init__(self, name: str, with_source: bool, strict: bool) -> None:
         super().__init__(with_source)
-        self.suite, self.strict = formats.Suite(name), strict
+        from .junit import Suite
+
+        self.suite, self.strict = Suite(name), strict
 
     def file(self, report: ClashReport) -> str:
         judgement = report.judgement
@@ -174,6 +186,9 @@ class JUnit(Text):
         else:
             self.suite.success(judgement.path, super().file(report))
         return ""
+
+    def plain(self, path: str) -> str:
+        return self.file(ClashReport(Judgement(path)))
 
     def end(self, summary: ClashSummary) -> str:
         return self.suite.text()

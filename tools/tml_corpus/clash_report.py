@@ -2,23 +2,24 @@
 
 from __future__ import annotations
 
-from dataclasses import dataclass, field
+from typing import TYPE_CHECKING, NamedTuple
 
-from tml.places import Place
-
-from .check import Judgement, PlacedNote
-from .clashes import Step
 from .files import counted
 from .formats import WarningCounts
-from .lint import Lint
-from .words import Link
+from .judgement import Judgement, PlacedNote
+from .kinds import Lint
+
+if TYPE_CHECKING:
+    from tml.places import Place
+
+    from .clashes import Step
+    from .words import Link
 
 TOUCHING = "dates that touch"
 """The verdict on a document whose only clashes these are."""
 
 
-@dataclass(frozen=True)
-class Wanted:
+class Wanted(NamedTuple):
     """What is asked about a document beside its first fault or clash."""
 
     folder: str | None = None
@@ -31,8 +32,7 @@ class Wanted:
     """Whether clashes are wanted that are not shown as such, since dates that touch are the only ones of their document."""
 
 
-@dataclass(frozen=True)
-class PlacedLink:
+class PlacedLink(NamedTuple):
     """A link in words, and its line of the document with the relation marked."""
 
     link: Link
@@ -48,8 +48,7 @@ class PlacedLink:
         return f"link {self.link.number}: {self.link.left} {self.link.relation} {self.link.right}"
 
 
-@dataclass(frozen=True)
-class PlacedClash:
+class PlacedClash(NamedTuple):
     """A minimal clash: its links, what the calendar says of it, other relations that would not clash, its evidence, and its walk."""
 
     links: list[PlacedLink]
@@ -59,8 +58,7 @@ class PlacedClash:
     walk: tuple[Step, ...] = ()
 
 
-@dataclass(frozen=True)
-class PlacedChange:
+class PlacedChange(NamedTuple):
     """A link between dates that touch, the relation that holds, and why."""
 
     link: PlacedLink
@@ -77,8 +75,7 @@ class PlacedChange:
         return f"read as {self.relation}: {self.reason}, and {self.asks}"
 
 
-@dataclass(frozen=True)
-class PlacedRepair:
+class PlacedRepair(NamedTuple):
     """Links without which a timeline fits: each with those that do in its place; and what is known of their number."""
 
     choices: list[list[PlacedLink]]
@@ -112,18 +109,18 @@ class PlacedRepair:
         return f"{best}fewer than {self.at_least} will not do"
 
 
-@dataclass
 class ClashReport:
-    """What became of one file."""
+    """What became of one file: also whether links between dates that touch were read so, and whether a timeline fits with these read so."""
 
-    judgement: Judgement
-    clashes: list[PlacedClash] = field(default_factory=list)
-    touching: list[PlacedChange] = field(default_factory=list)
-    read_touching: bool = False
-    """Whether links between dates that touch were read so."""
-    fits_touching: bool = False
-    """Whether a timeline fits with these read so."""
-    repair: PlacedRepair | None = None
+    def __init__(self, judgement: Judgement, read_touching: bool = False, fits_touching: bool = False) -> None:
+        self.judgement, self.read_touching, self.fits_touching = judgement, read_touching, fits_touching
+        self.clashes: list[PlacedClash] = []
+        self.touching: list[PlacedChange] = []
+        self.repair: PlacedRepair | None = None
+
+    def is_plain(self) -> bool:
+        """Whether some timeline fits and there is nothing to say of it."""
+        return self.judgement.is_plain() and self.repair is None and not (self.clashes or self.touching or self.fits_touching)
 
     def verdict(self) -> str:
         """What became of it, in a word or two."""
@@ -140,21 +137,15 @@ class ClashReport:
         return [] if self.verdict() == TOUCHING else self.clashes
 
 
-@dataclass
 class ClashSummary:
-    """How many files there are, and what became of them."""
+    """How many files there are, and what became of them; faults are asked about too where they are checked, as by `check --clashes`."""
 
-    files: int
-    checked: bool = False
-    """Whether faults were asked about too, as `check --clashes` does."""
-    verdicts: dict[str, int] = field(default_factory=dict)
-    first_faults: dict[tuple[int, str], int] = field(default_factory=dict)
-    further_faults: int = 0
-    further_clashes: int = 0
-    changes: int = 0
-    changed_files: int = 0
-    read_touching: bool = False
-    warnings: WarningCounts = field(default_factory=WarningCounts)
+    def __init__(self, files: int, checked: bool = False, read_touching: bool = False) -> None:
+        self.files, self.checked, self.read_touching = files, checked, read_touching
+        self.verdicts: dict[str, int] = {}
+        self.first_faults: dict[tuple[int, str], int] = {}
+        self.further_faults = self.further_clashes = self.changes = self.changed_files = 0
+        self.warnings = WarningCounts()
 
     def add(self, report: ClashReport) -> None:
         """Counts one file."""
@@ -169,6 +160,10 @@ class ClashSummary:
         self.changes += len(report.touching)
         self.changed_files += bool(report.touching)
         self.warnings.add(report.judgement)
+
+    def add_plain(self) -> None:
+        """Counts one file that a timeline fits and of which there is nothing to say."""
+        self.verdicts["fits"] = self.verdicts.get("fits", 0) + 1
 
     def count(self, *verdicts: str) -> int:
         """How many files have one of some verdicts."""

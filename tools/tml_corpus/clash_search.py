@@ -1,43 +1,31 @@
-"""The search for the clashes of one file: it is read once, and `tml solve` is asked first, which tells a fault too."""
+"""The search for the clashes of one document that no timeline fits."""
 
 from __future__ import annotations
 
 import os
 from functools import cached_property
 
-from .check import Judgement, PlacedNote, judge_document, placed_warnings
+from .check import judge_document, placed_warnings
 from .clash_report import ClashReport, PlacedChange, PlacedClash, PlacedLink, PlacedRepair, Wanted
-from .clashes import STRICT_ORDERS, Clash, evidence_name, is_timeline, read_clash, verify_clash
+from .clashes import STRICT_ORDERS, Clash, evidence_name, read_clash, verify_clash
 from .cutting import units_of_whole
-from .files import CannotRead, Found, read_document
+from .files import Found
 from .hitting import TooMuch
+from .judgement import Judgement, PlacedNote
 from .leftout import Copies
 from .program import CLASH, FAULT, CannotRun, Program, Reply
 from .repair import find_repair
 from .source import Source
 from .touching import GAP, INCLUSIONS, Change, asks, relation_of, touching_changes
-from .units import room_for
 from .words import Wording
 
 
-def find_clashes(program: Program, found: Found, wanted: Wanted) -> ClashReport:
-    """Asks about the fault and the clashes of one file. Whatever goes wrong with it is reported of it and ends nothing else."""
-    if found.problem is not None:
-        return ClashReport(Judgement(found.path, problem=found.problem))
-    try:
-        document = read_document(found.place())
-        reply = program.ask(["solve", "-"], document)
-        if is_timeline(reply) and wanted.lint is None:
-            return ClashReport(Judgement(found.path))
-        with room_for(document):
-            if is_timeline(reply) and wanted.lint is not None:
-                source = Source(document, units_of_whole(program, document))
-                return ClashReport(Judgement(found.path, warnings=placed_warnings(program, source, wanted.lint)))
-            return report_of(program, found, document, wanted, reply)
-    except (CannotRead, CannotRun) as problem:
-        return ClashReport(Judgement(found.path, problem=str(problem)))
-    except MemoryError:
-        return ClashReport(Judgement(found.path, problem="no memory to take the document apart"))
+def report_of_fitting(program: Program, found: Found, document: bytes, wanted: Wanted) -> ClashReport:
+    """What there is to report of a document in memory that some timeline fits: what is suspect in it."""
+    judgement = Judgement(found.path)
+    if wanted.lint is not None:
+        judgement.warnings = placed_warnings(program, Source(document, units_of_whole(program, document)), wanted.lint)
+    return ClashReport(judgement)
 
 
 def report_of(program: Program, found: Found, document: bytes, wanted: Wanted, reply: Reply) -> ClashReport:

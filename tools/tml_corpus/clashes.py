@@ -2,20 +2,16 @@
 
 from __future__ import annotations
 
-import contextlib
-import hashlib
 import os
 import re
-import tempfile
 from collections.abc import Iterator, Sequence
-from dataclasses import dataclass
-from typing import IO
+from contextlib import contextmanager
+from typing import NamedTuple
 
 from tml.replies import kind_of
 
 from .files import CannotRead, reason, written
-from .program import ACCEPTED, CannotRun, Program, Reply
-
+from .program import ACCEPTED, CannotRun, File, Program, Reply
 
 STRICT_ORDERS = {
     "BEFORE": (0,), "AFTER": (0,), "INCLUDES": (0, 1), "IS_INCLUDED": (0, 1), "BEGINS": (2,), "BEGUN_BY": (2,), "ENDS": (2,), "ENDED_BY": (2,),
@@ -24,8 +20,7 @@ STRICT_ORDERS = {
 """The orders of a relation that are strict, by their numbers in docs/DEFINITIONS.md; all others allow for equal points."""
 
 
-@dataclass(frozen=True)
-class Step:
+class Step(NamedTuple):
     """A step of a walk: `via K T`, `span I` or `calendar P Q`."""
 
     kind: str
@@ -33,8 +28,7 @@ class Step:
     second: int = 0
 
 
-@dataclass(frozen=True)
-class Clash:
+class Clash(NamedTuple):
     """A minimal clash as `tml solve` printed it: the numbers of its links, the steps of its walk, and the whole text."""
 
     links: tuple[int, ...]
@@ -78,28 +72,25 @@ def verify_timeline(program: Program, document: bytes, timeline: Reply) -> None:
 
 def verify_ranks(program: Program, document: bytes, timeline: bytes, called: str) -> None:
     """Has `tml verify` judge a timeline, whoever made it."""
-    with evidence_file(timeline, None) as evidence:
-        judged = program.ask(["verify", "-"], document, evidence)
+    judged = program.ask(["verify", "-"], document, timeline)
     if judged.status != ACCEPTED or judged.text != b"verified timeline\n":
         said = judged.text.decode("utf-8", "replace").strip()
         raise CannotRun(f"tml verify did not accept {called}: {said}")
 
 
-@contextlib.contextmanager
-def evidence_file(evidence: bytes, kept: str | None) -> Iterator[IO[bytes]]:
-    """An open file with the evidence: one that stays where a name is given, and else one without a name."""
-    with contextlib.ExitStack() as stack:
-        try:
-            if kept is None:
-                file: IO[bytes] = stack.enter_context(tempfile.TemporaryFile(buffering=0))
-                file.write(evidence)
-                file.seek(0)
-            else:
-                with written(kept) as target:
-                    target.write(evidence)
-                file = stack.enter_context(open(kept, "rb"))
-        except OSError as error:
-            raise CannotRead(f"its evidence cannot be kept: {reason(error)}") from None
+@contextmanager
+def evidence_file(evidence: bytes, kept: str | None) -> Iterator[File]:
+    """The evidence as a file of a question: where a name is given the open file of this name, which stays."""
+    if kept is None:
+        yield evidence
+        return
+    try:
+        with written(kept) as target:
+            target.write(evidence)
+        file = open(kept, "rb")
+    except OSError as error:
+        raise CannotRead(f"its evidence cannot be kept: {reason(error)}") from None
+    with file:
         yield file
 
 
@@ -110,6 +101,8 @@ def evidence_name(path: str) -> str:
 
 def own_name(path: str, end: str) -> str:
     """A name for what is made of a file: its own name as far as it is plain, and a digest of the path, so that no two are the same."""
+    import hashlib
+
     plain = re.sub(r"[^A-Za-z0-9._-]", "_", os.path.basename(path))[:100]
     digest = hashlib.sha256(os.fsencode(path)).hexdigest()[:12]
     return f"{plain}.{digest}.{end}"

@@ -8,7 +8,6 @@ from __future__ import annotations
 
 import asyncio
 import concurrent.futures
-import hashlib
 import importlib
 import logging
 import os
@@ -17,7 +16,6 @@ import shutil
 import sys
 import tempfile
 import time
-import zipfile
 from collections import deque
 from collections.abc import Callable, Iterator, Sequence
 from contextlib import contextmanager
@@ -26,9 +24,11 @@ from typing import TYPE_CHECKING, TypeVar
 
 from tml.finding import built_program
 
-from .batch import FAMILY, read, written
+from .archive import archive
+from .batch import read, written
 from .files import Found, counted
-from .pool import PATIENCE, Interruption
+from .libraries import AtPath, Loadable
+from .pool import PATIENCE, Interruption, nothing
 from .program import CannotRun, Program
 
 if TYPE_CHECKING:
@@ -53,8 +53,8 @@ CANCELLED = (asyncio.CancelledError, concurrent.futures.CancelledError)
 
 
 @contextmanager
-def connected(address: str, stop: Interruption) -> Iterator[Cluster]:
-    """The cluster whose scheduler is at an address, with this package on its workers."""
+def connected(address: str, library: AtPath | None, stop: Interruption) -> Iterator[Cluster]:
+    """The cluster whose scheduler is at an address, with the tools and a library on its workers."""
     try:
         from distributed import Client
         from distributed.comm import resolve_address
@@ -71,7 +71,7 @@ def connected(address: str, stop: Interruption) -> Iterator[Cluster]:
         cluster = Cluster(client, address)
         with cluster.needed():
             cluster.wait_for_a_worker(stop)
-            cluster.give_package(folder)
+            cluster.give_package(folder, library)
         yield cluster
 
 
@@ -81,6 +81,8 @@ class Cluster:
     def __init__(self, client: Client, address: str) -> None:
         self.client, self.address, self.base = client, address, os.getcwd()
         self.threads, self.looked, self.reported = 0, -LOOKING, False
+        self.library: Loadable | None = None
+        self.prepare: Callable[[], None] = nothing
 
     @contextmanager
     def needed(self) -> Iterator[None]:
@@ -106,14 +108,14 @@ class Cluster:
         while not self.threads and not stop.happened.wait(PATIENCE):
             self.look()
 
-    def give_package(self, folder: str) -> None:
-        """Sends this package to the workers, those that come later included, where they do not have it yet."""
-        archive, name = archive_of_package(folder)
-        sys.path.insert(0, archive)
+    def give_package(self, folder: str, library: AtPath | None) -> None:
+        """Sends the tools and the library to the workers, those that come later included, where they do not have them yet."""
+        path, name, self.library = archive(folder, library)
+        sys.path.insert(0, path)
         self.do_batch = importlib.import_module(f"{name}.batch").do_batch
         held = self.client.run(pkgutil.get_data, name, "__init__.py")
         if not held or None in held.values():
-            self.client.upload_file(archive)
+            self.client.upload_file(path)
 
     def program(self, chosen: str | None) -> Program:
         """The program that the workers start: the chosen one, else the one beside this folder if they see it, else that on their PATH."""
@@ -126,13 +128,15 @@ class Cluster:
                 found = self.client.run(shutil.which, name)
             lacking = [worker for worker, place in found.items() if place is None]
             if not lacking:
-                return Program(name)
+                return Program(name, self.library)
         at = f"{len(lacking)} of {counted(len(found), 'worker')}, such as {min(lacking)}"
         raise CannotRun(f"no program {name} at {at}: choose one that all of them see by --tml PROGRAM")
 
-    def in_order(self, work: Work[Result], files: Sequence[Found], stop: Interruption, lost: Callable[[Found], Result]) -> Iterator[Result]:
+    def in_order(
+        self, work: Work[Result], files: Sequence[Found], stop: Interruption, lost: Callable[[Found], Result], prepare: Callable[[], None]
+    ) -> Iterator[Result]:
         """The results of the files in their order. After an interruption those that are there are reported, and the other tasks cancelled."""
-        rest = iter(files)
+        rest, self.prepare = iter(files), prepare
         waiting: deque[tuple[list[Found], Future]] = deque()
         with self.needed():
             while True:
@@ -160,7 +164,7 @@ class Cluster:
     def submit(self, work: Work[Result], batch: list[Found]) -> Future:
         """Gives a batch to the scheduler. The paths are those of this folder; earlier batches go before later ones."""
         there = [Found(file.path, file.problem, self.base) for file in batch]
-        return self.client.submit(self.do_batch, written((work, there)), pure=False, fifo_timeout="0 ms")
+        return self.client.submit(self.do_batch, written((self.prepare, work, there)), pure=False, fifo_timeout="0 ms")
 
     def is_done(self, future: Future, stop: Interruption) -> bool:
         """Waits until a task is done, or for an interruption, and answers whether it is done."""
@@ -203,19 +207,3 @@ class Cluster:
                 self.client.cancel([future])
                 return
             yield from self.results_of(future) or [lost(file)]
-
-
-def archive_of_package(folder: str) -> tuple[str, str]:
-    """A zip file with this package, and the name that it has there, with a digest of its source."""
-    here = os.path.dirname(os.path.abspath(__file__))
-    sources: dict[str, bytes] = {}
-    for name in sorted(os.listdir(here)):
-        if name.endswith(".py"):
-            with open(os.path.join(here, name), "rb") as file:
-                sources[name] = file.read()
-    package = f"{FAMILY}_{hashlib.sha256(repr(sources).encode()).hexdigest()[:16]}"
-    path = os.path.join(folder, f"{package}.zip")
-    with zipfile.ZipFile(path, "w") as archive:
-        for name, source in sources.items():
-            archive.writestr(zipfile.ZipInfo(f"{package}/{name}"), source, zipfile.ZIP_DEFLATED)
-    return path, package

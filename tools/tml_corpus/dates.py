@@ -7,8 +7,8 @@ those times alone that it was not asked about before. In a corpus the same dates
 from __future__ import annotations
 
 from .program import ACCEPTED, CannotRun, Program
+from .room import MANY_BYTES
 from .source import Source
-from .units import MANY_BYTES
 
 MOST_REMEMBERED, LONGEST_REMEMBERED = 4096, 64
 """Answers on so many times are remembered, of which the value has at most so many characters."""

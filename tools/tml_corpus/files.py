@@ -4,31 +4,34 @@ import fnmatch
 import os
 import re
 import stat
-from collections.abc import Iterator
+from collections.abc import Callable, Iterator
 from contextlib import contextmanager, suppress
-from dataclasses import dataclass
-from typing import IO
+from itertools import chain
+from typing import IO, NamedTuple
 
 from tml.statuses import DOCUMENT_LIMIT
 
 PATTERNS = ("*.tml", "*.xml")
+PART = 65536
 
 
 class CannotRead(Exception):
     """A file or folder cannot be read, or is none."""
 
 
-@dataclass(frozen=True)
-class Found:
+class Found(NamedTuple):
     """One file to look at, or a path that stands for none, with the reason."""
 
     path: str
     problem: str | None = None
     base: str = ""
+    """The folder to which the path belongs, where another one is the current folder."""
+    lies_at: str = ""
+    """Where it lies, where its path is only a name for it."""
 
     def place(self) -> str:
-        """Where the file lies: its path is printed as it was given, and is one of the base where another folder is the current one."""
-        return os.path.join(self.base, self.path)
+        """Where the file lies."""
+        return self.lies_at or (os.path.join(self.base, self.path) if self.base else self.path)
 
 
 def find_files(paths: list[str], patterns: list[str]) -> list[Found]:
@@ -37,55 +40,111 @@ def find_files(paths: list[str], patterns: list[str]) -> list[Found]:
     The order is that of the paths, and within a folder that of the names, so it is the same in each run. No file is
     named twice. Folders that are symbolic links are not entered, so no loop of them holds the search.
     """
+    lists = [search_folder(path, patterns) if os.path.isdir(path) else [Found(path)] for path in paths]
+    if len(lists) == 1:
+        return lists[0]
     found: dict[str, Found] = {}
-    for path in paths:
-        for one in search_folder(path, patterns) if os.path.isdir(path) else [Found(path)]:
-            found.setdefault(one.path, one)
+    for one in chain.from_iterable(lists):
+        found.setdefault(one.path, one)
     return list(found.values())
 
 
 def search_folder(folder: str, patterns: list[str]) -> list[Found]:
     """The matching files below a folder, and the folders that could not be read."""
     found: list[Found] = []
-
-    def unreadable(error: OSError) -> None:
-        found.append(Found(str(error.filename), reason(error)))
-
-    for place, folders, names in os.walk(folder, onerror=unreadable):
-        folders.sort()
-        for name in sorted(names):
-            if any(fnmatch.fnmatchcase(name, pattern) for pattern in patterns):
-                found.append(Found(os.path.join(place, name)))
+    matches = re.compile("|".join(map(fnmatch.translate, patterns))).match
+    left = [folder]
+    while left:
+        place = left.pop()
+        try:
+            names, below = entries_of(place, matches)
+        except OSError as error:
+            found.append(Found(place, reason(error)))
+            continue
+        begin = os.path.join(place, "")
+        found += [Found(begin + name) for name in sorted(names)]
+        left += [begin + name for name in sorted(below, reverse=True)]
     if not found:
         return [Found(folder, f"no file in this folder matches {' or '.join(patterns)}")]
     return found
 
 
+def entries_of(place: str, matches: Callable[[str], object]) -> tuple[list[str], list[str]]:
+    """The names of what matches in a folder, and those of the folders in it that are to be entered."""
+    names, below = [], []
+    with os.scandir(place) as entries:
+        for entry in entries:
+            if is_folder(entry):
+                below.append(entry.name)
+            elif matches(entry.name) and not (entry.is_symlink() and os.path.isdir(entry.path)):
+                names.append(entry.name)
+    return names, below
+
+
+def is_folder(entry: os.DirEntry[str]) -> bool:
+    """Whether it is a folder, and no symbolic link to one."""
+    try:
+        return entry.is_dir(follow_symlinks=False)
+    except OSError:
+        return False
+
+
 @contextmanager
 def opened(path: str) -> Iterator[IO[bytes]]:
-    """The file at a path, open. It has to be a regular file: a pipe or a device might never end, so it is not waited for."""
-    try:
-        handle = os.open(path, os.O_RDONLY | os.O_NONBLOCK | os.O_CLOEXEC)
-    except (OSError, ValueError) as error:
-        raise CannotRead(reason(error)) from None
-    if not stat.S_ISREG(os.fstat(handle).st_mode):
-        os.close(handle)
-        raise CannotRead("is not a regular file")
+    """The file at a path, open."""
+    handle, _ = handle_of(path)
     with os.fdopen(handle, "rb", buffering=0) as file:
         yield file
 
 
+def handle_of(path: str) -> tuple[int, int]:
+    """The file at a path, open, and its size. It has to be a regular file: a pipe or a device might never end, so it is not waited for."""
+    try:
+        handle = os.open(path, os.O_RDONLY | os.O_NONBLOCK | os.O_CLOEXEC)
+    except (OSError, ValueError) as error:
+        raise CannotRead(reason(error)) from None
+    status = os.fstat(handle)
+    if not stat.S_ISREG(status.st_mode):
+        os.close(handle)
+        raise CannotRead("is not a regular file")
+    return handle, status.st_size
+
+
 def read_document(path: str) -> bytes:
     """The bytes of a file: at most one more than the limit, so that `tml` still says that it is too long."""
-    with opened(path) as file:
-        return read_open(file)
+    handle, size = handle_of(path)
+    try:
+        return read_handle(handle, size)
+    except OSError as error:
+        raise CannotRead(reason(error)) from None
+    finally:
+        os.close(handle)
+
+
+def read_handle(handle: int, size: int) -> bytes:
+    """The bytes of a file that probably has so many: most are read at once, and then nothing is left."""
+    most = DOCUMENT_LIMIT + 1
+    whole = part = os.read(handle, min(size + 1, most))
+    if not part or not (part := os.read(handle, min(PART, most - len(whole)))):
+        return whole
+    parts = [whole, part]
+    room = most - len(whole) - len(part)
+    while room > 0 and (part := os.read(handle, min(PART, room))):
+        parts.append(part)
+        room -= len(part)
+    return b"".join(parts)
 
 
 def read_open(file: IO[bytes]) -> bytes:
     """The bytes of an open file from its beginning, as many as `read_document` takes."""
+    return read_to(file, DOCUMENT_LIMIT + 1)
+
+
+def read_to(file: IO[bytes], most: int) -> bytes:
+    """The bytes of an open file from its beginning, at most so many."""
     try:
         file.seek(0)
-        parts, room = [], DOCUMENT_LIMIT + 1
+        parts, room = [], most
         while room > 0 and (part := file.read(room)):
             parts.append(part)
             room -= len(part)

@@ -11,18 +11,18 @@ from tml.places import characters
 from . import faults
 from .attributes import spelling_edits
 from .baseline import replace_file
-from .check import problem_of
 from .cutting import units_of_whole
 from .edits import Edit, applied
 from .encoding import converted
 from .faults import Fault, read_fault
 from .files import CannotRead, Found, counted, read_document, shown
+from .judgement import problem_of
 from .markup import cdata_edits, quote_edits, reference_edits
 from .nesting import end_edits, name_edits
 from .program import FAULT, CannotRun, Program
 from .references import instance_edits
+from .room import room_for
 from .source import Source
-from .units import room_for
 
 ROUNDS = 12
 """So many kinds of slips are mended in one document at most, one after another."""

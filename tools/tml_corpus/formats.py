@@ -5,25 +5,24 @@ Each of them has the number and the name of a fault, and the byte at which `tml`
 
 from __future__ import annotations
 
-import json
 from collections import Counter
-from dataclasses import dataclass, field
-from xml.etree import ElementTree
+from typing import TYPE_CHECKING
 
-from tml.places import Place
-
-from .check import Judgement, Mark, PlacedFault, PlacedNote, PlacedWarning
 from .files import counted, shown
+from .judgement import Judgement, Mark, PlacedFault, PlacedNote, PlacedWarning
+
+if TYPE_CHECKING:
+    from tml.places import Place
 
 CONSEQUENCE = "(perhaps only a consequence)"
 
 
-@dataclass
 class WarningCounts:
     """How many warnings there are of each kind, and in how many files."""
 
-    kinds: Counter[str] = field(default_factory=Counter)
-    files: int = 0
+    def __init__(self) -> None:
+        self.kinds: Counter[str] = Counter()
+        self.files = 0
 
     def add(self, judgement: Judgement) -> None:
         """Counts the warnings of one file."""
@@ -38,17 +37,14 @@ class WarningCounts:
         return [first, *(f"{count:7}  {name}" for name, count in sorted(self.kinds.items()))]
 
 
-@dataclass
 class Summary:
     """How many files there are, and what became of them; a file counts by its first fault."""
 
-    files: int
-    accepted: int = 0
-    problems: int = 0
-    further: int = 0
-    consequences: int = 0
-    first_faults: Counter[tuple[int, str]] = field(default_factory=Counter)
-    warnings: WarningCounts = field(default_factory=WarningCounts)
+    def __init__(self, files: int) -> None:
+        self.files = files
+        self.accepted = self.problems = self.further = self.consequences = 0
+        self.first_faults: Counter[tuple[int, str]] = Counter()
+        self.warnings = WarningCounts()
 
     def add(self, judgement: Judgement) -> None:
         """Counts one file."""
@@ -60,6 +56,10 @@ class Summary:
         if judgement.faults:
             first = judgement.faults[0].fault
             self.first_faults[first.number, first.title()] += 1
+
+    def add_plain(self) -> None:
+        """Counts one file that is accepted, and of which there is nothing to say."""
+        self.accepted += 1
 
     def faulty(self) -> int:
         """The files with a fault."""
@@ -122,6 +122,10 @@ class Text:
             lines += self.source(warning.mark)
         return "".join(line + "\n" for line in lines)
 
+    def plain(self, path: str) -> str:
+        """What is reported of a file that is accepted, and of which there is nothing to say."""
+        return ""
+
     def source(self, mark: Mark) -> list[str]:
         """The line of the source, and the mark below it."""
         return mark.source if self.with_source else []
@@ -139,9 +143,14 @@ class Json(Text):
     def file(self, judgement: Judgement) -> str:
         return printable(judgement_object(judgement))
 
+    def plain(self, path: str) -> str:
+        return self.file(Judgement(path))
+
 
 def printable(entry: dict[str, object]) -> str:
     """JSON in a log that may take `##[` and `##vso[` for commands: these stand within strings alone, where escapes are."""
+    import json
+
     return json.dumps(entry).replace("##", "\\u0023#") + "\n"
 
 
@@ -191,68 +200,6 @@ def place_object(place: Place) -> dict[str, object]:
     return {"offset": place.offset, "line": place.line, "column": place.column}
 
 
-class Suite:
-    """Test cases as JUnit has them. The counts stand at the beginning, so all is printed at the end, in ASCII."""
-
-    def __init__(self, name: str) -> None:
-        self.element = ElementTree.Element("testsuite", name=name)
-        self.failures = self.errors = 0
-
-    def case(self, path: str) -> ElementTree.Element:
-        """A test case."""
-        return ElementTree.SubElement(self.element, "testcase", classname="tml", name=shown(path))
-
-    def error(self, path: str, problem: str) -> None:
-        """A test case of a file that was not judged."""
-        ElementTree.SubElement(self.case(path), "error", message=shown(problem))
-        self.errors += 1
-
-    def failure(self, path: str, kind: str, sentence: str, body: str) -> None:
-        """A test case that failed."""
-        ElementTree.SubElement(self.case(path), "failure", type=kind, message=shown(sentence)).text = body
-        self.failures += 1
-
-    def success(self, path: str, body: str) -> None:
-        """A test case of a file of which there is perhaps something to report."""
-        case = self.case(path)
-        if body:
-            ElementTree.SubElement(case, "system-out").text = body
-
-    def text(self) -> str:
-        """The whole report."""
-        counts = {"tests": str(len(self.element)), "failures": str(self.failures), "errors": str(self.errors)}
-        whole = ElementTree.Element("testsuites", counts)
-        self.element.attrib.update(counts)
-        whole.append(self.element)
-        ElementTree.indent(whole)
-        text = ElementTree.tostring(whole, encoding="us-ascii", xml_declaration=False).decode()
-        return f'<?xml version="1.0" encoding="UTF-8"?>\n{text}\n'
-
-
-class JUnit(Text):
-    """One test case for each file."""
-
-    summary_apart = True
-
-    def __init__(self, with_source: bool, strict: bool) -> None:
-        super().__init__(with_source)
-        self.strict = strict
-        self.suite = Suite("tml check")
-
-    def file(self, judgement: Judgement) -> str:
-        failure = first_failure(judgement, self.strict)
-        if judgement.problem:
-            self.suite.error(judgement.path, judgement.problem)
-        elif failure is not None:
-            self.suite.failure(judgement.path, *failure, super().file(judgement))
-        else:
-            self.suite.success(judgement.path, super().file(judgement))
-        return ""
-
-    def end(self, summary: Summary) -> str:
-        return self.suite.text()
-
-
 def first_failure(judgement: Judgement, strict: bool) -> tuple[str, str] | None:
     """The kind of the first fault, or where this is strict of the first warning, and one line on it."""
     if judgement.faults:
@@ -299,5 +246,7 @@ def property_text(text: str) -> str:
 def make_format(name: str, with_source: bool, strict: bool = False) -> Text:
     """The format of a name."""
     if name == "junit":
+        from .junit import JUnit
+
         return JUnit(with_source, strict)
     return {"text": Text, "json": Json, "github": GitHub}[name](with_source)

@@ -24,14 +24,13 @@ from __future__ import annotations
 import glob
 import os
 import re
-from argparse import RawDescriptionHelpFormatter
 from collections import defaultdict
 from collections.abc import Iterator, Sequence
 from dataclasses import dataclass, field
 from xml.sax.saxutils import escape, quoteattr
 
 from .files import CannotRead, reason, written
-from .output import Parser, complain, run
+from .output import Parser, RawFormatter, complain, run
 from .statuses import Status
 from .tables import BadTable, Word, at_least, rows
 
@@ -188,7 +187,7 @@ def read_attributes(sources: dict[str, Source], folder: str, kind: str) -> None:
 
 def convert(words: list[str]) -> int:
     """Writes the documents and answers the status."""
-    parser = Parser(description=__doc__, formatter_class=RawDescriptionHelpFormatter)
+    parser = Parser(description=__doc__, formatter_class=RawFormatter)
     parser.add_argument("tables", metavar="FOLDER", help="the folder with the tables")
     parser.add_argument("out", metavar="OUT", help="the folder for the documents; it is made where it is not there")
     options = parser.parse_args(words)

@@ -12,12 +12,11 @@ from __future__ import annotations
 
 import re
 import sys
-from argparse import RawDescriptionHelpFormatter
 from collections.abc import Sequence
 from html.entities import html5
 from xml.sax.saxutils import escape
 
-from .output import Parser, complain, run, standard_input
+from .output import Parser, RawFormatter, complain, run, standard_input
 from .statuses import Status
 
 OF_XML = ("lt;", "gt;", "amp;", "quot;", "apos;")
@@ -31,7 +30,7 @@ def character(found: re.Match[str]) -> str:
 
 def copy(words: list[str]) -> int:
     """Copies the document and answers the status."""
-    Parser(description=__doc__, formatter_class=RawDescriptionHelpFormatter).parse_args(words)
+    Parser(description=__doc__, formatter_class=RawFormatter).parse_args(words)
     try:
         text = standard_input().decode("utf-8")
     except UnicodeDecodeError as error:

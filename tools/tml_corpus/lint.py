@@ -2,16 +2,18 @@
 
 from __future__ import annotations
 
-from collections.abc import Callable, Iterable, Iterator
+from collections.abc import Callable, Iterator
 from dataclasses import dataclass
 from itertools import chain
 
 from .dates import dates_of
+from .kinds import Lint
 from .profile import CARRIED, ROOT, TABLE
 from .program import Program
+from .room import MANY_BYTES
 from .similar import one_letter_apart
 from .source import Source, attribute_of, cut
-from .units import MANY_BYTES, Attribute, Unit
+from .units import Attribute, Unit
 from .values import CALENDAR, DURATION, LOOKS_LIKE_DATE, PART_OF_DAY, better, has_form
 
 MOST_WARNINGS = 1000
@@ -42,25 +44,11 @@ Finder = Callable[[Source], Iterator[tuple[Unit, Attribute | None, str]]]
 
 @dataclass(frozen=True)
 class WarningKind:
-    """A kind of warnings: what it is about, how it is found, whether it is given only on demand, and whether `tml dates` is asked."""
+    """A kind of warnings: what it is about, how it is found, and whether `tml dates` is asked."""
 
     words: str
     finder: Finder
-    on_demand: bool = False
     of_free_times: bool = False
-
-
-@dataclass(frozen=True)
-class Lint:
-    """The kinds of warnings that are given."""
-
-    names: frozenset[str]
-
-
-def chosen(ignored: Iterable[str], demanded: Iterable[str]) -> Lint:
-    """The kinds that are given, but for those that are ignored, and with those that are demanded."""
-    usual = {name for name, kind in KINDS.items() if not kind.on_demand}
-    return Lint(frozenset((usual | set(demanded)) - set(ignored)))
 
 
 def warnings_of(program: Program, source: Source, lint: Lint) -> Iterator[Finding]:
@@ -244,7 +232,7 @@ def no_creation_time(source: Source) -> Iterator[tuple[Unit, Attribute | None, s
 
 KINDS: dict[str, WarningKind] = {
     "misspelled-attribute": WarningKind("an attribute that is one letter from one that means something", misspelled_attribute),
-    "unknown-attribute": WarningKind("an attribute that neither tml nor TimeML knows; only with --warn", unknown_attribute, on_demand=True),
+    "unknown-attribute": WarningKind("an attribute that neither tml nor TimeML knows; only with --warn", unknown_attribute),
     "value-form": WarningKind("a value of a TIMEX3 that has no form", value_form, of_free_times=True),
     "free-date": WarningKind("a value that looks like a date, of a time that has none", free_date, of_free_times=True),
     "part-of-day": WarningKind("a part of a day, which the calendar does not place", part_of_day, of_free_times=True),

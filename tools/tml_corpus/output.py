@@ -10,11 +10,10 @@ import io
 import os
 import select
 import sys
-import traceback
-from argparse import ArgumentParser
+from argparse import ArgumentParser, HelpFormatter, RawDescriptionHelpFormatter
 from collections.abc import Callable, Sequence
 from contextlib import suppress
-from typing import NoReturn
+from typing import Any, NoReturn
 
 from tml.running import CannotRun
 
@@ -22,6 +21,9 @@ from .files import CannotRead, reason, shown
 from .statuses import Status
 
 INPUT, OUTPUT, ERROR = range(3)
+USUAL = 80
+"""So many characters are a line where it is not known how wide the terminal is."""
+
 CLOSED: set[int] = set()
 """The streams that were closed when the program began."""
 
@@ -55,8 +57,33 @@ class StandardError(io.FileIO):
         return len(data) if size is None else size
 
 
+class Formatter(HelpFormatter):
+    """Lays out the help as wide as the terminal is."""
+
+    def __init__(self, prog: str) -> None:
+        # Without a width the module `shutil` is imported for each parser, which takes longer than all the rest of it.
+        super().__init__(prog, width=columns() - 2)
+
+
+class RawFormatter(Formatter, RawDescriptionHelpFormatter):
+    """The same with the lines of the description as they are."""
+
+
+def columns() -> int:
+    """How wide the terminal is."""
+    with suppress(ValueError):
+        if (said := int(os.environ.get("COLUMNS", ""))) > 0:
+            return said
+    with suppress(OSError):
+        return os.get_terminal_size(OUTPUT).columns or USUAL
+    return USUAL
+
+
 class Parser(ArgumentParser):
     """The words of a command line. What is wrong with them is said with names as they may be printed."""
+
+    def __init__(self, formatter_class: type[HelpFormatter] = Formatter, **options: Any) -> None:
+        super().__init__(formatter_class=formatter_class, **options)
 
     def error(self, message: str) -> NoReturn:
         """Says what is wrong, and ends the program."""
@@ -82,6 +109,8 @@ def run(work: Callable[[list[str]], int], words: Sequence[str] | None = None) ->
     except MemoryError:
         return complain("out of memory")
     except Exception as error:
+        import traceback
+
         place = traceback.extract_tb(error.__traceback__)[-1]
         return complain(f"{type(error).__name__}: {error} ({os.path.basename(place.filename)}:{place.lineno})")
     finally:

@@ -5,13 +5,13 @@ from __future__ import annotations
 import math
 from dataclasses import dataclass, replace
 
-from .check import PlacedNote
 from .civil import civil, length
 from .clash_report import PlacedLink
 from .clash_search import placed_link
 from .constraints import Constraints
 from .files import CannotRead, counted, read_document
 from .fitting import Unfit, fault_of, not_judged
+from .judgement import PlacedNote
 from .program import FAULT, CannotRun, Program
 from .seconds import Cycle, Placing, Step, place
 from .touching import asks, touching_changes, with_changes

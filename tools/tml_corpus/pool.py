@@ -1,35 +1,36 @@
-"""Work on all processors, with the results in the order of the work, a sign of progress, and a way to be interrupted."""
+"""Work on all processors, with the results in the order of the items, and a way to be interrupted.
+
+The work is done in processes of Python, since much of it is to start `tml` again and again, or to say what was answered, which threads
+would do one after the other. They are forked and have the items from then on, so that two numbers say which ones a process is given.
+A process is given some items at a time, and the next ones when their results are there.
+"""
 
 from __future__ import annotations
 
 import gc
-import multiprocessing
 import os
+import select
 import signal
-import sys
+import struct
 import threading
 import time
 from collections import deque
-from collections.abc import Callable, Iterable, Iterator, Sequence
-from concurrent.futures import Future, ProcessPoolExecutor, wait
-from concurrent.futures.process import BrokenProcessPool
-from contextlib import contextmanager
-from dataclasses import dataclass
-from itertools import islice
-from multiprocessing.synchronize import Lock
-from typing import Any, Generic, TypeVar
+from collections.abc import Callable, Iterator, Sequence
+from contextlib import suppress
+from typing import Any, Generic, NoReturn, TypeVar
 
 from tml.running import CannotRun, end_all
 
-from .units import Room
+from .room import Room, SharedLock
 
 Item = TypeVar("Item")
 Result = TypeVar("Result")
 
-AHEAD = 256
-"""So many results may wait for one that comes before them; more are not begun, so that memory stays bounded."""
+AHEAD, QUICK_AHEAD = 256, 2048
+"""So many results may wait for one that comes before them, so that memory stays bounded: of items that go alone, and of those that are
+quick, whose results are small."""
 
-TOGETHER = 16
+TOGETHER = 64
 """So many items go to a process at once at most."""
 
 MOMENT, LEAST = 0.05, 1e-6
@@ -37,6 +38,16 @@ MOMENT, LEAST = 0.05, 1e-6
 
 PATIENCE = 0.5
 """So many seconds pass at most until an interruption is seen."""
+
+PAIR = struct.Struct("=QQ")
+"""What a process is told: the number of an item, and how many from there on are meant."""
+
+HEAD = struct.Struct("=QQd")
+"""How its answer begins: how many bytes follow, how many results there are, and how many seconds they took.
+
+Where nothing is to be said of any of the items, no bytes follow, so that most answers need not be pickled."""
+
+PART = 1 << 18
 
 
 class Interruption:
@@ -66,150 +77,259 @@ def processors() -> int:
     return len(os.sched_getaffinity(0)) if hasattr(os, "sched_getaffinity") else os.cpu_count() or 1
 
 
+def nothing() -> None:
+    """What a process does before its first item, where nothing else is said."""
+
+
 def in_order(
-    work: Callable[[Item], Result], items: Sequence[Item], workers: int, stop: Interruption, lost: Callable[[Item], Result]
+    work: Callable[[Item], Result],
+    items: Sequence[Item],
+    workers: int,
+    stop: Interruption,
+    lost: Callable[[Item], Result],
+    prepare: Callable[[], None] = nothing,
 ) -> Iterator[Result]:
     """The results of the items in their order. After an interruption no item is begun; what was begun is still reported.
 
-    The work is done in processes of Python, since much of it is to start `tml` again and again, which threads would do
-    one after the other. Where such a process is ended from outside, as where it is out of memory, the items that were not reported
-    yet are begun again one at a time, until the one that ends its process again is met: its result is made by `lost`.
+    Where a process is ended from outside, as where it is out of memory, the items that it had are begun again one at a time, with
+    nothing beside them. The result of one that ends its process again is made by `lost`.
     """
-    left = deque(items)
-    while left:
-        try:
-            for result in at_once(work, left, workers, stop):
-                left.popleft()
-                yield result
-            return
-        except BrokenProcessPool:
-            pass
-        for _ in range(min(len(left), AHEAD)):
-            if stop.happened.is_set():
+    groups: Groups[Result] = Groups(len(items), workers)
+    with Crew(work, items, prepare) as crew:
+        crew.grow(min(workers, len(items)))
+        while True:
+            if not stop.happened.is_set():
+                crew.give(groups)
+            yield from groups.ready()
+            if not groups.go_on(stop.happened.is_set()):
                 return
-            item = left.popleft()
-            try:
-                yield next(at_once(work, [item], 1, stop))
-            except BrokenProcessPool:
-                yield lost(item)
-                break
+            for group in crew.take(groups):
+                groups.break_up(group, lambda number: lost(items[number]))
 
 
-def at_once(work: Callable[[Item], Result], items: Iterable[Item], workers: int, stop: Interruption) -> Iterator[Result]:
-    """The same by so many processes, as long as none of them is ended from outside."""
-    with pool_of(workers, work) as pool:
-        groups: Groups[Item, Result] = Groups(pool, items, workers)
-        try:
-            while True:
-                if not stop.happened.is_set():
-                    groups.begin()
-                if not groups.waiting:
-                    return
-                if stop.happened.is_set():
-                    yield from groups.begun()
-                    return
-                if wait([groups.waiting[0].future], PATIENCE).done:
-                    yield from groups.first()
-        finally:
-            groups.cancel()
+class HasEnded(Exception):
+    """A process has ended, and answers no more."""
 
 
-@dataclass
-class Group(Generic[Item, Result]):
-    """Items that went to a process together, and what will come back: the results of the first ones, and how many seconds they took."""
+class Group(Generic[Result]):
+    """Items that go to a process together, by the number of the first one; whether they go with nothing beside them; and their results."""
 
-    items: list[Item]
-    future: Future[tuple[list[Result], float]]
+    def __init__(self, first: int, count: int, alone: bool = False) -> None:
+        self.first, self.count, self.alone = first, count, alone
+        self.results: list[Result] | None = None
+        self.under_way = False
 
 
-class Groups(Generic[Item, Result]):
-    """Items on their way through a pool, in their order. Those that are quick go together, since each way takes as long as some of them."""
+class Groups(Generic[Result]):
+    """Items on their way through processes, in their order. Those that are quick go together, since a way takes as long as some of them."""
 
-    def __init__(self, pool: ProcessPoolExecutor, items: Iterable[Item], workers: int) -> None:
-        self.pool, self.rest = pool, iter(list(items))
-        self.waiting: deque[Group[Item, Result]] = deque()
-        self.most_together = max(min(AHEAD // (2 * workers), TOGETHER), 1)
-        # Until it is known how long an item takes, each goes alone, and only some of them.
-        self.together, self.room, self.under_way = 1, min(4 * workers, AHEAD), 0
+    def __init__(self, count: int, workers: int) -> None:
+        self.count, self.workers, self.next, self.reported = count, workers, 0, 0
+        self.most_together = max(min(QUICK_AHEAD // (2 * workers), TOGETHER), 1)
+        # Until it is known how long an item takes, each goes alone.
+        self.together = 1
+        self.waiting: deque[Group[Result]] = deque()
+        self.again: deque[Group[Result]] = deque()
+        """Those that are given before all others: items that were not begun, and those that are tried again."""
+        self.tried: Group[Result] | None = None
+        """The one that is tried again, while it is under way."""
 
-    def submit(self, items: list[Item]) -> Group[Item, Result]:
-        """Gives items to the pool."""
-        return Group(items, self.pool.submit(do_group, items))
+    def take(self, nothing_else: bool) -> Group[Result] | None:
+        """The next items for a process, or None where there are none, or none yet. What is tried again waits for all that is under way."""
+        if self.tried is not None:
+            return None
+        if self.again:
+            if not self.again[0].alone:
+                return self.again.popleft()
+            self.tried = self.again.popleft() if nothing_else else None
+            return self.tried
+        if self.next == self.count or self.next - self.reported >= max(AHEAD, 2 * self.workers * self.together):
+            return None
+        # The last items are spread over all processes.
+        group: Group[Result] = Group(self.next, max(min(self.together, (self.count - self.next) // (2 * self.workers)), 1))
+        self.next += group.count
+        self.waiting.append(group)
+        return group
 
-    def begin(self) -> None:
-        """Gives the pool as many items as there is room for."""
-        while self.under_way + self.together <= self.room and (items := list(islice(self.rest, self.together))):
-            self.waiting.append(self.submit(items))
-            self.under_way += len(items)
-
-    def first(self) -> list[Result]:
-        """The results of the first group, which is done. Items of it that were not begun are given to the pool again."""
-        group = self.waiting.popleft()
-        results, seconds = group.future.result()
-        left = group.items[len(results) :]
+    def note(self, group: Group[Result], results: list[Result], seconds: float) -> None:
+        """Notes the results of a group, and how long they took. Items that were not begun become a group, which is given first."""
+        group.results, group.under_way = results, False
+        self.tried = None
+        left = group.count - len(results)
         if left:
-            self.waiting.appendleft(self.submit(left))
-        self.under_way -= len(results)
+            group.count = len(results)
+            self.put_after(group, [Group(group.first + group.count, left)])
         quick = int(MOMENT * len(results) / max(seconds, LEAST))
-        self.together, self.room = max(min(quick, self.most_together), 1), AHEAD
-        return results
+        self.together = max(min(quick, self.most_together), 1)
 
-    def begun(self) -> Iterator[Result]:
-        """The results of what was begun, up to the first item that was not. First all others are cancelled, so that no more is begun."""
-        are_begun = [not group.future.cancel() for group in self.waiting]
-        for group, is_begun in zip(self.waiting, are_begun, strict=True):
-            results = group.future.result()[0] if is_begun else []
+    def break_up(self, group: Group[Result], lost: Callable[[int], Result]) -> None:
+        """Puts the items of a group with which a process ended into groups of one; what ends a process alone is lost."""
+        group.under_way = False
+        self.tried = None
+        if group.alone:
+            group.results = [lost(group.first)]
+            return
+        self.put_after(group, [Group(group.first + place, 1, alone=True) for place in range(group.count)])
+        self.waiting.remove(group)
+
+    def put_after(self, group: Group[Result], others: list[Group[Result]]) -> None:
+        """Puts groups behind one, to be given before all others."""
+        place = self.waiting.index(group) + 1
+        for other in reversed(others):
+            self.waiting.insert(place, other)
+        self.again.extend(others)
+
+    def ready(self) -> Iterator[Result]:
+        """The results of the first groups, as many as are done."""
+        while self.waiting and (results := self.waiting[0].results) is not None:
+            self.reported += self.waiting.popleft().count
             yield from results
-            if len(results) < len(group.items):
-                return
 
-    def cancel(self) -> None:
-        """Takes back what was not begun."""
-        for group in self.waiting:
-            group.future.cancel()
-
-
-GIVEN: list[Callable[[Any], Any]] = []
-"""The work of a process of the pool, which is given once, before the first item."""
+    def go_on(self, is_stopped: bool) -> bool:
+        """Whether something is to be waited for: after an interruption only where the first items were begun."""
+        if is_stopped:
+            return bool(self.waiting) and self.waiting[0].under_way
+        return bool(self.waiting) or self.next < self.count
 
 
-def do_group(items: list[Any]) -> tuple[list[Any], float]:
-    """The results of the first items of some, as many as take two moments, and the seconds that they took."""
-    [work], begun = GIVEN, time.monotonic()
-    results: list[Any] = []
-    seconds = 0.0
-    for item in items:
-        results.append(work(item))
-        seconds = time.monotonic() - begun
-        if seconds > 2 * MOMENT:
-            break
-    return results, seconds
+class Worker(Generic[Result]):
+    """A process that was forked, as the program sees it: its pipes, the items that it is at, and what it has answered of them."""
+
+    def __init__(self, process: int, told: int, answers: int) -> None:
+        self.process, self.told, self.answers = process, told, answers
+        self.group: Group[Result] | None = None
+        self.answered = bytearray()
+
+    def begin(self, group: Group[Result]) -> None:
+        """Gives it some items. That it has ended is seen where it is read from."""
+        self.group, group.under_way = group, True
+        with suppress(BrokenPipeError):
+            os.write(self.told, PAIR.pack(group.first, group.count))
+
+    def answer(self) -> tuple[list[Any], float] | None:
+        """The results that it answers and the seconds that they took, once all of that is there."""
+        part = os.read(self.answers, PART)
+        if not part:
+            raise HasEnded
+        self.answered += part
+        if len(self.answered) < HEAD.size:
+            return None
+        length, count, seconds = HEAD.unpack_from(self.answered)
+        if len(self.answered) < HEAD.size + length:
+            return None
+        results = unpickled(memoryview(self.answered)[HEAD.size :]) if length else [None] * count
+        self.answered = bytearray()
+        if isinstance(results, Exception):
+            raise results
+        return results, seconds
+
+    def close(self) -> None:
+        """Lets go of it: it ends when it is through with what it is at."""
+        os.close(self.told)
+        os.close(self.answers)
+
+    def wait(self) -> None:
+        """Waits until it has ended, if the system still knows of it: it does not where children are ignored."""
+        with suppress(ChildProcessError):
+            os.waitpid(self.process, 0)
 
 
-@contextmanager
-def pool_of(workers: int, work: Callable[[Item], Result]) -> Iterator[ProcessPoolExecutor]:
-    """So many processes for some work. They leave Ctrl-C to the program, and end where it is no more: the pipe that it holds is closed."""
-    context = multiprocessing.get_context("fork")
-    watched, held = os.pipe()
-    try:
+class Crew(Generic[Item, Result]):
+    """The processes that do some work. They leave Ctrl-C to the program, and end where it is no more: the pipe that it holds is closed."""
+
+    def __init__(self, work: Callable[[Item], Result], items: Sequence[Item], prepare: Callable[[], None]) -> None:
+        self.work, self.items, self.prepare = work, items, prepare
+        self.idle: list[Worker[Result]] = []
+        self.busy: dict[int, Worker[Result]] = {}
+        self.poll = select.poll()
+        self.lock = SharedLock()
+
+    def __enter__(self) -> Crew[Item, Result]:
+        self.watched, self.held = os.pipe()
+        return self
+
+    def __exit__(self, *error: object) -> None:
+        """Ends all processes, once they are through with what they are at."""
+        workers = [*self.idle, *self.busy.values()]
+        for worker in workers:
+            worker.close()
+        for worker in workers:
+            worker.wait()
+        self.lock.close()
+        os.close(self.watched)
+        os.close(self.held)
+
+    def grow(self, count: int) -> None:
+        """Forks so many processes."""
+        for _ in range(count):
+            pipes: list[int] = []
+            try:
+                pipes += os.pipe()
+                pipes += os.pipe()
+                process = os.fork()
+            except OSError as error:
+                for handle in pipes:
+                    os.close(handle)
+                raise CannotRun(f"no process of Python can be forked: {error}") from None
+            reading, told, answers, writing = pipes
+            if not process:
+                self.work_on(reading, writing, [told, answers, self.held])
+            os.close(reading)
+            os.close(writing)
+            self.idle.append(Worker(process, told, answers))
+            self.poll.register(answers, select.POLLIN)
+
+    def work_on(self, told: int, answers: int, others: list[int]) -> NoReturn:
+        """What a process does: it never comes back to what the program was at when it was forked."""
         try:
-            pool = ProcessPoolExecutor(workers, context, prepare_worker, (work, watched, held, context.Lock()))
-        except OSError as error:
-            raise CannotRun(f"processes of Python cannot share a lock here, which needs some room in /dev/shm: {error}") from None
-        with pool:
-            yield pool
-    finally:
-        os.close(watched)
-        os.close(held)
+            for worker in (*self.idle, *self.busy.values()):
+                worker.close()
+            for handle in others:
+                os.close(handle)
+            prepare_worker(self.watched, self.lock)
+            answer_all(told, answers, self.work, self.items, self.prepare)
+        finally:
+            os._exit(1)
+
+    def give(self, groups: Groups[Result]) -> None:
+        """Gives each process that has nothing to do the next items, as far as there are any."""
+        while self.idle and (group := groups.take(not self.busy)) is not None:
+            worker = self.idle.pop()
+            self.busy[worker.answers] = worker
+            worker.begin(group)
+
+    def take(self, groups: Groups[Result]) -> list[Group[Result]]:
+        """Takes the results that come next, if any come soon, and answers the groups with which processes ended."""
+        ended: list[Group[Result]] = []
+        for handle, _ in self.poll.poll(PATIENCE * 1000):
+            worker = self.busy.get(handle) or next(one for one in self.idle if one.answers == handle)
+            try:
+                answer = worker.answer()
+            except HasEnded:
+                ended += self.replace(worker)
+                continue
+            if answer is not None and worker.group is not None:
+                groups.note(worker.group, *answer)
+                worker.group = None
+                self.idle.append(self.busy.pop(handle))
+        return ended
+
+    def replace(self, worker: Worker[Result]) -> list[Group[Result]]:
+        """Forks another process in the place of one that has ended, and answers the items that it was at."""
+        if self.busy.pop(worker.answers, None) is None:
+            self.idle.remove(worker)
+        self.poll.unregister(worker.answers)
+        worker.close()
+        worker.wait()
+        self.grow(1)
+        return [worker.group] if worker.group is not None else []
 
 
-def prepare_worker(work: Callable[[Any], Any], watched: int, held: int, lock: Lock) -> None:
-    """Gives a worker its work. It leaves Ctrl-C to the program, and ends when that is no more, with the `tml` that it has started."""
-    GIVEN[:] = [work]
+def prepare_worker(watched: int, lock: SharedLock) -> None:
+    """Has a process leave Ctrl-C to the program, and end when that is no more, with the `tml` that it has started."""
     signal.signal(signal.SIGINT, signal.SIG_IGN)
-    # What the program has by now stays to the end: no search for what can be freed goes over it in each worker.
+    # What the program has by now stays to the end: no search for what can be freed goes over it in each process.
     gc.freeze()
-    os.close(held)
     Room.share(lock)
 
     def watch() -> None:
@@ -220,37 +340,66 @@ def prepare_worker(work: Callable[[Any], Any], watched: int, held: int, lock: Lo
     threading.Thread(target=watch, daemon=True).start()
 
 
-class Progress:
-    """How many of the items are done, on standard error where that is a terminal: by tqdm, or as a plain count."""
+def answer_all(told: int, answers: int, work: Callable[[Any], Any], items: Sequence[Any], prepare: Callable[[], None]) -> None:
+    """Answers of all items that a process is told, until there are no more."""
+    problem: Exception | None = None
+    try:
+        prepare()
+    except Exception as error:
+        problem = error
+    while message := os.read(told, PAIR.size):
+        first, count = PAIR.unpack(message)
+        try:
+            if problem is not None:
+                raise problem
+            results, seconds = do_group(work, items[first : first + count])
+            answer = HEAD.pack(0, len(results), seconds)
+            if any(result is not None for result in results):
+                answer = with_head(pickled(results), seconds)
+        except Exception as error:
+            answer = with_head(portable(error), 0.0)
+        rest = memoryview(answer)
+        while rest:
+            rest = rest[os.write(answers, rest) :]
 
-    def __init__(self, total: int, unit: str) -> None:
-        self.total, self.unit, self.done, self.bar = total, unit, 0, None
-        self.seen = sys.stderr.isatty()
-        if self.seen:
-            try:
-                from tqdm import tqdm
 
-                self.bar = tqdm(total=total, unit=f" {unit}", leave=False, file=sys.stderr)
-            except ImportError:
-                pass
+def with_head(answer: bytes, seconds: float) -> bytes:
+    """An answer with what stands before it."""
+    return HEAD.pack(len(answer), 0, seconds) + answer
 
-    def step(self) -> None:
-        """One more is done."""
-        self.done += 1
-        if self.bar is not None:
-            self.bar.update(1)
-        elif self.seen and (self.done % 20 == 0 or self.done == self.total):
-            print(f"\r{self.done} of {self.total} {self.unit}", end="", file=sys.stderr, flush=True)
 
-    def clear(self) -> None:
-        """Makes room for a line of the output."""
-        if self.bar is not None:
-            self.bar.clear()
-        elif self.seen:
-            print("\r\x1b[K", end="", file=sys.stderr, flush=True)
+def portable(error: Exception) -> bytes:
+    """An error as it can be sent: itself, or what there is to say of it."""
+    try:
+        answer = pickled(error)
+        unpickled(answer)
+    except Exception:
+        return pickled(CannotRun(f"{type(error).__name__}: {error}"))
+    return answer
 
-    def close(self) -> None:
-        """Takes the sign of progress away."""
-        self.clear()
-        if self.bar is not None:
-            self.bar.close()
+
+def pickled(thing: object) -> bytes:
+    """The bytes of a thing."""
+    import pickle
+
+    return pickle.dumps(thing)
+
+
+def unpickled(text: bytes | memoryview) -> Any:
+    """The thing that has these bytes."""
+    import pickle
+
+    return pickle.loads(text)
+
+
+def do_group(work: Callable[[Item], Result], items: Sequence[Item]) -> tuple[list[Result], float]:
+    """The results of the first items of some, as many as take two moments, and the seconds that they took."""
+    begun = time.monotonic()
+    results: list[Result] = []
+    seconds = 0.0
+    for item in items:
+        results.append(work(item))
+        seconds = time.monotonic() - begun
+        if seconds > 2 * MOMENT:
+            break
+    return results, seconds

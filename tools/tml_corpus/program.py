@@ -1,27 +1,47 @@
-"""The program `tml`: where it lies, and one question to it."""
+"""The program `tml`: where it lies, and one question to it, or to its library where that was loaded."""
 
 from __future__ import annotations
 
 import io
-import tempfile
 from collections.abc import Iterator
-from dataclasses import dataclass
-from typing import IO
+from contextlib import contextmanager
+from typing import IO, TYPE_CHECKING, NamedTuple
 
-from tml.finding import find_program
-from tml.replies import longest, refusal
+from tml.finding import find_program, present_program
 from tml.running import CannotRun, run
-from tml.statuses import DOCUMENT_LIMIT, TmlStatus
+from tml.statuses import DOCUMENT_LIMIT, EVIDENCE_LIMIT, TmlStatus
 
+from .files import read_open, read_to, reason
 from .statuses import MEANINGS
 
-__all__ = ["ACCEPTED", "CLASH", "DOCUMENT_LIMIT", "FAULT", "MEANINGS", "CannotRun", "Program", "Reply", "find_program"]
+if TYPE_CHECKING:
+    from tml.library import Library
+
+    from .libraries import Loadable
+
+__all__ = [
+    "ACCEPTED", "CLASH", "DOCUMENT_LIMIT", "FAULT", "MEANINGS", "CannotRun", "File", "Program", "Reply", "find_program", "present_program",
+]  # fmt: skip
 
 ACCEPTED, FAULT, CLASH = TmlStatus.DONE, TmlStatus.DOC_FAULT, TmlStatus.CLASH
 
+File = bytes | IO[bytes]
+"""A file in memory, or an open one."""
 
-@dataclass(frozen=True)
-class Reply:
+SECOND = {"verify": "evidence", "confirm": "placing", "score": "key"}
+"""What the second file of a question is called."""
+
+CROSSING = {command: f"{command}\0first\0".encode() for command in ("check", "spans", "dates", "solve", "relations", "reduce", "seconds")}
+CROSSING |= {command: f"{command}\0first\0second\0".encode() for command in SECOND}
+"""The words of questions as they cross to the library."""
+
+BELIEVED, NEVER = {"check": b"accepted\n"}, b"\0"
+"""How a text with status 0 begins that is believed of the library without a look at the rest. Of a document of 4 KiB that look takes 25
+microseconds, and `check` itself 55; that at a text of `solve` takes two. Nothing is lost by it: no more of this text is used, and a library
+that is a wrong one could do anything in this process."""
+
+
+class Reply(NamedTuple):
     """What `tml` answered: its status and its text; with the command, and the number of bytes of the document where it is known."""
 
     status: int
@@ -41,58 +61,101 @@ class Reply:
 
 
 class Program:
-    """One `tml`, to be asked from several threads at once."""
+    """One `tml`, to be asked from several threads at once: a process for each question, or its library once that is loaded."""
 
-    def __init__(self, path: str) -> None:
-        self.path = path
+    def __init__(self, path: str, library: Loadable | None = None) -> None:
+        self.path, self.library = path, library
+        self.loaded: Library | None = None
         self.dates: dict[tuple[str, str, str], list[str]] = {}
         """What it answered on times, by their type, modifier and value."""
+
+    def load(self) -> None:
+        """Loads the library into this process, where there is one."""
+        if self.library is not None:
+            self.loaded = self.library.load()
 
     def seen(self, document: bytes) -> bytes:
         """The document as `tml` is asked about it; all places are the same in it."""
         return document
 
-    def ask(self, words: list[str], document: bytes | IO[bytes], other: IO[bytes] | None = None) -> Reply:
-        """Runs `tml` with the words, and with the document or an open file as its standard input. Another open file is its last word.
+    def ask(self, words: list[str], document: File, other: File | None = None) -> Reply:
+        """Asks `tml` with the words about a document, and about another file where there is one.
 
-        So no names of files are words of `tml`, which takes none that is not UTF-8. A reply that is not believed is raised as a
-        problem.
+        Of a process the document is the standard input, and the other file the last word. So no names of files are words of `tml`,
+        which takes none that is not UTF-8. A reply that is not believed is raised as a problem.
         """
+        if self.loaded is not None:
+            return ask_library(self.loaded, words[0], document, other)
+        from tml.replies import longest
+
         size = len(document) if isinstance(document, bytes) else None
-        last = [] if other is None else [f"/dev/fd/{other.fileno()}"]
-        status, text = run([self.path, *words, *last], document, longest(words[0]), other)
-        problem = refusal(words, status, text, size)
-        if problem is not None:
-            raise CannotRun(problem)
-        return Reply(status, text, words[0], size)
+        with open_file(words[0], other) as file:
+            last = [] if file is None else [f"/dev/fd/{file.fileno()}"]
+            status, text = run([self.path, *words, *last], document, longest(words[0]), file)
+        return believed(Reply(status, text, words[0], size))
 
     def matrix(self, document: bytes, lines: IO[bytes]) -> Reply:
         """`tml matrix` of a document in memory: the lines, which may be many, go to an open file.
 
-        With another status than 0 the reply has the text.
+        It is always a process that is asked: there may be 64 MiB of lines, which the library would have in memory, and a process of them a
+        part at a time. With another status than 0 the reply has the text.
         """
+        from tml.replies import longest
+
         status, _ = run([self.path, "matrix", "-"], self.seen(document), longest("matrix"), take=lines.write)
         lines.seek(0)
-        text = b"" if status == TmlStatus.DONE else lines.read()
-        problem = None if status == TmlStatus.DONE else refusal(["matrix"], status, text, len(document))
-        if problem is not None:
-            raise CannotRun(problem)
-        return Reply(status, text, "matrix", len(document))
+        if status == TmlStatus.DONE:
+            return Reply(status, b"", "matrix", len(document))
+        return believed(Reply(status, lines.read(), "matrix", len(document)))
 
     def score(self, document: bytes, key: bytes) -> Reply:
         """`tml score` of two documents in memory."""
-        try:
-            with tempfile.TemporaryFile(buffering=0) as file:
-                file.write(self.seen(key))
-                file.seek(0)
-                return self.ask(["score", "-"], document, file)
-        except OSError as error:
-            raise CannotRun(f"the key cannot be kept: {error}") from None
+        return self.ask(["score", "-"], document, self.seen(key))
 
-    def check(self, document: bytes | IO[bytes]) -> Reply:
+    def check(self, document: File) -> Reply:
         """`tml check` of a document in memory or of an open file."""
         return self.ask(["check", "-"], document)
 
     def spans(self, document: bytes) -> Reply:
         """`tml spans` of a document in memory."""
         return self.ask(["spans", "-"], document)
+
+
+def ask_library(library: Library, command: str, document: File, other: File | None) -> Reply:
+    """What the library answers to a command about a document, and about another file where there is one."""
+    first = document if isinstance(document, bytes) else read_open(document)
+    second = other if isinstance(other, bytes) else b"" if other is None else read_to(other, EVIDENCE_LIMIT + 1)
+    try:
+        status, text = library.call(CROSSING[command], first, second)
+    except MemoryError:
+        status, text = TmlStatus.NO_MEMORY, b""
+    reply = Reply(status, text, command, len(first))
+    return reply if status == TmlStatus.DONE and text.startswith(BELIEVED.get(command, NEVER)) else believed(reply)
+
+
+def believed(reply: Reply) -> Reply:
+    """A reply that is believed. Another one is raised as a problem."""
+    from tml.replies import refusal
+
+    problem = refusal([reply.command], reply.status, reply.text, reply.size)
+    if problem is not None:
+        raise CannotRun(problem)
+    return reply
+
+
+@contextmanager
+def open_file(command: str, file: File | None) -> Iterator[IO[bytes] | None]:
+    """The second file of a question for a process: one in memory is put into a file without a name."""
+    if not isinstance(file, bytes):
+        yield file
+        return
+    import tempfile
+
+    try:
+        without_name = tempfile.TemporaryFile()
+        without_name.write(file)
+        without_name.seek(0)
+    except OSError as error:
+        raise CannotRun(f"the {SECOND[command]} cannot be kept: {reason(error)}") from None
+    with without_name:
+        yield without_name

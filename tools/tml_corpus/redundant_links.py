@@ -12,19 +12,19 @@ fault or where no timeline fits it, and 130 that the run was interrupted.
 from __future__ import annotations
 
 import sys
-from argparse import RawDescriptionHelpFormatter
 from collections.abc import Sequence
 from dataclasses import dataclass, field
 from functools import partial
 
 from .files import PATTERNS, CannotRead, Found, counted, find_files, read_document, shown
 from .formats import located
-from .output import Parser, run
+from .libraries import library_of
+from .output import Parser, RawFormatter, run
 from .pool import Interruption, in_order, processors
 from .program import CannotRun, Program, find_program
 from .reduced import problem_of, read_reduced
+from .room import room_for
 from .statuses import ENDED, Status
-from .units import room_for
 from .words import Wording
 
 
@@ -46,11 +46,13 @@ class Report:
 def ask_of_all(words: list[str]) -> int:
     """Asks about all files and answers the status."""
     options = parser().parse_args(words)
-    program = Program(find_program(options.tml))
+    path = find_program(options.tml)
+    program = Program(path, library_of(None, path, is_chosen=options.tml is not None))
     found = find_files(options.paths, options.glob or list(PATTERNS))
     links = follows = problems = 0
     with Interruption() as stop:
-        for report in in_order(partial(look, program), found, max(options.jobs, 1), stop, lambda one: Report(one.path, problem=ENDED)):
+        work, jobs = partial(look, program), max(options.jobs, 1)
+        for report in in_order(work, found, jobs, stop, lambda one: Report(one.path, problem=ENDED), program.load):
             sys.stdout.write(report.text())
             links, follows, problems = links + report.links, follows + len(report.follows), problems + (report.problem is not None)
         files = f"{counted(len(found), 'file')}, {problems} not asked about"
@@ -63,7 +65,7 @@ def ask_of_all(words: list[str]) -> int:
 
 def parser() -> Parser:
     """The words that are understood."""
-    words = Parser(description=__doc__, formatter_class=RawDescriptionHelpFormatter)
+    words = Parser(description=__doc__, formatter_class=RawFormatter)
     words.add_argument("paths", nargs="+", metavar="PATH", help="a file, or a folder to search")
     words.add_argument("--glob", action="append", metavar="PATTERN", help=f"names to look for in folders (default {' '.join(PATTERNS)})")
     words.add_argument("--tml", metavar="PROGRAM", help="the program tml (default: that of this repository, else that on PATH)")

@@ -8,10 +8,10 @@ from __future__ import annotations
 import os
 from dataclasses import dataclass, field
 
-from .check import Judgement
 from .clash_report import ClashReport, Wanted
 from .clashes import own_name
 from .files import Found, reason, shown, written
+from .judgement import Judgement
 from .program import CannotRun, Program
 from .report_documents import Entry, Examined, entry_of, examine
 from .report_index import index_of

@@ -8,16 +8,17 @@ from __future__ import annotations
 from collections import Counter
 from dataclasses import dataclass, field, replace
 
-from .check import Judgement, placed_warnings
+from .check import placed_warnings
 from .clash_report import TOUCHING, ClashReport, Wanted
 from .clash_search import report_of
 from .clashes import is_timeline
 from .files import CannotRead, Found, read_document
+from .judgement import Judgement
 from .program import CannotRun, Program
+from .room import room_for
 from .rows import Timeline
 from .timeline import verified
 from .touching import touching_copy
-from .units import room_for
 from .words import Wording
 
 

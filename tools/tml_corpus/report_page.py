@@ -10,10 +10,10 @@ from collections.abc import Iterable, Iterator
 
 from tml.places import Place
 
-from .check import Mark, PlacedFault, PlacedWarning
 from .clash_report import PlacedClash, PlacedLink
 from .files import counted
 from .formats import CONSEQUENCE
+from .judgement import Mark, PlacedFault, PlacedWarning
 from .lettering import escaped, plain
 from .picture import drawing
 from .report_documents import Entry, Examined, entry_of, free_dates

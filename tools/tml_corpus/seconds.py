@@ -4,7 +4,6 @@ from __future__ import annotations
 
 from dataclasses import dataclass
 
-from .clashes import evidence_file
 from .program import ACCEPTED, CLASH, CannotRun, Program, Reply
 
 
@@ -36,8 +35,7 @@ def place(program: Program, document: bytes) -> Placing | Cycle | Reply:
     reply = program.ask(["seconds", "-"], document)
     if reply.status not in (ACCEPTED, CLASH):
         return reply
-    with evidence_file(reply.text, None) as text:
-        confirmed = program.ask(["confirm", "-"], document, text)
+    confirmed = program.ask(["confirm", "-"], document, reply.text)
     kind = "placing" if reply.status == ACCEPTED else "cycle"
     if confirmed.status != ACCEPTED or confirmed.text != f"confirmed {kind}\n".encode():
         said = confirmed.text.decode("utf-8", "replace").strip()

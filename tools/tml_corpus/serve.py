@@ -16,7 +16,7 @@ from threading import Event, Thread
 from typing import IO
 
 from .files import CannotRead
-from .lint import chosen
+from .kinds import chosen
 from .output import INPUT
 from .program import CannotRun
 from .serve_actions import ACTION_KINDS, actions

@@ -7,19 +7,19 @@ from bisect import bisect_right
 from collections.abc import Callable
 from dataclasses import dataclass
 from functools import cached_property
-from typing import IO
 from urllib.parse import unquote, urlsplit
 
-from .check import Judgement, judge_document, placed_warnings
+from .check import judge_document, placed_warnings
 from .clash_report import ClashReport, Wanted
 from .clash_search import ClashSearch
 from .clashes import is_timeline, read_clash
 from .cutting import units_of_whole
 from .faults import BAD_MARKUP, Fault, read_fault
 from .files import Found
-from .lint import Lint
+from .judgement import Judgement
+from .kinds import Lint
 from .profile import IDENTIFIERS, TABLE, Kind
-from .program import ACCEPTED, CLASH, FAULT, CannotRun, Program, Reply
+from .program import ACCEPTED, CLASH, FAULT, CannotRun, File, Program, Reply
 from .reduced import read_reduced
 from .serve_places import ClientPlaces
 from .source import Source
@@ -41,7 +41,7 @@ class Asked(Program):
 
     wanted: Callable[[], bool] = staticmethod(lambda: True)
 
-    def ask(self, words: list[str], document: bytes | IO[bytes], other: IO[bytes] | None = None) -> Reply:
+    def ask(self, words: list[str], document: File, other: File | None = None) -> Reply:
         """Asks, where the answer is still wanted."""
         if not self.wanted():
             raise Overtaken

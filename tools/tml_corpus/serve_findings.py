@@ -4,8 +4,8 @@ from __future__ import annotations
 
 from collections.abc import Iterator
 
-from .check import Mark, PlacedFault
 from .clash_report import TOUCHING, ClashReport, PlacedChange, PlacedClash, PlacedLink
+from .judgement import Mark, PlacedFault
 from .program import CLASH
 from .serve_document import OpenDocument
 from .serve_wire import Json

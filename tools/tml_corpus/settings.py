@@ -4,19 +4,17 @@ from __future__ import annotations
 
 import os
 import re
-from dataclasses import dataclass
+from typing import NamedTuple
 
 from .files import CannotRead, opened, read_open
-from .lint import KINDS
-from .profile import TAGS
+from .kinds import NAMES
 from .program import CannotRun
 
 NAME = "tml-corpus.toml"
-TAG_NAME = re.compile(r"[A-Za-z_:\x80-\U0010ffff][A-Za-z0-9_:.\x80-\U0010ffff-]*")
+TAG_NAME = r"[A-Za-z_:\x80-\U0010ffff][A-Za-z0-9_:.\x80-\U0010ffff-]*"
 
 
-@dataclass(frozen=True)
-class Settings:
+class Settings(NamedTuple):
     """What the file says: own wrappers, kinds of warnings that are ignored or given on demand, patterns for names, and jobs."""
 
     path: str = ""
@@ -69,15 +67,17 @@ def read_settings(path: str) -> Settings:
 
 def settings_of(path: str, table: dict[str, object]) -> Settings:
     """The settings of a table."""
+    from .profile import TAGS
+
     unknown = sorted(set(table) - {"wrappers", "ignore", "warn", "patterns", "jobs"})
     if unknown:
         raise CannotRun(f"{path}: nothing is called {unknown[0]}: wrappers, ignore, warn, patterns and jobs are")
     lists = {name: texts(path, name, table.get(name, [])) for name in ("wrappers", "ignore", "warn", "patterns")}
     for name in (*lists["ignore"], *lists["warn"]):
-        if name not in KINDS:
-            raise CannotRun(f"{path}: no warning is called {name}: {', '.join(KINDS)} are")
+        if name not in NAMES:
+            raise CannotRun(f"{path}: no warning is called {name}: {', '.join(NAMES)} are")
     for name in lists["wrappers"]:
-        if not TAG_NAME.fullmatch(name):
+        if not re.fullmatch(TAG_NAME, name):
             raise CannotRun(f"{path}: {name} is not the name of a tag")
         if name in TAGS:
             raise CannotRun(f"{path}: {name} is a tag that tml knows, so it can be no wrapper of this corpus")

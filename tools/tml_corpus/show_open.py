@@ -15,8 +15,9 @@ from .fitting import Unfit, not_judged
 from .leftout import Copies, enclosed
 from .matrix import Matrix, matrix_of
 from .matrix_formats import labels_of
-from .pool import Interruption, Progress
+from .pool import Interruption
 from .program import CannotRun, Program
+from .progress import Progress
 from .settling import Settled, Settling
 from .show_matrix import Worded, worded_matrix
 from .statuses import ENDED, Status

@@ -12,7 +12,8 @@ from tml.places import Places
 
 from .edits import Edit
 from .profile import IDENTIFIERS, LEFT, RIGHT, ROOT, TABLE
-from .units import END, MANY_BYTES, START, TEXT, Attribute, Unit, Units
+from .room import MANY_BYTES
+from .units import END, START, TEXT, Attribute, Unit, Units
 from .values import CALENDAR
 
 LONGEST = 80

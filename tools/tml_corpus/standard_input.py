@@ -3,9 +3,7 @@
 from __future__ import annotations
 
 import sys
-import tempfile
 from collections.abc import Sequence
-from dataclasses import dataclass
 
 from .files import Found, find_files, reason
 from .program import DOCUMENT_LIMIT, CannotRun
@@ -13,20 +11,12 @@ from .program import DOCUMENT_LIMIT, CannotRun
 STANDARD_INPUT = "-"
 
 
-@dataclass(frozen=True)
-class Given(Found):
-    """A file that lies elsewhere than its name says."""
-
-    lies_at: str = ""
-
-    def place(self) -> str:
-        return self.lies_at
-
-
 class StandardInput:
     """Standard input, once it was read, in a file without a name, which is there as long as this object is."""
 
     def __init__(self, name: str | None) -> None:
+        import tempfile
+
         self.name = name or STANDARD_INPUT
         if sys.stdin is None:
             raise CannotRun("there is no standard input")
@@ -40,7 +30,7 @@ class StandardInput:
 
     def found(self) -> Found:
         """The file, for the processes of this program."""
-        return Given(self.name, lies_at=f"/dev/fd/{self.file.fileno()}")
+        return Found(self.name, lies_at=f"/dev/fd/{self.file.fileno()}")
 
 
 def find_with(given: StandardInput, paths: Sequence[str], patterns: list[str]) -> list[Found]:

@@ -10,7 +10,8 @@ from tml.places import Place, Places
 from .faults import BAD_MARKUP, UNKNOWN_TAG, read_fault
 from .files import CannotRead, Found, read_document, shown
 from .program import FAULT, CannotRun, Program, Reply
-from .units import read_units, room_for
+from .room import room_for
+from .units import read_units
 
 MOST_BLANKS = 100
 MOST_BYTES = 32 * 1024 * 1024

@@ -25,10 +25,10 @@ from .page import page
 from .picture import svg
 from .placed import Placed, Unplaced, document_placed
 from .program import ACCEPTED, CannotRun, Program, Reply
+from .room import room_for
 from .rows import Row, Timeline
 from .seconds_formats import change_lines, unplaced_lines
 from .statuses import Status
-from .units import room_for
 from .words import Wording
 
 FORMS: Mapping[str, Callable[[Timeline], str]] = {".svg": svg, ".html": page, ".htm": page}

@@ -29,7 +29,7 @@ from tml.statuses import TmlStatus
 from .cutting import units_of_whole
 from .faults import BAD_MARKUP, read_fault
 from .files import CannotRead, read_document, shown
-from .output import Parser, complain, run, standard_input
+from .output import Parser, RawFormatter, complain, run, standard_input
 from .edits import Edit, applied, with_value
 from .program import ACCEPTED, DOCUMENT_LIMIT, FAULT, MEANINGS, CannotRun, Program, find_program
 from .statuses import Status
@@ -311,7 +311,7 @@ def renaming(text: str) -> tuple[str, str]:
 
 def parser() -> Parser:
     """The words that are understood."""
-    words = Parser(description=__doc__, formatter_class=argparse.RawDescriptionHelpFormatter)
+    words = Parser(description=__doc__, formatter_class=RawFormatter)
     words.add_argument("document", metavar="DOC", help="the document; - is standard input")
     words.add_argument("--rename", type=renaming, action="append", default=[], metavar="OLD=NEW", help="give tags another name")
     words.add_argument("--unwrap", type=names_of, action="extend", default=[], metavar="NAMES", help="take tags out, and leave what they hold")

@@ -2,17 +2,14 @@
 
 from __future__ import annotations
 
-import threading
 from array import array
 from bisect import bisect_left
 from collections.abc import Iterator, Sequence
-from contextlib import AbstractContextManager, contextmanager
 from dataclasses import dataclass, field
 from typing import NamedTuple, overload
 
 from .program import CannotRun, Program, Reply
 
-MANY_BYTES = 256 * 1024
 CHUNK = 256 * 1024
 SHOWN = 80
 
@@ -205,35 +202,6 @@ class Units(Sequence[Unit]):
             elif kind == END and open_tags.get(self.names[row]):
                 found[open_tags[self.names[row]].pop()] = number
         return found
-
-
-class Room:
-    """The lock that lets long documents be taken apart one at a time, since the units of one may take some hundred MiB.
-
-    A pool of processes sets one that they share; else it is made where it is needed, and shared by the threads.
-    """
-
-    locks: dict[str, AbstractContextManager[object]] = {}
-
-    @classmethod
-    def share(cls, lock: AbstractContextManager[object]) -> None:
-        """Sets the lock."""
-        cls.locks["lock"] = lock
-
-    @classmethod
-    def lock(cls) -> AbstractContextManager[object]:
-        """The lock."""
-        return cls.locks.setdefault("lock", threading.Lock())
-
-
-@contextmanager
-def room_for(document: bytes) -> Iterator[None]:
-    """Lets long documents be taken apart one at a time."""
-    if len(document) <= MANY_BYTES:
-        yield
-        return
-    with Room.lock():
-        yield
 
 
 def units_of(program: Program, document: bytes) -> Units | None:

@@ -12,9 +12,10 @@ from .cutting import units_of_whole
 from .dates import dates_of
 from .profile import IDENTIFIERS
 from .program import CannotRun, Program
+from .room import MANY_BYTES
 from .source import Source
 from .texts import cut, texts_of
-from .units import MANY_BYTES, Unit, Units
+from .units import Unit, Units
 
 LONGEST = 40
 """So many characters of a text stand in a sentence."""

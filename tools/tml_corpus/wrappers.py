@@ -7,24 +7,24 @@ from __future__ import annotations
 
 import re
 from collections.abc import Iterable
-from typing import IO
 
 from .edits import applied, blank
 from .files import read_open
-from .program import ACCEPTED, Program, Reply
+from .libraries import Loadable
+from .program import ACCEPTED, File, Program, Reply
 from .units import read_units
 
 
 class Unwrapping(Program):
     """`tml`, which is asked about documents without the tags of these names."""
 
-    def __init__(self, path: str, names: Iterable[str]) -> None:
-        super().__init__(path)
+    def __init__(self, path: str, names: Iterable[str], library: Loadable | None = None) -> None:
+        super().__init__(path, library)
         self.names = frozenset(names)
         self.last = b"", b""
         self.opening = re.compile(b"|".join(b"<" + re.escape(name.encode()) for name in sorted(self.names)))
 
-    def ask(self, words: list[str], document: bytes | IO[bytes], other: IO[bytes] | None = None) -> Reply:
+    def ask(self, words: list[str], document: File, other: File | None = None) -> Reply:
         """Asks about the document without these tags; a document that is not cut into units is asked about as it is."""
         if not isinstance(document, bytes):
             document = read_open(document)
