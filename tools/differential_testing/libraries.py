@@ -38,7 +38,7 @@ def library_path() -> str | None:
     named = os.environ.get(LIBRARY_VARIABLE)
     if named is not None:
         return named or None
-    return str(BUILT_LIBRARY) if BUILT_LIBRARY.is_file() else None
+    return BUILT_LIBRARY if os.path.isfile(BUILT_LIBRARY) else None
 
 
 def obstacle(case: Case) -> str | None:

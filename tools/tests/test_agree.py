@@ -14,12 +14,13 @@ from functools import partial
 from corpus import TML, CorpusTest, document, needs_score
 from test_timeline import event, link
 
+from tml.results import Score
 from tml_corpus.agree import Wanted, compare, sides_of
 from tml_corpus.batch import do_batch, read, written
 from tml_corpus.files import Found
 from tml_corpus.pool import nothing
 from tml_corpus.program import Program
-from tml_corpus.scores import Corpus, Scores
+from tml_corpus.scores import Corpus
 
 NOTHING_LEFT_OUT = "not counted: 0 without a partner, 0 with a fault, 0 with a clash, 0 not judged"
 
@@ -34,19 +35,19 @@ class Counts(unittest.TestCase):
 
     def test_f1_is_the_harmonic_mean(self):
         for matched, links, found, keys in ((1, 2, 3, 4), (2, 2, 2, 2), (0, 3, 0, 5), (0, 3, 1, 5), (7, 9, 5, 6)):
-            scores = Scores(matched, links, found, keys)
+            scores = Score(matched, links, found, keys)
             self.assertEqual((scores.precision, scores.recall), (Fraction(matched, links), Fraction(found, keys)))
             if matched and found:
                 self.assertEqual(1 / scores.f1, (Fraction(links, matched) + Fraction(keys, found)) / 2)
             else:
                 self.assertEqual(scores.f1, 0)
-        self.assertEqual((Scores(0, 0, 1, 2).precision, Scores(0, 0, 1, 2).f1, Scores(1, 2, 0, 0).recall), (None, None, None))
+        self.assertEqual((Score(0, 0, 1, 2).precision, Score(0, 0, 1, 2).f1, Score(1, 2, 0, 0).recall), (None, None, None))
 
     def test_sums_and_means(self):
-        corpus, all_scores = Corpus(), [Scores(1, 2, 1, 4), Scores(3, 4, 0, 0), Scores(0, 2, 0, 4)]
+        corpus, all_scores = Corpus(), [Score(1, 2, 1, 4), Score(3, 4, 0, 0), Score(0, 2, 0, 4)]
         for scores in all_scores:
             corpus.add(scores)
-        self.assertEqual(corpus.micro, Scores(4, 8, 1, 8))
+        self.assertEqual(corpus.micro, Score(4, 8, 1, 8))
         self.assertEqual((corpus.macro("precision").value, corpus.macro("precision").pairs), (math.fsum((0.5, 0.75, 0)) / 3, 3))
         self.assertEqual((corpus.macro("recall").value, corpus.macro("recall").pairs), (0.125, 2))
         self.assertEqual((Corpus().macro("f1").value, Corpus().macro("f1").pairs), (None, 0))
@@ -270,7 +271,7 @@ class Elsewhere(AgreeTest):
             os.chdir(here)
         work = partial(compare, Program(os.path.abspath(TML)), sides, wanted=Wanted(links=True))
         [report] = read(do_batch(written((nothing, work, [Found("a/chain.xml", None, self.folder)]))))
-        self.assertEqual((report.name, report.key_path, report.scores), ("chain.xml", "b/chain.xml", Scores(0, 2, 1, 1)))
+        self.assertEqual((report.name, report.key_path, report.scores), ("chain.xml", "b/chain.xml", Score(0, 2, 1, 1)))
         self.assertEqual(len(report.disagreements), 2)
 
 

@@ -10,8 +10,11 @@ from reference.nets import fits
 from reference.possible import possible_rows
 from reference.relations import holds
 from reference.timelines import all_timelines, closure
+from tml.matrices import Matrix
+from tml.matrices import read_matrix
+from tml.matrices import turned
+from tml.statuses import INVERSES
 from tml_corpus.leeway import SIGNS, Orders, base_relation, leeways
-from tml_corpus.matrix import INVERSES, Matrix, read_matrix, turned
 from tml.running import CannotRun
 from tml.statuses import BASE_RELATIONS
 

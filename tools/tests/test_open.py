@@ -16,7 +16,7 @@ from test_timeline import event, link
 from reference.nets import Link, Net
 from reference.possible import possible_by_closure
 from reference.timelines import least_raised, orders_that_fit
-from tml_corpus.matrix import read_matrix
+from tml.matrices import read_matrix
 from tml_corpus.settling import Settling
 
 PAIR = re.compile(r"^(\d+)(?: to (\d+))?: (.*), (.*): ((?:[A-Z_]+ \d+(?:, )?)+)$")

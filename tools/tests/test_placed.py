@@ -17,11 +17,11 @@ from reference.acceptance import Accepted, judge_document
 from reference.dates import Time
 from reference.lengths import limits_of
 from reference.placings import Placing, constraint_of, lines_of, place, timed_of
+from tml.lines import Step
 from tml_corpus import constraints
 from tml_corpus.axis import extent, marks
 from tml_corpus.civil import FIRST, LAST, civil, length
 from tml_corpus.program import Program
-from tml_corpus.seconds import Step
 from tml_corpus.words import Wording
 
 DAY = 86_400

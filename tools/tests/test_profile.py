@@ -6,9 +6,9 @@ from itertools import product
 
 from corpus import TML, CorpusTest
 
+from tml.statuses import INVERSES
 from tml_corpus import faults, profile
 from tml_corpus.faults import read_fault
-from tml_corpus.lint import INVERSES
 from tml_corpus.profile import CARRIED, IDENTIFIERS, LEFT, LINK_TAGS, RIGHT, ROOT, TABLE, TAGS, WRAPPERS, Kind
 from tml_corpus.program import Program
 from tml_corpus.values import CALENDAR, DURATION, no_date

@@ -37,7 +37,7 @@ LONG = b" " * (4_194_304 + 1)
 
 def library_path():
     """The shared library that the tests load: the one that the environment names, or the one that was built."""
-    return os.environ.get("TML_LIBRARY") or str(finding.BUILT_LIBRARY)
+    return os.environ.get("TML_LIBRARY") or finding.BUILT_LIBRARY
 
 
 class Questions:

@@ -9,14 +9,7 @@ from dataclasses import dataclass, field
 from functools import cached_property
 
 from .running import CannotRun
-from .statuses import BASE_RELATIONS
-
-INVERSES = {
-    "BEFORE": "AFTER", "IBEFORE": "IAFTER", "IS_INCLUDED": "INCLUDES", "BEGINS": "BEGUN_BY", "ENDS": "ENDED_BY",
-    "OVERLAPS": "OVERLAPPED_BY", "SIMULTANEOUS": "SIMULTANEOUS", "AFTER": "BEFORE", "IAFTER": "IBEFORE", "INCLUDES": "IS_INCLUDED", "BEGUN_BY": "BEGINS",
-    "ENDED_BY": "ENDS", "OVERLAPPED_BY": "OVERLAPS",
-}  # fmt: skip
-"""What a base relation is the other way round."""
+from .statuses import BASE_RELATIONS, INVERSES
 
 APART = "the answers of tml to `check` and `matrix` do not belong together"
 Relations = tuple[str, ...]

@@ -46,3 +46,10 @@ RELATIONS = (
 
 BASE_RELATIONS = tuple(relation for relation in RELATIONS if relation not in ("DURING", "DURING_INV", "IDENTITY"))
 """The thirteen of Allen, in the order in which `tml matrix` prints them."""
+
+INVERSES = {
+    "BEFORE": "AFTER", "IBEFORE": "IAFTER", "IS_INCLUDED": "INCLUDES", "DURING": "DURING_INV", "BEGINS": "BEGUN_BY", "ENDS": "ENDED_BY",
+    "OVERLAPS": "OVERLAPPED_BY",
+}  # fmt: skip
+INVERSES |= {inverse: relation for relation, inverse in INVERSES.items()} | {"SIMULTANEOUS": "SIMULTANEOUS", "IDENTITY": "IDENTITY"}
+"""What a relation is the other way round."""

@@ -6,7 +6,9 @@ import os
 from collections.abc import Iterator
 from dataclasses import dataclass, field
 
+from tml.reading import read_score
 from tml.replies import OF_KEY
+from tml.results import Score
 from tml.statuses import TmlStatus
 
 from .disagreements import Disagreement, Side, links_that_do_not_follow
@@ -15,7 +17,6 @@ from .fitting import Fitting, fitting
 from .program import ACCEPTED, CLASH, FAULT, CannotRun, Program, Reply
 from .reduced import problem_of
 from .room import room_for
-from .scores import Scores, read_scores
 from .words import Wording
 
 NO_PARTNER, WITH_FAULT, WITH_CLASH, NOT_JUDGED = "without a partner", "with a fault", "with a clash", "not judged"
@@ -81,7 +82,7 @@ class PairReport:
     name: str
     path: str
     key_path: str
-    scores: Scores | None = None
+    scores: Score | None = None
     not_counted: NotCounted | None = None
     disagreements: list[Disagreement] = field(default_factory=list)
     readings: str = ""
@@ -153,7 +154,7 @@ def compare_documents(program: Program, report: PairReport, written: Documents, 
     report.not_counted = why_not_counted(report, reply, documents)
     if report.not_counted is not None:
         return
-    scores = read_scores(reply)
+    scores = read_score(reply.text)
     if wanted.links and (scores.matched < scores.document_links or scores.found < scores.key_links):
         pairs = zip((report.path, report.key_path), documents, written, strict=True)
         of_document, of_key = (Side(path, Wording(program, asked), Wording(program, file)) for path, asked, file in pairs)

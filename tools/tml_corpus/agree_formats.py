@@ -6,12 +6,14 @@ from collections import Counter
 from collections.abc import Mapping, Sequence
 from fractions import Fraction
 
+from tml.results import Score
+
 from .agree import REASONS, NotCounted, PairReport
 from .disagreements import Disagreement
 from .files import counted, shown
 from .formats import located, place_object, printable
 from .matrix_formats import harmless, in_lines
-from .scores import MEASURES, Corpus, Mean, Scores
+from .scores import MEASURES, Corpus, Mean
 
 NONE = "none"
 """What is printed for a measure where there is no link that could count."""
@@ -58,7 +60,7 @@ def mean(one: Mean) -> str:
     return NONE if one.value is None else f"{one.value:.3f} (of {counted(one.pairs, 'pair')})"
 
 
-def in_line(scores: Scores) -> str:
+def in_line(scores: Score) -> str:
     """Precision, recall and F1 by their counts and as decimal numbers."""
     of_document = f"precision {scores.matched} of {scores.document_links} ({share(scores.precision)})"
     of_key = f"recall {scores.found} of {scores.key_links} ({share(scores.recall)})"
@@ -117,8 +119,8 @@ class Json(Text):
         return printable({"pairs": corpus.pairs, "micro": scores_object(corpus.micro), "macro": macro})
 
 
-def scores_object(scores: Scores) -> dict[str, object]:
-    """Scores as JSON has them."""
+def scores_object(scores: Score) -> dict[str, object]:
+    """Score as JSON has them."""
     counts = {"matched": scores.matched, "documentLinks": scores.document_links, "found": scores.found, "keyLinks": scores.key_links}
     return {**counts, **{measure: number(getattr(scores, measure)) for measure in MEASURES}}
 
@@ -163,7 +165,7 @@ def quoted(text: str) -> str:
     return harmless(shown(text))
 
 
-def scores_row(kind: str, name: str, scores: Scores) -> str:
+def scores_row(kind: str, name: str, scores: Score) -> str:
     """A row with scores."""
     counts: Sequence[object] = (scores.matched, scores.document_links, scores.found, scores.key_links)
     measures = (number(getattr(scores, measure)) for measure in MEASURES)

@@ -10,9 +10,9 @@ from .judgement import Judgement, PlacedNote
 from .kinds import Lint
 
 if TYPE_CHECKING:
+    from tml.lines import Step
     from tml.places import Place
 
-    from .clashes import Step
     from .words import Link
 
 TOUCHING = "dates that touch"

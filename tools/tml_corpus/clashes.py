@@ -8,6 +8,7 @@ from collections.abc import Iterator, Sequence
 from contextlib import contextmanager
 from typing import NamedTuple
 
+from tml.lines import Step
 from tml.replies import kind_of
 
 from .files import CannotRead, reason, written
@@ -18,14 +19,6 @@ STRICT_ORDERS = {
     "OVERLAPS": (0, 1, 2), "OVERLAPPED_BY": (0, 1, 2),
 }  # fmt: skip
 """The orders of a relation that are strict, by their numbers in docs/DEFINITIONS.md; all others allow for equal points."""
-
-
-class Step(NamedTuple):
-    """A step of a walk: `via K T`, `span I` or `calendar P Q`."""
-
-    kind: str
-    first: int
-    second: int = 0
 
 
 class Clash(NamedTuple):

@@ -11,8 +11,10 @@ import re
 from collections.abc import Iterator, Sequence
 from dataclasses import dataclass
 
+from tml.lines import Step
+
 from .program import CannotRun
-from .seconds import Cycle, Step
+from .seconds import Cycle
 from .words import Wording
 
 ORDERS = {

@@ -10,8 +10,8 @@ from collections.abc import Iterable
 from dataclasses import dataclass
 
 from tml.places import Place
+from tml.statuses import INVERSES
 
-from .lint import INVERSES
 from .matrix import matrix_of
 from .matrix_formats import in_words
 from .program import ACCEPTED, CannotRun, Program

@@ -10,10 +10,10 @@ from __future__ import annotations
 from array import array
 from collections.abc import Sequence
 
+from tml.matrices import Matrix, Relations
 from tml.statuses import BASE_RELATIONS
 
 from .leeway import POINTS, SIGNS
-from .matrix import Matrix, Relations
 
 Ranks = tuple[int, int]
 """The ranks of the start and of the end of an interval."""

@@ -17,9 +17,9 @@ import math
 from collections.abc import Mapping, Sequence
 from dataclasses import dataclass
 
+from tml.matrices import Matrix, Relations
 from tml.statuses import BASE_RELATIONS
 
-from .matrix import Matrix, Relations
 
 SIGNS = dict(
     zip(

@@ -6,6 +6,8 @@ from collections.abc import Callable, Iterator
 from dataclasses import dataclass
 from itertools import chain
 
+from tml.statuses import INVERSES
+
 from .dates import dates_of
 from .kinds import Lint
 from .profile import CARRIED, ROOT, TABLE
@@ -19,12 +21,7 @@ from .values import CALENDAR, DURATION, LOOKS_LIKE_DATE, PART_OF_DAY, better, ha
 MOST_WARNINGS = 1000
 """So many warnings on one document are reported, the first ones of its text."""
 
-INVERSES = {
-    "BEFORE": "AFTER", "IBEFORE": "IAFTER", "IS_INCLUDED": "INCLUDES", "DURING": "DURING_INV", "BEGINS": "BEGUN_BY", "ENDS": "ENDED_BY",
-    "SIMULTANEOUS": "SIMULTANEOUS", "IDENTITY": "IDENTITY", "OVERLAPS": "OVERLAPPED_BY",
-}  # fmt: skip
 KNOWN = {name: frozenset((*TABLE.get(name, ()), *CARRIED.get(name, ()))) for name in (ROOT, *TABLE)}
-INVERSES |= {inverse: relation for relation, inverse in INVERSES.items()}
 
 
 @dataclass(frozen=True)

@@ -1,61 +1,14 @@
-"""What a document leaves open: the base relations that `tml matrix` prints of each two intervals, kept in little room."""
+"""What a document leaves open, as `tml matrix` prints it: there may be many lines, which go to a file without a name."""
 
 from __future__ import annotations
 
-import itertools
 import tempfile
-from array import array
-from collections.abc import Iterable, Iterator, Sequence
-from dataclasses import dataclass, field
+from collections.abc import Sequence
 
-from tml.statuses import BASE_RELATIONS
+from tml.matrices import Matrix, read_matrix
 
 from .files import reason
 from .program import ACCEPTED, CannotRun, Program, Reply
-
-INVERSES = {
-    "BEFORE": "AFTER", "IBEFORE": "IAFTER", "IS_INCLUDED": "INCLUDES", "BEGINS": "BEGUN_BY", "ENDS": "ENDED_BY",
-    "OVERLAPS": "OVERLAPPED_BY", "SIMULTANEOUS": "SIMULTANEOUS", "AFTER": "BEFORE", "IAFTER": "IBEFORE", "INCLUDES": "IS_INCLUDED", "BEGUN_BY": "BEGINS",
-    "ENDED_BY": "ENDS", "OVERLAPPED_BY": "OVERLAPS",
-}  # fmt: skip
-"""What a base relation is the other way round."""
-
-APART = "the answers of tml to `check` and `matrix` do not belong together"
-Relations = tuple[str, ...]
-
-
-def turned(relations: Relations) -> Relations:
-    """The same base relations the other way round, in their order."""
-    others = {INVERSES[relation] for relation in relations}
-    return tuple(relation for relation in BASE_RELATIONS if relation in others)
-
-
-@dataclass
-class Matrix:
-    """Of each two intervals the base relations that are possible between them. There are few different sets of these."""
-
-    intervals: Sequence[str]
-    sets: list[Relations] = field(default_factory=list)
-    cells: array[int] = field(default_factory=lambda: array("H"))
-    """The numbers of the sets: of each interval and each one after it, in order."""
-
-    def row(self, left: int) -> array[int]:
-        """The numbers of the sets of an interval and of each one after it."""
-        begin = left * (2 * len(self.intervals) - left - 1) // 2
-        return self.cells[begin : begin + len(self.intervals) - left - 1]
-
-    def between(self, first: int, second: int) -> Relations:
-        """The base relations that are possible between two intervals."""
-        if first == second:
-            return ("SIMULTANEOUS",)
-        left, right = sorted((first, second))
-        found = self.sets[self.cells[left * (2 * len(self.intervals) - left - 1) // 2 + right - left - 1]]
-        return found if left == first else turned(found)
-
-    def pairs(self) -> Iterator[tuple[int, int, int]]:
-        """Each two intervals, and the number of their set, in order."""
-        for (left, right), number in zip(itertools.combinations(range(len(self.intervals)), 2), self.cells, strict=True):
-            yield left, right, number
 
 
 def ask_matrix(program: Program, document: bytes, intervals: Sequence[str]) -> Matrix | Reply:
@@ -74,30 +27,3 @@ def matrix_of(program: Program, document: bytes, intervals: Sequence[str]) -> Ma
     if isinstance(found, Reply):
         raise CannotRun("the answers of tml to `solve` and `matrix` do not belong together")
     return found
-
-
-def read_matrix(lines: Iterable[bytes], intervals: Sequence[str]) -> Matrix:
-    """The matrix whose lines they are: one for each two intervals, in order."""
-    matrix, numbers, left = Matrix(intervals), dict[bytes, int](), iter(lines)
-    names = [name.encode("utf-8", "surrogateescape") for name in intervals]
-    for pair in itertools.combinations(names, 2):
-        line, head = next(left, b""), b"%s %s " % pair
-        if not line.startswith(head):
-            raise CannotRun(APART)
-        text = line[len(head) :]
-        if text not in numbers:
-            numbers[text] = len(matrix.sets)
-            matrix.sets.append(relations_of(text))
-        matrix.cells.append(numbers[text])
-    if next(left, None) is not None:
-        raise CannotRun(APART)
-    return matrix
-
-
-def relations_of(text: bytes) -> Relations:
-    """The base relations at the end of a line: some, in their order."""
-    found = text.decode("utf-8", "replace").removesuffix("\n").split(" ")
-    relations = tuple(relation for relation in BASE_RELATIONS if relation in found)
-    if not text.endswith(b"\n") or list(relations) != found:
-        raise CannotRun("the answer of tml to `matrix` cannot be read")
-    return relations

@@ -10,11 +10,11 @@ import io
 import os
 from collections.abc import Callable, Iterator, Mapping, Sequence
 
+from tml.matrices import Matrix, Relations
 from tml.statuses import BASE_RELATIONS
 
 from .files import counted, shown
 from .lettering import escaped, plain
-from .matrix import Matrix, Relations
 from .words import Wording
 
 SYMBOLS = dict(zip(BASE_RELATIONS, ("<", ">", "di", "d", "=", "m", "mi", "s", "si", "f", "fi", "o", "oi"), strict=True))

@@ -10,10 +10,10 @@ import hashlib
 import json
 from collections.abc import Callable
 
-from tml.statuses import BASE_RELATIONS
+from tml.matrices import Matrix
+from tml.statuses import BASE_RELATIONS, INVERSES
 
 from .lettering import escaped, plain
-from .matrix import INVERSES, Matrix
 from .picture import drawing
 from .rows import Timeline
 

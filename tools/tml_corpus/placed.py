@@ -5,6 +5,8 @@ from __future__ import annotations
 import math
 from dataclasses import dataclass, replace
 
+from tml.lines import Step
+
 from .civil import civil, length
 from .clash_report import PlacedLink
 from .clash_search import placed_link
@@ -13,7 +15,7 @@ from .files import CannotRead, counted, read_document
 from .fitting import Unfit, fault_of, not_judged
 from .judgement import PlacedNote
 from .program import FAULT, CannotRun, Program
-from .seconds import Cycle, Placing, Step, place
+from .seconds import Cycle, Placing, place
 from .touching import asks, touching_changes, with_changes
 from .words import Wording
 

@@ -4,11 +4,12 @@ from __future__ import annotations
 
 from dataclasses import dataclass, field
 
+from tml.matrices import Matrix
+
 from .around import Around
 from .date_words import stretch
 from .leeway import Leeway
 from .lettering import plain
-from .matrix import Matrix
 
 KINDS = {
     "exact": "time fixed by the calendar",

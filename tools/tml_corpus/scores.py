@@ -4,49 +4,12 @@ from __future__ import annotations
 
 import math
 from collections.abc import Iterable
-from dataclasses import astuple, dataclass, field
+from dataclasses import dataclass, field
 from fractions import Fraction
 
-from .program import Reply
+from tml.results import Score
 
 MEASURES = ("precision", "recall", "f1")
-
-
-@dataclass(frozen=True)
-class Scores:
-    """How many links of a document without redundancy follow in the key, of how many; and the same the other way round."""
-
-    matched: int = 0
-    document_links: int = 0
-    found: int = 0
-    key_links: int = 0
-
-    def __add__(self, other: Scores) -> Scores:
-        return Scores(*(one + another for one, another in zip(astuple(self), astuple(other), strict=True)))
-
-    @property
-    def precision(self) -> Fraction | None:
-        """The share of the document's links that follow in the key; none where it has no links."""
-        return Fraction(self.matched, self.document_links) if self.document_links else None
-
-    @property
-    def recall(self) -> Fraction | None:
-        """The share of the key's links that follow in the document; none where it has no links."""
-        return Fraction(self.found, self.key_links) if self.key_links else None
-
-    @property
-    def f1(self) -> Fraction | None:
-        """The harmonic mean of both, which is 0 where both are; none where one of them is not there."""
-        precision, recall = self.precision, self.recall
-        if precision is None or recall is None:
-            return None
-        return 2 * precision * recall / (precision + recall) if precision or recall else Fraction(0)
-
-
-def read_scores(reply: Reply) -> Scores:
-    """What an answer of `tml score` with status 0 says."""
-    (_, matched, _, links), (_, found, _, key_links) = reply.lines()
-    return Scores(int(matched), int(links), int(found), int(key_links))
 
 
 @dataclass(frozen=True)
@@ -62,10 +25,10 @@ class Corpus:
     """The scores of many pairs of documents: their sum, and of each measure the values of the pairs that have it."""
 
     pairs: int = 0
-    micro: Scores = field(default_factory=Scores)
+    micro: Score = field(default_factory=Score)
     values: dict[str, list[float]] = field(default_factory=lambda: {measure: [] for measure in MEASURES})
 
-    def add(self, scores: Scores) -> None:
+    def add(self, scores: Score) -> None:
         """Counts a pair."""
         self.pairs += 1
         self.micro += scores

@@ -4,6 +4,8 @@ from __future__ import annotations
 
 from dataclasses import dataclass
 
+from tml.lines import Step
+
 from .program import ACCEPTED, CLASH, CannotRun, Program, Reply
 
 
@@ -12,15 +14,6 @@ class Placing:
     """A second for each point: the start of each interval, and then its end."""
 
     seconds: tuple[int, ...]
-
-
-@dataclass(frozen=True)
-class Step:
-    """A line of a cycle, which names a constraint: `via K T`, `span I`, `lower P`, `upper P`, `least I` or `most I`."""
-
-    kind: str
-    first: int
-    second: int = 0
 
 
 @dataclass(frozen=True)

@@ -5,7 +5,8 @@ from __future__ import annotations
 import re
 from collections.abc import Callable, Iterator
 
-from .lint import INVERSES
+from tml.statuses import INVERSES
+
 from .program import CLASH
 from .references import MOST_NAMED, some
 from .rows import KINDS, Row

@@ -13,8 +13,9 @@ from collections.abc import Iterator
 from dataclasses import dataclass
 from functools import cached_property
 
+from tml.matrices import Matrix, Relations
+
 from .leeway import POINTS, SIGNS
-from .matrix import Matrix, Relations
 
 
 def members(points: int) -> Iterator[int]:

@@ -5,9 +5,11 @@ from __future__ import annotations
 import sys
 from dataclasses import dataclass
 
+from tml.matrices import Matrix
+
 from .files import CannotRead, read_document
 from .fitting import Unfit, fitting, not_judged
-from .matrix import Matrix, matrix_of
+from .matrix import matrix_of
 from .matrix_formats import FORMS
 from .pool import Interruption
 from .program import CannotRun, Program

@@ -8,12 +8,13 @@ from collections.abc import Callable, Iterable, Iterator, Sequence
 from dataclasses import dataclass
 from typing import Any, NoReturn, TypeVar
 
+from tml.matrices import Matrix
 from tml.statuses import LINK_LIMIT
 
 from .files import counted, shown
 from .fitting import Unfit, not_judged
 from .leftout import Copies, enclosed
-from .matrix import Matrix, matrix_of
+from .matrix import matrix_of
 from .matrix_formats import labels_of
 from .pool import Interruption
 from .program import CannotRun, Program

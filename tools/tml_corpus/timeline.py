@@ -11,6 +11,7 @@ import re
 from collections.abc import Callable, Collection, Mapping, Sequence
 from dataclasses import dataclass, replace
 
+from tml.matrices import Matrix
 from tml.replies import EVIDENCE
 
 from .around import Around, Text, text_around
@@ -20,7 +21,7 @@ from .files import CannotRead, counted, read_document, reason, shown, written
 from .fitting import Unfit, fitting, not_judged
 from .greatest import Ranks, as_evidence, greatest_timeline, untied
 from .leeway import base_relation, leeways
-from .matrix import Matrix, matrix_of
+from .matrix import matrix_of
 from .page import page
 from .picture import svg
 from .placed import Placed, Unplaced, document_placed

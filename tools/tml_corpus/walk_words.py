@@ -8,8 +8,9 @@ from __future__ import annotations
 from collections.abc import Sequence
 from dataclasses import dataclass
 
+from tml.lines import Step
+
 from .clash_search import is_equal_end
-from .clashes import Step
 from .constraints import ORDERS
 from .program import CannotRun
 from .words import Wording
