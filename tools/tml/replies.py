@@ -55,14 +55,19 @@ CYCLE = re.compile(rb"tml-seconds 1\ncycle (\d+)\n((?:(?:via \d+|span|lower|uppe
 OF_NETS = ("solve", "relations", "matrix", "reduce", "score", "ask", "possible")
 """The commands that answer a clash where no timeline fits."""
 
+BAD_LINE = rb"evidence line \d+\n"
+REFUSED = {
+    "verify": re.compile(BAD_LINE + rb"|evidence claim \d+ part \d+ [ \w]+\n"),
+    "confirm": re.compile(BAD_LINE + rb"|seconds \w+(?: \d+)?\n"),
+    "renew": re.compile(BAD_LINE),
+    "join": re.compile(rb"(?:evidence|second) line \d+\n"),
+}
+"""What is said of evidence and of seconds that are malformed or wrong, by each command that may say so."""
+
 OTHER = {
     TmlStatus.CLASH: ((*OF_NETS, "seconds"), re.compile(EVIDENCE + rb"clash \d+\ncite \d+\n(?s:.*)(?<=\n)end\n")),
     TmlStatus.READ_FAULT: (None, re.compile(rb"read fault\n")),
     TmlStatus.NO_MEMORY: (None, re.compile(rb"")),
-    TmlStatus.EVIDENCE_FAULT: (
-        ("verify", "confirm", "renew", "join"),
-        re.compile(rb"(?:evidence|second) line \d+\n|evidence claim \d+ part \d+ [ \w]+\n|seconds \w+(?: \d+)?\n"),
-    ),
     TmlStatus.UNKNOWN_NAME: (("ask", "possible"), re.compile(rb"unknown (?:X|REL|Y)\n")),
     TmlStatus.TOO_LONG: (None, re.compile(rb"too long (?:DOC|EVIDENCE|SECOND|KEY|SECONDS)\n")),
 }
@@ -91,12 +96,21 @@ def kind_of(text: bytes) -> bytes:
 def refusal(words: Sequence[str], status: int, text: bytes, size: int | None) -> str | None:
     """Why a reply about a document of so many bytes (if that is known) is not believed, or None where it is."""
     command = words[0]
-    expected = status in (TmlStatus.DONE, TmlStatus.DOC_FAULT) or (status in OTHER and command in (OTHER[TmlStatus(status)][0] or (command,)))
-    if not expected:
+    if not is_expected(command, status):
         return f"tml answered status {status}, which `{command}` should not"
     if not fits(words, TmlStatus(status), text, size):
         return f"tml answered status {status} to `{command}`, and a text that does not go with it"
     return None
+
+
+def is_expected(command: str, status: int) -> bool:
+    """Whether a command may end with a status."""
+    if status == TmlStatus.EVIDENCE_FAULT:
+        return command in REFUSED
+    if status in OTHER:
+        commands = OTHER[TmlStatus(status)][0]
+        return commands is None or command in commands
+    return status in (TmlStatus.DONE, TmlStatus.DOC_FAULT)
 
 
 def fits(words: Sequence[str], status: TmlStatus, text: bytes, size: int | None) -> bool:
@@ -109,6 +123,8 @@ def fits(words: Sequence[str], status: TmlStatus, text: bytes, size: int | None)
     if words[0] == "seconds" and status == TmlStatus.CLASH:
         found = CYCLE.fullmatch(text)
         return found is not None and lines_fit(found)
+    if status == TmlStatus.EVIDENCE_FAULT:
+        return REFUSED[words[0]].fullmatch(text) is not None
     if status in OTHER:
         return OTHER[status][1].fullmatch(text) is not None
     if words[0] == "check":
