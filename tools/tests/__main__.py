@@ -4,60 +4,31 @@ Each file of tests is run in a process of its own, as many at once as there are 
 skipped for want of another program is named, and counts as neither.
 """
 
-import io
 import os
 import sys
-import unittest
 from concurrent.futures import ProcessPoolExecutor, as_completed
-from dataclasses import dataclass
 from multiprocessing import get_context
 from pathlib import Path
 
-FOLDER = Path(__file__).resolve().parent
-LONGEST = ("test_library", "test_differential", "test_serve", "test_report", "test_library_rows", "test_attacks", "test_refused_memory")
+from one_file import run
+
+LONGEST = (
+    "test_attacks", "test_differential", "test_corpus_library", "test_library", "test_timeline", "test_cluster", "test_library_rows",
+    "test_inquiry", "test_recipes", "test_serve", "test_refused_memory", "test_scripts",
+)  # fmt: skip
 """The files of tests that take longest."""
-
-
-class Counted(unittest.TextTestResult):
-    """A result that also counts the tests that passed."""
-
-    passed = 0
-
-    def addSuccess(self, test):
-        super().addSuccess(test)
-        self.passed += 1
-
-
-@dataclass(frozen=True)
-class Ran:
-    """What came of a file of tests: what it printed, how many passed, which failed, and what was skipped, with the reason."""
-
-    printed: str
-    passed: int
-    failed: frozenset[str]
-    skipped: tuple[str, ...]
-
-
-def run(name):
-    """Runs a file of tests."""
-    sys.path.insert(0, str(FOLDER))
-    printed = io.StringIO()
-    result = unittest.TextTestRunner(stream=printed, resultclass=Counted).run(unittest.defaultTestLoader.loadTestsFromName(name))
-    # A subtest that failed counts as its test.
-    failed = {getattr(test, "test_case", test).id() for test, _ in result.failures + result.errors}
-    return Ran(printed.getvalue(), result.passed, frozenset(failed), tuple(f"{test}: {reason}" for test, reason in result.skipped))
 
 
 def main():
     """Runs all and answers the status."""
-    names = [path.stem for path in FOLDER.glob("test_*.py")]
+    names = [path.stem for path in Path(__file__).resolve().parent.glob("test_*.py")]
     names.sort(key=lambda name: (LONGEST.index(name) if name in LONGEST else len(LONGEST), name))
     passed, failed, skipped = 0, set(), []
     with ProcessPoolExecutor(len(os.sched_getaffinity(0)), get_context("spawn"), max_tasks_per_child=1) as pool:
-        names_of = {pool.submit(run, name): name for name in names}
-        for future in as_completed(names_of):
+        running = {pool.submit(run, name): name for name in names}
+        for future in as_completed(running):
             ran = future.result()
-            print(f"{names_of[future]}: {ran.printed.strip()}", flush=True)
+            print(f"{running[future]}: {ran.printed.strip()}", flush=True)
             passed, failed = passed + ran.passed, failed | ran.failed
             skipped += ran.skipped
     for one in skipped:

@@ -34,7 +34,7 @@ def expected_names():
     names = {"usr/bin/tml", "usr/share/lintian/overrides/tml-timeml"}
     names |= {f"usr/bin/{called}" for called in SCRIPTS} | {f"{SHARE}/{name}" for name in SCRIPTS.values()}
     names |= {f"{SHARE}/{package}/{name}" for package in ("tml", "tml_corpus") for name in files_in(f"tools/{package}", ".py")}
-    names.add(f"{IMPORTED}/tml")
+    names |= {f"{IMPORTED}/tml", f"{SHARE}/tml/py.typed"}
     names |= {f"usr/share/bash-completion/completions/{name}" for name in ("tml", *SCRIPTS)}
     names |= {f"usr/share/man/man1/{name}.1.gz" for name in ("tml", "tml-tools", *SCRIPTS)}
     names |= {f"{DOCS}/{name}" for name in ("README.md", "CHANGELOG.md", "changelog.gz", "copyright")}
