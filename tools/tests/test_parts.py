@@ -358,7 +358,8 @@ class Project(unittest.TestCase):
             os.mkdir(source)
             for name in ("pyproject.toml", "README.md"):
                 shutil.copy(os.path.join(TOP, name), source)
-            shutil.copytree(os.path.join(TOOLS, "tml_corpus"), os.path.join(source, "tools", "tml_corpus"), ignore=shutil.ignore_patterns("__pycache__"))
+            for name in ("tml", "tml_corpus"):
+                shutil.copytree(os.path.join(TOOLS, name), os.path.join(source, "tools", name), ignore=shutil.ignore_patterns("__pycache__"))
             words = ["install", "--quiet", "--no-deps", "--no-index", "--no-build-isolation", "--no-compile", "--target", target, source]
             done = subprocess.run([sys.executable, "-m", "pip", *words], capture_output=True, text=True, check=False, timeout=300)
             self.assertEqual(done.returncode, 0, done.stderr)
@@ -367,6 +368,7 @@ class Project(unittest.TestCase):
                     run = [sys.executable, os.path.join(target, "bin", name), "--help"]
                     done = subprocess.run(run, env={**os.environ, "PYTHONPATH": target}, capture_output=True, text=True, check=False, timeout=60)
                     self.assertEqual((done.returncode, done.stdout.split()[:2]), (0, ["usage:", name]))
+            self.assertTrue(os.path.isfile(os.path.join(target, "tml", "py.typed")))
 
 
 if __name__ == "__main__":
