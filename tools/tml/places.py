@@ -8,8 +8,8 @@ that has no LF at all, as old Macintosh programs wrote them, and else counts as 
 import re
 import unicodedata
 from bisect import bisect_left, bisect_right
-from dataclasses import dataclass
 from itertools import pairwise
+from typing import NamedTuple
 
 BYTE_ORDER_MARK = b"\xef\xbb\xbf"
 SHOWN_WIDTH = 160
@@ -19,8 +19,7 @@ FARTHEST = 4 * SHOWN_WIDTH
 BLOCK = 4096
 
 
-@dataclass(frozen=True)
-class Place:
+class Place(NamedTuple):
     """A place in a document: the offset in bytes from 0, and line and column from 1."""
 
     offset: int

@@ -9,28 +9,32 @@ from tml.places import Places
 
 from . import attributes, references
 from .cutting import units_of_whole
-from .encoding import not_utf8
 from .faults import BAD_MARKUP, BAD_REFERENCE, NOT_UTF8, TOO_DEEP, Fault
-from .markup import bad_markup, bad_reference
 from .nesting import nesting
 from .program import Program
 from .source import Explanation, Source
 from .units import unit_at
 
-OF_BYTES = {NOT_UTF8: not_utf8, BAD_REFERENCE: bad_reference, BAD_MARKUP: bad_markup}
 OF_TAGS = attributes.EXPLAINERS | references.EXPLAINERS
 
 
 def explain(program: Program, document: bytes, fault: Fault, places: Places | None = None) -> Explanation:
     """Finds out what a fault of a document is about."""
-    of_bytes = OF_BYTES.get(fault.number)
-    if of_bytes is not None:
-        found = of_bytes(Source(document, None, places), fault.offset)
+    if fault.number <= BAD_MARKUP:
+        found = of_bytes(Source(document, None, places), fault)
     else:
         found = of_units(Source(document, units_of_whole(program, document), places), fault)
     if not found.text:
         found.start, found.end = fault.offset, min(fault.offset + 1, len(document))
     return found
+
+
+def of_bytes(source: Source, fault: Fault) -> Explanation:
+    """The same of faults 1 to 3."""
+    from .encoding import not_utf8
+    from .markup import bad_markup, bad_reference
+
+    return {NOT_UTF8: not_utf8, BAD_REFERENCE: bad_reference, BAD_MARKUP: bad_markup}[fault.number](source, fault.offset)
 
 
 def of_units(source: Source, fault: Fault) -> Explanation:

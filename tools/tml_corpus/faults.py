@@ -1,7 +1,7 @@
 """The faults of `tml`: their sentences, their phases, and the line that tells one."""
 
 import re
-from dataclasses import dataclass
+from typing import NamedTuple
 
 SENTENCES = {
     1: "A byte stands there that UTF-8 does not allow.",
@@ -37,8 +37,7 @@ PHASE_ENDS = (1, 3, 8, 13, 17)
 """The last fault of each phase. `tml` asks one phase after the other."""
 
 
-@dataclass(frozen=True)
-class Fault:
+class Fault(NamedTuple):
     """A fault as `tml` tells it."""
 
     number: int

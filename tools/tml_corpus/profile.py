@@ -7,8 +7,8 @@ table cannot differ from the program.
 from __future__ import annotations
 
 import re
-from dataclasses import dataclass
 from enum import Enum
+from typing import NamedTuple
 
 ROOT = "TimeML"
 WRAPPERS = (
@@ -32,8 +32,7 @@ class Kind(Enum):
     TEXT = "any text"
 
 
-@dataclass(frozen=True)
-class Form:
+class Form(NamedTuple):
     """The form of a value: of a list its name and the values, of a reference the tag that it asks for."""
 
     kind: Kind
@@ -48,8 +47,7 @@ class Form:
         return self.kind is Kind.TEXT or is_identifier(value)
 
 
-@dataclass(frozen=True)
-class Row:
+class Row(NamedTuple):
     """An attribute of a tag. Of the names that it needs the tag has to have one; an attribute that may be left out needs none."""
 
     tag: str

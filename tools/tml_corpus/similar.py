@@ -2,7 +2,6 @@
 
 from __future__ import annotations
 
-import difflib
 from collections.abc import Iterable
 from itertools import islice
 
@@ -39,6 +38,8 @@ def nearest(name: str, choices: Iterable[str]) -> str | None:
     if len(looks) == 1:
         return looks[0]
     letters = {plain(choice): choice for choice in islice(choices, MOST_CHOICES)}
+    import difflib
+
     close = difflib.get_close_matches(plain(name), letters, 1, NEAR)
     return letters[close[0]] if close else None
 

@@ -4,9 +4,8 @@ from __future__ import annotations
 
 import re
 from collections.abc import Iterable, Iterator
-from dataclasses import dataclass, field
 from functools import cached_property
-from typing import Protocol
+from typing import NamedTuple, Protocol
 
 from tml.places import Places
 
@@ -28,27 +27,24 @@ MANNERS = {"EVENT": "e", "MAKEINSTANCE": "ei", "TIMEX3": "t", "SIGNAL": "s"}
 """How identifiers mostly begin."""
 
 
-@dataclass(frozen=True)
-class Note:
+class Note(NamedTuple):
     """A sentence on a fault, and the place that it speaks of."""
 
     offset: int
     text: str
 
 
-@dataclass
 class Explanation:
     """What a fault is about: the sentence, the stretch that it speaks of, further notes, and what to blank out to go on.
 
     Where nothing was found out the sentence is empty, and the general one of the fault has to do.
     """
 
-    text: str = ""
-    start: int = 0
-    end: int = 0
-    notes: list[Note] = field(default_factory=list)
-    attributes: list[Attribute] = field(default_factory=list)
-    units: Units | None = None
+    def __init__(self, start: int = 0, end: int = 0) -> None:
+        self.text, self.start, self.end = "", start, end
+        self.notes: list[Note] = []
+        self.attributes: list[Attribute] = []
+        self.units: Units | None = None
 
 
 class Names(dict[tuple[str, ...], tuple[str, ...] | None]):
@@ -92,8 +88,7 @@ class Values(Protocol):
         """The value of an attribute, or another text where it is not there."""
 
 
-@dataclass(frozen=True)
-class SoughtValues:
+class SoughtValues(NamedTuple):
     """Those of a tag of a long document, each of which is looked for where it is asked for."""
 
     tag: Unit

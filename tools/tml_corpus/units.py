@@ -5,7 +5,6 @@ from __future__ import annotations
 from array import array
 from bisect import bisect_left
 from collections.abc import Iterator, Sequence
-from dataclasses import dataclass, field
 from typing import NamedTuple, overload
 
 from .program import CannotRun, Program, Reply
@@ -37,16 +36,19 @@ class Attribute(NamedTuple):
         return text if len(text) <= SHOWN else text[: SHOWN - 3] + "..."
 
 
-@dataclass(slots=True)
 class Unit:
     """A stretch of the document: a tag, a text, a comment or another kind; tags have a name, start and empty tags attributes."""
 
-    start: int
-    end: int
-    kind: str
-    name: str
-    units: Units = field(repr=False, compare=False)
-    row: int = field(repr=False, compare=False)
+    __slots__ = ("start", "end", "kind", "name", "units", "row")
+
+    def __init__(self, start: int, end: int, kind: str, name: str, units: Units, row: int) -> None:
+        self.start, self.end, self.kind, self.name, self.units, self.row = start, end, kind, name, units, row
+
+    def __eq__(self, other: object) -> bool:
+        return isinstance(other, Unit) and (self.start, self.end, self.kind, self.name) == (other.start, other.end, other.kind, other.name)
+
+    def __repr__(self) -> str:
+        return f"Unit({self.start}, {self.end}, {self.kind!r}, {self.name!r})"
 
     @property
     def attributes(self) -> Iterator[Attribute]:

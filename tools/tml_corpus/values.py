@@ -2,12 +2,9 @@
 
 from __future__ import annotations
 
-import calendar
 import re
-from datetime import date
 
 YEARS = range(1, 10000)
-MONTH_NAMES = calendar.month_name
 
 CALENDAR = re.compile(
     r"(?P<year>\d{4}|\d{3}X|\d\dXX|XXXX)"
@@ -136,13 +133,15 @@ def no_day(found: re.Match[str]) -> str | None:
         return "the first day of a month is 01"
     if not is_number(found["month"]):
         return "no month has more than 31 days" if day > 31 else None
+    import calendar
+
     month = int(found["month"])
     days = max(calendar.monthrange(year, month)[1] for year in years)
     if day <= days:
         return None
     if len(years) == 1:
-        return f"{MONTH_NAMES[month]} {found['year']} has {days} days"
-    return f"{MONTH_NAMES[month]} never has more than {days} days"
+        return f"{calendar.month_name[month]} {found['year']} has {days} days"
+    return f"{calendar.month_name[month]} never has more than {days} days"
 
 
 def no_week(found: re.Match[str]) -> str | None:
@@ -152,6 +151,8 @@ def no_week(found: re.Match[str]) -> str | None:
     week, years = int(found["week"]), years_of(found)
     if week == 0:
         return "the first week of a year is W01"
+    from datetime import date
+
     weeks = max(date(year, 12, 28).isocalendar().week for year in years)
     if week <= weeks:
         return None
