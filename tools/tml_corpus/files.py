@@ -52,7 +52,7 @@ def find_files(paths: list[str], patterns: list[str]) -> list[Found]:
 def search_folder(folder: str, patterns: list[str]) -> list[Found]:
     """The matching files below a folder, and the folders that could not be read."""
     found: list[Found] = []
-    matches = re.compile("|".join(map(fnmatch.translate, patterns))).match
+    matches = matcher(patterns)
     left = [folder]
     while left:
         place = left.pop()
@@ -69,24 +69,29 @@ def search_folder(folder: str, patterns: list[str]) -> list[Found]:
     return found
 
 
+def matcher(patterns: list[str]) -> Callable[[str], object]:
+    """What tells whether a name matches one of some patterns. Most patterns say how a name ends, which is seen faster."""
+    ends = tuple(pattern[1:] for pattern in patterns)
+    if all(pattern.startswith("*") and not set("*?[") & set(end) for pattern, end in zip(patterns, ends, strict=True)):
+        return lambda name: name.endswith(ends)
+    return re.compile("|".join(map(fnmatch.translate, patterns))).match
+
+
 def entries_of(place: str, matches: Callable[[str], object]) -> tuple[list[str], list[str]]:
     """The names of what matches in a folder, and those of the folders in it that are to be entered."""
     names, below = [], []
     with os.scandir(place) as entries:
         for entry in entries:
-            if is_folder(entry):
-                below.append(entry.name)
-            elif matches(entry.name) and not (entry.is_symlink() and os.path.isdir(entry.path)):
-                names.append(entry.name)
+            name = entry.name
+            try:
+                is_folder = entry.is_dir(follow_symlinks=False)
+            except OSError:
+                is_folder = False
+            if is_folder:
+                below.append(name)
+            elif matches(name) and not (entry.is_symlink() and os.path.isdir(entry.path)):
+                names.append(name)
     return names, below
-
-
-def is_folder(entry: os.DirEntry[str]) -> bool:
-    """Whether it is a folder, and no symbolic link to one."""
-    try:
-        return entry.is_dir(follow_symlinks=False)
-    except OSError:
-        return False
 
 
 @contextmanager
