@@ -79,7 +79,7 @@ _tml_corpus() {
         clashes) options+=(--evidence --repair "${shared[@]}") ;;
         timeline) options+=(--output -o --touching --seconds --asserted --text-order --config --tml) ;;
         matrix | seconds) options+=(--format --touching --config --tml) ;;
-        open) options+=(--limit --pairs --touching "${asked[@]}") ;;
+        open) options+=(--limit --pairs --touching --config --tml --jobs) ;;
         agree) options+=(--links --format --touching --glob "${asked[@]}" --cluster) ;;
         report) options+=(--output -o --more --glob "${asked[@]}") ;;
         serve) options+=(--config --tml) ;;

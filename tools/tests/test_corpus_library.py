@@ -38,11 +38,21 @@ needs_library = unittest.skipUnless(os.path.isfile(LIBRARY), f"no library {LIBRA
 needs_cc = unittest.skipUnless(shutil.which("cc"), "no program cc")
 
 
+BYTECODE = {}
+"""The folder in which all runs find the compiled modules of the tools, so that they are compiled once."""
+
+
+def setUpModule():
+    held = tempfile.TemporaryDirectory()
+    unittest.addModuleCleanup(held.cleanup)
+    BYTECODE["PYTHONPYCACHEPREFIX"] = held.name
+
+
 class LibraryTest(CorpusTest):
     def run_bytes(self, command, *words, tml=TML, tools=TOOLS, python=sys.executable, **variables):
         """The status and the bytes of both streams; no program is named where that is None."""
         chosen = [] if tml is None else ["--tml", os.path.abspath(tml)]
-        environment = {name: value for name, value in os.environ.items() if name != "TML_LIBRARY"}
+        environment = {name: value for name, value in os.environ.items() if name not in ("TML_LIBRARY", "PYTHONDONTWRITEBYTECODE")}
         done = subprocess.run(
             [python, os.path.join(tools, "tml-corpus"), command, *chosen, *words],
             cwd=self.folder,
@@ -50,7 +60,7 @@ class LibraryTest(CorpusTest):
             capture_output=True,
             check=False,
             timeout=120,
-            env={**environment, "PYTHONIOENCODING": "utf-8", "PYTHONDONTWRITEBYTECODE": "1", **variables},
+            env={**environment, **BYTECODE, "PYTHONIOENCODING": "utf-8", **variables},
         )
         return done.returncode, done.stdout, done.stderr
 
@@ -60,6 +70,17 @@ class LibraryTest(CorpusTest):
         os.makedirs(os.path.dirname(path), exist_ok=True)
         subprocess.run(["cc", "-shared", "-fPIC", "-O1", "-o", path, STAND_IN], check=True)
         return path
+
+    def tools(self, library=True):
+        """A copy of the tools, with a program and the stand-in built beside it; answers its folder."""
+        for name in ("tml", "tml_corpus"):
+            shutil.copytree(os.path.join(TOOLS, name), self.path(f"copy/tools/{name}"), ignore=shutil.ignore_patterns("__pycache__"))
+        shutil.copy(os.path.join(TOOLS, "tml-corpus"), self.path("copy/tools"))
+        os.makedirs(self.path("copy/crates/tml/out"))
+        shutil.copy(TML, self.path("copy/crates/tml/out/tml"))
+        if library:
+            self.stand_in("copy/crates/tml_c/out/libtml.so")
+        return self.path("copy/tools")
 
     def files(self, folder="d"):
         """Documents that are accepted, faulty, suspect, that clash, that are too long or cannot be read."""
@@ -124,7 +145,6 @@ class SameAnswers(LibraryTest):
         self.assertIn(b"precision", self.same("agree", "--links", "d/samples", "e/samples")[1])
         self.same("agree", "--touching", "--format", "json", "d", "e")
         self.assertEqual(self.same("report", "--more", "1", "-o", "pages", "d", made="pages")[0], 2)
-        self.assertEqual(self.same("open", "d/samples/rates.xml")[0], 0)
         found = []
         for option in ("--no-library", "--library=" + LIBRARY):
             shutil.copytree(self.path("e/1"), self.path("f"))
@@ -153,18 +173,6 @@ class SameAnswers(LibraryTest):
 @needs_cc
 class WhichLibrary(LibraryTest):
     """Who is asked. The stand-in accepts what `tml` does not."""
-
-    def tools(self, library=True, program=True):
-        """A copy of the tools, with a program and the stand-in built beside it; answers its folder."""
-        for name in ("tml", "tml_corpus"):
-            shutil.copytree(os.path.join(TOOLS, name), self.path(f"copy/tools/{name}"), ignore=shutil.ignore_patterns("__pycache__"))
-        shutil.copy(os.path.join(TOOLS, "tml-corpus"), self.path("copy/tools"))
-        if program:
-            os.makedirs(self.path("copy/crates/tml/out"))
-            shutil.copy(TML, self.path("copy/crates/tml/out/tml"))
-        if library:
-            self.stand_in("copy/crates/tml_c/out/libtml.so")
-        return self.path("copy/tools")
 
     def by_whom(self, *words, **options):
         """Who judged a document that has a fault."""
@@ -213,6 +221,17 @@ class WhichLibrary(LibraryTest):
                     status, out, error = self.run_bytes(command, *words, "good.xml", tml=TML if name else None, **variables)
                     self.assertEqual((status, out), (2, b""))
                     self.assertRegex(error.decode(), r"^tml-corpus: the library \S+ cannot be loaded: .*\n$")
+
+    def test_redundant_links(self):
+        self.write("good.xml", document(EVENT))
+        os.mkdir(self.path("bin"))
+        os.symlink(os.path.abspath(TML), self.path("bin/tml"))
+        variables = {**os.environ, "PATH": self.path("bin") + os.pathsep + os.environ["PATH"], "TML_LIBRARY": self.stand_in()}
+        for chosen, status in (([], 2), (["--tml", "tml"], 0)):
+            words = [sys.executable, os.path.join(TOOLS, "redundant-links"), *chosen, "good.xml"]
+            done = subprocess.run(words, cwd=self.folder, env=variables, capture_output=True, check=False, timeout=60)
+            self.assertEqual((done.returncode, done.stderr), (status, b""))
+            self.assertEqual(b"a text that does not go with it" in done.stdout, status == 2)
 
     def test_words(self):
         self.assertEqual(library_of(None, TML, is_chosen=True), None)
@@ -409,6 +428,9 @@ class OnACluster(LibraryTest):
             with self.subTest(words):
                 found = self.run_bytes("check", *words, "--cluster", self.address, "bad.xml", python=PYTHON)
                 self.assertEqual((found[0], found[2]), (status, b""), found)
+        # Where nothing is said it is the one that was built.
+        found = self.run_bytes("check", "--cluster", self.address, "bad.xml", tml=None, tools=self.tools(), python=PYTHON)
+        self.assertEqual((found[0], found[2]), (0, b""), found)
         # A program has to be there all the same.
         words = ["--library", self.stand_in(), "--cluster", self.address]
         status, _, error = self.run_bytes("check", *words, "bad.xml", tml="/no/such/tml", python=PYTHON)

@@ -142,7 +142,7 @@ def open_words(words: Parser) -> None:
     nearest = "how many pairs are looked at, the nearest ones in the document (2000; 0: all)"
     words.add_argument("--pairs", type=number_from_zero, default=2000, metavar="N", help=nearest)
     words.add_argument("--touching", action="store_true", help=TOUCHING)
-    pool_words(words, things="pairs")
+    jobs_words(words, "pairs")
     shared_words(words)
 
 
@@ -218,9 +218,9 @@ def glob_words(words: Parser) -> None:
     words.add_argument("--glob", action="append", metavar="PATTERN", help=f"names to look for in folders (default {' '.join(PATTERNS)})")
 
 
-def pool_words(words: Parser, things: str = "files", cluster: bool = False) -> None:
-    """The words of a command that works on all processors, and perhaps on a cluster."""
-    words.add_argument("--jobs", type=int, metavar="N", help=f"how many {things} at once (default: one a processor)")
+def pool_words(words: Parser, cluster: bool = False) -> None:
+    """The words of a command that works on files on all processors, and perhaps on a cluster."""
+    jobs_words(words, "files")
     if cluster:
         address = "work on a Dask cluster, whose workers see the files and tml by the same paths; --jobs says nothing then"
         words.add_argument("--cluster", metavar="ADDRESS", help=address)
@@ -228,6 +228,11 @@ def pool_words(words: Parser, things: str = "files", cluster: bool = False) -> N
     which = words.add_mutually_exclusive_group()
     which.add_argument("--library", metavar="FILE", help=library)
     which.add_argument("--no-library", action="store_const", const="", dest="library", help="start tml for each question")
+
+
+def jobs_words(words: Parser, things: str) -> None:
+    """The words of a command that works on all processors."""
+    words.add_argument("--jobs", type=int, metavar="N", help=f"how many {things} at once (default: one a processor)")
 
 
 def shared_words(words: Parser) -> None:
