@@ -2,8 +2,9 @@
 
 from __future__ import annotations
 
-import tempfile
-from collections.abc import Sequence
+from collections.abc import Iterator, Sequence
+from contextlib import contextmanager
+from typing import IO
 
 from .replies import longest, refusal
 from .running import CannotRun, run
@@ -20,19 +21,29 @@ class Process:
 
         The first file is its standard input, the second one has no name. What `tml` would not answer is raised as a problem.
         """
-        words, most = [self.path, command, *("-" for _ in files[:1])], longest(command)
-        given = files[0] if files else b""
-        if len(files) < 2:
-            status, text = run([*words, *arguments], given, most)
-        else:
-            try:
-                with tempfile.TemporaryFile(buffering=0) as file:
-                    file.write(files[1])
-                    file.seek(0)
-                    status, text = run([*words, f"/dev/fd/{file.fileno()}", *arguments], given, most, file)
-            except OSError as error:
-                raise CannotRun(f"a file of the question cannot be kept: {error}") from None
-        problem = refusal([command], status, text, len(given))
+        first, second = (*files, None, None)[:2]
+        with open_file(second, "a file of the question") as file:
+            named = ["-"] * (first is not None) + ([] if file is None else [f"/dev/fd/{file.fileno()}"])
+            status, text = run([self.path, command, *named, *arguments], first or b"", longest(command), file)
+        problem = refusal([command], status, text, len(first or b""))
         if problem is not None:
             raise CannotRun(problem)
         return status, text
+
+
+@contextmanager
+def open_file(file: bytes | IO[bytes] | None, called: str) -> Iterator[IO[bytes] | None]:
+    """The second file of a question, open: one in memory is put into a file without a name."""
+    if not isinstance(file, bytes):
+        yield file
+        return
+    import tempfile
+
+    try:
+        without_name = tempfile.TemporaryFile()
+        without_name.write(file)
+        without_name.seek(0)
+    except OSError as error:
+        raise CannotRun(f"{called} cannot be kept: {(error.strerror or str(error)).lower()}") from None
+    with without_name:
+        yield without_name

@@ -4,14 +4,13 @@ from __future__ import annotations
 
 import io
 from collections.abc import Iterator
-from contextlib import contextmanager
 from typing import IO, TYPE_CHECKING, NamedTuple
 
 from tml.finding import find_program, present_program
 from tml.running import CannotRun, run
 from tml.statuses import DOCUMENT_LIMIT, EVIDENCE_LIMIT, TmlStatus
 
-from .files import read_open, read_to, reason
+from .files import read_open, read_to
 from .statuses import MEANINGS
 
 if TYPE_CHECKING:
@@ -86,10 +85,11 @@ class Program:
         """
         if self.loaded is not None:
             return ask_library(self.loaded, words[0], document, other)
+        from tml.process import open_file
         from tml.replies import longest
 
         size = len(document) if isinstance(document, bytes) else None
-        with open_file(words[0], other) as file:
+        with open_file(other, f"the {SECOND.get(words[0], 'second file')}") as file:
             last = [] if file is None else [f"/dev/fd/{file.fileno()}"]
             status, text = run([self.path, *words, *last], document, longest(words[0]), file)
         return believed(Reply(status, text, words[0], size))
@@ -141,21 +141,3 @@ def believed(reply: Reply) -> Reply:
     if problem is not None:
         raise CannotRun(problem)
     return reply
-
-
-@contextmanager
-def open_file(command: str, file: File | None) -> Iterator[IO[bytes] | None]:
-    """The second file of a question for a process: one in memory is put into a file without a name."""
-    if not isinstance(file, bytes):
-        yield file
-        return
-    import tempfile
-
-    try:
-        without_name = tempfile.TemporaryFile()
-        without_name.write(file)
-        without_name.seek(0)
-    except OSError as error:
-        raise CannotRun(f"the {SECOND[command]} cannot be kept: {reason(error)}") from None
-    with without_name:
-        yield without_name
