@@ -60,8 +60,9 @@ _tml() {
 }
 
 _tml_warnings=(
-    misspelled-attribute unknown-attribute value-form free-date part-of-day event-without-instance empty-tag
-    self-link repeated-link date-with-points unlinked-instance no-creation-time
+    version-mark tag-as-text nested-tag misspelled-attribute unknown-attribute value-form free-date contradicting-word
+    far-date two-creation-times date-with-points empty-tag self-link repeated-link opposed-instances part-of-day
+    fiscal-value event-without-instance unlinked-instance no-creation-time
 )
 
 # Completes the words of tml-corpus: its commands, their options, and the values of these.
@@ -85,13 +86,13 @@ _tml_corpus() {
         serve) options+=(--config --tml) ;;
     esac
     case ${COMP_WORDS[COMP_CWORD - 1]}:$COMP_CWORD:${COMP_WORDS[COMP_CWORD]} in
-        *:1:*) _tml_offer check fix tags clashes timeline matrix seconds open agree report serve --help ;;
+        *:1:*) _tml_offer check fix tags clashes timeline matrix seconds open agree report serve --help --version ;;
         --format:*)
             case ${COMP_WORDS[1]} in
                 matrix) _tml_offer text csv html ;;
                 seconds) _tml_offer text json csv ics ;;
-                agree) _tml_offer text json csv ;;
-                *) _tml_offer text json junit github ;;
+                agree) _tml_offer text json jsonl csv ;;
+                *) _tml_offer text json jsonl junit github ;;
             esac
             ;;
         --ignore:* | --warn:*) _tml_offer "${_tml_warnings[@]}" ;;
@@ -102,10 +103,10 @@ _tml_corpus() {
 
 # Completes the options of the small programs.
 _tml_tools() {
-    local options=(--help)
+    local options=(--help --version)
     COMPREPLY=()
     case ${COMP_WORDS[0]##*/} in
-        tml-edit) options+=(--rename --unwrap --value --iso --instances --links --name --drop-links --overlaps --touching-dates --tml) ;;
+        tml-edit) options+=(--rename --unwrap --value --iso --instances --links --name --drop-links --overlaps --touching-dates --write --glob --tml) ;;
         tml-redundant-links) options+=(--glob --tml --jobs) ;;
     esac
     case ${COMP_WORDS[COMP_CWORD - 1]}:${COMP_WORDS[COMP_CWORD]} in

@@ -14,6 +14,7 @@ from random import Random
 
 from tml.finding import BUILT_LIBRARY
 from tml.running import CannotRun
+from tml_corpus import VERSION
 
 from differential_testing import reals
 from differential_testing.keeping import keep, kept
@@ -40,6 +41,7 @@ def parsed(words: Sequence[str]) -> argparse.Namespace:
         description="Draws cases, runs tml over them and compares what it answers with the reference. The program is that of TML, and that"
         " of TML_ROWS for tables of cases, or those that were built. The status is 1 where there is a difference.",
     )
+    parser.add_argument("--version", action="version", version=f"%(prog)s {VERSION}")
     parser.add_argument("seconds", type=float, nargs="?", default=20.0, help="how long to go on (20)")
     parser.add_argument("seed", type=int, nargs="?", default=1, help="what decides the cases (1); their number depends on time alone")
     parser.add_argument("--count", type=int, help="end after so many cases, in place of so many seconds")

@@ -17,11 +17,12 @@ extern "C" {
 enum tml_status {
     TML_DONE = 0,           /* the text is the answer */
     TML_DOC_FAULT = 1,      /* the text names the first fault of a document */
-    TML_CLASH = 2,          /* the links cannot all be true, and the text is evidence of it */
+    TML_CLASH = 2,          /* the links cannot all be true, and the text is evidence of it; for `score` also those of the
+                             * key, with the text `key clash`; for `seconds` there is no placing, and the text is a cycle */
     TML_USAGE = 3,          /* the words have no form; the text lists the forms */
     TML_READ_FAULT = 4,     /* the words name a file that is neither `first` nor `second` */
     TML_WRITE_FAULT = 5,    /* never */
-    TML_NO_MEMORY = 6,      /* malloc or realloc refused; there is no text */
+    TML_NO_MEMORY = 6,      /* out of memory; there is no text */
     TML_EVIDENCE_FAULT = 7, /* evidence is malformed or refused; the text says why */
     TML_UNKNOWN_NAME = 8,   /* a word names nothing in the document, or no relation */
     TML_TOO_LONG = 9        /* a file is longer than its limit */

@@ -13,6 +13,8 @@ sys.path.insert(0, TOOLS)
 
 # In the background of a shell Ctrl-C is ignored, and would be by the programs that the tests interrupt.
 signal.signal(signal.SIGINT, signal.default_int_handler)
+# So is the end of a terminal under nohup.
+signal.signal(signal.SIGHUP, signal.SIG_DFL)
 
 COMPANION = os.path.join(TOOLS, "tml-corpus")
 TML = os.environ.get("TML") or os.path.join(TOP, "crates", "tml", "out", "tml")

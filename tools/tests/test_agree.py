@@ -65,14 +65,14 @@ class Pairs(AgreeTest):
     def test_two_files(self):
         status, lines, error = self.run_it("agree", "a/chain.xml", "b/chain.xml")
         self.assertEqual((status, error), (0, ""))
-        said = "precision 0 of 2 (0.000), recall 1 of 1 (1.000), F1 0 (0.000)"
+        said = "precision 0 of 2 (0.000), recall 1 of 1 (1.000), F1 0.000"
         means = "macro: precision 0.000 (of 1 pair), recall 1.000 (of 1 pair), F1 0.000 (of 1 pair)"
         self.assertEqual(lines, [f"chain.xml: {said}", f"micro: {said}", means, f"1 pair counted; {NOTHING_LEFT_OUT}"])
 
     def test_the_same_relations_by_other_links(self):
         self.write("b/chain.xml", three((2, "AFTER", 1), (3, "AFTER", 2)))
         _, lines, _ = self.run_it("agree", "--links", "a", "b/")
-        self.assertEqual(lines[0], "chain.xml: precision 2 of 2 (1.000), recall 2 of 2 (1.000), F1 1 (1.000)")
+        self.assertEqual(lines[0], "chain.xml: precision 2 of 2 (1.000), recall 2 of 2 (1.000), F1 1.000")
         self.assertEqual(len(lines), 4)
 
     def test_folders(self):
@@ -85,7 +85,7 @@ class Pairs(AgreeTest):
         begins = ["chain.xml", "x/one.xml", "b/x/other.tml", "micro", "macro", "2 pairs counted; not counted"]
         self.assertEqual([line.split(":")[0] for line in lines], begins)
         self.assertEqual(lines[2], "b/x/other.tml: not counted: there is no a/x/other.tml")
-        self.assertEqual(lines[3], "micro: precision 1 of 3 (0.333), recall 2 of 2 (1.000), F1 1/2 (0.500)")
+        self.assertEqual(lines[3], "micro: precision 1 of 3 (0.333), recall 2 of 2 (1.000), F1 0.500")
         self.assertEqual(lines[4], "macro: precision 0.500 (of 2 pairs), recall 1.000 (of 2 pairs), F1 0.500 (of 2 pairs)")
         self.assertEqual(lines[5], "2 pairs counted; not counted: 1 without a partner, 0 with a fault, 0 with a clash, 0 not judged")
         self.assertEqual(self.run_it("agree", "--glob", "one.*", "a", "b")[0], 0)
@@ -108,7 +108,7 @@ class Pairs(AgreeTest):
             [
                 f"a/c1.xml: not counted: {fits}",
                 f"b/c2.xml: not counted: {fits}",
-                "chain.xml: precision 0 of 2 (0.000), recall 1 of 1 (1.000), F1 0 (0.000)",
+                "chain.xml: precision 0 of 2 (0.000), recall 1 of 1 (1.000), F1 0.000",
                 "a/f1.xml: not counted: fault 6 Unclosed at 2:1",
                 "b/f2.xml: not counted: fault 6 Unclosed at 2:4",
                 "b/long.xml: not counted: the file has more than 4,194,304 bytes",
@@ -132,7 +132,7 @@ class Pairs(AgreeTest):
         self.assertEqual(lines[1], "chain.xml: precision 0 of 1 (0.000), recall 0 of 0 (none), F1 none")
         second = touching.splitlines()[-2].index("<TLINK") + 1
         self.assertTrue(lines[2].startswith(f"a/chain.xml:{len(touching.splitlines()) - 1}:{second}: does not follow in b/chain.xml"), lines[2])
-        _, lines, _ = self.run_it("agree", "--touching", "--format", "json", "b", "a")
+        _, lines, _ = self.run_it("agree", "--touching", "--format", "jsonl", "b", "a")
         self.assertTrue(json.loads(lines[0])["readTouching"])
         self.write("b/chain.xml", three((1, "BEFORE", 1)))
         _, lines, _ = self.run_it("agree", "--touching", "a", "b")
@@ -148,7 +148,7 @@ class Pairs(AgreeTest):
     def test_words_that_are_refused(self):
         for words, said in (
             (["a", "b/chain.xml"], "a and b/chain.xml are to be two folders, or two files"),
-            (["--links", "--format", "csv", "a", "b"], "--links goes with --format text or json"),
+            (["--links", "--format", "csv", "a", "b"], "--links goes with --format text, json or jsonl"),
         ):
             status, lines, error = self.run_it("agree", *words)
             self.assertEqual((status, lines), (2, []))
@@ -169,7 +169,7 @@ class Pairs(AgreeTest):
         for side in ("a", "b"):
             self.write(f"{side}/chain.xml", document(f"<chunk>{event(1)}{event(2)}</chunk>{link(1, 'BEFORE', 2)}"))
         status, lines, _ = self.run_it("agree", "--links", "a", "b")
-        self.assertEqual((status, lines[0]), (0, "chain.xml: precision 1 of 1 (1.000), recall 1 of 1 (1.000), F1 1 (1.000)"))
+        self.assertEqual((status, lines[0]), (0, "chain.xml: precision 1 of 1 (1.000), recall 1 of 1 (1.000), F1 1.000"))
 
 
 class Links(AgreeTest):
@@ -197,7 +197,9 @@ class Links(AgreeTest):
                 relations = ("BEFORE", "DURING", "IBEFORE", "OVERLAPS", "SIMULTANEOUS", "ENDED_BY")
                 links = [(one, draw.choice(relations), other) for one, other in ends]
                 self.write(f"{side}/{number}.xml", three(*links))
-        _, lines, _ = self.run_it("agree", "--links", "--format", "json", "a", "b")
+        whole = json.loads("\n".join(self.run_it("agree", "--links", "--format", "json", "a", "b")[1]))
+        _, lines, _ = self.run_it("agree", "--links", "--format", "jsonl", "a", "b")
+        self.assertEqual(whole, list(map(json.loads, lines)))
         for pair in map(json.loads, lines[:-1]):
             if "links" not in pair:
                 continue
@@ -227,7 +229,7 @@ class Links(AgreeTest):
 class Forms(AgreeTest):
     def test_json(self):
         self.write("a/alone.xml", three())
-        status, lines, error = self.run_it("agree", "--links", "--format", "json", "a", "b")
+        status, lines, error = self.run_it("agree", "--links", "--format", "jsonl", "a", "b")
         pair, left_out, sums = map(json.loads, lines)
         sum_line = "1 pair counted; not counted: 1 without a partner, 0 with a fault, 0 with a clash, 0 not judged\n"
         self.assertEqual((status, error), (1, sum_line))
@@ -248,6 +250,9 @@ class Forms(AgreeTest):
         self.assertEqual(head, ["row", "name", "matched", "document links", "found", "key links", "precision", "recall", "f1", "remark"])
         self.assertEqual(pair, ["pair", "chain.xml", "0", "2", "1", "1", "0.0", "1.0", "0.0", ""])
         self.assertEqual(left_out, ["not counted", "a/=1+1.xml", *[""] * 7, "without a partner: there is no b/=1+1.xml"])
+        for side in "ab":
+            self.write(f"{side}/\uff1d1+1.xml", three())
+        self.assertIn("pair,'\uff1d1+1.xml,", "\n".join(self.run_it("agree", "--format", "csv", "a", "b")[1]))
         self.assertEqual(micro[2:6], ["0", "2", "1", "1"])
         self.assertEqual(macro, ["macro", *[""] * 5, "0.0", "1.0", "0.0", "means of 1, 1, 1 pairs"])
 

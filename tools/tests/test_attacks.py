@@ -2,9 +2,26 @@
 
 Output that fails, a program that is not `tml`, documents made to cost much, a full disk, names that are commands elsewhere, and
 tables of strangers.
+
+How often, in each run: 14 commands and 4 others with 3 kinds of output that fails; 7 programs that are not `tml`, the first with
+each command; 26 documents made to cost much; 10 names of files, with 11 commands and as pairs in 3 forms; 2 paths of which the
+digests begin alike, as pages and as evidence; 21 wrong tables, 3 pipes, and 4 inputs without an end.
+
+Files that are written in the place of others are attacked by `test_replacing.py`: every seventh of the 4,096 modes and 6 of them by
+`fix`, as root those of a stranger too; 2 ways to lose an owner, 3 with access lists; 3 links that a search finds, 2 that come
+meanwhile, 7 encodings; 4 changes in the middle; 3 signals to 2 kinds of writing, one that is ignored, and a program that is killed.
+Baselines are attacked by `test_lint.py`, formulas in CSV by `test_matrix.py` and `test_agree.py`.
+
+Settings of strangers: seven files that cost much or end otherwise than by a line, a million jobs over 300 files, and eight cases of who
+owns a file and where it lies. Little room: five launchers, each with three limits of open files and five of memory, and ten sizes of
+memory around what a worker needs to begin. Numbers of 5,000 digits in three replies of a program about one document of two.
 """
 
+import contextlib
+import io
 import itertools
+import math
+import multiprocessing
 import os
 import re
 import resource
@@ -14,9 +31,17 @@ import stat
 import subprocess
 import sys
 import time
+import tomllib  # noqa: F401
+import unittest
 from dataclasses import dataclass
+from functools import partial
+from unittest import mock
 
 from corpus import TML, TOOLS, TOP, CorpusTest, document
+
+from tml_corpus import commands
+from tml_corpus.pool import Interruption, processors
+from tml_corpus.settings import settings_for
 
 ENVIRONMENT = {**os.environ, "PYTHONIOENCODING": "utf-8", "PYTHONDONTWRITEBYTECODE": "1"}
 CLASH = '<TIMEX3 tid="a" type="SET"/><TLINK timeID="a" relatedToTime="a" relType="BEFORE"/>'
@@ -41,11 +66,21 @@ COMMANDS = (
 
 OTHER_COMMANDS = ("html-entities", "from-tempeval2 --help", "tml-corpus --help", "tml-edit --help")
 
-OUTPUTS = {"full": "no space left on device", "gone": "broken pipe", "closed": "standard output is closed"}
-"""What standard output may be, and what is said of it."""
+OUTPUTS = {"full": "no space left on device", "gone": None, "closed": "standard output is closed"}
+"""What standard output may be, and what is said of it: nothing where its reader has ended."""
 
 PROGRAMS = ("exit 0", "exit 1", "yes", "cat", "echo accepted", "echo fault 10 MissingAttribute 99999; exit 1", "echo fault 10 BadValue 0; exit 1")
 """Programs that are not `tml`."""
+
+
+MEASURING = """
+import resource, subprocess, sys
+status = subprocess.call(sys.argv[2:])
+used = resource.getrusage(resource.RUSAGE_CHILDREN)
+with open(sys.argv[1], "w") as out:
+    print(status, used.ru_utime + used.ru_stime, used.ru_maxrss, file=out)
+"""
+"""A small program that runs another one and says what it took. The memory of a process counts from that of the one that starts it on."""
 
 
 @dataclass
@@ -55,8 +90,8 @@ class Ended:
     status: int
     out: str
     error: str
-    seconds: float
-    mebibytes: float
+    seconds: float = math.nan
+    mebibytes: float = math.nan
 
 
 class AttackTest(CorpusTest):
@@ -72,25 +107,32 @@ class AttackTest(CorpusTest):
         os.chmod(self.path("fake"), stat.S_IRWXU)
         return self.path("fake")
 
-    def start(self, command, tml=TML, **options):
-        """Starts a command of a table in the folder."""
+    def start(self, command, tml=TML, before=(), **options):
+        """Starts a command of a table in the folder, behind the words of a program that starts it, if there are some."""
         name, *words = [os.path.abspath(tml) if word == "TML" else word for word in command.split(" ")]
         streams = {"stdin": subprocess.DEVNULL, "stdout": subprocess.PIPE, "stderr": subprocess.PIPE}
-        return subprocess.Popen([sys.executable, os.path.join(TOOLS, name), *words], cwd=self.folder, env=ENVIRONMENT, **{**streams, **options})
+        words = [*before, sys.executable, os.path.join(TOOLS, name), *words]
+        return subprocess.Popen(words, cwd=self.folder, env=ENVIRONMENT, **{**streams, **options})
 
     def ended(self, command, tml=TML, **options):
         """Runs a command of a table. Its output is read from files, so that what it took is known from its end."""
+        used = self.path("used")
+        before = () if "preexec_fn" in options else (sys.executable, "-ISc", MEASURING, used)
         with open(self.path("out"), "wb+") as out, open(self.path("error"), "wb+") as error:
-            child = self.start(command, tml, **{"stdout": out, "stderr": error, **options})
-            _, status, usage = os.wait4(child.pid, 0)
-            child.returncode = os.waitstatus_to_exitcode(status)
+            child = self.start(command, tml, before, **{"stdout": out, "stderr": error, **options})
+            status = child.wait()
             texts = []
             for file in (out, error):
                 file.seek(0)
                 texts.append(file.read().decode("utf-8", "replace"))
         for name in ("out", "error"):
             os.unlink(self.path(name))
-        return Ended(child.returncode, *texts, usage.ru_utime + usage.ru_stime, usage.ru_maxrss / 1024)
+        if not before:
+            return Ended(status, *texts)
+        with open(used, encoding="ascii") as lines:
+            status, seconds, kibibytes = lines.read().split()
+        os.unlink(used)
+        return Ended(int(status), *texts, float(seconds), int(kibibytes) / 1024)
 
 
 class Outputs(AttackTest):
@@ -119,7 +161,9 @@ class Outputs(AttackTest):
             for output, reason in OUTPUTS.items():
                 with self.subTest(command=command, output=output):
                     status, error = self.with_output(command, output)
-                    self.assertEqual((status, error.count("\n")), (2, 1), error)
+                    self.assertEqual((status, error.count("\n")), (2, 1 if reason else 0), error)
+                    if not reason:
+                        continue
                     name = command.split(" ", 1)[0]
                     self.assertTrue(error.startswith(f"{name}: standard output ") and error.endswith(reason + "\n"), error)
 
@@ -136,6 +180,134 @@ class Outputs(AttackTest):
                 ended = self.ended(command, stdin=None, preexec_fn=lambda: os.close(0))
                 self.assertEqual((ended.status, ended.out, ended.error.count("\n")), (2, "", 1))
                 self.assertIn("standard input is closed", ended.error)
+
+
+STRANGER = 65534
+"""The number of another user, who owns nothing."""
+
+
+def as_stranger(work):
+    """What some work answers in a process of that user; the modules that it needs were imported before."""
+    with multiprocessing.get_context("fork").Pool(1, become_stranger) as pool:
+        return pool.apply(work)
+
+
+def become_stranger():
+    """Has this process go on as that user."""
+    os.setgroups([])
+    os.setgid(STRANGER)
+    os.setuid(STRANGER)
+
+
+needs_root = unittest.skipUnless(os.geteuid() == 0, "only root can make files of other users, and work as one of them")
+
+SETTINGS = {
+    "names within names": "a" + ".a" * 8000 + " = 1",
+    "very many names within names": "a" + ".a" * 20_000 + " = 1",
+    "names in quotes within names": 'a . "b" . ' * 1600 + "c = 1",
+    "lists in lists": "wrappers = " + "[" * 8000 + "]" * 8000,
+    "very many tables": "".join(f"[a{number}]\n" for number in range(2000)),
+    "a very long number": "jobs = " + "9" * 5000,
+    "a text without an end": 'ignore = "' + '\\"' * 8000,
+}
+"""Files of settings that are made to cost much, or to end the program otherwise than by a line."""
+
+
+class Settings(AttackTest):
+    def test_work_and_memory_are_in_proportion(self):
+        for name, content in SETTINGS.items():
+            with self.subTest(name):
+                self.write("tml-corpus.toml", content)
+                ended = self.ended("tml-corpus check --tml TML good.xml")
+                self.assertEqual((ended.status, ended.out, ended.error.count("\n")), (2, "", 1), ended)
+                self.assertIn("tml-corpus.toml", ended.error)
+                self.assertLess(ended.seconds, 3)
+                self.assertLess(ended.mebibytes, 60)
+
+    def test_very_many_jobs_are_not_forked(self):
+        self.write("tml-corpus.toml", "jobs = 1000000")
+        for number in range(300):
+            self.write(f"d/{number}.xml", document(""))
+        with mock.patch.object(os, "fork", wraps=os.fork) as fork, contextlib.redirect_stdout(io.StringIO()):
+            options = commands.parser("check").parse_args(["check", "--tml", TML, "--no-library", self.path("d")])
+            options.settings = commands.settings_of(options)
+            with Interruption() as stop, commands.prepared(options, stop):
+                self.assertEqual(commands.run_command(options, stop), 0)
+        self.assertEqual(fork.call_count, 4 * processors())
+
+    @needs_root
+    def test_those_of_a_stranger_above_are_not_read(self):
+        self.write("c/d/a.xml", document("<own/>"))
+        self.write("c/tml-corpus.toml", 'wrappers = ["own"]')
+        place = os.path.realpath(self.path("c/tml-corpus.toml"))
+        os.chown(place, STRANGER, STRANGER)
+        said = f"tml-corpus: {place} belongs to another user and is not read (--config FILE reads it)\n"
+        for path, status, error in (("c/d", 1, said), ("c/d/a.xml", 1, said), ("c", 0, ""), ("--config c/tml-corpus.toml c/d", 0, "")):
+            with self.subTest(path):
+                ended = self.ended(f"tml-corpus check --tml TML {path}")
+                self.assertEqual((ended.status, ended.error), (status, error), ended)
+
+    @needs_root
+    def test_those_of_root_above_a_strangers_are_not_read_by_that(self):
+        self.write("c/d/a.xml", "")
+        self.write("c/tml-corpus.toml", 'wrappers = ["own"]')
+        os.chmod(self.folder, 0o755)
+        for owner, wrappers in ((0, ()), (STRANGER, ("own",))):
+            os.chown(self.path("c/tml-corpus.toml"), owner, owner)
+            chosen = as_stranger(partial(settings_for, [self.path("c/d")], None))
+            self.assertEqual((chosen.settings.wrappers, len(chosen.remarks)), (wrappers, 1 - len(wrappers)))
+
+    @needs_root
+    def test_those_above_a_strangers_are_read(self):
+        self.write("c/d/e/a.xml", document("<own/>"))
+        self.write("c/tml-corpus.toml", 'wrappers = ["own"]')
+        self.write("c/d/tml-corpus.toml", "x = 1")
+        os.chown(self.path("c/d/tml-corpus.toml"), STRANGER, STRANGER)
+        self.assertEqual(self.ended("tml-corpus check --tml TML c/d/e").status, 0)
+        # Nor is a link of a stranger one of this user's files.
+        os.rename(self.path("c/tml-corpus.toml"), self.path("c/own.toml"))
+        os.symlink("own.toml", self.path("c/tml-corpus.toml"))
+        os.chown(self.path("c/tml-corpus.toml"), STRANGER, STRANGER, follow_symlinks=False)
+        ended = self.ended("tml-corpus check --tml TML c/d/e")
+        self.assertEqual((ended.status, ended.error.count("belongs to another user")), (1, 2))
+
+
+LITTLE = [(resource.RLIMIT_NOFILE, files) for files in (4, 6, 12)]
+LITTLE += [(resource.RLIMIT_AS, mebibytes << 20) for mebibytes in (16, 18, 20, 22, 24)]
+"""So few open files or so little memory a program may have."""
+
+PYTHON_ITSELF = re.compile(r"Fatal Python error|error while loading shared libraries|Could not find platform|^$")
+"""What Python says where it does not come to the program."""
+
+OF_HASHLIB = re.compile(r"ERROR:root:code for hash .*?\nValueError: unsupported hash type \w+\n", re.DOTALL)
+"""What its module `hashlib` says where it cannot be loaded whole, whoever loads it."""
+
+
+class LittleRoom(AttackTest):
+    def test_every_launcher_ends_with_a_line(self):
+        for command in (COMMANDS[0], COMMANDS[7], COMMANDS[8], *OTHER_COMMANDS[:2]):
+            name = command.split(" ")[0]
+            for limit, most in LITTLE:
+                with self.subTest(command=command, limit=limit, most=most):
+                    ended = self.ended(command, preexec_fn=partial(resource.setrlimit, limit, (most, most)))
+                    if ended.status in (1, 127) and PYTHON_ITSELF.search(ended.error):
+                        continue
+                    error = OF_HASHLIB.sub("", ended.error)
+                    self.assertNotIn("Traceback", error)
+                    judged = ended.status == 0 or (ended.status, command) == (1, COMMANDS[0])
+                    self.assertTrue(judged or ended.status == 2, ended)
+                    if not judged and not ended.out:
+                        self.assertEqual(error.count("\n"), 1, ended)
+                        self.assertTrue(error.startswith(f"{name}: "), ended)
+
+    def test_no_memory_while_a_worker_begins_is_not_waited_for(self):
+        # Where the room for a worker ends depends on the machine: all sizes around it are tried.
+        for kibibytes in range(18_000, 26_000, 800):
+            with self.subTest(kibibytes):
+                begun = time.monotonic()
+                ended = self.ended("tml-corpus check --jobs 2 --tml TML good.xml clash.xml", preexec_fn=partial(resource.setrlimit, resource.RLIMIT_AS, (kibibytes << 10,) * 2))
+                self.assertNotEqual(ended.status, 1, ended)
+                self.assertLess(time.monotonic() - begun, 90)
 
 
 class Programs(AttackTest):
@@ -166,6 +338,25 @@ class Programs(AttackTest):
                 ended = self.ended(command, tml=fake)
                 self.assertEqual(ended.status, 2, ended)
                 self.assertIn(f"tml answered status 0 to `{question}`, and a text that does not go with it", ended.out)
+
+    def test_a_number_that_cannot_be_read_is_about_one_document_alone(self):
+        self.write("liar.xml", document(CLASH.replace("BEFORE", "IDENTITY") + '<SIGNAL sid="liar"/>'))
+        self.write("lying-clash.xml", document(CLASH + '<SIGNAL sid="liar"/>'))
+        for question, word, command in (
+            ("check", "timex ", "tml-corpus check --tml TML liar.xml good.xml"),
+            ("solve", "cite ", "tml-corpus clashes --tml TML lying-clash.xml good.xml"),
+            ("reduce", "of ", "redundant-links --tml TML liar.xml good.xml"),
+        ):
+            lie = f"s/{word}[0-9]*/{word}{'9' * 5000}/"
+            fake = self.fake(
+                f'cat > "$0.$$"; {TML} "$@" < "$0.$$" > "$0.$$.said"; status=$?\n'
+                f'if [ $1 = {question} ] && grep -q liar "$0.$$"; then sed "{lie}" "$0.$$.said"; else cat "$0.$$.said"; fi; exit $status'
+            )
+            with self.subTest(question):
+                ended = self.ended(command, tml=fake)
+                self.assertEqual((ended.status, ended.error), (2, ""))
+                self.assertRegex(ended.out, r"(?m)^2 files(: 1 accepted|: 0 with a clash, 1 without|, 1 not asked about)")
+                self.assertIn("and a text that does not go with it", ended.out)
 
     def test_a_program_that_hangs_is_ended_with_the_second_interruption(self):
         fake = self.fake(f'echo $$ >> "{self.path("asked")}"\ncat >/dev/null; sleep 300')
@@ -219,6 +410,7 @@ CIRCLE = b"".join(LINK % (number, (number + 1) % 1024, b"BEFORE") for number in 
 TOUCHING = (
     b'<TimeML><TIMEX3 tid="a" type="DATE" value="1998"/><TIMEX3 tid="b" type="DATE" value="1999"/><TLINK timeID="a" relatedToTime="b" relType="BEFORE"/>'
 )
+FREE_DATES = b"".join(b'<TIMEX3 tid="t%d" type="DATE" value="XXXX-12-25"/>' % number for number in range(1024))
 NESTED = b"".join(b'<EVENT eid="e%d" class="STATE">' % number for number in range(30))
 
 
@@ -280,6 +472,10 @@ DOCUMENTS = {
         lambda: numbered(b"<TimeML", b" a%d=''", b"></TimeML>\n"),
     ),
     "dates that touch among very many units": ("tml-edit --touching-dates --tml TML d.xml", 0, lambda: filled(TOUCHING, b"<p/>\n", b"</TimeML> \n")),
+    "a tag with a very long name that is counted": (TAGS, 1, lambda: filled(b"<TimeML><", b"a", b"/></TimeML>\n")),
+    "very many tags to take out": ("tml-edit --tml TML --unwrap p d.xml", 0, lambda: filled(b"<TimeML>", b"<p/>", b"</TimeML>\n")),
+    "very many tags with another name": ("tml-edit --tml TML --rename p=s d.xml", 0, lambda: filled(b"<TimeML>", b"<p/>\n", b"</TimeML>\n")),
+    "very many free dates": ("tml-corpus open --limit 1 --jobs 1 --tml TML d.xml", 0, lambda: b"<TimeML>" + FREE_DATES + b"</TimeML>\n"),
     "very many lines": ("tml-corpus check --tml TML d.xml", 1, lambda: filled(b"<TimeML>", b"\n", b"<EVENT/></TimeML>\n")),
 }
 """Documents made to cost much: a command, its status, and the document."""
@@ -293,7 +489,7 @@ class Documents(AttackTest):
                 self.write("d.xml", make())
                 ended = self.ended(command)
                 self.assertEqual(ended.status, status, ended.out[:200] + ended.error)
-                self.assertLess(ended.seconds, 20)
+                self.assertLess(ended.seconds, 30)
                 self.assertLess(ended.mebibytes, 400)
                 self.assertLess(max(map(len, ended.out.splitlines())), 2000)
 
@@ -335,15 +531,35 @@ class Files(AttackTest):
                 self.assertEqual(stat.S_IMODE(os.stat(self.path(os.path.join("kept", name))).st_mode), mode)
 
 
-NAMES = ("::error file=x::y", " ::error::y", "##[error]y", "##vso[x]y", "\x1b[31m", "a\nb", "\u202eb", "\x85", ":")
+COLLIDING = ("c/13683769/d.xml", "c/13684653/d.xml")
+"""Paths whose digests by SHA-256 begin with the same 48 bits, of 24 million that were tried in a minute."""
+
+
+class Digests(AttackTest):
+    def test_no_two_documents_have_one_page_or_one_file_of_evidence(self):
+        for path in COLLIDING:
+            self.write(path, document(CLASH))
+        for command, folder in (("tml-corpus report --tml TML c -o pages", "pages/documents"), ("tml-corpus clashes --tml TML --evidence kept c", "kept")):
+            with self.subTest(command):
+                self.assertEqual(self.ended(command).status, 1)
+                names = os.listdir(self.path(folder))
+                self.assertEqual(len(names), 2)
+                for name in names:
+                    self.assertRegex(name, r"^d\.xml\.[0-9a-f]{32}\.(html|evidence)$")
+
+
+NAMES = ("::error file=x::y", " ::error::y", "##[error]y", "##vso[x]y", "##teamcity[x]y", "\x1b[31m", "a\nb", "\u202eb", "\x85", ":")
 """Names of files that are commands, or lines, elsewhere."""
+
+COMMANDS_OF_LOGS = "##[error] ##vso[x] ##teamcity[y]"
+"""What stands in a line of a document before a fault, and is shown with it."""
 
 
 class Names(AttackTest):
     def test_names_are_neither_commands_nor_lines(self):
         for number, name in enumerate(NAMES):
-            self.write(f"d/{name}.xml", document("<EVENT/>" if number % 2 else CLASH))
-            self.write(f"{name}.xml", document(CLASH if number % 2 else "<EVENT/>"))
+            self.write(f"d/{name}.xml", document(COMMANDS_OF_LOGS + "<EVENT/>" if number % 2 else CLASH))
+            self.write(f"{name}.xml", document(CLASH if number % 2 else COMMANDS_OF_LOGS + "<EVENT/>"))
             os.symlink("nowhere", self.path(f"d/{name}.tml"))
         for command in (*COMMANDS[:6], COMMANDS[7], *COMMANDS[9:-1]):
             with self.subTest(command):
@@ -354,12 +570,12 @@ class Names(AttackTest):
             for folder, content in (("d", CLASH), ("e", "<EVENT/>"), ("f", ""), ("g", "")):
                 self.write(f"{folder}/{name}.xml", document(content))
             self.write(f"d/{name} alone.xml", document(""))
-        for form, folders in itertools.product(("text", "json", "csv"), (("d", "e"), ("d", "f"), ("f", "d"), ("f", "g"))):
+        for form, folders in itertools.product(("text", "json", "jsonl", "csv"), (("d", "e"), ("d", "f"), ("f", "d"), ("f", "g"))):
             with self.subTest(form=form, folders=folders):
                 self.harmless(f"tml-corpus agree --format {form} --tml TML", *folders)
 
     def test_names_in_what_standard_error_says(self):
-        for name in NAMES[:1] + NAMES[2:6]:
+        for name in NAMES[:1] + NAMES[2:7]:
             for command in ("tml-edit --tml TML", "tml-corpus timeline --tml TML a.xml -o", "tml-corpus check --tml", "from-tempeval2 out"):
                 with self.subTest(name=name, command=command):
                     self.harmless(command, name)
@@ -373,7 +589,7 @@ class Names(AttackTest):
         self.assertGreater(len(done.stdout + done.stderr), 0)
         for line in (done.stdout + done.stderr).decode().split("\n"):
             self.assertTrue(line.isprintable(), line)
-            self.assertNotRegex(line, r"##(\[|vso)")
+            self.assertNotRegex(line, r"##(\[|vso|teamcity)")
             if "github" not in command:
                 self.assertNotRegex(line, r"^\s*::")
             elif line.startswith("::"):
@@ -387,6 +603,13 @@ TABLES = (
     ("from-tempeval2", "base-segmentation.tab", "a\t0\t" + "9" * 5000 + "\ty\n", "1:5: '9"),
     ("from-tempeval2", "base-segmentation.tab", "a\t0\t\u0661\ty\n", "1:5: '\u0661' is not a number"),
     ("from-tempeval2", "base-segmentation.tab", "../a\t0\t0\ty\n", "1:1: '../a' is no name for a file"),
+    ("from-tempeval2", "base-segmentation.tab", "a\u202e\t0\t0\ty\n", "1:1: 'a\\u202e' is no name for a file"),
+    ("from-tempeval2", "base-segmentation.tab", "\x9b31m\t0\t0\ty\n", "1:1: '\\x9b31m' is no name for a file"),
+    ("from-tempeval2", "base-segmentation.tab", "a\t0\t0\tx\x1b[31m\n", "1:8: the character U+001B is none of XML"),
+    ("from-tempeval2", "base-segmentation.tab", "a\x01\t0\t0\tx\n", "1:2: the character U+0001 is none of XML"),
+    ("from-tempeval2", "base-segmentation.tab", "É\t0\t0\tx\né\t0\t0\ty\n", "2:1: 'é' and 'É' are one name where the case of letters does not count"),
+    ("from-tempeval2", "base-segmentation.tab", "a\t0\t0\tx\na\t0\t1\t" + "y" * 70_000, "2:1: the line has more than 65,536 bytes"),
+    ("from-tempeval2", "timex-attributes.tab", "a\t0\t0\ttimex3\tt1\t1\ttype\t\uffff\n", "1:24: the character U+FFFF is none of XML"),
     ("from-tempeval2", "event-extents.tab", "b\t0\t0\tevent\te1\t1\n", "1:1: 'b' is no document of base-segmentation.tab"),
     ("from-tempeval2", "event-extents.tab", "a\t0\t7\tevent\te1\t1\n", "1:5: e1 stands at a token that is not there"),
     ("from-tempeval2", "event-attributes.tab", "a\t0\t0\tevent\te1\t1\tclass\tSTATE\n", "1:13: e1 has attributes and no extent"),
@@ -394,6 +617,7 @@ TABLES = (
     ("tml-edit", "table", "good a a b\ngood a c b\n", "2:8: c is no event and no time of the document"),
     ("tml-edit", "table", "good a a\n", "1:8: the line is not a name, two intervals and a relation"),
     ("tml-edit", "table", b"good a a b\n\xc3\xa9 \xe9\n", "2:3: the byte E9 is not UTF-8"),
+    ("tml-edit", "table", "good a a b\n" + "x" * 70_000, "2:1: the line has more than 65,536 bytes"),
 )
 """Tables of strangers: the program, the table, and what is said, with line and column."""
 
@@ -424,6 +648,23 @@ class Tables(AttackTest):
                 ended = self.ended(self.of(script))
                 self.assertEqual((ended.status, ended.out, ended.error.count("\n")), (2, "", 1))
                 self.assertIn(f"in/{table}: is not a regular file", ended.error)
+
+    def test_input_without_an_end_is_not_read(self):
+        rows = [
+            ("html-entities", "given", 2, "html-entities: standard input has more than 8,388,608 bytes\n"),
+            ("from-tempeval2 in made", "in/base-segmentation.tab", 1, "from-tempeval2: in: the tables have more than 16,777,216 bytes\n"),
+            ("from-tempeval2 in made", "in/tlinks-x.tab", 1, "from-tempeval2: in: the tables have more than 16,777,216 bytes\n"),
+            ("tml-edit --tml TML --links in/table good.xml", "in/table", 1, "tml-edit: in/table:1:1: the line has more than 65,536 bytes\n"),
+        ]
+        for command, name, status, said in rows:
+            with self.subTest(command=command, name=name):
+                self.write("in/base-segmentation.tab", "a\t0\t0\tx\n")
+                self.write(name, "")
+                os.truncate(self.path(name), 1 << 30)
+                with open(self.path(name), "rb") as given:
+                    ended = self.ended(command, stdin=given)
+                self.assertEqual((ended.status, ended.out, ended.error), (status, "", said))
+                self.assertLess(ended.mebibytes, 100)
 
     def test_very_many_tags_at_one_token(self):
         self.write("in/base-segmentation.tab", "a\t0\t0\tx\n")

@@ -223,7 +223,9 @@ class Formats(CorpusTest):
         )
 
     def test_json(self):
-        _, lines, error = self.run_it("check", "--format", "json", *self.paths)
+        lines = self.run_it("check", "--format", "json", *self.paths)[1]
+        self.assertEqual(json.loads("\n".join(lines)), [json.loads(line) for line in self.run_it("check", "--format", "jsonl", *self.paths)[1]])
+        _, lines, error = self.run_it("check", "--format", "jsonl", *self.paths)
         one, two, three = (json.loads(line) for line in lines)
         self.assertEqual(one, {"path": "a.xml", "verdict": "accepted", "faults": [], "warnings": []})
         self.assertEqual((three["verdict"], three["problem"]), ("not judged", "no such file or directory"))
@@ -249,15 +251,15 @@ class Formats(CorpusTest):
         self.assertEqual(lines[1], "::error file=c.xml::not judged: no such file or directory")
 
     def test_the_number_the_name_and_the_byte_are_in_every_form(self):
-        for form in ("text", "json", "junit", "github"):
+        for form in ("text", "json", "jsonl", "junit", "github"):
             for words in ([], ["--no-explain"]):
                 with self.subTest(form=form, words=words):
                     text = "\n".join(self.run_it("check", "--format", form, *words, "b,%.xml")[1])
-                    self.assertRegex(text, '"number": 10, "name": "MissingAttribute", "offset": 9,' if form == "json" else r"10 MissingAttribute: .* \[byte 9\]")
+                    self.assertRegex(text, '"number": 10, "name": "MissingAttribute", "offset": 9,' if form in ("json", "jsonl") else r"10 MissingAttribute: .* \[byte 9\]")
 
     def test_bytes_of_a_document_are_escaped(self):
         self.write("d.xml", document('<SIGNAL sid="\x1b[2J&#10;\x07"/>'))
-        for form in ("text", "json", "junit", "github"):
+        for form in ("text", "json", "jsonl", "junit", "github"):
             with self.subTest(form):
                 lines = self.run_it("check", "--format", form, "d.xml")[1]
                 self.assertFalse(any(not character.isprintable() for line in lines for character in line), lines)

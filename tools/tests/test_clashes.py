@@ -19,19 +19,21 @@ class Clashes(CorpusTest):
     def test_samples_in_words(self):
         rows = {
             "talks.xml": [
-                "7:1: error: clash, 1 of 3: ended IS_INCLUDED 9 January (link 0: ei1 IS_INCLUDED t1)",
-                "8:1: error: clash, 2 of 3: left AFTER ended (link 1: ei2 AFTER ei1)",
-                "9:1: error: clash, 3 of 3: left IS_INCLUDED the eighth (link 2: ei2 IS_INCLUDED t2)",
+                "7:1: error: clash, 1 of 3: ended IS_INCLUDED 9 January (l1: ei1 IS_INCLUDED t1)",
+                "8:1: error: clash, 2 of 3: left AFTER ended (l2: ei2 AFTER ei1)",
+                "9:1: error: clash, 3 of 3: left IS_INCLUDED the eighth (l3: ei2 IS_INCLUDED t2)",
                 "4:109: note: by the calendar the eighth ends at 1998-01-09T00:00:00, and 9 January starts at 1998-01-09T00:00:00",
+                '3:92: note: the date of 9 January (t1) is value="1998-01-09": correct a date, or leave out or mend a link',
+                '4:138: note: the date of the eighth (t2) is value="1998-01-08": correct a date, or leave out or mend a link',
             ],
             "plant.xml": [
-                "8:1: error: clash, 1 of 3: closed BEFORE rose (link 0: ei2 BEFORE ei1)",
-                "9:1: error: clash, 2 of 3: warned BEFORE closed (link 1: ei3 BEFORE ei2)",
-                "10:1: error: clash, 3 of 3: rose BEFORE warned (link 2: ei1 BEFORE ei3)",
+                "8:1: error: clash, 1 of 3: closed BEFORE rose (l1: ei2 BEFORE ei1)",
+                "9:1: error: clash, 2 of 3: warned BEFORE closed (l2: ei3 BEFORE ei2)",
+                "10:1: error: clash, 3 of 3: rose BEFORE warned (l3: ei1 BEFORE ei3)",
             ],
             "cut.xml": [
-                "7:1: error: clash, 1 of 2: cut IS_INCLUDED meeting (link 0: ei1 IS_INCLUDED ei2)",
-                "8:1: error: clash, 2 of 2: meeting IBEFORE cut (link 1: ei2 IBEFORE ei1)",
+                "7:1: error: clash, 1 of 2: cut IS_INCLUDED meeting (l1: ei1 IS_INCLUDED ei2)",
+                "8:1: error: clash, 2 of 2: meeting IBEFORE cut (l2: ei2 IBEFORE ei1)",
             ],
             "rates.xml": [],
         }
@@ -43,6 +45,14 @@ class Clashes(CorpusTest):
                 self.assertEqual(links, [f"{name}:{line}" for line in printed])
                 self.assertEqual(len(lines) - 1 - len(links), 2 * len([line for line in printed if " error: " in line]))
                 self.assertEqual(status, 1 if printed else 0)
+                # Each place is that of the mark below it.
+                marks = [(line, mark) for first, line, mark in zip(lines, lines[1:], lines[2:], strict=False) if " error: " in first]
+                self.assertEqual([(line[4:10], mark) for line, mark in marks], [("<TLINK", "    ^" + "~" * (len(line) - 5)) for line, _ in marks])
+
+    def test_a_link_has_its_number_beside_evidence(self):
+        self.sample("cut.xml")
+        _, lines, _ = self.run_it("clashes", "--evidence", "kept", "cut.xml")
+        self.assertTrue(lines[0].endswith("cut IS_INCLUDED meeting (l1, link 0: ei1 IS_INCLUDED ei2)"), lines[0])
 
     def test_texts_of_many_kinds(self):
         times = '<TIMEX3 tid="a" type="DATE" value="199X">\n the <!-- x -->\n1990s&amp; </TIMEX3><TIMEX3 tid="b" type="DATE" value="1980-Q1"/>'

@@ -159,7 +159,7 @@ class OnACluster(CorpusTest):
 
     def test_same_bytes(self):
         self.files(100)
-        rows = [("text", ["--more", "1"], TML), ("json", ["--explain"], TML), ("junit", [], "tml-of-workers")]
+        rows = [("text", ["--more", "1"], TML), ("jsonl", ["--explain"], TML), ("junit", [], "tml-of-workers")]
         for form, words, program in rows:
             with self.subTest(form):
                 one, two = self.both("check", "--format", form, *words, "d", "gone.xml", tml=program)

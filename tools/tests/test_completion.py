@@ -60,7 +60,7 @@ class Completion(CorpusTest):
                 self.assertEqual((set(offered), files), (wanted, False))
         self.assertEqual(self.offered("tml-edit", "--unwrap", "", function="_tml_tools"), ([], False))
         self.assertEqual(self.offered("tml-edit", "", function="_tml_tools"), ([], True))
-        self.assertEqual(self.offered("tml-html-entities", "-", function="_tml_tools"), (["--help"], False))
+        self.assertEqual(self.offered("tml-html-entities", "-", function="_tml_tools"), (["--help", "--version"], False))
 
     def test_commands_are_those_of_the_usage_text(self):
         usage = subprocess.run([TML, "no", "such"], capture_output=True, text=True, check=False).stdout
@@ -103,18 +103,18 @@ class Completion(CorpusTest):
 
         [commands] = [action.choices for action in parser()._actions if isinstance(action.choices, dict)]
         first, files = self.offered("tml-corpus", "", function="_tml_corpus")
-        self.assertEqual((set(first), files), ({*commands, "timeline", "--help"}, False))
+        self.assertEqual((set(first), files), ({*commands, "timeline", "--help", "--version"}, False))
         for command, words in commands.items():
             with self.subTest(command):
                 options, files = self.offered("tml-corpus", command, "x.xml", "-", function="_tml_corpus")
                 wanted = {name for action in words._actions for name in action.option_strings} - {"-h"}
                 self.assertEqual((set(options), files), (wanted, False))
         rows = [
-            (["check", "--format", ""], ["text", "json", "junit", "github"], False),
-            (["check", "--format", "j"], ["json", "junit"], False),
+            (["check", "--format", ""], ["text", "json", "jsonl", "junit", "github"], False),
+            (["check", "--format", "j"], ["json", "jsonl", "junit"], False),
             (["matrix", "--format", ""], ["text", "csv", "html"], False),
             (["seconds", "--format", ""], ["text", "json", "csv", "ics"], False),
-            (["agree", "--format", ""], ["text", "json", "csv"], False),
+            (["agree", "--format", ""], ["text", "json", "jsonl", "csv"], False),
             (["agree", "first", ""], [], True),
             (["check", "--jobs", ""], [], False),
             (["check", ""], [], True),

@@ -32,7 +32,7 @@ class Explanations(CorpusTest):
     def test_attributes(self):
         self.check(
             [
-                ('<EVENT eid="e1" class="STATE" eid="e2"/>', '2:31 eid stands twice, as eid="e1" and as eid="e2": take one of the two out'),
+                ('<EVENT eid="e1" class="STATE" eid="e2"/>', '2:31 eid stands twice, as eid="e1" and as eid="e2": take the wrong one of the two out'),
                 ("<SIGNAL/>", "2:1 sid is missing: an identifier that no other tag has, such as s2"),
                 (
                     '<TLINK timeID="t" relType="ENDS"/>',
@@ -119,7 +119,7 @@ class Explanations(CorpusTest):
         second = '<EVENT eid="e2" class="STATE">y</EVENT>'
         self.check(
             [
-                (EVENT + '<SIGNAL sid="e1"/>', '2:48 sid="e1" is the eid of the EVENT at 2:1 too: write another one here, such as s2'),
+                (EVENT + '<SIGNAL sid="e1"/>', '2:48 sid="e1" is the eid of the EVENT at 2:1 too: take it out if it was pasted, and if not write another one here, such as s2'),
                 ("<MAKEINSTANCE eiid='i1' eventID = 'e1' tense='PAST'/>", '2:25 no EVENT has eid="e1", and the document has no EVENT: add one'),
                 (
                     EVENT + INSTANCE + '<TLINK eventInstanceID="e1" relatedToTime="t" relType="ENDS"/>',
@@ -134,11 +134,11 @@ class Explanations(CorpusTest):
                     EVENT + INSTANCE + TIME + '<TLINK eventInstanceID="t1" relatedToTime="t1" relType="ENDS"/>',
                     '2:115 no MAKEINSTANCE has eiid="t1"; t1 is a TIMEX3: write timeID="t1"',
                 ),
-                (EVENT + '<MAKEINSTANCE eiid="i1" eventID="i1"/>', '2:64 no EVENT has eid="i1"; i1 is this MAKEINSTANCE, and there is e1'),
+                (EVENT + '<MAKEINSTANCE eiid="i1" eventID="i1"/>', '2:64 no EVENT has eid="i1"; i1 is this MAKEINSTANCE; did you mean e1, which has no instance?'),
                 (EVENT + '<MAKEINSTANCE eiid="i1" eventID="el"/>', '2:64 no EVENT has eid="el"; did you mean e1?'),
                 (
                     EVENT + '<MAKEINSTANCE eiid="i1" eventID="e1" signalID="s1"/>',
-                    '2:77 no SIGNAL has sid="s1", and the document has no SIGNAL: add one, or take signalID out',
+                    '2:77 no SIGNAL has sid="s1", and the document has no SIGNAL: add one',
                 ),
                 (
                     "".join(f'<SIGNAL sid="s{number}"/>' for number in (1, 2, 4)) + EVENT + '<MAKEINSTANCE eiid="i1" eventID="e1" signalID="x"/>',
@@ -154,12 +154,12 @@ class Explanations(CorpusTest):
     def test_nesting(self):
         self.check(
             [
-                ("<TimeML>\n<P>\n<EVENT>x</P></TimeML>", "3:1 <EVENT> opened here has no end tag: write </EVENT>, at the latest before </P> at 3:9"),
-                ("<TimeML><P><S>x</P></S></TimeML>", "1:12 <S> opened here crosses </P> at 1:16: write </S> before that"),
+                ("<TimeML>\n<P>\n<EVENT>x</P></TimeML>", "3:1 <EVENT> opened here has no end tag: write </EVENT> right after its words"),
+                ("<TimeML><P><S>x</P></S></TimeML>", "1:12 <S> opened here crosses </P> at 1:16: exchange </P> and the </S> after it"),
                 ("<TimeML><P>x</p></TimeML>", "1:13 </p> does not close <P>, opened at 1:9: write </P>"),
-                ("<TimeML><P>x</S></TimeML>", "1:13 </S> closes nothing, since the tag that is open is <P>, opened at 1:9: take it out, or write its start tag"),
-                ("</P>", "1:1 </P> closes nothing, since no tag is open: take it out, or write its start tag"),
-                ("<TimeML>\n<P>", "2:1 <P> opened here has no end tag: write </P></TimeML> at the end, or see whether the end of the file was lost"),
+                ("<TimeML><P>x</S></TimeML>", "1:13 </S> does not close <P>, opened at 1:9: write </P>"),
+                ("</P>", "1:1 </P> closes nothing: its start tag was lost: write <P> before what it holds"),
+                ("<TimeML>\n<P>", "2:3 the file has no </TimeML>, so its end was lost: restore it from a copy, or if nothing else is missing write </TimeML> at the end"),
                 ("", "1:1 the document is empty: write <TimeML> .. </TimeML>"),
                 ("<!--x-->", "1:9 the document has no tag: write <TimeML> before its text and </TimeML> after it"),
                 ("<TimeML>\n<Event/>", "2:2 <Event> is not known; did you mean EVENT? (names are in upper case)"),
@@ -168,10 +168,10 @@ class Explanations(CorpusTest):
                 ("<TimeML><HL/></TimeML>", "1:10 <HL> is not known: `tml-edit --unwrap HL` takes such tags out and leaves what they hold"),
                 ("<TimeML><TLINK>x</TLINK></TimeML>", "1:9 <TLINK> holds text (x), and may hold nothing: move it before this tag"),
                 ("<TimeML><TLINK>\n<TLINK/></TimeML>", "1:9 <TLINK> opened here is not closed before <TLINK/> at 2:1: write /> for its >"),
-                ("x<TimeML/>", "1:1 text stands before <TimeML>: take it out, or move it behind that"),
+                ("x<TimeML/>", "1:1 text stands before <TimeML>: is it part of the document? If so, move it behind that, and else take it out"),
                 ("x\ty\n", "1:1 the document has no <TimeML>: write <TimeML> before its text and </TimeML> after it"),
                 ("<TEXT/>", "1:1 the root has to be <TimeML>: write <TimeML> before <TEXT> and </TimeML> at the end"),
-                ("<TimeML><P><TimeML/></P></TimeML>", "1:12 <TimeML> stands inside of <TimeML>, opened at 1:1: take it and its end tag out"),
+                ("<TimeML><P><TimeML/></P></TimeML>", "1:12 <TimeML> stands inside of <TimeML>, opened at 1:1: does a second document begin here? If so, split it off, and else take the tag out"),
                 (" <?xml version='1.0'?><TimeML/>", "1:2 <?xml ..?> has to come first: take out what stands before it (1 byte)"),
                 ("<TimeML/><!DOCTYPE x>", "1:10 a doctype stands once, and before all tags: take this one out"),
                 (
@@ -217,23 +217,23 @@ class Explanations(CorpusTest):
         self.check(rows, lambda inner: f"<TimeML>{inner}</TimeML>")
 
     def test_the_end_of_the_file(self):
-        self.assertEqual(self.firsts(["<TimeML><P a='1'"]), ["1:12 the file ends within this <P>, so its end was lost"])
+        self.assertEqual(self.firsts(["<TimeML><P a='1'"]), ["1:9 the file ends within a tag, so its end was lost: restore it from a copy, or if nothing else is missing write </TimeML> at the end"])
 
     def test_bytes(self):
         rows = [
-            (b"<TimeML>\xe9</TimeML>", "1:9 the byte E9 (é in Latin-1) is not UTF-8: the file looks like Latin-1; `iconv -f latin1 -t utf-8` mends it"),
+            (b"<TimeML>\xe9</TimeML>", "1:9 the byte E9 (é in Latin-1) is not UTF-8: the file looks like Latin-1; `tml-corpus fix` turns it into UTF-8"),
             (
                 b"<TimeML>\x93\xe9\x94</TimeML>",
-                "1:9 3 bytes, the first one 93 (\u201c in Windows-1252), are not UTF-8: the file looks like Windows-1252; `iconv -f windows-1252 -t utf-8` mends it",
+                "1:9 3 bytes, the first one 93 (\u201c in Windows-1252), are not UTF-8: the file looks like Windows-1252; `tml-corpus fix` turns it into UTF-8",
             ),
             (
                 b'<?xml version="1.0" encoding="iso-8859-15"?><TimeML>\xa4</TimeML>',
-                "1:53 the byte A4 (\u20ac in iso8859-15) is not UTF-8: the file looks like iso8859-15; `iconv -f iso8859-15 -t utf-8` mends it",
+                "1:53 the byte A4 (\u20ac in iso8859-15) is not UTF-8: the file looks like iso8859-15; `tml-corpus fix` turns it into UTF-8",
             ),
             ("<TimeML>é".encode() + b"\xe9</TimeML>", "1:10 the byte E9 is not UTF-8, and other characters of the file are: write é anew"),
-            ("<TimeML>x</TimeML>".encode("utf-16"), "1:1 the byte FF is not UTF-8: the file looks like UTF-16; `iconv -f utf-16 -t utf-8` mends it"),
-            ("<TimeML>x</TimeML>".encode("utf-16-le"), "1:1 the file looks like UTF-16: `iconv -f utf-16 -t utf-8` mends it"),
-            (b"<TimeML>caf\xc3", "1:12 the file ends within a character, so its end was lost"),
+            ("<TimeML>x</TimeML>".encode("utf-16"), "1:1 the byte FF is not UTF-8: the file looks like UTF-16; `tml-corpus fix` turns it into UTF-8"),
+            ("<TimeML>x</TimeML>".encode("utf-16-le"), "1:1 the file looks like UTF-16: `iconv -f utf-16 -t utf-8` turns it into UTF-8; change the name of the encoding in its first line too"),
+            (b"<TimeML>caf\xc3", "1:12 the file ends within a character, so its end was lost: restore it from a copy, or if nothing else is missing write </TimeML> at the end"),
         ]
         self.check(rows, bytes)
 
@@ -276,7 +276,7 @@ class Further(CorpusTest):
         ]
         for number, (content, _, _) in enumerate(rows):
             self.write(f"{number:02}.xml", content)
-        _, lines, _ = self.run_it("check", "--more", "9", "--format", "json", ".")
+        _, lines, _ = self.run_it("check", "--more", "9", "--format", "jsonl", ".")
         for (content, wanted, consequences), line in zip(rows, lines, strict=True):
             with self.subTest(content[:80]):
                 found = json.loads(line)["faults"]

@@ -20,7 +20,7 @@ def walked(folder, patterns):
     found = []
     for place, folders, names in os.walk(folder, onerror=lambda error: found.append(Found(str(error.filename), reason(error)))):
         folders.sort()
-        found += [Found(os.path.join(place, name)) for name in sorted(names) if any(fnmatch.fnmatchcase(name, one) for one in patterns)]
+        found += [Found(os.path.join(place, name), top=folder) for name in sorted(names) if any(fnmatch.fnmatchcase(name, one) for one in patterns)]
     return found or [Found(folder, f"no file in this folder matches {' or '.join(patterns)}")]
 
 

@@ -25,6 +25,18 @@ class Fixes(CorpusTest):
             ("<Text><P>x</p></TEXT>", "<TEXT><P>x</P></TEXT>"),
             ('<SIGNAL Sid="s1">x</SIGNAL>', '<SIGNAL sid="s1">x</SIGNAL>'),
             (EVENT + INSTANCE + TIME + LINK.replace("i1", "e1").replace("BEFORE", "is-included"), EVENT + INSTANCE + TIME + LINK.replace("BEFORE", "IS_INCLUDED")),
+            (EVENT + INSTANCE + TIME + LINK.replace("BEFORE", "SIMULTANOUS"), EVENT + INSTANCE + TIME + LINK.replace("BEFORE", "SIMULTANEOUS")),
+            (EVENT + INSTANCE + TIME + LINK.replace("BEFORE", "IDENTICAL"), EVENT + INSTANCE + TIME + LINK.replace("BEFORE", "IDENTITY")),
+            (EVENT + INSTANCE + TIME + LINK.replace("t1", "t1 t2"), EVENT + INSTANCE + TIME + LINK),
+            (EVENT + INSTANCE + TIME + LINK.replace("t1", "tl"), EVENT + INSTANCE + TIME + LINK),
+            (EVENT + INSTANCE + TIME + LINK + LINK.replace("<TLINK", "TLINK"), EVENT + INSTANCE + TIME + LINK * 2),
+            (EVENT.replace("e1", "e1\u00a0") + INSTANCE, EVENT + INSTANCE),
+            (TIME.replace("1998", "Q4-1998"), TIME.replace("1998", "1998-Q4")),
+            (TIME.replace("1998", "1998-01-08T9:30 EST"), TIME.replace("1998", "1998-01-08T09:30")),
+            (TIME.replace("1998", "1998-O1-l1"), TIME.replace("1998", "1998-01-11")),
+            (TIME.replace('1998">x', '05/01/1998">Monday'), TIME.replace('1998">x', '1998-01-05">Monday')),
+            (EVENT.replace(">x<", f">{EVENT}<") + INSTANCE, EVENT + INSTANCE),
+            (EVENT + INSTANCE * 2, EVENT + INSTANCE),
         ]
         for number, (inner, _) in enumerate(rows):
             self.write(f"{number}.xml", document(inner))
@@ -60,28 +72,28 @@ class Fixes(CorpusTest):
     def test_what_has_no_one_cure_is_left(self):
         second = '<MAKEINSTANCE eiid="i2" eventID="e1"/>'
         rows = [
-            ("<TimeML>é".encode() + b"\xe9</TimeML>", "1 NotUtf8 at byte 10"),
-            ("<TimeML>&bank; </TimeML>", "2 BadReference at byte 8"),
-            ("<TimeML>&amp </TimeML>", "2 BadReference at byte 8"),
-            ("<TimeML><P a='1></P></TimeML>", "3 BadMarkup at byte 8"),
-            (document("<FILEID/>"), "4 UnknownTag at byte 9"),
-            (document("<P>"), "5 Unbalanced at byte 12"),
-            (document(EVENT + INSTANCE + second + TIME + LINK.replace("i1", "e1")), "15 UnknownReference at byte 176"),
-            (document('<TLINK timeID="t" relatedToTime="t" relType="OVERLAP"/>'), "11 BadValue at byte 9"),
+            ("<TimeML>é".encode() + b"\xe9</TimeML>", "1:10", "1 NotUtf8 at byte 10"),
+            ("<TimeML>&bank; </TimeML>", "1:9", "2 BadReference at byte 8"),
+            ("<TimeML>S&ampP </TimeML>", "1:10", "2 BadReference at byte 9"),
+            ("<TimeML><P a=></P></TimeML>", "1:9", "3 BadMarkup at byte 8"),
+            (document("<FILEID/>"), "2:1", "4 UnknownTag at byte 9"),
+            (document("<P>"), "2:4", "5 Unbalanced at byte 12"),
+            (document(EVENT + INSTANCE + second + TIME + LINK.replace("i1", "e1")), "2:168", "15 UnknownReference at byte 176"),
+            (document('<TLINK timeID="t" relatedToTime="t" relType="OVERLAP"/>'), "2:1", "11 BadValue at byte 9"),
         ]
-        for number, (content, _) in enumerate(rows):
+        for number, (content, _, _) in enumerate(rows):
             self.write(f"{number}.xml", content)
         status, lines, _ = self.run_it("fix", "--write", ".")
         self.assertEqual(status, 1)
-        self.assertEqual(lines[:-1], [f"./{number}.xml: left to mend: {left}; see `tml-corpus check`" for number, (_, left) in enumerate(rows)])
-        for number, (content, _) in enumerate(rows):
+        self.assertEqual(lines[:-1], [f"./{number}.xml:{place}: left to mend: {left}; see `tml-corpus check`" for number, (_, place, left) in enumerate(rows)])
+        for number, (content, _, _) in enumerate(rows):
             self.assertEqual(self.read(f"{number}.xml"), content if isinstance(content, bytes) else content.encode())
 
     def test_a_part_is_mended_and_a_part_left(self):
         self.write("d.xml", document("& <SIGNAL/>"))
         status, lines, _ = self.run_it("fix", "--write", "d.xml")
         self.assertEqual(status, 1)
-        self.assertEqual(lines[:2], ["d.xml: mended: & that begin no reference (1 change)", "d.xml: left to mend: 10 MissingAttribute at byte 15; see `tml-corpus check`"])
+        self.assertEqual(lines[:2], ["d.xml: mended: & that begin no reference (1 change)", "d.xml:2:7: left to mend: 10 MissingAttribute at byte 15; see `tml-corpus check`"])
 
     def test_modes_and_symbolic_links(self):
         self.write("d.xml", document("&"))

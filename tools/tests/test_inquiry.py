@@ -19,10 +19,10 @@ MARK = '    <TLINK timeID="a" relatedToTime="b" relType="BEFORE"/>'
 SAID = [
     "{}:3:1: error: clash, 1 of 2: a BEFORE b (link 0: a BEFORE b)",
     MARK,
-    " " * MARK.index("relType") + "^" + "~" * 15,
+    "    ^" + "~" * (len(MARK) - len("    ^")),
     "{}:4:1: error: clash, 2 of 2: a AFTER b (link 1: a AFTER b)",
     MARK.replace("BEFORE", "AFTER"),
-    " " * MARK.index("relType") + "^" + "~" * 14,
+    "    ^" + "~" * (len(MARK) - len("    ^") - 1),
 ]
 
 
@@ -110,8 +110,8 @@ class Both(InquiryTest):
         status, lines, _ = self.run_it(*words, "a.xml", "b.xml", "w.xml")
         self.assertEqual((status, lines[:6]), (1, said("b.xml")))
         self.assertTrue(lines[6].startswith('w.xml:2:29: warning: value="1998-1-7" has no form') and lines[6].endswith(" [value-form]"), lines)
-        self.assertEqual(lines[-3:], ["3 files: 2 accepted, 1 with a clash, 0 with a fault, 0 not judged", "1 warning in 1 file", "      1  value-form"])
-        for strict, form, status in (([], "text", 0), (["--strict"], "text", 1), (["--strict"], "junit", 1), ([], "json", 0)):
+        self.assertEqual(lines[-3:], ["3 files: 2 accepted, 1 with a clash, 0 with a fault, 0 not judged", "1 probable mistake in 1 file", "      1  value-form"])
+        for strict, form, status in (([], "text", 0), (["--strict"], "text", 1), (["--strict"], "junit", 1), ([], "jsonl", 0)):
             with self.subTest(strict=strict, form=form):
                 ended, lines, _ = self.run_it(*words, *strict, "--format", form, "w.xml")
                 self.assertEqual((ended, "value-form" in "".join(lines)), (status, True))
@@ -135,7 +135,7 @@ class Both(InquiryTest):
 class Forms(InquiryTest):
     def test_json(self):
         for words, accepted in ((("check", "--clashes"), "accepted"), (("clashes",), "fits")):
-            status, lines, error = self.run_it(*words, "--format", "json", "a.xml", "b.xml", "c.xml", "gone.xml")
+            status, lines, error = self.run_it(*words, "--format", "jsonl", "a.xml", "b.xml", "c.xml", "gone.xml")
             one, two, three, four = map(json.loads, lines)
             self.assertEqual((status, [one["verdict"] for one in (one, two, three, four)]), (2, [accepted, "clash", "fault", "not judged"]))
             [clash] = two["clashes"]
@@ -163,7 +163,7 @@ class Forms(InquiryTest):
         times = '<TIMEX3 tid="a" type="SET">::error\x1b[1m%,&lt;</TIMEX3><TIMEX3 tid="b" type="SET">]]&gt;\u202e</TIMEX3>\n'
         name = "new\nline,%.xml"
         self.write(name, document(times + link("a", "BEFORE", "b") + "\x1b\n" + link("a", "AFTER", "b")))
-        for form in ("text", "json", "junit", "github"):
+        for form in ("text", "json", "jsonl", "junit", "github"):
             with self.subTest(form):
                 status, lines, error = self.run_it("clashes", "--format", form, "--repair", name)
                 self.assertEqual(status, 1)
@@ -235,7 +235,7 @@ class Quiet(InquiryTest):
     def test_no_summary(self):
         self.assertEqual(self.run_it("check", "--quiet", "a.xml"), (0, [], ""))
         self.assertEqual(self.run_it("clashes", "--quiet", "a.xml", "b.xml"), (1, said("b.xml"), ""))
-        status, lines, error = self.run_it("check", "--quiet", "--format", "json", "c.xml")
+        status, lines, error = self.run_it("check", "--quiet", "--format", "jsonl", "c.xml")
         self.assertEqual((status, len(lines), error), (1, 1, ""))
 
 

@@ -11,6 +11,7 @@ import sys
 import tempfile
 import unittest
 from pathlib import Path
+from unittest import mock
 
 from refused_memory import runs
 
@@ -27,6 +28,11 @@ SANITIZED = ("-fsanitize=address,undefined", "-fno-sanitize-recover=all")
 VALGRIND = ("valgrind", "-q", "--error-exitcode=99", "--leak-check=full", "--max-stackframe=90000000")
 WRAPPED = "-Wl,--wrap=malloc,--wrap=realloc,--wrap=free"
 REFUSED = r"(\d+) allocations of (\d+) calls refused, each alone and with all after it: (\d+) deviations \((\d+) of (\d+) times .*\n"
+
+
+def without_preloaded():
+    """The environment without libraries that come first, as `stdbuf` sets one: AddressSanitizer has to be the first one."""
+    return {name: value for name, value in os.environ.items() if name != "LD_PRELOAD"}
 
 
 def ran(*words, **settings):
@@ -47,7 +53,7 @@ def given(case):
 def refusing(program, cases, before=()):
     """What `refusing_caller.c` found of some cases: its status, and what it printed, with the subjects of the cases."""
     packed = b"".join(struct.pack("=QQQ", *map(len, pieces)) + b"".join(pieces) for pieces in map(given, cases))
-    done = subprocess.run([*before, program], input=packed, capture_output=True, check=False, timeout=300)
+    done = subprocess.run([*before, program], input=packed, capture_output=True, check=False, timeout=300, env=without_preloaded())
     text = (done.stdout + done.stderr).decode("utf-8", "replace")
     return done.returncode, re.sub(r"^case (\d+),", lambda found: f"{cases[int(found[1])].subject}:", text, flags=re.MULTILINE)
 
@@ -67,6 +73,24 @@ class Refusing(unittest.TestCase):
                     found = re.search(REFUSED, text)
                     self.assertEqual((status, found[1], found[2], found[5]), (int(number > 0), "4", "2", "8"))
                     self.assertEqual(found[3] == "0", number == 0)
+
+
+@unittest.skipUnless(shutil.which("cc"), "no cc")
+class Preloaded(unittest.TestCase):
+    """That programs with AddressSanitizer run where a library comes first."""
+
+    def test_refusing(self):
+        cases, header = list(runs())[:1], f"-I{TOOLS}/library"
+        with tempfile.TemporaryDirectory() as folder:
+            first, program = os.path.join(folder, "first.so"), os.path.join(folder, "refusing")
+            ran("cc", "-shared", "-fPIC", "-xc", os.devnull, "-o", first)
+            try:
+                ran("cc", *STRICT, *SANITIZED, header, "-DWRONG=0", REFUSING, WRONG, "-o", program, WRAPPED)
+            except AssertionError:
+                self.skipTest("cc has no AddressSanitizer")
+            with mock.patch.dict(os.environ, {"LD_PRELOAD": first}):
+                status, text = refusing(program, cases)
+            self.assertEqual(status, 0, text)
 
 
 @unittest.skipUnless(os.path.isfile(ARCHIVE), f"no archive {ARCHIVE}: tools/library/build makes it, or name one by TML_ARCHIVE=")
@@ -114,7 +138,7 @@ class Library(unittest.TestCase):
         for name, content in zip(("words", "first", "second"), given(case)):
             (self.folder / name).write_bytes(content)
         line = [*before, program or self.caller, str(threads), str(room), "first", "second", "words"]
-        done = subprocess.run(line, cwd=self.folder, capture_output=True, check=False, timeout=300)
+        done = subprocess.run(line, cwd=self.folder, capture_output=True, check=False, timeout=300, env=without_preloaded())
         return done.returncode, done.stdout, done.stderr
 
     def cases(self, stride=1):

@@ -5,8 +5,13 @@ import os
 import re
 import unittest
 import xml.etree.ElementTree as ElementTree
+from unittest import mock
 
 from corpus import EVENT, INSTANCE, TOP, CorpusTest, document
+
+from tml.running import CannotRun
+from tml_corpus.pool import processors
+from tml_corpus.settings import Remembering, read_settings
 
 CREATED = '<TIMEX3 tid="t0" type="DATE" value="1998-03-12" functionInDocument="CREATION_TIME">x</TIMEX3>'
 LINKED = EVENT + INSTANCE + '<TLINK eventInstanceID="i1" relatedToTime="t0" relType="DURING"/>'
@@ -27,7 +32,7 @@ class Warnings(CorpusTest):
         """Each row has what stands in a document beside what is never suspect, and the warnings on it."""
         for number, (inner, _) in enumerate(rows):
             self.write(f"{number:03}.xml", document(CREATED + LINKED + "\n" + inner))
-        status, lines, error = self.run_it("check", "--lint", *words, "--format", "json", ".")
+        status, lines, error = self.run_it("check", "--lint", *words, "--format", "jsonl", ".")
         self.assertEqual((status, error.splitlines()[0].split(": ")[1]), (0, f"{len(rows)} accepted, 0 with a fault, 0 not judged"))
         for (inner, wanted), line in zip(rows, lines, strict=True):
             with self.subTest(inner):
@@ -56,7 +61,7 @@ class Warnings(CorpusTest):
             ("1999/03/11", "value-form", f"{no_form}; did you mean 1999-03-11?"),
             ("19990311", "value-form", f"{no_form}; did you mean 1999-03-11?"),
             ("31-12-1999", "value-form", f"{no_form}; did you mean 1999-12-31?"),
-            ("11-03-1999", "value-form", f"{no_form}: a date is written as 1998-03-11"),
+            ("11-03-1999", "value-form", f"{no_form}; did you mean 1999-03-11 or 1999-11-03? (the day first, or the month first)"),
             ("1999Q1", "value-form", f"{no_form}; did you mean 1999-Q1?"),
             ("1999h2", "value-form", f"{no_form}; did you mean 1999-H2?"),
             ("1990s", "value-form", f"{no_form}; did you mean 199?"),
@@ -69,9 +74,20 @@ class Warnings(CorpusTest):
             ("1998-01-08T18:30:00.5", "free-date", f"{looks}: write it without the parts of a second"),
             ("1998-0X", "free-date", f"{looks}: a field is all digits or all X"),
             ("P3D", "free-date", 'is a duration, so this DATE has no date; did you mean type="DURATION"?'),
+            ("FY1998", "fiscal-value", "is a fiscal year or a part of one, which the calendar does not place: nothing says when it is but links"),
+            ("FY1998-H1", "fiscal-value", "is a fiscal year or a part of one, which the calendar does not place: nothing says when it is but links"),
+            ("Q4-1998", "value-form", f"{no_form}; did you mean 1998-Q4?"),
+            ("W12-1998", "value-form", f"{no_form}; did you mean 1998-W12?"),
+            ("1998-01-08T9:30", "value-form", f"{no_form}; did you mean 1998-01-08T09:30?"),
+            ("1998-01-08T16:00 EST", "value-form", f"{no_form}; did you mean 1998-01-08T16:00?"),
+            ("16:00 EST", "value-form", f"{no_form}; did you mean T16:00?"),
+            ("1998-01-08T4:30 pm", "value-form", f"{no_form}; did you mean 1998-01-08T16:30?"),
+            ("1998-O1-l1", "value-form", f"{no_form}; did you mean 1998-01-11?"),
+            ("1998-01-08\u200b", "value-form", f"{no_form}, since it has a zero-width space (U+200B) in it, which nobody sees; did you mean 1998-01-08?"),
+            ("1998-01-08/1998-01-10", "value-form", f"{no_form}: it is a range; write the date that is meant, or a DURATION with beginPoint and endPoint"),
             ("1998-01-08TEV", "part-of-day", "is a part of a day, which the calendar does not place: nothing says when it is but links"),
         ]
-        known = ["1998", "1998-03", "199X", "1998-XX-XX", "1998-W02-3", "1998-Q1", "1998-SU", "1998-W02-WE", "PRESENT_REF", "XXXX-12-25", "199", "19", "FY1998", "FY1998-H1", "1998-H1", "1998-HX"]
+        known = ["1998", "1998-03", "199X", "1998-XX-XX", "1998-W02-3", "1998-Q1", "1998-SU", "1998-W02-WE", "PRESENT_REF", "XXXX-12-25", "199", "19", "1998-H1", "1998-HX"]
         self.check(
             [(time(f'type="DATE" value="{value}"'), [f'3:30 {name}: value="{value}" {text}']) for value, name, text in rows]
             + [(time(f'type="DATE" value="{value}"'), []) for value in known]
@@ -108,25 +124,100 @@ class Warnings(CorpusTest):
         )
 
     def test_links(self):
-        given = "given at 2:171 already: take one of the two out"
+        given = "given at 2:171 already: see whether another pair is meant, or take one of the two out"
         self.check(
             [
-                (link("ENDS", "i1", "i1"), ["3:1 self-link: this link is from i1 to i1: write another one for one of the two, or take the link out"]),
+                (link("ENDS", "i1", "i1"), ["3:1 self-link: this link is from i1 to i1: one of the two is meant to be another one"]),
                 (link("DURING"), [f"3:1 repeated-link: i1 DURING t0 is {given}"]),
                 (link("DURING_INV", "t0", "i1"), [f"3:1 repeated-link: t0 DURING_INV i1 is {given}"]),
-                (link("OVERLAPS") + link("OVERLAPPED_BY", "t0", "i1"), ["3:68 repeated-link: t0 OVERLAPPED_BY i1 is given at 3:1 already: take one of the two out"]),
+                (link("OVERLAPS") + link("OVERLAPPED_BY", "t0", "i1"), ["3:68 repeated-link: t0 OVERLAPPED_BY i1 is given at 3:1 already: see whether another pair is meant, or take one of the two out"]),
                 (link("OVERLAPS") + link("OVERLAPPED_BY"), []),
                 (link("DURING", "t0", "i1"), []),
                 (link("ENDS"), []),
             ]
         )
 
+    def test_words_of_times(self):
+        word = "contradicting-word: value="
+        self.check(
+            [
+                (time('type="DATE" value="1998-03-09"', "Monday"), []),
+                (time('type="DATE" value="1998-03-10"', "Monday"), [f'3:30 {word}"1998-03-10": the text says Monday, and this day is a Tuesday']),
+                (time('type="TIME" value="1998-03-10TEV"', "Mon. <P>night</P>"), [f'3:30 {word}"1998-03-10TEV": the text says Mon, and this day is a Tuesday', *self.part_of_day("1998-03-10TEV")]),
+                (time('type="DATE" value="1998-W11-2"', "Monday"), [f'3:30 {word}"1998-W11-2": the text says Monday, and this day is a Tuesday']),
+                (time('type="DATE" value="1998-03"', "May"), [f'3:30 {word}"1998-03": the text says May, and this is in March']),
+                (time('type="DATE" value="1998-03"', "from February to May"), []),
+                (time('type="DATE" value="1998-03-10"', "the week from Monday to Friday"), []),
+                (time('type="DATE" value="1998-W11"', "Monday"), []),
+                (time('type="DATE" value="1998-Q1"', "March quarter"), []),
+                (time('type="SET" value="XXXX-WXX-2"', "every Monday"), []),
+            ]
+        )
+
+    def part_of_day(self, value):
+        return [f'3:30 part-of-day: value="{value}" is a part of a day, which the calendar does not place: nothing says when it is but links']
+
+    def test_years(self):
+        far = 'is far from the creation time in 1998 and from all other dates, and the text does not name'
+        self.check(
+            [
+                (time('type="DATE" value="1898-03-09"', "that day"), [f'3:30 far-date: value="1898-03-09" {far} 1898']),
+                (time('type="DATE" value="1989"', "1998"), [f'3:30 far-date: value="1989" {far} 1989']),
+                (time('type="DATE" value="1989"', "nine years ago"), []),
+                (time('type="DATE" value="1929-10-24"', "October 1929"), []),
+                (time('type="DATE" value="1989-10-24"', "October '89"), []),
+                (time('type="DATE" value="1994-03-09"', "that day"), []),
+                (time('type="DATE" value="1898-03-09"', "that day") + time('type="DATE" value="1899-03-09"', "that day").replace("t1", "t2"), []),
+            ]
+        )
+
+    def test_creation_times(self):
+        twice = time('type="DATE" value="1998" functionInDocument="CREATION_TIME"')
+        self.check([(twice, ["3:43 two-creation-times: the TIMEX3 at 2:1 is the creation time already: see which of the two is, and take this attribute from the other one"])])
+
+    def test_tags_inside_of_each_other(self):
+        second = '<EVENT eid="e2" class="STATE">y</EVENT>'
+        linked = '<MAKEINSTANCE eiid="i2" eventID="e2"/>' + link("DURING", "i2")
+        where = "see which words each is around, and whether one is too many"
+        self.check(
+            [
+                (time('type="DATE" value="1998"', second) + linked, [f"3:43 nested-tag: this EVENT stands inside of the TIMEX3 at 3:1: {where}"]),
+                (second.replace("y", "<P>" + time('type="DATE" value="1998"') + "</P>") + linked, [f"3:34 nested-tag: this TIMEX3 stands inside of the EVENT at 3:1: {where}"]),
+                (second.replace("y", '<SIGNAL sid="s1">y</SIGNAL>') + linked, []),
+            ]
+        )
+
+    def test_links_to_themselves_and_instances_that_are_opposed(self):
+        second = '<MAKEINSTANCE eiid="i2" eventID="e1"/>'
+        meant = "one of the two is meant to be another one"
+        event = '<EVENT eid="e3" class="STATE">z</EVENT><MAKEINSTANCE eiid="i3" eventID="e3"/>'
+        self.check(
+            [
+                ('<SLINK eventInstanceID="i1" subordinatedEventInstance="i1" relType="MODAL"/>', [f"3:1 self-link: this link is from i1 to i1: {meant}"]),
+                ('<ALINK eventInstanceID="i1" relatedToEventInstance="i1" relType="INITIATES"/>', [f"3:1 self-link: this link is from i1 to i1: {meant}"]),
+                (
+                    event + second + link("BEFORE", "i1", "i3") + link("BEFORE", "i3", "i2"),
+                    ["3:78 opposed-instances: i1 and i2 are instances of e1 with the same attributes, and i1 BEFORE i3, i2 AFTER i3: see whether one of the two instances was pasted"],
+                ),
+                (event + second.replace("/>", ' tense="PAST"/>') + link("BEFORE", "i1", "i3") + link("BEFORE", "i3", "i2"), []),
+                (event + second + link("BEFORE", "i1", "i3") + link("BEFORE", "i2", "i3"), []),
+            ]
+        )
+
+    def test_mistakes_come_before_what_is_missing(self):
+        self.write("d.xml", document(EVENT + INSTANCE + '<SIGNAL sid="s1"/>'))
+        _, lines, _ = self.run_it("check", "--lint", "d.xml")
+        self.assertEqual([line.split("[")[-1] for line in lines if ": warning: " in line], ["empty-tag]", "no-creation-time]", "unlinked-instance]"])
+        self.assertEqual(lines[-5:], ["1 probable mistake in 1 file", "      1  empty-tag", "2 things missing in 1 file", "      1  no-creation-time", "      1  unlinked-instance"])
+        warnings = json.loads(self.run_it("check", "--lint", "--format", "jsonl", "d.xml")[1][0])["warnings"]
+        self.assertEqual([one["rank"] for one in warnings], ["mistake", "missing", "missing"])
+
     def test_creation_time(self):
         self.write("d.xml", document(""))
         _, lines, _ = self.run_it("check", "--lint", "d.xml")
         self.assertEqual(lines[0], 'd.xml:1:1: warning: the document has no creation time: add functionInDocument="CREATION_TIME" to the TIMEX3 that says when it was made [no-creation-time]')
         self.assertEqual(lines[1:3], ["    <TimeML>", "    ^~~~~~~~"])
-        self.assertEqual(lines[3:], ["1 file: 1 accepted, 0 with a fault, 0 not judged", "1 warning in 1 file", "      1  no-creation-time"])
+        self.assertEqual(lines[3:], ["1 file: 1 accepted, 0 with a fault, 0 not judged", "1 thing missing in 1 file", "      1  no-creation-time"])
 
     def test_documents_with_a_fault_have_no_warnings(self):
         self.write("d.xml", document("<EVENT/>"))
@@ -167,6 +258,10 @@ class Settings(CorpusTest):
             ('wrappers = ["a b"]', ": a b is not the name of a tag"),
             ("jobs = 0", ": jobs is a number from 1 on"),
             ("jobs = true", ": jobs is a number from 1 on"),
+            ("jobs = " + "9" * 5000, " cannot be read: a number has too many digits"),
+            ("a.b = 1", ":1:2: a dot stands outside of texts, and no setting has one there"),
+            ("# a.b\npatterns = ['*.a', \"\"\"\nb.c\"\"\"\"]\n[d.e]", ":4:3: a dot stands outside of texts"),
+            (" " * 16385, " cannot be read: it has more than 16,384 bytes"),
             (b"\xff", " cannot be read: "),
         ]
         self.write("d.xml", document(""))
@@ -176,6 +271,28 @@ class Settings(CorpusTest):
                 status, lines, error = self.run_it("check", "--config", "other.toml", "d.xml")
                 self.assertEqual((status, lines), (2, []))
                 self.assertTrue(error.startswith(f"tml-corpus: other.toml{words}"), error)
+
+    def test_jobs_are_bounded_by_the_processors(self):
+        for jobs, taken in ((1, 1), (4 * processors(), 4 * processors()), (10**6, 4 * processors()), (10**4000, 4 * processors())):
+            self.write("tml-corpus.toml", f"jobs = 1{'0' * 4000}" if jobs > 10**6 else f"jobs = {jobs}")
+            self.assertEqual(read_settings(self.path("tml-corpus.toml")).jobs, taken)
+
+    def test_a_file_is_read_once_for_each_change(self):
+        self.write("tml-corpus.toml", "jobs = 1")
+        remembering, path = Remembering(), self.path("tml-corpus.toml")
+        with mock.patch("tml_corpus.settings.read_settings", wraps=read_settings) as read:
+            self.assertEqual([remembering.read(path).jobs for _ in range(3)], [1, 1, 1])
+            self.assertEqual(read.call_count, 1)
+            self.write("tml-corpus.toml", "jobs = 22 1")
+            for _ in range(3):
+                with self.assertRaisesRegex(CannotRun, "tml-corpus.toml:1:"):
+                    remembering.read(path)
+            self.assertEqual(read.call_count, 2)
+            os.unlink(path)
+            for _ in range(2):
+                with self.assertRaisesRegex(CannotRun, "no such file"):
+                    remembering.read(path)
+            self.assertEqual(read.call_count, 3)
 
     def test_two_files(self):
         for folder in "ab":
@@ -208,6 +325,60 @@ class Baselines(CorpusTest):
         self.write("c/d.xml", document(CREATED + old + old.replace("s1", "s3")))
         self.assertEqual(self.run_it(*words, "c")[0], 1)
 
+    def write_baseline(self, *words):
+        """Writes the baseline `known` with some words, and answers the status and what is said on standard error."""
+        status, _, error = self.run_it("check", "--baseline", "known", "--write-baseline", *words)
+        return status, error
+
+    def read(self, name):
+        with open(self.path(name), encoding="utf-8") as file:
+            return file.read()
+
+    def test_a_baseline_is_not_written_without_warnings(self):
+        self.write("d.xml", document(CREATED + '<SIGNAL sid="s1"/>'))
+        self.assertEqual(self.write_baseline("--lint", "d.xml"), (0, ""))
+        before = self.read("known")
+        for words, said in (
+            (("d.xml",), "--write-baseline needs --lint, without which there are no warnings"),
+            (("--lint", "--watch", "d.xml"), "--watch goes not with --write-baseline, which would have the last files alone"),
+        ):
+            with self.subTest(words):
+                self.assertEqual(self.write_baseline(*words), (2, f"tml-corpus: {said}\n"))
+                self.assertEqual(self.read("known"), before)
+
+    def test_a_file_with_a_passing_fault_keeps_its_warnings(self):
+        for name in ("a.xml", "b.xml", "gone.xml"):
+            self.write(name, document(CREATED + '<SIGNAL sid="s1"/>'))
+        for more in ((), ("--clashes",)):
+            with self.subTest(more):
+                self.write("b.xml", document(CREATED + '<SIGNAL sid="s1"/>'))
+                self.assertEqual(self.write_baseline("--lint", *more, "."), (0, ""))
+                whole = self.read("known")
+                self.assertEqual(whole.count("empty-tag"), 3)
+                self.write("a.xml", document(CREATED))
+                self.write("b.xml", document(CREATED + '<SIGNAL sid="s1"/><SIGNAL/>'))
+                self.assertEqual(self.write_baseline("--lint", *more, "a.xml", "b.xml", "./b.xml"), (1, ""))
+                self.assertEqual(self.read("known"), "".join(line for line in whole.splitlines(True) if "a.xml" not in line and "gone.xml" not in line))
+                self.write("a.xml", document(CREATED + '<SIGNAL sid="s1"/>'))
+
+    def test_only_a_baseline_is_written_over(self):
+        self.write("d.xml", document(""))
+        self.write("known", document(""))
+        status, error = self.write_baseline("--lint", "d.xml")
+        self.assertEqual((status, self.read("known")), (2, document("")))
+        self.assertIn("known:1:1: this is no baseline; --write-baseline writes one where there is no file, or over another one", error)
+        self.write("known", "")
+        self.assertEqual(self.write_baseline("--lint", "d.xml"), (0, ""))
+
+    def test_a_long_baseline_is_read_whole(self):
+        from tml_corpus.baseline import NewBaseline, read_baseline
+
+        baseline = NewBaseline(self.path("known"))
+        baseline.counts.update((f"{number:05}.xml", "empty-tag", "é" * 77 + "...") for number in range(20_000))
+        baseline.finish(False)
+        self.assertGreater(os.path.getsize(self.path("known")), 2 * 4_194_304)
+        self.assertEqual(read_baseline(self.path("known")).counts, baseline.counts)
+
     def test_files_that_are_none(self):
         self.write("d.xml", document(""))
         first = '["tml-corpus baseline", 1]\n'
@@ -217,6 +388,8 @@ class Baselines(CorpusTest):
                 status, _, error = self.run_it("check", "--lint", "--baseline", "known", "d.xml")
                 self.assertEqual(status, 2)
                 self.assertTrue(error.startswith(f"tml-corpus: known:{place}: "), error)
+        self.write("known", first + "[" + '"a",' * 100_000 + '"a"]\n' + first)
+        self.assertIn("known:2:1: this is not a line", self.run_it("check", "--lint", "--baseline", "known", "d.xml")[2])
         status, _, error = self.run_it("check", "--lint", "--write-baseline", "d.xml")
         self.assertEqual((status, error), (2, "tml-corpus: --write-baseline needs --baseline FILE\n"))
 

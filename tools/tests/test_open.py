@@ -1,5 +1,6 @@
 """`tml-corpus open`: how many pairs one more link settles, against the reference and against `tml matrix`, and what is printed."""
 
+import io
 import os
 import random
 import re
@@ -7,6 +8,7 @@ import signal
 import stat
 import time
 import unittest
+from unittest import mock
 
 from corpus import TML, TOP, CorpusTest, document, needs_matrix
 from test_leeway import lines_of
@@ -17,7 +19,10 @@ from reference.nets import Link, Net
 from reference.possible import possible_by_closure
 from reference.timelines import least_raised, orders_that_fit
 from tml.matrices import read_matrix
+from tml_corpus.pool import Interruption
+from tml_corpus.program import Program
 from tml_corpus.settling import Settling
+from tml_corpus.show_open import Bounds, show_open
 
 PAIR = re.compile(r"^(\d+)(?: to (\d+))?: (.*), (.*): ((?:[A-Z_]+ \d+(?:, )?)+)$")
 
@@ -95,6 +100,19 @@ class Printed(OpenTest):
         pairs, _ = self.printed(document(days + event(1)), "--limit", "3")
         self.assertEqual({found[2:4] for found in pairs}, {("day (t1)", "day (t2)"), ("day (t1)", "x (i1)"), ("day (t2)", "x (i1)")})
 
+    def test_what_is_asked_about_links_is_counted_and_makes_no_matrix(self):
+        self.write("d.xml", self.CONTENT)
+        program, read, asked = Program(TML), [], []
+        ask = program.matrix_in_parts
+        with (
+            mock.patch("tml_corpus.matrix.read_matrix", lambda *given: read.append(1) or read_matrix(*given)),
+            mock.patch.object(program, "matrix_in_parts", lambda *given: asked.append(1) or ask(*given)),
+            mock.patch("sys.stdout", io.StringIO()) as out,
+        ):
+            show_open(program, self.path("d.xml"), Bounds(0, 2), False, lambda work, items, **_: map(work, items), Interruption())
+        relations = sum(len(PAIR.match(line)[5].split(", ")) for line in out.getvalue().splitlines()[:-1])
+        self.assertEqual((len(read), len(asked)), (1, 1 + relations))
+
     def test_nothing_is_open(self):
         for content in (document(""), document(event(1)), document(event(1) + event(2) + link(1, "AFTER", 2))):
             self.assertRegex(self.printed(content)[1], r", 0 open, 0 of these looked at, 0 shown$")
@@ -117,6 +135,21 @@ class Refused(OpenTest):
             self.assertEqual((status, error), (1, ""))
             self.assertIn(said, "\n".join(lines))
         self.assertEqual(self.run_it("open", "gone.xml")[:2], (2, ["gone.xml: not judged: no such file or directory"]))
+
+    def test_a_folder(self):
+        self.write("c/a.xml", self.CONTENT)
+        self.write("c/b.xml", document("<EVENT/>"))
+        self.write("c/e/a.xml", self.CONTENT)
+        status, alone, _ = self.run_it("open", "c/a.xml")
+        self.assertEqual(status, 0)
+        status, lines, error = self.run_it("open", "c")
+        self.assertEqual((status, error), (1, ""))
+        named = [*(f"c/a.xml: {line}" for line in alone[:-1]), alone[-1]]
+        self.assertEqual(lines[: len(named)], named)
+        self.assertEqual(lines[-len(named) :], [line.replace("c/a.xml", "c/e/a.xml") for line in named])
+        self.assertIn("c/b.xml:2:1: error: 10 MissingAttribute", lines[len(named)])
+        os.makedirs(self.path("f"))
+        self.assertEqual(self.run_it("open", "f")[:2], (2, ["f: not judged: no file in this folder matches *.tml or *.xml"]))
 
     def test_answers_that_do_not_agree(self):
         self.write("d.xml", self.CONTENT)

@@ -15,10 +15,11 @@ from corpus import TOOLS, TOP
 
 from tml import places, running, statuses as tml_statuses
 from tml_corpus import profile, statuses
-from tml_corpus.files import shown, written
+from tml_corpus.files import shown
 from tml.places import Places, caret_lines
 from tml_corpus.program import CannotRun, Reply
 from tml.replies import refusal
+from tml_corpus.replacing import written
 from tml_corpus.tables import BadTable, rows
 from tml_corpus.texts import texts_of
 from tml_corpus.units import end_of, read_units, unit_at
@@ -130,8 +131,9 @@ ACCEPTED = "accepted\nevents 0\ninstances 0\ntimex 1\nsignals 0\ntlinks 1\nalink
 
 
 class Replies(unittest.TestCase):
-    def test_what_is_believed(self):
-        rows_of_replies = [
+    def rows_of_replies(self):
+        """Words, a status and a text, and whether these are believed."""
+        return [
             (["check", "-"], 0, ACCEPTED, True),
             (["check", "-"], 0, ACCEPTED.replace("timex 1", "timex 2"), False),
             (["check", "-"], 0, ACCEPTED.replace("tlink 0", "tlink 1"), False),
@@ -230,9 +232,20 @@ class Replies(unittest.TestCase):
             (["check", "-"], 9, "too long DOC\n", True),
             (["check", "-"], 77, "", False),
         ]
-        for words, status, text, believed in rows_of_replies:
+
+    def test_what_is_believed(self):
+        for words, status, text, believed in self.rows_of_replies():
             with self.subTest(words=words, status=status, text=text):
                 self.assertEqual(refusal(words, status, text.encode(), 9) is None, believed)
+
+    def test_no_number_that_cannot_be_read_is_believed(self):
+        for words, status, text, _ in self.rows_of_replies():
+            # Of the lines of renewed evidence no number is read.
+            for number in re.finditer(r"(?<=[ -])\d+" if words[0] not in ("renew", "join") else "(?!)", text):
+                for digits in (20, 5000):
+                    with self.subTest(words=words, text=text, number=number, digits=digits):
+                        lie = text[: number.start()] + "9" * digits + text[number.end() :]
+                        self.assertIsNotNone(refusal(words, status, lie.encode(), 9))
 
     def test_the_refusal_names_the_command(self):
         self.assertEqual(refusal(["solve", "-"], 5, b"", 0), "tml answered status 5, which `solve` should not")
@@ -337,6 +350,8 @@ class Project(unittest.TestCase):
             script = os.path.join(TOOLS, name if name in ("tml-corpus", "tml-edit") else name.removeprefix("tml-"))
             with self.subTest(name), open(script, encoding="utf-8") as file:
                 self.assertIn(f"from {module} import {function}\n", file.read())
+                said = subprocess.run([sys.executable, script, "--version"], capture_output=True, text=True, check=True).stdout
+                self.assertEqual(said, f"{os.path.basename(script)} {project['version']}\n")
 
     def test_nothing_is_locked_where_it_is_imported(self):
         modules = ", ".join(f"tml_corpus.{name[:-3]}" for name in sorted(os.listdir(os.path.join(TOOLS, "tml_corpus"))) if name.endswith(".py"))

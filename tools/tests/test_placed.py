@@ -154,7 +154,7 @@ class Forms(CorpusTest):
         self.assertEqual((status, error), (1, ""))
         self.assertEqual(lines[-1], "d.xml: no placing in seconds: these links, dates and lengths cannot all be met, 64,806 seconds short")
         self.assertIn("d.xml:4:228: note: two days lasts 3 d at least", lines)
-        self.assertIn("d.xml:10:1: error: cycle, 1 of 7: shut IS_INCLUDED Thursday at noon (link 0: ei1 IS_INCLUDED t1)", lines)
+        self.assertIn("d.xml:10:1: error: cycle, 1 of 7: shut IS_INCLUDED Thursday at noon (l1: ei1 IS_INCLUDED t1)", lines)
         found = json.loads(self.printed("--format", "json", content=late)[1])
         self.assertEqual((found["verdict"], found["short"]), ("not placed", 64_806))
         self.assertEqual(sorted(link["number"] for link in found["links"]), list(range(7)))

@@ -1,13 +1,18 @@
 """Work in several processes: results in the order of the items, groups of items that are quick, and what an interruption leaves."""
 
+import itertools
 import os
+import resource
 import signal
 import time
 import unittest
+from contextlib import contextmanager
+from unittest import mock
 
 import corpus  # noqa: F401
 
-from tml_corpus.pool import AHEAD, TOGETHER, Groups, Interruption, do_group, in_order
+from tml_corpus import pool
+from tml_corpus.pool import AHEAD, ATTEMPTS, SPARE, TOGETHER, Groups, Interruption, do_group, in_order
 from tml_corpus.program import CannotRun
 from tml_corpus.room import Room, room_for
 
@@ -132,6 +137,85 @@ class Order(unittest.TestCase):
         self.assertTrue(all(ended <= begun for (_, ended), (begun, _) in zip(times, times[1:])))
         # A process that ends with the lock leaves it.
         self.assertEqual(list(in_order(killed, range(4), 2, Interruption(), lost)), list(map(lost, range(4))))
+
+
+@contextmanager
+def slow_to_begin(count, seconds):
+    """Has so many processes take so long before they are ready: the first ones that begin."""
+    reading, writing = os.pipe()
+    os.write(writing, b"x" * count)
+    os.set_blocking(reading, False)
+    prepare = pool.prepare_worker
+
+    def begin(watched, lock):
+        try:
+            os.read(reading, 1)
+            time.sleep(seconds)
+        except BlockingIOError:
+            prepare(watched, lock)
+
+    try:
+        with mock.patch.object(pool, "prepare_worker", begin):
+            yield
+    finally:
+        os.close(reading)
+        os.close(writing)
+
+
+class LittleRoom(unittest.TestCase):
+    """Where there is too little memory, or too few processes or files may be had."""
+
+    def test_a_process_that_does_not_get_ready_is_ended(self):
+        with mock.patch.object(pool, "BEGINNING", 2.0):
+            for workers, slow in ((1, 1), (3, 4)):
+                with self.subTest(workers=workers, slow=slow), slow_to_begin(slow, 60):
+                    begun = time.monotonic()
+                    self.assertEqual(list(in_order(deadly, range(100), workers, Interruption(), lost))[:29], list(range(29)))
+                    self.assertLess(time.monotonic() - begun, 40)
+
+    def test_a_process_that_does_not_get_ready_is_not_waited_for(self):
+        with slow_to_begin(1, 30):
+            begun = time.monotonic()
+            with self.assertRaisesRegex(CannotRun, "^no item 20$"):
+                list(in_order(failing, range(15, 300), 2, Interruption(), lost))
+            self.assertLess(time.monotonic() - begun, 15)
+
+    def test_where_no_process_gets_ready(self):
+        with mock.patch.object(pool, "prepare_worker", side_effect=MemoryError), mock.patch.object(os, "fork", wraps=os.fork) as fork:
+            for workers in (1, 3):
+                fork.reset_mock()
+                with self.assertRaisesRegex(CannotRun, "^no process of Python can begin its work: "):
+                    list(in_order(quick, range(50), workers, Interruption(), lost))
+                self.assertEqual(fork.call_count, workers + ATTEMPTS - 1)
+
+    def test_fewer_processes_than_wanted_go_on(self):
+        fork = os.fork
+        for there in (1, 3):
+            forks = itertools.chain([fork] * there, itertools.repeat(mock.Mock(side_effect=BlockingIOError(11, "Resource temporarily unavailable"))))
+            with self.subTest(there), mock.patch.object(os, "fork", lambda forks=forks: next(forks)()):
+                found = list(in_order(slow_at_times, range(200), 50, Interruption(), lost))
+                self.assertEqual(found, list(range(200)))
+        with mock.patch.object(os, "fork", side_effect=BlockingIOError(11, "Resource temporarily unavailable")):
+            with self.assertRaisesRegex(CannotRun, "^no process of Python can be forked: resource temporarily unavailable$"):
+                list(in_order(quick, range(50), 4, Interruption(), lost))
+
+    def test_fewer_files_than_wanted_leave_some_to_be_opened(self):
+        before, limits = len(os.listdir("/proc/self/fd")), resource.getrlimit(resource.RLIMIT_NOFILE)
+        self.addCleanup(resource.setrlimit, resource.RLIMIT_NOFILE, limits)
+        resource.setrlimit(resource.RLIMIT_NOFILE, (before + 20, limits[1]))
+        results = in_order(quick, range(500), 100, Interruption(), lost)
+        first, process = next(results)
+        handles = [os.open(os.devnull, os.O_RDONLY) for _ in range(SPARE)]
+        found = list(results)
+        self.assertEqual([first, *(item for item, _ in found)], list(range(500)))
+        self.assertLess(len({process, *(process for _, process in found)}), 10)
+        for handle in handles:
+            os.close(handle)
+
+    def test_a_thread_that_cannot_be_started(self):
+        with mock.patch("threading.Thread.start", side_effect=RuntimeError("can't start new thread")):
+            with self.assertRaisesRegex(CannotRun, "^no process of Python can begin its work: "):
+                list(in_order(quick, range(50), 2, Interruption(), lost))
 
 
 class GroupsOfItems(unittest.TestCase):

@@ -8,6 +8,7 @@ import tempfile
 import threading
 import unittest
 from fractions import Fraction
+from functools import partial
 from pathlib import Path
 from unittest import mock
 
@@ -61,6 +62,13 @@ class Questions:
             self.assertEqual(tml.check(file, by=self.by), tml.check(RATES, by=self.by))
         with self.assertRaises(FileNotFoundError):
             tml.check("no such file", by=self.by)
+
+    def test_what_is_neither_bytes_nor_a_path_is_misuse(self):
+        for wrong in (0, True, 60, [60, 84], (60,), None, 1.5, {60}, {"a": 1}):
+            with self.subTest(wrong):
+                for ask in (tml.check, tml.spans, partial(tml.score, b"<TimeML/>"), partial(tml.with_links, relations=[])):
+                    with self.assertRaisesRegex(TypeError, "^a file is bytes or a path, and not "):
+                        ask(wrong, by=self.by)
 
     def test_a_fault_has_its_place(self):
         for ask in (tml.check, tml.dates, tml.solve, tml.clash, tml.relations, tml.matrix, tml.reduce, tml.seconds, tml.canon):

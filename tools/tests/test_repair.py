@@ -63,7 +63,7 @@ class Repairs(CorpusTest):
     def repair(self, content, *words):
         """The repair of a document, as JSON has it, and the lines of the text."""
         self.write("d.xml", content)
-        [line] = self.run_it("clashes", "--repair", "--format", "json", *words, "d.xml")[1]
+        [line] = self.run_it("clashes", "--repair", "--format", "jsonl", *words, "d.xml")[1]
         _, lines, _ = self.run_it("clashes", "--repair", *words, "d.xml")
         return json.loads(line)["repair"], [line for line in lines if re.match(r"d\.xml:(\d+:1: note:)? repair", line)]
 
@@ -167,7 +167,7 @@ class Further(CorpusTest):
         self.write("d.xml", written(RING + PAIR + [link("f", "BEFORE", "f")]))
         for more, clashes in ((0, 1), (1, 2), (9, 3)):
             with self.subTest(more):
-                _, [line], error = self.run_it("clashes", "--more", str(more), "--format", "json", "d.xml")
+                _, [line], error = self.run_it("clashes", "--more", str(more), "--format", "jsonl", "d.xml")
                 found = [[link["number"] for link in clash["links"]] for clash in json.loads(line)["clashes"]]
                 self.assertEqual(len(found), clashes)
                 self.assertEqual(len(set(itertools.chain(*found))), sum(map(len, found)))

@@ -132,12 +132,12 @@ class Pages(ReportTest):
         self.assertEqual(
             ["".join(step.itertext()) for step in walk],
             [
-                "the end of waited ei5 is no later than the end of closed ei4, since waited DURING closed (link 5: ei5 DURING ei4)",
-                "the end of closed ei4 is before the end of Monday t1, since closed IS_INCLUDED Monday (link 4: ei4 IS_INCLUDED t1)",
+                "the end of waited ei5 is no later than the end of closed ei4, since waited DURING closed (l6: ei5 DURING ei4)",
+                "the end of closed ei4 is before the end of Monday t1, since closed IS_INCLUDED Monday (l5: ei4 IS_INCLUDED t1)",
                 "the end of Monday t1 is before the start of Wednesday t2, since by the calendar Monday ends at 1998-03-10T00:00:00, and Wednesday "
                 "starts at 1998-03-11T00:00:00",
-                "the start of Wednesday t2 is before the start of reopened ei9, since reopened IS_INCLUDED Wednesday (link 10: ei9 IS_INCLUDED t2)",
-                "the start of reopened ei9 is no later than the end of waited ei5, since waited IBEFORE reopened (link 11: ei5 IBEFORE ei9)",
+                "the start of Wednesday t2 is before the start of reopened ei9, since reopened IS_INCLUDED Wednesday (l11: ei9 IS_INCLUDED t2)",
+                "the start of reopened ei9 is no later than the end of waited ei5, since waited IBEFORE reopened (l12: ei5 IBEFORE ei9)",
             ],
         )
         self.assertIn("So the end of waited ei5 would be before itself", self.said(page, "clash1"))

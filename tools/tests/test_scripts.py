@@ -50,6 +50,30 @@ class ScriptTest(CorpusTest):
         done = subprocess.run([TML, *words], input=given, cwd=self.folder, stdout=subprocess.PIPE, check=False)
         return done.returncode, done.stdout.decode()
 
+    def test_edit_takes_folders(self):
+        old, new = "<TimeML><HL>x</HL></TimeML>\n", "<TimeML>x</TimeML>\n"
+        contents = {"c/a.xml": old, "c/b.xml": new, "c/d/e.tml": old, "c/f.txt": old, "c/g.xml": "<TimeML"}
+        for name, content in contents.items():
+            self.write(name, content)
+
+        def read():
+            found = {}
+            for name in contents:
+                with open(self.path(name), encoding="utf-8") as file:
+                    found[name] = file.read()
+            return found
+
+        status, out, error = self.run_script("tml-edit", "--unwrap", "HL", "c")
+        self.assertEqual((status, read()), (1, contents))
+        self.assertEqual([line for line in out.splitlines() if line[:1] in "-+3"][:4], ["--- c/a.xml", "+++ c/a.xml (changed)", "-<TimeML><HL>x</HL></TimeML>", "+<TimeML>x</TimeML>"])
+        self.assertEqual(out.splitlines()[-1], "4 files: 2 can be changed (--write does it), 1 that cannot be")
+        self.assertIn("c/g.xml: not changed: fault 3 BadMarkup at 1:1: mend it first", error)
+        status, out, _ = self.run_script("tml-edit", "--unwrap", "HL", "--write", "c", "--glob", "*.xml", "--glob", "*.tml")
+        self.assertEqual((status, out), (1, "c/a.xml: changed\nc/d/e.tml: changed\n4 files: 2 changed, 1 that cannot be\n"))
+        self.assertEqual(read(), {**contents, "c/a.xml": new, "c/d/e.tml": new})
+        self.assertEqual(self.run_script("tml-edit", "--unwrap", "HL", "--write", "c/a.xml")[:2], (0, "1 file: 0 changed, 0 that cannot be\n"))
+        self.assertEqual(self.run_script("tml-edit", "--write", "-"), (2, "", "tml-edit: - goes alone, and without --write\n"))
+
     def test_help_has_an_example(self):
         for name in ("redundant-links", "tml-edit", "from-tempeval2", "html-entities"):
             with self.subTest(name):
@@ -113,6 +137,13 @@ class RedundantLinks(ScriptTest):
 
 
 class Edits(ScriptTest):
+    def test_values_that_are_not_utf8(self):
+        self.write("d.xml", document("<P pos='x'/>"))
+        command = [os.fsencode(one) for one in (sys.executable, os.path.join(TOOLS, "tml-edit"), "--tml", TML, "--value", "P", "pos", "x")]
+        done = subprocess.run([*command, b"\xff", b"d.xml"], cwd=self.folder, capture_output=True, text=True, check=False, timeout=60)
+        self.assertEqual((done.returncode, done.stdout), (2, ""))
+        self.assertTrue(done.stderr.endswith("\ntml-edit: error: argument --value: \\xff is not UTF-8\n"), done.stderr)
+
     def test_tags_and_values(self):
         rows = [
             ("<a><HL b='1'>x</HL><hr /></a>", ["--unwrap", "hr", "--rename", "HL=HEADLINE", "--unwrap", "a"], "<HEADLINE b='1'>x</HEADLINE>"),

@@ -168,7 +168,7 @@ class Session(ServeTest):
         self.assertEqual((found["severity"], found["code"], self.stretch(found["range"])), (1, "15 UnknownReference", 'eventID="e2"'))
         self.assertEqual(found["message"], 'no EVENT has eid="e2"; there is e1')
         said = [(one["severity"], one["code"]) for one in self.changed(client, document(EVENT + INSTANCE), 2)]
-        self.assertEqual(said, [(2, "no-creation-time"), (2, "unlinked-instance")])
+        self.assertEqual(said, [(3, "no-creation-time"), (3, "unlinked-instance")])
         client.tell("textDocument/didClose", {"textDocument": {"uri": self.uri()}})
         self.assertEqual(client.findings(), [])
         self.assertIsNone(client.ask("shutdown"))
@@ -187,7 +187,7 @@ class Session(ServeTest):
             at = draw.randrange(len(sample))
             text = sample[:at] + draw.choice(['"', "<", "&", "x", ""]) + sample[at + draw.randint(0, 3) :]
             self.write("d.xml", text)
-            _, lines, _ = self.run_it("check", "--lint", "--clashes", "--format", "json", "d.xml")
+            _, lines, _ = self.run_it("check", "--lint", "--clashes", "--format", "jsonl", "d.xml")
             report = json.loads("\n".join(lines))
             wanted = json.dumps(report, ensure_ascii=False)
             for found in self.changed(client, text, version):
@@ -201,8 +201,9 @@ class Session(ServeTest):
         self.assertEqual([one["message"].split(":")[0] for one in found], [f"clash, {number} of 4" for number in range(1, 5)])
         self.assertEqual([one["range"]["start"]["line"] for one in found], [22, 23, 28, 29])
         beside = found[1]["relatedInformation"]
-        self.assertEqual([one["location"]["range"]["start"]["line"] for one in beside], [28, 29, 22, 3])
-        self.assertIn("by the calendar Monday ends", beside[-1]["message"])
+        self.assertEqual([one["location"]["range"]["start"]["line"] for one in beside], [28, 29, 22, 3, 3, 6])
+        self.assertIn("by the calendar Monday ends", beside[3]["message"])
+        self.assertTrue(beside[-1]["message"].startswith('the date of Wednesday (t2) is value="1998-03-11"'))
         self.assertIn("No timeline fits", self.hover(client, "Monday"))
 
     def test_settings_of_the_folder(self):
@@ -227,7 +228,7 @@ class Answers(ServeTest):
         time_of = self.hover(client, "<TIMEX3", 2)
         self.assertRegex(time_of, r"\*\*.* \(t\d+, (?:DATE|TIME) .*\)\*\*\n\ntime fixed by the calendar: \d+ \w+ \d{4}, \d\d:\d\d to \d\d:\d\d:\d\d\n")
         self.assertRegex(self.hover(client, "<EVENT", 2), r"^\*\*\w+ \(e\d+, [A-Z_]+\): instance ei\d+\*\*\n\n\w+ [A-Z_, ]+ .* \(ei\d+, \w+\)")
-        self.assertRegex(self.hover(client, "<TLINK", 2), r"^\*\*.* \(link 0: \w+ [A-Z_]+ \w+\)\*\*")
+        self.assertRegex(self.hover(client, "<TLINK", 2), r"^\*\*.* \(l1: \w+ [A-Z_]+ \w+\)\*\*")
         self.assertRegex(self.hover(client, "<MAKEINSTANCE", 2), r"^\*\*.* \(ei\d+\), an instance of e\d+\*\*")
         self.assertIsNone(self.hover(client, "<TimeML"))
 
@@ -287,7 +288,7 @@ class Actions(ServeTest):
         client = self.client()
         rows = [
             (EVENT + INSTANCE + "a & b", "&", "Mend & that begin no reference (1 change)"),
-            (EVENT.replace("STATE", "State"), "State", "Mend names and values in other letters (1 change)"),
+            (EVENT.replace("STATE", "State"), "State", "Mend values (1 change)"),
             (EVENT.replace("EVENT", "event"), "<event", "Mend names of tags (2 changes)"),
             (EVENT.replace('"e1"', "\u201ce1\u201d"), "<EVENT", "Mend curly quotes (2 changes)"),
         ]
@@ -312,7 +313,7 @@ class Actions(ServeTest):
     def test_dates_that_touch(self):
         client = self.client()
         found = self.opened(client, TOUCHING)
-        self.assertEqual([(one["code"], one["severity"]) for one in found], [("touching", 1), ("no-creation-time", 2)])
+        self.assertEqual([(one["code"], one["severity"]) for one in found], [("touching", 1), ("no-creation-time", 3)])
         self.assertIn("write IBEFORE", found[0]["message"])
         [action] = self.actions(client, "<TLINK")
         self.assertRegex(action["title"], "^Write IBEFORE: Thursday ends exactly where Friday begins")
@@ -452,7 +453,7 @@ class Editors(CorpusTest):
         self.check_printed(
             printed,
             'said: class="State" is not a class: .*did you mean STATE',
-            r"offered: Mend names and values in other letters \(1 change\)",
+            r"offered: Mend values \(1 change\)",
             'line: <EVENT eid="e1" class="STATE">x</EVENT>',
             "then: the document has no creation time",
             r"hover: \*\*x \(e1, STATE\)",

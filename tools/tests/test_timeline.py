@@ -128,10 +128,10 @@ class Rows(TimelineTest):
 
     def test_links_are_told_in_the_words_of_the_text(self):
         printed = self.titles(self.drawn(self.mended()))[6].split("\n")
-        links = ["waited AFTER closed (link 5: ei5 AFTER ei4)", "turned IS_INCLUDED waited (link 6: ei6 IS_INCLUDED ei5)"]
+        links = ["waited AFTER closed (l6: ei5 AFTER ei4)", "turned IS_INCLUDED waited (l7: ei6 IS_INCLUDED ei5)"]
         self.assertEqual(printed[:2], ["waited (ei5): event, ranks 8 to 11", "Three ships waited while it was closed, and"])
         self.assertEqual([line.split(" ")[0] for line in printed[2:4]], ["start", "end"])
-        self.assertEqual(printed[4:], [*links, "waited IBEFORE reopened (link 11: ei5 IBEFORE ei9)"])
+        self.assertEqual(printed[4:], [*links, "waited IBEFORE reopened (l12: ei5 IBEFORE ei9)"])
 
     def test_intervals_that_overlap(self):
         times = '<TIMEX3 tid="a" type="SET"/>\n<TIMEX3 tid="b" type="SET"/>\n'

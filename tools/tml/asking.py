@@ -57,10 +57,15 @@ def default_answerer() -> Answerer:
 
 
 def content(file: File, limit: int) -> bytes:
-    """The bytes of a file. Of one that is longer than its limit a byte more is read, so that it is answered as too long."""
+    """The bytes of a file. Of one that is longer than its limit a byte more is read, so that it is answered as too long.
+
+    What is neither bytes nor a path is a `TypeError`, also where `bytes` would make some of it, as of a number.
+    """
     if isinstance(file, (str, os.PathLike)):
         with Path(file).open("rb") as opened:
             return opened.read(limit + 1)
+    if not isinstance(file, (bytes, bytearray, memoryview)):
+        raise TypeError(f"a file is bytes or a path, and not {type(file).__name__}")
     return file if isinstance(file, bytes) else bytes(file)
 
 

@@ -30,9 +30,13 @@ class Matrix:
     cells: array[int] = field(default_factory=lambda: array("H"), repr=False)
     """The numbers of the sets: of each interval and each one after it, in order."""
 
+    def place(self, left: int, right: int) -> int:
+        """The number of two intervals among all pairs, from 0 on, where the one stands before the other."""
+        return left * (2 * len(self.intervals) - left - 1) // 2 + right - left - 1
+
     def row(self, left: int) -> array[int]:
         """The numbers of the sets of an interval and of each one after it."""
-        begin = left * (2 * len(self.intervals) - left - 1) // 2
+        begin = self.place(left, left + 1)
         return self.cells[begin : begin + len(self.intervals) - left - 1]
 
     def between(self, first: int, second: int) -> Relations:
@@ -40,7 +44,7 @@ class Matrix:
         if first == second:
             return ("SIMULTANEOUS",)
         left, right = sorted((first, second))
-        found = self.sets[self.cells[left * (2 * len(self.intervals) - left - 1) // 2 + right - left - 1]]
+        found = self.sets[self.cells[self.place(left, right)]]
         return found if left == first else turned(found)
 
     def possible(self, first: str, second: str) -> Relations:

@@ -11,6 +11,8 @@ from bisect import bisect_left, bisect_right
 from itertools import pairwise
 from typing import NamedTuple
 
+from .logs import COMMAND
+
 BYTE_ORDER_MARK = b"\xef\xbb\xbf"
 SHOWN_WIDTH = 160
 FARTHEST = 4 * SHOWN_WIDTH
@@ -104,8 +106,8 @@ def caret_lines(text: str, column: int, count: int = 1) -> list[str]:
 
 
 def no_command(line: str) -> str:
-    """A line without what GitHub and Azure take for a command in a log."""
-    return re.sub(r"^( *):(?=:)|#(?=#(?:\[|vso))", "\\g<1>\ufffd", line)
+    """A line without what build servers take for a command in a log."""
+    return re.sub(rf"^( *):(?=:)|{COMMAND}", "\\g<1>\ufffd", line)
 
 
 def drawn(text: str) -> str:

@@ -6,7 +6,8 @@ from collections.abc import Iterator, Sequence
 from contextlib import contextmanager
 from typing import IO
 
-from .replies import longest, refusal
+from .longest import longest
+from .replies import refusal
 from .running import CannotRun, run
 
 

@@ -2,8 +2,9 @@
 
 Documents, keys, evidence and seconds are bytes, or paths of files. Where a document has a fault the answer is a `Fault`, and where a file
 has more bytes than it may it is a `TooLong`. Raised is only what no bytes can cause: that a name is none of the document's (`UnknownName`),
-that a file cannot be read (`OSError`), that memory is out (`MemoryError`), and that neither the library nor the program is there
-(`CannotRun`). `by` is who answers, a `Library` or a `Process`; without it the one that is found does.
+that a document is neither bytes nor a path (`TypeError`), that a file cannot be read (`OSError`), that memory is out (`MemoryError`),
+and that neither the library nor the program is there (`CannotRun`). `by` is who answers, a `Library` or a `Process`; without it the one
+that is found does.
 """
 
 from __future__ import annotations

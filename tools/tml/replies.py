@@ -8,12 +8,17 @@ from __future__ import annotations
 import re
 from collections.abc import Callable, Mapping, Sequence
 
-from .statuses import EVIDENCE_LIMIT, FAULT_NAMES, RELATIONS, TmlStatus
+from .statuses import FAULT_NAMES, RELATIONS, TmlStatus
 
 NAME = rb"[A-Za-z0-9_.-]{1,64}"
 RELATION = "|".join(RELATIONS).encode()
-COUNTS = b"".join(rb"%s (\d+)\n" % name for name in (b"events", b"instances", b"timex", b"signals", b"tlinks", b"alinks", b"slinks"))
-ACCEPTED = re.compile(rb"accepted\n%s((?:interval \d+ %s\n)*)((?:tlink \d+ %s (?:%s) %s\n)*)" % (COUNTS, NAME, NAME, RELATION, NAME))
+NUMBER = rb"\d{1,19}"
+"""A number that can be read: none that `tml` prints has more digits."""
+
+COUNTED_TAGS = (b"events", b"instances", b"timex", b"signals", b"tlinks", b"alinks", b"slinks")
+COUNTS = b"".join(rb"%s (%s)\n" % (name, NUMBER) for name in COUNTED_TAGS)
+LINKS = rb"(?:tlink %s %s (?:%s) %s\n)*+" % (NUMBER, NAME, RELATION, NAME)
+ACCEPTED = re.compile(rb"accepted\n%s((?:interval %s %s\n)*+)(%s)" % (COUNTS, NUMBER, NAME, LINKS))
 FAULT = re.compile(rb"fault (\d{1,2}) (\w+) (\d{1,7})\n")
 
 EVIDENCE = rb"tml-evidence (?:1|2\nclaims 1)\n"
@@ -23,69 +28,61 @@ CLAIMS = rb"tml-evidence 2\nclaims [1-9]\d*\n(?s:.*)(?<=\n)end\n"
 """A text of claims of version 2."""
 
 KIND = re.compile(EVIDENCE + rb"(timeline|entails|counter|clash) ")
-NUMBERS = rb"(?: \d+)*"
-PART = rb"relation (?:%s)\ntimeline \d+\n(?:at \d+ \d+\n)*" % RELATION
+NUMBERS = rb"(?: %s)*" % NUMBER
+TO_THE_END = rb"(?:[a-z]++%s\n)++(?<=\nend\n)" % NUMBERS
+"""The further lines of one claim. Where texts may be long, nothing that was matched is looked at again, which would take much memory."""
+
+PART = rb"relation (?:%s)\ntimeline %s\n(?:at %s %s\n)*+" % (RELATION, NUMBER, NUMBER, NUMBER)
 CLAIM = rb"verified (?:timeline|(?:entails|counter) %s (?:%s) %s|clash%s)\n" % (NAME, RELATION, NAME, NUMBERS)
 
+SECOND = rb"-?%s" % NUMBER
+CIVIL = rb"[\dT:-]{1,20}"
+
 DONE = {
-    "dates": re.compile(rb"(?:%s (?:free|(?:exact|within) -?\d+ -?\d+ [\dT:-]+ [\dT:-]+)\n)*" % NAME),
-    "solve": re.compile(EVIDENCE + rb"timeline \d+\n(?s:.*)(?<=\n)end\n"),
-    "relations": re.compile(rb"(?:%s (?:%s) %s\n)*" % (NAME, RELATION, NAME)),
+    "dates": re.compile(rb"(?:%s (?:free|(?:exact|within) %s %s %s %s)\n)*+" % (NAME, SECOND, SECOND, CIVIL, CIVIL)),
+    "solve": re.compile(EVIDENCE + rb"timeline %s\n%s" % (NUMBER, TO_THE_END)),
+    "relations": re.compile(rb"(?:%s (?:%s) %s\n)*+" % (NAME, RELATION, NAME)),
     "canon": re.compile(rb"<(?s:.*)\n"),
-    "verify": re.compile(rb"(?:%s)+" % CLAIM),
-    "reduce": re.compile(rb"reduced (\d+) of (\d+)\n((?:tlink \d+ %s (?:%s) %s\n)*)" % (NAME, RELATION, NAME)),
-    "score": re.compile(rb"precision (\d+) of (\d+)\nrecall (\d+) of (\d+)\n"),
-    "seconds": re.compile(rb"tml-seconds 1\nplacing (\d+)\n((?:at -?\d+ -?\d+\n)*)end\n"),
+    "verify": re.compile(rb"(?:%s)++" % CLAIM),
+    "reduce": re.compile(rb"reduced (%s) of (%s)\n(%s)" % (NUMBER, NUMBER, LINKS)),
+    "score": re.compile(rb"precision (%s) of (%s)\nrecall (%s) of (%s)\n" % ((NUMBER,) * 4)),
+    "seconds": re.compile(rb"tml-seconds 1\nplacing (%s)\n((?:at %s %s\n)*+)end\n" % (NUMBER, SECOND, SECOND)),
     "confirm": re.compile(rb"confirmed (?:placing|cycle)\n"),
-    "ask": re.compile(EVIDENCE + rb"(?:entails|counter) \d+ (?:%s) \d+\n(?s:.*)(?<=\n)end\n" % RELATION),
-    "possible": re.compile(rb"possible (\d+)\n((?:%s)+)" % PART),
-    "matrix": re.compile(rb"(?:%s %s(?: (?:%s))+\n)*" % (NAME, NAME, RELATION)),
+    "ask": re.compile(EVIDENCE + rb"(?:entails|counter) %s (?:%s) %s\n%s" % (NUMBER, RELATION, NUMBER, TO_THE_END)),
+    "possible": re.compile(rb"possible (%s)\n((?:%s)++)" % (NUMBER, PART)),
+    "matrix": re.compile(rb"(?:%s %s(?: (?:%s))+\n)*+" % (NAME, NAME, RELATION)),
     "renew": re.compile(CLAIMS),
     "join": re.compile(CLAIMS),
-    "drill": re.compile(rb"drill \d+\nbytes \d+\nlinks \d+\ngreatest \d+\nrelations \d+\nverified timeline\n"),
+    "drill": re.compile(rb"drill %s\nbytes %s\nlinks %s\ngreatest %s\nrelations %s\nverified timeline\n" % ((NUMBER,) * 5)),
 }
 """The texts with status 0; of `check`, `spans`, `reduce` and `score` more is asked."""
 
 OF_KEY = b"key "
 """What stands before a line of `score` that is about its second document."""
 
-CYCLE = re.compile(rb"tml-seconds 1\ncycle (\d+)\n((?:(?:via \d+|span|lower|upper|least|most) \d+\n)+)end\n")
+CYCLE = re.compile(rb"tml-seconds 1\ncycle (%s)\n((?:(?:via %s|span|lower|upper|least|most) %s\n)++)end\n" % ((NUMBER,) * 3))
 """What `seconds` answers where there is no placing."""
 
 OF_NETS = ("solve", "relations", "matrix", "reduce", "score", "ask", "possible")
 """The commands that answer a clash where no timeline fits."""
 
-BAD_LINE = rb"evidence line \d+\n"
+BAD_LINE = rb"evidence line %s\n" % NUMBER
 REFUSED = {
-    "verify": re.compile(BAD_LINE + rb"|evidence claim \d+ part \d+ [ \w]+\n"),
-    "confirm": re.compile(BAD_LINE + rb"|seconds \w+(?: \d+)?\n"),
+    "verify": re.compile(BAD_LINE + rb"|evidence claim %s part %s \w+%s\n" % (NUMBER, NUMBER, NUMBERS)),
+    "confirm": re.compile(BAD_LINE + rb"|seconds \w+(?: %s)?\n" % NUMBER),
     "renew": re.compile(BAD_LINE),
-    "join": re.compile(rb"(?:evidence|second) line \d+\n"),
+    "join": re.compile(rb"(?:evidence|second) line %s\n" % NUMBER),
 }
 """What is said of evidence and of seconds that are malformed or wrong, by each command that may say so."""
 
 OTHER = {
-    TmlStatus.CLASH: ((*OF_NETS, "seconds"), re.compile(EVIDENCE + rb"clash \d+\ncite \d+\n(?s:.*)(?<=\n)end\n")),
+    TmlStatus.CLASH: ((*OF_NETS, "seconds"), re.compile(EVIDENCE + rb"clash %s\ncite %s\n%s" % (NUMBER, NUMBER, TO_THE_END))),
     TmlStatus.READ_FAULT: (None, re.compile(rb"read fault\n")),
     TmlStatus.NO_MEMORY: (None, re.compile(rb"")),
     TmlStatus.UNKNOWN_NAME: (("ask", "possible"), re.compile(rb"unknown (?:X|REL|Y)\n")),
     TmlStatus.TOO_LONG: (None, re.compile(rb"too long (?:DOC|EVIDENCE|SECOND|KEY|SECONDS)\n")),
 }
 """The commands that may end with a status, where not all may, and the text that goes with it."""
-
-MEBIBYTE = 1024 * 1024
-LONGEST = {
-    "solve": EVIDENCE_LIMIT, "relations": 64 * MEBIBYTE, "canon": 32 * MEBIBYTE, "spans": 64 * MEBIBYTE,
-    "matrix": 128 * MEBIBYTE, "reduce": EVIDENCE_LIMIT, "score": EVIDENCE_LIMIT, "ask": EVIDENCE_LIMIT, "possible": EVIDENCE_LIMIT,
-    "verify": 6 * EVIDENCE_LIMIT, "renew": EVIDENCE_LIMIT + MEBIBYTE, "join": 2 * EVIDENCE_LIMIT + MEBIBYTE,
-}  # fmt: skip
-"""So many bytes a reply may have, where it may have more than one MiB: more is not read."""
-
-
-def longest(command: str) -> int:
-    """So many bytes a reply to a command may have."""
-    return LONGEST.get(command, MEBIBYTE)
-
 
 def kind_of(text: bytes) -> bytes:
     """The kind of the one claim that a text of evidence has, by its first word; nothing where it does not begin so."""

@@ -11,7 +11,7 @@ from tml.results import Score
 from .agree import REASONS, NotCounted, PairReport
 from .disagreements import Disagreement
 from .files import counted, shown
-from .formats import located, place_object, printable
+from .formats import Array, located, place_object, printable
 from .matrix_formats import harmless, in_lines
 from .scores import MEASURES, Corpus, Mean
 
@@ -64,7 +64,7 @@ def in_line(scores: Score) -> str:
     """Precision, recall and F1 by their counts and as decimal numbers."""
     of_document = f"precision {scores.matched} of {scores.document_links} ({share(scores.precision)})"
     of_key = f"recall {scores.found} of {scores.key_links} ({share(scores.recall)})"
-    return f"{of_document}, {of_key}, F1 " + (NONE if scores.f1 is None else f"{scores.f1} ({share(scores.f1)})")
+    return f"{of_document}, {of_key}, F1 {share(scores.f1)}"
 
 
 class Text:
@@ -96,10 +96,14 @@ class Text:
         return f"micro: {in_line(corpus.micro)}\nmacro: precision {precision}, recall {recall}, F1 {f1}\n"
 
 
-class Json(Text):
+class JsonLines(Text):
     """One object for each pair and each file that is not counted, on a line of its own, and last one with the sums."""
 
     summary_apart = True
+
+    def entry(self, entry: dict[str, object]) -> str:
+        """What is printed of one object."""
+        return printable(entry)
 
     def pair(self, report: PairReport) -> str:
         if report.not_counted is not None:
@@ -108,15 +112,28 @@ class Json(Text):
             return ""
         pair = {"name": report.name, "path": report.path, "key": report.key_path, "readTouching": bool(report.readings)}
         links = [disagreement_object(one) for one in report.disagreements]
-        return printable({**pair, **scores_object(report.scores), "links": links})
+        return self.entry({**pair, **scores_object(report.scores), "links": links})
 
     def not_counted(self, one: NotCounted) -> str:
-        return printable({"path": one.path, "notCounted": one.reason, "problem": one.text})
+        return self.entry({"path": one.path, "notCounted": one.reason, "problem": one.text})
 
     def sums(self, corpus: Corpus) -> str:
         means = {measure: corpus.macro(measure) for measure in MEASURES}
         macro = {measure: {"value": one.value, "pairs": one.pairs} for measure, one in means.items()}
-        return printable({"pairs": corpus.pairs, "micro": scores_object(corpus.micro), "macro": macro})
+        return self.entry({"pairs": corpus.pairs, "micro": scores_object(corpus.micro), "macro": macro})
+
+
+class Json(JsonLines):
+    """The same objects as one array."""
+
+    def __init__(self) -> None:
+        self.array = Array()
+
+    def entry(self, entry: dict[str, object]) -> str:
+        return self.array.element(printable(entry))
+
+    def sums(self, corpus: Corpus) -> str:
+        return super().sums(corpus) + self.array.end()
 
 
 def scores_object(scores: Score) -> dict[str, object]:
@@ -172,5 +189,5 @@ def scores_row(kind: str, name: str, scores: Score) -> str:
     return in_lines([[kind, quoted(name), *counts, *("" if value is None else value for value in measures), ""]])
 
 
-FORMS: Mapping[str, type[Text]] = {"text": Text, "json": Json, "csv": CommaSeparated}
+FORMS: Mapping[str, type[Text]] = {"text": Text, "json": Json, "jsonl": JsonLines, "csv": CommaSeparated}
 """The forms by their names."""

@@ -2,16 +2,18 @@
 
 from __future__ import annotations
 
+import re
 from collections.abc import Iterable, Iterator
-from itertools import chain, islice
+from itertools import islice
 
-from .edits import Edit, with_value
+from .edits import Edit, encoded, with_spaces_before, with_value
 from .faults import BAD_DATE, BAD_VALUE, CONFLICT, MISSING, REPEATED
-from .profile import LEFT, LONGEST_IDENTIFIER, RIGHT, TABLE, Kind, Row, is_identifier
-from .similar import MOST_CHOICES, nearest, same_but_for_case
+from .invisible import first_invisible, without_invisible
+from .profile import IDENTIFIERS, LEFT, LONGEST_IDENTIFIER, RIGHT, TABLE, Kind, Row, is_identifier
+from .similar import MOST_CHOICES, near, nearest, one_letter_apart, plain, same_but_for_case
 from .source import Explanation, Source, attribute_of, attributes_of, cut
 from .units import Attribute, Unit
-from .values import no_date
+from .values import exchanged, no_date
 
 MORE_INTERVALS = "`tml-edit --overlaps` says it by more intervals, or leave the link out"
 OTHER_RELATIONS = {
@@ -25,6 +27,17 @@ OTHER_RELATIONS = {
     "UNKNOWN": "it says nothing of the order: `tml-edit --drop-links UNKNOWN` leaves such links out",
 }
 """Relations of other schemes, and what to do."""
+
+SAME_RELATIONS = {
+    "IDENTICAL": "IDENTITY", "EQUAL": "SIMULTANEOUS", "EQUALS": "SIMULTANEOUS", "MEETS": "IBEFORE", "MET_BY": "IAFTER",
+    "IMMEDIATELY_BEFORE": "IBEFORE", "IMMEDIATELY_AFTER": "IAFTER", "CONTAINS": "INCLUDES", "CONTAINED_BY": "IS_INCLUDED",
+    "CONTAINED_IN": "IS_INCLUDED", "INCLUDED_BY": "IS_INCLUDED", "INCLUDED_IN": "IS_INCLUDED", "STARTS": "BEGINS", "STARTED_BY": "BEGUN_BY",
+    "FINISHES": "ENDS", "FINISHED_BY": "ENDED_BY", "PRECEDES": "BEFORE", "FOLLOWS": "AFTER",
+}  # fmt: skip
+"""Relations of other schemes that one of TimeML says."""
+
+UNCLEAR_RELATIONS = {"INCLUDED": ["IS_INCLUDED", "INCLUDES"], "ENDED": ["ENDED_BY", "ENDS"], "BEGUN": ["BEGUN_BY", "BEGINS"]}
+"""Words that are near to two relations which say the opposite of each other."""
 
 OF_EVENTS = {"eventID": "eventInstanceID", "relatedToEvent": "relatedToEventInstance", "subordinatedEvent": "subordinatedEventInstance"}
 """Attributes of other versions of TimeML, in which links refer to events."""
@@ -47,11 +60,45 @@ def repeated(source: Source, tag: Unit, found: Explanation) -> None:
     seen: dict[str, Attribute] = {}
     for attribute in tag.attributes:
         if attribute.name in seen:
-            about(found, attribute)
-            first = seen[attribute.name].written(source.document)
-            found.text = f"{cut(attribute.name)} stands twice, as {first} and as {attribute.written(source.document)}: take one of the two out"
+            of_two(source, tag, seen[attribute.name], attribute, found)
             return
         seen[attribute.name] = attribute
+
+
+def of_two(source: Source, tag: Unit, first: Attribute, second: Attribute, found: Explanation) -> None:
+    """Two attributes of one name: which of them to take out."""
+    about(found, second)
+    texts = text_of(source, first), text_of(source, second)
+    said = f"{cut(first.name)} stands twice, as {first.written(source.document)} and as {second.written(source.document)}"
+    row = TABLE.get(tag.name, {}).get(first.name)
+    right = texts[0] if texts[0] == texts[1] else None if row is None else fitting_one(source, tag, row, texts)
+    if right is None:
+        found.text = f"{said}: take the wrong one of the two out"
+    elif texts[0] == texts[1]:
+        found.text = f"{said}: take one of the two out"
+        found.edits.append(with_spaces_before(source.document, second))
+    else:
+        wrong = first if right == texts[1] else second
+        found.text = f"{said}: take {wrong.written(source.document)} out, since {why_right(row, right)}"
+        found.edits.append(with_spaces_before(source.document, wrong))
+
+
+def fitting_one(source: Source, tag: Unit, row: Row, values: Iterable[str]) -> str | None:
+    """The one of some values that the attribute can have by what the rest of the document says; None where that is not known."""
+    if row.form.kind is Kind.REFERENCE:
+        fitting = [value for value in values if value in source.identifiers[row.form.target]]
+    elif row.form.kind is Kind.IDENTIFIER:
+        fitting = [value for value in values if value in source.referred[tag.name] and source.bearer(value) in (None, tag)]
+    else:
+        fitting = [value for value in values if value and row.form.kind is Kind.LISTED and row.form.fits(value)]
+    return fitting[0] if len(fitting) == 1 else None
+
+
+def why_right(row: Row | None, value: str) -> str:
+    """Why one of two values is the right one."""
+    if row is None or row.form.kind is Kind.LISTED:
+        return f"only {value} is a value that it may have"
+    return f"only {value} is referred to" if row.form.kind is Kind.IDENTIFIER else f"only {value} is {article(row.form.target)} {row.form.target}"
 
 
 def missing(source: Source, tag: Unit, found: Explanation) -> None:
@@ -79,27 +126,59 @@ def lack(source: Source, tag: Unit, row: Row, found: Explanation) -> str:
     absent = [name for name in row.needs if attribute_of(tag, name) is None]
     unknown = (one for one in tag.attributes if one.name not in TABLE[tag.name])
     for attribute in islice(unknown, MOST_CHOICES):
-        meant = OF_EVENTS.get(attribute.name) or nearest(attribute.name, absent)
+        meant = OF_EVENTS.get(attribute.name) or meant_name(attribute.name, absent)
         if meant in row.needs:
             about(found, attribute)
+            found.edits.append(Edit(attribute.start, attribute.start + len(encoded(attribute.name)), meant.encode()))
             hint = " (tml-edit --instances does it)" if attribute.name in OF_EVENTS else ""
             return f"{meant} is missing, and {cut(attribute.name)} is no attribute of {tag.name}; did you mean {meant}?{hint}"
+    said, meant = wanted(source, tag, row)
     if empty is not None:
         about(found, empty)
-        return f"{empty.name} is empty: {wanted(source, tag, row)}"
-    return f"{' or '.join(row.needs)} is missing: {wanted(source, tag, row)}"
+        found.edits += [with_value(empty, source.document, encoded(meant))] if meant else []
+        return f"{empty.name} is empty: {said}"
+    if meant:
+        at = tag.start + 1 + len(tag.name)
+        found.edits.append(Edit(at, at, encoded(f' {row.name}="{meant}"')))
+    return f"{' or '.join(row.needs)} is missing: {said}"
 
 
-def wanted(source: Source, tag: Unit, row: Row) -> str:
-    """What an attribute may be."""
+def meant_name(name: str, choices: list[str]) -> str | None:
+    """The name of an attribute that was probably meant."""
+    found = nearest(name, choices)
+    apart = [choice for choice in choices if one_letter_apart(name, choice)]
+    return found or (apart[0] if len(apart) == 1 else None)
+
+
+def wanted(source: Source, tag: Unit, row: Row) -> tuple[str, str | None]:
+    """What an attribute may be; and the value where there is one only."""
     if row.form.kind is Kind.LISTED:
-        return listing(row)
+        return listing(row), None
     if row.form.kind is Kind.IDENTIFIER:
-        return f"an identifier that no other tag has, such as {source.fresh(tag.name)}"
+        return wanted_identifier(source, tag)
     if len(row.needs) == 2:
-        return f"the {'first' if row.needs == LEFT else 'second'} end of the link, the eiid of a MAKEINSTANCE or the tid of a TIMEX3"
+        return f"the {'first' if row.needs == LEFT else 'second'} end of the link, the eiid of a MAKEINSTANCE or the tid of a TIMEX3", None
     target = row.form.target
-    return f"the {next(iter(TABLE[target]))} of {article(target)} {target}"
+    said, bare = f"the {IDENTIFIERS[target]} of {article(target)} {target}", source.without_instance()
+    if row.name == "eventID" and len(bare) == 1 and number_of(bare[0]) == number_of(source.value(tag, "eiid")):
+        return f"{said}; did you mean {bare[0]}, the only one without an instance?", bare[0]
+    return said, None
+
+
+def number_of(name: str) -> str:
+    """The digits in an identifier."""
+    return "".join(re.findall(r"\d", name))
+
+
+def wanted_identifier(source: Source, tag: Unit) -> tuple[str, str | None]:
+    """Which identifier a tag without one may have: that to which tags refer in vain goes before new ones."""
+    names = source.dangling(tag.name)
+    if len(names) == 1:
+        [(name, other)] = names.items()
+        return f"write {IDENTIFIERS[tag.name]}=\"{name}\", to which the {other.name} at {source.at(other.start)} refers and which no tag has", name
+    if names:
+        return f"one of {', '.join(islice(names, MOST_CHOICES))}, to which tags refer and which no tag has", None
+    return f"an identifier that no other tag has, such as {source.fresh(tag.name)}", None
 
 
 def article(noun: str) -> str:
@@ -109,7 +188,7 @@ def article(noun: str) -> str:
 
 def bad_value(source: Source, tag: Unit, found: Explanation) -> None:
     """Fault 11: values that are not of their form."""
-    sentences = [sentence for attribute, row in bad_values(source, tag) if (sentence := misfit(source, attribute, row, found))]
+    sentences = [misfit(source, tag, attribute, row, found) for attribute, row in bad_values(source, tag)]
     found.text = "; and ".join(sentences)
 
 
@@ -126,35 +205,59 @@ def text_of(source: Source, attribute: Attribute) -> str:
     return attribute.value(source.document).decode("utf-8", "surrogateescape")
 
 
-def misfit(source: Source, attribute: Attribute, row: Row, found: Explanation) -> str:
+def misfit(source: Source, tag: Unit, attribute: Attribute, row: Row, found: Explanation) -> str:
     """Why a value is not of its form, and what it was probably meant to be."""
     value, written = text_of(source, attribute), attribute.written(source.document)
     about(found, attribute)
     if row.form.kind is not Kind.LISTED:
-        return f"{written} {not_identifier(value)}"
+        why, meant = not_identifier(source, tag, row, value)
+        found.edits += [with_value(attribute, source.document, encoded(meant))] if meant else []
+        return f"{written} {why}"
     if row.tag == "TLINK" and value in OTHER_RELATIONS:
         return f"{written} is not {row.form.noun}, and {OTHER_RELATIONS[value]}"
-    # OVERLAP is nearly OVERLAPS, and says something else.
-    of_others = row.tag == "TLINK" and same_but_for_case(value, OTHER_RELATIONS) is not None
-    meant = None if of_others else nearest(value, row.form.values)
-    if meant is not None:
-        return f"{written} is not {row.form.noun}: {listing(row)}; did you mean {meant}?"
+    choices = listed_near(row, value)
+    if len(choices) == 1:
+        found.edits.append(with_value(attribute, source.document, choices[0].encode()))
+    if choices:
+        hidden = first_invisible(value)
+        seen = f", since it has {hidden} in it, which nobody sees" if hidden else ""
+        return f"{written} is not {row.form.noun}{seen}: {listing(row)}; did you mean {' or '.join(choices)}?"
     other = next((one.form.noun for rows in (TABLE[row.tag], *TABLE.values()) for one in rows.values() if value in one.form.values), None)
     return f"{written} is not {row.form.noun}{f' but {other}' if other else ''}: {listing(row)}"
 
 
-def not_identifier(value: str) -> str:
-    """Why a value can be no identifier."""
+def listed_near(row: Row, value: str) -> list[str]:
+    """The values of a list that may have been meant."""
+    if row.tag == "TLINK":
+        word = plain(value).upper()
+        # OVERLAP is nearly OVERLAPS, and says something else.
+        if same_but_for_case(value, OTHER_RELATIONS) is not None:
+            return []
+        if word in SAME_RELATIONS:
+            return [SAME_RELATIONS[word]]
+        if word in UNCLEAR_RELATIONS:
+            return UNCLEAR_RELATIONS[word]
+    return near(value, row.form.values)
+
+
+def not_identifier(source: Source, tag: Unit, row: Row, value: str) -> tuple[str, str | None]:
+    """Why a value can be no identifier; and what to write where that is clear."""
     if len(value) > LONGEST_IDENTIFIER:
-        return f"has {len(value)} letters, and an identifier has {LONGEST_IDENTIFIER} at most"
+        return f"has {len(value)} letters, and an identifier has {LONGEST_IDENTIFIER} at most", None
+    hidden, seen = first_invisible(value), without_invisible(value).strip()
+    if hidden and is_identifier(seen):
+        return f"has {hidden} in it, which nobody sees: write {seen}", seen
     if is_identifier(value.strip()):
-        return f"has a space at its beginning or end: write {value.strip()}"
+        return f"has a space at its beginning or end: write {value.strip()}", value.strip()
     if is_identifier(value[1:]) and value[0] == "#":
-        return f"is not an identifier: write {value[1:]} without #"
+        return f"is not an identifier: write {value[1:]} without #", value[1:]
     if all(map(is_identifier, value.split())):
-        return "has a space in it, and one identifier has none"
+        right = fitting_one(source, tag, row, value.split())
+        cure = f": write {right}, since {why_right(row, right)}" if right else ""
+        return f"has a space in it, and one identifier has none{cure}", right
     wrong = next((letter for letter in value if not is_identifier(letter)), "")
-    return f"is not an identifier, since it has {wrong if wrong.isprintable() else 'a control character'} in it: letters A to Z, digits, _ - and . are allowed"
+    shown = wrong if wrong.isprintable() else "a control character"
+    return f"is not an identifier, since it has {shown} in it: letters A to Z, digits, _ - and . are allowed", None
 
 
 def conflict(source: Source, tag: Unit, found: Explanation) -> None:
@@ -167,7 +270,8 @@ def conflict(source: Source, tag: Unit, found: Explanation) -> None:
         out = unknown[0] if len(unknown) == 1 else None
         about(found, out or both[1])
         first, second = (one.written(source.document) for one in both[:2])
-        cure = f"take {out.name} out, since no tag has this identifier" if out else "take one of the two out"
+        cure = f"take {out.name} out, since no tag has this identifier" if out else "take the wrong one of the two out"
+        found.edits += [with_spaces_before(source.document, out)] if out else []
         found.text = f"{first} and {second} both name the {end} end of the link: {cure}"
         return
 
@@ -179,24 +283,8 @@ def bad_date(source: Source, tag: Unit, found: Explanation) -> None:
     if attribute is not None and why is not None:
         about(found, attribute)
         found.text = f"{attribute.written(source.document)}: {why}"
+        meant = exchanged(text_of(source, attribute))
+        found.edits += [with_value(attribute, source.document, meant.encode())] if meant else []
 
 
 EXPLAINERS = {REPEATED: repeated, MISSING: missing, BAD_VALUE: bad_value, CONFLICT: conflict, BAD_DATE: bad_date}
-
-
-def spelling_edits(source: Source, chosen: Iterable[Unit] | None = None) -> Iterator[Edit]:
-    """The edits of all tags, or of some, for what differs in upper and lower case alone.
-
-    These are listed values, and names of attributes that a tag has to have.
-    """
-    for tag in chain(*source.by_kind.values()) if chosen is None else chosen:
-        for attribute, row in bad_values(source, tag):
-            meant = same_but_for_case(text_of(source, attribute), row.form.values)
-            if meant is not None:
-                yield with_value(attribute, source.document, meant.encode())
-        for row in lacking_in(source, tag):
-            others = (one for one in tag.attributes if one.name not in TABLE[tag.name])
-            name = next((one for one in others if same_but_for_case(one.name, row.needs)), None)
-            if name is not None:
-                meant = same_but_for_case(name.name, row.needs) or name.name
-                yield Edit(name.start, name.start + len(name.name.encode("utf-8", "surrogateescape")), meant.encode())

@@ -41,9 +41,9 @@ def judge_document(
 
 def placed_warnings(program: Program, source: Source, lint: Lint) -> list[PlacedWarning]:
     """What is suspect in an accepted document, with places in lines and columns."""
-    from .lint import MOST_WARNINGS, warnings_of
+    from .lint import MOST_WARNINGS, Finding, warnings_of
 
-    found = nsmallest(MOST_WARNINGS, warnings_of(program, source, lint), key=lambda warning: warning.start)
+    found = nsmallest(MOST_WARNINGS, warnings_of(program, source, lint), key=Finding.order)
     return [PlacedWarning(one.name, one.text, mark_of(source.places, one.start, one.end), one.tag) for one in found]
 
 

@@ -63,7 +63,7 @@ def clash_lines(path: str, clash: PlacedClash, number: int) -> list[str]:
     for place, link in enumerate(clash.links, 1):
         lines.append(located(path, link.place(), f"error: {name}, {place} of {len(clash.links)}: {link.text}"))
         lines += link.source
-    return lines + [located(path, note.place, f"note: {note.text}") for note in clash.calendar + clash.cures]
+    return lines + [located(path, note.place, f"note: {note.text}") for note in clash.calendar + clash.dates + clash.cures]
 
 
 def touching_lines(path: str, report: ClashReport) -> list[str]:
@@ -97,7 +97,7 @@ def repair_lines(path: str, report: ClashReport) -> list[str]:
     return lines
 
 
-class Json(Text):
+class JsonLines(Text):
     """One object for each file, on a line of its own. Bytes of names that are not UTF-8 are lone surrogates."""
 
     summary_apart = True
@@ -120,6 +120,20 @@ class Json(Text):
         return self.file(ClashReport(Judgement(path)))
 
 
+class Json(JsonLines):
+    """One array with an object for each file."""
+
+    def __init__(self, checked: bool) -> None:
+        super().__init__(checked)
+        self.array = formats.Array()
+
+    def file(self, report: ClashReport) -> str:
+        return self.array.element(super().file(report))
+
+    def end(self, summary: ClashSummary) -> str:
+        return self.array.end()
+
+
 def link_object(link: PlacedLink) -> dict[str, object]:
     """A link as JSON has it."""
     names = {"number": link.link.number, "left": link.link.left, "relation": link.link.relation, "right": link.link.right}
@@ -129,7 +143,8 @@ def link_object(link: PlacedLink) -> dict[str, object]:
 def clash_object(clash: PlacedClash) -> dict[str, object]:
     """A clash as JSON has it."""
     printed: dict[str, object] = {"links": [link_object(link) for link in clash.links]}
-    printed.update(calendar=list(map(formats.note_object, clash.calendar)), cures=list(map(formats.note_object, clash.cures)))
+    for name, notes in (("calendar", clash.calendar), ("dates", clash.dates), ("cures", clash.cures)):
+        printed[name] = list(map(formats.note_object, notes))
     if clash.evidence is not None:
         printed["evidence"] = clash.evidence
     return printed
@@ -225,7 +240,7 @@ def beside(place: Place, text: str) -> str:
 def message_lines(clash: PlacedClash) -> list[str]:
     """A clash in lines."""
     lines = [shown(headline(clash)), *(beside(link.place(), link.text) for link in clash.links[1:])]
-    return lines + [beside(note.place, note.text) for note in clash.calendar + clash.cures]
+    return lines + [beside(note.place, note.text) for note in clash.calendar + clash.dates + clash.cures]
 
 
 def repair_message(report: ClashReport) -> list[str]:
@@ -240,6 +255,7 @@ def make_format(name: str, with_source: bool, quiet: bool, checked: bool, strict
     makers: dict[str, Callable[[], Text]] = {
         "text": lambda: Text(with_source, quiet),
         "json": lambda: Json(checked),
+        "jsonl": lambda: JsonLines(checked),
         "junit": lambda: JUnit("tml check" if checked else "tml clashes", with_source, strict),
         "github": GitHub,
     }

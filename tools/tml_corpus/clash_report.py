@@ -49,10 +49,11 @@ class PlacedLink(NamedTuple):
 
 
 class PlacedClash(NamedTuple):
-    """A minimal clash: its links, what the calendar says of it, other relations that would not clash, its evidence, and its walk."""
+    """A minimal clash: its links, what the calendar says of it, its dates, relations that would not clash, its evidence, and its walk."""
 
     links: list[PlacedLink]
     calendar: list[PlacedNote]
+    dates: list[PlacedNote]
     cures: list[PlacedNote]
     evidence: str | None
     walk: tuple[Step, ...] = ()
@@ -84,6 +85,8 @@ class PlacedRepair(NamedTuple):
     at_least: int
     changes: int
     """So many links between dates that touch are to be mended besides."""
+    is_of_dates: bool = False
+    """Whether the clash rests on dates, of which one may be wrong in the place of a link."""
 
     def text(self) -> str:
         """What is to be done, in one line."""
@@ -92,7 +95,8 @@ class PlacedRepair(NamedTuple):
         if not self.choices and self.at_least:
             return f"no set of links was found without which a timeline fits, in as many questions as are asked about one document; {self.known()}"
         if self.choices:
-            besides.append(f"leave out or mend {self.which()}")
+            or_a_date = ", or correct a date" if self.is_of_dates and len(self.choices) == 1 else ""
+            besides.append(f"leave out or mend {self.which()}{or_a_date}")
         return f"{', '.join(besides)}, and a timeline fits" + (f"; {self.known()}" if len(self.choices) > 1 or not self.smallest else "")
 
     def which(self) -> str:

@@ -16,7 +16,7 @@ from .leftout import Copies
 from .program import CLASH, FAULT, CannotRun, Program, Reply
 from .repair import find_repair
 from .source import Source
-from .touching import GAP, INCLUSIONS, Change, asks, relation_of, touching_changes
+from .touching import GAP, INCLUSIONS, Change, asks, touching_changes
 from .words import Wording
 
 
@@ -37,15 +37,10 @@ def report_of(program: Program, found: Found, document: bytes, wanted: Wanted, r
     return ClashSearch(program, found, document, wanted).report(read_clash(reply))
 
 
-def placed_link(wording: Wording, number: int) -> PlacedLink:
-    """A link in words, with its line."""
-    link, tag = wording.link(number), wording.link_tags[number]
-    attribute = relation_of(tag)
-    start, end = tag.start, tag.end
-    if attribute is not None and b"\n" not in wording.document[tag.start : attribute.start]:
-        start, end = attribute.start, attribute.end
-    places = wording.places
-    return PlacedLink(link, wording.in_words(link), places.marked(places.place(start), places.place(end)))
+def placed_link(wording: Wording, number: int, *, numbered: bool = False) -> PlacedLink:
+    """A link in words, with its line, in which its tag is marked."""
+    link, tag, places = wording.link(number), wording.link_tags[number], wording.places
+    return PlacedLink(link, wording.in_words(link, numbered=numbered), places.marked(places.place(tag.start), places.place(tag.end)))
 
 
 class ClashSearch:
@@ -116,11 +111,12 @@ class ClashSearch:
         if repair.links:
             self.copies.verify_without(repair.links)
         choices = [[self.placed_link(number) for number in repair.choices(link)] for link in repair.links]
-        return PlacedRepair(choices, repair.smallest, repair.all_others, repair.at_least, changes)
+        is_of_dates = any(step.kind == "calendar" for step in left.walk)
+        return PlacedRepair(choices, repair.smallest, repair.all_others, repair.at_least, changes, is_of_dates)
 
     def placed_link(self, number: int) -> PlacedLink:
-        """A link in words, with its line."""
-        return placed_link(self.wording, number)
+        """A link in words, with its line; its number is there where the evidence is kept, which has it."""
+        return placed_link(self.wording, number, numbered=self.wanted.folder is not None)
 
     def placed_change(self, change: Change) -> PlacedChange:
         """A link between dates that touch, with its line."""
@@ -133,13 +129,19 @@ class ClashSearch:
             evidence = os.path.join(folder, evidence_name(self.path if number == 1 else f"{self.path}.{number}"))
         verify_clash(self.program, self.document, clash, evidence and os.path.join(self.found.base, evidence))
         links = [self.placed_link(link) for link in clash.links]
-        return PlacedClash(links, self.calendar_notes(clash), self.cures(clash), evidence, clash.walk)
+        return PlacedClash(links, self.calendar_notes(clash), self.date_notes(clash), self.cures(clash), evidence, clash.walk)
 
     def calendar_notes(self, clash: Clash) -> list[PlacedNote]:
         """What the walk takes from the calendar; places are asked for in their order, since lines may be long."""
         steps = list(dict.fromkeys((step.first, step.second) for step in clash.walk if step.kind == "calendar"))
         notes = {step: PlacedNote(*self.wording.calendar(*step)) for step in sorted(steps)}
         return [notes[step] for step in steps]
+
+    def date_notes(self, clash: Clash) -> list[PlacedNote]:
+        """The dates on which the walk rests, each with its value: one of them may be wrong, and not a link."""
+        points = sorted({point for step in clash.walk if step.kind == "calendar" for point in (step.first, step.second)})
+        dates = dict.fromkeys(found for point in points if (found := self.wording.dated(point)) is not None)
+        return [PlacedNote(place, f"{text}: correct a date, or leave out or mend a link") for place, text in dates]
 
     def cures(self, clash: Clash) -> list[PlacedNote]:
         """Of a clash of several links that stands on ends of dates that are equal: relations that do not clash with the other links.

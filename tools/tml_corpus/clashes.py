@@ -11,8 +11,9 @@ from typing import NamedTuple
 from tml.lines import Step
 from tml.replies import kind_of
 
-from .files import CannotRead, reason, written
+from .files import CannotRead, reason
 from .program import ACCEPTED, CannotRun, File, Program, Reply
+from .replacing import written
 
 STRICT_ORDERS = {
     "BEFORE": (0,), "AFTER": (0,), "INCLUDES": (0, 1), "IS_INCLUDED": (0, 1), "BEGINS": (2,), "BEGUN_BY": (2,), "ENDS": (2,), "ENDED_BY": (2,),
@@ -93,9 +94,12 @@ def evidence_name(path: str) -> str:
 
 
 def own_name(path: str, end: str) -> str:
-    """A name for what is made of a file: its own name as far as it is plain, and a digest of the path, so that no two are the same."""
+    """A name for what is made of a file: its own name as far as it is plain, and a digest of the path.
+
+    It has 128 bits, so that no two paths can be found that have the same.
+    """
     import hashlib
 
     plain = re.sub(r"[^A-Za-z0-9._-]", "_", os.path.basename(path))[:100]
-    digest = hashlib.sha256(os.fsencode(path)).hexdigest()[:12]
+    digest = hashlib.sha256(os.fsencode(path)).hexdigest()[:32]
     return f"{plain}.{digest}.{end}"

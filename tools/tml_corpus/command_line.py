@@ -7,22 +7,22 @@ from collections.abc import Callable, Mapping
 
 from .files import PATTERNS, shown
 from .kinds import NAMES
-from .output import Parser, RawFormatter
+from .output import Parser, ProgramParser, RawFormatter
 
 EXAMPLES = """Examples:
   tools/tml-corpus {0} samples
   tools/tml-corpus {0} --cluster tcp://head:8786 --tml /shared/bin/tml /shared/corpus"""
-FORMS = ("text", "json", "junit", "github")
+FORMS = ("text", "json", "jsonl", "junit", "github")
 MATRIX_FORMS = ("text", "csv", "html")
-AGREE_FORMS = ("text", "json", "csv")
+AGREE_FORMS = ("text", "json", "jsonl", "csv")
 SECONDS_FORMS = ("text", "json", "csv", "ics")
 TOUCHING = "read links between dates that touch as the relation that holds, as IBEFORE for BEFORE, and list them"
 
 
 def parser(chosen: str | None = None) -> Parser:
     """The words that are understood: those of one command where it is chosen, since to make all of them takes longer than to read them."""
-    whole = Parser(prog="tml-corpus", description="Asks tml about all documents of a corpus.")
-    commands = whole.add_subparsers(required=True, metavar="COMMAND", dest="command")
+    whole = ProgramParser(prog="tml-corpus", description="Asks tml about all documents of a corpus.")
+    commands = whole.add_subparsers(required=True, metavar="COMMAND", dest="command", parser_class=Parser)
     for name, (about, add_words) in COMMANDS.items():
         if chosen not in COMMANDS or name == chosen:
             add_words(commands.add_parser(name, help=about))
@@ -70,8 +70,8 @@ def tags_words(words: Parser) -> None:
 def fix_words(words: Parser) -> None:
     """The words of `fix`."""
     words.description = (
-        "Mends what has one cure only: & that begin no reference, curly quotes around values, CDATA, Latin-1, names and listed values in "
-        "other letters, and references to an event that has one instance. It prints the changes, and writes them where --write is given. "
+        "Mends what has one cure only, of faults and of warnings: as & that begin no reference, lost quotes, CDATA, Latin-1, mistyped names, "
+        "values and dates, and references to an event that has one instance. It prints the changes, and writes them where --write is given. "
         "The status is 0 where tml accepts each file as it is then."
     )
     words.epilog = "Example: tools/tml-corpus fix samples"
@@ -134,10 +134,10 @@ def open_words(words: Parser) -> None:
         "Prints the pairs of intervals between which more than one relation of Allen is possible. Before each stands how many such pairs "
         "one more link between the two decides, from the least number to the greatest, and after it how many each relation does; pairs of "
         "which the least number is greatest come first. The numbers that are printed are those of tml matrix, asked of the document with "
-        "each such link."
+        "each such link. Of a folder each document is looked at, and its name stands before each line."
     )
     words.epilog = "Example: tools/tml-corpus open --limit 3 samples/rates.xml"
-    words.add_argument("document", metavar="DOC", help="a file")
+    words.add_argument("document", metavar="DOC", help="a file, or a folder to search")
     words.add_argument("--limit", type=number_from_zero, default=10, metavar="N", help="how many pairs are shown (10)")
     nearest = "how many pairs are looked at, the nearest ones in the document (2000; 0: all)"
     words.add_argument("--pairs", type=number_from_zero, default=2000, metavar="N", help=nearest)

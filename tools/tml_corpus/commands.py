@@ -19,7 +19,7 @@ from typing import TYPE_CHECKING, TypeVar
 
 from .command_line import parser
 from .files import PATTERNS, Found, counted, find_files, reason, shown
-from .output import run
+from .output import complain, run
 from .pool import Interruption, in_order, processors
 from .program import CannotRun, Program, find_program, present_program
 from .progress import Progress
@@ -36,6 +36,9 @@ if TYPE_CHECKING:
     from .tags import Names
 
 Result = TypeVar("Result")
+
+JSON = ("json", "jsonl")
+"""The forms that have all that is known of a clash."""
 
 
 def main(words: Sequence[str] | None = None) -> int:
@@ -58,8 +61,10 @@ def run_command(options: argparse.Namespace, stop: Interruption) -> int:
     command = COMMANDS[options.command]
     if not getattr(options, "watch", False):
         return command(options, stop)
-    if options.format == "junit" or options.cluster is not None or STANDARD_INPUT in options.paths:
-        raise CannotRun("--watch goes neither with --format junit, nor with --cluster, nor with -")
+    if options.format in ("junit", "json") or options.cluster is not None or STANDARD_INPUT in options.paths:
+        raise CannotRun("--watch goes neither with --format junit or json, nor with --cluster, nor with -")
+    if getattr(options, "write_baseline", False):
+        raise CannotRun("--watch goes not with --write-baseline, which would have the last files alone")
 
     def look(found: list[Found]) -> None:
         options.found = found
@@ -106,7 +111,10 @@ def settings_of(options: argparse.Namespace) -> Settings:
     if options.command == "serve":
         return Settings()
     paths = getattr(options, "paths", None) or [options.document, getattr(options, "key", options.document)]
-    return settings_for(["." if path == STANDARD_INPUT else path for path in paths], options.config)
+    settings, remarks = settings_for(["." if path == STANDARD_INPUT else path for path in paths], options.config)
+    for remark in remarks:
+        complain(remark)
+    return settings
 
 
 def with_wrappers(program: Program, options: argparse.Namespace) -> Program:
@@ -176,7 +184,7 @@ def check_command(options: argparse.Namespace, stop: Interruption) -> int:
     if options.clashes:
         from .clash_report import Wanted
 
-        wanted = Wanted(touching=options.touching, more=options.more, explained=options.explain, lint=lint, every_clash=options.format == "json")
+        wanted = Wanted(touching=options.touching, more=options.more, explained=options.explain, lint=lint, every_clash=options.format in JSON)
         return show_clashes(options, stop, wanted, baseline)
     if options.touching:
         raise CannotRun("--touching is about clashes: give --clashes too")
@@ -191,46 +199,31 @@ def check_command(options: argparse.Namespace, stop: Interruption) -> int:
         if judgement is None:
             summary.add_plain()
             return form.plain(one.path)
-        use_baseline(options, baseline, judgement)
+        if baseline is not None:
+            baseline.apply(judgement)
         summary.add(judgement)
         return form.file(judgement)
 
     work = partial(judgement_to_send, options.program, explained=options.explain, more=options.more, lint=lint)
     each(options, stop, found, work, lambda one: Judgement(one.path, problem=ENDED), reported)
     sys.stdout.write(form.end(summary))
-    write_summary(options, form.summary_apart, summary.text(stop.happened.is_set()) + baseline_text(options, baseline, stop))
+    is_interrupted = stop.happened.is_set()
+    of_baseline = baseline.finish(is_interrupted) if baseline is not None else ""
+    write_summary(options, form.summary_apart, summary.text(is_interrupted) + of_baseline)
     return summary.status(options.strict)
 
 
 def baseline_of(options: argparse.Namespace) -> Baseline | None:
     """The baseline that is read, or that is to be written."""
+    if options.write_baseline and options.baseline is None:
+        raise CannotRun("--write-baseline needs --baseline FILE")
+    if options.write_baseline and not options.lint:
+        raise CannotRun("--write-baseline needs --lint, without which there are no warnings")
     if options.baseline is None:
-        if options.write_baseline:
-            raise CannotRun("--write-baseline needs --baseline FILE")
         return None
-    from .baseline import Baseline, read_baseline
+    from .baseline import NewBaseline, read_baseline
 
-    return Baseline(options.baseline) if options.write_baseline else read_baseline(options.baseline)
-
-
-def use_baseline(options: argparse.Namespace, baseline: Baseline | None, judgement: Judgement) -> None:
-    """Takes the warnings out of a judgement that the baseline has, or that it is to have."""
-    if baseline is not None and options.write_baseline:
-        baseline.take(judgement)
-    elif baseline is not None:
-        baseline.without_known(judgement)
-
-
-def baseline_text(options: argparse.Namespace, baseline: Baseline | None, stop: Interruption) -> str:
-    """Writes the baseline, where that is wanted and all files were looked at, and answers what there is to say of it."""
-    if baseline is not None and options.write_baseline and not stop.happened.is_set():
-        from .baseline import write_baseline
-
-        write_baseline(options.baseline, baseline)
-        return f"{counted(baseline.counts.total(), 'warning')} written to {shown(options.baseline)}\n"
-    if baseline is not None and baseline.hidden:
-        return f"{counted(baseline.hidden, 'warning')} of the baseline not shown\n"
-    return ""
+    return NewBaseline(options.baseline) if options.write_baseline else read_baseline(options.baseline)
 
 
 def fix_command(options: argparse.Namespace, stop: Interruption) -> int:
@@ -297,7 +290,7 @@ def clashes_command(options: argparse.Namespace, stop: Interruption) -> int:
             raise CannotRun(f"the folder {options.evidence} cannot be made: {reason(error)}") from None
     from .clash_report import Wanted
 
-    every_clash = options.format == "json" or options.evidence is not None
+    every_clash = options.format in JSON or options.evidence is not None
     return show_clashes(options, stop, Wanted(options.evidence, options.touching, options.more, options.repair, every_clash=every_clash), None)
 
 
@@ -317,14 +310,17 @@ def show_clashes(options: argparse.Namespace, stop: Interruption, wanted: Wanted
         if report is None:
             summary.add_plain()
             return form.plain(one.path)
-        use_baseline(options, baseline, report.judgement)
+        if baseline is not None:
+            baseline.apply(report.judgement)
         summary.add(report)
         return form.file(report)
 
     work = partial(clashes_to_send, options.program, wanted=wanted)
     each(options, stop, found, work, lambda one: ClashReport(Judgement(one.path, problem=ENDED)), reported)
     sys.stdout.write(form.end(summary))
-    write_summary(options, form.summary_apart, summary.text(stop.happened.is_set()) + baseline_text(options, baseline, stop))
+    is_interrupted = stop.happened.is_set()
+    of_baseline = baseline.finish(is_interrupted) if baseline is not None else ""
+    write_summary(options, form.summary_apart, summary.text(is_interrupted) + of_baseline)
     return summary.status(strict)
 
 
@@ -356,9 +352,12 @@ def seconds_command(options: argparse.Namespace, _: Interruption) -> int:
 
 def open_command(options: argparse.Namespace, stop: Interruption) -> int:
     """`tml-corpus open`."""
-    from .show_open import Bounds, show_open
+    from .show_open import Bounds, show_open, show_open_of_all
 
     bounds = Bounds(options.pairs, options.limit)
+    if os.path.isdir(options.document):
+        found = find_files([options.document], list(options.settings.patterns or PATTERNS))
+        return show_open_of_all(options.program, found, bounds, options.touching, options.in_order, stop)
     return show_open(options.program, options.document, bounds, options.touching, options.in_order, stop)
 
 
@@ -375,7 +374,7 @@ def agree_command(options: argparse.Namespace, stop: Interruption) -> int:
     from .agree_formats import FORMS, Summary
 
     if options.links and options.format == "csv":
-        raise CannotRun("--links goes with --format text or json")
+        raise CannotRun("--links goes with --format text, json or jsonl")
     sides, form, summary = agree.sides_of(options.document, options.key), FORMS[options.format](), Summary()
     pairs, wanted = agree.find_pairs(sides, patterns_of(options)), agree.Wanted(options.links, options.touching)
 

@@ -18,11 +18,18 @@ class Edit(NamedTuple):
 
 def applied(document: bytes, edits: Iterable[Edit]) -> bytes:
     """The document with the edits; of two that overlap only the first one is made."""
-    parts, at = [], 0
-    for edit in disjoint(edits):
-        parts += [document[at : edit.start], edit.text]
+    return applied_in_order(document, disjoint(edits))
+
+
+def applied_in_order(document: bytes, edits: Iterable[Edit]) -> bytes:
+    """The document with edits that come in the order of their places and do not overlap. They are not kept: there may be a million."""
+    changed, whole, at = bytearray(), memoryview(document), 0
+    for edit in edits:
+        changed += whole[at : edit.start]
+        changed += edit.text
         at = edit.end
-    return b"".join([*parts, document[at:]])
+    changed += whole[at:]
+    return bytes(changed)
 
 
 def disjoint(edits: Iterable[Edit]) -> Iterator[Edit]:
@@ -37,6 +44,19 @@ def disjoint(edits: Iterable[Edit]) -> Iterator[Edit]:
 def blank(thing: Attribute | Unit) -> Edit:
     """As many spaces as the thing has bytes, so that all other places stay."""
     return Edit(thing.start, thing.end, b" " * (thing.end - thing.start))
+
+
+def with_spaces_before(document: bytes, thing: Attribute | Unit) -> Edit:
+    """Takes a thing out, with the white space before it."""
+    start = thing.start
+    while document[start - 1 : start].isspace():
+        start -= 1
+    return Edit(start, thing.end, b"")
+
+
+def encoded(text: str) -> bytes:
+    """A text as it stands in a document; bytes that are not UTF-8 are kept by surrogates."""
+    return text.encode("utf-8", "surrogateescape")
 
 
 def with_value(attribute: Attribute, document: bytes, value: bytes) -> Edit:

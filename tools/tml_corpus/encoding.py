@@ -5,13 +5,20 @@ from __future__ import annotations
 import codecs
 import re
 from collections.abc import Iterator
+from contextlib import suppress
 
 from .edits import Edit
 from .source import Explanation, Source
 
 DECLARED = re.compile(rb"<\?xml[^>]{0,200}?encoding\s*=\s*[\"']([A-Za-z0-9._-]{1,40})[\"']")
-NAMES = {"iso8859-1": ("Latin-1", "latin1"), "cp1252": ("Windows-1252", "windows-1252"), "utf-16": ("UTF-16", "utf-16")}
-"""How an encoding is called, and what `iconv` calls it."""
+NAMED = re.compile(r"(<\?xml[^>]{0,200}?encoding\s*=\s*[\"'])[A-Za-z0-9._-]{1,40}")
+"""A declaration up to the end of the name of the encoding."""
+
+NAMES = {"iso8859-1": "Latin-1", "cp1252": "Windows-1252", "utf-16": "UTF-16"}
+"""How an encoding is called."""
+
+TIMEML = re.compile(r"\ufeff?(?:\s++|<\?xml(?s:.*?)\?>|<!--(?s:.*?)-->|<!DOCTYPE[^<>]*+>)*+<TimeML(?=[\s/>])")
+"""How a document begins whose root is `TimeML`."""
 
 ESCAPED = re.compile("[\udc80-\udcff]")
 PROPER = re.compile("[^\x00-\x7f\udc80-\udcff]")
@@ -27,10 +34,10 @@ def not_utf8(source: Source, offset: int) -> Explanation:
     wrong, byte = len(text) - len(ESCAPED.sub("", text)), document[offset]
     guess = guessed(document, text)
     if guess is not None:
-        called, option = NAMES.get(guess, (guess, guess))
+        called = NAMES.get(guess, guess)
         letter = f" ({bytes([byte]).decode(guess)} in {called})" if guess != "utf-16" else ""
         first = f"the byte {byte:02X}{letter} is" if wrong == 1 or not letter else f"{wrong} bytes, the first one {byte:02X}{letter}, are"
-        found.text = f"{first} not UTF-8: the file looks like {called}; `iconv -f {option} -t utf-8` mends it"
+        found.text = f"{first} not UTF-8: the file looks like {called}; `tml-corpus fix` turns it into UTF-8"
     elif ends_within_character(document, offset):
         found.text = "the file ends within a character, so its end was lost"
     else:
@@ -70,10 +77,14 @@ def ends_within_character(document: bytes, offset: int) -> bool:
 
 
 def converted(document: bytes) -> Iterator[Edit]:
-    """The edit that turns the document into UTF-8, its declaration included; none where its encoding is not clear."""
+    """The edit that turns the document into UTF-8, its declaration included; none where its encoding is not clear.
+
+    There is none either where its root is not `TimeML`: bytes of almost any file can be read as Latin-1.
+    """
     guess = guessed(document, document.decode("utf-8", "surrogateescape"))
-    if guess is not None and guess != "utf-16":
-        declared = DECLARED.search(document[:1000])
-        first, last = declared.span(1) if declared else (0, 0)
-        text = (document[:first] + (b"UTF-8" if declared else b"") + document[last:]).decode(guess)
-        yield Edit(0, len(document), text.encode())
+    if guess is not None:
+        with suppress(ValueError):
+            text = document.decode(guess)
+            text = NAMED.sub(r"\1UTF-8", text[:1000], count=1) + text[1000:]
+            if TIMEML.match(text):
+                yield Edit(0, len(document), text.encode())

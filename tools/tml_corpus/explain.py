@@ -14,16 +14,20 @@ from .nesting import nesting
 from .program import Program
 from .source import Explanation, Source
 from .units import unit_at
+from .wholeness import of_whole
 
 OF_TAGS = attributes.EXPLAINERS | references.EXPLAINERS
 
 
-def explain(program: Program, document: bytes, fault: Fault, places: Places | None = None) -> Explanation:
-    """Finds out what a fault of a document is about."""
-    if fault.number <= BAD_MARKUP:
-        found = of_bytes(Source(document, None, places), fault)
-    else:
-        found = of_units(Source(document, units_of_whole(program, document), places), fault)
+def explain(program: Program, document: bytes, fault: Fault, places: Places | None = None, *, first: bool = True) -> Explanation:
+    """Finds out what a fault of a document is about; of the first one whether it comes of what is wrong with the file as a whole."""
+    has_units = fault.number > BAD_MARKUP
+    source = Source(document, units_of_whole(program, document) if has_units else None, places)
+    found = of_whole(document, fault) if first else None
+    if found is None:
+        found = of_units(source, fault) if has_units else of_bytes(source, fault)
+    if has_units:
+        found.units = source.units
     if not found.text:
         found.start, found.end = fault.offset, min(fault.offset + 1, len(document))
     return found
@@ -46,5 +50,4 @@ def of_units(source: Source, fault: Fault) -> Explanation:
         tag, explainer = unit_at(source.units, fault.offset), OF_TAGS.get(fault.number)
         if tag is not None and explainer is not None:
             explainer(source, tag, found)
-    found.units = source.units
     return found

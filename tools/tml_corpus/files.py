@@ -1,18 +1,22 @@
-"""Files: finding them in folders, reading no more of them than the limit, writing them whole, and showing their names."""
+"""Files: finding them in folders, reading no more of them than the limit, and showing their names."""
 
 import fnmatch
 import os
 import re
 import stat
 from collections.abc import Callable, Iterator
-from contextlib import contextmanager, suppress
+from contextlib import contextmanager
 from itertools import chain
 from typing import IO, NamedTuple
 
+from tml.logs import COMMAND
 from tml.statuses import DOCUMENT_LIMIT
 
 PATTERNS = ("*.tml", "*.xml")
 PART = 65536
+
+LONGEST_LINE = 65536
+"""So many bytes a line of a table or of a baseline has at most. One of a baseline has a path and a tag of 80 characters, in ASCII."""
 
 
 class CannotRead(Exception):
@@ -28,24 +32,32 @@ class Found(NamedTuple):
     """The folder to which the path belongs, where another one is the current folder."""
     lies_at: str = ""
     """Where it lies, where its path is only a name for it."""
+    top: str = ""
+    """The folder in which a search found it, where it was not named itself."""
 
     def place(self) -> str:
         """Where the file lies."""
         return self.lies_at or (os.path.join(self.base, self.path) if self.base else self.path)
+
+    def is_found_link(self) -> bool:
+        """Whether it is a symbolic link that a search found. It may lead anywhere, so that nothing is written through it."""
+        return bool(self.top) and os.path.islink(self.place())
 
 
 def find_files(paths: list[str], patterns: list[str]) -> list[Found]:
     """The files that the paths stand for: a file is itself, a folder all files below it that match a pattern.
 
     The order is that of the paths, and within a folder that of the names, so it is the same in each run. No file is
-    named twice. Folders that are symbolic links are not entered, so no loop of them holds the search.
+    named twice; one that is named and found is one that is named. Folders that are symbolic links are not entered, so no
+    loop of them holds the search.
     """
     lists = [search_folder(path, patterns) if os.path.isdir(path) else [Found(path)] for path in paths]
     if len(lists) == 1:
         return lists[0]
     found: dict[str, Found] = {}
     for one in chain.from_iterable(lists):
-        found.setdefault(one.path, one)
+        if one.path not in found or not one.top:
+            found[one.path] = one
     return list(found.values())
 
 
@@ -62,7 +74,7 @@ def search_folder(folder: str, patterns: list[str]) -> list[Found]:
             found.append(Found(place, reason(error)))
             continue
         begin = os.path.join(place, "")
-        found += [Found(begin + name) for name in sorted(names)]
+        found += [Found(begin + name, top=folder) for name in sorted(names)]
         left += [begin + name for name in sorted(below, reverse=True)]
     if not found:
         return [Found(folder, f"no file in this folder matches {' or '.join(patterns)}")]
@@ -92,6 +104,18 @@ def entries_of(place: str, matches: Callable[[str], object]) -> tuple[list[str],
             elif matches(name) and not (entry.is_symlink() and os.path.isdir(entry.path)):
                 names.append(name)
     return names, below
+
+
+def lines_of(path: str) -> Iterator[bytes]:
+    """The lines of a file with their ends, one by one. One that is too long is cut behind the first byte too many, and is the last."""
+    with opened(path) as file, open(file.fileno(), "rb", closefd=False) as lines:
+        try:
+            while line := lines.readline(LONGEST_LINE + 1):
+                yield line
+                if len(line) > LONGEST_LINE:
+                    return
+        except OSError as error:
+            raise CannotRead(reason(error)) from None
 
 
 @contextmanager
@@ -158,24 +182,6 @@ def read_to(file: IO[bytes], most: int) -> bytes:
         raise CannotRead(reason(error)) from None
 
 
-@contextmanager
-def written(target: str) -> Iterator[IO[bytes]]:
-    """A new file that takes the place of the target once it is written whole. Where that fails nothing is left of it.
-
-    Its mode is that of the user's umask. A symbolic link that lies there is not followed, and gives way.
-    """
-    temporary = os.path.join(os.path.dirname(os.path.abspath(target)), f".tml-{os.urandom(8).hex()}")
-    file = open(temporary, "xb")
-    try:
-        with file:
-            yield file
-        os.replace(temporary, target)
-    except BaseException:
-        with suppress(OSError):
-            os.unlink(temporary)
-        raise
-
-
 def reason(error: Exception) -> str:
     """Why a file cannot be read, in a few words."""
     return (getattr(error, "strerror", None) or str(error)).lower()
@@ -189,11 +195,11 @@ def counted(number: int, noun: str) -> str:
 def shown(text: str) -> str:
     """A name or a text as it may be printed: what is not printable is escaped, so that a line stays a line.
 
-    So is a colon at the beginning, and what GitHub and Azure take for a command elsewhere in a line of a log.
+    So is a colon at the beginning, and what build servers take for a command elsewhere in a line of a log.
     """
     if not text.isprintable():
         text = "".join(character if character.isprintable() else escaped(character) for character in text)
-    return re.sub(r"##(?=\[|vso)", r"\\x23#", re.sub(r"^( *):", r"\1\\x3a", text))
+    return re.sub(COMMAND, r"\\x23", re.sub(r"^( *):", r"\1\\x3a", text))
 
 
 def escaped(character: str) -> str:

@@ -4,27 +4,29 @@ from __future__ import annotations
 
 from collections.abc import Callable, Iterator
 from dataclasses import dataclass, field
-from itertools import islice
+from itertools import chain, islice
 
-from tml.places import characters
+from tml.places import Places, characters
 
 from . import faults
-from .attributes import spelling_edits
-from .baseline import replace_file
 from .cutting import units_of_whole
 from .edits import Edit, applied
 from .encoding import converted
+from .explain import OF_TAGS, explain
 from .faults import Fault, read_fault
 from .files import CannotRead, Found, counted, read_document, shown
+from .formats import located
 from .judgement import problem_of
+from .kinds import Lint
+from .lint import warnings_of
 from .markup import cdata_edits, quote_edits, reference_edits
 from .nesting import end_edits, name_edits
 from .program import FAULT, CannotRun, Program
-from .references import instance_edits
+from .replacing import replace_file
 from .room import room_for
-from .source import Source
+from .source import Explanation, Source
 
-ROUNDS = 12
+ROUNDS = 64
 """So many kinds of slips are mended in one document at most, one after another."""
 
 MOST_EDITS = 100_000
@@ -32,6 +34,8 @@ MOST_EDITS = 100_000
 
 CONTEXT = 3
 """So many lines around a change are shown."""
+
+FOUND_LINK = "is a symbolic link that was found in a folder: name it to have what it leads to mended"
 
 
 Edits = Callable[[Source], Iterator[Edit]]
@@ -44,11 +48,21 @@ FIXERS: dict[int, list[tuple[str, Edits]]] = {
     ],
     faults.UNKNOWN_TAG: [("names of tags", name_edits)],
     faults.UNBALANCED: [("names of tags", end_edits)],
-    faults.MISSING: [("names and values in other letters", spelling_edits)],
-    faults.BAD_VALUE: [("names and values in other letters", spelling_edits)],
-    faults.UNKNOWN_REFERENCE: [("references to an event in place of its instance", instance_edits)],
+    faults.REPEATED: [("attributes that stand twice", lambda source: cures_of_tags(source, faults.REPEATED))],
+    faults.MISSING: [("names of attributes, and identifiers", lambda source: cures_of_tags(source, faults.MISSING))],
+    faults.BAD_VALUE: [("values", lambda source: cures_of_tags(source, faults.BAD_VALUE))],
+    faults.CONFLICT: [("ends of links", lambda source: cures_of_tags(source, faults.CONFLICT))],
+    faults.BAD_DATE: [("dates", lambda source: cures_of_tags(source, faults.BAD_DATE))],
+    faults.DUPLICATE: [("identifiers", lambda source: cures_of_tags(source, faults.DUPLICATE))],
+    faults.UNKNOWN_REFERENCE: [("references", lambda source: cures_of_tags(source, faults.UNKNOWN_REFERENCE))],
 }
-"""What may help against a fault, each with the words for it."""
+"""What may help against a fault in all of a document, each with the words for it."""
+
+ONE_CURE = "what is at fault"
+"""The words for the cure of one fault, where it is none of those."""
+
+CURED_WARNINGS = {"tag-as-text": "tags without their <", "misspelled-attribute": "names of attributes", "value-form": "values of times"}
+"""The kinds of warnings of which some have one cure only, each with the words for it."""
 
 
 @dataclass(frozen=True)
@@ -85,6 +99,8 @@ def fix(program: Program, found: Found, writes: bool) -> FixReport:
     """Mends one file, in memory or where that is wanted in its place."""
     if found.problem is not None:
         return not_mended(found, found.problem)
+    if found.is_found_link():
+        return not_mended(found, FOUND_LINK)
     try:
         document = read_document(found.place())
         with room_for(document):
@@ -104,11 +120,11 @@ def not_mended(found: Found, problem: str) -> FixReport:
 
 
 def mended(program: Program, document: bytes) -> Fixed:
-    """Mends a document, one kind of slip after another, as long as `tml` goes further each time."""
+    """Mends a document, one kind of slip after another, as long as `tml` goes further each time, and then what it accepts as it is."""
     fixed = Fixed(document, document)
     fault = first_fault(program, document)
     for _ in range(ROUNDS):
-        step = next(steps(program, fixed.after, fault), None) if fault is not None else None
+        step = next(steps(program, fixed.after, fault) if fault is not None else steps_of_warnings(program, fixed.after), None)
         if step is None:
             break
         fixed.after, fault = step.after, step.following
@@ -120,15 +136,48 @@ def mended(program: Program, document: bytes) -> Fixed:
 def steps(program: Program, document: bytes, fault: Fault) -> Iterator[Step]:
     """The changes that help against a fault: after each the document is accepted, or its first fault comes later."""
     units = units_of_whole(program, document) if fault.number > faults.BAD_MARKUP else None
+    # Of a kind that is there too often no slip is mended alone either, or a document of them would be looked at again for each.
+    is_settled = False
     for words, edits_of in FIXERS.get(fault.number, []):
         edits = list(islice(edits_of(Source(document, units)), MOST_EDITS + 1))
-        changed = applied(document, edits if len(edits) <= MOST_EDITS else [])
-        if changed != document:
-            following = first_fault(program, changed)
-            shift = sum(len(edit.text) - (edit.end - edit.start) for edit in edits if edit.end <= fault.offset)
-            moved = Fault(fault.number, fault.name, fault.offset + shift)
-            if following is None or following.order() > moved.order():
-                yield Step(f"{words} ({counted(len(edits), 'change')})", edits, changed, following)
+        step = helping(program, document, fault, words, edits) if len(edits) <= MOST_EDITS else None
+        is_settled = is_settled or step is not None or len(edits) > MOST_EDITS
+        if step is not None:
+            yield step
+    step = None if is_settled else helping(program, document, fault, ONE_CURE, explain(program, document, fault).edits)
+    if step is not None:
+        yield step
+
+
+def steps_of_warnings(program: Program, document: bytes) -> Iterator[Step]:
+    """The changes of what is suspect in an accepted document and has one cure only: after each it is accepted still."""
+    source = Source(document, units_of_whole(program, document))
+    for name, words in CURED_WARNINGS.items():
+        edits = [edit for warning in warnings_of(program, source, Lint(frozenset({name}))) for edit in warning.edits]
+        changed = applied(document, edits)
+        if changed != document and first_fault(program, changed) is None:
+            yield Step(f"{words} ({counted(len(edits), 'change')})", edits, changed, None)
+
+
+def helping(program: Program, document: bytes, fault: Fault, words: str, edits: list[Edit]) -> Step | None:
+    """Some edits as a step, if they help against a fault."""
+    changed = applied(document, edits)
+    if changed == document:
+        return None
+    following = first_fault(program, changed)
+    shift = sum(len(edit.text) - (edit.end - edit.start) for edit in edits if edit.end <= fault.offset)
+    moved = Fault(fault.number, fault.name, fault.offset + shift)
+    if following is not None and following.order() <= moved.order():
+        return None
+    return Step(f"{words} ({counted(len(edits), 'change')})", edits, changed, following)
+
+
+def cures_of_tags(source: Source, number: int) -> Iterator[Edit]:
+    """The edits for a fault of all tags, of each where there is one cure only."""
+    for tag in chain(*source.by_kind.values()):
+        found = Explanation()
+        OF_TAGS[number](source, tag, found)
+        yield from found.edits
 
 
 def first_fault(program: Program, document: bytes) -> Fault | None:
@@ -141,11 +190,13 @@ def first_fault(program: Program, document: bytes) -> Fault | None:
     return fault
 
 
-def difference(path: str, fixed: Fixed) -> str:
-    """The changes line by line. No change puts a line in or takes one out."""
+def difference(path: str, fixed: Fixed, how: str = "mended") -> str:
+    """The changes line by line."""
     old, new = lines_of(fixed.before), lines_of(fixed.after)
+    if len(old) != len(new):
+        return difference_of_lines(path, old, new, how)
     changed = [number for number, (one, other) in enumerate(zip(old, new, strict=True)) if one != other]
-    lines = [f"--- {shown(path)}", f"+++ {shown(path)} (mended)"]
+    lines = [f"--- {shown(path)}", f"+++ {shown(path)} ({how})"]
     for first, last in hunks(changed, len(old)):
         lines.append(f"@@ -{first + 1},{last - first} +{first + 1},{last - first} @@")
         for number in range(first, last):
@@ -154,6 +205,15 @@ def difference(path: str, fixed: Fixed) -> str:
             else:
                 lines += ["-" + printed(old[number]), "+" + printed(new[number])]
     return "".join(line + "\n" for line in lines)
+
+
+def difference_of_lines(path: str, old: list[bytes], new: list[bytes], how: str) -> str:
+    """The same where lines were put in or taken out."""
+    import difflib
+
+    before, after = ([printed(line) for line in lines] for lines in (old, new))
+    found = difflib.unified_diff(before, after, shown(path), f"{shown(path)} ({how})", n=CONTEXT, lineterm="")
+    return "".join(line + "\n" for line in found)
 
 
 def lines_of(document: bytes) -> list[bytes]:
@@ -188,13 +248,12 @@ def report(path: str, fixed: Fixed, writes: bool) -> str:
         lines.append(f"{shown(path)}: {'mended' if writes else 'can be mended'}: {', '.join(fixed.changes)}")
     if fixed.left is not None:
         then = "then left" if changed and not writes else "left"
-        lines.append(f"{shown(path)}: {then} to mend: {fixed.left.title()} at byte {fixed.left.offset}; see `tml-corpus check`")
+        place = Places(fixed.after).place(fixed.left.offset)
+        lines.append(f"{located(path, place)}: {then} to mend: {fixed.left.title()} at byte {fixed.left.offset}; see `tml-corpus check`")
     changes = difference(path, fixed) if changed and not writes else ""
     return changes + "".join(line + "\n" for line in lines)
 
 
 def write(fixed: Fixed, found: Found) -> None:
     """Writes a mended document, if the file is still what was mended."""
-    if read_document(found.place()) != fixed.before:
-        raise CannotRun("the file was changed meanwhile")
-    replace_file(found.place(), fixed.after)
+    replace_file(found.place(), fixed.after, fixed.before, found.top)

@@ -10,6 +10,7 @@ from typing import TYPE_CHECKING
 
 from .files import counted, shown
 from .judgement import Judgement, Mark, PlacedFault, PlacedNote, PlacedWarning
+from .kinds import is_mistake
 
 if TYPE_CHECKING:
     from tml.places import Place
@@ -18,23 +19,30 @@ CONSEQUENCE = "(perhaps only a consequence)"
 
 
 class WarningCounts:
-    """How many warnings there are of each kind, and in how many files."""
+    """How many warnings there are of each kind, and in how many files: of mistakes, and apart from them of what is missing."""
 
     def __init__(self) -> None:
         self.kinds: Counter[str] = Counter()
+        self.ranks: Counter[bool] = Counter()
         self.files = 0
 
     def add(self, judgement: Judgement) -> None:
         """Counts the warnings of one file."""
-        self.kinds.update(warning.name for warning in judgement.warnings)
-        self.files += bool(judgement.warnings)
+        names = [warning.name for warning in judgement.warnings]
+        self.kinds.update(names)
+        self.ranks.update({is_mistake(name) for name in names})
+        self.files += bool(names)
 
     def lines(self) -> list[str]:
         """The counts in lines; nothing where there are none."""
-        if not self.kinds:
-            return []
-        first = f"{counted(self.kinds.total(), 'warning')} in {counted(self.files, 'file')}"
-        return [first, *(f"{count:7}  {name}" for name, count in sorted(self.kinds.items()))]
+        return [*self.lines_of(True, "probable mistake", "probable mistakes"), *self.lines_of(False, "thing missing", "things missing")]
+
+    def lines_of(self, rank: bool, one: str, many: str) -> list[str]:
+        """The counts of one rank."""
+        kinds = sorted((name, count) for name, count in self.kinds.items() if is_mistake(name) == rank)
+        total = sum(count for _, count in kinds)
+        first = f"{total} {one if total == 1 else many} in {counted(self.ranks[rank], 'file')}"
+        return [first, *(f"{count:7}  {name}" for name, count in kinds)] if kinds else []
 
 
 class Summary:
@@ -135,7 +143,7 @@ class Text:
         return ""
 
 
-class Json(Text):
+class JsonLines(Text):
     """One object for each file, on a line of its own. Bytes of names that are not UTF-8 are lone surrogates."""
 
     summary_apart = True
@@ -147,8 +155,38 @@ class Json(Text):
         return self.file(Judgement(path))
 
 
+class Array:
+    """The objects of lines of JSON as the elements of one array."""
+
+    def __init__(self) -> None:
+        self.is_begun = False
+
+    def element(self, line: str) -> str:
+        """What is printed of one more element."""
+        begin, self.is_begun = (",\n" if self.is_begun else "[\n"), True
+        return begin + line.rstrip("\n")
+
+    def end(self) -> str:
+        """What comes after all elements."""
+        return "\n]\n" if self.is_begun else "[]\n"
+
+
+class Json(JsonLines):
+    """One array with an object for each file."""
+
+    def __init__(self, with_source: bool) -> None:
+        super().__init__(with_source)
+        self.array = Array()
+
+    def file(self, judgement: Judgement) -> str:
+        return self.array.element(super().file(judgement))
+
+    def end(self, summary: Summary) -> str:
+        return self.array.end()
+
+
 def printable(entry: dict[str, object]) -> str:
-    """JSON in a log that may take `##[` and `##vso[` for commands: these stand within strings alone, where escapes are."""
+    """JSON in a log, where `##` may begin a command: that stands within strings alone, where escapes are."""
     import json
 
     return json.dumps(entry).replace("##", "\\u0023#") + "\n"
@@ -184,6 +222,7 @@ def warning_object(warning: PlacedWarning) -> dict[str, object]:
     """A warning as JSON has it."""
     return {
         "name": warning.name,
+        "rank": "mistake" if is_mistake(warning.name) else "missing",
         "message": warning.text,
         "start": place_object(warning.mark.start),
         "end": place_object(warning.mark.end),
@@ -249,4 +288,4 @@ def make_format(name: str, with_source: bool, strict: bool = False) -> Text:
         from .junit import JUnit
 
         return JUnit(with_source, strict)
-    return {"text": Text, "json": Json, "github": GitHub}[name](with_source)
+    return {"text": Text, "json": Json, "jsonl": JsonLines, "github": GitHub}[name](with_source)

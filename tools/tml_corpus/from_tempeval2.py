@@ -10,8 +10,9 @@ The tables have a line for each token or value, with tabs between the columns:
   dct.txt                 document, date of creation, as 1998-01-08 or 19980108
   tlinks-*.tab            document, event or time, event or time, relation
 
-Only the first one must be there; what is there has to be regular files. Each document is written to OUT/DOCUMENT.xml; files
-that are there are overwritten.
+Only the first one must be there; what is there has to be regular files, of at most 16 MiB together. Each document is written to
+OUT/DOCUMENT.xml; files that are there are overwritten. So the name of a document is one for a file, and no two differ in the case
+of letters alone.
 
 Example: tools/from-tempeval2 english/data timeml
 
@@ -24,13 +25,15 @@ from __future__ import annotations
 import glob
 import os
 import re
+import unicodedata
 from collections import defaultdict
-from collections.abc import Iterator, Sequence
+from collections.abc import Iterable, Iterator, Sequence
 from dataclasses import dataclass, field
 from xml.sax.saxutils import escape, quoteattr
 
-from .files import CannotRead, reason, written
-from .output import Parser, RawFormatter, complain, run
+from .files import CannotRead, reason
+from .output import ProgramParser, RawFormatter, complain, run
+from .replacing import written
 from .statuses import Status
 from .tables import BadTable, Word, at_least, rows
 
@@ -38,6 +41,12 @@ EVENT_ATTRIBUTES = ("class",)
 INSTANCE_ATTRIBUTES = ("tense", "aspect", "pos", "polarity", "modality", "cardinality")
 NAME = re.compile(r"[A-Za-z_][A-Za-z0-9_.-]*")
 LONGEST_NAME = 200
+
+BASE = "base-segmentation.tab"
+OTHERS = ("event-extents.tab", "event-attributes.tab", "timex-extents.tab", "timex-attributes.tab", "dct.txt")
+
+MOST_BYTES = 16 * 1024 * 1024
+"""So many bytes all tables have together at most. What is known of a token takes up to some twenty times as much as its line."""
 
 
 @dataclass
@@ -102,7 +111,7 @@ class Source:
                 yield " ".join(words)
                 words = []
             last = place[0]
-            words.append("".join(before[place]) + escape(self.tokens[place]) + "".join(reversed(after[place])))
+            words.append("".join(before.get(place, ())) + escape(self.tokens[place]) + "".join(reversed(after.get(place, ()))))
         if words:
             yield " ".join(words)
 
@@ -138,23 +147,42 @@ def table(folder: str, name: str, columns: int, what: str) -> Iterator[list[Word
 
 def read_tables(folder: str) -> dict[str, Source]:
     """All documents of the tables."""
+    if not os.path.lexists(os.path.join(folder, BASE)):
+        raise BadTable(f"{os.path.join(folder, BASE)} is not there")
+    links = sorted(glob.glob(os.path.join(glob.escape(folder), "tlinks-*.tab")))
+    check_size(folder, [*(os.path.join(folder, name) for name in (BASE, *OTHERS)), *links])
     sources: dict[str, Source] = {}
-    base = "base-segmentation.tab"
-    if not os.path.lexists(os.path.join(folder, base)):
-        raise BadTable(f"{os.path.join(folder, base)} is not there")
-    for name, sentence, number, token, *_ in table(folder, base, 4, "document, sentence, token number, token"):
-        if os.path.basename(name.text) != name.text or name.text in ("", ".", "..") or "\0" in name.text or len(name.text.encode()) > LONGEST_NAME:
-            raise name.wrong(f"{name.text[:40]!r} is no name for a file")
-        sources.setdefault(name.text, Source()).tokens[sentence.number(), number.number()] = token.text
+    names: dict[str, str] = {}
+    for name, sentence, number, token, *_ in table(folder, BASE, 4, "document, sentence, token number, token"):
+        if name.text not in sources:
+            check_name(name, names)
+            sources[name.text] = Source()
+        sources[name.text].tokens[sentence.number(), number.number()] = token.text
     for kind in ("event", "timex"):
         read_extents(sources, folder, kind)
         read_attributes(sources, folder, kind)
     for name, created, *_ in table(folder, "dct.txt", 2, "document, date of creation"):
         source_of(sources, name).created = re.sub(r"^(\d{4})(\d\d)(\d\d)$", r"\1-\2-\3", created.text)
-    for path in sorted(glob.glob(os.path.join(glob.escape(folder), "tlinks-*.tab"))):
+    for path in links:
         for name, left, right, relation, *_ in table(folder, os.path.basename(path), 4, "document, event or time, event or time, relation"):
             source_of(sources, name).links.append((left.text, right.text, relation.text))
     return sources
+
+
+def check_size(folder: str, paths: Iterable[str]) -> None:
+    """Sees that the tables which are there have no more bytes than they may have."""
+    if sum(os.path.getsize(path) for path in paths if os.path.isfile(path)) > MOST_BYTES:
+        raise BadTable(f"{folder}: the tables have more than {MOST_BYTES:,} bytes")
+
+
+def check_name(name: Word, names: dict[str, str]) -> None:
+    """Sees that a document can have a file of its name, and that no system takes it for the name of another document."""
+    text = name.text
+    if os.path.basename(text) != text or text in ("", ".", "..") or not text.isprintable() or len(text.encode()) > LONGEST_NAME:
+        raise name.wrong(f"{text[:40]!r} is no name for a file")
+    other = names.setdefault(unicodedata.normalize("NFC", text.casefold()), text)
+    if other != text:
+        raise name.wrong(f"{text[:40]!r} and {other[:40]!r} are one name where the case of letters does not count")
 
 
 def source_of(sources: dict[str, Source], name: Word) -> Source:
@@ -187,7 +215,7 @@ def read_attributes(sources: dict[str, Source], folder: str, kind: str) -> None:
 
 def convert(words: list[str]) -> int:
     """Writes the documents and answers the status."""
-    parser = Parser(description=__doc__, formatter_class=RawFormatter)
+    parser = ProgramParser(description=__doc__, formatter_class=RawFormatter)
     parser.add_argument("tables", metavar="FOLDER", help="the folder with the tables")
     parser.add_argument("out", metavar="OUT", help="the folder for the documents; it is made where it is not there")
     options = parser.parse_args(words)

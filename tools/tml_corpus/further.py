@@ -13,13 +13,12 @@ from dataclasses import dataclass, field
 from tml.places import Places
 
 from . import faults
-from .attributes import spelling_edits
 from .edits import Edit, applied, blank
 from .encoding import ESCAPED
 from .explain import explain
 from .faults import Fault, read_fault
 from .markup import NAME, quotes_of_tag
-from .nesting import name_edits, open_link
+from .nesting import open_link
 from .program import FAULT, Program
 from .source import Explanation, Source
 from .units import Unit, Units, end_of, open_tags, unit_at
@@ -102,7 +101,7 @@ def further_faults(
             return
         # That a tag lacks the attribute that was just blanked out is no news: the tag goes as a whole.
         whole = following.number == faults.MISSING and following.offset in blanks.tags
-        fault, found = following, explain(program, document, following, places)
+        fault, found = following, explain(program, document, following, places, first=False)
         if not whole:
             yield fault, found, blanks.may_cause(document, fault, found)
             more -= 1
@@ -114,15 +113,11 @@ def mended(document: bytes, fault: Fault, found: Explanation) -> list[Edit]:
         name = NAME.match(document, fault.offset + 1)
         quotes = quotes_of_tag(document, name.end()) if name else ()
         return [padded(edit, number % 2 == 0) for number, edit in enumerate(quotes)]
-    unit = unit_at(found.units, fault.offset) if found.units is not None and fault.number in (faults.UNKNOWN_TAG, faults.BAD_VALUE) else None
-    if unit is None or found.units is None:
+    if fault.number not in (faults.UNKNOWN_TAG, faults.BAD_VALUE):
         return []
-    source, end = Source(document, found.units), end_of(found.units, unit) if unit.kind == "start" else None
-    tags = [one for one in (unit, end) if one is not None]
-    edits = list(name_edits(source, tags) if fault.number == faults.UNKNOWN_TAG else spelling_edits(source, tags))
-    fitting = [edit for edit in edits if len(edit.text) == edit.end - edit.start]
-    values = len(fitting) == len(found.attributes) or fault.number == faults.UNKNOWN_TAG
-    return fitting if values else []
+    fitting = [edit for edit in found.edits if len(edit.text) == edit.end - edit.start]
+    is_whole = len(fitting) == len(found.attributes) or fault.number == faults.UNKNOWN_TAG
+    return fitting if is_whole else []
 
 
 def padded(edit: Edit, opening: bool) -> Edit:

@@ -1,6 +1,7 @@
 """Puts characters for the named entities of HTML, as &nbsp; and &eacute;, from standard input to standard output.
 
-The five names that XML has (lt, gt, amp, quot, apos) stay, and so do names that HTML has not. The document has to be UTF-8.
+The five names that XML has (lt, gt, amp, quot, apos) stay, and so do names that HTML has not. The document has to be UTF-8, and may
+have twice as many bytes as one that `tml` takes.
 
 Example: tools/html-entities < old.xml > new.xml
 
@@ -16,8 +17,13 @@ from collections.abc import Sequence
 from html.entities import html5
 from xml.sax.saxutils import escape
 
-from .output import Parser, RawFormatter, complain, run, standard_input
+from tml.statuses import DOCUMENT_LIMIT
+
+from .files import CannotRead
+from .output import ProgramParser, RawFormatter, complain, run, standard_input
 from .statuses import Status
+
+MOST_BYTES = 2 * DOCUMENT_LIMIT
 
 OF_XML = ("lt;", "gt;", "amp;", "quot;", "apos;")
 
@@ -30,9 +36,12 @@ def character(found: re.Match[str]) -> str:
 
 def copy(words: list[str]) -> int:
     """Copies the document and answers the status."""
-    Parser(description=__doc__, formatter_class=RawFormatter).parse_args(words)
+    ProgramParser(description=__doc__, formatter_class=RawFormatter).parse_args(words)
     try:
-        text = standard_input().decode("utf-8")
+        document = standard_input(MOST_BYTES + 1)
+        if len(document) > MOST_BYTES:
+            raise CannotRead(f"standard input has more than {MOST_BYTES:,} bytes")
+        text = document.decode("utf-8")
     except UnicodeDecodeError as error:
         return complain(f"byte {error.start} is not UTF-8", Status.FINDING)
     sys.stdout.buffer.write(re.sub(r"&([A-Za-z][A-Za-z0-9]*;)", character, text).encode("utf-8"))

@@ -9,8 +9,9 @@ from html import escape
 from html.entities import html5
 
 from .edits import Edit
-from .profile import LINK_TAGS, TABLE, TAGS
-from .similar import same_but_for_case
+from .invisible import INVISIBLE, named
+from .profile import LINK_TAGS, ROOT, TABLE, TAGS
+from .similar import nearest, same_but_for_case
 from .source import Explanation, Source, cut
 
 NAME = re.compile(rb"[A-Za-z_:\x80-\xff][A-Za-z0-9_:.\-\x80-\xff]*")
@@ -28,7 +29,7 @@ CURLY_QUOTE = "(?:" + "|".join(re.escape(sign) for sign in CURLY) + ")"
 CURLY_BEGIN = re.compile(CURLY_QUOTE.encode())
 CURLY_ATTRIBUTE = re.compile(rf"=[ \t\r\n]*{CURLY_QUOTE}".encode())
 CURLY_VALUE = re.compile(rf"{CURLY_QUOTE}([^<>\"'{CURLY}]{{0,1000}}?)({CURLY_QUOTE}|[\"'])".encode())
-HALF_A_REFERENCE = re.compile(rb"&(?:#|lt\b|gt\b|amp\b|quot\b|apos\b)")
+HALF_A_REFERENCE = re.compile(rb"&(?:#|(lt|gt|amp|quot|apos)([A-Za-z0-9]*))")
 OPENING = re.compile(rb"<!--|<!\[CDATA\[|<!|<\?")
 WORD = re.compile(rb"[^\s\"'<>=]*[^\s\"'<>=/]")
 PASSED_OVER = {b"<!--": b"-->", b"<![CDATA[": b"]]>", b"<!": b">", b"<?": b"?>"}
@@ -50,8 +51,8 @@ def bad_reference(source: Source, offset: int) -> Explanation:
     where = Explanation(start=offset, end=found.end())
     if entity.startswith("#"):
         where.text = f"{words(found[0])} is no number of a character: write &# and 1 to 7 digits and ;, or &#x and 1 to 6 digits and ;"
-    elif entity in ("lt", "gt", "amp", "quot", "apos") and not ended:
-        where.text = f"&{entity} lacks its ;: write &{entity};"
+    elif not ended and (half := HALF_A_REFERENCE.match(document, offset)):
+        half_a_reference(half, where)
     elif ended and entity + ";" in html5:
         where.text = f"&{entity}; is an entity of HTML that XML has not: write {character_of(entity)}"
     elif ended and entity:
@@ -60,6 +61,16 @@ def bad_reference(source: Source, offset: int) -> Explanation:
         where.end = offset + 1
         where.text = "write &amp; for the sign &"
     return where
+
+
+def half_a_reference(half: re.Match[bytes], found: Explanation) -> None:
+    """A reference without its semicolon, unless letters follow: then it may as well be the sign `&` before a word."""
+    name, rest = half[1].decode(), half[2].decode()
+    if rest:
+        found.text = f"&{name} lacks its ;, or the sign & stands before {name}{rest}: write &{name};{rest} or &amp;{name}{rest}"
+    else:
+        found.text = f"&{name} lacks its ;: write &{name};"
+        found.edits.append(Edit(half.end(), half.end(), b";"))
 
 
 def character_of(entity: str) -> str:
@@ -152,7 +163,7 @@ def bad_markup(source: Source, offset: int) -> Explanation:
     document = source.document
     found = Explanation(start=offset, end=min(offset + 1, len(document)))
     if b"\0" in document[:64]:
-        found.text = "the file looks like UTF-16: `iconv -f utf-16 -t utf-8` mends it"
+        found.text = "the file looks like UTF-16: `iconv -f utf-16 -t utf-8` turns it into UTF-8; change the name of the encoding in its first line too"
         return found
     for begin, finder in (
         (b"<![CDATA[", cdata), (b"<!--", comment), (b"<!", declaration), (b"<?", instruction), (b"</", end_tag), (b"<", start_tag),
@@ -218,10 +229,18 @@ def end_tag(source: Source, at: int, found: Explanation) -> None:
         spaced = NAME.match(document, past_spaces(document, at + 2))
         found.end = spaced.end() if spaced else at + 2
         found.text = f"no space may stand after </: write </{words(spaced[0])}>" if spaced else "this end tag has no name"
+        found.edits += [Edit(at + 2, spaced.start(), b"")] if spaced else []
+        return
+    called, rest = words(name[0]), past_spaces(document, name.end())
+    known = max((tag for tag in TAGS if called.startswith(tag)), key=len, default="")
+    last = nearest(called, [ROOT]) if rest == len(document) else None
+    unended = document[rest : len(document)].partition(b"<")[0].find(b">") < 0
+    if last or (known and unended):
+        found.end = name.end() if last else name.start() + len(known)
+        found.text = f"this end tag has no >: write </{last or known}>"
+        found.edits.append(Edit(name.start(), found.end, (last or known).encode() + b">"))
         return
     found.end = name.end()
-    called = words(name[0])
-    rest = past_spaces(document, name.end())
     if document[rest : rest + 1] in (b"<", b""):
         found.text = f"this end tag has no >: write </{called}>"
     else:
@@ -235,11 +254,13 @@ def start_tag(source: Source, at: int, found: Explanation) -> None:
     if name is None:
         less_than(source, at, found)
         return
+    if not_seen(source, name, found):
+        return
     tag, (where, before) = words(name[0]), past_attributes(document, name.end())
     last = (past_spaces(document, before), where) if where > before else name.span()
     here = past_spaces(document, where)
     attribute = NAME.match(document, here)
-    if here == where and no_space(source, found, last, attribute):
+    if here == where and no_space(source, found, tag, last, attribute):
         return
     equals = EQUALS.match(document, attribute.end()) if attribute else None
     if attribute is None:
@@ -252,17 +273,40 @@ def start_tag(source: Source, at: int, found: Explanation) -> None:
         no_quote(source, found, attribute.span(), equals.end())
 
 
+def not_seen(source: Source, name: re.Match[bytes], found: Explanation) -> bool:
+    """A character that nobody sees, in a name or right after a value: it is taken for a letter of a name."""
+    document = source.document
+    where = past_attributes(document, name.end())[0]
+    for begin, end in ((name.start(), name.end()), (where, where + 4)):
+        text = document[begin:end].decode("utf-8", "ignore")
+        hidden = INVISIBLE.match(text) if begin == where else INVISIBLE.search(text)
+        if hidden:
+            found.start = begin + len(text[: hidden.start()].encode())
+            found.end = found.start + len(hidden[0].encode())
+            found.text = f"{named(hidden[0])} stands here, which nobody sees: write a space for it"
+            found.edits.append(Edit(found.start, found.end, b" "))
+            return True
+    return False
+
+
 def less_than(source: Source, at: int, found: Explanation) -> None:
     """A `<` with which no tag begins."""
     document = source.document
     spaced = NAME.match(document, past_spaces(document, at + 1))
     if at + 1 >= len(document):
         found.text = "the file ends with a <: write &lt;, or see whether its end was lost"
+    elif document[at + 1 : at + 2] == b"<" and NAME.match(document, at + 2):
+        found.text = "< stands twice: take one of the two out"
+        found.edits.append(Edit(at, at + 1, b""))
     elif spaced and (words(spaced[0]) in TAGS):
         found.end = spaced.end()
         found.text = f"no space may stand after <: write <{words(spaced[0])}"
+        found.edits.append(Edit(at + 1, spaced.start(), b""))
+    elif ATTRIBUTE.match(document, at + 1) or document[at + 1 : at + 2] == b">" or (spaced and EQUALS.match(document, spaced.end())):
+        found.text = "the name of this tag is missing: write it after <"
     else:
         found.text = "no tag begins with this <: write &lt; for the sign <"
+        found.edits.append(Edit(at, at + 1, b"&lt;"))
 
 
 def stray(source: Source, found: Explanation, tag: str, here: int, last: tuple[int, int]) -> None:
@@ -275,19 +319,29 @@ def stray(source: Source, found: Explanation, tag: str, here: int, last: tuple[i
         found.start, found.end = last
         found.text = f"the file ends within this <{tag}>, so its end was lost"
     elif sign == "<":
-        found.start, found.end = last
-        found.text = f"<{tag}> has no {'/>' if tag in LINK_TAGS else '>'}: write it after {after}"
+        no_end(found, tag, after, last)
     elif sign == "/":
         found.text = f"this / is not followed by >: write /> at the end of <{tag}>"
+        found.edits += [Edit(here + 1, here + 1, b">")] if tag in LINK_TAGS else []
     elif sign in ",;":
         found.text = f"no {sign} may stand between attributes: take it out"
+        found.edits.append(Edit(found.start, found.end, b""))
     elif sign in "\"'" or sign in CURLY:
         found.text = f"one quote too many after {after}: take it out"
+        found.edits.append(Edit(found.start, found.end, b""))
     else:
         found.text = f"no attribute begins with {sign}: after {after} a name, > or /> may come"
 
 
-def no_space(source: Source, found: Explanation, last: tuple[int, int], attribute: re.Match[bytes] | None) -> bool:
+def no_end(found: Explanation, tag: str, after: str, last: tuple[int, int]) -> None:
+    """A tag that does not end before a text or the next tag."""
+    found.start, found.end = last
+    end = "/>" if tag in LINK_TAGS else ">"
+    found.text = f"<{tag}> has no {end}: write it after {after}"
+    found.edits.append(Edit(last[1], last[1], end.encode()))
+
+
+def no_space(source: Source, found: Explanation, tag: str, last: tuple[int, int], attribute: re.Match[bytes] | None) -> bool:
     """Something right after the value of an attribute. Where that value ends as an attribute begins, its own quote was lost."""
     text = source.document[last[0] : last[1]]
     lost = re.fullmatch(rb"([^=\s]+\s*=\s*)([\"'])([^\s\"']*)\s+[^\s=\"']+\s*=\s*[\"']", text)
@@ -295,9 +349,13 @@ def no_space(source: Source, found: Explanation, last: tuple[int, int], attribut
         found.start, found.end = last[0], last[0] + lost.end(3)
         name, value = words(lost[1]).strip(" ="), words(lost[1] + lost[2] + lost[3] + lost[2])
         found.text = f"the value of {name} has no closing quote: write {value}"
-    elif attribute is not None:
+        found.edits.append(Edit(found.end, found.end, lost[2]))
+    elif attribute is not None and EQUALS.match(source.document, attribute.end()):
         found.start, found.end = attribute.span()
         found.text = f"a space is missing before {words(attribute[0])}"
+        found.edits.append(Edit(found.start, found.start, b" "))
+    elif attribute is not None:
+        no_end(found, tag, words(text), last)
     return bool(found.text)
 
 
@@ -310,8 +368,7 @@ def no_value(source: Source, found: Explanation, tag: str, attribute: tuple[int,
         found.start, found.end = attribute
         found.text = f'{name} has no value: write {name}="..", or take it out'
     else:
-        found.start, found.end = last
-        found.text = f"<{tag}> has no {'/>' if tag in LINK_TAGS else '>'}: write it after {words(document[last[0] : last[1]])}"
+        no_end(found, tag, words(document[last[0] : last[1]]), last)
 
 
 def no_quote(source: Source, found: Explanation, attribute: tuple[int, int], begin: int) -> None:
@@ -330,8 +387,10 @@ def no_quote(source: Source, found: Explanation, attribute: tuple[int, int], beg
     elif document[word.end() : word.end() + 1] in (b'"', b"'"):
         found.end += 1
         found.text = f'the value of {name} has no opening quote: write {name}="{words(word[0])}"'
+        found.edits.append(Edit(begin, begin, document[word.end() : word.end() + 1]))
     else:
         found.text = f'the value of {name} has no quotes: write {name}="{words(word[0])}"'
+        found.edits += [Edit(begin, begin, b'"'), Edit(word.end(), word.end(), b'"')]
 
 
 def no_end_quote(source: Source, found: Explanation, attribute: tuple[int, int], begin: int) -> None:
@@ -343,3 +402,4 @@ def no_end_quote(source: Source, found: Explanation, attribute: tuple[int, int],
     found.start, found.end = attribute[0], end
     value = words(document[begin + 1 : end])
     found.text = f"the value of {name} has no closing quote: write {name}={quote}{value}{quote}"
+    found.edits.append(Edit(end, end, quote.encode()))

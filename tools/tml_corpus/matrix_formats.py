@@ -8,6 +8,7 @@ from __future__ import annotations
 import csv
 import io
 import os
+import unicodedata
 from collections.abc import Callable, Iterator, Mapping, Sequence
 
 from tml.matrices import Matrix, Relations
@@ -21,6 +22,9 @@ SYMBOLS = dict(zip(BASE_RELATIONS, ("<", ">", "di", "d", "=", "m", "mi", "s", "s
 """The signs that Allen gave the relations in 1983."""
 
 ANY = "any relation"
+
+FORMULA = tuple("=+-@\N{MINUS SIGN}")
+"""The signs with which a formula begins in a spreadsheet."""
 
 STYLE = """
 body{margin:16px;background:#fff;color:#111;font:14px/1.45 "DejaVu Sans",Verdana,Helvetica,Arial,sans-serif}
@@ -79,7 +83,7 @@ def text(path: str, wording: Wording, matrix: Matrix) -> Iterator[str]:
 def comma_separated(path: str, wording: Wording, matrix: Matrix) -> Iterator[str]:
     """A line for each pair, after one with the names of the columns."""
     del path
-    names, texts = wording.intervals, [harmless(wording.text_of(name)) for name in wording.intervals]
+    names, texts = list(map(harmless, wording.intervals)), [harmless(wording.text_of(name)) for name in wording.intervals]
     said = [(len(relations), " ".join(relations)) for relations in matrix.sets]
     yield in_lines([("first", "first text", "second", "second text", "count", "relations")])
     for left, (name, words) in enumerate(zip(names, texts, strict=True)):
@@ -95,9 +99,9 @@ def in_lines(rows: Sequence[Sequence[object]]) -> str:
 
 
 def harmless(words: str) -> str:
-    """A text that no spreadsheet takes for a formula: it gets an apostrophe where it begins as one."""
+    """A text or a name that no spreadsheet takes for a formula: it gets an apostrophe where it begins as one, be it in full width."""
     words = plain(words).strip()
-    return f"'{words}" if words.startswith(("=", "+", "-", "@")) else words
+    return f"'{words}" if unicodedata.normalize("NFKC", words[:1]) in FORMULA else words
 
 
 def table(path: str, wording: Wording, matrix: Matrix) -> Iterator[str]:

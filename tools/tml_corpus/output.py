@@ -1,7 +1,7 @@
 """Standard output and standard error of the programs, and how they end.
 
 What cannot be printed ends a program with status 2 and one line on standard error, so that a report that was cut off never
-looks like a judgement. What standard error does not take is lost.
+looks like a judgement. Where the reader has ended there is no such line. What standard error does not take is lost.
 """
 
 from __future__ import annotations
@@ -17,6 +17,7 @@ from typing import Any, NoReturn
 
 from tml.running import CannotRun
 
+from . import VERSION
 from .files import CannotRead, reason, shown
 from .statuses import Status
 
@@ -32,6 +33,10 @@ class CannotWrite(Exception):
     """Standard output takes no more."""
 
 
+class ReaderGone(CannotWrite):
+    """What reads standard output has ended, as `head` does once it has its lines."""
+
+
 class StandardOutput(io.FileIO):
     """Standard output, of which each failure is known from that of other files."""
 
@@ -41,6 +46,8 @@ class StandardOutput(io.FileIO):
             while (size := super().write(data)) is None:
                 select.select([], [self], [])
             return size
+        except BrokenPipeError:
+            raise ReaderGone from None
         except OSError as error:
             raise CannotWrite(f"standard output cannot be written: {reason(error)}") from None
 
@@ -90,6 +97,14 @@ class Parser(ArgumentParser):
         super().error(shown(message))
 
 
+class ProgramParser(Parser):
+    """The words of a whole program, which tells its version too."""
+
+    def __init__(self, **options: Any) -> None:
+        super().__init__(**options)
+        self.add_argument("--version", action="version", version=f"%(prog)s {VERSION}", help="print the version, and end")
+
+
 def run(work: Callable[[list[str]], int], words: Sequence[str] | None = None) -> int:
     """Runs a program with some words, or those of the command line, and answers its status."""
     open_streams()
@@ -104,6 +119,8 @@ def run(work: Callable[[list[str]], int], words: Sequence[str] | None = None) ->
         return status
     except KeyboardInterrupt:
         return Status.INTERRUPTED
+    except ReaderGone:
+        return Status.TROUBLE
     except (CannotWrite, CannotRun, CannotRead) as problem:
         return complain(str(problem))
     except MemoryError:
@@ -124,8 +141,8 @@ def complain(problem: str, status: int = Status.TROUBLE) -> int:
     return status
 
 
-def standard_input(most: int = -1) -> bytes:
-    """The bytes of standard input, at most so many if a number is given."""
+def standard_input(most: int) -> bytes:
+    """The bytes of standard input, at most so many."""
     if INPUT in CLOSED:
         raise CannotRead("standard input is closed")
     try:

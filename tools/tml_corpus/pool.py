@@ -21,6 +21,8 @@ from typing import Any, Generic, NoReturn, TypeVar
 
 from tml.running import CannotRun, end_all
 
+from .files import reason
+from .replacing import WRITING
 from .room import Room, SharedLock
 
 Item = TypeVar("Item")
@@ -38,6 +40,18 @@ MOMENT, LEAST = 0.05, 1e-6
 
 PATIENCE = 0.5
 """So many seconds pass at most until an interruption is seen."""
+
+BEGINNING = 20.0
+"""So many seconds a process has to say that it is ready. One that runs out of memory while it begins may never say so, nor end."""
+
+ATTEMPTS = 3
+"""So often in a row the last process that is left may end before it is ready."""
+
+SPARE = 4
+"""So many files this program can still open once it has forked as many processes as it can."""
+
+READY = b"\1"
+"""What a process says first."""
 
 PAIR = struct.Struct("=QQ")
 """What a process is told: the number of an item, and how many from there on are meant."""
@@ -197,8 +211,15 @@ class Worker(Generic[Result]):
 
     def __init__(self, process: int, told: int, answers: int) -> None:
         self.process, self.told, self.answers = process, told, answers
+        self.late = time.monotonic() + BEGINNING
+        """When it is late with saying that it is ready."""
         self.group: Group[Result] | None = None
         self.answered = bytearray()
+
+    def become_ready(self) -> None:
+        """Takes what it says first."""
+        if not os.read(self.answers, len(READY)):
+            raise HasEnded
 
     def begin(self, group: Group[Result]) -> None:
         """Gives it some items. That it has ended is seen where it is read from."""
@@ -228,6 +249,11 @@ class Worker(Generic[Result]):
         os.close(self.told)
         os.close(self.answers)
 
+    def end(self) -> None:
+        """Ends it at once; that it has ended is seen where it is read from."""
+        with suppress(ProcessLookupError):
+            os.kill(self.process, signal.SIGKILL)
+
     def wait(self) -> None:
         """Waits until it has ended, if the system still knows of it: it does not where children are ignored."""
         with suppress(ChildProcessError):
@@ -239,18 +265,26 @@ class Crew(Generic[Item, Result]):
 
     def __init__(self, work: Callable[[Item], Result], items: Sequence[Item], prepare: Callable[[], None]) -> None:
         self.work, self.items, self.prepare = work, items, prepare
+        self.starting: dict[int, Worker[Result]] = {}
+        """Those that have not said yet that they are ready."""
         self.idle: list[Worker[Result]] = []
         self.busy: dict[int, Worker[Result]] = {}
+        self.attempts = ATTEMPTS
         self.poll = select.poll()
         self.lock = SharedLock()
 
     def __enter__(self) -> Crew[Item, Result]:
-        self.watched, self.held = os.pipe()
+        try:
+            self.watched, self.held = os.pipe()
+        except OSError as error:
+            raise cannot_fork(error) from None
         return self
 
     def __exit__(self, *error: object) -> None:
         """Ends all processes, once they are through with what they are at."""
-        workers = [*self.idle, *self.busy.values()]
+        for worker in self.starting.values():
+            worker.end()
+        workers = self.workers()
         for worker in workers:
             worker.close()
         for worker in workers:
@@ -259,34 +293,53 @@ class Crew(Generic[Item, Result]):
         os.close(self.watched)
         os.close(self.held)
 
+    def workers(self) -> list[Worker[Result]]:
+        """All processes."""
+        return [*self.starting.values(), *self.idle, *self.busy.values()]
+
     def grow(self, count: int) -> None:
-        """Forks so many processes."""
-        for _ in range(count):
-            pipes: list[int] = []
-            try:
-                pipes += os.pipe()
-                pipes += os.pipe()
-                process = os.fork()
-            except OSError as error:
-                for handle in pipes:
-                    os.close(handle)
-                raise CannotRun(f"no process of Python can be forked: {error}") from None
-            reading, told, answers, writing = pipes
-            if not process:
-                self.work_on(reading, writing, [told, answers, self.held])
-            os.close(reading)
-            os.close(writing)
-            self.idle.append(Worker(process, told, answers))
-            self.poll.register(answers, select.POLLIN)
+        """Forks so many processes, or as many as it can; without any it cannot go on."""
+        spare: list[int] = []
+        try:
+            for _ in range(SPARE):
+                spare += [os.dup(self.held)]
+            for _ in range(count):
+                self.fork(spare)
+        except OSError as error:
+            if not self.workers():
+                raise cannot_fork(error) from None
+        finally:
+            for handle in spare:
+                os.close(handle)
+
+    def fork(self, spare: list[int]) -> None:
+        """Forks a process, which does not need the spare handles."""
+        pipes: list[int] = []
+        try:
+            pipes += os.pipe()
+            pipes += os.pipe()
+            process = os.fork()
+        except OSError:
+            for handle in pipes:
+                os.close(handle)
+            raise
+        reading, told, answers, writing = pipes
+        if not process:
+            self.work_on(reading, writing, [told, answers, self.held, *spare])
+        os.close(reading)
+        os.close(writing)
+        self.starting[answers] = Worker(process, told, answers)
+        self.poll.register(answers, select.POLLIN)
 
     def work_on(self, told: int, answers: int, others: list[int]) -> NoReturn:
         """What a process does: it never comes back to what the program was at when it was forked."""
         try:
-            for worker in (*self.idle, *self.busy.values()):
+            for worker in self.workers():
                 worker.close()
             for handle in others:
                 os.close(handle)
             prepare_worker(self.watched, self.lock)
+            os.write(answers, READY)
             answer_all(told, answers, self.work, self.items, self.prepare)
         finally:
             os._exit(1)
@@ -299,34 +352,61 @@ class Crew(Generic[Item, Result]):
             worker.begin(group)
 
     def take(self, groups: Groups[Result]) -> list[Group[Result]]:
-        """Takes the results that come next, if any come soon, and answers the groups with which processes ended."""
+        """Takes what comes next, if it comes soon, and answers the groups with which processes ended."""
         ended: list[Group[Result]] = []
         for handle, _ in self.poll.poll(PATIENCE * 1000):
-            worker = self.busy.get(handle) or next(one for one in self.idle if one.answers == handle)
+            worker = self.starting.get(handle) or self.busy.get(handle) or next(one for one in self.idle if one.answers == handle)
             try:
-                answer = worker.answer()
+                self.hear(worker, groups)
             except HasEnded:
                 ended += self.replace(worker)
-                continue
-            if answer is not None and worker.group is not None:
-                groups.note(worker.group, *answer)
-                worker.group = None
-                self.idle.append(self.busy.pop(handle))
+        now = time.monotonic()
+        for worker in self.starting.values():
+            if now > worker.late:
+                worker.end()
         return ended
 
+    def hear(self, worker: Worker[Result], groups: Groups[Result]) -> None:
+        """Takes what a process says: that it is ready, or results."""
+        if worker.answers in self.starting:
+            worker.become_ready()
+            self.idle.append(self.starting.pop(worker.answers))
+            return
+        answer = worker.answer()
+        if answer is not None and worker.group is not None:
+            groups.note(worker.group, *answer)
+            worker.group = None
+            self.idle.append(self.busy.pop(worker.answers))
+
     def replace(self, worker: Worker[Result]) -> list[Group[Result]]:
-        """Forks another process in the place of one that has ended, and answers the items that it was at."""
-        if self.busy.pop(worker.answers, None) is None:
+        """Forks another process in the place of one that has ended, and answers the items that it was at.
+
+        Where one has ended before it was ready, those that are there go on without another one.
+        """
+        was_ready = self.starting.pop(worker.answers, None) is None
+        if was_ready and self.busy.pop(worker.answers, None) is None:
             self.idle.remove(worker)
         self.poll.unregister(worker.answers)
         worker.close()
         worker.wait()
-        self.grow(1)
+        if was_ready or not self.workers():
+            self.attempts = ATTEMPTS if was_ready else self.attempts - 1
+            if not self.attempts:
+                raise CannotRun("no process of Python can begin its work: there is not enough memory, or there are too many processes")
+            self.grow(1)
         return [worker.group] if worker.group is not None else []
 
 
+def cannot_fork(error: OSError) -> CannotRun:
+    """What is said where no process can be forked."""
+    return CannotRun(f"no process of Python can be forked: {reason(error)}")
+
+
 def prepare_worker(watched: int, lock: SharedLock) -> None:
-    """Has a process leave Ctrl-C to the program, and end when that is no more, with the `tml` that it has started."""
+    """Has a process leave Ctrl-C to the program, and end when that is no more, with the `tml` that it has started.
+
+    A file that it is at is written whole before that.
+    """
     signal.signal(signal.SIGINT, signal.SIG_IGN)
     # What the program has by now stays to the end: no search for what can be freed goes over it in each process.
     gc.freeze()
@@ -335,7 +415,8 @@ def prepare_worker(watched: int, lock: SharedLock) -> None:
     def watch() -> None:
         os.read(watched, 1)
         end_all()
-        os._exit(1)
+        with WRITING:
+            os._exit(1)
 
     threading.Thread(target=watch, daemon=True).start()
 

@@ -3,7 +3,7 @@
 from __future__ import annotations
 
 import io
-from collections.abc import Iterator
+from collections.abc import Callable, Iterator
 from typing import IO, TYPE_CHECKING, NamedTuple
 
 from tml.finding import find_program, present_program
@@ -85,8 +85,8 @@ class Program:
         """
         if self.loaded is not None:
             return ask_library(self.loaded, words[0], document, other)
+        from tml.longest import longest
         from tml.process import open_file
-        from tml.replies import longest
 
         size = len(document) if isinstance(document, bytes) else None
         with open_file(other, f"the {SECOND.get(words[0], 'second file')}") as file:
@@ -94,15 +94,20 @@ class Program:
             status, text = run([self.path, *words, *last], document, longest(words[0]), file)
         return believed(Reply(status, text, words[0], size))
 
+    def matrix_in_parts(self, document: bytes, take: Callable[[bytes], object]) -> int:
+        """The status of `tml matrix` of a document in memory, whose text something takes in parts, as they come."""
+        from tml.longest import longest
+
+        status, _ = run([self.path, "matrix", "-"], self.seen(document), longest("matrix"), take=take)
+        return status
+
     def matrix(self, document: bytes, lines: IO[bytes]) -> Reply:
         """`tml matrix` of a document in memory: the lines, which may be many, go to an open file.
 
         It is always a process that is asked: there may be 64 MiB of lines, which the library would have in memory, and a process of them a
         part at a time. With another status than 0 the reply has the text.
         """
-        from tml.replies import longest
-
-        status, _ = run([self.path, "matrix", "-"], self.seen(document), longest("matrix"), take=lines.write)
+        status = self.matrix_in_parts(document, lines.write)
         lines.seek(0)
         if status == TmlStatus.DONE:
             return Reply(status, b"", "matrix", len(document))

@@ -19,7 +19,7 @@ from functools import partial
 from .files import PATTERNS, CannotRead, Found, counted, find_files, read_document, shown
 from .formats import located
 from .libraries import library_of
-from .output import Parser, RawFormatter, run
+from .output import ProgramParser, RawFormatter, run
 from .pool import Interruption, in_order, processors
 from .program import CannotRun, Program, find_program
 from .reduced import problem_of, read_reduced
@@ -63,9 +63,9 @@ def ask_of_all(words: list[str]) -> int:
     return Status.TROUBLE if problems else Status.FINDING if follows else Status.SUCCESS
 
 
-def parser() -> Parser:
+def parser() -> ProgramParser:
     """The words that are understood."""
-    words = Parser(description=__doc__, formatter_class=RawFormatter)
+    words = ProgramParser(description=__doc__, formatter_class=RawFormatter)
     words.add_argument("paths", nargs="+", metavar="PATH", help="a file, or a folder to search")
     words.add_argument("--glob", action="append", metavar="PATTERN", help=f"names to look for in folders (default {' '.join(PATTERNS)})")
     words.add_argument("--tml", metavar="PROGRAM", help="the program tml (default: that of this repository, else that on PATH)")

@@ -10,9 +10,10 @@ from dataclasses import dataclass, field
 
 from .clash_report import ClashReport, Wanted
 from .clashes import own_name
-from .files import Found, reason, shown, written
+from .files import Found, reason, shown
 from .judgement import Judgement
 from .program import CannotRun, Program
+from .replacing import written
 from .report_documents import Entry, Examined, entry_of, examine
 from .report_index import index_of
 from .report_page import page_of

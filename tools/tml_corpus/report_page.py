@@ -133,7 +133,7 @@ def clash_part(wording: Wording, words: Words, clash: PlacedClash, number: int) 
     """A clash: its links, what is known of them besides, and the walk from a point to itself."""
     title = "These links cannot all be true" if len(clash.links) > 1 else "This link cannot be true"
     links = "".join(f"<li>{link_reference(link)}{source_part(link.source)}</li>\n" for link in clash.links)
-    notes = "".join(f"<li>{at(note.place)}: {isolated(note.text)}</li>\n" for note in clash.calendar + clash.cures)
+    notes = "".join(f"<li>{at(note.place)}: {isolated(note.text)}</li>\n" for note in clash.calendar + clash.dates + clash.cures)
     steps = steps_in_words(wording, clash.walk)
     walk = "".join(step_part(wording, words, step) for step in steps)
     first = point_part(wording, steps[0].first)

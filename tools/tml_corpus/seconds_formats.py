@@ -79,7 +79,7 @@ def comma_separated(path: str, found: Placed) -> str:
     rows = []
     for one in found.intervals:
         bounds = map(date_or_nothing, one.starts + one.ends)
-        rows.append((one.name, harmless(one.text), one.kind, one.start, one.end, civil(one.start), civil(one.end), *bounds))
+        rows.append((harmless(one.name), harmless(one.text), one.kind, one.start, one.end, civil(one.start), civil(one.end), *bounds))
     return in_lines([HEAD, *rows])
 
 

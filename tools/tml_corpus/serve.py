@@ -22,13 +22,13 @@ from .program import CannotRun
 from .serve_actions import ACTION_KINDS, actions
 from .serve_completion import completion
 from .serve_document import Asked, AskedUnwrapping, OpenDocument, Overtaken, path_of
-from .serve_findings import findings, has_further, problem_finding
+from .serve_findings import findings, has_further, problem_finding, remark_finding
 from .serve_hover import hover
 from .serve_inbox import Inbox, Message, Unreadable
 from .serve_names import definition, references, symbols
 from .serve_places import UTF_8, UTF_16
 from .serve_wire import BadParams, Incoming, Json, member, send
-from .settings import Settings, settings_for
+from .settings import Chosen, Remembering, Settings, settings_for
 
 PARSE, INVALID, UNKNOWN, BAD_PARAMS, INTERNAL = -32700, -32600, -32601, -32602, -32603
 NOT_INITIALIZED, CANCELLED, MODIFIED, FAILED = -32002, -32800, -32801, -32803
@@ -59,8 +59,8 @@ class Opened:
     document: OpenDocument
     state: int
     version: int
-    remark: str
-    """What is wrong with the settings of its folder."""
+    remarks: tuple[str, ...]
+    """What is wrong with the settings of its folder, or was passed by."""
     left: list[bool] = field(default_factory=lambda: [False, True])
     """Whether the further faults are wanted, for each time that something is to be said."""
 
@@ -73,6 +73,7 @@ class Server:
         self.inbox, self.client = Inbox(), Client()
         self.opened: dict[str, Opened] = {}
         self.programs: dict[tuple[str, ...], Asked] = {}
+        self.settings = Remembering()
 
     def run(self, read: Callable[[int], bytes], stop: Event) -> int:
         """Answers until the client says that it ends, or goes; the status is 0 where it said `shutdown` before."""
@@ -186,13 +187,13 @@ class Server:
         """Takes a text, of which there is something to say then."""
         path = path_of(message.uri)
         try:
-            settings, remark = settings_for([path] if path is not None else [], self.config), ""
+            settings, remarks = settings_for([path] if path is not None else [], self.config, self.settings.read)
         except CannotRun as problem:
-            settings, remark = Settings(), str(problem)
+            settings, remarks = Chosen(Settings(), (str(problem),))
         lint = chosen(settings.ignore, settings.warn)
         document = OpenDocument(self.program(settings.wrappers), message.uri, text, lint, self.client.encoding)
         self.opened.pop(message.uri, None)
-        self.opened[message.uri] = Opened(document, message.state, version, remark)
+        self.opened[message.uri] = Opened(document, message.state, version, remarks)
 
     def program(self, wrappers: tuple[str, ...]) -> Asked:
         """`tml`, asked without wrappers of the corpus; it remembers what it said of dates."""
@@ -227,8 +228,7 @@ class Server:
             opened.left.clear()
         del opened.left[:1]
         if found is not None and not self.inbox.is_overtaken(document.uri, opened.state):
-            remarks = [problem_finding(opened.remark)] if opened.remark else []
-            self.publish(document.uri, opened.version, remarks + found)
+            self.publish(document.uri, opened.version, [*map(remark_finding, opened.remarks), *found])
 
     def is_next(self, opened: Opened, further: bool) -> bool:
         """Whether what is to be said of a document is wanted before what waits; further faults are not."""

@@ -5,7 +5,8 @@ from __future__ import annotations
 from collections.abc import Iterator
 
 from .clash_report import TOUCHING, ClashReport, PlacedChange, PlacedClash, PlacedLink
-from .judgement import Mark, PlacedFault
+from .judgement import Mark, PlacedFault, PlacedWarning
+from .kinds import is_mistake
 from .program import CLASH
 from .serve_document import OpenDocument
 from .serve_wire import Json
@@ -28,7 +29,7 @@ def findings(document: OpenDocument, *, further: bool) -> list[Json]:
     if judgement.problem is not None:
         return [problem_finding(judgement.problem)]
     faults = [of_fault(document, fault) for fault in judgement.faults]
-    return faults + [of_mark(document, one.mark, WARNING, one.name, one.text) for one in judgement.warnings]
+    return faults + [of_warning(document, one) for one in judgement.warnings]
 
 
 def has_further(document: OpenDocument) -> bool:
@@ -38,8 +39,13 @@ def has_further(document: OpenDocument) -> bool:
 
 def problem_finding(problem: str) -> Json:
     """Why a document was not judged."""
+    return remark_finding(f"not judged: {problem}")
+
+
+def remark_finding(remark: str) -> Json:
+    """What is to be said of a document as a whole."""
     start = {"line": 0, "character": 0}
-    return {"range": {"start": start, "end": start}, "severity": INFORMATION, "source": SOURCE, "message": f"not judged: {problem}"}
+    return {"range": {"start": start, "end": start}, "severity": INFORMATION, "source": SOURCE, "message": remark}
 
 
 def of_fault(document: OpenDocument, fault: PlacedFault) -> Json:
@@ -48,6 +54,11 @@ def of_fault(document: OpenDocument, fault: PlacedFault) -> Json:
     found = of_mark(document, fault.mark, ERROR, fault.fault.title(), fault.text + perhaps)
     notes = [(note.place.offset, note.place.offset + 1, note.text) for note in fault.notes]
     return with_related(document, found, notes)
+
+
+def of_warning(document: OpenDocument, warning: PlacedWarning) -> Json:
+    """Something suspect: what is probably a mistake is a warning, and what is missing an information."""
+    return of_mark(document, warning.mark, WARNING if is_mistake(warning.name) else INFORMATION, warning.name, warning.text)
 
 
 def of_mark(document: OpenDocument, mark: Mark, severity: int, code: str, text: str) -> Json:
@@ -78,13 +89,13 @@ def of_clashes(document: OpenDocument, report: ClashReport) -> Iterator[Json]:
     for change in report.touching:
         yield of_change(document, change, severity)
     for one in report.judgement.warnings:
-        yield of_mark(document, one.mark, WARNING, one.name, one.text)
+        yield of_warning(document, one)
 
 
 def of_clash(document: OpenDocument, clash: PlacedClash) -> Iterator[Json]:
     """Each link of a clash at its place, with the other ones and what the calendar says beside it."""
     others = [(*stretch_of(document, link), link.text) for link in clash.links]
-    beside = [(note.place.offset, note.place.offset + 1, note.text) for note in (*clash.calendar, *clash.cures)]
+    beside = [(note.place.offset, note.place.offset + 1, note.text) for note in (*clash.calendar, *clash.dates, *clash.cures)]
     for number, (start, end, text) in enumerate(others):
         one = f"clash, {number + 1} of {len(others)}: {text}"
         found = of_stretch(document, start, end, ERROR, "clash", one)

@@ -11,10 +11,10 @@ from typing import Any, NoReturn, TypeVar
 from tml.matrices import Matrix
 from tml.statuses import LINK_LIMIT
 
-from .files import counted, shown
+from .files import CannotRead, Found, counted, shown
 from .fitting import Unfit, not_judged
 from .leftout import Copies, enclosed
-from .matrix import matrix_of
+from .matrix import tally_of
 from .matrix_formats import labels_of
 from .pool import Interruption
 from .program import CannotRun, Program
@@ -22,7 +22,6 @@ from .progress import Progress
 from .settling import Settled, Settling
 from .show_matrix import Worded, worded_matrix
 from .statuses import ENDED, Status
-from .words import Wording
 
 Item = TypeVar("Item")
 Result = TypeVar("Result")
@@ -40,14 +39,13 @@ class Bounds:
 class WithLinks:
     """Copies of a document with one more link, of which `tml matrix` is asked."""
 
-    def __init__(self, program: Program, wording: Wording) -> None:
-        self.program, self.intervals = program, wording.intervals
-        self.times = frozenset(wording.tags["TIMEX3"])
-        self.parts = Copies(program, wording.source, {}).as_written
+    def __init__(self, program: Program, found: Worded) -> None:
+        self.program, self.matrix = program, found.matrix
+        self.times = frozenset(found.wording.tags["TIMEX3"])
+        self.parts = Copies(program, found.wording.source, {}).as_written
 
-    def tag(self, left: int, relation: str, right: int) -> bytes:
+    def tag(self, first: str, relation: str, second: str) -> bytes:
         """The tag of a link."""
-        first, second = self.intervals[left], self.intervals[right]
         one = "timeID" if first in self.times else "eventInstanceID"
         other = "relatedToTime" if second in self.times else "relatedToEventInstance"
         return f'<TLINK {one}="{first}" {other}="{second}" relType="{relation}"/>'.encode()
@@ -55,10 +53,12 @@ class WithLinks:
     def decided(self, link: tuple[int, str, int]) -> int:
         """How many pairs are decided with one more link, which decides its own pair."""
         left, relation, right = link
-        matrix = matrix_of(self.program, enclosed([*self.parts, self.tag(*link)]), self.intervals)
-        if matrix.between(left, right) != (relation,):
+        first, second = self.matrix.intervals[left], self.matrix.intervals[right]
+        copy = enclosed([*self.parts, self.tag(first, relation, second)])
+        tally = tally_of(self.program, copy, self.matrix, left, right)
+        if tally.line != f"{first} {second} {relation}".encode():
             raise CannotRun("two answers of tml to `matrix` do not belong together")
-        return decided_in(matrix)
+        return tally.decided
 
 
 def decided_in(matrix: Matrix) -> int:
@@ -85,14 +85,33 @@ def with_progress(
         progress.close()
 
 
-def show_open(program: Program, path: str, bounds: Bounds, touching: bool, in_order: InOrder[Any], stop: Interruption) -> int:
-    """Prints the open pairs of a file, and answers the status."""
+def show_open_of_all(
+    program: Program, found: Sequence[Found], bounds: Bounds, touching: bool, in_order: InOrder[Any], stop: Interruption
+) -> int:
+    """Prints the open pairs of each file of a folder, with its name before each line, and answers the worst status."""
+    statuses = []
+    for one in found:
+        if stop.happened.is_set():
+            break
+        if one.problem is not None:
+            unfit = not_judged(one.path, CannotRead(one.problem))
+            sys.stdout.write(unfit.text)
+            statuses.append(unfit.status)
+        else:
+            statuses.append(show_open(program, one.path, bounds, touching, in_order, stop, f"{shown(one.path)}: "))
+    return max(statuses, default=Status.SUCCESS)
+
+
+def show_open(
+    program: Program, path: str, bounds: Bounds, touching: bool, in_order: InOrder[Any], stop: Interruption, before: str = ""
+) -> int:
+    """Prints the open pairs of a file, with some words before the line of each, and answers the status."""
     found = worded_matrix(program, path, "looked at", touching)
     sys.stdout.write(found.text)
     if isinstance(found, Unfit):
         return found.status
     try:
-        lines = list(lines_of(program, path, found, bounds, in_order, stop))
+        *lines, last = lines_of(program, path, found, bounds, in_order, stop)
     except CannotRun as problem:
         unfit = not_judged(path, problem)
         sys.stdout.write(unfit.text)
@@ -100,7 +119,8 @@ def show_open(program: Program, path: str, bounds: Bounds, touching: bool, in_or
     if stop.happened.is_set():
         sys.stdout.write("interrupted: not all pairs were looked at\n")
         return Status.INTERRUPTED
-    sys.stdout.writelines(lines)
+    sys.stdout.writelines(before + line for line in lines)
+    sys.stdout.write(last)
     return Status.SUCCESS
 
 
@@ -126,7 +146,7 @@ def confirm(program: Program, found: Worded, settled: Sequence[Settled], in_orde
     before = decided_in(found.matrix)
     links = [(one.left, relation, one.right) for one in settled for relation in one.counts]
     counts = list(itertools.chain(*(one.counts.values() for one in settled)))
-    asked = with_progress(in_order, WithLinks(program, found.wording).decided, links, "links", stop)
+    asked = with_progress(in_order, WithLinks(program, found).decided, links, "links", stop)
     for count, decided in zip(counts, asked, strict=False):
         if decided != before + count:
             raise CannotRun("what was counted is not what tml matrix says of the document with one more link")

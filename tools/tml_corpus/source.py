@@ -3,19 +3,22 @@
 from __future__ import annotations
 
 import re
-from collections.abc import Iterable, Iterator
+from collections.abc import Callable, Iterable, Iterator
 from functools import cached_property
-from typing import NamedTuple, Protocol
+from typing import Any, NamedTuple, Protocol, TypeVar
 
 from tml.places import Places
 
 from .edits import Edit
-from .profile import IDENTIFIERS, LEFT, RIGHT, ROOT, TABLE
+from .profile import IDENTIFIERS, LEFT, RIGHT, ROOT, TABLE, Kind
 from .room import MANY_BYTES
 from .units import END, START, TEXT, Attribute, Unit, Units
 from .values import CALENDAR
 
-LONGEST = 80
+Made = TypeVar("Made")
+
+LONGEST, LONGEST_WORDS = 80, 400
+TEXT_AND_END = bytes((TEXT, END))
 SINGLE, DOUBLE = "'", '"'
 VALUE = re.compile(r"""([^ \t\r\n=]++)[ \t\r\n]*+=[ \t\r\n]*+(?:"([^"]*+)"|'([^']*+)')""")
 """An attribute of a tag: its name, and its value between quotes of either kind."""
@@ -34,6 +37,21 @@ class Note(NamedTuple):
     text: str
 
 
+class Suspect(NamedTuple):
+    """What a warning is about: a tag, the sentence, the stretch that it speaks of where that is not the whole tag, and what mends it."""
+
+    tag: Unit
+    text: str
+    stretch: tuple[int, int] | None = None
+    edits: tuple[Edit, ...] = ()
+    """What mends it, where there is one cure only."""
+
+    @classmethod
+    def of_attribute(cls, tag: Unit, attribute: Attribute, text: str, edit: Edit | None = None) -> Suspect:
+        """What is suspect in an attribute of a tag."""
+        return cls(tag, text, (attribute.start, attribute.end), () if edit is None else (edit,))
+
+
 class Explanation:
     """What a fault is about: the sentence, the stretch that it speaks of, further notes, and what to blank out to go on.
 
@@ -44,6 +62,8 @@ class Explanation:
         self.text, self.start, self.end = "", start, end
         self.notes: list[Note] = []
         self.attributes: list[Attribute] = []
+        self.edits: list[Edit] = []
+        """What mends it, where there is one cure only."""
         self.units: Units | None = None
 
 
@@ -107,6 +127,7 @@ class Source:
         self.document, self.given_places = document, places
         self.units = Units() if units is None else units
         self.fresh_names: dict[str, str] = {}
+        self.made: dict[tuple[str, str], Any] = {}
         self.known_values: dict[int, dict[str, str]] = {}
         self.known_rows: dict[str, list[tuple[Unit, Values]]] = {}
         self.known_identifiers: dict[str, dict[str, Unit]] = {}
@@ -201,6 +222,39 @@ class Source:
                 found.setdefault(values.get("eventID", ""), []).append(name)
         return found
 
+    @cached_property
+    def referred(self) -> dict[str, dict[str, Unit]]:
+        """By the kind that is asked for, the identifiers that tags refer to, each with the first tag that does."""
+        found: dict[str, dict[str, Unit]] = {kind: {} for kind in TABLE}
+        for kind, rows in TABLE.items():
+            targets = {name: row.form.target for name, row in rows.items() if row.form.kind is Kind.REFERENCE}
+            for tag, values in self.valued(kind) if targets else ():
+                for name, target in targets.items():
+                    value = values.get(name, "")
+                    if value:
+                        found[target].setdefault(value, tag)
+        return found
+
+    def once(self, what: str, kind: str, make: Callable[[], Made]) -> Made:
+        """Something that is made once of the tags of a kind, and kept: of a document with many faults it is asked for again and again."""
+        if (what, kind) not in self.made:
+            self.made[what, kind] = make()
+        made: Made = self.made[what, kind]
+        return made
+
+    def dangling(self, kind: str) -> dict[str, Unit]:
+        """The identifiers that tags refer to as those of a kind and that no tag has, each with the first tag that refers to it."""
+        return self.once("dangling", kind, lambda: {name: tag for name, tag in self.referred[kind].items() if self.bearer(name) is None})
+
+    def without_instance(self) -> list[str]:
+        """The identifiers of the events that no MAKEINSTANCE names."""
+        return self.once("bare", "EVENT", lambda: [name for name in self.identified("EVENT") if name not in self.instances])
+
+    def end_of(self, tag: Unit) -> Unit | None:
+        """The end tag of a start tag."""
+        number = self.once("ends", "", self.units.end_tags).get(tag.start) if tag.kind == "start" else None
+        return None if number is None else self.units[number]
+
     def bearer(self, name: str) -> Unit | None:
         """The first tag of whatever kind that has this identifier."""
         found = [tags[name] for tags in self.identifiers.values() if name in tags]
@@ -216,6 +270,31 @@ class Source:
         """The times with a value, of which that is no date of a DATE or TIME, with their types and values."""
         times = ((tag, values.get("type", ""), values.get("value", "")) for tag, values in self.valued("TIMEX3"))
         return [(tag, kind, value) for tag, kind, value in times if value and not (kind in ("DATE", "TIME") and CALENDAR.fullmatch(value))]
+
+    @cached_property
+    def creation_times(self) -> list[Unit]:
+        """The times that say when the document was made."""
+        return [tag for tag, values in self.valued("TIMEX3") if values.get("functionInDocument", "") == "CREATION_TIME"]
+
+    def creation_value(self) -> str:
+        """The value of the first creation time; nothing where there is none."""
+        return self.value(self.creation_times[0], "value") if self.creation_times else ""
+
+    def words_of(self, tag: Unit) -> str:
+        """The text inside of a start tag, without the tags in it, and cut where it is long."""
+        units, parts, depth, size = self.units, list[bytes](), 1, 0
+        after = tag.row + 1
+        if tag.kind == "start" and units.kinds[after : after + 2] == TEXT_AND_END:
+            return self.document[units.starts[after] : min(units.ends[after], units.starts[after] + LONGEST_WORDS)].decode("utf-8", "replace")
+        for row in range(tag.row + 1, len(units.kinds)) if tag.kind == "start" else ():
+            kind = units.kinds[row]
+            if kind == TEXT:
+                parts.append(self.document[units.starts[row] : units.ends[row]])
+                size += len(parts[-1])
+            depth += (kind == START) - (kind == END)
+            if depth == 0 or size > LONGEST_WORDS:
+                break
+        return b"".join(parts)[:LONGEST_WORDS].decode("utf-8", "replace")
 
     def has_text(self, tag: Unit) -> bool:
         """Whether a start tag has some text inside; mostly it follows at once."""

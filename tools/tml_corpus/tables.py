@@ -4,19 +4,22 @@ from __future__ import annotations
 
 import re
 from collections.abc import Iterator
-from dataclasses import dataclass
+from typing import NamedTuple
 
-from .files import CannotRead, opened, reason
+from .files import LONGEST_LINE, CannotRead, lines_of
 
 MOST_DIGITS = 9
+NUMBER = re.compile(rf"[0-9]{{1,{MOST_DIGITS}}}")
+
+NOT_XML = re.compile("[\x00-\x08\x0b\x0c\x0e-\x1f\ufffe\uffff]")
+"""The characters of UTF-8 that no document in XML has."""
 
 
 class BadTable(Exception):
     """A table is not what this program takes it for: the sentence has its file, line and column."""
 
 
-@dataclass(frozen=True)
-class Word:
+class Word(NamedTuple):
     """A word of a table, and where it stands: the column counts characters from 1."""
 
     text: str
@@ -30,7 +33,7 @@ class Word:
 
     def number(self) -> int:
         """The number that it is."""
-        if not re.fullmatch(rf"[0-9]{{1,{MOST_DIGITS}}}", self.text):
+        if not NUMBER.fullmatch(self.text):
             raise self.wrong(f"{self.text[:40]!r} is not a number of at most {MOST_DIGITS} digits")
         return int(self.text)
 
@@ -46,23 +49,28 @@ def rows(path: str, tabs: bool = True) -> Iterator[list[Word]]:
     The table has to be a regular file, since a pipe might never end, and UTF-8.
     """
     try:
-        with opened(path) as file, open(file.fileno(), "rb", closefd=False) as lines:
-            for number, raw in enumerate(lines, 1):
-                line = decoded(path, number, raw.rstrip(b"\r\n"))
-                words = by_tabs(line) if tabs else [(word.start() + 1, word[0]) for word in re.finditer(r"\S+", line)]
-                if line and words:
-                    yield [Word(text, path, number, column) for column, text in words]
-    except (CannotRead, OSError) as problem:
-        raise CannotRead(f"{path}: {reason(problem)}") from None
+        for number, raw in enumerate(lines_of(path), 1):
+            line = decoded(path, number, raw)
+            words = by_tabs(line) if tabs else [(word.start() + 1, word[0]) for word in re.finditer(r"\S+", line)]
+            if line and words:
+                yield [Word(text, path, number, column) for column, text in words]
+    except CannotRead as problem:
+        raise CannotRead(f"{path}: {problem}") from None
 
 
-def decoded(path: str, number: int, line: bytes) -> str:
-    """A line of a table as text."""
+def decoded(path: str, number: int, raw: bytes) -> str:
+    """A line of a table as text, without its end."""
+    if len(raw) > LONGEST_LINE:
+        raise wrong(path, number, 1, f"the line has more than {LONGEST_LINE:,} bytes")
     try:
-        return line.decode("utf-8")
+        line = raw.rstrip(b"\r\n").decode("utf-8")
     except UnicodeDecodeError as error:
-        column = len(line[: error.start].decode("utf-8")) + 1
-        raise wrong(path, number, column, f"the byte {line[error.start]:02X} is not UTF-8") from None
+        column = len(raw[: error.start].decode("utf-8")) + 1
+        raise wrong(path, number, column, f"the byte {raw[error.start]:02X} is not UTF-8") from None
+    unknown = NOT_XML.search(line)
+    if unknown is not None:
+        raise wrong(path, number, unknown.start() + 1, f"the character U+{ord(unknown[0]):04X} is none of XML")
+    return line
 
 
 def by_tabs(line: str) -> list[tuple[int, str]]:

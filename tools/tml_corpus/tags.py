@@ -11,6 +11,7 @@ from .faults import BAD_MARKUP, UNKNOWN_TAG, read_fault
 from .files import CannotRead, Found, read_document, shown
 from .program import FAULT, CannotRun, Program, Reply
 from .room import room_for
+from .source import cut as shortened
 from .units import read_units
 
 MOST_BLANKS = 100
@@ -23,13 +24,18 @@ MOST_NAMES = 2000
 
 @dataclass
 class Names:
-    """The tags of one file: of each name how often it stands there and where first."""
+    """The tags of one file: of each name, which is cut where it is long, how often it stands there and where first."""
 
     path: str
     counts: dict[str, int] = field(default_factory=dict)
     firsts: dict[str, Place] = field(default_factory=dict)
     problem: str | None = None
     remark: str | None = None
+
+    def add(self, name: str, count: int, first: Place) -> None:
+        """Adds tags of a name, perhaps to those of a longer one that was cut to the same."""
+        self.counts[name] = self.counts.get(name, 0) + count
+        self.firsts.setdefault(name, first)
 
 
 def names_in(program: Program, found: Found) -> Names:
@@ -51,7 +57,7 @@ def names_of(program: Program, path: str, document: bytes) -> Names:
         return Names(path, problem=reply.problem())
     names, places = Names(path, remark=remark), Places(document)
     for name, (count, first) in read_units(reply).counts().items():
-        names.counts[name], names.firsts[name] = count, places.place(first)
+        names.add(shortened(name), count, places.place(first))
     return names
 
 

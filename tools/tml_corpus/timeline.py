@@ -17,7 +17,7 @@ from tml.replies import EVIDENCE
 from .around import Around, Text, text_around
 from .asserted import AssertedCopy, asserted_copy, unasserted
 from .clashes import verify_ranks, verify_timeline
-from .files import CannotRead, counted, read_document, reason, shown, written
+from .files import CannotRead, counted, read_document, reason, shown
 from .fitting import Unfit, fitting, not_judged
 from .greatest import Ranks, as_evidence, greatest_timeline, untied
 from .leeway import base_relation, leeways
@@ -26,6 +26,7 @@ from .page import page
 from .picture import svg
 from .placed import Placed, Unplaced, document_placed
 from .program import ACCEPTED, CannotRun, Program, Reply
+from .replacing import written
 from .room import room_for
 from .rows import Row, Timeline
 from .seconds_formats import change_lines, unplaced_lines

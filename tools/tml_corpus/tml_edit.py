@@ -1,17 +1,20 @@
-"""Changes tags, attributes and links of one document, so that `tml` reads it. All other bytes stay as they are.
+"""Changes tags, attributes and links of documents, so that `tml` reads them. All other bytes stay as they are.
 
 The changes are made in the order of the options below, whatever their order on the command line: --rename, --unwrap,
 --value, --iso, --instances, --links, --drop-links, --overlaps, --touching-dates. The changed document goes to standard
-output; whether it is accepted is for `tml check` to say. --touching-dates asks for a document that is accepted by then, and
-lists what it changes on standard error.
+output; of a folder or several files the changes are printed, and --write puts the changed documents in the place of the
+files. Whether they are accepted is for `tml check` to say. --touching-dates asks for a document that is accepted by then,
+and lists what it changes on standard error.
 
 Examples:
   tools/tml-edit --unwrap FILEID,DATELINE --rename HL=HEADLINE old.tml > new.tml
   tools/tml-edit --value MAKEINSTANCE pos NONE OTHER --drop-links VAGUE,NONE old.tml > new.tml
   tools/tml-edit --touching-dates old.tml > new.tml
+  tools/tml-edit --unwrap FILEID --write corpus
 
-Status 0 says that the document was written, 1 that it cannot be changed, with the reason on standard error, and 2 that
-the words are of no known form or that a file or `tml` could not be run or read.
+Status 0 says that the document was written, or that no file is left to change; 1 that a document cannot be changed, with
+the reason on standard error, or that files would be changed by --write; and 2 that the words are of no known form or that a
+file or `tml` could not be run or read.
 """
 
 from __future__ import annotations
@@ -20,7 +23,8 @@ import argparse
 import os
 import re
 import sys
-from collections.abc import Sequence
+from collections.abc import Callable, Iterable, Sequence
+from functools import partial
 from itertools import count
 
 from tml.places import Places
@@ -28,14 +32,15 @@ from tml.statuses import TmlStatus
 
 from .cutting import units_of_whole
 from .faults import BAD_MARKUP, read_fault
-from .files import CannotRead, read_document, shown
-from .output import Parser, RawFormatter, complain, run, standard_input
-from .edits import Edit, applied, with_value
+from .files import PATTERNS, CannotRead, Found, counted, find_files, read_document, shown
+from .output import ProgramParser, RawFormatter, complain, run, standard_input
+from .edits import Edit, applied, applied_in_order, with_spaces_before, with_value
 from .program import ACCEPTED, DOCUMENT_LIMIT, FAULT, MEANINGS, CannotRun, Program, find_program
+from .standard_input import STANDARD_INPUT
 from .statuses import Status
 from .tables import BadTable, Word, rows
 from .touching import Change, asks, touching_changes, with_changes
-from .units import Attribute, Unit
+from .units import Attribute, Unit, Units
 from .words import Wording
 
 LINK_TAGS = ("TLINK", "ALINK", "SLINK")
@@ -84,10 +89,14 @@ class Document:
         if self.reply.status != ACCEPTED:
             raise CannotEdit(self.reply.problem())
 
-    def change(self, edits: list[Edit]) -> None:
+    def change(self, edits: Iterable[Edit]) -> None:
         """Makes some edits."""
-        if edits:
-            self.text = applied(self.text, edits)
+        self.put(applied(self.text, edits))
+
+    def put(self, text: bytes) -> None:
+        """Puts another text in the place of the document, if it is another one. The units of the old one are let go first."""
+        if text != self.text:
+            self.text, self.units = text, Units()
             self.cut()
 
     def opening(self, *names: str) -> list[Unit]:
@@ -142,22 +151,14 @@ class Document:
 
 def rename_tags(document: Document, old: str, new: str) -> None:
     """Gives tags another name."""
-    tags = [(unit, 2 if unit.kind == "end" else 1) for unit in document.units.named(old)]
     size = len(old.encode("utf-8", "surrogateescape"))
-    document.change([Edit(unit.start + at, unit.start + at + size, new.encode()) for unit, at in tags])
+    starts = (unit.start + (2 if unit.kind == "end" else 1) for unit in document.units.named(old))
+    document.put(applied_in_order(document.text, (Edit(start, start + size, new.encode()) for start in starts)))
 
 
 def unwrap(document: Document, names: set[str]) -> None:
     """Takes tags out and leaves what they hold."""
-    document.change([Edit(unit.start, unit.end, b"") for unit in document.units.named(*names)])
-
-
-def without(document: Document, attribute: Attribute) -> Edit:
-    """Takes an attribute out, with the white space before it."""
-    start = attribute.start
-    while document.text[start - 1 : start].isspace():
-        start -= 1
-    return Edit(start, attribute.end, b"")
+    document.put(applied_in_order(document.text, (Edit(unit.start, unit.end, b"") for unit in document.units.named(*names))))
 
 
 def change_values(document: Document, tag: str, name: str, old: str, new: str) -> None:
@@ -167,7 +168,7 @@ def change_values(document: Document, tag: str, name: str, old: str, new: str) -
         for attribute in unit.attributes:
             value = attribute.value(document.text)
             if attribute.name == name and old in ("*", value.decode("utf-8", "surrogateescape")):
-                edits.append(with_value(attribute, document.text, new.encode()) if new else without(document, attribute))
+                edits.append(with_value(attribute, document.text, new.encode()) if new else with_spaces_before(document.text, attribute))
     document.change(edits)
 
 
@@ -309,14 +310,26 @@ def renaming(text: str) -> tuple[str, str]:
     return found[1], found[2]
 
 
-def parser() -> Parser:
+def utf8(text: str) -> str:
+    """A word that can stand in a document."""
+    try:
+        text.encode()
+    except UnicodeEncodeError:
+        raise argparse.ArgumentTypeError(f"{text} is not UTF-8") from None
+    return text
+
+
+def parser() -> ProgramParser:
     """The words that are understood."""
-    words = Parser(description=__doc__, formatter_class=RawFormatter)
-    words.add_argument("document", metavar="DOC", help="the document; - is standard input")
+    words = ProgramParser(description=__doc__, formatter_class=RawFormatter)
+    words.add_argument("documents", nargs="+", metavar="DOC", help="the document, or a folder to search; - is standard input")
+    words.add_argument("--write", action="store_true", help="write the changed documents in the place of the files")
+    words.add_argument("--glob", action="append", metavar="PATTERN", help=f"names to look for in folders (default {' '.join(PATTERNS)})")
     words.add_argument("--rename", type=renaming, action="append", default=[], metavar="OLD=NEW", help="give tags another name")
     words.add_argument("--unwrap", type=names_of, action="extend", default=[], metavar="NAMES", help="take tags out, and leave what they hold")
     words.add_argument(
         "--value",
+        type=utf8,
         nargs=4,
         action="append",
         default=[],
@@ -341,10 +354,9 @@ def parser() -> Parser:
     return words
 
 
-def edited(options: argparse.Namespace) -> bytes:
+def edited(program: Program, options: argparse.Namespace, path: str, text: bytes) -> bytes:
     """The changed document."""
-    program = Program(find_program(options.tml))
-    document = Document(program, standard_input(DOCUMENT_LIMIT + 1) if options.document == "-" else read_document(options.document))
+    document = Document(program, text)
     for old, new in options.rename:
         rename_tags(document, old, new)
     unwrap(document, set(options.unwrap))
@@ -355,28 +367,74 @@ def edited(options: argparse.Namespace) -> bytes:
     if options.iso or options.instances:
         make_instances(document)
     if options.links is not None:
-        name = options.name or os.path.splitext(os.path.basename(options.document))[0]
+        name = options.name or os.path.splitext(os.path.basename(path))[0]
         add_links(document, name, options.links)
     drop_links(document, set(options.drop_links))
     if options.overlaps:
         say_overlaps(document)
     if options.touching_dates:
-        sys.stderr.write(listed(options.document, touch_dates(document)))
+        sys.stderr.write(listed(path, touch_dates(document)))
     return document.text
 
 
 def edit(words: list[str]) -> int:
-    """Writes the changed document and answers the status."""
+    """Writes the changed document, or what there is to say of many, and answers the status."""
     options = parser().parse_args(words)
+    first, *others = options.documents
+    if STANDARD_INPUT in options.documents and (others or options.write):
+        raise CannotRun("- goes alone, and without --write")
+    program = Program(find_program(options.tml))
+    if others or options.write or os.path.isdir(first):
+        return edit_files(program, options)
+
+    def print_changed() -> None:
+        text = standard_input(DOCUMENT_LIMIT + 1) if first == STANDARD_INPUT else read_document(first)
+        sys.stdout.buffer.write(edited(program, options, first, text))
+
+    return tried(first, print_changed)
+
+
+def tried(path: str, work: Callable[[], None]) -> Status:
+    """Does something with one document, and says why where it cannot be done."""
     try:
-        sys.stdout.buffer.write(edited(options))
+        work()
         return Status.SUCCESS
     except CannotEdit as problem:
-        return complain(f"{options.document}: not changed: {problem}", Status.FINDING)
+        complain(f"{path}: not changed: {problem}")
+        return Status.FINDING
     except BadTable as problem:
-        return complain(str(problem), Status.FINDING)
+        complain(str(problem))
+        return Status.FINDING
     except (CannotRead, CannotRun) as problem:
-        return complain(f"{options.document}: {problem}")
+        complain(f"{path}: {problem}")
+        return Status.TROUBLE
+
+
+def edit_files(program: Program, options: argparse.Namespace) -> int:
+    """Changes all files that are named or lie in folders, or prints how it would, and answers the status."""
+    from .fix import Fixed, difference, write
+
+    found = find_files(options.documents, options.glob or list(PATTERNS))
+    changed: list[Found] = []
+
+    def change(one: Found) -> None:
+        if one.problem is not None:
+            raise CannotRead(one.problem)
+        before = read_document(one.place())
+        after = edited(program, options, one.path, before)
+        if after == before:
+            return
+        fixed = Fixed(before, after)
+        if options.write:
+            write(fixed, one)
+        changed.append(one)
+        sys.stdout.write(f"{shown(one.path)}: changed\n" if options.write else difference(one.path, fixed, "changed"))
+
+    statuses = [tried(one.path, partial(change, one)) for one in found]
+    done = "changed" if options.write else "can be changed (--write does it)"
+    left = len(statuses) - statuses.count(Status.SUCCESS)
+    sys.stdout.write(f"{counted(len(found), 'file')}: {len(changed)} {done}, {left} that cannot be\n")
+    return max([*statuses, Status.FINDING if changed and not options.write else Status.SUCCESS])
 
 
 def main(words: Sequence[str] | None = None) -> int:

@@ -154,11 +154,10 @@ class Units(Sequence[Unit]):
             if name in wanted and kinds[row] <= EMPTY
         ]
 
-    def named(self, *names: str) -> list[Unit]:
-        """The tags of these names, end tags included."""
+    def named(self, *names: str) -> Iterator[Unit]:
+        """The tags of these names one by one, end tags included."""
         wanted = {number for number, word in enumerate(self.words) if word in names}
-        kinds, rows = self.kinds, self.names
-        return [self.unit(row) for row, name in enumerate(rows) if name in wanted and kinds[row] <= END]
+        return (self.unit(row) for row, name in enumerate(self.names) if name in wanted and self.kinds[row] <= END)
 
     def counts(self) -> dict[str, tuple[int, int]]:
         """How many start and empty tags there are of each name, and where the first one is, in the order of these places."""

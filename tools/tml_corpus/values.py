@@ -4,6 +4,9 @@ from __future__ import annotations
 
 import re
 
+from .invisible import without_invisible
+from .similar import LOOKALIKES
+
 YEARS = range(1, 10000)
 
 CALENDAR = re.compile(
@@ -23,9 +26,11 @@ DURATION = re.compile(
 YEAR = r"(?:\d{4}|\d{3}X|\d\dXX|XXXX)"
 FIELD = r"(?:\d\d|XX)"
 PART_OF_DAY = re.compile(rf"{YEAR}-(?:{FIELD}-{FIELD}|W{FIELD}-[\dX])T(?:MO|MI|AF|EV|NI|DT|AM|PM)", re.ASCII)
+OF_YEAR = rf"{YEAR}(?:-(?:SP|SU|FA|WI|H[12X]|Q[1-4X]))?"
+FISCAL = re.compile(rf"FY{OF_YEAR}", re.ASCII)
 OTHER_FORMS = re.compile(
     r"(?:PAST|PRESENT|FUTURE)_REF"
-    rf"|(?:FY)?{YEAR}(?:-(?:SP|SU|FA|WI|H[12X]|Q[1-4X]))?"
+    rf"|(?:FY)?{OF_YEAR}"
     rf"|{YEAR}-W{FIELD}-WE"
     r"|BC[\dX]{2,4}|[KMG]A[\dX]+"
     r"|PT?(?:\d+(?:\.\d+)?|X+)[A-Z]{1,2}"
@@ -37,7 +42,14 @@ OTHER_FORMS = re.compile(
 LOOKS_LIKE_DATE = re.compile(r"[\dX]{4}-[\dX]{2}(?:-[\dX]{2}(?:T[\dX]{2}(?:[:\dX.,]*)(?:Z|[+-]\d\d(?::?\d\d)?)?)?)?", re.ASCII)
 """A date or time with a zone, with parts of a second, or with a field of which only a part is X."""
 
-NUMBERS = re.compile(r"(\d{4})[-/.](\d{1,2})[-/.](\d{1,2})(T.*)?|(\d{1,2})[-/.](\d{1,2})[-/.](\d{4})|(\d{4})(\d\d)(\d\d)(T.*)?", re.ASCII)
+YEAR_FIRST = re.compile(r"(\d{4})(?:[-/.](\d{1,2})[-/.](\d{1,2})|(\d\d)(\d\d))(T.*)?", re.ASCII)
+YEAR_LAST = re.compile(r"(\d{1,2})[-/.](\d{1,2})[-/.](\d{4})(T.*)?", re.ASCII)
+PART_FIRST = re.compile(r"([1-4]Q|Q[1-4]|W\d\d|H[12])[-/ ]?(\d{4})", re.ASCII)
+CLOCK = re.compile(r"(.*\dT|T|)(\d{1,2})(:\d\d(?::\d\d)?)? ?([AP])?\.?(?:M\.?)?(?: ?(?:UTC|GMT|[A-Z]{1,2}[DS]?T|Z))?", re.ASCII)
+"""A time of the day of one digit or two, perhaps with the half of the day, and with the name of a zone, which no value has."""
+
+RANGE = re.compile(r"(\d{4}(?:-\d\d){0,2})(?:/|--| ?- ?| to )(\d{2,4}(?:-\d\d){0,2})", re.ASCII | re.IGNORECASE)
+"""Two dates from the one to the other."""
 
 
 def has_form(value: str) -> bool:
@@ -45,41 +57,60 @@ def has_form(value: str) -> bool:
     return any(form.fullmatch(value) for form in (CALENDAR, DURATION, PART_OF_DAY, OTHER_FORMS))
 
 
-def better(value: str) -> str | None:
-    """A value that was probably meant by one that has no form."""
-    plain = value.strip().upper()
+def better(value: str) -> list[str]:
+    """The values that may have been meant by one that has no form: one where it is clear, two where the day and the month cannot be told apart."""
+    plain = without_invisible(value).strip().upper()
     if plain != value and has_form(plain):
-        return plain
+        return [plain]
+    digits = value.translate(LOOKALIKES)
+    if digits != value and real(digits):
+        return [digits]
     decade = re.fullmatch(r"(\d{3})0'?S", plain, re.ASCII)
     if decade:
         # The 1900s may be ten years or a hundred.
-        return None if decade[1].endswith("0") else decade[1]
+        return [] if decade[1].endswith("0") else [decade[1]]
     if has_form("P" + plain) and not CALENDAR.fullmatch(plain):
-        return "P" + plain
-    quarter = re.fullmatch(r"(\d{4})-?(Q[1-4]|W\d\d|H[12])", plain, re.ASCII)
-    if quarter:
-        return f"{quarter[1]}-{quarter[2]}"
-    month = re.fullmatch(r"(\d{4})[-/.](\d{1,2})", plain, re.ASCII)
-    if month:
-        return real(f"{month[1]}-{month[2]:0>2}")
-    return dated(plain)
+        return ["P" + plain]
+    return part_of_year(plain) or dated(plain) or on_the_clock(plain)
 
 
-def dated(value: str) -> str | None:
-    """A date in the order of the calendar; None where the day and the month cannot be told apart."""
-    found = NUMBERS.fullmatch(value)
-    if found is None:
-        return None
-    if found[5]:
-        first, second = sorted((int(found[5]), int(found[6])))
-        return real(f"{found[7]}-{first:02}-{second:02}") if second > 12 or first == second else None
-    year, month, day, rest = (found[1], found[2], found[3], found[4]) if found[1] else (found[8], found[9], found[10], found[11])
-    return real(f"{year}-{month:0>2}-{day:0>2}{rest or ''}")
+def part_of_year(value: str) -> list[str]:
+    """A quarter, a week, a half or a month of a year that was written in another way."""
+    part, month = re.fullmatch(r"(\d{4})-?(Q[1-4]|W\d\d|H[12])", value, re.ASCII), re.fullmatch(r"(\d{4})[-/.](\d{1,2})", value, re.ASCII)
+    reversed_part = PART_FIRST.fullmatch(value)
+    if part:
+        return real(f"{part[1]}-{part[2]}")
+    if reversed_part:
+        name = reversed_part[1]
+        return real(f"{reversed_part[2]}-{name[::-1] if name.endswith('Q') else name}")
+    return real(f"{month[1]}-{month[2]:0>2}") if month else []
 
 
-def real(value: str) -> str | None:
+def dated(value: str) -> list[str]:
+    """A date in the order of the calendar: of one with the year last both readings, the day first and the month first, where both are dates."""
+    first, last = YEAR_FIRST.fullmatch(value), YEAR_LAST.fullmatch(value)
+    if first:
+        month, day = first[2] or first[4], first[3] or first[5]
+        return real(f"{first[1]}-{month:0>2}-{day:0>2}{first[6] or ''}")
+    if last is None:
+        return []
+    one, other, rest = last[1].zfill(2), last[2].zfill(2), last[4] or ""
+    return list(dict.fromkeys(real(f"{last[3]}-{other}-{one}{rest}") + real(f"{last[3]}-{one}-{other}{rest}")))
+
+
+def on_the_clock(value: str) -> list[str]:
+    """A time of the day with two digits of the hour, and without the name of a zone."""
+    found = CLOCK.fullmatch(re.sub(r"(?<=\d\d-\d\d) (?=\d{1,2}:)", "T", value))
+    if found is None or not (found[1] or found[3]):
+        return []
+    hour = int(found[2]) % 12 + 12 * (found[4] == "P") if found[4] else int(found[2])
+    written = f"{found[1] or 'T'}{hour:02}{found[3] or ''}"
+    return real(written) or ([written] if has_form(written) and not found[1].strip("T") else [])
+
+
+def real(value: str) -> list[str]:
     """The value, if it is one of the calendar."""
-    return value if CALENDAR.fullmatch(value) and no_date(value) is None else None
+    return [value] if CALENDAR.fullmatch(value) and no_date(value) is None else []
 
 
 def no_date(value: str) -> str | None:
@@ -99,7 +130,8 @@ def no_date(value: str) -> str | None:
         ("second", 0, 59, "the seconds are 00 to 59"),
     ):
         if is_number(found[field]) and not first <= int(found[field]) <= last:
-            return words + exchanged(found)
+            meant = exchanged(value)
+            return f"{words}; did you mean {meant}?" if meant else words
     return no_day(found) or no_week(found) or past_midnight(found)
 
 
@@ -108,12 +140,12 @@ def is_number(field: str | None) -> bool:
     return field is not None and "X" not in field
 
 
-def exchanged(found: re.Match[str]) -> str:
-    """A hint where the month and the day were exchanged."""
-    if not is_number(found["month"]) or not is_number(found["day"]) or int(found["month"]) <= 12 or int(found["day"]) > 12:
-        return ""
-    other = f"{found['year']}-{found['day']}-{found['month']}" + found.string[len("YYYY-MM-DD") :]
-    return f"; did you mean {other}?" if real(other) else ""
+def exchanged(value: str) -> str | None:
+    """The date that was meant where the month and the day were exchanged."""
+    found = CALENDAR.fullmatch(value)
+    if found is None or not is_number(found["month"]) or not is_number(found["day"]) or int(found["month"]) <= 12 or int(found["day"]) > 12:
+        return None
+    return next(iter(real(f"{found['year']}-{found['day']}-{found['month']}{value[len('YYYY-MM-DD') :]}")), None)
 
 
 def years_of(found: re.Match[str]) -> list[int]:

@@ -13,7 +13,7 @@ from .dates import dates_of
 from .profile import IDENTIFIERS
 from .program import CannotRun, Program
 from .room import MANY_BYTES
-from .source import Source
+from .source import Source, attribute_of
 from .texts import cut, texts_of
 from .units import Unit, Units
 
@@ -102,10 +102,23 @@ class Wording:
         tags = map(self.tag_of, self.intervals)
         return texts_of(self.units, self.document, {tag.start for tag in tags if tag is not None})
 
-    def in_words(self, link: Link) -> str:
-        """A link in words, and beside it its number and the names of its intervals."""
+    def in_words(self, link: Link, *, numbered: bool = False) -> str:
+        """A link in words, and beside it its name and those of its intervals; with its number too where it stands beside evidence."""
         words = f"{self.text_of(link.left)} {link.relation} {self.text_of(link.right)}"
-        return f"{words} (link {link.number}: {link.left} {link.relation} {link.right})"
+        return f"{words} ({self.name_of(link, numbered)}: {link.left} {link.relation} {link.right})"
+
+    def name_of(self, link: Link, numbered: bool) -> str:
+        """How a link is called: by its lid, or where it has none or that is wanted by the number that it has in evidence."""
+        lid, number = self.source.value(self.link_tags[link.number], "lid"), f"link {link.number}"
+        return number if not lid else f"{lid}, {number}" if numbered else lid
+
+    def dated(self, point: int) -> tuple[Place, str] | None:
+        """The date of the time of which a point is the start or the end: where its value stands, and what that is."""
+        tag = self.tags["TIMEX3"].get(name := self.intervals[point // 2])
+        attribute = attribute_of(tag, "value") if tag is not None else None
+        if attribute is None:
+            return None
+        return self.places.place(attribute.start), f"the date of {self.text_of(name)} ({name}) is {attribute.written(self.document)}"
 
     def calendar(self, first: int, second: int) -> tuple[Place, str]:
         """Why the calendar puts one point no later than another: what it says of both."""

@@ -8,7 +8,7 @@ from __future__ import annotations
 import re
 from collections.abc import Iterable
 
-from .edits import applied, blank
+from .edits import applied_in_order, blank
 from .files import read_open
 from .libraries import Loadable
 from .program import ACCEPTED, File, Program, Reply
@@ -45,4 +45,4 @@ class Unwrapping(Program):
         reply = super().ask(["spans", "-"], document)
         if reply.status != ACCEPTED:
             return document
-        return applied(document, [blank(unit) for unit in read_units(reply).named(*self.names)])
+        return applied_in_order(document, map(blank, read_units(reply).named(*self.names)))

@@ -1,5 +1,5 @@
 -- Commands that read one document: its first fault is answered, or what it says decides.
-use Rattle.std.specs.Prelude.{◌≡◌, ◌⊎◌, false, ℕ, List}
+use Rattle.std.specs.Prelude.{◌≡◌, ◌⊎◌, false, ℕ, List, codes}
 use Rattle.net_core.specs.Limits.{max_document}
 use Rattle.tml_accept.specs.Acceptance.{FirstFault, Says}
 use Rattle.tml_refs.specs.Documents.{PlainDocument}
@@ -9,11 +9,10 @@ use Rattle.tml_run.specs.OneFile.{Answers, of_one_file}
 use Rattle.tml_run.specs.OneReply.{is_broken_off}
 use Rattle.tml_run.specs.Rows.{File, Rows}
 use Rattle.answers.specs.Lines.{HasFaultLine}
-use Rattle.answers.specs.declared.role.TheConstants.{DOC_WORD}
 
 -- the file of a name that is read as a document
 abbrev pub doc_file : List ℕ → File
-doc_file name = record { name = name; word = DOC_WORD.now; limit = max_document }
+doc_file name = record { name = name; word = codes "DOC"; limit = max_document }
 
 -- the document is refused by the line of its first fault
 abbrev pub IsRefused : List ℕ → Status → List ℕ → Type 0

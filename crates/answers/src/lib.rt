@@ -14,4 +14,4 @@ pub use lines::{push_fault, push_link, push_number, push_numbered, push_prefix, 
 pub use names::{names_of, unknown_name};
 pub use one_document::{OfDocument, reply_of_document};
 pub use refusing::refusal;
-pub use role::{DOC, DOC_WORD};
+pub use role::DOC;

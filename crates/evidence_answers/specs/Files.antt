@@ -5,15 +5,14 @@ use Rattle.evidence_format.specs.Evidence.{PlainEvidence}
 use Rattle.net_core.specs.Limits.{max_evidence}
 use Rattle.tml_run.specs.Rows.{File}
 use Rattle.answers.specs.Lines.{numbered}
-use Rattle.evidence_answers.specs.declared.role.TheConstants.{EVIDENCE_WORD, SECOND_WORD}
 
 -- the file of a name that is read as evidence
 abbrev pub evidence_file : List ℕ → File
-evidence_file name = record { name = name; word = EVIDENCE_WORD.now; limit = max_evidence }
+evidence_file name = record { name = name; word = codes "EVIDENCE"; limit = max_evidence }
 
 -- the file of a name that is read as the second of two
 abbrev pub second_file : List ℕ → File
-second_file name = record { name = name; word = SECOND_WORD.now; limit = max_evidence }
+second_file name = record { name = name; word = codes "SECOND"; limit = max_evidence }
 
 -- the bytes are the text of no claims, of neither version, and the text reports the bad line after some words
 abbrev pub ReportsLine : List ℕ → List ℕ → List ℕ → Type 0

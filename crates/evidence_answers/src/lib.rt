@@ -13,5 +13,5 @@ pub use join::reply_of_join;
 pub use laws::verify_judges_first;
 pub use malformed::malformed_answer;
 pub use renew::Renew;
-pub use role::{EVIDENCE, EVIDENCE_WORD, SECOND, SECOND_WORD};
+pub use role::{EVIDENCE, SECOND};
 pub use verify::{Verify, verdict};

@@ -49,7 +49,7 @@ impl<'t> Unread<'t> {
     ///
     /// # Errors
     ///
-    /// The bad line, where it is in this claim, or out of memory. The claims are then left as they were.
+    /// The bad line, where it is in this claim, or out of memory.
     pub fn next_claim(&mut self, alloc: Global) -> Result<Body, ReadEvidence>
         requires limit { length self.old.text.now ≤ max_evidence }
         requires left { 0 < self.old.left }

@@ -1,6 +1,14 @@
 //! Laws of tables: public functions that do nothing, each with the law as its contract.
 ghost use Rattle.order_closure.specs.Chosen.{ChosenPointsDecide};
+ghost use Rattle.order_closure.specs.Tables.{max_table_points};
 ghost use Rattle.order_closure.specs.Timelines.{ClosedTablesHaveTimelines, WeakerCellsCanFail};
+ghost use Rattle.order_closure.specs.declared.planes.TheConstants as constants;
+ghost use Rattle.std.specs.Prelude.{◌≡◌};
+
+/// The definitions have the most points of a table of the program.
+pub fn most_points_are_exact()
+    ensures { constants.MAX_TABLE_POINTS ≡ max_table_points }
+{}
 
 /// The central law: where a cell of a closed table is weaker than an atom, some timeline keeps every cell and makes the
 /// atom false. So a table says exactly what its atoms entail.

@@ -1,9 +1,10 @@
--- Items that begin at points.
+-- Items by one of their points.
 use Rattle.std.specs.Prelude.{◌≡◌, ◌↔◌, ℕ, ◌+◌, ◌<◌, ◌≤◌, slice_index, List, length, slice_index_or}
 use Rattle.std.specs.List.Sorted.{IsNonDecreasingBy}
 
--- how many points there are, and the items
-pub record PlainIndex (X : Type 0) : Type 0 where
+-- which point of an item is looked at, how many points there are, and the items
+pub record PlainIndex (X P : Type 0) : Type 0 where
+  pub by : P
   pub points : ℕ
   pub items : List X
 

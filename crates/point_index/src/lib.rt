@@ -1,4 +1,4 @@
-//! Items that begin at points, sorted by point, with where those of each point lie.
+//! Items by one of their points, sorted by it, with where those of each point lie.
 #![tactic(auto)]
 
 ghost use Rattle.point_index.specs.Index as spec;
@@ -10,51 +10,58 @@ use std::alloc::{AllocError, Global};
 use std::marker::Model;
 use std::ops::Range;
 
-/// What begins at a point.
-pub trait OfPoint: Copy {
+/// Which point of an item is looked at.
+pub trait PointOf<T>: Copy {
     ghost use Rattle.std.specs.Prelude.{ℕ};
 
-    /// Its point.
-    ghost point_of: { Self → ℕ };
+    /// The point of an item.
+    ghost point_of: { Self → T → ℕ };
 
-    /// The point.
-    fn point(&self) -> u32
-        ensures { result ≡ point_of self.now };
+    /// The point of an item.
+    fn point(self, item: &T) -> u32
+        ensures { result ≡ point_of self item.now };
 }
 
 /// Items, those with the lowest point first, with where those of each point begin. What asks for the items of a point
 /// often would spend most of its time on looking them up by halves.
 #[derive(Drop)]
-pub struct Index<T: OfPoint> {
+pub struct Index<T: Copy, P: PointOf<T>> {
+    by: P,
     items: Vec<T>,
     starts: Vec<usize>,
 }
 
-impl<T: OfPoint> Model for Index<T> {
+impl<T: Copy, P: PointOf<T>> Model for Index<T, P> {
     ghost use Rattle.point_index.specs.Index.{AreStarts, PlainIndex};
     ghost use Rattle.std.specs.Prelude.{length, ◌-◌};
 
-    ghost Value = { PlainIndex T };
+    ghost Value = { PlainIndex T P };
 
-    ghost view = { λ a. record { points = length a.starts.items - 1; items = a.items.items } };
+    ghost view = { λ a. record { by = a.by; points = length a.starts.items - 1; items = a.items.items } };
 
-    ghost invariant = { λ a. AreStarts T.point_of (length a.starts.items - 1) a.items.items a.starts.items };
+    ghost invariant = { λ a. AreStarts (P.point_of a.by) (length a.starts.items - 1) a.items.items a.starts.items };
 }
 
-impl<T: OfPoint> Index<T> {
-    /// The index of these items, over so many points. The order of items of one point is unspecified.
+impl<T: Copy, P: PointOf<T>> Index<T, P> {
+    /// The index of these items by this point of each, over so many points. The order of items of one point is unspecified.
     ///
     /// # Errors
     ///
     /// Out of memory.
-    pub fn new(alloc: Global, mut items: Vec<T>, points: u32) -> Result<Index<T>, AllocError>
+    pub fn new(
+        alloc: Global,
+        mut items: Vec<T>,
+        by: P,
+        points: u32,
+    ) -> Result<Index<T, P>, AllocError>
         requires { points < 2 ^ 31 }
+        ensures by { IfOk result (λ index. index.by ≡ by) }
         ensures points { IfOk result (λ index. index.points ≡ points) }
         ensures items { IfOk result (λ index. IsPermutation items.items index.items) }
     {
-        items.sort_unstable_by_key(|item| item.point());
-        let starts = starts_of(alloc, &items, points)?;
-        Ok(Index { items, starts })
+        items.sort_unstable_by_key(|item| by.point(item));
+        let starts = starts_of(alloc, &items, by, points)?;
+        Ok(Index { by, items, starts })
     }
 
     /// The items, those with the lowest point first.
@@ -67,7 +74,7 @@ impl<T: OfPoint> Index<T> {
     /// The numbers of the items of a point: from the first one up to the one after the last.
     pub fn numbers_of(&self, point: u32) -> Range<usize>
         requires { point < self.now.points }
-        ensures { spec.AreNumbersOf T.point_of self.now.items point result.start result.end }
+        ensures { spec.AreNumbersOf (P.point_of self.now.by) self.now.items point result.start result.end }
     {
         Range {
             start: self.starts[point as usize],
@@ -78,7 +85,7 @@ impl<T: OfPoint> Index<T> {
     /// The items of a point.
     pub fn of_point(&self, point: u32) -> &[T]
         requires { point < self.now.points }
-        ensures { (item : T) → Contains result.now item ↔ (Contains self.now.items item × (T.point_of item ≡ point)) }
+        ensures { (item : T) → Contains result.now item ↔ (Contains self.now.items item × (P.point_of self.now.by item ≡ point)) }
     {
         let Range { start, end } = self.numbers_of(point);
         &self.items[start..end]
@@ -86,15 +93,20 @@ impl<T: OfPoint> Index<T> {
 }
 
 /// Where the items of each point begin, of sorted ones, and after the last point where they end.
-fn starts_of<T: OfPoint>(alloc: Global, items: &[T], points: u32) -> Result<Vec<usize>, AllocError>
-    requires sorted { spec.AreSorted T.point_of items.now }
+fn starts_of<T: Copy, P: PointOf<T>>(
+    alloc: Global,
+    items: &[T],
+    by: P,
+    points: u32,
+) -> Result<Vec<usize>, AllocError>
+    requires sorted { spec.AreSorted (P.point_of by) items.now }
     requires few { points < 2 ^ 31 }
     ensures size { IfOk result (λ starts. length starts.items ≡ points + 1) }
-    ensures starts { IfOk result (λ starts. spec.AreStarts T.point_of points items.now starts.items) }
+    ensures starts { IfOk result (λ starts. spec.AreStarts (P.point_of by) points items.now starts.items) }
 {
     let mut starts = Vec::new(alloc);
     for point in 0..points + 1 {
-        let start = items.partition_point(|item| item.point() < point);
+        let start = items.partition_point(|item| by.point(item) < point);
         if starts.push(start).is_err() {
             return Err(AllocError);
         }

@@ -17,11 +17,10 @@ use Rattle.tml_run.specs.declared.status.Status.TheVariants.{Clash, DocFault, Do
 use Rattle.tml_score.specs.Scores.{Annotation, AreScores}
 use Rattle.tml_score.specs.declared.scoring.Scores.{Scores}
 use Rattle.score_answers.specs.Counts.{of_line}
-use Rattle.score_answers.specs.declared.role.TheConstants.{KEY_WORD}
 
 -- the file of a name that is read as a key
 abbrev pub key_file : List ℕ → File
-key_file name = record { name = name; word = KEY_WORD.now; limit = max_document }
+key_file name = record { name = name; word = codes "KEY"; limit = max_document }
 
 -- there is this fault, and the text is its line after the word for the key
 abbrev pub HasKeyLine : (FaultKind → ℕ → Type 0) → List ℕ → Type 0

@@ -9,5 +9,5 @@ mod score;
 
 pub use laws::score_reads_first;
 pub use reduce::Reduce;
-pub use role::{KEY, KEY_WORD};
+pub use role::KEY;
 pub use score::Score;

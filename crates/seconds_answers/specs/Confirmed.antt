@@ -17,11 +17,10 @@ use Rattle.tml_run.specs.declared.status.Status.{Status}
 use Rattle.tml_run.specs.declared.status.Status.TheVariants.{Done, EvidenceFault}
 use Rattle.seconds_answers.specs.Placed.{OfSeconds}
 use Rattle.seconds_answers.specs.Texts.{claim_line, refusal_line}
-use Rattle.seconds_answers.specs.declared.role.TheConstants.{SECONDS_WORD}
 
 -- the file of a name that is read as a placing or a cycle
 abbrev pub seconds_file : List ℕ → File
-seconds_file name = record { name = name; word = SECONDS_WORD.now; limit = max_evidence }
+seconds_file name = record { name = name; word = codes "SECONDS"; limit = max_evidence }
 
 -- the bytes are the text of a placing that is one, or of a negative cycle that is one, and the text says which
 abbrev pub ReportsClaim : PlainTimed → List ℕ → List ℕ → Type 0

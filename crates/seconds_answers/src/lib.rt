@@ -10,4 +10,4 @@ mod role;
 pub use confirm::Confirm;
 pub use laws::{confirm_judges_first, seconds_are_confirmed};
 pub use placed::Seconds;
-pub use role::{SECONDS, SECONDS_WORD};
+pub use role::SECONDS;

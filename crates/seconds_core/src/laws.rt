@@ -1,5 +1,13 @@
 //! Laws of placings: public functions that do nothing, each with a law as its contract.
 ghost use Rattle.seconds_core.specs.Laws.{ConstraintsSayWhatIsPlaced, NegativeIsUnplaced, PlacedFits, SecondsSayTheRelation};
+ghost use Rattle.seconds_core.specs.Timed.{max_length};
+ghost use Rattle.seconds_core.specs.declared.timed.TheConstants as constants;
+ghost use Rattle.std.specs.Prelude.{◌≡◌, pos};
+
+/// The definitions have the greatest length of the program.
+pub fn greatest_length_is_exact()
+    ensures { constants.MAX_LENGTH ≡ pos max_length }
+{}
 
 /// A link holds of seconds exactly where its relation holds of them, counted from any second before all of them.
 pub fn seconds_say_the_relation()

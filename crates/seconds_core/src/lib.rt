@@ -8,7 +8,8 @@ mod timed;
 
 pub use evidence::{Cycle, Placing, SecondsEvidence};
 pub use laws::{
-    constraints_say_what_is_placed, negative_is_unplaced, placed_fits, seconds_say_the_relation,
+    constraints_say_what_is_placed, greatest_length_is_exact, negative_is_unplaced, placed_fits,
+    seconds_say_the_relation,
 };
 pub use line::{Constraint, Line, constraint_of};
-pub use timed::{Limits, MAX_LENGTH, MAX_SECOND, Timed};
+pub use timed::{Limits, MAX_LENGTH, Timed};

@@ -6,9 +6,6 @@ ghost use Rattle.std.specs.Prelude.{IfSome, ◌<◌, ◌≡◌};
 use net_core::{List, Net};
 use std::marker::Model;
 
-/// No number of a calendar is further from second 0, which is 1970-01-01T00:00:00.
-pub const MAX_SECOND: i64 = 1_000_000_000_000_000;
-
 /// No limit of a length is greater.
 pub const MAX_LENGTH: i64 = 700_000_000_000_000;
 
@@ -39,7 +36,8 @@ impl Model for Timed {
 }
 
 impl Timed {
-    /// The net with these limits, one for each interval. No number of its calendar is further from 0 than `MAX_SECOND`.
+    /// The net with these limits, one for each interval. No number of its calendar is further from second 0, which is
+    /// 1970-01-01T00:00:00, than 10^15.
     pub fn new(net: Net, limits: List<Limits>) -> Timed
         requires { spec.IsTimed (record { net = net; limits = limits }) }
         ensures { result ≡ record { net = net; limits = limits } }

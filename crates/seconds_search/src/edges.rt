@@ -7,7 +7,7 @@ ghost use Rattle.seconds_search.specs.Edges as spec;
 ghost use Rattle.seconds_search.specs.Edges.{AreEdges, AreInside, CoversAll, Grows, IsOfInterval, IsOfLink, IsOfPoint};
 
 use net_core::Memory;
-use point_index::{Index, OfPoint};
+use point_index::{Index, PointOf};
 use seconds_core::{Constraint, Line, Timed, constraint_of};
 use std::alloc::Global;
 
@@ -18,13 +18,17 @@ pub struct Edge {
     pub constraint: Constraint,
 }
 
-impl OfPoint for Edge {
+/// The point that an edge leads from.
+#[derive(Clone, Copy)]
+pub struct Start;
+
+impl PointOf<Edge> for Start {
     ghost use Rattle.seconds_search.specs.Edges.{from_of};
 
-    ghost point_of = { from_of };
+    ghost point_of = { λ _. from_of };
 
-    fn point(&self) -> u32 {
-        self.constraint.from
+    fn point(self, edge: &Edge) -> u32 {
+        edge.constraint.from
     }
 }
 
@@ -33,7 +37,7 @@ impl OfPoint for Edge {
 /// # Errors
 ///
 /// Out of memory.
-pub fn edges_of(alloc: Global, timed: &Timed) -> Result<Index<Edge>, Memory>
+pub fn edges_of(alloc: Global, timed: &Timed) -> Result<Index<Edge, Start>, Memory>
     ensures points { IfOk result (λ edges. edges.points ≡ origin timed.now + 1) }
     ensures edges { IfOk result (λ edges. AreEdges timed.now edges.items) }
     ensures inside { IfOk result (λ edges. AreInside (origin timed.now + 1) edges.items) }
@@ -43,7 +47,7 @@ pub fn edges_of(alloc: Global, timed: &Timed) -> Result<Index<Edge>, Memory>
     push_intervals(&mut edges, timed)?;
     push_points(&mut edges, timed)?;
     push_links(&mut edges, timed)?;
-    let Ok(edges) = Index::new(alloc, edges, timed.origin() + 1) else {
+    let Ok(edges) = Index::new(alloc, edges, Start, timed.origin() + 1) else {
         return Err(Memory);
     };
     Ok(edges)

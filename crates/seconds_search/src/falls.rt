@@ -6,7 +6,7 @@ ghost use Rattle.seconds_search.specs.Search.{IsEnded, IsSearch, max_rounds};
 ghost use Rattle.seconds_search.specs.Rounds as rounds;
 ghost use Rattle.seconds_search.specs.Rounds.{AreAtStart};
 
-use crate::edges::Edge;
+use crate::edges::{Edge, Start};
 use crate::round::Round;
 use net_core::{List, Memory};
 use point_index::Index;
@@ -43,7 +43,7 @@ pub enum Ended {
 /// # Errors
 ///
 /// Out of memory.
-pub fn let_fall(alloc: Global, edges: &Index<Edge>, points: u32) -> Result<Ended, Memory>
+pub fn let_fall(alloc: Global, edges: &Index<Edge, Start>, points: u32) -> Result<Ended, Memory>
     requires points { edges.now.points ≡ points }
     requires inside { AreInside points edges.now.items }
     requires few { points ≤ max_rounds }
@@ -96,7 +96,7 @@ impl Search {
     }
 
     /// One more round: the points fall to which an edge leads from one that fell in the last round.
-    fn next(&mut self, alloc: Global, edges: &Index<Edge>) -> Result<(), Memory>
+    fn next(&mut self, alloc: Global, edges: &Index<Edge, Start>) -> Result<(), Memory>
         requires inside { AreInside edges.now.points edges.now.items }
         requires few { edges.now.points ≤ max_rounds }
         requires few_edges { length edges.now.items < 65536 }

@@ -9,7 +9,7 @@ ghost use Rattle.seconds_search.specs.Rounds as spec;
 ghost use Rattle.seconds_search.specs.Rounds.{IsRound, Puts, head_at};
 ghost use Rattle.seconds_search.specs.Search.{IsNear, max_rounds};
 
-use crate::edges::Edge;
+use crate::edges::{Edge, Start};
 use crate::falls::{Fall, Head};
 use net_core::{List, Memory};
 use point_index::Index;
@@ -81,7 +81,7 @@ impl Round {
 
     /// Goes on from all points that fell in the last round.
     #[tactic(auto, using(crate::proofs::RoundLaws::round_begins))]
-    pub fn run(&mut self, edges: &Index<Edge>, heads: &[Head]) -> Result<(), Memory>
+    pub fn run(&mut self, edges: &Index<Edge, Start>, heads: &[Head]) -> Result<(), Memory>
         requires inside { AreInside edges.now.points edges.now.items }
         requires points { length self.old.seconds ≡ edges.now.points }
         requires few_edges { length edges.now.items < 65536 }
@@ -105,7 +105,7 @@ impl Round {
     }
 
     /// Goes on from one of them.
-    fn go_on(&mut self, edges: &Index<Edge>, heads: &[Head], back: u32) -> Result<(), Memory>
+    fn go_on(&mut self, edges: &Index<Edge, Start>, heads: &[Head], back: u32) -> Result<(), Memory>
         requires inside { AreInside edges.now.points edges.now.items }
         requires points { length self.old.seconds ≡ edges.now.points }
         requires few_edges { length edges.now.items < 65536 }

@@ -2,8 +2,9 @@
 mod canonical;
 mod documents;
 mod drills;
+mod files;
+mod lists;
 mod readers;
-mod seconds;
 mod tags;
 mod trees;
 mod values;

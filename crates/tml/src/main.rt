@@ -3,9 +3,6 @@
 
 ghost use Rattle.std.specs.Prelude.{◌≡◌, drop};
 
-#[cfg(test)]
-mod tests;
-
 use std::env;
 use std::io::ErrorKind;
 use std::process::ExitCode;

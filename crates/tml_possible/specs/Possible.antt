@@ -4,7 +4,7 @@ use Rattle.std.specs.List.{All, Contains, filter}
 use Rattle.net_core.specs.BaseRelations.{base_rels}
 use Rattle.net_core.specs.Fits.{Fits, RanksFit}
 use Rattle.net_core.specs.Least.{AreLeast}
-use Rattle.net_core.specs.Nets.{PlainNet}
+use Rattle.net_core.specs.Nets.{PlainNet, points}
 use Rattle.net_core.specs.Ranks.{timeline_of}
 use Rattle.net_core.specs.Relations.{Relates, Timeline}
 use Rattle.net_core.specs.declared.rels.Rel.{Rel}
@@ -56,3 +56,8 @@ IsTrueItem net a b item = RanksFit net item.ranks × Relates (timeline_of item.r
 -- base relations, each after the one before it in their order, with timelines that fit and in which they hold
 abbrev pub AreTrueItems : PlainNet → ℕ → ℕ → List PossibleItem → Type 0
 AreTrueItems net a b items = AreSome (rels_of items) base_rels × All (IsTrueItem net a b) items
+
+-- of a net there is one list of items at most for two intervals
+abbrev pub NetsHaveOneList : Type 0
+NetsHaveOneList = (net : PlainNet) (a b : ℕ) (items others : List PossibleItem)
+    → AreShown (points net) (Fits net) a b items → AreShown (points net) (Fits net) a b others → items ≡ others

@@ -3,11 +3,13 @@
 
 mod base_set;
 mod checking;
+mod laws;
 mod possible_sets;
 mod timelines;
 mod trying;
 
 pub use base_set::BaseSet;
 pub use checking::check_possible;
+pub use laws::one_item_list;
 pub use possible_sets::possible_set;
 pub use timelines::{PossibleItem, possible};

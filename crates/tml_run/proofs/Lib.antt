@@ -1,5 +1,6 @@
 pub mod EveryReply
 pub mod HowItEnds
+pub mod Missing
 pub mod OneFile
 pub mod OneReply
 pub mod TwoFiles

@@ -57,7 +57,7 @@ one_end rows one known contents status other text line part rest (inr h) (inr k)
     (h.2.1 ∙ sym k.2.1, h.2.3 ∙ ap (λ (f : File). f.limit + 1) same ∙ sym k.2.3, λ _. h.2.2 ∙ ap (λ (f : File). too_long f.word) same ∙ sym k.2.2)
 
 -- there is no reply yet where a further file is read
-not_yet : (rows : Rows) → HasOneNext rows → (files : Files) (contents : List (List ℕ)) (status : Status) (text : List ℕ) (part : ℕ) (file : File) (bytes : List ℕ)
+pub not_yet : (rows : Rows) → HasOneNext rows → (files : Files) (contents : List (List ℕ)) (status : Status) (text : List ℕ) (part : ℕ) (file : File) (bytes : List ℕ)
     → EndsWhole (Some files) rows contents status text part → rows contents (reads file) → ReadsWhole (Some files) file bytes → ⊥
 not_yet rows one files contents status text part file bytes (inl h) next gives = one contents (answers status text) (reads file) h.0 next
 not_yet rows one files contents status text part file bytes (inr h) next gives = not_both files file h.0 bytes (one contents (reads file) (reads h.0) next h.1) gives h.2.0

@@ -1,5 +1,6 @@
 pub mod Answered
 pub mod EveryReply
+pub mod Missing
 pub mod OneFile
 pub mod OneReply
 pub mod Outcome

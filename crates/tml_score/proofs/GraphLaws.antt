@@ -1,9 +1,11 @@
 -- The orders of a net.
 use Rattle.std.proofs.Common.{◌≡◌, ◌↔◌, ◌⊎◌, inl, inr, ℕ, ◌+◌, ◌<◌, Bool, true, false, List, [], ◌∷◌, ◌++◌, length, get_or, Option, Some, None, refl, sym, ap, subst, ◌∙◌, arith}
 use Rattle.std.specs.List.{Contains}
+use Rattle.std.specs.List.Sorted.{IsPermutation}
 use Rattle.std.proofs.lemmas.Bool.{cases_lt}
 use Rattle.std.proofs.lemmas.List.Elements.{All-contains, All-from_recursion, All-get_or, Contains-append_left, Contains-get_or, Contains-push, Contains-push_cases}
 use Rattle.std.proofs.lemmas.List.{get_or_default}
+use Rattle.std.proofs.lemmas.List.Sorted.{Contains-permutation, IsPermutation-sym}
 use Rattle.clash.specs.declared.orders.Order.{Order}
 use Rattle.clash.proofs.LinkAtoms.{link_said}
 use Rattle.net_core.specs.Atoms.{IsInRange, Satisfies}
@@ -15,8 +17,10 @@ use Rattle.net_core.specs.declared.net.NetLink.{NetLink}
 use Rattle.net_core.specs.declared.rels.Rel.TheVariants as rel
 use Rattle.net_core.proofs.AtomLaws.{atoms_in_range}
 use Rattle.clash.proofs.Elements.{every}
-use Rattle.tml_score.specs.ByPoint.{HaveSame, end_of}
-use Rattle.tml_score.specs.Graph.{Adds, AreAll, AreOrdersOf, IsFixed, IsGraphOf, IsOfSome, counts, link_atoms}
+use Rattle.tml_score.specs.Ends.{end_of}
+use Rattle.tml_score.specs.Graph.{Adds, AreAll, AreOfPoint, AreOrdersOf, IsFixed, IsGraphOf, IsOfSome, by_end, counts, link_atoms}
+use Rattle.tml_score.specs.declared.ends.End.{End}
+use Rattle.tml_score.specs.declared.ends.End.TheVariants.{From, To}
 use Rattle.tml_score.specs.declared.graph.Graph.{Graph}
 
 -- ---- lists of orders
@@ -98,11 +102,11 @@ all_added net fixed old mid new empty first second o = (
 )
 
 -- the same orders are all orders too
-pub same_orders_of : (net : PlainNet) (orders same : List Order) → AreOrdersOf net orders → HaveSame orders same → AreOrdersOf net same
+pub same_orders_of : (net : PlainNet) (orders same : List Order) → AreOrdersOf net orders → IsPermutation orders same → AreOrdersOf net same
 same_orders_of net orders same are alike = record {
   fixed = are.fixed;
   are_fixed = are.are_fixed;
-  all = λ o. (λ h. (are.all o).0 ((alike o).0 h), λ h. (alike o).1 ((are.all o).1 h));
+  all = λ o. (λ h. (are.all o).0 (Contains-permutation same orders o (IsPermutation-sym orders same alike) h), λ h. Contains-permutation orders same o alike ((are.all o).1 h));
 }
 
 -- ---- what they say
@@ -146,21 +150,18 @@ module _ (net : PlainNet) (is : IsNet net) where
 
 -- ---- the orders of a point
 
-module _ (net : PlainNet) (graph : Graph) (is : IsGraphOf net graph) (items : List Order) (point : ℕ) where
-  -- the orders that leave it
-  pub leaving : ((o : Order) → Contains items o ↔ (Contains graph.onward.orders o × (end_of graph.onward.end o ≡ point)))
-      → (o : Order) → Contains items o ↔ (Contains graph.onward.orders o × (o.atom.from ≡ point))
-  leaving exact o =
-      let at : end_of graph.onward.end o ≡ o.atom.from = ap (λ e. end_of e o) is.leave in (
-        λ h. (((exact o).0 h).0, sym at ∙ ((exact o).0 h).1),
-        λ h. (exact o).1 (h.0, at ∙ h.1),
-      )
+module _ (net : PlainNet) (graph : Graph) (is : IsGraphOf net graph) (near : End) where
+  pub by_points : (by_end near graph).points ≡ points net
+  by_points = elim near as (λ e. (by_end e graph).points ≡ points net) [ From ↦ is.onward_points | To ↦ is.back_points ]
 
-  -- and those that lead to it
-  pub leading : ((o : Order) → Contains items o ↔ (Contains graph.back.orders o × (end_of graph.back.end o ≡ point)))
-      → (o : Order) → Contains items o ↔ (Contains graph.onward.orders o × (o.atom.to ≡ point))
-  leading exact o =
-      let at : end_of graph.back.end o ≡ o.atom.to = ap (λ e. end_of e o) is.lead in (
-        λ h. ((is.same o).0 ((exact o).0 h).0, sym at ∙ ((exact o).0 h).1),
-        λ h. (exact o).1 ((is.same o).1 h.0, at ∙ h.1),
+  -- those that have it at an end
+  pub at_end : (items : List Order) (point : ℕ) → AreOfPoint (by_end near graph) point items → (o : Order) → Contains items o ↔ (Contains graph.onward.items o × (end_of near o ≡ point))
+  at_end items point exact o =
+      let same : (e : End) → Contains (by_end e graph).items o ↔ Contains graph.onward.items o = elim [
+        | From ↦ (λ h. h, λ h. h)
+        | To ↦ (Contains-permutation graph.back.items graph.onward.items o (IsPermutation-sym graph.onward.items graph.back.items is.same), Contains-permutation graph.onward.items graph.back.items o is.same)
+      ] in
+      let at : (e : End) → end_of (by_end e graph).by o ≡ end_of e o = elim [ From ↦ ap (λ e. end_of e o) is.leave | To ↦ ap (λ e. end_of e o) is.lead ] in (
+        λ h. ((same near).0 ((exact o).0 h).0, sym (at near) ∙ ((exact o).0 h).1),
+        λ h. (exact o).1 ((same near).1 h.0, at near ∙ h.1),
       )

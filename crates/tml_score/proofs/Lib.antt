@@ -1,7 +1,6 @@
 pub mod Rising
 pub mod Redundancy
 pub mod Nested
-pub mod Starts
 pub mod GraphLaws
 pub mod ReachedLaws
 pub mod Searching

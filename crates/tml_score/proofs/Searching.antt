@@ -86,7 +86,7 @@ module _ (basis : Basis) (asked : Asked) (ready : IsReady basis) (is : IsAsked b
 
   -- the orders of links that pass a test
   abbrev edges_of : (ℕ → Bool) → List Order
-  edges_of test = filter (λ (o : Order). counts test o.link) basis.graph.onward.orders
+  edges_of test = filter (λ (o : Order). counts test o.link) basis.graph.onward.items
 
   abbrev kept_test : ℕ → Bool
   kept_test k = slice_index_or basis.keep k false
@@ -97,19 +97,19 @@ module _ (basis : Basis) (asked : Asked) (ready : IsReady basis) (is : IsAsked b
   abbrev kept : List Order
   kept = edges_of kept_test
 
-  within : (test : ℕ → Bool) (o : Order) → Contains (edges_of test) o ↔ (Contains basis.graph.onward.orders o × (counts test o.link ≡ true))
-  within test o = in_filter (λ (x : Order). counts test x.link) basis.graph.onward.orders o
+  within : (test : ℕ → Bool) (o : Order) → Contains (edges_of test) o ↔ (Contains basis.graph.onward.items o × (counts test o.link ≡ true))
+  within test o = in_filter (λ (x : Order). counts test x.link) basis.graph.onward.items o
 
   -- edges are true where their links hold
   edges_true : (test : ℕ → Bool) (t : Timeline) → FitsWith net (λ k. test k ≡ true) t ↔ AllTrue atom_of (edges_of test) t
   edges_true test t =
-      let say = orders_say net ready.net basis.graph.onward.orders ready.graph.orders test t in (
+      let say = orders_say net ready.net basis.graph.onward.items ready.graph.orders test t in (
         λ fits o among. let both = (within test o).0 among in say.0 fits o both.0 both.1,
         λ all. say.1 (λ o among passes. all o ((within test o).1 (among, passes))),
       )
 
   edge_range : (test : ℕ → Bool) (o : Order) → Contains (edges_of test) o → IsInRange (points net) o.atom
-  edge_range test o among = in_range net ready.net basis.graph.onward.orders ready.graph.orders o ((within test o).0 among).0
+  edge_range test o among = in_range net ready.net basis.graph.onward.items ready.graph.orders o ((within test o).0 among).0
 
   rest_true : (t : Timeline) → FitsWith net (Rest basis asked) t → AllTrue atom_of rest t
   rest_true t fits = (edges_true (is_other basis.keep asked.link) t).0 (fits_fewer net (Rest basis asked) (λ k. is_other basis.keep asked.link k ≡ true) t (λ k below passes. (other_kept basis.keep asked.link k).0 passes) fits)
@@ -129,7 +129,7 @@ module _ (basis : Basis) (asked : Asked) (ready : IsReady basis) (is : IsAsked b
   -- ---- what the search knows
 
   pub way_range : (o : Order) → IsWay basis asked o → IsInRange (points net) o.atom
-  way_range o way = in_range net ready.net basis.graph.onward.orders ready.graph.orders o way.0
+  way_range o way = in_range net ready.net basis.graph.onward.items ready.graph.orders o way.0
 
   pub asked_range : IsInRange (points net) asked.order
   asked_range = link_in_range net ready.net asked.link is.link asked.order is.order
@@ -179,7 +179,7 @@ module _ (basis : Basis) (asked : Asked) (ready : IsReady basis) (is : IsAsked b
       let both = (within kept_test o).0 among in
       by o.link refl both.0 both.1
     where
-      by : (l : Option ℕ) → o.link ≡ l → Contains basis.graph.onward.orders o → counts kept_test o.link ≡ true → (o.link ≡ Some asked.link) ⊎ Contains rest o
+      by : (l : Option ℕ) → o.link ≡ l → Contains basis.graph.onward.items o → counts kept_test o.link ≡ true → (o.link ≡ Some asked.link) ⊎ Contains rest o
       by None e there passes = inr ((within (is_other basis.keep asked.link) o).1 (there, ap (counts (is_other basis.keep asked.link)) e))
       by (Some k) e there passes = elim (cases_eq k asked.link) [
         | inl same ↦ inl (e ∙ ap Some same)
@@ -188,7 +188,7 @@ module _ (basis : Basis) (asked : Asked) (ready : IsReady basis) (is : IsAsked b
 
   -- steps lead over an order of the link itself
   abbrev GoesOverOwn : ℕ → ℕ → Type 0
-  GoesOverOwn x y = (o : Order) × (o.link ≡ Some asked.link) × Contains basis.graph.onward.orders o × ((t : Timeline) → Fits net t → t x ≤ t o.atom.from) × ((t : Timeline) → Fits net t → t o.atom.to ≤ t y)
+  GoesOverOwn x y = (o : Order) × (o.link ≡ Some asked.link) × Contains basis.graph.onward.items o × ((t : Timeline) → Fits net t → t x ≤ t o.atom.from) × ((t : Timeline) → Fits net t → t o.atom.to ≤ t y)
 
   -- steps over the links that are kept are steps over the rest, or lead over the link itself
   splits : (es : List Order) (x y : ℕ) → Leads atom_of kept es x y → Leads atom_of rest es x y ⊎ GoesOverOwn x y
@@ -218,7 +218,7 @@ module _ (basis : Basis) (asked : Asked) (ready : IsReady basis) (is : IsAsked b
   ]
 
   -- an order of the link itself is nested with the one that is asked for
-  own_nested : (o : Order) → o.link ≡ Some asked.link → Contains basis.graph.onward.orders o → (t : Timeline) → Fits net t → t o.atom.to ≤ t q → t o.atom.from ≤ t p
+  own_nested : (o : Order) → o.link ≡ Some asked.link → Contains basis.graph.onward.items o → (t : Timeline) → Fits net t → t o.atom.to ≤ t q → t o.atom.from ≤ t p
   own_nested o own there t fits le =
       let link = link_at net asked.link in
       let ends = All-get_or (λ (l : NetLink). (l.a < length net.bounds) × (l.b < length net.bounds)) net.links asked.link (record { a = 0; rel = rel.Before; b = 0 }) is.link ready.net.ends in

@@ -32,7 +32,7 @@ module _ (old new : PlainReached) (more : Extends old new) where
   passed_more basis asked o passed = (passed.0, elim passed.1 [ inl out ↦ inl out | inr among ↦ inr (still_there o.atom.to among) ])
 
 -- there is a mark for the link of each order
-pub marked_link : (basis : Basis) → IsReady basis → (o : Order) → Contains basis.graph.onward.orders o → AreMarks basis o
+pub marked_link : (basis : Basis) → IsReady basis → (o : Order) → Contains basis.graph.onward.items o → AreMarks basis o
 marked_link basis ready o among = elim ((ready.graph.orders.all o).0 among) [
   | inl fixed ↦ subst (λ (l : Option ℕ). IfSome l (λ k. k < length basis.keep)) (sym fixed.0) tt
   | inr linked ↦ subst (λ (l : Option ℕ). IfSome l (λ k. k < length basis.keep)) (sym linked.2.0) (omega (arith, linked.1, ready.marks))

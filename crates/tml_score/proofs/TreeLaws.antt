@@ -14,7 +14,7 @@ use Rattle.net_core.specs.Fits.{FitsWith}
 use Rattle.net_core.specs.Nets.{IsNet, points}
 use Rattle.net_core.specs.Relations.{Timeline}
 use Rattle.net_core.proofs.WalkLaws.{in_order_weaker}
-use Rattle.tml_score.specs.ByPoint.{end_of, far_end_of}
+use Rattle.tml_score.specs.Ends.{end_of, far_end_of}
 use Rattle.tml_score.specs.Graph.{IsGraphOf, counts}
 use Rattle.tml_score.specs.Reducing.{AreGoneOver}
 use Rattle.tml_score.specs.Search.{Basis, IsAsked, IsLed, IsReady, Rest, is_other}
@@ -22,8 +22,8 @@ use Rattle.tml_score.specs.Ties.{AreTies}
 use Rattle.tml_score.specs.Tree.{HoldBefore, IsBefore, IsBeyond, IsBranch, IsCovered, IsJoined, IsTree, LeadsOn, is_used, no_order, order_at, with_link, without}
 use Rattle.tml_score.specs.Trees.{IsKnown}
 use Rattle.tml_score.specs.Meeting.{IsLedTo}
-use Rattle.tml_score.specs.declared.by_point.End.{End}
-use Rattle.tml_score.specs.declared.by_point.End.TheVariants.{From, To}
+use Rattle.tml_score.specs.declared.ends.End.{End}
+use Rattle.tml_score.specs.declared.ends.End.TheVariants.{From, To}
 use Rattle.tml_score.specs.declared.search.Asked.{Asked}
 use Rattle.tml_score.specs.declared.ties.Ties.{Ties}
 use Rattle.tml_score.specs.declared.tree.Tree.{Tree}
@@ -88,7 +88,7 @@ hold_fewer : (orders : List Order) (o : Order) (new : List Order) → new ≡ or
 hold_fewer orders o new is t n hold = λ i less lt. subst (λ (x : Order). Satisfies t x.atom) (same_order orders o new is i lt)
     (hold i less (omega (arith, lt, ap length is, length_push orders o)))
 
-module _ (basis : Basis) (roots : List ℕ) (near : End) (old new : Tree) (o : Order) (is : IsTree basis roots near old) (on : LeadsOn basis roots old o) (of_net : Contains basis.graph.onward.orders o) (link : IfSome o.link (λ k. k < length old.in_use.items)) where
+module _ (basis : Basis) (roots : List ℕ) (near : End) (old new : Tree) (o : Order) (is : IsTree basis roots near old) (on : LeadsOn basis roots old o) (of_net : Contains basis.graph.onward.items o) (link : IfSome o.link (λ k. k < length old.in_use.items)) where
   -- a tree with an order that leads on
   pub taken_tree : new.near ≡ old.near → length new.turns.items ≡ length old.turns.items → new.orders.items ≡ old.orders.items ++ o ∷ [] → new.in_use.items ≡ with_link old.in_use.items o.link → IsTree basis roots near new
   taken_tree end turns orders in_use =

@@ -1,16 +1,24 @@
 -- The sides of a search from two points.
-use Rattle.std.proofs.Common.{◌≡◌, inl, inr, ℕ, ◌+◌, ◌<◌, false, List, [], ◌∷◌, ◌++◌, length, get_or, slice_index, Ok, sym, ap, subst, ◌∙◌, arith}
+use Rattle.std.proofs.Common.{◌≡◌, inl, inr, ℕ, ◌+◌, ◌<◌, true, false, List, [], ◌∷◌, ◌++◌, length, get_or, slice_index, Ok, sym, ap, subst, ◌∙◌, arith}
 use Rattle.std.specs.List.{All, Contains}
 use Rattle.std.proofs.lemmas.Bool.{cases_lt}
 use Rattle.std.proofs.lemmas.List.{get_or_default}
-use Rattle.std.proofs.lemmas.List.Elements.{All-cons, All-nil, All-push, Contains-push_cases}
+use Rattle.std.proofs.lemmas.List.Elements.{All-cons, All-nil, All-push, Contains-get_or, Contains-push_cases}
 use Rattle.clash.specs.declared.orders.Order.{Order}
-use Rattle.tml_score.specs.Meeting.{AreApart, IsPassedAt, IsSide, Visits}
+use Rattle.tml_score.specs.Ends.{end_of, far_end_of}
+use Rattle.tml_score.specs.Graph.{AreOfPoint, by_end}
+use Rattle.tml_score.specs.Meeting.{AreApart, IsOn, IsPassedAt, IsSide, Visits}
 use Rattle.tml_score.specs.Reached.{PlainReached}
-use Rattle.tml_score.specs.Search.{Basis, Extends, IsWay}
+use Rattle.tml_score.specs.Search.{Basis, Extends, IsAsked, IsReady, IsWay, remains}
+use Rattle.tml_score.specs.Tree.{no_order}
+use Rattle.tml_score.specs.declared.ends.End.{End}
+use Rattle.tml_score.specs.declared.ends.End.TheVariants.{From, To}
 use Rattle.tml_score.specs.declared.search.Asked.{Asked}
 use Rattle.net_core.specs.Nets.{points}
 use Rattle.clash.proofs.Elements.{first_or_rest}
+use Rattle.tml_score.proofs.GraphLaws.{at_end}
+use Rattle.tml_score.proofs.Searching.{goes_back, goes_on}
+use Rattle.tml_score.proofs.TieLaws.{far_within}
 use Rattle.tml_score.proofs.Spreading.{extends_none, same_point, still_there}
 
 module _ (basis : Basis) (asked : Asked) where
@@ -40,17 +48,38 @@ module _ (basis : Basis) (asked : Asked) where
   ]
 
   -- one way more of a list is passed
-  pub passed_at_one : (far : Order → ℕ) (items : List Order) (i : ℕ) (d : Order) (old new : PlainReached) → i < length items → Extends old new
-      → ((k : ℕ) (e : Order) → k < i → IsWay basis asked (get_or items k e) → IsPassedAt basis asked old.points (far (get_or items k e)))
-      → (IsWay basis asked (get_or items i d) → IsPassedAt basis asked new.points (far (get_or items i d)))
-      → (k : ℕ) (e : Order) → k < i + 1 → IsWay basis asked (get_or items k e) → IsPassedAt basis asked new.points (far (get_or items k e))
-  passed_at_one far items i d old new lt more before here k e less way = elim (cases_lt k i) [
-    | inl earlier ↦ passed_at_more old new more (far (get_or items k e)) (before k e earlier way)
+  pub passed_at_one : (near : End) (items : List Order) (i : ℕ) (d : Order) (old new : PlainReached) → i < length items → Extends old new
+      → ((k : ℕ) (e : Order) → k < i → IsWay basis asked (get_or items k e) → IsPassedAt basis asked old.points (far_end_of near (get_or items k e)))
+      → (IsWay basis asked (get_or items i d) → IsPassedAt basis asked new.points (far_end_of near (get_or items i d)))
+      → (k : ℕ) (e : Order) → k < i + 1 → IsWay basis asked (get_or items k e) → IsPassedAt basis asked new.points (far_end_of near (get_or items k e))
+  passed_at_one near items i d old new lt more before here k e less way = elim (cases_lt k i) [
+    | inl earlier ↦ passed_at_more old new more (far_end_of near (get_or items k e)) (before k e earlier way)
     | inr last ↦
         let same : i ≡ k = omega (arith, last, less) in
         let is : get_or items i d ≡ get_or items k e = ap (λ (j : ℕ). get_or items j d) same ∙ get_or_default items k d e (omega (arith, lt, same)) in
-        subst (λ (o : Order). IsPassedAt basis asked new.points (far o)) is (here (subst (IsWay basis asked) (sym is) way))
+        subst (λ (o : Order). IsPassedAt basis asked new.points (far_end_of near o)) is (here (subst (IsWay basis asked) (sym is) way))
   ]
+
+  -- what is known at a turn of the orders of a point
+  pub record IsTurn (near : End) (point : ℕ) (o : Order) : Type 0 where
+    pub of_net : Contains basis.graph.onward.items o
+    pub far : far_end_of near o < points basis.net
+    pub reaches : remains basis asked o ≡ true → IsOn near basis asked point → IsOn near basis asked (far_end_of near o)
+
+  pub at_turn : IsReady basis → IsAsked basis asked → (near : End) (items : List Order) (point i : ℕ)
+      → AreOfPoint (by_end near basis.graph) point items → i < length items → IsTurn near point (get_or items i no_order)
+  at_turn ready is near items point i exact lt =
+      let o = get_or items i no_order in
+      let here = (at_end basis.net basis.graph ready.graph near items point exact o).0 (Contains-get_or items i no_order lt) in
+      record {
+        of_net = here.0;
+        far = far_within basis ready near o here.0;
+        reaches = λ stays on. goes_far near o (here.0, stays) (subst (IsOn near basis asked) (sym here.1) on);
+      }
+    where
+      goes_far : (near : End) (o : Order) → IsWay basis asked o → IsOn near basis asked (end_of near o) → IsOn near basis asked (far_end_of near o)
+      goes_far From = goes_on basis asked ready is
+      goes_far To = goes_back basis asked ready is
 
   -- a side of one point
   pub one_point_side : (P : ℕ → Type 0) (x : ℕ) (old new : PlainReached) → P x → old.room ≡ points basis.net → new ≡ record { points = x ∷ []; room = old.room } → IsSide basis P new
@@ -60,12 +89,12 @@ module _ (basis : Basis) (asked : Asked) where
   }
 
   -- the points of one turn more are passed
-  pub passed_turn : (near far : Order → ℕ) (turn : ℕ) (old new : PlainReached) → turn < length old.points → Extends old new
-      → ((k : ℕ) → k < turn → (o : Order) → IsWay basis asked o → near o ≡ slice_index old.points k → IsPassedAt basis asked old.points (far o))
-      → ((o : Order) → IsWay basis asked o → near o ≡ slice_index old.points turn → IsPassedAt basis asked new.points (far o))
-      → (k : ℕ) → k < turn + 1 → (o : Order) → IsWay basis asked o → near o ≡ slice_index new.points k → IsPassedAt basis asked new.points (far o)
-  passed_turn near far turn old new lt more before here k less o way at = elim (cases_lt k turn) [
-    | inl earlier ↦ passed_at_more old new more (far o) (before k earlier o way (at ∙ same_point old new more k (omega (arith, earlier, lt))))
+  pub passed_turn : (near : End) (turn : ℕ) (old new : PlainReached) → turn < length old.points → Extends old new
+      → ((k : ℕ) → k < turn → (o : Order) → IsWay basis asked o → end_of near o ≡ slice_index old.points k → IsPassedAt basis asked old.points (far_end_of near o))
+      → ((o : Order) → IsWay basis asked o → end_of near o ≡ slice_index old.points turn → IsPassedAt basis asked new.points (far_end_of near o))
+      → (k : ℕ) → k < turn + 1 → (o : Order) → IsWay basis asked o → end_of near o ≡ slice_index new.points k → IsPassedAt basis asked new.points (far_end_of near o)
+  passed_turn near turn old new lt more before here k less o way at = elim (cases_lt k turn) [
+    | inl earlier ↦ passed_at_more old new more (far_end_of near o) (before k earlier o way (at ∙ same_point old new more k (omega (arith, earlier, lt))))
     | inr last ↦
         let same : k ≡ turn = omega (arith, last, less) in
         here o way (at ∙ ap (slice_index new.points) same ∙ same_point old new more turn lt)

@@ -1,13 +1,16 @@
 -- The orders of a net, by the points that they leave and those that they lead to.
 use Rattle.std.specs.Prelude.{◌≡◌, ◌↔◌, ◌⊎◌, ℕ, ◌<◌, Bool, true, List, length, Option, Some, None}
 use Rattle.std.specs.List.{Contains}
+use Rattle.std.specs.List.Sorted.{IsPermutation}
 use Rattle.clash.specs.Orders.{AreFixed}
 use Rattle.clash.specs.declared.orders.Order.{Order}
 use Rattle.net_core.specs.Atoms.{atoms_of}
 use Rattle.net_core.specs.Nets.{PlainNet, link_at, points}
 use Rattle.net_core.specs.declared.atom.Atom.{Atom}
-use Rattle.tml_score.specs.ByPoint.{HaveSame}
-use Rattle.tml_score.specs.declared.by_point.End.TheVariants.{From, To}
+use Rattle.point_index.specs.Index.{PlainIndex}
+use Rattle.tml_score.specs.Ends.{end_of}
+use Rattle.tml_score.specs.declared.ends.End.{End}
+use Rattle.tml_score.specs.declared.ends.End.TheVariants.{From, To}
 use Rattle.tml_score.specs.declared.graph.Graph.{Graph}
 
 -- the orders that link k is
@@ -45,11 +48,20 @@ pub record AreOrdersOf (net : PlainNet) (orders : List Order) : Type 0 where
   pub are_fixed : AreFixed net fixed
   pub all : AreAll net fixed orders
 
+-- the orders of a graph by the point at an end
+abbrev pub by_end : End → Graph → PlainIndex Order End
+by_end From graph = graph.onward
+by_end To graph = graph.back
+
+-- the orders that have a point at the end that they are indexed by
+abbrev pub AreOfPoint : PlainIndex Order End → ℕ → List Order → Type 0
+AreOfPoint index point orders = (order : Order) → Contains orders order ↔ (Contains index.items order × (end_of index.by order ≡ point))
+
 -- all orders of a net by the points that they leave, and by those that they lead to
 pub record IsGraphOf (net : PlainNet) (graph : Graph) : Type 0 where
-  pub orders : AreOrdersOf net graph.onward.orders
-  pub leave : graph.onward.end ≡ From
+  pub orders : AreOrdersOf net graph.onward.items
+  pub leave : graph.onward.by ≡ From
   pub onward_points : graph.onward.points ≡ points net
-  pub same : HaveSame graph.onward.orders graph.back.orders
-  pub lead : graph.back.end ≡ To
+  pub same : IsPermutation graph.onward.items graph.back.items
+  pub lead : graph.back.by ≡ To
   pub back_points : graph.back.points ≡ points net

@@ -1,6 +1,6 @@
 pub mod Reduced
 pub mod Scores
-pub mod ByPoint
+pub mod Ends
 pub mod Graph
 pub mod Reached
 pub mod Search

@@ -8,7 +8,10 @@ use Rattle.net_core.specs.declared.list.Memory.{Memory}
 use Rattle.order_closure.specs.Tables.{cell_at}
 use Rattle.order_closure.specs.declared.cell.Cell.TheVariants.{Free}
 use Rattle.tml_score.specs.Reached.{PlainReached}
-use Rattle.tml_score.specs.Search.{Basis, Extends, IsWay, Rest}
+use Rattle.tml_score.specs.Ends.{end_of, far_end_of, opposite}
+use Rattle.tml_score.specs.Search.{Basis, Extends, IsLed, IsWay, Rest}
+use Rattle.tml_score.specs.declared.ends.End.{End}
+use Rattle.tml_score.specs.declared.ends.End.TheVariants.{From, To}
 use Rattle.tml_score.specs.declared.search.Asked.{Asked}
 
 -- the last point is no earlier than this one, by the other links
@@ -18,6 +21,11 @@ IsLedTo basis asked x = AlwaysWith basis.net (Rest basis asked) false x asked.or
 -- the closure puts a point at one place with the first
 abbrev pub IsWith : Basis → Asked → ℕ → Type 0
 IsWith basis asked x = (cell_at basis.table x asked.order.from ≢ Free) × (cell_at basis.table asked.order.from x ≢ Free)
+
+-- what is true of the points of a side: where the search goes on that they are no earlier than the first, and where it goes back that they are no later than the last
+abbrev pub IsOn : End → Basis → Asked → ℕ → Type 0
+IsOn From = IsLed
+IsOn To = IsLedTo
 
 -- One side of a search: points of which something is true.
 pub record IsSide (basis : Basis) (IsTrue : ℕ → Type 0) (reached : PlainReached) : Type 0 where
@@ -40,8 +48,8 @@ Visits basis asked x other old new (Ok false) =
 Visits basis asked x other old new (Err e) = ⊤
 
 -- a side went on from a point: to one of which the same is true as of the other side, or all ways from there are passed
-abbrev pub GoesFrom : Basis → Asked → (ℕ → Type 0) → (ℕ → Type 0) → (Order → ℕ) → (Order → ℕ) → ℕ → PlainReached → PlainReached → PlainReached → Result Bool Memory → Type 0
-GoesFrom basis asked IsTrue IsOther near far x other old new (Ok true) = IsSide basis IsTrue new × ((y : ℕ) × IsTrue y × IsOther y)
-GoesFrom basis asked IsTrue IsOther near far x other old new (Ok false) =
-    IsSide basis IsTrue new × Extends old new × AreApart new other × ((o : Order) → IsWay basis asked o → near o ≡ x → IsPassedAt basis asked new.points (far o))
-GoesFrom basis asked IsTrue IsOther near far x other old new (Err e) = ⊤
+abbrev pub GoesFrom : Basis → Asked → End → ℕ → PlainReached → PlainReached → PlainReached → Result Bool Memory → Type 0
+GoesFrom basis asked near x other old new (Ok true) = IsSide basis (IsOn near basis asked) new × ((y : ℕ) × IsOn near basis asked y × IsOn (opposite near) basis asked y)
+GoesFrom basis asked near x other old new (Ok false) =
+    IsSide basis (IsOn near basis asked) new × Extends old new × AreApart new other × ((o : Order) → IsWay basis asked o → end_of near o ≡ x → IsPassedAt basis asked new.points (far_end_of near o))
+GoesFrom basis asked near x other old new (Err e) = ⊤

@@ -69,7 +69,7 @@ AreMarks basis o = IfSome o.link (λ k. k < length basis.keep)
 
 -- an order that may be gone over
 abbrev pub IsWay : Basis → Asked → Order → Type 0
-IsWay basis asked o = Contains basis.graph.onward.orders o × (remains basis asked o ≡ true)
+IsWay basis asked o = Contains basis.graph.onward.items o × (remains basis asked o ≡ true)
 
 -- it leads to the last point, or to one that the closure doesn't put at or before the first
 abbrev pub LeadsOut : Basis → Asked → Order → Type 0

@@ -3,17 +3,18 @@ use Rattle.std.specs.Prelude.{◌≡◌, ℕ, ◌<◌, List, length}
 use Rattle.std.specs.List.{All, Contains}
 use Rattle.clash.specs.declared.orders.Order.{Order}
 use Rattle.net_core.specs.Nets.{points}
-use Rattle.tml_score.specs.ByPoint.{PlainByPoint}
+use Rattle.point_index.specs.Index.{PlainIndex}
 use Rattle.tml_score.specs.Search.{Basis}
+use Rattle.tml_score.specs.declared.ends.End.{End}
 use Rattle.tml_score.specs.declared.ties.Ties.{Ties}
 
 -- orders of the net
 abbrev pub AreOrders : Basis → List Order → Type 0
-AreOrders basis orders = All (Contains basis.graph.onward.orders) orders
+AreOrders basis orders = All (Contains basis.graph.onward.items) orders
 
 -- orders of the net, by a point of it
-abbrev pub AreOrdersBy : Basis → PlainByPoint → Type 0
-AreOrdersBy basis by = AreOrders basis by.orders × (by.points ≡ points basis.net)
+abbrev pub AreOrdersBy : Basis → PlainIndex Order End → Type 0
+AreOrdersBy basis by = AreOrders basis by.items × (by.points ≡ points basis.net)
 
 -- numbers of points
 abbrev pub ArePoints : ℕ → List ℕ → Type 0

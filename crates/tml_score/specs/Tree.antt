@@ -6,11 +6,11 @@ use Rattle.clash.specs.declared.orders.Order.{Order}
 use Rattle.net_core.specs.Atoms.{Satisfies}
 use Rattle.net_core.specs.Nets.{points}
 use Rattle.net_core.specs.Relations.{Timeline}
-use Rattle.tml_score.specs.ByPoint.{end_of, far_end_of}
+use Rattle.tml_score.specs.Ends.{end_of, far_end_of}
 use Rattle.tml_score.specs.Graph.{counts}
 use Rattle.tml_score.specs.Search.{Basis, is_kept}
-use Rattle.tml_score.specs.declared.by_point.End.{End}
-use Rattle.tml_score.specs.declared.by_point.End.TheVariants.{From, To}
+use Rattle.tml_score.specs.declared.ends.End.{End}
+use Rattle.tml_score.specs.declared.ends.End.TheVariants.{From, To}
 use Rattle.tml_score.specs.declared.tree.Tree.{Tree}
 
 -- what is read past the end of a list of orders
@@ -39,7 +39,7 @@ is_used in_use o = counts (λ k. slice_index_or in_use k false) o.link
 
 -- an order of the net that is kept and in use
 pub record IsBranch (basis : Basis) (in_use : List Bool) (o : Order) : Type 0 where
-  pub of_net : Contains basis.graph.onward.orders o
+  pub of_net : Contains basis.graph.onward.items o
   pub kept : is_kept basis o ≡ true
   pub used : is_used in_use o ≡ true
 

@@ -4,7 +4,7 @@ use Rattle.std.specs.Bool.{OnTrue}
 use Rattle.tml_score.specs.Search.{Basis}
 use Rattle.tml_score.specs.Ties.{AreTies}
 use Rattle.tml_score.specs.Tree.{IsBefore, IsCovered, IsTree, without}
-use Rattle.tml_score.specs.declared.by_point.End.TheVariants.{From, To}
+use Rattle.tml_score.specs.declared.ends.End.TheVariants.{From, To}
 use Rattle.tml_score.specs.declared.search.Asked.{Asked}
 use Rattle.tml_score.specs.declared.trees.Known.{Known}
 use Rattle.tml_score.specs.declared.trees.Trees.{Trees}

@@ -1,17 +1,18 @@
 //! The orders of a net, by the points that they leave and those that they lead to.
 ghost use Rattle.std.specs.Prelude.{IfOk, OnOk, length, ◌<◌, ◌≡◌};
-ghost use Rattle.tml_score.specs.Graph.{Adds, AreOrdersOf, IsFixed, IsGraphOf, IsOfLink, IsOfSome};
+ghost use Rattle.tml_score.specs.Graph.{Adds, AreOfPoint, AreOrdersOf, IsFixed, IsGraphOf, IsOfLink, IsOfSome, by_end};
 
-use crate::by_point::{ByPoint, End};
+use crate::ends::{End, by_point};
 use clash::{Order, atoms_of_link, fixed_orders, nth_order};
 use net_core::{Atom, Memory, Net};
+use point_index::Index;
 use std::alloc::Global;
 
 /// The orders of a net twice: by the points that they leave, and by those that they lead to.
 #[derive(Drop)]
 pub struct Graph {
-    pub onward: ByPoint,
-    pub back: ByPoint,
+    pub onward: Index<Order, End>,
+    pub back: Index<Order, End>,
 }
 
 impl Graph {
@@ -25,12 +26,22 @@ impl Graph {
     {
         let points = 2 * net.intervals();
         let orders = orders_of(alloc, net)?;
-        let onward = ByPoint::new(alloc, orders, End::From, points)?;
-        let Ok(again) = Vec::from_slice(alloc, onward.orders()) else {
+        let Ok(onward) = Index::new(alloc, orders, End::From, points) else {
             return Err(Memory);
         };
-        let back = ByPoint::new(alloc, again, End::To, points)?;
+        let back = by_point(alloc, onward.items(), End::To, points)?;
         Ok(Graph { onward, back })
+    }
+
+    /// The orders that have a point at this end.
+    pub fn of_point(&self, end: End, point: u32) -> &[Order]
+        requires { point < (by_end end self.now).points }
+        ensures { AreOfPoint (by_end end self.now) point result.now }
+    {
+        match end {
+            End::From => self.onward.of_point(point),
+            End::To => self.back.of_point(point),
+        }
     }
 }
 

@@ -1,7 +1,7 @@
 //! Links without redundancy, and how much of one annotation follows from another.
 #![tactic(auto)]
 
-mod by_point;
+mod ends;
 mod graph;
 mod laws;
 mod meeting;

@@ -2,10 +2,12 @@
 ghost use Rattle.net_core.specs.Nets.{points};
 ghost use Rattle.order_closure.specs.Tables.{cell_at};
 ghost use Rattle.std.specs.Prelude.{IfOk, IsTrue, OnOk, false, length, slice_index, ◌<◌, ◌≡◌, ◌≢◌, ◌↔◌};
-ghost use Rattle.tml_score.specs.Meeting.{AreApart, GoesFrom, IsLedTo, IsSide, IsWith, Visits};
-ghost use Rattle.tml_score.specs.Search.{Decides, IsAsked, IsLed, IsReady, basis_of};
+ghost use Rattle.tml_score.specs.Ends.{opposite};
+ghost use Rattle.tml_score.specs.Meeting.{AreApart, GoesFrom, IsOn, IsSide, IsWith, Visits};
+ghost use Rattle.tml_score.specs.Search.{Decides, IsAsked, IsReady, basis_of};
 ghost use Rattle.tml_score.specs.Trees.{IsKnown};
 
+use crate::ends::End;
 use crate::reached::Reached;
 use crate::search::{Asked, Kept};
 use crate::trees::Known;
@@ -46,10 +48,10 @@ impl Kept<'_> {
         back.start(asked.order.to)?;
         let mut turn = 0;
         while turn < onward.len().min(back.len()) {
-            if self.spread_onward(asked, known, onward, back, turn)? {
+            if self.spread_side(asked, known, End::From, onward, back, turn)? {
                 return Ok(true);
             }
-            if self.spread_back(asked, known, back, onward, turn)? {
+            if self.spread_side(asked, known, End::To, back, onward, turn)? {
                 return Ok(true);
             }
             turn += 1;
@@ -57,67 +59,34 @@ impl Kept<'_> {
         Ok(false)
     }
 
-    /// Goes on over the orders that leave the point of this turn. True comes where one of them leads to the
-    /// other side, or to a point no later than the last.
-    fn spread_onward(
+    /// Goes on over the orders that have the point of this turn at the near end, to the points at the other one. True comes
+    /// where one of these is on the other side, or the trees join it with that side.
+    fn spread_side(
         &self,
         asked: Asked,
         known: &Known<'_>,
-        onward: &mut Reached,
-        back: &Reached,
+        near: End,
+        own: &mut Reached,
+        other: &Reached,
         turn: usize,
     ) -> Result<bool, Memory>
         requires ready { IsReady (basis_of self.now) }
         requires asked { IsAsked (basis_of self.now) asked }
         requires known { IsKnown (basis_of self.now) asked known.now }
-        requires onward { IsSide (basis_of self.now) (IsLed (basis_of self.now) asked) onward.old }
-        requires back { IsSide (basis_of self.now) (IsLedTo (basis_of self.now) asked) back.now }
-        requires apart { AreApart onward.old back.now }
-        requires turn { turn < length onward.old.points }
-        ensures { GoesFrom (basis_of self.now) asked (IsLed (basis_of self.now) asked) (IsLedTo (basis_of self.now) asked) (λ order. order.atom.from) (λ order. order.atom.to)
-            (slice_index onward.old.points turn) back.now onward.old onward.new result }
+        requires own { IsSide (basis_of self.now) (IsOn near (basis_of self.now) asked) own.old }
+        requires other { IsSide (basis_of self.now) (IsOn (opposite near) (basis_of self.now) asked) other.now }
+        requires apart { AreApart own.old other.now }
+        requires turn { turn < length own.old.points }
+        ensures { GoesFrom (basis_of self.now) asked near (slice_index own.old.points turn) other.now own.old own.new result }
     {
-        let point = onward.point(turn);
-        for order in self.graph.onward.of_point(point) {
+        let point = own.point(turn);
+        for order in self.graph.of_point(near, point) {
             if self.remains(asked, order) {
-                if known.comes_before(self, asked, order.atom.to) {
+                let far = near.across(order);
+                if known.joins(self, asked, near, far) {
                     return Ok(true);
                 }
-                if self.visit(asked, order.atom.to, onward, back)? {
-                    return Ok(true);
-                }
-            }
-        }
-        Ok(false)
-    }
-
-    /// Goes back over the orders that lead to the point of this turn. True comes where one of them leaves the
-    /// other side, or a point no earlier than the first.
-    fn spread_back(
-        &self,
-        asked: Asked,
-        known: &Known<'_>,
-        back: &mut Reached,
-        onward: &Reached,
-        turn: usize,
-    ) -> Result<bool, Memory>
-        requires ready { IsReady (basis_of self.now) }
-        requires asked { IsAsked (basis_of self.now) asked }
-        requires known { IsKnown (basis_of self.now) asked known.now }
-        requires back { IsSide (basis_of self.now) (IsLedTo (basis_of self.now) asked) back.old }
-        requires onward { IsSide (basis_of self.now) (IsLed (basis_of self.now) asked) onward.now }
-        requires apart { AreApart back.old onward.now }
-        requires turn { turn < length back.old.points }
-        ensures { GoesFrom (basis_of self.now) asked (IsLedTo (basis_of self.now) asked) (IsLed (basis_of self.now) asked) (λ order. order.atom.to) (λ order. order.atom.from)
-            (slice_index back.old.points turn) onward.now back.old back.new result }
-    {
-        let point = back.point(turn);
-        for order in self.graph.back.of_point(point) {
-            if self.remains(asked, order) {
-                if known.comes_after(self, asked, order.atom.from) {
-                    return Ok(true);
-                }
-                if self.visit(asked, order.atom.from, back, onward)? {
+                if self.visit(asked, far, own, other)? {
                     return Ok(true);
                 }
             }

@@ -4,11 +4,12 @@ ghost use Rattle.std.specs.Prelude.{IfOk, OnOk, length, slice_index, ◌<◌, �
 ghost use Rattle.tml_score.specs.Search.{IsReady, basis_of};
 ghost use Rattle.tml_score.specs.Ties.{AreOrders, AreOrdersBy, ArePoints, AreTies};
 
-use crate::by_point::{ByPoint, End};
+use crate::ends::{End, by_point};
 use crate::search::Kept;
 use clash::Order;
 use net_core::Memory;
 use order_closure::Cell;
+use point_index::Index;
 use std::alloc::Global;
 use std::cmp::Reverse;
 
@@ -17,8 +18,8 @@ use std::cmp::Reverse;
 #[derive(Drop)]
 pub struct Ties {
     pub orders: Vec<Order>,
-    pub onward: ByPoint,
-    pub back: ByPoint,
+    pub onward: Index<Order, End>,
+    pub back: Index<Order, End>,
     pub roots: Vec<u32>,
 }
 
@@ -33,8 +34,9 @@ impl Ties {
         ensures { IfOk result (AreTies (basis_of kept.now)) }
     {
         let orders = tied(alloc, kept)?;
-        let onward = by_point(alloc, kept, &orders, End::From)?;
-        let back = by_point(alloc, kept, &orders, End::To)?;
+        let points = kept.table.points();
+        let onward = by_point(alloc, &orders, End::From, points)?;
+        let back = by_point(alloc, &orders, End::To, points)?;
         let roots = roots_of(alloc, kept, &onward)?;
         Ok(Ties {
             orders,
@@ -81,7 +83,7 @@ fn ties_of(alloc: Global, kept: &Kept<'_>) -> Result<Vec<Order>, Memory>
     ensures { IfOk result (λ ties. AreOrders (basis_of kept.now) ties.items) }
 {
     let mut ties = Vec::new(alloc);
-    for order in kept.graph.onward.orders() {
+    for order in kept.graph.onward.items() {
         let apart = kept.table.cell(order.atom.to, order.atom.from) == Cell::Free;
         if !apart && ties.push(*order).is_err() {
             return Err(Memory);
@@ -90,20 +92,8 @@ fn ties_of(alloc: Global, kept: &Kept<'_>) -> Result<Vec<Order>, Memory>
     Ok(ties)
 }
 
-/// Orders by the point at an end.
-fn by_point(alloc: Global, kept: &Kept<'_>, orders: &[Order], end: End) -> Result<ByPoint, Memory>
-    requires ready { IsReady (basis_of kept.now) }
-    requires orders { AreOrders (basis_of kept.now) orders.now }
-    ensures { IfOk result (AreOrdersBy (basis_of kept.now)) }
-{
-    let Ok(copy) = Vec::from_slice(alloc, orders) else {
-        return Err(Memory);
-    };
-    ByPoint::new(alloc, copy, end, kept.table.points())
-}
-
 /// For each point the first one at its place: the first from which ties lead to it.
-fn roots_of(alloc: Global, kept: &Kept<'_>, onward: &ByPoint) -> Result<Vec<u32>, Memory>
+fn roots_of(alloc: Global, kept: &Kept<'_>, onward: &Index<Order, End>) -> Result<Vec<u32>, Memory>
     requires ready { IsReady (basis_of kept.now) }
     requires onward { AreOrdersBy (basis_of kept.now) onward.now }
     ensures { IfOk result (λ roots. length roots.items ≡ points kept.now.net.now) }
@@ -137,7 +127,7 @@ fn own_roots(alloc: Global, points: u32) -> Result<Vec<u32>, Memory>
 /// Gives a root to all points that ties lead to from those that were met.
 fn flood(
     kept: &Kept<'_>,
-    onward: &ByPoint,
+    onward: &Index<Order, End>,
     root: u32,
     roots: &mut [u32],
     met: &mut Vec<u32>,
@@ -160,7 +150,7 @@ fn flood(
 /// Gives a root to the points that ties lead to from one, and notes those that had none but themselves.
 fn meet_all(
     kept: &Kept<'_>,
-    onward: &ByPoint,
+    onward: &Index<Order, End>,
     point: u32,
     root: u32,
     roots: &mut [u32],

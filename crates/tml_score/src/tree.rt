@@ -4,16 +4,17 @@ ghost use Rattle.net_core.specs.Nets.{points};
 ghost use Rattle.std.specs.Bool.{OnTrue};
 ghost use Rattle.std.specs.List.{Contains};
 ghost use Rattle.std.specs.Prelude.{IfOk, IfSome, OnOk, [], false, length, slice_index_or, ℕ, ◌++◌, ◌<◌, ◌∷◌, ◌≡◌, ◌≤◌};
-ghost use Rattle.tml_score.specs.ByPoint.{far_end_of};
+ghost use Rattle.tml_score.specs.Ends.{far_end_of};
 ghost use Rattle.tml_score.specs.Search.{IsReady, basis_of};
 ghost use Rattle.tml_score.specs.Ties.{AreTies};
 ghost use Rattle.tml_score.specs.Tree.{IsBefore, IsCovered, IsCut, IsTree, LeadsOn, order_at, with_link};
 
-use crate::by_point::End;
+use crate::ends::End;
 use crate::search::Kept;
 use crate::ties::Ties;
 use clash::Order;
 use net_core::Memory;
+use point_index::PointOf;
 use std::alloc::Global;
 
 /// Orders that lead from the root of each place to its points, or from these back to it, in the order in which they were
@@ -206,7 +207,7 @@ impl Tree {
     fn reach(&mut self, kept: &Kept<'_>, ties: &Ties, order: &Order) -> Result<bool, Memory>
         requires ready { IsReady (basis_of kept.now) }
         requires ties { AreTies (basis_of kept.now) ties.now }
-        requires order { Contains kept.now.graph.now.onward.orders order.now }
+        requires order { Contains kept.now.graph.now.onward.items order.now }
         requires tree { IsTree (basis_of kept.now) ties.now.roots.items self.old.near self.old }
         ensures { OnOk result (IsTree (basis_of kept.now) ties.now.roots.items self.old.near self.new) }
     {
@@ -221,11 +222,11 @@ impl Tree {
     fn leads_on(&self, kept: &Kept<'_>, ties: &Ties, order: &Order) -> bool
         requires ready { IsReady (basis_of kept.now) }
         requires ties { AreTies (basis_of kept.now) ties.now }
-        requires order { Contains kept.now.graph.now.onward.orders order.now }
+        requires order { Contains kept.now.graph.now.onward.items order.now }
         requires tree { IsTree (basis_of kept.now) ties.now.roots.items self.now.near self.now }
         ensures { OnTrue result (LeadsOn (basis_of kept.now) ties.now.roots.items self.now order.now) }
     {
-        let (near, far) = (self.near.of(order), self.near.across(order));
+        let (near, far) = (self.near.point(order), self.near.across(order));
         if ties.root(near) != ties.root(far) || !kept.has(order) {
             return false;
         }

@@ -2,11 +2,12 @@
 ghost use Rattle.net_core.specs.Nets.{points};
 ghost use Rattle.std.specs.Bool.{OnTrue};
 ghost use Rattle.std.specs.Prelude.{IfOk, OnOk, length, ◌<◌};
-ghost use Rattle.tml_score.specs.Meeting.{IsLedTo};
+ghost use Rattle.tml_score.specs.Ends.{opposite};
+ghost use Rattle.tml_score.specs.Meeting.{IsLedTo, IsOn};
 ghost use Rattle.tml_score.specs.Search.{IsAsked, IsLed, IsReady, basis_of};
 ghost use Rattle.tml_score.specs.Trees.{AreCut, AreTrees, IsKnown, StayTrees};
 
-use crate::by_point::End;
+use crate::ends::End;
 use crate::search::{Asked, Kept};
 use crate::ties::Ties;
 use crate::tree::Tree;
@@ -114,8 +115,23 @@ pub struct Known<'a> {
 }
 
 impl Known<'_> {
+    /// Whether they join a point with the other side: show that it is no later than the last one of the order where the search
+    /// goes on, and no earlier than the first one where it goes back.
+    pub fn joins(&self, kept: &Kept<'_>, asked: Asked, near: End, point: u32) -> bool
+        requires ready { IsReady (basis_of kept.now) }
+        requires asked { IsAsked (basis_of kept.now) asked }
+        requires known { IsKnown (basis_of kept.now) asked self.now }
+        requires point { point < points kept.now.net.now }
+        ensures { OnTrue result (IsOn (opposite near) (basis_of kept.now) asked point) }
+    {
+        match near {
+            End::From => self.comes_before(kept, asked, point),
+            End::To => self.comes_after(kept, asked, point),
+        }
+    }
+
     /// Whether they show that a point is no earlier than the first one of the order.
-    pub fn comes_after(&self, kept: &Kept<'_>, asked: Asked, point: u32) -> bool
+    fn comes_after(&self, kept: &Kept<'_>, asked: Asked, point: u32) -> bool
         requires ready { IsReady (basis_of kept.now) }
         requires asked { IsAsked (basis_of kept.now) asked }
         requires known { IsKnown (basis_of kept.now) asked self.now }

@@ -1,6 +1,7 @@
 //! Laws of commands: public functions that do nothing, each with the law as its contract.
 ghost use Rattle.std.specs.Prelude.{List, ℕ};
 ghost use Rattle.tml_run.specs.EveryReply.{HasExactlyOneReply, HasNext};
+ghost use Rattle.tml_run.specs.Missing.{MissingBreaksOff, ReadFaultHasFile};
 ghost use Rattle.tml_run.specs.OneReply.{HasOneNext, HasOneReply, HasOneText};
 ghost use Rattle.tml_tool.specs.Alike.{CanonicalIsAlike};
 ghost use Rattle.tml_tool.specs.Commands.{form_of, is_free, rows_of};
@@ -30,6 +31,13 @@ pub fn one_reply()
 pub fn every_question_is_answered()
     ensures next { (words : List (List ℕ)) → HasNext (rows_of (form_of words)) }
     ensures reply { (words : List (List ℕ)) → HasExactlyOneReply (rows_of (form_of words)) }
+{}
+
+/// Where a file that the words come to reading is not there, each reply is a fault of reading or out of memory; and a
+/// fault of reading is a reply only where they come to reading a file.
+pub fn missing_files_are_faults()
+    ensures missing { (words : List (List ℕ)) → MissingBreaksOff (rows_of (form_of words)) }
+    ensures read_fault { (words : List (List ℕ)) → ReadFaultHasFile (rows_of (form_of words)) }
 {}
 
 /// What commands print as evidence of a document, `verify` accepts over the same document: Done is a reply, and but for

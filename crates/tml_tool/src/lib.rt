@@ -5,9 +5,10 @@ mod commands;
 mod laws;
 mod top;
 
+pub use drill::drill_text;
 pub use laws::{
-    canonical_is_alike, every_question_is_answered, evidence_is_verified, one_reply, one_status,
-    one_text,
+    canonical_is_alike, every_question_is_answered, evidence_is_verified, missing_files_are_faults,
+    one_reply, one_status, one_text,
 };
 pub use tml_run::Status;
 pub use top::run;

@@ -8,6 +8,7 @@ pub mod OneTag
 pub mod OneTyped
 pub mod OneAnswer
 pub mod TypedOrFault
+pub mod GoodRows
 pub mod Walks
 pub mod Rising
 pub mod Pulling

@@ -1,10 +1,10 @@
 //! The attributes of one tag, read one by one.
-ghost use Rattle.std.specs.List.{list_all};
-ghost use Rattle.std.specs.Prelude.{◌≡◌, false, true, Some, None, map, IfOk, IfErr, IfSome, IsNone};
+ghost use Rattle.std.specs.List.{list_all, list_any};
+ghost use Rattle.std.specs.Prelude.{◌≡◌, [], ◌∷◌, false, true, Some, None, map, IfOk, IfErr, IfSome, IsNone};
 ghost use Rattle.tml_span.specs.View.{attribute_of};
 ghost use Rattle.tml_types.specs.Reading.{AreMissing, IsBad, IsGood, IsListed, IsMissing, IsUnlisted};
 ghost use Rattle.tml_types.specs.Reading.{IsOneOf, IsPairOf, is_bad_pair, is_conflict_pair, value_at};
-ghost use Rattle.tml_types.specs.Rules.{IsNoDate};
+ghost use Rattle.tml_types.specs.Rules.{IsNoDate, is_absent, is_unfit};
 ghost use Rattle.tml_types.specs.Typing.{IsValueOf};
 ghost use Rattle.tml_types.specs.Values as values;
 ghost use Rattle.tml_types.specs.View.{end_of, text_of};
@@ -67,6 +67,19 @@ impl<'s> Attributes<'_, 's> {
         }
     }
 
+    /// The values of two attributes that have to be there. It stands in its callers, which would else copy what it gives.
+    #[inline(always)]
+    pub fn both_required(
+        &self,
+        name: &[u8],
+        other: &[u8],
+    ) -> Result<(&'s [u8], &'s [u8]), TypeFault>
+        ensures values { IfOk result (λ both. (value_at name.now self.now ≡ Some both.0.now) × (value_at other.now self.now ≡ Some both.1.now)) }
+        ensures missing { IfErr result (λ e. (e ≡ faults.MissingAttribute self.now.place) × (list_any is_absent (value_at name.now self.now ∷ value_at other.now self.now ∷ []) ≡ true)) }
+    {
+        Ok((self.required(name)?, self.required(other)?))
+    }
+
     /// The values of two attributes, of which one has to be there.
     pub fn either(&self, instance: &[u8], time: &[u8]) -> Result<Pair<'s>, TypeFault>
         ensures pair { IfOk result (λ p. IsPairOf self.now instance.now time.now p) }
@@ -103,6 +116,22 @@ impl<'s> Attributes<'_, 's> {
         }
     }
 
+    /// The identifiers that are the values of two attributes, where they are there. It stands in its callers.
+    #[inline(always)]
+    pub fn optional_identifiers(
+        &self,
+        name: &[u8],
+        other: &[u8],
+    ) -> Result<(Option<&'s [u8]>, Option<&'s [u8]>), TypeFault>
+        ensures good { IfOk result (λ both. IsGood values.is_identifier (value_at name.now self.now) (text_of both.0) × IsGood values.is_identifier (value_at other.now self.now) (text_of both.1)) }
+        ensures bad { IfErr result (λ e. (e ≡ faults.BadValue self.now.place) × (list_any (is_unfit values.is_identifier) (value_at name.now self.now ∷ value_at other.now self.now ∷ []) ≡ true)) }
+    {
+        Ok((
+            self.optional_identifier(name)?,
+            self.optional_identifier(other)?,
+        ))
+    }
+
     /// A pair whose values are identifiers.
     pub fn identifiers(&self, pair: Pair<'s>) -> Result<(), TypeFault>
         ensures good { IfOk result (λ u. is_bad_pair pair.entry ≡ false) }
@@ -116,6 +145,22 @@ impl<'s> Attributes<'_, 's> {
             Ok(())
         } else {
             Err(TypeFault::BadValue { place: self.place })
+        }
+    }
+
+    /// The ends of a link, where one attribute of each pair is there. It stands in its callers.
+    #[inline(always)]
+    pub fn ends(
+        &self,
+        left: Pair<'s>,
+        right: Pair<'s>,
+    ) -> Result<(LinkEnd<'s>, LinkEnd<'s>), TypeFault>
+        ensures ends { IfOk result (λ both. IsOneOf left.entry (end_of both.0) × IsOneOf right.entry (end_of both.1)) }
+        ensures conflict { IfErr result (λ e. (e ≡ faults.Conflict self.now.place) × (list_any is_conflict_pair (left.entry ∷ right.entry ∷ []) ≡ true)) }
+    {
+        match (left.one(), right.one()) {
+            (Some(left), Some(right)) => Ok((left, right)),
+            _ => Err(TypeFault::Conflict { place: self.place }),
         }
     }
 

@@ -25,8 +25,7 @@ fn event<'s>(of: &Attributes<'_, 's>) -> Result<TypedTag<'s>, TypeFault>
     ensures ok { IfOk result (λ t. Reads tag.Event (attrs_of of.now) of.now.place (typed_of t)) }
     ensures err { IfErr result (λ e. Refuses tag.Event (attrs_of of.now) of.now.place e) }
 {
-    let eid = of.required(b"eid")?;
-    let class = of.required(b"class")?;
+    let (eid, class) = of.both_required(b"eid", b"class")?;
 
     let eid = of.identifier(eid)?;
     let class: EventClass = of.listed(class)?;
@@ -42,8 +41,7 @@ fn instance<'s>(of: &Attributes<'_, 's>) -> Result<TypedTag<'s>, TypeFault>
     ensures ok { IfOk result (λ t. Reads tag.MakeInstance (attrs_of of.now) of.now.place (typed_of t)) }
     ensures err { IfErr result (λ e. Refuses tag.MakeInstance (attrs_of of.now) of.now.place e) }
 {
-    let eiid = of.required(b"eiid")?;
-    let event = of.required(b"eventID")?;
+    let (eiid, event) = of.both_required(b"eiid", b"eventID")?;
 
     let eiid = of.identifier(eiid)?;
     let event = of.identifier(event)?;
@@ -64,8 +62,7 @@ fn timex<'s>(of: &Attributes<'_, 's>) -> Result<TypedTag<'s>, TypeFault>
     ensures ok { IfOk result (λ t. Reads tag.Timex3 (attrs_of of.now) of.now.place (typed_of t)) }
     ensures err { IfErr result (λ e. Refuses tag.Timex3 (attrs_of of.now) of.now.place e) }
 {
-    let tid = of.required(b"tid")?;
-    let kind = of.required(b"type")?;
+    let (tid, kind) = of.both_required(b"tid", b"type")?;
 
     let tid = of.identifier(tid)?;
     let kind: TimexKind = of.listed(kind)?;
@@ -73,8 +70,7 @@ fn timex<'s>(of: &Attributes<'_, 's>) -> Result<TypedTag<'s>, TypeFault>
     let function = of.optional_listed(b"functionInDocument")?;
     let temporal = of.optional_truth(b"temporalFunction")?;
     let anchor = of.optional_identifier(b"anchorTimeID")?;
-    let begin = of.optional_identifier(b"beginPoint")?;
-    let finish = of.optional_identifier(b"endPoint")?;
+    let (begin, finish) = of.optional_identifiers(b"beginPoint", b"endPoint")?;
 
     let value = of.optional_value(b"value")?;
     Ok(TypedTag::Timex {
@@ -117,15 +113,9 @@ fn tlink<'s>(of: &Attributes<'_, 's>) -> Result<TypedTag<'s>, TypeFault>
     let rel: Rel = of.listed(rel)?;
     of.identifiers(left)?;
     of.identifiers(right)?;
-    let lid = of.optional_identifier(b"lid")?;
-    let signal = of.optional_identifier(b"signalID")?;
+    let (lid, signal) = of.optional_identifiers(b"lid", b"signalID")?;
 
-    let Some(left) = left.one() else {
-        return Err(TypeFault::Conflict { place: of.place });
-    };
-    let Some(right) = right.one() else {
-        return Err(TypeFault::Conflict { place: of.place });
-    };
+    let (left, right) = of.ends(left, right)?;
     Ok(TypedTag::Tlink {
         place: of.place,
         lid,
@@ -142,19 +132,19 @@ fn alink<'s>(of: &Attributes<'_, 's>) -> Result<TypedTag<'s>, TypeFault>
     ensures err { IfErr result (λ e. Refuses tag.Alink (attrs_of of.now) of.now.place e) }
 {
     let event = of.required(b"eventInstanceID")?;
-    let related = of.required(b"relatedToEventInstance")?;
-    let rel = of.required(b"relType")?;
+    let (related, rel) = of.both_required(b"relatedToEventInstance", b"relType")?;
 
     let event = of.identifier(event)?;
     let related = of.identifier(related)?;
     let rel: AspectRel = of.listed(rel)?;
+    let (lid, signal) = of.optional_identifiers(b"lid", b"signalID")?;
     Ok(TypedTag::Alink {
         place: of.place,
+        lid,
+        signal,
         event,
         related,
         rel,
-        lid: of.optional_identifier(b"lid")?,
-        signal: of.optional_identifier(b"signalID")?,
     })
 }
 
@@ -163,18 +153,19 @@ fn slink<'s>(of: &Attributes<'_, 's>) -> Result<TypedTag<'s>, TypeFault>
     ensures ok { IfOk result (λ t. Reads tag.Slink (attrs_of of.now) of.now.place (typed_of t)) }
     ensures err { IfErr result (λ e. Refuses tag.Slink (attrs_of of.now) of.now.place e) }
 {
-    let subordinated = of.required(b"subordinatedEventInstance")?;
-    let rel = of.required(b"relType")?;
+    let (subordinated, rel) = of.both_required(b"subordinatedEventInstance", b"relType")?;
 
     let subordinated = of.identifier(subordinated)?;
     let rel: SubRel = of.listed(rel)?;
+    let event = of.optional_identifier(b"eventInstanceID")?;
+    let (lid, signal) = of.optional_identifiers(b"lid", b"signalID")?;
     Ok(TypedTag::Slink {
         place: of.place,
+        lid,
+        signal,
+        event,
         subordinated,
         rel,
-        event: of.optional_identifier(b"eventInstanceID")?,
-        lid: of.optional_identifier(b"lid")?,
-        signal: of.optional_identifier(b"signalID")?,
     })
 }
 

@@ -209,7 +209,7 @@ const NETS: [([Bounds; 3], [Rel; 2]); 10] = [
 ];
 
 /// The steps are joined from one point to another, one of them strictly where that is asked for.
-pub fn joins(
+fn joins(
     rt: &(impl Abort + AllocGlobal),
     net: &Net,
     steps: &[Step],

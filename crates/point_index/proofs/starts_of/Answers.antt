@@ -4,11 +4,11 @@ use Rattle.point_index.proofs.Starts.{IsCut, AreCuts, cuts_are_starts, no_cuts, 
 use Rattle.point_index.proofs.starts_of.Goals as goal
 
 pub loop-point-init : goal.loop-point-init
-loop-point-init g c = record { end = refl; cuts = no_cuts g.T.OfPoint.point_of c.args.items.now c.new-starts.result.items c.new-starts.ensures.items }
+loop-point-init g c = record { end = refl; cuts = no_cuts (g.P.PointOf.point_of c.args.by) c.args.items.now c.new-starts.result.items c.new-starts.ensures.items }
 
 pub loop-point-preserved : goal.loop-point-preserved
 loop-point-preserved g c =
-    let key = g.T.OfPoint.point_of in
+    let key = g.P.PointOf.point_of c.args.by in
     let items = c.args.items.now in
     let point = c.loop-point.point-counter in
     let place = c.partition_point-start.result in
@@ -24,6 +24,6 @@ returns-clause-size g c = omega (arith, c.loop-point.invariant.cuts.size, c.loop
 
 pub returns-clause-starts : goal.returns-clause-starts
 returns-clause-starts g c =
-    let key = g.T.OfPoint.point_of in
+    let key = g.P.PointOf.point_of c.args.by in
     let all : c.loop-point.point-counter ≡ c.args.points + 1 = omega (arith, c.loop-point-test.false, c.loop-point.auto.point-counter-end) in
     cuts_are_starts key c.args.items.now c.args.points c.loop-point.starts.items (subst (λ (n : ℕ). AreCuts key c.args.items.now n c.loop-point.starts.items) all c.loop-point.invariant.cuts)

@@ -6,5 +6,5 @@ use Rattle.point_index.proofs.starts_of.Given as goal
 abbrev pub invariant-loop-point : goal.invariant-loop-point
 invariant-loop-point g l = record {
   end : l.point-end ≡ l.points + 1;
-  cuts : AreCuts g.T.OfPoint.point_of l.items l.point-counter l.starts.items;
+  cuts : AreCuts (g.P.PointOf.point_of l.by) l.items l.point-counter l.starts.items;
 }

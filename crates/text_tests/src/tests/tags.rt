@@ -17,6 +17,107 @@ const DOC: &[u8] = b"<TimeML>
 <SLINK subordinatedEventInstance='i2' signalID='s1' relType='INTENSIONAL'/>
 </TimeML>";
 
+fn is_wanted_event(tag: &TypedTag<'_>) -> bool {
+    matches!(
+        *tag,
+        TypedTag::Event {
+            place: 9,
+            eid: b"e1",
+            class: EventClass::IState
+        }
+    )
+}
+
+fn is_wanted_whole(tag: &TypedTag<'_>) -> bool {
+    matches!(
+        *tag,
+        TypedTag::Instance {
+            eiid: b"i1",
+            event: b"e1",
+            signal: Some(b"s1"),
+            tense: Some(Tense::Past),
+            aspect: Some(Aspect::NoAspect),
+            pos: Some(Pos::Verb),
+            polarity: Some(Polarity::Negative),
+            ..
+        }
+    )
+}
+
+fn is_wanted_bare(tag: &TypedTag<'_>) -> bool {
+    matches!(
+        *tag,
+        TypedTag::Instance {
+            signal: None,
+            tense: None,
+            aspect: None,
+            pos: None,
+            polarity: None,
+            ..
+        }
+    )
+}
+
+fn is_wanted_timex(tag: &TypedTag<'_>) -> bool {
+    matches!(
+        *tag,
+        TypedTag::Timex {
+            tid: b"t1",
+            kind: TimexKind::Date,
+            value: Some(Value::Other),
+            modifier: Some(Modifier::Mid),
+            function: Some(DocFunction::NoFunction),
+            temporal: Some(false),
+            anchor: Some(b"t0"),
+            begin: Some(b"t2"),
+            finish: Some(b"t3"),
+            ..
+        }
+    )
+}
+
+fn is_wanted_tlink(tag: &TypedTag<'_>) -> bool {
+    matches!(
+        *tag,
+        TypedTag::Tlink {
+            lid: Some(b"l1"),
+            signal: Some(b"s1"),
+            left: LinkEnd::Time(b"t1"),
+            rel: Rel::Ends,
+            right: LinkEnd::Instance(b"i1"),
+            ..
+        }
+    )
+}
+
+fn is_wanted_alink(tag: &TypedTag<'_>) -> bool {
+    matches!(
+        *tag,
+        TypedTag::Alink {
+            lid: Some(b"l2"),
+            signal: None,
+            event: b"i1",
+            related: b"i2",
+            rel: AspectRel::Reinitiates,
+            ..
+        }
+    )
+}
+
+fn is_wanted_slink(tag: &TypedTag<'_>) -> bool {
+    matches!(
+        *tag,
+        TypedTag::Slink {
+            lid: None,
+            signal: Some(b"s1"),
+            event: None,
+            subordinated: b"i2",
+            rel: SubRel::Intensional,
+            ..
+        }
+    )
+}
+
 #[test]
 fn typed_tags_carry_their_attributes(rt: HostRuntime) {
     let tree = tree_of(&rt, DOC);
@@ -26,98 +127,11 @@ fn typed_tags_carry_their_attributes(rt: HostRuntime) {
     let [event, whole, bare, timex, tlink, alink, slink] = typed.as_slice() else {
         panic!(&rt; "not seven typed tags");
     };
-    assert!(&rt;
-        matches!(
-            *event,
-            TypedTag::Event {
-                place: 9,
-                eid: b"e1",
-                class: EventClass::IState
-            }
-        )
-    );
-    assert!(&rt;
-        matches!(
-            *whole,
-            TypedTag::Instance {
-                eiid: b"i1",
-                event: b"e1",
-                signal: Some(b"s1"),
-                tense: Some(Tense::Past),
-                aspect: Some(Aspect::NoAspect),
-                pos: Some(Pos::Verb),
-                polarity: Some(Polarity::Negative),
-                ..
-            }
-        )
-    );
-    assert!(&rt;
-        matches!(
-            *bare,
-            TypedTag::Instance {
-                signal: None,
-                tense: None,
-                aspect: None,
-                pos: None,
-                polarity: None,
-                ..
-            }
-        )
-    );
-    assert!(&rt;
-        matches!(
-            *timex,
-            TypedTag::Timex {
-                tid: b"t1",
-                kind: TimexKind::Date,
-                value: Some(Value::Other),
-                modifier: Some(Modifier::Mid),
-                function: Some(DocFunction::NoFunction),
-                temporal: Some(false),
-                anchor: Some(b"t0"),
-                begin: Some(b"t2"),
-                finish: Some(b"t3"),
-                ..
-            }
-        )
-    );
-    assert!(&rt;
-        matches!(
-            *tlink,
-            TypedTag::Tlink {
-                lid: Some(b"l1"),
-                signal: Some(b"s1"),
-                left: LinkEnd::Time(b"t1"),
-                rel: Rel::Ends,
-                right: LinkEnd::Instance(b"i1"),
-                ..
-            }
-        )
-    );
-    assert!(&rt;
-        matches!(
-            *alink,
-            TypedTag::Alink {
-                lid: Some(b"l2"),
-                signal: None,
-                event: b"i1",
-                related: b"i2",
-                rel: AspectRel::Reinitiates,
-                ..
-            }
-        )
-    );
-    assert!(&rt;
-        matches!(
-            *slink,
-            TypedTag::Slink {
-                lid: None,
-                signal: Some(b"s1"),
-                event: None,
-                subordinated: b"i2",
-                rel: SubRel::Intensional,
-                ..
-            }
-        )
-    );
+    assert!(&rt; is_wanted_event(event));
+    assert!(&rt; is_wanted_whole(whole));
+    assert!(&rt; is_wanted_bare(bare));
+    assert!(&rt; is_wanted_timex(timex));
+    assert!(&rt; is_wanted_tlink(tlink));
+    assert!(&rt; is_wanted_alink(alink));
+    assert!(&rt; is_wanted_slink(slink));
 }

@@ -118,25 +118,49 @@ fn fields_stand_after_an_x(rt: HostRuntime) {
     assert_eq!(rt; Year::Unknown.range(), (1, 9999));
 }
 
+fn decade_of(text: &[u8]) -> Option<u16> {
+    match fields_of(text) {
+        Some((Year::Decade(decade), _)) => Some(decade),
+        _ => None,
+    }
+}
+
+fn century_of(text: &[u8]) -> Option<u16> {
+    match fields_of(text) {
+        Some((Year::Century(century), _)) => Some(century),
+        _ => None,
+    }
+}
+
 #[test]
 fn decades_and_centuries_have_their_digits(rt: HostRuntime) {
-    for text in [b"199".as_slice(), b"000", b"999"] {
-        assert!(rt; matches!(fields_of(text), Some((Year::Decade(_), Shape::Decade))));
+    let decades: [(&[u8], u16); 4] = [(b"199", 199), (b"000", 0), (b"999", 999), (b"199X", 199)];
+    for (text, decade) in decades {
+        assert_eq!(rt; decade_of(text), Some(decade));
     }
-    for text in [b"19".as_slice(), b"00", b"99"] {
-        assert!(rt; matches!(fields_of(text), Some((Year::Century(_), Shape::Century))));
+    let centuries: [(&[u8], u16); 4] = [(b"19", 19), (b"00", 0), (b"99", 99), (b"19XX", 19)];
+    for (text, century) in centuries {
+        assert_eq!(rt; century_of(text), Some(century));
     }
-    assert!(rt; matches!(fields_of(b"199"), Some((Year::Decade(199), _))));
-    assert!(rt; matches!(fields_of(b"19"), Some((Year::Century(19), _))));
-    assert!(rt; matches!(fields_of(b"199X"), Some((Year::Decade(199), Shape::Year))));
-    assert!(rt; matches!(fields_of(b"19XX"), Some((Year::Century(19), Shape::Year))));
-    assert_eq!(rt; Year::Decade(0).range(), (1, 9));
-    assert_eq!(rt; Year::Century(0).range(), (1, 99));
-    assert_eq!(rt; Year::Century(19).range(), (1900, 1999));
+}
+
+#[test]
+fn what_has_an_x_or_other_digits_is_no_decade_or_century(rt: HostRuntime) {
     let others: [&[u8]; 8] = [b"XX", b"XXX", b"1X", b"X1", b"19X", b"1X9", b"X", b"1"];
     for text in others {
         assert!(rt; matches!(read_value(text), Ok(Value::Other)));
     }
+}
+
+#[test]
+fn decades_and_centuries_have_their_shapes_and_years(rt: HostRuntime) {
+    assert!(rt; matches!(fields_of(b"199"), Some((_, Shape::Decade))));
+    assert!(rt; matches!(fields_of(b"19"), Some((_, Shape::Century))));
+    assert!(rt; matches!(fields_of(b"199X"), Some((_, Shape::Year))));
+    assert!(rt; matches!(fields_of(b"19XX"), Some((_, Shape::Year))));
+    assert_eq!(rt; Year::Decade(0).range(), (1, 9));
+    assert_eq!(rt; Year::Century(0).range(), (1, 99));
+    assert_eq!(rt; Year::Century(19).range(), (1900, 1999));
 }
 
 #[test]

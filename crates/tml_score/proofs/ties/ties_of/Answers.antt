@@ -10,29 +10,29 @@ use Rattle.tml_score.proofs.ties.ties_of.Goals as goal
 use Rattle.tml_score.proofs.ties.ties_of.Goals.{else-not-apart-via-then-not-apart+else-is_err, else-not-apart-via-else-not-apart}
 
 -- the orders that are gone over are all orders of the net
-are_orders : (basis : Basis) (items : List Order) → items ≡ basis.graph.onward.orders → AreOrders basis items
-are_orders basis items same = subst (All (Contains basis.graph.onward.orders)) (sym same) (All-contains_itself basis.graph.onward.orders)
+are_orders : (basis : Basis) (items : List Order) → items ≡ basis.graph.onward.items → AreOrders basis items
+are_orders basis items same = subst (All (Contains basis.graph.onward.items)) (sym same) (All-contains_itself basis.graph.onward.items)
 
 pub cell-requires-clause-i : goal.cell-requires-clause-i
 cell-requires-clause-i c =
     let basis = basis_of c.args.kept.now in
-    let items = c.orders-order-items.result.now in
-    let range = range_at basis c.requires items c.loop-order.order-index (are_orders basis items c.orders-order-items.ensures) c.loop-order-test.true in
+    let items = c.items-order-items.result.now in
+    let range = range_at basis c.requires items c.loop-order.order-index (are_orders basis items c.items-order-items.ensures) c.loop-order-test.true in
     omega (arith, range.1, c.requires.closure.size)
 
 pub cell-requires-clause-j : goal.cell-requires-clause-j
 cell-requires-clause-j c =
     let basis = basis_of c.args.kept.now in
-    let items = c.orders-order-items.result.now in
-    let range = range_at basis c.requires items c.loop-order.order-index (are_orders basis items c.orders-order-items.ensures) c.loop-order-test.true in
+    let items = c.items-order-items.result.now in
+    let range = range_at basis c.requires items c.loop-order.order-index (are_orders basis items c.items-order-items.ensures) c.loop-order-test.true in
     omega (arith, range.0, c.requires.closure.size)
 
 pub loop-order-preserved : goal.loop-order-preserved
 loop-order-preserved c =
-    let orders = c.args.kept.now.graph.now.onward.orders in
-    let items = c.orders-order-items.result.now in
+    let orders = c.args.kept.now.graph.now.onward.items in
+    let items = c.items-order-items.result.now in
     let o = slice_index_or items c.loop-order.order-index no_order in
-    let all = are_orders (basis_of c.args.kept.now) items c.orders-order-items.ensures in
+    let all = are_orders (basis_of c.args.kept.now) items c.items-order-items.ensures in
     let among : Contains orders o = All-get_or (Contains orders) items c.loop-order.order-index no_order c.loop-order-test.true all in
     elim c.else-not-apart.branch [
       | else-not-apart-via-then-not-apart+else-is_err w ↦

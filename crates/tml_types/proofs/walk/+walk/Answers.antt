@@ -1,4 +1,5 @@
-use Rattle.std.proofs.Common.{◌∷◌, [], ◌++◌, map, refl, ◌∙◌}
+use Rattle.std.proofs.Common.{◌∷◌, [], ◌++◌, map, refl, ◌∙◌, arith}
+use Rattle.std.proofs.lemmas.Grind.{common_steps}
 use Rattle.std.proofs.lemmas.List.Elements.{All-nil}
 use Rattle.std.proofs.lemmas.Result.{err_from_is_err_and}
 use Rattle.tml_span.specs.View.{attribute_of}
@@ -43,3 +44,6 @@ type_tag-loop-child-preserved t c =
       next_child at.0 c.deref-child-items.result.now c.loop-child.child-index c.child-item.result _ c.loop-child-test.true c.child-item.is at.1,
       adds_more at.0 inside _ _ _ at.2 c.in_ok-type_node.ensures.ok,
     )
+
+pub type_tag-returns-clause-ok : goal.type_tag-returns-clause-ok
+type_tag-returns-clause-ok t c = grind (arith, common_steps)

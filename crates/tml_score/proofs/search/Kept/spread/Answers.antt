@@ -1,28 +1,26 @@
-use Rattle.std.proofs.Common.{◌≡◌, ◌+◌, ◌<◌, Ok, ℕ, Bool, true, false, None, get_or, slice_index, sym, subst, ◌∙◌, arith}
+use Rattle.std.proofs.Common.{◌≡◌, ◌+◌, ◌<◌, Ok, ℕ, Bool, true, false, get_or, slice_index, sym, subst, ◌∙◌, arith}
 use Rattle.std.specs.List.{Contains}
 use Rattle.std.proofs.lemmas.List.Elements.{All-get_or, Contains-get_or}
 use Rattle.clash.specs.declared.orders.Order.{Order}
 use Rattle.tml_score.specs.Reached.{PlainReached}
 use Rattle.tml_score.specs.Search.{Extends, GoesOn, IsLed, IsPassed, IsSearch, IsThrough, IsWay, basis_of, remains}
-use Rattle.tml_score.proofs.GraphLaws.{leaving}
+use Rattle.tml_score.specs.Tree.{no_order}
+use Rattle.tml_score.specs.declared.ends.End.TheVariants.{From}
+use Rattle.tml_score.proofs.GraphLaws.{at_end}
 use Rattle.tml_score.proofs.Spreading.{extends_none, extends_then, marked_link, passed_one}
 use Rattle.tml_score.proofs.search.Kept.spread.Goals as goal
 use Rattle.tml_score.proofs.search.Kept.spread.Goals.{else-remains-via-then-remains+in_ok-take+else-branch, else-remains-via-else-remains}
-
--- what is read past the end of the orders
-abbrev no_order : Order
-no_order = record { atom = record { from = 0; to = 0; strict = false }; link = None }
 
 pub of_point-order-items-requires : goal.of_point-order-items-requires
 of_point-order-items-requires c = omega (arith, c.point-point.ensures.room, c.requires.search.room, c.requires.ready.graph.onward_points)
 
 -- the order of this turn is one of the graph, and leaves the point
 here : (c : goal.In-loop-order) → let o = get_or c.of_point-order-items.result.now c.loop-order.order-index no_order in
-    Contains c.args.self.now.graph.now.onward.orders o × (o.atom.from ≡ c.point-point.result)
+    Contains c.args.self.now.graph.now.onward.items o × (o.atom.from ≡ c.point-point.result)
 here c =
     let items = c.of_point-order-items.result.now in
     let o = get_or items c.loop-order.order-index no_order in
-    (leaving c.args.self.now.net.now c.args.self.now.graph.now c.requires.ready.graph c.of_point-order-items.result.now c.point-point.result c.of_point-order-items.ensures o).0 (Contains-get_or items c.loop-order.order-index no_order c.loop-order-test.true)
+    (at_end c.args.self.now.net.now c.args.self.now.graph.now c.requires.ready.graph From c.of_point-order-items.result.now c.point-point.result c.of_point-order-items.ensures o).0 (Contains-get_or items c.loop-order.order-index no_order c.loop-order-test.true)
 
 pub remains-requires : goal.remains-requires
 remains-requires c =
@@ -34,7 +32,7 @@ take-requires c =
     let basis = basis_of c.args.self.now in
     let items = c.of_point-order-items.result.now in
     let o = get_or items c.loop-order.order-index no_order in
-    let both = (leaving c.args.self.now.net.now c.args.self.now.graph.now c.requires.ready.graph c.of_point-order-items.result.now c.point-point.result c.of_point-order-items.ensures o).0 (Contains-get_or items c.loop-order.order-index no_order c.loop-order-test.true) in
+    let both = (at_end c.args.self.now.net.now c.args.self.now.graph.now c.requires.ready.graph From c.of_point-order-items.result.now c.point-point.result c.of_point-order-items.ensures o).0 (Contains-get_or items c.loop-order.order-index no_order c.loop-order-test.true) in
     let from : o.atom.from ≡ slice_index c.args.reached.now.points c.args.turn = both.1 ∙ c.point-point.ensures.point in
     let through = All-get_or (IsThrough basis c.args.asked) c.args.reached.now.points c.args.turn 0 c.requires.turn c.requires.search.through in
     record {
@@ -92,6 +90,6 @@ returns c =
       was.search,
       was.extends,
       λ o way from.
-          let (k, lt, e) = (leaving c.args.self.now.net.now c.args.self.now.graph.now c.requires.ready.graph c.of_point-order-items.result.now c.point-point.result c.of_point-order-items.ensures o).1 (way.0, from ∙ sym c.point-point.ensures.point) in
+          let (k, lt, e) = (at_end c.args.self.now.net.now c.args.self.now.graph.now c.requires.ready.graph From c.of_point-order-items.result.now c.point-point.result c.of_point-order-items.ensures o).1 (way.0, from ∙ sym c.point-point.ensures.point) in
           subst (IsPassed basis c.args.asked c.loop-order.reached.points) e (was.passed k o (omega (arith, lt, c.loop-order-test.false)) (subst (IsWay basis c.args.asked) (sym e) way)),
     )

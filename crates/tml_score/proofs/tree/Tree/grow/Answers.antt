@@ -9,4 +9,4 @@ use Rattle.tml_score.proofs.tree.Tree.grow.Goals as goal
 pub reach-requires-clause-order : goal.reach-requires-clause-order
 reach-requires-clause-order c =
     let items = c.deref-order-items.result.now in
-    All-get_or (Contains c.args.kept.now.graph.now.onward.orders) items c.loop-order.order-index no_order c.loop-order-test.true (subst (AreOrders (basis_of c.args.kept.now)) (sym c.deref-order-items.ensures.value) c.requires.ties.orders)
+    All-get_or (Contains c.args.kept.now.graph.now.onward.items) items c.loop-order.order-index no_order c.loop-order-test.true (subst (AreOrders (basis_of c.args.kept.now)) (sym c.deref-order-items.ensures.value) c.requires.ties.orders)

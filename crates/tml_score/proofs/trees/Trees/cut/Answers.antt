@@ -1,4 +1,4 @@
-use Rattle.tml_score.specs.declared.by_point.End.TheVariants.{From, To}
+use Rattle.tml_score.specs.declared.ends.End.TheVariants.{From, To}
 use Rattle.tml_score.proofs.TreeLaws.{ties_without}
 use Rattle.tml_score.proofs.trees.Trees.cut.Goals as goal
 

@@ -1,0 +1,20 @@
+-- The ends of an order.
+use Rattle.std.specs.Prelude.{ℕ}
+use Rattle.clash.specs.declared.orders.Order.{Order}
+use Rattle.tml_score.specs.declared.ends.End.{End}
+use Rattle.tml_score.specs.declared.ends.End.TheVariants.{From, To}
+
+-- the point at an end of an order
+abbrev pub end_of : End → Order → ℕ
+end_of From order = order.atom.from
+end_of To order = order.atom.to
+
+-- the point at the other end
+abbrev pub far_end_of : End → Order → ℕ
+far_end_of From order = order.atom.to
+far_end_of To order = order.atom.from
+
+-- the other end
+abbrev pub opposite : End → End
+opposite From = To
+opposite To = From
