@@ -1,4 +1,4 @@
-"""Whether a document is accepted: *Acceptance* of the section *The answer* of docs/DEFINITIONS.md."""
+"""Whether a document is accepted: the section *Acceptance* of docs/DEFINITIONS.md."""
 
 from __future__ import annotations
 

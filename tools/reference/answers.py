@@ -1,4 +1,4 @@
-"""What comes next in each command, and the texts of answers: the section *The answer* of docs/DEFINITIONS.md."""
+"""What comes next in each command, and the texts of answers: docs/COMMANDS.md."""
 
 from __future__ import annotations
 

@@ -1,4 +1,4 @@
-"""What is right for a run to answer: the section *The answer* of docs/DEFINITIONS.md, as a differential tester asks it."""
+"""What is right for a run to answer: docs/COMMANDS.md, as a differential tester asks it."""
 
 from __future__ import annotations
 

@@ -1,4 +1,4 @@
-"""The pages `docs/PROVED.md` and `docs/CHECKER.md`: that what they cite of the crates is there.
+"""The pages `docs/COMMANDS.md`, `docs/PROVED.md` and `docs/CHECKER.md`: that what they cite of the crates is there.
 
 Clauses are cited as "`function`: `clause` in `crate/src/file.rt`", where a function alone stands for its clause without a name;
 definitions as "`crate/specs/File`: `name`", and whole files of them as "`crate/specs`: `File`"; laws as "law `function` of `crate`", and
@@ -16,7 +16,7 @@ from pathlib import Path
 from corpus import TOP
 
 CRATES = Path(TOP, "crates")
-PAGES = {name: Path(TOP, "docs", name).read_text(encoding="utf-8") for name in ("PROVED.md", "CHECKER.md")}
+PAGES = {name: Path(TOP, "docs", name).read_text(encoding="utf-8") for name in ("COMMANDS.md", "PROVED.md", "CHECKER.md")}
 
 NAMES = r"`[\w:]+`(?:(?:, | and )`[\w:]+`)*"
 CALL = rf"{NAMES}(?:: {NAMES})?"
@@ -296,10 +296,13 @@ class Pages(unittest.TestCase):
                 self.assertEqual(with_lines(name, Citations(page).wrong), [])
 
     def test_each_row_of_what_is_proved_has_a_citation(self):
-        tables = re.findall(r"^\|.*\n\|---.*\n((?:\|.*\n)+)", PAGES["PROVED.md"], re.MULTILINE)
-        rows = [row for table in tables for row in table.splitlines()]
-        self.assertGreater(len(rows), 200)
-        self.assertEqual(len(Citations(PAGES["PROVED.md"]).rows), len(rows))
+        count = 0
+        for name, head in (("PROVED.md", ""), ("COMMANDS.md", r"\| definition \|")):
+            tables = re.findall(rf"^\|.*{head}\n\|---.*\n((?:\|.*\n)+)", PAGES[name], re.MULTILINE)
+            rows = [row for table in tables for row in table.splitlines()]
+            self.assertEqual(len(Citations(PAGES[name]).rows), len(rows), name)
+            count += len(rows)
+        self.assertGreater(count, 200)
 
     def test_names_of_the_checker_are_clear(self):
         self.assertEqual(with_lines("CHECKER.md", Citations(PAGES["CHECKER.md"]).unclear()), [])

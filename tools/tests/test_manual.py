@@ -42,8 +42,8 @@ class OfTheProgram(unittest.TestCase):
         items = re.findall(r"^\.It Cm (.*)$", section("tml.1", "DESCRIPTION"), re.MULTILINE)
         self.assertEqual([item.replace(" Ar", "").split() for item in items], commands)
 
-    def test_statuses_are_those_of_the_definitions(self):
-        with open(os.path.join(TOP, "docs", "DEFINITIONS.md"), encoding="utf-8") as file:
+    def test_statuses_are_those_of_the_page_on_commands(self):
+        with open(os.path.join(TOP, "docs", "COMMANDS.md"), encoding="utf-8") as file:
             wanted = re.findall(r"^\| [A-Z]\w+ \| (\d+) \| ", file.read(), re.MULTILINE)
         self.assertEqual(wanted, [str(number) for number in range(10)])
         self.assertEqual(re.findall(r"^\.It (\d+)$", section("tml.1", "EXIT STATUS"), re.MULTILINE), wanted)

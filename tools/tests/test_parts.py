@@ -41,9 +41,9 @@ class Numbers(unittest.TestCase):
         with open(os.path.join(TOP, "docs", name), encoding="utf-8") as file:
             return file.read()
 
-    def test_are_those_of_the_definitions(self):
+    def test_are_those_of_the_commands_and_definitions(self):
         definitions = self.page("DEFINITIONS.md")
-        table = re.findall(r"^\| ([A-Z]\w+) \| (\d+) \| ", definitions, re.MULTILINE)
+        table = re.findall(r"^\| ([A-Z]\w+) \| (\d+) \| ", self.page("COMMANDS.md"), re.MULTILINE)
         self.assertEqual([(name.replace("_", "").lower(), number) for name, number in tml_statuses.TmlStatus.__members__.items()], [(a.lower(), int(b)) for a, b in table])
         names = re.findall(r"\b(\d+) ([A-Z]\w+)", re.search(r"\| phase \| faults \|\n(.*?)\n\n", definitions, re.DOTALL)[1])
         self.assertEqual([name for _, name in sorted(names, key=lambda one: int(one[0]))], list(tml_statuses.FAULT_NAMES))

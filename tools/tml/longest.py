@@ -1,6 +1,6 @@
 """How many bytes a reply of `tml` may have at most, by the forms of its lines and by what its files may have.
 
-The forms are those of docs/DEFINITIONS.md. Where it says how great a number is, the longest number stands in its place.
+The forms are those of docs/COMMANDS.md. Where it says how great a number is, the longest number stands in its place.
 """
 
 from __future__ import annotations

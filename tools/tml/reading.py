@@ -1,4 +1,4 @@
-"""From the texts that are answered to the classes of results. The texts are those that docs/DEFINITIONS.md describes."""
+"""From the texts that are answered to the classes of results. The texts are those that docs/COMMANDS.md describes."""
 
 from __future__ import annotations
 

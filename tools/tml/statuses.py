@@ -18,7 +18,7 @@ IDENTIFIER_LIMIT = 64
 
 
 class TmlStatus(IntEnum):
-    """With what `tml` ends: docs/DEFINITIONS.md has the same table."""
+    """With what `tml` ends: docs/COMMANDS.md has the same table."""
 
     DONE = 0
     DOC_FAULT = 1
