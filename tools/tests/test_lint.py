@@ -401,7 +401,7 @@ class Names(unittest.TestCase):
 
         self.assertEqual(tuple(KINDS), NAMES)
         self.assertLess(ON_DEMAND, set(NAMES))
-        for name in ("docs/RECIPES.md", "docs/tml-corpus.1"):
+        for name in ("docs/FOLDER.md", "docs/tml-corpus.1"):
             with open(os.path.join(TOP, name), encoding="utf-8") as file:
                 page = file.read()
             for kind in KINDS:

@@ -17,7 +17,7 @@ from dataclasses import dataclass, field
 
 from corpus import TML, TOP
 
-PAGES = ("README.md", "docs/AGREEMENT.md", "docs/CLASHES.md", "docs/CORPORA.md", "docs/RECIPES.md", "docs/TOUR.md")
+PAGES = ("README.md", *(f"docs/{name}.md" for name in ("AGREEMENT", "CLASHES", "CORPORA", "FOLDER", "QUESTIONS", "TOUR")))
 NEEDED = ("perl", "iconv", "make", "xmllint", "sha256sum", "diff", "git")
 MARK = "the-end-of-command"
 
