@@ -5,7 +5,7 @@ A body that always answers 'out of memory' is proved like any other. What exclud
 question of another program whose output is compared. This script reads the sources: which functions are public, what they
 return, and which functions they call. It goes by names, so it finds what can make a call.
 
-usage: tools/tests/memory_calls.py            prints the table for docs/TESTING.md
+usage: tools/tests/memory_calls.py            prints the table of memory_calls.md
        tools/tests/memory_calls.py --write    writes it there
 """
 
@@ -21,7 +21,7 @@ from pathlib import Path
 
 TOP = Path(__file__).resolve().parents[2]
 CRATES = TOP / "crates"
-PAGE = TOP / "docs" / "TESTING.md"
+PAGE = TOP / "tools" / "tests" / "memory_calls.md"
 HEAD = "| crate | call | shown by |\n|---|---|---|\n"
 
 OUT_OF_MEMORY = {"Memory", "NoMemory", "AllocError", "AllocFailed", "Fault"}
@@ -258,7 +258,7 @@ def commands(graph: Graph) -> Iterator[tuple[str, set[Function]]]:
 
 
 def table() -> str:
-    """The table of TESTING.md: a line for the calls of a crate that one thing shows.
+    """The table of memory_calls.md: a line for the calls of a crate that one thing shows.
 
     Raises LookupError where nothing reaches a call.
     """
