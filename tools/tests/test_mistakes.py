@@ -1,8 +1,9 @@
-"""The table of slips in docs/FAULTS.md: of each the first line that is printed, and that nothing else is reported."""
+"""The tables of slips in docs/FAULTS.md and mistakes.md: of each the first line that is printed, and that nothing else is reported."""
 
 import os
 import re
 import unittest
+from pathlib import Path
 
 from corpus import TOP, CorpusTest
 
@@ -12,9 +13,10 @@ ROW = re.compile(rf"\| {CODE} \| {CODE} \| {CODE} \|")
 
 def rows():
     """The rows: what was replaced, by what, and the line."""
-    with open(os.path.join(TOP, "docs", "FAULTS.md"), encoding="utf-8") as file:
-        section = file.read().split("\n## Slips, and the line that is printed\n")[1].split("\n## ")[0]
-    lines = [line for line in section.splitlines() if line.startswith("| ")][1:]
+    page = Path(TOP, "docs", "FAULTS.md").read_text(encoding="utf-8").split("\n## Slips, and the line that is printed\n")[1].split("\n## ")[0]
+    further = Path(TOP, "tools", "tests", "mistakes.md").read_text(encoding="utf-8")
+    tables = [[line for line in text.splitlines() if line.startswith("| ")][1:] for text in (page, further)]
+    lines = [line for table in tables for line in table]
     found = [ROW.fullmatch(line) for line in lines]
     assert None not in found, lines[found.index(None)]
     return [tuple(one[2 * number - 1] or one[2 * number] or "" for number in (1, 2, 3)) for one in found]
