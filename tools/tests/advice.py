@@ -3,7 +3,7 @@
 A slip is made in a clean document, and what is printed first of it is done, again and again: by what `fix` does, or where `fix` leaves it by
 the words of the sentence. At each step the document has to be the clean one, or something has still to be reported of it.
 
-`python3 tools/tests/advice.py 5000 7` makes so many slips, with the seed 7, and prints what came of each kind.
+`python3 tools/tests/advice.py 5000 7` makes so many slips, with the seed 7, and prints what came of each group of kinds and of each kind.
 """
 
 from __future__ import annotations
@@ -20,7 +20,7 @@ from random import Random
 sys.path.insert(0, os.path.dirname(os.path.dirname(os.path.abspath(__file__))))
 
 from reference import expected
-from slips import SLIPS, Slip
+from slips import GROUPS, SLIPS, Slip
 from stories import Story
 from tml_corpus.check import judge_document
 from tml_corpus.fix import mended
@@ -177,12 +177,19 @@ def tally(program: Program, count: int, seed: int) -> tuple[dict[str, Counter[Ou
     return kinds, damaged
 
 
+def row(name: str, counts: Counter[Outcome]) -> str:
+    """A line of the table."""
+    return f"{name:46}" + "".join(f"{counts[one]:13}" for one in Outcome)
+
+
 def main(count: int, seed: int) -> int:
     """Prints a table of what came of so many slips, and the documents after which one was accepted and different."""
     kinds, damaged = tally(Reference(), count, seed)
-    print(f"{'':40}" + "".join(f"{one.name.lower():>13}" for one in Outcome))
-    for name, counts in [*kinds.items(), ("all", sum(kinds.values(), Counter[Outcome]()))]:
-        print(f"{name:40}" + "".join(f"{counts[one]:13}" for one in Outcome))
+    print(f"{'':46}" + "".join(f"{one.name.lower():>13}" for one in Outcome))
+    for group, names in GROUPS.items():
+        print(row(group, sum((kinds[name] for name in names), Counter[Outcome]())))
+        print(*(row(f"  {name}", kinds[name]) for name in names), sep="\n")
+    print(row("all", sum(kinds.values(), Counter[Outcome]())))
     for name, documents in damaged:
         print(f"--- {name}", *(document.decode("utf-8", "replace") for document in documents), sep="\n")
     return 1 if damaged else 0

@@ -4,8 +4,9 @@ Output that fails, a program that is not `tml`, documents made to cost much, a f
 tables of strangers.
 
 How often, in each run: 14 commands and 4 others with 3 kinds of output that fails; 7 programs that are not `tml`, the first with
-each command; 26 documents made to cost much; 10 names of files, with 11 commands and as pairs in 3 forms; 2 paths of which the
-digests begin alike, as pages and as evidence; 21 wrong tables, 3 pipes, and 4 inputs without an end.
+each command, and one whose answer is as long as 71,500,000 bytes; 26 documents made to cost much; 10 names of files, with 11 commands
+and as pairs in 4 forms; 2 paths of which the digests begin alike, as pages and as evidence; 21 wrong tables, 3 pipes, and 4 inputs
+without an end.
 
 Files that are written in the place of others are attacked by `test_replacing.py`: every seventh of the 4,096 modes and 6 of them by
 `fix`, as root those of a stranger too; 2 ways to lose an owner, 3 with access lists; 3 links that a search finds, 2 that come
@@ -39,6 +40,7 @@ from unittest import mock
 
 from corpus import TML, TOOLS, TOP, CorpusTest, document
 
+from tml.process import Process
 from tml_corpus import commands
 from tml_corpus.pool import Interruption, processors
 from tml_corpus.settings import settings_for
@@ -323,6 +325,11 @@ class Programs(AttackTest):
                     self.assertRegex(ended.out + ended.error, r"tml (answered status \d+ to `(check|solve|spans|reduce|score|seconds)`|printed more than [\d,]+ bytes)")
                     self.assertLess(ended.mebibytes, 400)
         self.assertFalse(os.path.exists(self.path("good.svg")))
+
+    def test_a_long_answer_that_the_library_would_give_is_believed(self):
+        line, count = " ".join(("n" * 64, "SIMULTANEOUS", "m" * 64)), 500_000
+        fake = self.fake(f"yes {line} | head -n {count}")
+        self.assertEqual(len(Process(fake).answer("relations", [b""])[1]), count * (len(line) + 1))
 
     def test_replies_that_belong_to_another_question(self):
         rows = [

@@ -35,7 +35,8 @@ class Build(unittest.TestCase):
         held = tempfile.TemporaryDirectory(prefix="library-build-")
         self.addCleanup(held.cleanup)
         self.top = Path(os.path.realpath(held.name))
-        shutil.copytree(os.path.join(TOOLS, "library"), self.top / "tools/library", ignore=shutil.ignore_patterns("__pycache__"))
+        for package in ("library", "tml_corpus"):
+            shutil.copytree(os.path.join(TOOLS, package), self.top / "tools" / package, ignore=shutil.ignore_patterns("__pycache__"))
         (self.top / "crates.txt").write_text("# crates\nlow:\nhigh: low\nother:\ntml_c staticlib: high of_the_kit\n", encoding="utf-8")
         for name in ("low", "high", "tml_c"):
             (self.top / "crates" / name / "src").mkdir(parents=True)

@@ -11,7 +11,7 @@ from corpus import EVENT, INSTANCE, TOP, CorpusTest, document
 
 from tml.running import CannotRun
 from tml_corpus.pool import processors
-from tml_corpus.settings import Remembering, read_settings
+from tml_corpus.settings import read_settings
 
 CREATED = '<TIMEX3 tid="t0" type="DATE" value="1998-03-12" functionInDocument="CREATION_TIME">x</TIMEX3>'
 LINKED = EVENT + INSTANCE + '<TLINK eventInstanceID="i1" relatedToTime="t0" relType="DURING"/>'
@@ -278,6 +278,8 @@ class Settings(CorpusTest):
             self.assertEqual(read_settings(self.path("tml-corpus.toml")).jobs, taken)
 
     def test_a_file_is_read_once_for_each_change(self):
+        from tml_corpus.settings import Remembering
+
         self.write("tml-corpus.toml", "jobs = 1")
         remembering, path = Remembering(), self.path("tml-corpus.toml")
         with mock.patch("tml_corpus.settings.read_settings", wraps=read_settings) as read:
@@ -369,6 +371,15 @@ class Baselines(CorpusTest):
         self.assertIn("known:1:1: this is no baseline; --write-baseline writes one where there is no file, or over another one", error)
         self.write("known", "")
         self.assertEqual(self.write_baseline("--lint", "d.xml"), (0, ""))
+
+    def test_a_long_baseline_hides_what_it_has(self):
+        self.write("d.xml", document(CREATED + '<SIGNAL sid="s1"/>'))
+        self.assertEqual(self.write_baseline("--lint", "d.xml"), (0, ""))
+        first, *own = self.read("known").splitlines(True)
+        others = (json.dumps([f"{number:05}.xml", "empty-tag", "x" * 80, 1]) + "\n" for number in range(40_000))
+        self.write("known", "".join([first, *others, *own]))
+        self.assertGreater(os.path.getsize(self.path("known")), 4_194_304)
+        self.assertEqual(self.run_it("check", "--lint", "--baseline", "known", "d.xml")[1][1:], ["1 warning of the baseline not shown"])
 
     def test_a_long_baseline_is_read_whole(self):
         from tml_corpus.baseline import NewBaseline, read_baseline

@@ -19,7 +19,6 @@ from tml_corpus.files import shown
 from tml.places import Places, caret_lines
 from tml_corpus.program import CannotRun, Reply
 from tml.replies import refusal
-from tml_corpus.replacing import written
 from tml_corpus.tables import BadTable, rows
 from tml_corpus.texts import texts_of
 from tml_corpus.units import end_of, read_units, unit_at
@@ -267,6 +266,8 @@ class Folders(unittest.TestCase):
         self.folder = held.name
 
     def test_a_file_is_written_whole_or_not_at_all(self):
+        from tml_corpus.replacing import written
+
         target = os.path.join(self.folder, "a")
         with written(target) as file:
             file.write(b"one")

@@ -12,7 +12,7 @@ from unittest import mock
 import corpus  # noqa: F401
 
 from tml_corpus import pool
-from tml_corpus.pool import AHEAD, ATTEMPTS, SPARE, TOGETHER, Groups, Interruption, do_group, in_order
+from tml_corpus.pool import AHEAD, TOGETHER, Groups, Interruption, do_group, in_order
 from tml_corpus.program import CannotRun
 from tml_corpus.room import Room, room_for
 
@@ -186,7 +186,7 @@ class LittleRoom(unittest.TestCase):
                 fork.reset_mock()
                 with self.assertRaisesRegex(CannotRun, "^no process of Python can begin its work: "):
                     list(in_order(quick, range(50), workers, Interruption(), lost))
-                self.assertEqual(fork.call_count, workers + ATTEMPTS - 1)
+                self.assertEqual(fork.call_count, workers + pool.ATTEMPTS - 1)
 
     def test_fewer_processes_than_wanted_go_on(self):
         fork = os.fork
@@ -205,7 +205,7 @@ class LittleRoom(unittest.TestCase):
         resource.setrlimit(resource.RLIMIT_NOFILE, (before + 20, limits[1]))
         results = in_order(quick, range(500), 100, Interruption(), lost)
         first, process = next(results)
-        handles = [os.open(os.devnull, os.O_RDONLY) for _ in range(SPARE)]
+        handles = [os.open(os.devnull, os.O_RDONLY) for _ in range(pool.SPARE)]
         found = list(results)
         self.assertEqual([first, *(item for item, _ in found)], list(range(500)))
         self.assertLess(len({process, *(process for _, process in found)}), 10)

@@ -8,17 +8,20 @@ import time
 import unittest
 from unittest import mock
 
-from corpus import CorpusTest, document
+from corpus import TML, CorpusTest, document
 
 from tml.running import CannotRun
+from tml_corpus.files import Found
+from tml_corpus.fix import Fixed, write
 from tml_corpus.pool import Interruption, in_order
-from tml_corpus.replacing import ACCESS_LIST, replace_file, written
+from tml_corpus.timeline import write_picture
 
 STRANGER = 65534
 """The user and the group `nobody`: of neither are there files or rights elsewhere."""
 
 OLD, NEW = document("&").encode(), document("&amp;").encode()
 SLIP = document("caf\xe9 &").encode("latin-1")
+ACCESS_LIST = "system.posix_acl_access"
 KEPT = "its owner, group, access list and permissions cannot be kept"
 
 is_root = hasattr(os, "geteuid") and os.geteuid() == 0
@@ -70,6 +73,10 @@ class ReplacingTest(CorpusTest):
         super().setUp()
         self.write("d.xml", OLD)
 
+    def mend(self, name="d.xml"):
+        """Has a file replaced that was read and mended."""
+        write(Fixed(OLD, NEW), Found(self.path(name)))
+
     def read(self, name="d.xml"):
         with open(self.path(name), "rb") as file:
             return file.read()
@@ -82,10 +89,10 @@ class ReplacingTest(CorpusTest):
         status = os.stat(self.path(name))
         return status.st_uid, status.st_gid, stat.S_IMODE(status.st_mode)
 
-    def refused(self, said, *words):
-        """Has a file not replaced, with a sentence, and sees that nothing changed but for what the test does."""
+    def refused(self, said):
+        """Has a file not replaced, with a sentence."""
         with self.assertRaisesRegex(CannotRun, said):
-            replace_file(self.path("d.xml"), NEW, *words)
+            self.mend()
 
 
 class RightsTest(ReplacingTest):
@@ -98,7 +105,7 @@ class RightsTest(ReplacingTest):
                         os.chown(self.path("d.xml"), STRANGER, STRANGER)
                     os.chmod(self.path("d.xml"), mode)
                     owner = self.state()[:2]
-                    replace_file(self.path("d.xml"), NEW, OLD)
+                    self.mend()
                     self.assertEqual(self.state(), (*owner, mode & 0o777))
                     os.unlink(self.path("d.xml"))
 
@@ -127,7 +134,7 @@ class RightsTest(ReplacingTest):
         os.chmod(self.path("d.xml"), 0o4777)
         seen, change_mode = [], os.fchmod
         with mock.patch.object(os, "fchmod", lambda handle, mode: (seen.append((os.fstat(handle).st_uid, mode)), change_mode(handle, mode))):
-            replace_file(self.path("d.xml"), NEW, OLD)
+            self.mend()
         self.assertEqual(seen, [(STRANGER, 0o777)])
 
     @as_root
@@ -135,7 +142,7 @@ class RightsTest(ReplacingTest):
         os.chmod(self.folder, 0o777)
         os.chmod(self.path("d.xml"), 0o666)
         before = self.state()
-        status, raised = as_stranger(lambda: replace_file(self.path("d.xml"), NEW, OLD))
+        status, raised = as_stranger(self.mend)
         self.assertEqual((status, self.read(), self.state(), self.names()), (1, OLD, before, ["d.xml"]))
         self.assertRegex(raised, f"d.xml cannot be written: {KEPT}: operation not permitted")
 
@@ -144,7 +151,7 @@ class RightsTest(ReplacingTest):
         os.chown(self.path("d.xml"), STRANGER, STRANGER)
         for change_owner in (mock.Mock(side_effect=PermissionError(1, "Operation not permitted")), mock.Mock()):
             with mock.patch.object(os, "fchown", change_owner):
-                self.refused(f"^.*d.xml cannot be written: {KEPT}", OLD)
+                self.refused(f"^.*d.xml cannot be written: {KEPT}")
             self.assertEqual((self.read(), self.names()), (OLD, ["d.xml"]))
 
     def test_access_lists(self):
@@ -165,7 +172,7 @@ class RightsTest(ReplacingTest):
     def test_where_the_access_list_cannot_be_kept_nothing_is_written(self):
         self.try_access_list("d.xml", access_list(0))
         with mock.patch.object(os, "setxattr", mock.Mock()):
-            self.refused(KEPT, OLD)
+            self.refused(KEPT)
         self.assertEqual((self.read(), self.names()), (OLD, ["d.xml"]))
 
     def try_access_list(self, name, value, attribute=ACCESS_LIST):
@@ -184,7 +191,7 @@ class RightsTest(ReplacingTest):
     def test_devices_stay(self):
         os.mkfifo(self.path("pipe"))
         with self.assertRaisesRegex(CannotRun, "pipe cannot be written: is not a regular file"):
-            replace_file(self.path("pipe"), NEW)
+            self.mend("pipe")
         self.assertEqual(self.names(), ["d.xml", "pipe"])
 
 
@@ -215,18 +222,15 @@ class Links(ReplacingTest):
                 self.assertEqual((self.read("out/d.xml"), os.path.islink(self.path("c/l.xml"))), (NEW, True))
 
     def test_folders_that_become_links_while_a_file_is_mended(self):
-        for name in ("c/e/d.xml", "c/l.xml"):
-            top, path = self.path("c"), self.path(name)
+        rows = (("c/e/d.xml", "[ -L c/e ] || { mv c/e c/moved; ln -s ../out c/e; }"), ("c/l.xml", "ln -sf ../out/d.xml c/l.xml"))
+        for name, change in rows:
             self.write(name, OLD)
-            if name == "c/e/d.xml":
-                os.rename(self.path("c/e"), self.path("c/moved"))
-                os.symlink("../out", self.path("c/e"))
-            else:
-                os.unlink(path)
-                os.symlink("../out/d.xml", path)
-            with self.subTest(name), self.assertRaisesRegex(CannotRun, "l.xml cannot be written|d.xml cannot be written"):
-                replace_file(path, NEW, OLD, top)
-            self.assertEqual((self.read("out/d.xml"), os.listdir(self.path("out"))), (OLD, ["d.xml"]))
+            self.write("changing", f'#!/bin/sh\n{change}\nexec "{os.path.abspath(TML)}" "$@"\n')
+            os.chmod(self.path("changing"), 0o700)
+            with self.subTest(name):
+                status, lines, _ = self.run_it("fix", "--write", "--glob", os.path.basename(name), "c", tml=self.path("changing"))
+                self.assertEqual((self.read("out/d.xml"), os.listdir(self.path("out"))), (OLD, ["d.xml"]))
+                self.assertEqual((status, lines[0].split(" cannot be written: ")[0]), (2, f"{name}: not mended: {name}"))
 
     def test_an_encoding_is_converted_only_below_a_root_of_timeml(self):
         rows = [
@@ -260,33 +264,34 @@ class Saves(ReplacingTest):
         for save in (save_in_place, save_by_renaming):
             with self.subTest(save.__name__), mock.patch.object(os, "fsync", lambda _, save=save: save()):
                 self.write("d.xml", OLD)
-                self.refused("^the file was changed meanwhile$", OLD)
+                self.refused("^the file was changed meanwhile$")
                 self.assertEqual((self.read(), self.names()), (saved, ["d.xml"]))
 
     def test_permissions_that_are_taken_in_the_middle_stay_taken(self):
         os.chmod(self.path("d.xml"), 0o644)
         with mock.patch.object(os, "fsync", lambda _: os.chmod(self.path("d.xml"), 0o600)):
-            self.refused("^the file was changed meanwhile$", OLD)
+            self.refused("^the file was changed meanwhile$")
         self.assertEqual((self.read(), self.state()[2], self.names()), (OLD, 0o600, ["d.xml"]))
 
     def test_a_file_that_is_gone_does_not_come_back(self):
         with mock.patch.object(os, "fsync", lambda _: os.unlink(self.path("d.xml"))):
-            self.refused("no such file or directory", OLD)
+            self.refused("no such file or directory")
         self.assertEqual(self.names(), [])
 
 
 class Signals(ReplacingTest):
     def test_signals_wait_until_a_file_is_whole(self):
-        def replace(number):
+        rename = os.replace
+
+        def mend(number):
             with mock.patch.object(os, "fsync", lambda _: os.kill(os.getpid(), number)):
-                replace_file(self.path("d.xml"), NEW, OLD)
+                self.mend()
 
-        def write(number):
-            with written(self.path("d.xml")) as file:
-                os.kill(os.getpid(), number)
-                file.write(NEW)
+        def draw(number):
+            with mock.patch.object(os, "replace", lambda *names: (os.kill(os.getpid(), number), rename(*names))):
+                write_picture(self.path("d.xml"), NEW.decode())
 
-        for work in (replace, write):
+        for work in (mend, draw):
             for number in (signal.SIGTERM, signal.SIGHUP, signal.SIGINT):
                 with self.subTest(work=work.__name__, number=number):
                     self.write("d.xml", OLD)
@@ -298,7 +303,7 @@ class Signals(ReplacingTest):
         def replace():
             signal.signal(signal.SIGHUP, signal.SIG_IGN)
             with mock.patch.object(os, "fsync", lambda _: os.kill(os.getpid(), signal.SIGHUP)):
-                replace_file(self.path("d.xml"), NEW, OLD)
+                self.mend()
             self.assertEqual(signal.getsignal(signal.SIGHUP), signal.SIG_IGN)
 
         self.assertEqual((in_child(replace), self.read()), ((0, ""), NEW))
@@ -310,7 +315,7 @@ class Signals(ReplacingTest):
 
         def replace(_):
             with mock.patch.object(os, "fsync", end_the_program):
-                replace_file(self.path("d.xml"), NEW, OLD)
+                self.mend()
             time.sleep(60)
 
         status, _ = in_child(lambda: list(in_order(replace, [1], 1, Interruption(), lambda _: None)))

@@ -1,5 +1,6 @@
 """`tml-corpus serve`: by the protocol over pipes, as an editor speaks it."""
 
+import io
 import json
 import os
 import random
@@ -7,10 +8,14 @@ import shutil
 import subprocess
 import sys
 import time
+import tomllib
 import unittest
+from unittest import mock
 
 from corpus import COMPANION, EVENT, INSTANCE, TML, TOP, CorpusTest, document
 
+from tml_corpus.serve import Server
+from tml_corpus.serve_inbox import Message
 from tml_corpus.serve_places import UTF_8, UTF_16, ClientPlaces
 from tml_corpus.serve_wire import Incoming
 
@@ -212,6 +217,16 @@ class Session(ServeTest):
         client = self.client()
         self.assertEqual(self.opened(client, document("<q>x</q>")), [])
         self.assertIn("ignore is a list of texts", self.opened(client, document("x"), "bad/d.xml")[0]["message"])
+
+    def test_settings_are_read_once_for_each_change_of_them(self):
+        server, about = Server(TML, None, io.BytesIO()), Message("textDocument/didChange", {}, uri=self.uri())
+        with mock.patch.object(tomllib, "loads", wraps=tomllib.loads) as load:
+            for content in ('wrappers = ["q"]', "wrappers = 1"):
+                load.reset_mock()
+                self.write("tml-corpus.toml", content)
+                for version in range(20):
+                    server.take_text(about, document("<q>x</q>"), version)
+                self.assertEqual(load.call_count, 1)
 
     def test_places_are_in_units_of_the_client(self):
         text = document("😀é <EVENT/>")
