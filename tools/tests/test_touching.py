@@ -159,7 +159,7 @@ class Reports(CorpusTest):
         self.assertEqual([line.split("::")[1].split(",title=")[1] for line in lines if line.startswith("::")], ["dates that touch"] * 2)
 
     def test_ordinary_documents(self):
-        # docs/CORPORA.md has the counts of 2,000 of them.
+        # docs/CLASHES.md has the counts of 2,000 of them.
         ordinary.write(self.path("o"), 60)
         counts = {}
         for words in ((), ("--touching",)):
