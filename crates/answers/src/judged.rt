@@ -3,7 +3,7 @@ ghost use Rattle.answers.specs.Judged.{documents, judged_rows};
 ghost use Rattle.net_core.specs.Limits.{max_document};
 ghost use Rattle.std.specs.Prelude.{◌≡◌, ◌≢◌, ◌+◌, ◌≤◌, length, IfErr, IfOk};
 ghost use Rattle.tml_accept.specs.Acceptance.{Says};
-ghost use Rattle.tml_io.specs.Faults.{HasRisen, RisesAtMost};
+ghost use Rattle.tml_io.specs.Faults.{CallsFollow, HasRisen, RisesAtMost};
 ghost use Rattle.tml_run.specs.Replied.{IsReplyTo};
 ghost use Rattle.tml_run.specs.Roles.{IsRole, file_of};
 ghost use Rattle.tml_run.specs.TwoFiles.{CannotJudge};
@@ -80,6 +80,7 @@ pub fn reply_of_judged<A: OfJudged, I: Inputs>(
     ensures files { I.files inputs.new ≡ I.files inputs.old }
     ensures stays_sound { I.sound inputs.new ≡ I.sound inputs.old }
     ensures calls { RisesAtMost (max_document + 2 + (role.limit + 2)) (I.calls inputs.old) (I.calls inputs.new) }
+    ensures follows { CallsFollow 4 (I.given inputs.old) (I.given inputs.new) (I.calls inputs.old) (I.calls inputs.new) }
     ensures never_falls { I.faults inputs.old ≤ I.faults inputs.new }
 {
     let doc = match read(alloc, inputs, DOC, name) {

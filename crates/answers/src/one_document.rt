@@ -2,7 +2,7 @@
 ghost use Rattle.answers.specs.Documents.{document_rows, of_contents};
 ghost use Rattle.net_core.specs.Limits.{max_document};
 ghost use Rattle.std.specs.Prelude.{◌≡◌, ◌≢◌, ◌+◌, ◌≤◌, length, IfOk};
-ghost use Rattle.tml_io.specs.Faults.{HasRisen, RisesAtMost};
+ghost use Rattle.tml_io.specs.Faults.{CallsFollow, HasRisen, RisesAtMost};
 ghost use Rattle.tml_run.specs.Replied.{IsReplyTo};
 ghost use Rattle.tml_run.specs.View.{finding_status, status_of, text_of};
 
@@ -47,6 +47,7 @@ pub fn reply_of_document<A: OfDocument, I: Inputs>(
     ensures files { I.files inputs.new ≡ I.files inputs.old }
     ensures stays_sound { I.sound inputs.new ≡ I.sound inputs.old }
     ensures calls { RisesAtMost (max_document + 2) (I.calls inputs.old) (I.calls inputs.new) }
+    ensures follows { CallsFollow 2 (I.given inputs.old) (I.given inputs.new) (I.calls inputs.old) (I.calls inputs.new) }
     ensures never_falls { I.faults inputs.old ≤ I.faults inputs.new }
 {
     match read(alloc, inputs, DOC, name) {

@@ -21,3 +21,4 @@ pub mod Answered
 pub mod Entailing
 pub mod Elements
 pub mod Paths
+pub mod OneClosure

@@ -1,4 +1,5 @@
 //! Laws of walks: public functions that do nothing, each with a law as its contract.
+ghost use Rattle.clash.specs.Closures.{HasOneClosure};
 ghost use Rattle.clash.specs.Minimal.{IsAnswered};
 ghost use Rattle.clash.specs.Walks.{ClashesHaveClosedWalks, OrdersAreAnswered, ShortWalks, WalksSayAll};
 ghost use Rattle.net_core.specs.Nets.{IsNet, PlainNet};
@@ -18,6 +19,11 @@ pub fn clashes_have_closed_walks()
 /// Walks can be short: where there is a walk there is one of at most twice as many steps as there are points.
 pub fn walks_can_be_short()
     ensures { ShortWalks }
+{}
+
+/// A net has a closure that is a closed table exactly where some timeline fits, and all closures of it have the same cells.
+pub fn net_has_one_closure()
+    ensures { (net : PlainNet) → IsNet net → HasOneClosure net }
 {}
 
 /// Every net has least ranks that fit, or a minimal clash with a short walk and a spare for each of its links.

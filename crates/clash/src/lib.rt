@@ -17,8 +17,8 @@ mod spares;
 
 pub use closure::{CloseFault, close};
 pub use laws::{
-    clashes_have_closed_walks, net_is_answered, orders_are_answered, walks_can_be_short,
-    walks_say_all,
+    clashes_have_closed_walks, net_has_one_closure, net_is_answered, orders_are_answered,
+    walks_can_be_short, walks_say_all,
 };
 pub use links::{atoms_of_link, nth_order};
 pub use minimal::{Clash, marked};

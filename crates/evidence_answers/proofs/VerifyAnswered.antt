@@ -6,6 +6,7 @@ use Rattle.answers.proofs.Answered.{judged_answered_once}
 use Rattle.evidence_check.specs.Bundles.{IsFirstRefused}
 use Rattle.evidence_check.proofs.Bundles.{all_true, one_bundle_verdict}
 use Rattle.evidence_format.specs.Evidence.{PlainEvidence}
+use Rattle.evidence_format.proofs.Claims.{well_formed_claims}
 use Rattle.evidence_format.proofs.EveryText.{bundle_or_bad_line}
 use Rattle.net_answers.proofs.Nets.{its_net}
 use Rattle.net_build.specs.Built.{IsNetOf}
@@ -65,7 +66,7 @@ some doc contents says bytes =
     let has = its_net doc contents says in
     elim (bundle_or_bad_line bytes) [
       | inr bad ↦ (EvidenceFault, numbered (codes "evidence line ") bad.1, (has.net, has.built, inl (bad.0, bad.1, bad.2, refl)))
-      | inl e ↦ elim ((one_bundle_verdict has.net e.0).supported_or_refused) [
+      | inl e ↦ elim ((one_bundle_verdict has.net e.0).supported_or_refused (well_formed_claims e.0 bytes e.1)) [
         | inl supported ↦ (Done, claim_lines contents e.0, (has.net, has.built, (e.0, e.1, supported, all_true has.net e.0 supported, refl)))
         | inr refused ↦ (EvidenceFault, refusal_line refused.0, (has.net, has.built, inr (e.0, refused.0, e.1, refused.1, refl)))
       ]

@@ -4,7 +4,7 @@ ghost use Rattle.evidence_format.specs.Bundles.{AreBodies, AreClaims, IsTextOfEi
 ghost use Rattle.evidence_format.specs.Evidence.{PlainEvidence};
 ghost use Rattle.net_core.specs.Limits.{max_evidence};
 ghost use Rattle.std.specs.Prelude.{◌≡◌, ◌≢◌, ◌+◌, ◌≤◌, length, IfErr, IfOk, List as ListOf};
-ghost use Rattle.tml_io.specs.Faults.{HasRisen, RisesAtMost};
+ghost use Rattle.tml_io.specs.Faults.{CallsFollow, HasRisen, RisesAtMost};
 ghost use Rattle.tml_run.specs.Replied.{IsReplyTo};
 ghost use Rattle.tml_run.specs.TwoFiles.{CannotJudge};
 ghost use Rattle.tml_run.specs.View.{finding_status, status_of, text_of};
@@ -28,6 +28,7 @@ pub fn reply_of_join<I: Inputs>(alloc: Global, name: &str, other: &str, inputs: 
     ensures files { I.files inputs.new ≡ I.files inputs.old }
     ensures stays_sound { I.sound inputs.new ≡ I.sound inputs.old }
     ensures calls { RisesAtMost (max_evidence + 2 + (max_evidence + 2)) (I.calls inputs.old) (I.calls inputs.new) }
+    ensures follows { CallsFollow 4 (I.given inputs.old) (I.given inputs.new) (I.calls inputs.old) (I.calls inputs.new) }
     ensures never_falls { I.faults inputs.old ≤ I.faults inputs.new }
 {
     let first = match read(alloc, inputs, EVIDENCE, name) {

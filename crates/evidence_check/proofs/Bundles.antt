@@ -2,13 +2,14 @@
 use Rattle.std.proofs.Common.{◌≡◌, ◌⊎◌, inl, inr, ℕ, ◌+◌, ◌<◌, List, [], ◌∷◌, ◌++◌, length, map, take, drop, Some, length-append, sym, ap, subst, ◌∙◌, arith}
 use Rattle.std.specs.Prelude.{slice_index_or}
 use Rattle.std.specs.List.{All}
-use Rattle.std.proofs.lemmas.List.{get_or_append_left, length-map, length-take-le, take-append-drop, take_more}
+use Rattle.std.proofs.lemmas.Bool.{cases_lt}
+use Rattle.std.proofs.lemmas.List.{get_or_append_left, get_or_past, length-map, length-take-le, take-append-drop, take_more}
 use Rattle.std.proofs.lemmas.List.Elements.{All-append, All-cons, All-nil, All-from_get_or}
 use Rattle.std.proofs.Math.ListN.{get_or-map}
 use Rattle.std.proofs.Math.Seq.{get_or-append_seam}
 use Rattle.net_core.specs.Nets.{PlainNet}
 use Rattle.net_core.proofs.FirstLaws.{one_first, first_or_none}
-use Rattle.evidence_format.specs.Evidence.{PlainEvidence, timeline, IsWellFormed}
+use Rattle.evidence_format.specs.Evidence.{IsPair, IsWellFormed, PlainEvidence, timeline}
 use Rattle.evidence_format.specs.View.{plain}
 use Rattle.evidence_format.specs.declared.evidence.Evidence.{Evidence}
 use Rattle.evidence_check.specs.declared.refusal.Refused.{Refused}
@@ -111,23 +112,30 @@ one_refusal net es r s h k =
     let bad : IsRefused net (claim_at es s.claim) r.refused = subst (λ (n : ℕ). IsRefused net (claim_at es n) r.refused) claim h.1 in
     same_claim r s claim ((one_verdict net (claim_at es s.claim)).one_refusal r.refused s.refused bad k.1)
 
--- whether evidence is supported
-dec_supported : (net : PlainNet) (e : PlainEvidence) → Dec (IsSupported net e)
-dec_supported net e = elim (supported_or_refused net e) [
+-- whether well-formed evidence is supported
+dec_supported : (net : PlainNet) (e : PlainEvidence) → IsWellFormed e → Dec (IsSupported net e)
+dec_supported net e well = elim (supported_or_refused net e well) [
   | inl supported ↦ yes supported
   | inr refusal ↦ no (λ supported. (one_verdict net e).not_both refusal.0 supported refusal.1)
 ]
 
--- evidence that is not supported is refused
-refusal_of : (net : PlainNet) (e : PlainEvidence) → (IsSupported net e → ⊥) → (refused : Refused) × IsRefused net e refused
-refusal_of net e never = elim (supported_or_refused net e) [ inl supported ↦ absurd (never supported) | inr refusal ↦ refusal ]
+-- well-formed evidence that is not supported is refused
+refusal_of : (net : PlainNet) (e : PlainEvidence) → IsWellFormed e → (IsSupported net e → ⊥) → (refused : Refused) × IsRefused net e refused
+refusal_of net e well never = elim (supported_or_refused net e well) [ inl supported ↦ absurd (never supported) | inr refusal ↦ refusal ]
+
+-- the claim of any number is well formed where all claims are: past them stands an empty timeline
+well_at : (es : List PlainEvidence) (k : ℕ) → All IsWellFormed es → IsWellFormed (claim_at es k)
+well_at es k all = elim (cases_lt k (length es)) [
+  | inl below ↦ all k (timeline []) below
+  | inr past ↦ subst IsWellFormed (sym (get_or_past es k (timeline []) past)) (All-nil IsPair, omega arith)
+]
 
 -- all claims are supported, or one is refused first
-all_or_refused : (net : PlainNet) (es : List PlainEvidence) → AreSupported net es ⊎ ((refused : RefusedClaim) × IsFirstRefused net es refused)
-all_or_refused net es = elim (first_or_none (length es) (IsSupportedAt net es) (λ k. dec_supported net (claim_at es k))) [
+all_or_refused : (net : PlainNet) (es : List PlainEvidence) → All IsWellFormed es → AreSupported net es ⊎ ((refused : RefusedClaim) × IsFirstRefused net es refused)
+all_or_refused net es well = elim (first_or_none (length es) (IsSupportedAt net es) (λ k. dec_supported net (claim_at es k) (well_at es k well))) [
   | inl all ↦ inl (All-from_get_or (IsSupported net) es (timeline []) all)
   | inr first ↦
-      let refusal = refusal_of net (claim_at es first.0) first.1.1 in
+      let refusal = refusal_of net (claim_at es first.0) (well_at es first.0 well) first.1.1 in
       inr (record { claim = first.0; refused = refusal.0 }, (first.1, refusal.1))
 ]
 

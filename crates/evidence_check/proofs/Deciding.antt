@@ -3,7 +3,7 @@ use Rattle.std.proofs.Common.{◌≡◌, inl, inr, ℕ, List, length, slice_inde
 use Rattle.std.specs.List.{Contains}
 use mathlib.Core.Logic.Dec
 use native.Mathlib.Decide.{ℕ_discrete}
-use Rattle.named.proofs.Deciding.{implied, some_below}
+use Rattle.net_core.proofs.Lent.{implied, some_below}
 use Rattle.net_core.specs.Clashes.{Agrees, Others}
 use Rattle.net_core.specs.Walks.{GoesOver}
 use Rattle.net_core.specs.declared.step.Step.{Step}

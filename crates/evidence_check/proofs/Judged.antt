@@ -1,25 +1,26 @@
 -- Evidence is supported, or refused.
-use Rattle.std.proofs.Common.{false, ◌⊎◌, inl, inr, ℕ, ◌+◌, ◌<◌, List, [], length, refl}
+use Rattle.std.proofs.Common.{◌≡◌, ◌∙◌, false, ◌⊎◌, inl, inr, ℕ, ◌+◌, ◌<◌, List, [], length, refl, sym}
 use Rattle.std.specs.List.{Contains}
 use Rattle.std.proofs.lemmas.List.Elements.{All-from_get_or}
 use Rattle.std.proofs.lemmas.Bool.{cases_lt}
-use native.Mathlib.Decide.{dec_lt, ℕ_discrete}
-use Rattle.named.proofs.Pairs.{zip_from}
-use Rattle.net_core.specs.Atoms.{atoms_of}
+use native.Mathlib.Decide.{dec_lt}
+use Rattle.net_core.proofs.Lent.{zip_from}
+use Rattle.net_core.specs.Atoms.{atoms_of, points_of}
 use Rattle.net_core.specs.Clashes.{Others}
 use Rattle.net_core.specs.Fits.{EveryLink, RanksFit}
 use Rattle.net_core.specs.Nets.{PlainNet, intervals}
 use Rattle.net_core.specs.Ranks.{ranks_of, timeline_of}
 use Rattle.net_core.specs.declared.rels.Rel.{Rel}
 use Rattle.net_core.specs.declared.step.Step.{Step as StepOf}
+use Rattle.net_core.proofs.AtomLaws.{atoms_counted}
 use Rattle.net_core.proofs.Deciding.{relates}
 use Rattle.net_core.proofs.FirstLaws.{first_or_none}
 use Rattle.net_core.specs.Entailment.{AreIntervals}
 use Rattle.evidence_format.specs.Evidence.{PlainEvidence, timeline, entails, counter, clash}
 use Rattle.evidence_check.specs.declared.refusal.Reason.{Reason}
-use Rattle.evidence_check.specs.declared.refusal.Reason.TheVariants.{Number, Size, Holds}
+use Rattle.evidence_check.specs.declared.refusal.Reason.TheVariants.{Number, Holds}
 use Rattle.evidence_check.specs.declared.refusal.Refused.{Refused}
-use Rattle.evidence_check.specs.Refusals.{AreSparesRefused, IsBadNumber, IsMisfit, IsNoProof, IsOfLink, IsSpareAt, Proves, SupportedOrRefused, atom_at, cite_at, ranks_at, walk_at}
+use Rattle.evidence_check.specs.Refusals.{IsBadNumber, IsMisfit, IsNoProof, IsOfLink, IsSpareAt, IsSpareRefused, Proves, SupportedOrRefused, atom_at, cite_at, ranks_at, walk_at}
 use Rattle.evidence_check.specs.Supported.{AllFitOthers, FitsOthers, IsProof}
 use Rattle.evidence_check.proofs.Deciding.{others}
 use Rattle.evidence_check.proofs.Proving.{not_both}
@@ -47,22 +48,20 @@ module _ (net : PlainNet) where
   fit pairs = fit_or_misfit net EveryLink (λ k. yes tt) pairs
 
   judged_entailment : (a : ℕ) (r : Rel) (b : ℕ) (walks : List (List StepOf)) → SupportedOrRefused net (entails a r b walks)
-  judged_entailment a r b walks = elim (numbers a b) [
+  judged_entailment a r b walks well = elim (numbers a b) [
     | inr bad ↦ inr (refusal 0 (Number bad.0), inl (refl, bad.0, refl, bad.1))
     | inl good ↦
         let atoms = atoms_of r a b in
-        elim (ℕ_discrete (length walks) (length atoms)) [
-          | no other ↦ inr (refusal 0 (Size (length walks)), inr (good, inl (refl, refl, other)))
-          | yes size ↦ elim (first_bad (Proves net atoms walks) (λ k. IsNoProof net (atom_at atoms k) (walk_at walks k)) (λ k. not_both net (atom_at atoms k) (walk_at walks k))
-              (λ k. proof_or_none net (atom_at atoms k) (walk_at walks k)) (length atoms)) [
-                | inr first ↦ inr (refusal (first.0 + 1) first.1, inr (good, inr (size, (first.0, first.2, refl, first.3))))
-                | inl all ↦ inl (good, zip_from (IsProof net) (record { from = 0; to = 0; strict = false }) [] atoms walks size all)
-              ]
-        ]
+        let size : length walks ≡ length atoms = well.3 ∙ sym (atoms_counted r (points_of a) (points_of b)) in
+        elim (first_bad (Proves net atoms walks) (λ k. IsNoProof net (atom_at atoms k) (walk_at walks k)) (λ k. not_both net (atom_at atoms k) (walk_at walks k))
+            (λ k. proof_or_none net (atom_at atoms k) (walk_at walks k)) (length atoms)) [
+              | inr first ↦ inr (refusal (first.0 + 1) first.1, inr (good, (first.0, first.2, refl, first.3)))
+              | inl all ↦ inl (good, zip_from (IsProof net) (record { from = 0; to = 0; strict = false }) [] atoms walks size all)
+            ]
   ]
 
   judged_counterexample : (a : ℕ) (r : Rel) (b : ℕ) (ranks : List (ℕ × ℕ)) → SupportedOrRefused net (counter a r b ranks)
-  judged_counterexample a r b ranks = elim (numbers a b) [
+  judged_counterexample a r b ranks well = elim (numbers a b) [
     | inr bad ↦ inr (refusal 0 (Number bad.0), inl (refl, bad.0, refl, bad.1))
     | inl good ↦ elim (fit ranks) [
       | inr misfit ↦ inr (refusal 1 misfit.0, inr (inl (good, (refl, misfit.1))))
@@ -73,14 +72,11 @@ module _ (net : PlainNet) where
     ]
   ]
 
-  -- timelines fit with all cited links but one each, or they are refused
-  judged_spares : (cites : List ℕ) (spares : List (List (ℕ × ℕ))) → AllFitOthers net cites spares ⊎ ((refused : Refused) × AreSparesRefused net cites spares refused)
-  judged_spares cites spares = elim (ℕ_discrete (length spares) (length cites)) [
-    | no other ↦ inr (refusal 0 (Size (length spares)), inl (refl, refl, other))
-    | yes size ↦ elim (first_bad (IsSpareAt net cites spares) (λ i. IsMisfit net (Rest i) (ranks_of (ranks_at spares i))) (λ i. no_misfit net (Rest i) (ranks_of (ranks_at spares i))) spare (length cites)) [
-      | inr first ↦ inr (refusal (first.0 + 2) first.1, inr (size, (first.0, first.2, refl, first.3)))
-      | inl all ↦ inl (zip_from (FitsOthers net cites) 0 [] cites spares size all)
-    ]
+  -- as many timelines fit with all cited links but one each, or one of them is the first that does not
+  judged_spares : (cites : List ℕ) (spares : List (List (ℕ × ℕ))) → length spares ≡ length cites → AllFitOthers net cites spares ⊎ ((refused : Refused) × IsSpareRefused net cites spares refused)
+  judged_spares cites spares size = elim (first_bad (IsSpareAt net cites spares) (λ i. IsMisfit net (Rest i) (ranks_of (ranks_at spares i))) (λ i. no_misfit net (Rest i) (ranks_of (ranks_at spares i))) spare (length cites)) [
+    | inr first ↦ inr (refusal (first.0 + 2) first.1, (first.0, first.2, refl, first.3))
+    | inl all ↦ inl (zip_from (FitsOthers net cites) 0 [] cites spares size all)
   ]
     where
       -- the other cited links
@@ -91,13 +87,13 @@ module _ (net : PlainNet) where
       spare i = fit_or_misfit net (Rest i) (others cites (cite_at cites i)) (ranks_at spares i)
 
   judged_clash : (cites : List ℕ) (walk : List StepOf) (spares : List (List (ℕ × ℕ))) → SupportedOrRefused net (clash cites walk spares)
-  judged_clash cites walk spares = elim (first_or_none (length cites) (IsOfLink net cites) (λ i. dec_lt (cite_at cites i) (length net.links))) [
+  judged_clash cites walk spares well = elim (first_or_none (length cites) (IsOfLink net cites) (λ i. dec_lt (cite_at cites i) (length net.links))) [
     | inr first ↦ inr (refusal 0 (Number (cite_at cites first.0)), inl (refl, first.0, first.1, refl))
     | inl each ↦
         let links = All-from_get_or (λ (k : ℕ). k < length net.links) cites 0 each in
         elim (round_or_none net cites walk) [
           | inr none ↦ inr (refusal 1 none.0, inr (inl (links, (refl, none.1))))
-          | inl round ↦ elim (judged_spares cites spares) [
+          | inl round ↦ elim (judged_spares cites spares well.3) [
             | inr refused ↦ inr (refused.0, inr (inr (links, round, refused.1)))
             | inl all ↦ inl (links, round, all)
           ]
@@ -105,10 +101,10 @@ module _ (net : PlainNet) where
   ]
 
   pub supported_or_refused : (e : PlainEvidence) → SupportedOrRefused net e
-  supported_or_refused (timeline ranks) = elim (fit ranks) [
+  supported_or_refused (timeline ranks) well = elim (fit ranks) [
     | inr misfit ↦ inr (refusal 1 misfit.0, (refl, misfit.1))
     | inl fits ↦ inl fits
   ]
-  supported_or_refused (entails a r b walks) = judged_entailment a r b walks
-  supported_or_refused (counter a r b ranks) = judged_counterexample a r b ranks
-  supported_or_refused (clash cites walk spares) = judged_clash cites walk spares
+  supported_or_refused (entails a r b walks) well = judged_entailment a r b walks well
+  supported_or_refused (counter a r b ranks) well = judged_counterexample a r b ranks well
+  supported_or_refused (clash cites walk spares) well = judged_clash cites walk spares well

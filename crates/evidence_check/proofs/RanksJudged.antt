@@ -1,7 +1,7 @@
 -- Ranks fit, or they are a misfit for a reason.
 use Rattle.std.proofs.Common.{inl, inr, ℕ, ◌+◌, ◌*◌, List, length, ap, ◌∙◌}
 use native.Mathlib.Decide.{dec_lt, ℕ_discrete}
-use Rattle.named.proofs.Deciding.{implied}
+use Rattle.net_core.proofs.Lent.{implied}
 use Rattle.net_core.specs.Fits.{KeepsCalendar, KeepsLink, RanksFitWith, StartsFirst}
 use Rattle.net_core.specs.Nets.{PlainNet, intervals, link_at, lower, points, upper}
 use Rattle.net_core.specs.Ranks.{ranks_of, timeline_of}

@@ -2,7 +2,7 @@
 use Rattle.std.proofs.Common.{◌≡◌, ℕ, List, [], ◌∷◌, Result, Ok, Err, OnOk, IfOk, subst}
 use Rattle.std.specs.List.{AllByRecursion, Contains}
 use Rattle.std.proofs.lemmas.List.Elements.{All-from_get_or}
-use Rattle.named.proofs.Pairs.{zip_at}
+use Rattle.net_core.proofs.Lent.{zip_at}
 use Rattle.net_core.specs.Atoms.{Satisfies, atoms_of}
 use Rattle.net_core.specs.Relations.{Timeline}
 use Rattle.net_core.specs.declared.atom.Atom.{Atom}

@@ -2,8 +2,7 @@
 use Rattle.std.proofs.Common.{◌≡◌, inl, inr, false, ℕ, ◌+◌, ◌<◌, arith, ◌↔◌, List, [], length, Option, Some, None, Result, Ok, Err, IsOk, OnOk, IfErr, refl, ap, subst, sym, ◌∙◌}
 use Rattle.std.specs.List.{Contains}
 use Rattle.std.proofs.lemmas.List.Elements.{All-get_or}
-use Rattle.std.proofs.lemmas.Slice.Zip.{AllZip-long}
-use Rattle.named.proofs.Pairs.{zip_at}
+use Rattle.net_core.proofs.Lent.{zip_at}
 use Rattle.net_core.specs.Atoms.{atoms_of}
 use Rattle.net_core.specs.Clashes.{IsClosedOver, Others}
 use Rattle.net_core.specs.Fits.{EveryLink, KeepsCalendar, KeepsLink, RanksFit, RanksFitWith, StartsFirst}
@@ -18,7 +17,7 @@ use Rattle.evidence_format.specs.Evidence.{PlainEvidence, timeline, entails, cou
 use Rattle.evidence_check.specs.declared.refusal.Reason.{Reason}
 use Rattle.evidence_check.specs.declared.refusal.Reason.TheVariants.{Number, Size, Order, Link, Calendar, Step, End, Weak, Cited, Holds}
 use Rattle.evidence_check.specs.declared.refusal.Refused.{Refused}
-use Rattle.evidence_check.specs.Refusals.{AreSparesRefused, AreWalksRefused, FirstBrokenLink, FirstBrokenPair, FirstUnordered, HasSize, IsBadNumber, IsCiteRefused, IsCountRefused, IsMisfit, IsNoProof, IsNumberRefused, IsOfLink, IsRefused, IsRelationRefused, IsRoundRefused, IsSpareAt, IsSpareRefused, IsTimelineRefused, IsWalkRefused, OneVerdict, Proves, atom_at, cite_at, ranks_at, walk_at}
+use Rattle.evidence_check.specs.Refusals.{FirstBrokenLink, FirstBrokenPair, FirstUnordered, HasSize, IsBadNumber, IsCiteRefused, IsMisfit, IsNoProof, IsNumberRefused, IsOfLink, IsRefused, IsRelationRefused, IsRoundRefused, IsSpareAt, IsSpareRefused, IsTimelineRefused, IsWalkRefused, OneVerdict, Proves, atom_at, cite_at, ranks_at, walk_at}
 use Rattle.evidence_check.specs.Supported.{AllFitOthers, AreLinks, FitsOthers, IsFalse, IsProof, IsSupported, ProveAll}
 use Rattle.evidence_check.proofs.Checks.{IsCheck, by_check, three_checks, two_checks}
 use Rattle.evidence_check.proofs.Proving.{one_reason}
@@ -95,13 +94,6 @@ module _ (net : PlainNet) (Chosen : ℕ → Type 0) (ranks : List ℕ) where
 one_refused : (r s : Refused) → r.part ≡ s.part → r.reason ≡ s.reason → r ≡ s
 one_refused r s part reason = λ i. record { part = part i; reason = reason i }
 
--- a wrong number of walks or timelines is refused
-count_check : (count due : ℕ) → IsCheck (count ≡ due) (IsCountRefused count due)
-count_check count due = record {
-  not_both = λ r same h. h.2 same;
-  once = λ r s h k. one_refused r s (h.0 ∙ sym k.0) (h.1 ∙ sym k.1);
-}
-
 module _ (net : PlainNet) where
   timeline_check : (ranks : List ℕ) → IsCheck (RanksFit net ranks) (IsTimelineRefused net ranks)
   timeline_check ranks = record {
@@ -135,9 +127,8 @@ module _ (net : PlainNet) where
         (one_reason net (atom_at atoms k.0) (walk_at walks k.0) r.reason s.reason (subst (λ (n : ℕ). IsNoProof net (atom_at atoms n) (walk_at walks n) r.reason) same h.3) k.3);
   }
 
-  walks_check : (atoms : List Atom) (walks : List (List StepOf)) → IsCheck (ProveAll net atoms walks) (AreWalksRefused net atoms walks)
-  walks_check atoms walks =
-      by_check (λ all. (AllZip-long (IsProof net) atoms walks all, zip_at (IsProof net) (record { from = 0; to = 0; strict = false }) [] atoms walks all)) (λ r h. h) (two_checks (count_check (length walks) (length atoms)) (walk_check atoms walks))
+  walks_check : (atoms : List Atom) (walks : List (List StepOf)) → IsCheck (ProveAll net atoms walks) (IsWalkRefused net atoms walks)
+  walks_check atoms walks = by_check (λ all. zip_at (IsProof net) (record { from = 0; to = 0; strict = false }) [] atoms walks all) (λ r h. h) (walk_check atoms walks)
 
   relation_check : (ranks : List ℕ) (a : ℕ) (rel : Rel) (b : ℕ) → IsCheck (IsFalse ranks a rel b) (IsRelationRefused ranks a rel b)
   relation_check ranks a rel b = record {
@@ -171,10 +162,8 @@ module _ (net : PlainNet) where
         (subst (λ (n : ℕ). IsMisfit net (Others (Contains cites) (cite_at cites n)) (ranks_of (ranks_at spares n)) r.reason) same h.3) k.3);
   }
 
-  spares_check : (cites : List ℕ) (spares : List (List (ℕ × ℕ))) → IsCheck (AllFitOthers net cites spares) (AreSparesRefused net cites spares)
-  spares_check cites spares =
-      by_check (λ all. (AllZip-long (FitsOthers net cites) cites spares all, zip_at (FitsOthers net cites) 0 [] cites spares all)) (λ r h. h)
-      (two_checks (count_check (length spares) (length cites)) (spare_check cites spares))
+  spares_check : (cites : List ℕ) (spares : List (List (ℕ × ℕ))) → IsCheck (AllFitOthers net cites spares) (IsSpareRefused net cites spares)
+  spares_check cites spares = by_check (λ all. zip_at (FitsOthers net cites) 0 [] cites spares all) (λ r h. h) (spare_check cites spares)
 
   -- evidence is checked part by part
   check : (e : PlainEvidence) → IsCheck (IsSupported net e) (IsRefused net e)

@@ -14,7 +14,7 @@ use Rattle.net_core.specs.Walks.{IsClosedWalk, IsJoined}
 use Rattle.net_core.specs.declared.atom.Atom.{Atom}
 use Rattle.net_core.specs.declared.rels.Rel.{Rel}
 use Rattle.net_core.specs.declared.step.Step.{Step as StepOf}
-use Rattle.evidence_format.specs.Evidence.{PlainEvidence, timeline, entails, counter, clash}
+use Rattle.evidence_format.specs.Evidence.{IsWellFormed, PlainEvidence, timeline, entails, counter, clash}
 use Rattle.evidence_check.specs.declared.refusal.Reason.{Reason}
 use Rattle.evidence_check.specs.declared.refusal.Reason.TheVariants.{Number, Size, Order, Link, Calendar, Step, End, Weak, Cited, Holds}
 use Rattle.evidence_check.specs.declared.refusal.Refused.{Refused}
@@ -91,19 +91,9 @@ IsNoProof net atom steps other = ⊥
 abbrev pub IsNumberRefused : PlainNet → ℕ → ℕ → Refused → Type 0
 IsNumberRefused net a b refused = (refused.part ≡ 0) × (n : ℕ) × (refused.reason ≡ Number n) × IsBadNumber net a b n
 
--- so many walks or timelines where there should be another number of them, which no text has
-abbrev pub IsCountRefused : ℕ → ℕ → Refused → Type 0
-IsCountRefused count due refused = (refused.part ≡ 0) × (refused.reason ≡ Size count) × (count ≢ due)
-
 -- the first walk that does not prove its atom: walk k is part k + 1
 abbrev pub IsWalkRefused : PlainNet → List Atom → List (List StepOf) → Refused → Type 0
 IsWalkRefused net atoms walks refused = (k : ℕ) × IsFirst (length atoms) (Proves net atoms walks) (Some k) × (refused.part ≡ k + 1) × IsNoProof net (atom_at atoms k) (walk_at walks k) refused.reason
-
--- how many walks there are, or the first that does not prove its atom
-abbrev pub AreWalksRefused : PlainNet → List Atom → List (List StepOf) → Refused → Type 0
-AreWalksRefused net atoms walks refused =
-    IsCountRefused (length walks) (length atoms) refused
-    ⊎ ((length walks ≡ length atoms) × IsWalkRefused net atoms walks refused)
 
 -- the timeline, which is part 1
 abbrev pub IsTimelineRefused : PlainNet → List ℕ → Refused → Type 0
@@ -139,18 +129,12 @@ IsSpareRefused net cites spares refused =
     (i : ℕ) × IsFirst (length cites) (IsSpareAt net cites spares) (Some i) × (refused.part ≡ i + 2)
     × IsMisfit net (Others (Contains cites) (cite_at cites i)) (ranks_of (ranks_at spares i)) refused.reason
 
--- how many timelines there are, or the first that does not fit with the other cited links
-abbrev pub AreSparesRefused : PlainNet → List ℕ → List (List (ℕ × ℕ)) → Refused → Type 0
-AreSparesRefused net cites spares refused =
-    IsCountRefused (length spares) (length cites) refused
-    ⊎ ((length spares ≡ length cites) × IsSpareRefused net cites spares refused)
-
 -- the first part that is refused, and the first reason there
 abbrev pub IsRefused : PlainNet → PlainEvidence → Refused → Type 0
 IsRefused net (timeline ranks) refused = IsTimelineRefused net (ranks_of ranks) refused
 IsRefused net (entails a r b walks) refused =
     IsNumberRefused net a b refused
-    ⊎ (AreIntervals net a b × AreWalksRefused net (atoms_of r a b) walks refused)
+    ⊎ (AreIntervals net a b × IsWalkRefused net (atoms_of r a b) walks refused)
 IsRefused net (counter a r b ranks) refused =
     IsNumberRefused net a b refused
     ⊎ (AreIntervals net a b × IsTimelineRefused net (ranks_of ranks) refused)
@@ -158,7 +142,7 @@ IsRefused net (counter a r b ranks) refused =
 IsRefused net (clash cites walk spares) refused =
     IsCiteRefused net cites refused
     ⊎ (AreLinks net cites × IsRoundRefused net cites walk refused)
-    ⊎ (AreLinks net cites × IsClosedOver net cites walk × AreSparesRefused net cites spares refused)
+    ⊎ (AreLinks net cites × IsClosedOver net cites walk × IsSpareRefused net cites spares refused)
 
 -- the law: evidence is not both supported and refused, and is refused for one reason at most
 pub record Verdicts (net : PlainNet) (e : PlainEvidence) : Type 0 where
@@ -168,6 +152,6 @@ pub record Verdicts (net : PlainNet) (e : PlainEvidence) : Type 0 where
 abbrev pub OneVerdict : Type 0
 OneVerdict = (net : PlainNet) (e : PlainEvidence) → Verdicts net e
 
--- evidence is supported, or refused
+-- the law: well-formed evidence is supported, or refused
 abbrev pub SupportedOrRefused : PlainNet → PlainEvidence → Type 0
-SupportedOrRefused net e = IsSupported net e ⊎ ((refused : Refused) × IsRefused net e refused)
+SupportedOrRefused net e = IsWellFormed e → IsSupported net e ⊎ ((refused : Refused) × IsRefused net e refused)

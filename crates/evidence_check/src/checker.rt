@@ -2,7 +2,7 @@
 ghost use Rattle.evidence_check.specs.Claims.{ShowsTruth, claim_of};
 ghost use Rattle.evidence_check.specs.Asked.{AreRisingLinks};
 ghost use Rattle.evidence_check.specs.Demands.{AreDemands};
-ghost use Rattle.evidence_check.specs.Refusals.{AreSparesRefused, IsCiteRefused, IsNumberRefused, IsRefused};
+ghost use Rattle.evidence_check.specs.Refusals.{IsCiteRefused, IsNumberRefused, IsRefused, IsSpareRefused};
 ghost use Rattle.evidence_check.specs.Spares.{spares_of};
 ghost use Rattle.evidence_check.specs.Supported.{AllFitOthers, AreLinks, IsSupported};
 ghost use Rattle.evidence_format.specs.Evidence.{AreRanks, IsWellFormed, clash, counter, entails, timeline};
@@ -215,7 +215,7 @@ fn check_spares(
     requires one_each { length (spares_of spares) ≡ length cites.now }
     requires ranks { All AreRanks (map pairs_of (spares_of spares)) }
     ensures ok { OnOk result (AllFitOthers net.now cites.now (map pairs_of (spares_of spares.entry))) }
-    ensures err { IfErr result (AreSparesRefused net.now cites.now (map pairs_of (spares_of spares.entry))) }
+    ensures err { IfErr result (IsSpareRefused net.now cites.now (map pairs_of (spares_of spares.entry))) }
 {
     for i in 0..cites.len() {
         let own = cites[i];

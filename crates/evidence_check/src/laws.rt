@@ -16,12 +16,13 @@ pub fn supported_is_true()
     ensures { (net : PlainNet) (e : PlainEvidence) → IsSupported net e → ShowsTruth net e }
 {}
 
-/// Whatever the net and the evidence are, the evidence is supported or refused.
+/// Whatever the net is, well-formed evidence is supported or refused.
 pub fn supported_or_refused()
     ensures { (net : PlainNet) (e : PlainEvidence) → SupportedOrRefused net e }
 {}
 
-/// Several claims are all supported, or one of them is the first whose evidence is refused, for one reason, and not both.
+/// Several well-formed claims are all supported, or one of them is the first whose evidence is refused, for one reason, and
+/// not both.
 pub fn one_bundle_verdict()
     ensures { OneBundleVerdict }
 {}

@@ -1,6 +1,6 @@
 //! Whether walks prove the orders that a relation is.
 ghost use Rattle.evidence_check.specs.Following.{LeadsTo, StopsAt};
-ghost use Rattle.evidence_check.specs.Refusals.{AreWalksRefused, IsNoProof};
+ghost use Rattle.evidence_check.specs.Refusals.{IsNoProof, IsWalkRefused};
 ghost use Rattle.evidence_check.specs.Supported.{IsProof, ProveAll};
 ghost use Rattle.evidence_format.specs.Evidence.{AreSteps, IsNumber};
 ghost use Rattle.net_core.specs.Atoms.{atoms_in};
@@ -18,7 +18,7 @@ pub fn prove_all(net: &Net, atoms: Atoms, walks: &[Walk]) -> Result<(), Refused>
     requires one_each { length walks.now ≡ length (atoms_in atoms) }
     requires few { All AreSteps walks.now }
     ensures ok { OnOk result (ProveAll net.now (atoms_in atoms) walks.now) }
-    ensures err { IfErr result (AreWalksRefused net.now (atoms_in atoms) walks.now) }
+    ensures err { IfErr result (IsWalkRefused net.now (atoms_in atoms) walks.now) }
 {
     for k in 0..atoms.count() {
         let Some(atom) = atoms.atom(k) else {

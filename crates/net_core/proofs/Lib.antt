@@ -8,3 +8,4 @@ pub mod PointLaws
 pub mod StepLaws
 pub mod WalkLaws
 pub mod RelLaws
+pub mod Lent

@@ -14,8 +14,10 @@ use Rattle.seconds_core.specs.declared.line.Constraint.{Constraint}
 use Rattle.seconds_core.specs.declared.line.Line.{Line}
 use Rattle.seconds_core.specs.Constraints.{constraint_of}
 use Rattle.seconds_core.specs.Cycles.{IsJoined}
-use Rattle.seconds_core.specs.Placed.{AreInOrder, IsBetween, KeepsLink, KeepsOrder, second_at}
+use Rattle.seconds_core.specs.Orders.{AreInOrder, KeepsOrder}
+use Rattle.seconds_core.specs.Placed.{IsBetween, KeepsLink, second_at}
 use Rattle.seconds_core.specs.Timed.{PlainTimed}
+use Rattle.seconds_core.proofs.Relations.{relation_by_orders}
 use Rattle.seconds_check.specs.Refusals.{GoFrom, GoOn}
 use Rattle.seconds_check.proofs.Joined.{start_is}
 
@@ -30,7 +32,12 @@ all_kept seconds [] = yes tt
 all_kept seconds (atom ∷ atoms) = Dec.and (in_order atom.strict (second_at seconds atom.from) (second_at seconds atom.to)) (all_kept seconds atoms)
 
 pub keeps_link : (seconds : List ℤ) (link : NetLink) → Dec (KeepsLink seconds link)
-keeps_link seconds link = all_kept seconds (atoms_of link.rel link.a link.b)
+keeps_link seconds link =
+    let relation = relation_by_orders seconds link in
+    elim (all_kept seconds (atoms_of link.rel link.a link.b)) [
+      | yes kept ↦ yes (relation.1 kept)
+      | no broken ↦ no (λ keeps. broken (relation.0 keeps))
+    ]
 
 where_there : (P : ℤ → Type 0) (o : Option ℤ) → ((m : ℤ) → Dec (P m)) → Dec (IfSome o P)
 where_there P (Some m) decided = decided m

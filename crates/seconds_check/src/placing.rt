@@ -4,7 +4,8 @@ ghost use Rattle.net_core.specs.Nets.{intervals, link_at, points};
 ghost use Rattle.seconds_check.specs.Refusals.{FirstBroken, FirstOutside, FirstUnordered, FirstWrongLength, IsMisplaced};
 ghost use Rattle.seconds_core.specs.Evidence.{IsPlacing};
 ghost use Rattle.seconds_core.specs.Placed as spec;
-ghost use Rattle.seconds_core.specs.Placed.{AreInOrder, IsBetween, IsPlaced, KeepsBounds, KeepsLimits, KeepsLink, KeepsOrder, StartsFirst};
+ghost use Rattle.seconds_core.specs.Orders.{AreInOrder, KeepsOrder};
+ghost use Rattle.seconds_core.specs.Placed.{IsBetween, IsPlaced, KeepsBounds, KeepsLimits, KeepsLink, StartsFirst};
 ghost use Rattle.std.specs.List.{All};
 ghost use Rattle.std.specs.Prelude.{IfErr, IfSome, IsTrue, OnOk, length, ◌*◌, ◌+◌, ◌<◌, ◌≡◌, ◌↔◌, ◌<ℤ◌, ◌≤ℤ◌, ◌-ℤ◌};
 

@@ -16,9 +16,11 @@ use Rattle.net_core.proofs.StepLaws.{one_of_all}
 use Rattle.seconds_core.specs.declared.line.Line.TheVariants.{Span, Via, Lower, Upper, Least, Most}
 use Rattle.seconds_core.specs.Constraints.{IsMet, at_most, constraint_by}
 use Rattle.seconds_core.specs.Laws.{ConstraintsSayWhatIsPlaced, MeetsAll}
-use Rattle.seconds_core.specs.Placed.{AreInOrder, IsPlaced, KeepsLink, KeepsOrder, lasts, second_at}
+use Rattle.seconds_core.specs.Orders.{AreInOrder, KeepsOrder}
+use Rattle.seconds_core.specs.Placed.{IsPlaced, KeepsLink, lasts, second_at}
 use Rattle.seconds_core.specs.Timed.{IsTimed, PlainTimed, limits_at, lower_second, origin, upper_second}
 use Rattle.seconds_core.proofs.Named.{each, made, tested, there, within}
+use Rattle.seconds_core.proofs.Relations.{relation_by_orders}
 use Rattle.seconds_core.proofs.InRange.{limits_past, lower_past, upper_past}
 
 -- an order of two seconds is a constraint
@@ -40,7 +42,7 @@ module _ (timed : PlainTimed) (seconds : List ℤ) where
       let (a, at, same) = made constraint_by (atom_of timed.net (Link k j)) c e in
       option_and_then_some (λ (l : NetLink). slice_get (atoms_of l.rel l.a l.b) j) (slice_get timed.net.links k) a at (λ l here there.
       let link = get_or_from_slice_get timed.net.links k l (record { a = 0; rel = rel.Before; b = 0 }) here in
-      let keeps = subst (KeepsLink seconds) link (placed.links k (slice_get_within timed.net.links k l here)) in
+      let keeps = (relation_by_orders seconds l).0 (subst (KeepsLink seconds) link (placed.links k (slice_get_within timed.net.links k l here))) in
       let order = one_of_all (KeepsOrder seconds) (atoms_of l.rel l.a l.b) j a (All-from_recursion (KeepsOrder seconds) (atoms_of l.rel l.a l.b) keeps) there in
       subst (IsMet seconds) same ((order_met a.strict (second_at seconds a.from) (second_at seconds a.to)).0 order))
   met is placed (Lower p) c e =
@@ -73,9 +75,9 @@ module _ (timed : PlainTimed) (seconds : List ℤ) where
     links = λ k lt.
         let l = link_at timed.net k in
         let at : slice_get timed.net.links k ≡ Some l = slice_get-get_or timed.net.links k (record { a = 0; rel = rel.Before; b = 0 }) lt in
-        recursion_from_All (KeepsOrder seconds) (atoms_of l.rel l.a l.b) (All-from_get_or (KeepsOrder seconds) (atoms_of l.rel l.a l.b) (before 0 0) (λ j lj.
+        (relation_by_orders seconds l).1 (recursion_from_All (KeepsOrder seconds) (atoms_of l.rel l.a l.b) (All-from_get_or (KeepsOrder seconds) (atoms_of l.rel l.a l.b) (before 0 0) (λ j lj.
         let a = get_or (atoms_of l.rel l.a l.b) j (before 0 0) in
-        (order_met a.strict (second_at seconds a.from) (second_at seconds a.to)).1 (meets (Via k j) (constraint_by a) (rw at (rw (slice_get-get_or (atoms_of l.rel l.a l.b) j (before 0 0) lj) refl)))));
+        (order_met a.strict (second_at seconds a.from) (second_at seconds a.to)).1 (meets (Via k j) (constraint_by a) (rw at (rw (slice_get-get_or (atoms_of l.rel l.a l.b) j (before 0 0) lj) refl))))));
     bounds = λ p lt. (
       each (λ m. m ≤ℤ second_at seconds p) (lower_second timed p) (λ n at. omega (arith, ints, zero, meets (Lower p) (at_most p (origin timed) (neg_ℤ n)) (ap (option_map (λ m. at_most p (origin timed) (neg_ℤ m))) at))),
       each (λ m. second_at seconds p ≤ℤ m) (upper_second timed p) (λ n at. omega (arith, ints, zero, meets (Upper p) (at_most (origin timed) p n) (ap (option_map (λ m. at_most (origin timed) p m)) at))),

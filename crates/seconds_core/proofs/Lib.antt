@@ -3,3 +3,4 @@ pub mod InRange
 pub mod Kept
 pub mod Ordered
 pub mod Sums
+pub mod Relations

@@ -1,5 +1,5 @@
 -- The laws of placings.
-use Rattle.std.specs.Prelude.{◌≡◌, ◌↔◌, ℕ, ℤ, pos, ◌+ℤ◌, List, length, Some}
+use Rattle.std.specs.Prelude.{◌≡◌, ◌↔◌, ℕ, ◌+◌, ◌*◌, ℤ, pos, ◌+ℤ◌, List, length, Some}
 use Rattle.net_core.specs.Entailment.{HasTimeline}
 use Rattle.net_core.specs.Nets.{points}
 use Rattle.net_core.specs.Relations.{Relates, Timeline}
@@ -8,16 +8,20 @@ use Rattle.seconds_core.specs.declared.line.Constraint.{Constraint}
 use Rattle.seconds_core.specs.declared.line.Line.{Line}
 use Rattle.seconds_core.specs.Constraints.{IsMet, constraint_of}
 use Rattle.seconds_core.specs.Cycles.{IsNegative}
-use Rattle.seconds_core.specs.Placed.{HasPlacing, IsPlaced, KeepsLink, second_at}
+use Rattle.seconds_core.specs.Placed.{HasPlacing, IsPlaced, KeepsLink, end_at, start_at}
 use Rattle.seconds_core.specs.Timed.{IsTimed, PlainTimed}
 
--- a timeline counts the seconds of all points from one second on
-abbrev pub CountsFrom : ℤ → List ℤ → Timeline → Type 0
-CountsFrom first seconds t = (p : ℕ) → second_at seconds p ≡ first +ℤ pos (t p)
+-- a timeline counts the seconds of an interval from one second on
+abbrev pub Counts : ℤ → List ℤ → Timeline → ℕ → Type 0
+Counts first seconds t i = (start_at seconds i ≡ first +ℤ pos (t (2 * i))) × (end_at seconds i ≡ first +ℤ pos (t (2 * i + 1)))
 
--- the law: a link holds of seconds exactly where its relation holds of them, from whichever second they are counted
+-- the law: a link holds of the seconds of its intervals exactly where its relation holds in a timeline that counts them
 abbrev pub SecondsSayTheRelation : Type 0
-SecondsSayTheRelation = (first : ℤ) (seconds : List ℤ) (t : Timeline) (link : NetLink) → CountsFrom first seconds t → KeepsLink seconds link ↔ Relates t link.rel link.a link.b
+SecondsSayTheRelation = (first : ℤ) (seconds : List ℤ) (t : Timeline) (link : NetLink) → Counts first seconds t link.a → Counts first seconds t link.b → KeepsLink seconds link ↔ Relates t link.rel link.a link.b
+
+-- the law: from some second on, some timeline counts the seconds of all intervals
+abbrev pub SecondsAreCounted : Type 0
+SecondsAreCounted = (seconds : List ℤ) → (first : ℤ) × (t : Timeline) × ((i : ℕ) → Counts first seconds t i)
 
 -- all constraints that lines name are met
 abbrev pub MeetsAll : PlainTimed → List ℤ → Type 0

@@ -1,5 +1,7 @@
 pub mod Timed
+pub mod Relations
 pub mod Placed
+pub mod Orders
 pub mod Constraints
 pub mod Cycles
 pub mod Evidence

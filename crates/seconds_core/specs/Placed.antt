@@ -1,35 +1,32 @@
 -- Placings: a whole second for the start and one for the end of each interval.
-use Rattle.std.specs.Prelude.{◌≡◌, ℕ, ◌+◌, ◌*◌, ◌<◌, ℤ, pos, ◌-ℤ◌, ◌<ℤ◌, ◌≤ℤ◌, Bool, true, false, List, length, Option, IfSome, slice_index_or}
-use Rattle.std.specs.List.{AllByRecursion}
-use Rattle.net_core.specs.Atoms.{atoms_of}
+use Rattle.std.specs.Prelude.{◌≡◌, ℕ, ◌+◌, ◌*◌, ◌<◌, ℤ, pos, ◌-ℤ◌, ◌<ℤ◌, ◌≤ℤ◌, List, length, Option, IfSome, slice_index_or}
 use Rattle.net_core.specs.Nets.{intervals, link_at, points}
-use Rattle.net_core.specs.declared.atom.Atom.{Atom}
 use Rattle.net_core.specs.declared.net.NetLink.{NetLink}
+use Rattle.seconds_core.specs.Relations.{Holds}
 use Rattle.seconds_core.specs.Timed.{PlainTimed, limits_at, lower_second, upper_second}
 
 -- the second of a point; that of the origin, which is past them all, is 0
 abbrev pub second_at : List ℤ → ℕ → ℤ
 second_at seconds p = slice_index_or seconds p (pos 0)
 
--- one second is before another, or where the order is not strict they may be the same
-abbrev pub AreInOrder : Bool → ℤ → ℤ → Type 0
-AreInOrder true m n = m <ℤ n
-AreInOrder false m n = m ≤ℤ n
+-- the first second of an interval, and the first one after it
+abbrev pub start_at : List ℤ → ℕ → ℤ
+start_at seconds i = second_at seconds (2 * i)
 
-abbrev pub KeepsOrder : List ℤ → Atom → Type 0
-KeepsOrder seconds atom = AreInOrder atom.strict (second_at seconds atom.from) (second_at seconds atom.to)
+abbrev pub end_at : List ℤ → ℕ → ℤ
+end_at seconds i = second_at seconds (2 * i + 1)
 
--- a link holds where each order does that its relation is
+-- the relation of a link holds of its intervals
 abbrev pub KeepsLink : List ℤ → NetLink → Type 0
-KeepsLink seconds link = AllByRecursion (KeepsOrder seconds) (atoms_of link.rel link.a link.b)
+KeepsLink seconds link = Holds link.rel (start_at seconds link.a) (end_at seconds link.a) (start_at seconds link.b) (end_at seconds link.b)
 
 -- the interval starts before it ends
 abbrev pub StartsFirst : List ℤ → ℕ → Type 0
-StartsFirst seconds i = second_at seconds (2 * i) <ℤ second_at seconds (2 * i + 1)
+StartsFirst seconds i = start_at seconds i <ℤ end_at seconds i
 
 -- how long an interval lasts
 abbrev pub lasts : List ℤ → ℕ → ℤ
-lasts seconds i = second_at seconds (2 * i + 1) -ℤ second_at seconds (2 * i)
+lasts seconds i = end_at seconds i -ℤ start_at seconds i
 
 -- a number is within a lower and an upper one, of those that are there
 abbrev pub IsBetween : Option ℤ → Option ℤ → ℤ → Type 0

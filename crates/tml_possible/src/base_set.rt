@@ -6,8 +6,9 @@ ghost use Rattle.tml_possible.specs.Sets.{AreMore};
 
 use net_core::Rel;
 
-/// A set of base relations (Allen 1983): of any two intervals, exactly one of the thirteen holds.
-#[derive(Clone, Copy, PartialEq, Eq)]
+/// A set of base relations (Allen 1983): of any two intervals, exactly one of the thirteen holds. Two sets are compared by
+/// their numbers.
+#[derive(Clone, Copy)]
 pub struct BaseSet {
     /// Bit k is that of base relation k, in the order of the table of relations.
     pub(crate) bits: u16,

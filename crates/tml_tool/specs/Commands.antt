@@ -1,5 +1,5 @@
 -- The table of commands: of each form its word, its arguments and its rows. A further command adds a line to each.
-use Rattle.std.specs.Prelude.{◌≡◌, Bool, true, ℕ, List, [], ◌∷◌, codes, String, None, Some, is_some}
+use Rattle.std.specs.Prelude.{◌≡◌, Bool, true, ℕ, List, [], ◌∷◌, codes, length, String, None, Some, is_some}
 use Rattle.std.specs.declared.alloc.Global.{Global}
 use Rattle.std.specs.declared.option.Option.{Option}
 use Rattle.named.specs.Texts.{named_of}
@@ -130,6 +130,11 @@ form_of (word ∷ arguments) = with_arguments arguments_of takes arguments (name
 abbrev pub most_calls : Option (Form × List (List ℕ)) → ℕ
 most_calls None = 0
 most_calls (Some asked) = calls_for (limits_of asked.0)
+
+-- How many files a form reads at most, and none without a form.
+abbrev pub most_files : Option (Form × List (List ℕ)) → ℕ
+most_files None = 0
+most_files (Some asked) = length (limits_of asked.0)
 
 -- words that have no form are answered by the usage text
 abbrev pub usage_rows : Rows

@@ -1,11 +1,11 @@
 //! The table of commands: of each form of words its word, its arguments and its reply. A further command adds a line to
 //! each.
 ghost use Rattle.std.proofs.Common.{rules};
-ghost use Rattle.std.specs.Prelude.{◌≡◌, ◌≤◌, ◌<◌, ◌↔◌, length, None};
-ghost use Rattle.tml_io.specs.Faults.{HasRisen, RisesAtMost};
+ghost use Rattle.std.specs.Prelude.{◌≡◌, ◌≤◌, ◌<◌, ◌↔◌, ◌*◌, length, None};
+ghost use Rattle.tml_io.specs.Faults.{CallsFollow, HasRisen, RisesAtMost};
 ghost use Rattle.tml_run.specs.Replied.{IsReplyTo};
 ghost use Rattle.tml_run.specs.View.{status_of, text_of};
-ghost use Rattle.tml_tool.specs.Commands.{arguments_of, most_calls, rows_of, taken, usage};
+ghost use Rattle.tml_tool.specs.Commands.{arguments_of, most_calls, most_files, rows_of, taken, usage};
 ghost use Rattle.tml_tool.specs.Forms.{argument, texts_of};
 
 use answers::{DOC, reply_of_document, reply_of_judged};
@@ -168,6 +168,7 @@ pub fn reply_with<I: Inputs>(
     ensures files { I.files inputs.new ≡ I.files inputs.old }
     ensures stays_sound { I.sound inputs.new ≡ I.sound inputs.old }
     ensures calls { RisesAtMost (most_calls (taken form (texts_of arguments.now))) (I.calls inputs.old) (I.calls inputs.new) }
+    ensures follows { CallsFollow (2 * most_files (taken form (texts_of arguments.now))) (I.given inputs.old) (I.given inputs.new) (I.calls inputs.old) (I.calls inputs.new) }
     ensures never_falls { I.faults inputs.old ≤ I.faults inputs.new }
 {
     let first = word(arguments, 0);

@@ -1,12 +1,12 @@
 //! The top call.
-ghost use Rattle.std.specs.Prelude.{true, ◌≡◌, ◌≤◌, ◌↔◌, None};
-ghost use Rattle.tml_io.specs.Faults.{HasRisen, RisesAtMost};
+ghost use Rattle.std.specs.Prelude.{true, ◌≡◌, ◌≤◌, ◌↔◌, ◌*◌, None};
+ghost use Rattle.tml_io.specs.Faults.{CallsFollow, HasRisen, RisesAtMost};
 ghost use Rattle.tml_io.specs.Room.{FaultsOnlyWhenFull};
 ghost use Rattle.tml_run.specs.Outcome.{Outcome};
 ghost use Rattle.tml_run.specs.Reading.{AllThere, NoneReached};
 ghost use Rattle.tml_run.specs.Replied.{IsReplyTo};
 ghost use Rattle.tml_run.specs.View.{status_of, text_of};
-ghost use Rattle.tml_tool.specs.Commands.{form_of, most_calls, rows_of_words};
+ghost use Rattle.tml_tool.specs.Commands.{form_of, most_calls, most_files, rows_of_words};
 ghost use Rattle.tml_tool.specs.Forms.{texts_of};
 
 use crate::commands::{Form, reply_with, usage_text};
@@ -27,6 +27,7 @@ fn reply_to<I: Inputs>(alloc: Global, words: &[String], inputs: &mut I) -> Reply
     ensures files { I.files inputs.new ≡ I.files inputs.old }
     ensures stays_sound { I.sound inputs.new ≡ I.sound inputs.old }
     ensures calls { RisesAtMost (most_calls (form_of (texts_of words.now))) (I.calls inputs.old) (I.calls inputs.new) }
+    ensures follows { CallsFollow (2 * most_files (form_of (texts_of words.now))) (I.given inputs.old) (I.given inputs.new) (I.calls inputs.old) (I.calls inputs.new) }
     ensures never_falls { I.faults inputs.old ≤ I.faults inputs.new }
 {
     let Some((word, arguments)) = words.split_first() else {
@@ -62,7 +63,9 @@ pub fn run<I: Inputs, S: Sink>(
     ensures usage { (result ≡ Status.Usage) ↔ (form_of (texts_of words.now) ≡ None) }
 
     // No more calls read the files than their greatest lengths ask for: each is started, and read byte by byte to its end.
+    // Nor more than two for each file beside one for each byte that was taken: no file is started twice.
     ensures calls { RisesAtMost (most_calls (form_of (texts_of words.now))) (I.calls inputs.old) (I.calls inputs.new) }
+    ensures follows { CallsFollow (2 * most_files (form_of (texts_of words.now))) (I.given inputs.old) (I.given inputs.new) (I.calls inputs.old) (I.calls inputs.new) }
 
     // A fault of a device is answered only where its count rose in this call, or has its greatest value. Out of memory
     // nothing was written.

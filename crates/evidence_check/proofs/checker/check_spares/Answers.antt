@@ -1,6 +1,6 @@
-use Rattle.std.proofs.Common.{map, below_more, [], inr, ◌∙◌, arith}
+use Rattle.std.proofs.Common.{map, below_more, [], ◌∙◌, arith}
 use Rattle.std.proofs.lemmas.List.{length-map}
-use Rattle.named.proofs.Pairs.{zip_from}
+use Rattle.net_core.proofs.Lent.{zip_from}
 use Rattle.net_core.specs.Ranks.{pairs_of}
 use Rattle.evidence_check.specs.Refusals.{IsSpareAt}
 use Rattle.evidence_check.specs.Spares.{spares_of}
@@ -16,7 +16,7 @@ returns-in-Err-clause-err c =
     let spares = spares_of c.args.spares in
     let i = c.loop-i.i in
     let is = spare_is spares i c.spare_at.result.now (omega (arith, c.loop-i-test.true, c.requires.one_each)) c.spare_at.ensures.ranks c.spare_at.ensures.even in
-    inr (length-map spares pairs_of ∙ c.requires.one_each, spare_refused c.args.net.now c.args.cites.now (map pairs_of spares) i c.spare_at.result.now is c.in-Err.reason (omega (arith, c.loop-i-test.true)) c.loop-i.invariant.so_far c.in-Err.ensures.err)
+    spare_refused c.args.net.now c.args.cites.now (map pairs_of spares) i c.spare_at.result.now is c.in-Err.reason (omega (arith, c.loop-i-test.true)) c.loop-i.invariant.so_far c.in-Err.ensures.err
 
 pub loop-i-preserved : goal.loop-i-preserved
 loop-i-preserved c =

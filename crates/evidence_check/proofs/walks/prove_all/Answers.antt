@@ -1,5 +1,5 @@
-use Rattle.std.proofs.Common.{◌<◌, false, [], inr, length, refl, ◌∙◌, arith, below_more}
-use Rattle.named.proofs.Pairs.{zip_from}
+use Rattle.std.proofs.Common.{◌<◌, false, [], length, refl, ◌∙◌, arith, below_more}
+use Rattle.net_core.proofs.Lent.{zip_from}
 use Rattle.net_core.specs.Atoms.{atoms_in}
 use Rattle.evidence_check.specs.Refusals.{IsNoProof, Proves, atom_at, walk_at}
 use Rattle.evidence_check.specs.Supported.{IsProof}
@@ -16,7 +16,7 @@ returns-in-Err-clause-err c =
     let refusal = at_number (λ a w. IsNoProof net a w c.in-Err.reason) atoms walks k c.in-Some.atom c.as_slice.result.now
     (atom_is atoms k c.in-Some.atom c.in-Some.ensures)
     (c.as_slice.ensures ∙ walk_is walks k c.index-walks-k.result (omega (arith, below, c.requires.one_each)) c.index-walks-k.is) c.in-Err.ensures.err in
-    inr (c.requires.one_each, (k, (below, (λ proof. not_both net (atom_at atoms k) (walk_at walks k) c.in-Err.reason proof refusal), c.loop-k.invariant.so_far), refl, refusal))
+    (k, (below, (λ proof. not_both net (atom_at atoms k) (walk_at walks k) c.in-Err.reason proof refusal), c.loop-k.invariant.so_far), refl, refusal)
 
 pub loop-k-preserved : goal.loop-k-preserved
 loop-k-preserved c =
