@@ -1,0 +1,1 @@
+"""`agree`: how far two annotations of the same texts agree."""

@@ -1,0 +1,1 @@
+"""Asking `tml` about files: by its program or its library, on all processors or on a cluster."""

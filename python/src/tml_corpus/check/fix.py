@@ -1,0 +1,259 @@
+"""What has one cure only, mended: in a copy, which `tml` has to accept, or to go further in, before it is shown or written."""
+
+from __future__ import annotations
+
+from collections.abc import Callable, Iterator
+from dataclasses import dataclass, field
+from itertools import chain, islice
+
+from tml.places import Places, characters
+
+from ..asking.program import FAULT, CannotRun, Program
+from ..asking.room import room_for
+from ..document.cutting import units_of_whole
+from ..document.edits import Edit, applied
+from ..document.source import Explanation, Source
+from ..files.finding import CannotRead, Found, counted, read_document, shown
+from ..files.replacing import replace_file
+from ..lint.kinds import Lint
+from ..lint.warnings import warnings_of
+from . import faults
+from .encoding import converted
+from .explain import OF_TAGS, explain
+from .faults import Fault, read_fault
+from .formats import located
+from .judgement import problem_of
+from .markup import cdata_edits, quote_edits, reference_edits
+from .nesting import end_edits, name_edits
+
+ROUNDS = 64
+"""So many kinds of slips are mended in one document at most, one after another."""
+
+MOST_EDITS = 100_000
+"""A kind of slip that is there more often is left."""
+
+CONTEXT = 3
+"""So many lines around a change are shown."""
+
+FOUND_LINK = "is a symbolic link that was found in a folder: name it to have what it leads to mended"
+
+
+Edits = Callable[[Source], Iterator[Edit]]
+FIXERS: dict[int, list[tuple[str, Edits]]] = {
+    faults.NOT_UTF8: [("the encoding", lambda source: converted(source.document))],
+    faults.BAD_REFERENCE: [("& that begin no reference", lambda source: reference_edits(source.document))],
+    faults.BAD_MARKUP: [
+        ("CDATA sections", lambda source: cdata_edits(source.document)),
+        ("curly quotes", lambda source: quote_edits(source.document)),
+    ],
+    faults.UNKNOWN_TAG: [("names of tags", name_edits)],
+    faults.UNBALANCED: [("names of tags", end_edits)],
+    faults.REPEATED: [("attributes that stand twice", lambda source: cures_of_tags(source, faults.REPEATED))],
+    faults.MISSING: [("names of attributes, and identifiers", lambda source: cures_of_tags(source, faults.MISSING))],
+    faults.BAD_VALUE: [("values", lambda source: cures_of_tags(source, faults.BAD_VALUE))],
+    faults.CONFLICT: [("ends of links", lambda source: cures_of_tags(source, faults.CONFLICT))],
+    faults.BAD_DATE: [("dates", lambda source: cures_of_tags(source, faults.BAD_DATE))],
+    faults.DUPLICATE: [("identifiers", lambda source: cures_of_tags(source, faults.DUPLICATE))],
+    faults.UNKNOWN_REFERENCE: [("references", lambda source: cures_of_tags(source, faults.UNKNOWN_REFERENCE))],
+}
+"""What may help against a fault in all of a document, each with the words for it."""
+
+ONE_CURE = "what is at fault"
+"""The words for the cure of one fault, where it is none of those."""
+
+CURED_WARNINGS = {"tag-as-text": "tags without their <", "misspelled-attribute": "names of attributes", "value-form": "values of times"}
+"""The kinds of warnings of which some have one cure only, each with the words for it."""
+
+
+@dataclass(frozen=True)
+class Step:
+    """A kind of slip that was mended: the words for it, its edits, the document after them, and the fault that is first then."""
+
+    words: str
+    edits: list[Edit]
+    after: bytes
+    following: Fault | None
+
+
+@dataclass
+class Fixed:
+    """A document that was mended as far as there is one cure only, what was changed, and the fault that is left."""
+
+    before: bytes
+    after: bytes
+    changes: list[str] = field(default_factory=list)
+    left: Fault | None = None
+
+
+@dataclass(frozen=True)
+class FixReport:
+    """What became of one file: what is printed of it, whether it can be or was mended, and whether a fault is left."""
+
+    text: str
+    changed: bool = False
+    left: bool = False
+    problem: bool = False
+
+
+def fix(program: Program, found: Found, writes: bool) -> FixReport:
+    """Mends one file, in memory or where that is wanted in its place."""
+    if found.problem is not None:
+        return not_mended(found, found.problem)
+    if found.is_found_link():
+        return not_mended(found, FOUND_LINK)
+    try:
+        document = read_document(found.place())
+        with room_for(document):
+            fixed = mended(program, document)
+            if writes and fixed.changes:
+                write(fixed, found)
+            return FixReport(report(found.path, fixed, writes), bool(fixed.changes), fixed.left is not None)
+    except (CannotRead, CannotRun) as problem:
+        return not_mended(found, str(problem))
+    except MemoryError:
+        return not_mended(found, "no memory to take the document apart")
+
+
+def not_mended(found: Found, problem: str) -> FixReport:
+    """The report of a file that could not be looked at or written."""
+    return FixReport(f"{shown(found.path)}: not mended: {shown(problem)}\n", problem=True)
+
+
+def mended(program: Program, document: bytes) -> Fixed:
+    """Mends a document, one kind of slip after another, as long as `tml` goes further each time, and then what it accepts as it is."""
+    fixed = Fixed(document, document)
+    fault = first_fault(program, document)
+    for _ in range(ROUNDS):
+        step = next(steps(program, fixed.after, fault) if fault is not None else steps_of_warnings(program, fixed.after), None)
+        if step is None:
+            break
+        fixed.after, fault = step.after, step.following
+        fixed.changes.append(step.words)
+    fixed.left = fault
+    return fixed
+
+
+def steps(program: Program, document: bytes, fault: Fault) -> Iterator[Step]:
+    """The changes that help against a fault: after each the document is accepted, or its first fault comes later."""
+    units = units_of_whole(program, document) if fault.number > faults.BAD_MARKUP else None
+    # Of a kind that is there too often no slip is mended alone either, or a document of them would be looked at again for each.
+    is_settled = False
+    for words, edits_of in FIXERS.get(fault.number, []):
+        edits = list(islice(edits_of(Source(document, units)), MOST_EDITS + 1))
+        step = helping(program, document, fault, words, edits) if len(edits) <= MOST_EDITS else None
+        is_settled = is_settled or step is not None or len(edits) > MOST_EDITS
+        if step is not None:
+            yield step
+    step = None if is_settled else helping(program, document, fault, ONE_CURE, explain(program, document, fault).edits)
+    if step is not None:
+        yield step
+
+
+def steps_of_warnings(program: Program, document: bytes) -> Iterator[Step]:
+    """The changes of what is suspect in an accepted document and has one cure only: after each it is accepted still."""
+    source = Source(document, units_of_whole(program, document))
+    for name, words in CURED_WARNINGS.items():
+        edits = [edit for warning in warnings_of(program, source, Lint(frozenset({name}))) for edit in warning.edits]
+        changed = applied(document, edits)
+        if changed != document and first_fault(program, changed) is None:
+            yield Step(f"{words} ({counted(len(edits), 'change')})", edits, changed, None)
+
+
+def helping(program: Program, document: bytes, fault: Fault, words: str, edits: list[Edit]) -> Step | None:
+    """Some edits as a step, if they help against a fault."""
+    changed = applied(document, edits)
+    if changed == document:
+        return None
+    following = first_fault(program, changed)
+    shift = sum(len(edit.text) - (edit.end - edit.start) for edit in edits if edit.end <= fault.offset)
+    moved = Fault(fault.number, fault.name, fault.offset + shift)
+    if following is not None and following.order() <= moved.order():
+        return None
+    return Step(f"{words} ({counted(len(edits), 'change')})", edits, changed, following)
+
+
+def cures_of_tags(source: Source, number: int) -> Iterator[Edit]:
+    """The edits for a fault of all tags, of each where there is one cure only."""
+    for tag in chain(*source.by_kind.values()):
+        found = Explanation()
+        OF_TAGS[number](source, tag, found)
+        yield from found.edits
+
+
+def first_fault(program: Program, document: bytes) -> Fault | None:
+    """The first fault of a document, or None where it is accepted."""
+    reply = program.check(document)
+    fault = read_fault(reply.text) if reply.status == FAULT else None
+    problem = problem_of(reply) if fault is None else None
+    if problem is not None:
+        raise CannotRun(problem)
+    return fault
+
+
+def difference(path: str, fixed: Fixed, how: str = "mended") -> str:
+    """The changes line by line."""
+    old, new = lines_of(fixed.before), lines_of(fixed.after)
+    if len(old) != len(new):
+        return difference_of_lines(path, old, new, how)
+    changed = [number for number, (one, other) in enumerate(zip(old, new, strict=True)) if one != other]
+    lines = [f"--- {shown(path)}", f"+++ {shown(path)} ({how})"]
+    for first, last in hunks(changed, len(old)):
+        lines.append(f"@@ -{first + 1},{last - first} +{first + 1},{last - first} @@")
+        for number in range(first, last):
+            if old[number] == new[number]:
+                lines.append(" " + printed(old[number]))
+            else:
+                lines += ["-" + printed(old[number]), "+" + printed(new[number])]
+    return "".join(line + "\n" for line in lines)
+
+
+def difference_of_lines(path: str, old: list[bytes], new: list[bytes], how: str) -> str:
+    """The same where lines were put in or taken out."""
+    import difflib
+
+    before, after = ([printed(line) for line in lines] for lines in (old, new))
+    found = difflib.unified_diff(before, after, shown(path), f"{shown(path)} ({how})", n=CONTEXT, lineterm="")
+    return "".join(line + "\n" for line in found)
+
+
+def lines_of(document: bytes) -> list[bytes]:
+    """The lines of a document without their line feeds."""
+    lines = document.split(b"\n")
+    return lines if lines[-1] else lines[:-1]
+
+
+def hunks(changed: list[int], count: int) -> Iterator[tuple[int, int]]:
+    """The stretches of lines around changes."""
+    first = last = -1
+    for number in changed:
+        if first >= 0 and number - CONTEXT <= last:
+            last = min(number + CONTEXT + 1, count)
+            continue
+        if first >= 0:
+            yield first, last
+        first, last = max(number - CONTEXT, 0), min(number + CONTEXT + 1, count)
+    if first >= 0:
+        yield first, last
+
+
+def printed(line: bytes) -> str:
+    """A line as it may be printed: what is not printable is escaped, but for tabs."""
+    return "\t".join(shown(part) for part in characters(line.rstrip(b"\r")).split("\t"))
+
+
+def report(path: str, fixed: Fixed, writes: bool) -> str:
+    """What is printed of one file: the changes, unless they are written, and what is left to mend."""
+    lines, changed = [], bool(fixed.changes)
+    if changed:
+        lines.append(f"{shown(path)}: {'mended' if writes else 'can be mended'}: {', '.join(fixed.changes)}")
+    if fixed.left is not None:
+        then = "then left" if changed and not writes else "left"
+        place = Places(fixed.after).place(fixed.left.offset)
+        lines.append(f"{located(path, place)}: {then} to mend: {fixed.left.title()} at byte {fixed.left.offset}; see `tml-corpus check`")
+    changes = difference(path, fixed) if changed and not writes else ""
+    return changes + "".join(line + "\n" for line in lines)
+
+
+def write(fixed: Fixed, found: Found) -> None:
+    """Writes a mended document, if the file is still what was mended."""
+    replace_file(found.place(), fixed.after, fixed.before, found.top)

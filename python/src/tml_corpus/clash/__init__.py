@@ -1,0 +1,1 @@
+"""`clashes`: links that contradict each other, and what would settle it."""

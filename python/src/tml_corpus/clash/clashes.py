@@ -1,0 +1,105 @@
+"""Links that contradict each other: found by `tml solve`, judged by `tml verify` before they are reported, and kept as evidence."""
+
+from __future__ import annotations
+
+import os
+import re
+from collections.abc import Iterator, Sequence
+from contextlib import contextmanager
+from typing import NamedTuple
+
+from tml.lines import Step
+from tml.replies import kind_of
+
+from ..asking.program import ACCEPTED, CannotRun, File, Program, Reply
+from ..files.finding import CannotRead, reason
+from ..files.replacing import written
+
+STRICT_ORDERS = {
+    "BEFORE": (0,), "AFTER": (0,), "INCLUDES": (0, 1), "IS_INCLUDED": (0, 1), "BEGINS": (2,), "BEGUN_BY": (2,), "ENDS": (2,), "ENDED_BY": (2,),
+    "OVERLAPS": (0, 1, 2), "OVERLAPPED_BY": (0, 1, 2),
+}  # fmt: skip
+"""The orders of a relation that are strict, by their numbers in docs/DEFINITIONS.md; all others allow for equal points."""
+
+
+class Clash(NamedTuple):
+    """A minimal clash as `tml solve` printed it: the numbers of its links, the steps of its walk, and the whole text."""
+
+    links: tuple[int, ...]
+    walk: tuple[Step, ...]
+    evidence: bytes
+
+    def renumbered(self, numbers: Sequence[int]) -> Clash:
+        """The clash of a document that has more links: link K of this one is its link `numbers[K]`."""
+        walk = tuple(Step(step.kind, numbers[step.first], step.second) if step.kind == "via" else step for step in self.walk)
+        lines = re.sub(rb"^(cite|via) (\d+)", lambda found: b"%s %d" % (found[1], numbers[int(found[2])]), self.evidence, flags=re.MULTILINE)
+        return Clash(tuple(numbers[link] for link in self.links), walk, lines)
+
+
+def read_clash(reply: Reply) -> Clash:
+    """The clash that an answer of `tml solve` with status 2 has."""
+    links = tuple(int(number) for number in re.findall(rb"^cite (\d+)$", reply.text, re.MULTILINE))
+    steps = re.findall(rb"^(via|span|calendar) (\d+)(?: (\d+))?$", reply.text, re.MULTILINE)
+    if kind_of(reply.text) != b"clash" or not links or not steps:
+        raise CannotRun("the answer of tml to `solve` cannot be read")
+    return Clash(links, tuple(Step(kind.decode(), int(first), int(second or 0)) for kind, first, second in steps), reply.text)
+
+
+def is_timeline(reply: Reply) -> bool:
+    """Whether an answer of `tml solve` says that a timeline fits."""
+    return reply.status == ACCEPTED and kind_of(reply.text) == b"timeline"
+
+
+def verify_clash(program: Program, document: bytes, clash: Clash, kept: str | None = None) -> None:
+    """Has `tml verify` judge a clash. Its evidence stays where a name of a file is given for it."""
+    with evidence_file(clash.evidence, kept) as evidence:
+        judged = program.ask(["verify", "-"], document, evidence)
+    if judged.status != ACCEPTED or judged.text != b"verified clash %s\n" % b" ".join(b"%d" % link for link in clash.links):
+        said = judged.text.decode("utf-8", "replace").strip()
+        raise CannotRun(f"tml verify refused the evidence of tml solve: {said}")
+
+
+def verify_timeline(program: Program, document: bytes, timeline: Reply) -> None:
+    """Has `tml verify` judge a timeline that `tml solve` printed."""
+    verify_ranks(program, document, timeline.text, "the timeline of tml solve")
+
+
+def verify_ranks(program: Program, document: bytes, timeline: bytes, called: str) -> None:
+    """Has `tml verify` judge a timeline, whoever made it."""
+    judged = program.ask(["verify", "-"], document, timeline)
+    if judged.status != ACCEPTED or judged.text != b"verified timeline\n":
+        said = judged.text.decode("utf-8", "replace").strip()
+        raise CannotRun(f"tml verify did not accept {called}: {said}")
+
+
+@contextmanager
+def evidence_file(evidence: bytes, kept: str | None) -> Iterator[File]:
+    """The evidence as a file of a question: where a name is given the open file of this name, which stays."""
+    if kept is None:
+        yield evidence
+        return
+    try:
+        with written(kept) as target:
+            target.write(evidence)
+        file = open(kept, "rb")
+    except OSError as error:
+        raise CannotRead(f"its evidence cannot be kept: {reason(error)}") from None
+    with file:
+        yield file
+
+
+def evidence_name(path: str) -> str:
+    """A name for the evidence of a file."""
+    return own_name(path, "evidence")
+
+
+def own_name(path: str, end: str) -> str:
+    """A name for what is made of a file: its own name as far as it is plain, and a digest of the path.
+
+    It has 128 bits, so that no two paths can be found that have the same.
+    """
+    import hashlib
+
+    plain = re.sub(r"[^A-Za-z0-9._-]", "_", os.path.basename(path))[:100]
+    digest = hashlib.sha256(os.fsencode(path)).hexdigest()[:32]
+    return f"{plain}.{digest}.{end}"

@@ -1,0 +1,41 @@
+"""The first question about the clashes of a file. Some timeline fits most documents, and then nothing else is loaded or looked at."""
+
+from __future__ import annotations
+
+from ..asking.program import CannotRun, Program
+from ..asking.room import room_for
+from ..check.judgement import Judgement
+from ..files.finding import CannotRead, Found, read_document
+from .clashes import is_timeline
+from .report import ClashReport, Wanted
+
+
+def find_clashes(program: Program, found: Found, wanted: Wanted) -> ClashReport:
+    """Asks about the fault and the clashes of one file. Whatever goes wrong with it is reported of it and ends nothing else.
+
+    It is read once, and `tml solve` is asked first, which tells a fault too.
+    """
+    if found.problem is not None:
+        return ClashReport(Judgement(found.path, problem=found.problem))
+    try:
+        document = read_document(found.place())
+        reply = program.ask(["solve", "-"], document)
+        fits = is_timeline(reply)
+        if fits and wanted.lint is None:
+            return ClashReport(Judgement(found.path))
+        from .search import report_of, report_of_fitting
+
+        with room_for(document):
+            if fits:
+                return report_of_fitting(program, found, document, wanted)
+            return report_of(program, found, document, wanted, reply)
+    except (CannotRead, CannotRun) as problem:
+        return ClashReport(Judgement(found.path, problem=str(problem)))
+    except MemoryError:
+        return ClashReport(Judgement(found.path, problem="no memory to take the document apart"))
+
+
+def clashes_to_send(program: Program, found: Found, wanted: Wanted) -> ClashReport | None:
+    """The report on a file, as a process sends it: nothing where some timeline fits it and there is nothing to say of it."""
+    report = find_clashes(program, found, wanted)
+    return None if report.is_plain() else report

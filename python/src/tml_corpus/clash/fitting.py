@@ -1,0 +1,70 @@
+"""One document of which more is asked than whether it is accepted: that some timeline fits it, or why there is nothing to show."""
+
+from __future__ import annotations
+
+from dataclasses import dataclass, replace
+
+from ..asking.program import ACCEPTED, CLASH, FAULT, CannotRun, Program, Reply
+from ..check.formats import make_format
+from ..check.judging import judge_document
+from ..command_line.statuses import Status
+from ..files.finding import Found, shown
+from . import formats
+from .report import Wanted
+from .search import report_of
+from .touching import touching_copy
+
+
+@dataclass(frozen=True)
+class Fitting:
+    """A document that some timeline fits, what `tml solve` printed of it, and what there is to say of links that are read as touching."""
+
+    document: bytes
+    reply: Reply
+    text: str = ""
+
+
+@dataclass(frozen=True)
+class Unfit:
+    """What is said of a document that has a fault or a clash, and the status of that."""
+
+    text: str
+    status: int
+
+
+def fitting(program: Program, path: str, document: bytes, undone: str, touching: bool) -> Fitting | Unfit:
+    """The document, where some timeline fits it; else its fault or the links that clash, and last that it is not drawn, or what else.
+
+    Links between dates that touch may be read as the relation that holds: then the document is a copy.
+    """
+    reply = program.ask(["solve", "-"], document)
+    if reply.status == FAULT:
+        return fault_of(program, path, document)
+    if reply.status == CLASH:
+        return links_of(program, path, document, undone, touching, reply)
+    if reply.status != ACCEPTED:
+        raise CannotRun(reply.problem())
+    return Fitting(document, reply)
+
+
+def fault_of(program: Program, path: str, document: bytes) -> Unfit:
+    """The fault of a document, as `tml-corpus check` prints it."""
+    judgement = judge_document(program, path, document, True, 0)
+    if judgement.accepted():
+        raise CannotRun("the answers of tml to `solve` and `check` do not belong together")
+    return Unfit(make_format("text", True).file(judgement), Status.TROUBLE if judgement.problem else Status.FINDING)
+
+
+def links_of(program: Program, path: str, document: bytes, undone: str, touching: bool, reply: Reply) -> Fitting | Unfit:
+    """The links that clash, as `tml-corpus clashes` prints them; the copy where they clash only since dates touch, and may be read so."""
+    report = report_of(program, Found(path), document, Wanted(touching=touching), reply)
+    text = formats.Text(True).file(report)
+    if report.clashes:
+        return Unfit(f"{text}{shown(path)}: not {undone}: no timeline fits, since these links clash\n", Status.FINDING)
+    again = fitting(program, path, touching_copy(program, document), undone, False)
+    return replace(again, text=text + again.text)
+
+
+def not_judged(path: str, problem: Exception) -> Unfit:
+    """What is said of a document that cannot be read, or of which `tml` cannot be asked."""
+    return Unfit(f"{shown(path)}: not judged: {shown(str(problem))}\n", Status.TROUBLE)

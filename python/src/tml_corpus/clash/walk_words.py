@@ -1,0 +1,54 @@
+"""The walk of a clash in words, step by step: each point is no later than the next one, and the last one is the first one again.
+
+What a step says of two points is looked up in the table of docs/DEFINITIONS.md. That the walk is one is for `tml verify` to say.
+"""
+
+from __future__ import annotations
+
+from collections.abc import Sequence
+from dataclasses import dataclass
+
+from tml.lines import Step
+
+from ..asking.program import CannotRun
+from ..document.words import Wording
+from .constraints import ORDERS
+from .search import is_equal_end
+
+
+@dataclass(frozen=True)
+class WalkStep:
+    """A step of a walk: the points from which and to which it leads, whether the one is before the other, and why."""
+
+    first: int
+    second: int
+    strict: bool
+    reason: str
+    relation: str = ""
+    """The relation of its link, or by what else it goes."""
+
+
+def steps_in_words(wording: Wording, walk: Sequence[Step]) -> list[WalkStep]:
+    """The steps of a walk, each of which begins where the one before it ends."""
+    steps = [step_in_words(wording, step) for step in walk]
+    joined = zip(steps, steps[1:] + steps[:1], strict=True)
+    if not all(one.second == other.first for one, other in joined) or not any(step.strict for step in steps):
+        raise CannotRun("the walk that tml printed cannot be read")
+    return steps
+
+
+def step_in_words(wording: Wording, step: Step) -> WalkStep:
+    """One step, by a link, by the calendar, or from the start of an interval to its end."""
+    if step.kind == "span":
+        return WalkStep(2 * step.first, 2 * step.first + 1, True, "since an interval starts before it ends")
+    if step.kind == "calendar":
+        _, text = wording.calendar(step.first, step.second)
+        return WalkStep(step.first, step.second, not is_equal_end(wording, step.first, step.second), f"since {text}", "calendar")
+    link = wording.link(step.first)
+    orders = ORDERS.get(link.relation, ())
+    if step.second >= len(orders):
+        raise CannotRun("the walk that tml printed cannot be read")
+    order = orders[step.second]
+    numbers = {"A": wording.intervals.index(link.left), "B": wording.intervals.index(link.right)}
+    first, second = (2 * numbers[point[0]] + int(point[1]) for point in (order[:2], order[3:]))
+    return WalkStep(first, second, order[2] == "<", f"since {wording.in_words(link)}", link.relation)

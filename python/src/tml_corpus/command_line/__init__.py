@@ -1,0 +1,1 @@
+"""The command line of `tml-corpus`: its words, what a run is, and how it ends."""

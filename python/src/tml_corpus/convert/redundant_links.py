@@ -1,0 +1,102 @@
+"""Says of each document of a corpus which of its TLINKs `tml reduce` leaves out, in the words of the text.
+
+Each of them follows from the links that are kept and the dates of the document, so that all of them can be left out together. Links
+are looked at from the first to the last, so of two that say the same the first one is named.
+
+Example: tools/redundant-links samples
+
+Status 0 says that no link follows, 1 that some link does, 2 that some document could not be asked about, as where it has a
+fault or where no timeline fits it, and 130 that the run was interrupted.
+"""
+
+from __future__ import annotations
+
+import sys
+from collections.abc import Sequence
+from dataclasses import dataclass, field
+from functools import partial
+
+from ..asking.libraries import library_of
+from ..asking.pool import Interruption, in_order, processors
+from ..asking.program import CannotRun, Program, find_program
+from ..asking.room import room_for
+from ..check.formats import located
+from ..command_line.output import ProgramParser, RawFormatter, run
+from ..command_line.statuses import ENDED, Status
+from ..document.reduced import problem_of, read_reduced
+from ..document.words import Wording
+from ..files.finding import PATTERNS, CannotRead, Found, counted, find_files, read_document, shown
+
+
+@dataclass
+class Report:
+    """What became of one file: how many links it has, a line for each that follows, or why it could not be asked about."""
+
+    path: str
+    links: int = 0
+    follows: list[str] = field(default_factory=list)
+    problem: str | None = None
+
+    def text(self) -> str:
+        """The report in lines."""
+        lines = [f"{shown(self.path)}: not asked: {shown(self.problem)}"] if self.problem else self.follows
+        return "".join(line + "\n" for line in lines)
+
+
+def ask_of_all(words: list[str]) -> int:
+    """Asks about all files and answers the status."""
+    options = parser().parse_args(words)
+    path = find_program(options.tml)
+    program = Program(path, library_of(None, path, is_chosen=options.tml is not None))
+    found = find_files(options.paths, options.glob or list(PATTERNS))
+    links = follows = problems = 0
+    with Interruption() as stop:
+        work, jobs = partial(look, program), max(options.jobs, 1)
+        for report in in_order(work, found, jobs, stop, lambda one: Report(one.path, problem=ENDED), program.load):
+            sys.stdout.write(report.text())
+            links, follows, problems = links + report.links, follows + len(report.follows), problems + (report.problem is not None)
+        files = f"{counted(len(found), 'file')}, {problems} not asked about"
+        print(f"{files}; links that follow from those that are kept: {follows} of {links}")
+        if stop.happened.is_set():
+            print("interrupted: not all files were looked at")
+            return Status.INTERRUPTED
+    return Status.TROUBLE if problems else Status.FINDING if follows else Status.SUCCESS
+
+
+def parser() -> ProgramParser:
+    """The words that are understood."""
+    words = ProgramParser(description=__doc__, formatter_class=RawFormatter)
+    words.add_argument("paths", nargs="+", metavar="PATH", help="a file, or a folder to search")
+    words.add_argument("--glob", action="append", metavar="PATTERN", help=f"names to look for in folders (default {' '.join(PATTERNS)})")
+    words.add_argument("--tml", metavar="PROGRAM", help="the program tml (default: that of this repository, else that on PATH)")
+    words.add_argument("--jobs", type=int, default=processors(), metavar="N", help="how many files at once (default: one a processor)")
+    return words
+
+
+def look(program: Program, found: Found) -> Report:
+    """Asks about the links of one file."""
+    if found.problem is not None:
+        return Report(found.path, problem=found.problem)
+    try:
+        document = read_document(found.path)
+        with room_for(document):
+            return report_of(program, found.path, document)
+    except (CannotRead, CannotRun) as problem:
+        return Report(found.path, problem=str(problem))
+
+
+def report_of(program: Program, path: str, document: bytes) -> Report:
+    """What `tml reduce` leaves out of a document."""
+    reply = program.ask(["reduce", "-"], document)
+    problem = problem_of(reply, document, reply.text)
+    if problem is not None:
+        return Report(path, problem=problem)
+    wording = Wording(program, document)
+    reduced = read_reduced(reply, wording)
+    follows = [f"{located(path, link.place)}: follows: {shown(wording.in_words(link))}" for link in reduced.following]
+    return Report(path, len(wording.link_tags), follows)
+
+
+def main(words: Sequence[str] | None = None) -> int:
+    """Runs the program and answers its status."""
+    return run(ask_of_all, words)

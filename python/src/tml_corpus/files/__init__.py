@@ -1,0 +1,1 @@
+"""Files on the disk: finding them, reading them, and writing others in their place."""

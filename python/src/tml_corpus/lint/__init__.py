@@ -1,0 +1,1 @@
+"""`check --lint`: what `tml` accepts and an annotator probably did not mean."""

@@ -1,0 +1,153 @@
+"""What is suspect in times: values, and what the words of the text and the creation time say of them."""
+
+from __future__ import annotations
+
+from collections.abc import Iterator
+
+from ..document.edits import Edit, encoded, with_value
+from ..document.invisible import first_invisible
+from ..document.source import Source, Suspect, attribute_of, cut
+from ..document.units import Unit
+from ..document.values import CALENDAR, DURATION, FISCAL, LOOKS_LIKE_DATE, PART_OF_DAY, RANGE, better, has_form
+from .said_dates import YEAR, contradiction, spoken_for, year_of
+
+DATED = ("DATE", "TIME")
+"""The types of which the value is a date."""
+
+NEAR, FAR = 2, 5
+"""Within so many years of its creation time a document mostly speaks, and from the second number on a date is far from it."""
+
+PLACED_BY_LINKS = "which the calendar does not place: nothing says when it is but links"
+
+
+def value_form(source: Source) -> Iterator[Suspect]:
+    """A value of a TIMEX3 that has none of the forms."""
+    for tag, _, value in source.odd_times:
+        if not has_form(value) and not LOOKS_LIKE_DATE.fullmatch(value):
+            hint, edit = meant_value(source, tag, value)
+            yield of_value(tag, f'value="{cut(value)}" has no form of a value, so this time has no date{hint}', edit)
+
+
+def of_value(tag: Unit, text: str, edit: Edit | None = None) -> Suspect:
+    """A warning on the value of a time."""
+    attribute = attribute_of(tag, "value")
+    return Suspect(tag, text) if attribute is None else Suspect.of_attribute(tag, attribute, text, edit)
+
+
+def meant_value(source: Source, tag: Unit, value: str) -> tuple[str, Edit | None]:
+    """What was probably meant by a value that has no form, and the edit where that is clear."""
+    readings, attribute, hidden = better(value), attribute_of(tag, "value"), first_invisible(value)
+    seen = f", since it has {hidden} in it, which nobody sees" if hidden else ""
+    if attribute is None or not readings:
+        if RANGE.fullmatch(value):
+            return f"{seen}: it is a range; write the date that is meant, or a DURATION with beginPoint and endPoint", None
+        return f"{seen}: a date is written as 1998-03-11", None
+    chosen, hint = readings[0], f"{seen}; did you mean {' or '.join(readings)}?"
+    if len(readings) > 1:
+        spoken = spoken_for(readings, source.words_of(tag), source.creation_value())
+        if spoken is None:
+            return f"{hint} (the day first, or the month first)", None
+        chosen, speaker, is_word = spoken
+        other = next(reading for reading in readings if reading != chosen)
+        if not is_word:
+            return f"{seen}; did you mean {chosen} or {other}? ({speaker} speaks for the first one)", None
+        hint = f"{seen}; did you mean {chosen}? ({speaker} speaks for it, and not for {other})"
+    return hint, with_value(attribute, source.document, encoded(chosen))
+
+
+def free_date(source: Source) -> Iterator[Suspect]:
+    """A value that looks like a date, of a time that has none."""
+    for tag, kind, value in source.odd_times:
+        if kind == "DURATION" and CALENDAR.fullmatch(value):
+            yield of_value(tag, f'value="{value}" is {a_date(value)}, and a DURATION has none; did you mean {not_a_date(value)}?')
+        elif kind in DATED and DURATION.fullmatch(value):
+            yield of_value(tag, f'value="{value}" is a duration, so this {kind} has no date; did you mean type="DURATION"?')
+        elif not CALENDAR.fullmatch(value) and LOOKS_LIKE_DATE.fullmatch(value):
+            yield of_value(tag, f'value="{cut(value)}" looks like a date, and the calendar does not place it: {why_free(value)}')
+
+
+def a_date(value: str) -> str:
+    """What a value is that the calendar places."""
+    return {2: "a century", 3: "a decade"}.get(len(value), "a date")
+
+
+def not_a_date(value: str) -> str:
+    """What was probably meant by such a value of a DURATION: a few digits are rather a length than a decade."""
+    return f"a length, as P{int(value)}D" if len(value) < 4 else 'type="DATE"'
+
+
+def why_free(value: str) -> str:
+    """Why a value that looks like a date is none."""
+    if value.endswith("Z") or "+" in value or value.count("-") > 2:
+        return "write it without the zone"
+    if "." in value or "," in value:
+        return "write it without the parts of a second"
+    return "a field is all digits or all X" if "X" in value else "a time is written as T18, T18:30 or T18:30:00"
+
+
+def part_of_day(source: Source) -> Iterator[Suspect]:
+    """A part of a day, which no calendar places."""
+    for tag, _, value in source.odd_times:
+        if PART_OF_DAY.fullmatch(value):
+            yield of_value(tag, f'value="{value}" is a part of a day, {PLACED_BY_LINKS}')
+
+
+def fiscal_value(source: Source) -> Iterator[Suspect]:
+    """A fiscal year, of which the calendar knows no beginning."""
+    for tag, _, value in source.odd_times:
+        if FISCAL.fullmatch(value):
+            yield of_value(tag, f'value="{value}" is a fiscal year or a part of one, {PLACED_BY_LINKS}')
+
+
+def contradicting_word(source: Source) -> Iterator[Suspect]:
+    """A weekday or a month of the text that is not that of the value."""
+    for tag, values in source.valued("TIMEX3"):
+        value = values.get("value", "")
+        if value and values.get("type", "") in DATED:
+            why = contradiction(source.words_of(tag), value)
+            if why is not None:
+                yield of_value(tag, f'value="{cut(value)}": {why}')
+
+
+def far_date(source: Source) -> Iterator[Suspect]:
+    """A date in another time than the creation time and all others, where the words name no such year."""
+    created = year_of(source.creation_value())
+    if created is None:
+        return
+    dates = [(tag, values.get("value", "")) for tag, values in source.valued("TIMEX3") if values.get("type", "") in DATED]
+    dated = [(tag, value, year) for tag, value in dates if CALENDAR.fullmatch(value) and (year := year_of(value)) is not None]
+    years = [(tag, value, year) for tag, value, year in dated if abs(year - created) > NEAR]
+    if len(years) != 1:
+        return
+    [(tag, value, year)] = years
+    words = source.words_of(tag)
+    is_named = f"{year}"[-2:] in words
+    if abs(year - created) >= FAR and not is_named and (len(value) > len("YYYY") or YEAR.search(words)):
+        yield of_value(tag, f'value="{cut(value)}" is far from the creation time in {created} and from all other dates, and the text does not name {year}')
+
+
+def two_creation_times(source: Source) -> Iterator[Suspect]:
+    """A second time that says when the document was made."""
+    for tag in source.creation_times[1:]:
+        attribute, first = attribute_of(tag, "functionInDocument"), source.creation_times[0]
+        if attribute is not None:
+            text = f"the TIMEX3 at {source.at(first.start)} is the creation time already: see which of the two is, and take this attribute from the other one"
+            yield Suspect.of_attribute(tag, attribute, text)
+
+
+def date_with_points(source: Source) -> Iterator[Suspect]:
+    """A date with a begin and an end, which say nothing of when it is."""
+    for tag, values in source.valued("TIMEX3"):
+        names = [name for name in ("beginPoint", "endPoint") if values.get(name, "")]
+        kind = values.get("type", "")
+        attribute = attribute_of(tag, names[0]) if names and kind in DATED else None
+        if attribute is not None:
+            text = f"{' and '.join(names)} of a {kind} {'say' if len(names) > 1 else 'says'} nothing of its time: only its value and links do"
+            yield Suspect.of_attribute(tag, attribute, text)
+
+
+def no_creation_time(source: Source) -> Iterator[Suspect]:
+    """A document of which no time says when it was made."""
+    root = source.units.first_tag() if not source.creation_times else None
+    if root is not None:
+        yield Suspect(root, 'the document has no creation time: add functionInDocument="CREATION_TIME" to the TIMEX3 that says when it was made')

@@ -1,0 +1,1 @@
+"""`matrix` and `open`: what the intervals of a document can be to each other."""

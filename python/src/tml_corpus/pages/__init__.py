@@ -1,0 +1,1 @@
+"""`report`: a folder of pages about a corpus."""

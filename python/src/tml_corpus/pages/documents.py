@@ -1,0 +1,127 @@
+"""What a report has of one document: what became of it, its words, its timeline where there is one, and its counts.
+
+All of it was answered by `tml`, as the other commands ask it.
+"""
+
+from __future__ import annotations
+
+from collections import Counter
+from dataclasses import dataclass, field, replace
+
+from ..asking.program import CannotRun, Program
+from ..asking.room import room_for
+from ..check.judgement import Judgement
+from ..check.judging import placed_warnings
+from ..clash.clashes import is_timeline
+from ..clash.report import TOUCHING, ClashReport, Wanted
+from ..clash.search import report_of
+from ..clash.touching import touching_copy
+from ..document.words import Wording
+from ..files.finding import CannotRead, Found, read_document
+from ..timeline.rows import Timeline
+from ..timeline.timeline import verified
+
+
+@dataclass(frozen=True)
+class Counts:
+    """What is counted in an accepted document. The pairs of intervals are counted only where some timeline fits."""
+
+    intervals: int
+    links: int
+    free_dates: int
+    pairs: int | None = None
+    decided: int | None = None
+
+
+@dataclass(frozen=True)
+class Examined:
+    """One document: what became of it, and where it was accepted its words, its counts, and its timeline where there is one."""
+
+    report: ClashReport
+    wording: Wording | None = None
+    counts: Counts | None = None
+    timeline: Timeline | None = None
+
+
+@dataclass(frozen=True)
+class Entry:
+    """The line of the index on one document: its page, what became of it, and its counts."""
+
+    path: str
+    page: str | None
+    verdict: str
+    said: str = ""
+    clashes: int = 0
+    touching: int = 0
+    warnings: Counter[str] = field(default_factory=Counter)
+    counts: Counts | None = None
+
+
+def examine(program: Program, found: Found, wanted: Wanted) -> Examined:
+    """Asks about one file. Whatever goes wrong with it is reported of it and ends nothing else."""
+    if found.problem is not None:
+        return not_judged(found.path, found.problem)
+    try:
+        document = read_document(found.place())
+        with room_for(document):
+            return examine_document(program, found, document, wanted)
+    except (CannotRead, CannotRun) as problem:
+        return not_judged(found.path, str(problem))
+    except MemoryError:
+        return not_judged(found.path, "no memory to take the document apart")
+
+
+def not_judged(path: str, problem: str) -> Examined:
+    """What there is of a file that was not judged."""
+    return Examined(ClashReport(Judgement(path, problem=problem)))
+
+
+def examine_document(program: Program, found: Found, document: bytes, wanted: Wanted) -> Examined:
+    """Asks about a document in memory: `tml solve` first, which tells a fault too."""
+    reply = program.ask(["solve", "-"], document)
+    if not is_timeline(reply):
+        report = report_of(program, found, document, wanted, reply)
+        if not report.judgement.accepted():
+            return Examined(report)
+        examined = with_counts(report, Wording(program, document))
+        return with_timeline(examined, touching_timeline(program, found.path, document)) if report.verdict() == TOUCHING else examined
+    wording = Wording(program, document)
+    warnings = placed_warnings(program, wording.source, wanted.lint) if wanted.lint is not None else []
+    examined = with_counts(ClashReport(Judgement(found.path, warnings=warnings)), wording)
+    return with_timeline(examined, verified(program, found.path, document, reply, is_open=True))
+
+
+def touching_timeline(program: Program, path: str, document: bytes) -> Timeline:
+    """The timeline of a document whose links between dates that touch are read as the relation that holds."""
+    copy = touching_copy(program, document)
+    return verified(program, path, copy, program.ask(["solve", "-"], copy), is_open=True)
+
+
+def with_counts(report: ClashReport, wording: Wording) -> Examined:
+    """An accepted document with what can be counted without a timeline."""
+    return Examined(report, wording, Counts(len(wording.intervals), len(wording.link_tags), len(free_dates(wording))))
+
+
+def with_timeline(examined: Examined, timeline: Timeline) -> Examined:
+    """The same with a timeline that fits, and the pairs that are decided."""
+    matrix, counts = timeline.matrix, examined.counts
+    if matrix is None or counts is None:
+        return examined
+    decided = sum(len(matrix.sets[number]) == 1 for number in matrix.cells)
+    return replace(examined, timeline=timeline, counts=replace(counts, pairs=len(matrix.cells), decided=decided))
+
+
+def free_dates(wording: Wording) -> list[str]:
+    """The names of the dates and times of a day of which the calendar says nothing. Lengths and sets never have a date."""
+    free = (name for name, words in wording.dates.items() if words == ["free"])
+    return [name for name in free if wording.source.value(wording.tags["TIMEX3"][name], "type") in ("DATE", "TIME")]
+
+
+def entry_of(examined: Examined, page: str | None) -> Entry:
+    """The line of the index."""
+    report = examined.report
+    judgement, faults = report.judgement, report.judgement.faults
+    verdict = "accepted" if report.verdict() == "fits" else report.verdict()
+    said = judgement.problem or (faults[0].fault.title() if faults else "")
+    warnings = Counter(warning.name for warning in judgement.warnings)
+    return Entry(judgement.path, page, verdict, said, len(report.shown_clashes()), len(report.touching), warnings, examined.counts)

@@ -1,0 +1,62 @@
+"""The style of the pages of a report: for screens, light and dark, and for paper in black and white."""
+
+from __future__ import annotations
+
+from ..timeline import picture
+
+PLAIN = """
+:root{color-scheme:light dark;--paper:#fff;--ink:#111;--soft:#555;--line:#c3cad1;--odd:#eef1f4;--strong:#16324f;--mark:#f6b800;--near:#fdeebf;
+--wrong:#a40000}
+@media (prefers-color-scheme: dark){:root{--paper:#15181c;--ink:#e8e8e8;--soft:#a8b0b8;--line:#4a525a;--odd:#1f242a;--strong:#a9cdf0;--mark:#8a6500;
+--near:#453a17;--wrong:#ff9c8f}}
+body{margin:16px;background:var(--paper);color:var(--ink);font:15px/1.5 "DejaVu Sans",Verdana,Helvetica,Arial,sans-serif}
+h1{font-size:1.4em;margin:.3em 0;overflow-wrap:anywhere}h2{font-size:1.15em;margin:1.2em 0 .4em}h3{font-size:1em;margin:.8em 0 .3em}
+a{color:var(--strong)}a:focus-visible,[tabindex]:focus-visible,button:focus-visible{outline:3px solid var(--strong);outline-offset:1px}
+p,li,td,th,.text{overflow-wrap:anywhere}th button{overflow-wrap:normal}caption{white-space:nowrap}.path,.place,.meaning,.explained,.back,.legend{color:var(--soft);font-size:.9em}.path{margin:0}
+pre{margin:.2em 0 .6em;padding:4px 8px;overflow-x:auto;background:var(--odd);border-left:3px solid var(--line);font-size:.85em}
+.fault strong,.noted,.clash h3{color:var(--wrong)}section{margin-bottom:1em}button,input{font:inherit}
+"""
+
+INDEX = """
+.totals{display:flex;flex-wrap:wrap;gap:8px 32px;align-items:flex-start}caption{text-align:left;font-weight:bold;padding:4px 0}
+table{border-collapse:collapse}td,th{padding:2px 8px;border-bottom:1px solid var(--line);text-align:left;font-weight:normal;vertical-align:top}
+.number{text-align:right;font-variant-numeric:tabular-nums}.wide{overflow:auto}#documents thead th{font-weight:bold;vertical-align:bottom;overflow-wrap:normal}
+#documents tbody th{min-width:14em}#documents tbody tr:hover{background:var(--odd)}
+th button{background:none;border:0;padding:0;color:inherit;font-weight:bold;text-align:left;cursor:pointer;text-decoration:underline dotted}
+th[aria-sort=ascending] button::after{content:" \\2191"}th[aria-sort=descending] button::after{content:" \\2193"}
+#search{margin:.6em 0;position:sticky;top:0;background:var(--paper);padding:6px 0}#search input{width:min(32em,90%);padding:4px}
+"""
+
+MARKS = """
+.reading{display:grid;grid-template-columns:minmax(18em,2fr) minmax(0,3fr);gap:0 24px}.reading>*{min-width:0}
+.text{position:relative;white-space:pre-wrap;max-width:48em;line-height:2.5;padding-top:1em;unicode-bidi:plaintext}
+.picture{overflow:auto}.text,.picture{max-height:76vh;overflow:auto}
+@media (max-width: 60em){.reading{display:block}}
+.mark{color:inherit;text-decoration:none;unicode-bidi:isolate;padding:1px 2px;border-radius:2px}a.mark{cursor:pointer}
+.mark.event{border-bottom:2px solid var(--strong)}.mark.time{border:1px solid var(--strong)}.mark.time.free{border-style:dashed}
+.mark.signal{border-bottom:2px dotted var(--soft);font-style:italic}.mark .name{color:var(--soft);font-size:.62em;font-style:normal;margin-left:1px}
+.mark.on,.mark:target{background:var(--mark);outline:2px solid var(--ink)}.mark.near{background:var(--near);outline:1px dashed var(--ink)}
+li:target{background:var(--near)}li.on{background:var(--near);outline:2px solid var(--ink)}
+#panel{position:sticky;bottom:0;max-height:24vh;overflow:auto;background:var(--paper);border-top:2px solid var(--strong);padding:6px 0;font-size:.88em;
+columns:26em}#panel div{break-inside:avoid;padding-left:1.4em;text-indent:-1.4em}#panel div:first-child{font-weight:bold}#panel:empty{display:none}
+.arcs{position:absolute;left:0;top:0;pointer-events:none;overflow:visible}.arcs path{fill:none;stroke:var(--wrong);stroke-width:1.6}
+.arcs path.head{fill:var(--wrong)}.arcs text{fill:var(--ink);font-size:11px;text-anchor:middle;paint-order:stroke;stroke:var(--paper);stroke-width:3px}
+.links li,.walk li{margin:.15em 0}.links button,.walk button,.tools button{margin-left:.5em;padding:0 .5em;font-size:.85em}.tools label{margin-right:1em}
+.links{max-height:60vh;overflow:auto;padding-left:4em}
+"""
+
+PICTURE = """
+svg text{fill:var(--ink)}svg text.small{fill:var(--ink)}svg .name{fill:var(--soft)}svg>rect{fill:var(--paper)}.odd{fill:var(--odd)}
+.grid{stroke:var(--line)}.axis{stroke:var(--ink)}.bar{fill:var(--paper);stroke:var(--strong)}.exact .bar{fill:var(--strong)}
+#hatch rect:first-child{fill:var(--paper)}#hatch rect:last-child{fill:var(--strong)}.leading{text-decoration:none}
+.back{fill:var(--mark)}.leading:focus{outline:none}.leading:focus .back,.leading.on .back,.leading:target .back{fill-opacity:.55}
+.leading.near .back{fill-opacity:.22}.leading.on .bar,.leading.near .bar,.leading:focus .bar{stroke-width:3.5}
+"""
+
+PRINTED = """
+@media print{body{margin:0}.text,.picture,.links,.wide{max-height:none;overflow:visible}#panel,#search,.tools,.back,button{display:none}
+.reading{display:block}svg{max-width:100%;height:auto}}
+"""
+
+STYLE = picture.STYLE + PLAIN + INDEX + MARKS + PICTURE + PRINTED
+"""The whole file; that of the picture of a timeline comes first, and gives way in the dark."""

@@ -1,0 +1,1 @@
+"""`seconds`: placings of a document in whole seconds."""

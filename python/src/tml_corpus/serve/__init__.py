@@ -1,0 +1,1 @@
+"""`serve`: a server of the Language Server Protocol."""

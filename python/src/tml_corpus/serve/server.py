@@ -1,0 +1,286 @@
+"""`tml-corpus serve`: a server of the Language Server Protocol over standard input and output.
+
+One thread reads what the client sends, and another one answers it. What a later change has overtaken is dropped before it is
+looked at, and else before the next question to `tml`. While nothing else waits, further faults are looked for.
+"""
+
+from __future__ import annotations
+
+import os
+import sys
+import traceback
+from collections.abc import Callable
+from dataclasses import dataclass, field
+from functools import partial
+from threading import Event, Thread
+from typing import IO
+
+from ..asking.program import CannotRun
+from ..command_line.output import INPUT
+from ..command_line.settings import Chosen, Remembering, Settings, settings_for
+from ..files.finding import CannotRead
+from ..lint.kinds import chosen
+from .actions import ACTION_KINDS, actions
+from .completion import completion
+from .document import Asked, AskedUnwrapping, OpenDocument, Overtaken, path_of
+from .findings import findings, has_further, problem_finding, remark_finding
+from .hover import hover
+from .inbox import Inbox, Message, Unreadable
+from .names import definition, references, symbols
+from .places import UTF_8, UTF_16
+from .wire import BadParams, Incoming, Json, member, send
+
+PARSE, INVALID, UNKNOWN, BAD_PARAMS, INTERNAL = -32700, -32600, -32601, -32602, -32603
+NOT_INITIALIZED, CANCELLED, MODIFIED, FAILED = -32002, -32800, -32801, -32803
+
+
+class Refused(Exception):
+    """A request is not answered, with the number of an error."""
+
+    def __init__(self, code: int, text: str) -> None:
+        super().__init__(text)
+        self.code = code
+
+
+@dataclass
+class Client:
+    """What the client said of itself."""
+
+    encoding: str = UTF_16
+    symbols_as_tree: bool = False
+    initialized: bool = False
+    shut_down: bool = False
+
+
+@dataclass
+class Opened:
+    """A document that is open: its state as the inbox counts it, its version, and what is still to be said of it."""
+
+    document: OpenDocument
+    state: int
+    version: int
+    remarks: tuple[str, ...]
+    """What is wrong with the settings of its folder, or was passed by."""
+    left: list[bool] = field(default_factory=lambda: [False, True])
+    """Whether the further faults are wanted, for each time that something is to be said."""
+
+
+class Server:
+    """A server, which answers one client until that goes."""
+
+    def __init__(self, tml: str, config: str | None, output: IO[bytes]) -> None:
+        self.tml, self.config, self.output = tml, config, output
+        self.inbox, self.client = Inbox(), Client()
+        self.opened: dict[str, Opened] = {}
+        self.programs: dict[tuple[str, ...], Asked] = {}
+        self.settings = Remembering()
+
+    def run(self, read: Callable[[int], bytes], stop: Event) -> int:
+        """Answers until the client says that it ends, or goes; the status is 0 where it said `shutdown` before."""
+        Thread(target=self.inbox.fill, args=(Incoming(read),), daemon=True).start()
+        while not stop.is_set() and not self.inbox.is_over():
+            arrived = self.inbox.take(waits=not self.has_work())
+            if isinstance(arrived, Unreadable):
+                self.answer_error(None, arrived.code, arrived.text)
+            elif arrived is None:
+                self.work()
+            elif arrived.method == "exit":
+                return 0 if self.client.shut_down else 1
+            else:
+                self.handle(arrived)
+        if self.inbox.problem:
+            raise CannotRead(self.inbox.problem)
+        return 1
+
+    def handle(self, message: Message) -> None:
+        """Answers one message."""
+        try:
+            if message.is_request():
+                result = self.asked(message)
+                send(self.output, {"id": message.number, "result": result})
+            elif message.method in NOTICES and self.client.initialized and not self.inbox.is_overtaken(message.uri, message.state):
+                NOTICES[message.method](self, message)
+        except Refused as problem:
+            self.answer_error(message.number, problem.code, str(problem))
+        except BadParams as problem:
+            self.answer_error(message.number, BAD_PARAMS, str(problem))
+        except Overtaken:
+            self.answer_error(message.number, *((CANCELLED, "cancelled") if message.cancelled else (MODIFIED, "the document was changed")))
+        except (CannotRun, CannotRead, MemoryError) as problem:
+            self.answer_error(message.number, FAILED, str(problem) or "out of memory")
+        finally:
+            self.inbox.done(message)
+
+    def asked(self, message: Message) -> Json:
+        """The answer to a request."""
+        if message.method == "initialize":
+            return self.initialize(message.params)
+        if not self.client.initialized:
+            raise Refused(NOT_INITIALIZED, "initialize comes first")
+        if self.client.shut_down:
+            raise Refused(INVALID, "after shutdown only exit may come")
+        if message.method == "shutdown":
+            self.client.shut_down = True
+            return None
+        if message.method not in REQUESTS:
+            raise Refused(UNKNOWN, f"{message.method[:80]} is no method of this server")
+        if not self.is_wanted(message):
+            raise Overtaken
+        opened = self.opened.get(message.uri)
+        if opened is None:
+            raise Refused(BAD_PARAMS, "the document is not open")
+        opened.document.program.wanted = partial(self.is_wanted, message)
+        return self.without_slips(partial(REQUESTS[message.method], self, opened.document, message.params))
+
+    def without_slips(self, work: Callable[[], Json]) -> Json:
+        """Does some work, in which a slip of this program ends nothing else."""
+        try:
+            return work()
+        except (Overtaken, BadParams, CannotRun, CannotRead, MemoryError):
+            raise
+        except Exception as error:
+            place = traceback.extract_tb(error.__traceback__)[-1]
+            raise Refused(INTERNAL, f"{type(error).__name__}: {error} ({os.path.basename(place.filename)}:{place.lineno})") from error
+
+    def is_wanted(self, message: Message) -> bool:
+        """Whether the answer to a request is still wanted."""
+        return not message.cancelled and not self.inbox.is_overtaken(message.uri, message.state)
+
+    def answer_error(self, number: Json, code: int, text: str) -> None:
+        """Says why a request is not answered; nothing is answered to a notice."""
+        if number is not None or code in (PARSE, INVALID):
+            send(self.output, {"id": number, "error": {"code": code, "message": text}})
+
+    def initialize(self, params: Json) -> Json:
+        """What this server can do, and how places are counted."""
+        if self.client.initialized:
+            raise Refused(INVALID, "initialize comes once")
+        offered = member(params, "capabilities", "general", "positionEncodings", kind=list, default=[])
+        of_symbols = member(params, "capabilities", "textDocument", "documentSymbol", kind=dict, default={})
+        tree = member(of_symbols, "hierarchicalDocumentSymbolSupport", kind=bool, default=False)
+        self.client = Client(UTF_8 if UTF_8 in offered else UTF_16, tree, initialized=True)
+        capabilities = {
+            "positionEncoding": self.client.encoding,
+            "textDocumentSync": {"openClose": True, "change": 1},
+            "hoverProvider": True,
+            "definitionProvider": True,
+            "referencesProvider": True,
+            "documentSymbolProvider": True,
+            "completionProvider": {"triggerCharacters": ['"', "'", " "]},
+            "codeActionProvider": {"codeActionKinds": list(ACTION_KINDS)},
+        }
+        return {"capabilities": capabilities, "serverInfo": {"name": "tml-corpus serve"}}
+
+    def open(self, message: Message) -> None:
+        """Takes the text of a document that was opened."""
+        given = member(message.params, "textDocument", kind=dict)
+        self.take_text(message, member(given, "text", kind=str), member(given, "version", kind=int, default=0))
+
+    def change(self, message: Message) -> None:
+        """Takes the new text of a document, which comes whole; of several the last one counts."""
+        changes = member(message.params, "contentChanges", kind=list)
+        version = member(message.params, "textDocument", "version", kind=int, default=0)
+        if changes and member(changes[-1], "range", default=None) is None:
+            self.take_text(message, member(changes[-1], "text", kind=str), version)
+
+    def take_text(self, message: Message, text: str, version: int) -> None:
+        """Takes a text, of which there is something to say then."""
+        path = path_of(message.uri)
+        try:
+            settings, remarks = settings_for([path] if path is not None else [], self.config, self.settings.read)
+        except CannotRun as problem:
+            settings, remarks = Chosen(Settings(), (str(problem),))
+        lint = chosen(settings.ignore, settings.warn)
+        document = OpenDocument(self.program(settings.wrappers), message.uri, text, lint, self.client.encoding)
+        self.opened.pop(message.uri, None)
+        self.opened[message.uri] = Opened(document, message.state, version, remarks)
+
+    def program(self, wrappers: tuple[str, ...]) -> Asked:
+        """`tml`, asked without wrappers of the corpus; it remembers what it said of dates."""
+        if wrappers not in self.programs:
+            self.programs[wrappers] = AskedUnwrapping(self.tml, wrappers) if wrappers else Asked(self.tml)
+        return self.programs[wrappers]
+
+    def close(self, message: Message) -> None:
+        """Forgets a document."""
+        if self.opened.pop(message.uri, None) is not None:
+            self.publish(message.uri, None, [])
+
+    def has_work(self) -> bool:
+        """Whether there is something to say of some document."""
+        return any(one.left for one in self.opened.values())
+
+    def work(self) -> None:
+        """Says of the document that was changed last what there is to say; what is not wanted any more is left."""
+        opened = next((one for one in reversed(self.opened.values()) if one.left), None)
+        if opened is None:
+            return
+        document, further = opened.document, opened.left[0]
+        document.program.wanted = partial(self.is_next, opened, further)
+        try:
+            found = self.without_slips(partial(findings, document, further=further)) if not further or has_further(document) else None
+        except Overtaken:
+            if self.inbox.is_overtaken(document.uri, opened.state):
+                opened.left.clear()
+            return
+        except (Refused, CannotRun, CannotRead, MemoryError) as problem:
+            found = [problem_finding(str(problem) or "out of memory")]
+            opened.left.clear()
+        del opened.left[:1]
+        if found is not None and not self.inbox.is_overtaken(document.uri, opened.state):
+            self.publish(document.uri, opened.version, [*map(remark_finding, opened.remarks), *found])
+
+    def is_next(self, opened: Opened, further: bool) -> bool:
+        """Whether what is to be said of a document is wanted before what waits; further faults are not."""
+        return not self.inbox.is_overtaken(opened.document.uri, opened.state) and not (further and self.inbox.waiting)
+
+    def publish(self, uri: str, version: int | None, found: list[Json]) -> None:
+        """Tells the client what is said of a document; this takes the place of what was said before."""
+        params = {"uri": uri, "diagnostics": found} | ({} if version is None else {"version": version})
+        send(self.output, {"method": "textDocument/publishDiagnostics", "params": params})
+
+
+def at_position(answer: Callable[[OpenDocument, int], Json]) -> Callable[[Server, OpenDocument, Json], Json]:
+    """The answer to a request about a position."""
+    return lambda _, document, params: answer(document, document.places.offset(member(params, "position", kind=dict)))
+
+
+def asked_references(_: Server, document: OpenDocument, params: Json) -> Json:
+    """The answer to a request for references."""
+    offset = document.places.offset(member(params, "position", kind=dict))
+    return references(document, offset, with_definition=member(params, "context", "includeDeclaration", kind=bool, default=True))
+
+
+def asked_symbols(server: Server, document: OpenDocument, _: Json) -> Json:
+    """The answer to a request for symbols."""
+    return symbols(document, as_tree=server.client.symbols_as_tree)
+
+
+def asked_actions(_: Server, document: OpenDocument, params: Json) -> Json:
+    """The answer to a request for what can be done."""
+    only = member(params, "context", "only", kind=list, default=None)
+    kinds = None if only is None else [one for one in only if isinstance(one, str)]
+    return actions(document, document.places.stretch(member(params, "range", kind=dict)), kinds)
+
+
+REQUESTS: dict[str, Callable[[Server, OpenDocument, Json], Json]] = {
+    "textDocument/hover": at_position(hover),
+    "textDocument/definition": at_position(definition),
+    "textDocument/completion": at_position(completion),
+    "textDocument/references": asked_references,
+    "textDocument/documentSymbol": asked_symbols,
+    "textDocument/codeAction": asked_actions,
+}
+"""The requests about documents."""
+
+NOTICES: dict[str, Callable[[Server, Message], None]] = {
+    "textDocument/didOpen": Server.open,
+    "textDocument/didChange": Server.change,
+    "textDocument/didClose": Server.close,
+}
+"""What a client says of documents without waiting for an answer."""
+
+
+def serve(tml: str, config: str | None, stop: Event) -> int:
+    """Serves the client at standard input and output, and answers the status."""
+    return Server(tml, config, sys.stdout.buffer).run(partial(os.read, INPUT), stop)

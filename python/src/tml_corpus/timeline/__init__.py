@@ -1,0 +1,1 @@
+"""`timeline`: the timeline of a document as a picture."""

@@ -1,0 +1,82 @@
+"""What the tests share: a folder for documents, and runs of `tml-corpus` over it with the real program."""
+
+import os
+import signal
+import subprocess
+import sys
+import tempfile
+import unittest
+
+TOP = os.path.dirname(os.path.dirname(os.path.dirname(os.path.abspath(__file__))))
+TESTS = os.path.join(TOP, "python", "tests")
+TOOLS, SOURCES = os.path.join(TOP, "tools"), os.path.join(TOP, "python", "src")
+
+# In the background of a shell Ctrl-C is ignored, and would be by the programs that the tests interrupt.
+signal.signal(signal.SIGINT, signal.default_int_handler)
+# So is the end of a terminal under nohup.
+signal.signal(signal.SIGHUP, signal.SIG_DFL)
+
+COMPANION = os.path.join(TOOLS, "tml-corpus")
+TML = os.environ.get("TML") or os.path.join(TOP, "crates", "tml", "out", "tml")
+EVENT = '<EVENT eid="e1" class="STATE">x</EVENT>'
+INSTANCE = '<MAKEINSTANCE eiid="i1" eventID="e1"/>'
+
+
+def forms():
+    """The lines of the usage text of the program; none where there is no program."""
+    if not os.access(TML, os.X_OK):
+        return []
+    done = subprocess.run([TML, "no", "such"], stdin=subprocess.DEVNULL, stdout=subprocess.PIPE, text=True, check=False)
+    return done.stdout.splitlines()
+
+
+needs_matrix = unittest.skipUnless("tml matrix DOC" in forms(), f"no program {TML} that has the commands possible and matrix")
+needs_seconds = unittest.skipUnless("tml seconds DOC" in forms(), f"no program {TML} that has the commands seconds and confirm")
+needs_score = unittest.skipUnless("tml score DOC KEY" in forms(), f"no program {TML} that has the commands reduce and score")
+
+
+def document(inner):
+    """A document with some tags on its second line."""
+    return f"<TimeML>\n{inner}</TimeML>\n"
+
+
+@unittest.skipUnless(os.access(TML, os.X_OK), f"no program {TML}: build it as README.md says, or name one by TML=PROGRAM")
+class CorpusTest(unittest.TestCase):
+    """A test with a folder of its own, which is the current one of each run."""
+
+    def setUp(self):
+        held = tempfile.TemporaryDirectory()
+        self.addCleanup(held.cleanup)
+        self.folder = held.name
+
+    def path(self, name):
+        return os.path.join(self.folder, name)
+
+    def write(self, name, content):
+        path = self.path(name)
+        os.makedirs(os.path.dirname(path), exist_ok=True)
+        with open(path, "wb") as file:
+            file.write(content if isinstance(content, bytes) else content.encode())
+
+    def start(self, *words, tml=TML, python=sys.executable):
+        command, *rest = words
+        return subprocess.Popen(
+            [python, COMPANION, command, "--tml", tml, *rest],
+            cwd=self.folder,
+            stdin=subprocess.DEVNULL,
+            stdout=subprocess.PIPE,
+            stderr=subprocess.PIPE,
+            env={**os.environ, "PYTHONIOENCODING": "utf-8", "PYTHONDONTWRITEBYTECODE": "1"},
+        )
+
+    def run_it(self, *words, tml=TML):
+        """The status, the lines of standard output, and standard error."""
+        child = self.start(*words, tml=tml)
+        out, err = child.communicate(timeout=120)
+        return child.returncode, out.decode("utf-8", "replace").splitlines(), err.decode("utf-8", "replace")
+
+    def notes(self, content, *words):
+        """The notes on a document, from line and column on."""
+        self.write("d.xml", content)
+        _, lines, _ = self.run_it("check", *words, "d.xml")
+        return [line.removeprefix("d.xml:").replace(" note: ", " ") for line in lines if " note: " in line]

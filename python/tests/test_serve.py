@@ -1,0 +1,493 @@
+"""`tml-corpus serve`: by the protocol over pipes, as an editor speaks it."""
+
+import io
+import json
+import os
+import random
+import shutil
+import subprocess
+import sys
+import time
+import tomllib
+import unittest
+from unittest import mock
+
+from corpus import COMPANION, EVENT, INSTANCE, TML, TOP, CorpusTest, document
+
+from tml_corpus.serve.server import Server
+from tml_corpus.serve.inbox import Message
+from tml_corpus.serve.places import UTF_8, UTF_16, ClientPlaces
+from tml_corpus.serve.wire import Incoming
+
+HERE = os.path.dirname(os.path.abspath(__file__))
+DAYS = '<TIMEX3 tid="t1" type="DATE" value="1998-02-26">Thursday</TIMEX3> <TIMEX3 tid="t2" type="DATE" value="1998-02-27">Friday</TIMEX3>\n'
+TOUCHING = document(DAYS + '<TLINK timeID="t1" relatedToTime="t2" relType="BEFORE"/>\n')
+
+
+class Client:
+    """An editor: it sends, and takes what comes."""
+
+    def __init__(self, folder, *words):
+        self.child = subprocess.Popen(
+            [sys.executable, COMPANION, "serve", "--tml", TML, *words],
+            cwd=folder,
+            stdin=subprocess.PIPE,
+            stdout=subprocess.PIPE,
+            stderr=subprocess.PIPE,
+            env={**os.environ, "PYTHONDONTWRITEBYTECODE": "1"},
+        )
+        self.incoming = Incoming(lambda size: os.read(self.child.stdout.fileno(), size))
+        self.number, self.told = 0, []
+
+    def send(self, *messages):
+        """Sends messages at once, as they may lie together in a pipe."""
+        bodies = [one if isinstance(one, bytes) else json.dumps({"jsonrpc": "2.0", **one}).encode() for one in messages]
+        self.child.stdin.write(b"".join(b"Content-Length: %d\r\n\r\n%s" % (len(body), body) for body in bodies))
+        self.child.stdin.flush()
+
+    def receive(self):
+        return json.loads(self.incoming.body())
+
+    def request(self, method, params):
+        self.number += 1
+        return {"id": self.number, "method": method, "params": params}
+
+    def answer(self, number):
+        """The answer to a request; what else comes is kept."""
+        while (message := self.receive()).get("id") != number or "method" in message:
+            self.told.append(message)
+        return message
+
+    def ask(self, method, params=None):
+        self.send(self.request(method, params))
+        return self.answer(self.number)["result"]
+
+    def tell(self, method, params):
+        self.send({"method": method, "params": params})
+
+    def findings(self, version=None):
+        """What is said next of a document, in a version where one is given."""
+        while True:
+            message = self.told.pop(0) if self.told else self.receive()
+            if message.get("method") == "textDocument/publishDiagnostics" and (version is None or message["params"].get("version") == version):
+                return message["params"]["diagnostics"]
+
+
+class Places(unittest.TestCase):
+    def test_each_place_and_back(self):
+        draw = random.Random(1)
+        for _ in range(200):
+            pieces = [draw.choice(["a", "é", "\u20ac", "😀", "\n", "\r\n", "\r", "\ud800", "x" * 3000]) for _ in range(draw.randint(0, 20))]
+            offsets = [0]
+            for piece in pieces:
+                offsets.append(offsets[-1] + len(piece.encode("utf-8", "surrogatepass")))
+            text = "".join(pieces).encode("utf-8", "surrogatepass")
+            for encoding in (UTF_8, UTF_16):
+                places = ClientPlaces(text, encoding)
+                for offset in offsets:
+                    if not (text[offset - 1 : offset] == b"\r" and text[offset : offset + 1] == b"\n"):
+                        self.assertEqual(places.offset(places.position(offset)), offset)
+
+    def test_units(self):
+        text = "a😀é\nx".encode()
+        end = text.index(b"\n")
+        self.assertEqual(ClientPlaces(text, UTF_16).position(end), {"line": 0, "character": 4})
+        self.assertEqual(ClientPlaces(text, UTF_8).position(end), {"line": 0, "character": 7})
+        for line, character, offset in ((0, 99, end), (9, 0, len(text)), (0, 2, 1), (-1, 0, 0)):
+            self.assertEqual(ClientPlaces(text, UTF_16).offset({"line": line, "character": character}), offset)
+
+
+class ServeTest(CorpusTest):
+    def client(self, *words, **capabilities):
+        """An editor that has begun to talk."""
+        client = Client(self.folder, *words)
+        self.addCleanup(client.child.stderr.close)
+        self.addCleanup(client.child.stdout.close)
+        self.addCleanup(client.child.stdin.close)
+        self.addCleanup(client.child.wait, 60)
+        self.addCleanup(client.child.kill)
+        self.can = client.ask("initialize", {"processId": None, "rootUri": None, "capabilities": capabilities})["capabilities"]
+        client.tell("initialized", {})
+        return client
+
+    def uri(self, name="d.xml"):
+        return "file://" + self.path(name)
+
+    def opened(self, client, text, name="d.xml"):
+        """Opens a document, and answers what is said of it at first."""
+        self.text = text
+        client.tell("textDocument/didOpen", {"textDocument": {"uri": self.uri(name), "languageId": "xml", "version": 1, "text": text}})
+        return client.findings(1)
+
+    def changed(self, client, text, version, name="d.xml"):
+        self.text = text
+        client.tell("textDocument/didChange", self.change(text, version, name))
+        return client.findings(version)
+
+    def change(self, text, version, name="d.xml"):
+        return {"textDocument": {"uri": self.uri(name), "version": version}, "contentChanges": [{"text": text}]}
+
+    def at(self, needle, more=0):
+        """The position of a text in the document."""
+        before = self.text[: self.text.index(needle) + more]
+        line = before.rfind("\n") + 1
+        return {"line": before.count("\n"), "character": len(before[line:].encode("utf-16-le")) // 2}
+
+    def about(self, needle, more=0):
+        return {"textDocument": {"uri": self.uri()}, "position": self.at(needle, more)}
+
+    def hover(self, client, needle, more=0):
+        found = client.ask("textDocument/hover", self.about(needle, more))
+        return found and found["contents"]["value"].replace("\\", "")
+
+    def stretch(self, given):
+        """The text of a range."""
+        lines = self.text.split("\n")
+        first, last = given["start"], given["end"]
+        self.assertEqual(first["line"], last["line"])
+        return lines[first["line"]].encode("utf-16-le")[2 * first["character"] : 2 * last["character"]].decode("utf-16-le")
+
+    def actions(self, client, needle, **context):
+        where = self.at(needle)
+        given = {"textDocument": {"uri": self.uri()}, "range": {"start": where, "end": where}, "context": {"diagnostics": [], **context}}
+        return client.ask("textDocument/codeAction", given)
+
+    def applied(self, action):
+        """The document after the edits of an action."""
+        [edits] = action["edit"]["changes"].values()
+        text, places = self.text.encode(), ClientPlaces(self.text.encode(), UTF_16)
+        for edit in sorted(edits, key=lambda edit: (edit["range"]["start"]["line"], edit["range"]["start"]["character"]), reverse=True):
+            start, end = places.stretch(edit["range"])
+            text = text[:start] + edit["newText"].encode() + text[end:]
+        return text.decode()
+
+    def sample(self, name):
+        with open(os.path.join(TOP, "samples", name), encoding="utf-8") as file:
+            return file.read()
+
+
+class Session(ServeTest):
+    def test_a_fault_appears_and_goes(self):
+        client = self.client()
+        [found] = self.opened(client, document(EVENT + INSTANCE.replace("e1", "e2")))
+        self.assertEqual((found["severity"], found["code"], self.stretch(found["range"])), (1, "15 UnknownReference", 'eventID="e2"'))
+        self.assertEqual(found["message"], 'no EVENT has eid="e2"; there is e1')
+        said = [(one["severity"], one["code"]) for one in self.changed(client, document(EVENT + INSTANCE), 2)]
+        self.assertEqual(said, [(3, "no-creation-time"), (3, "unlinked-instance")])
+        client.tell("textDocument/didClose", {"textDocument": {"uri": self.uri()}})
+        self.assertEqual(client.findings(), [])
+        self.assertIsNone(client.ask("shutdown"))
+        client.tell("exit", None)
+        self.assertEqual((client.child.wait(60), client.child.stderr.read()), (0, b""))
+
+    def test_further_faults(self):
+        client = self.client()
+        self.assertEqual(len(self.opened(client, document('<EVENT eid="e1" class="STAT">x</EVENT><TIMEX3 tid="t1" type="DAT"/>'))), 1)
+        self.assertEqual([one["code"] for one in client.findings(1)], ["11 BadValue", "11 BadValue"])
+
+    def test_faults_are_those_of_check(self):
+        draw, client = random.Random(7), self.client()
+        sample = self.sample("port.xml")
+        for version in range(2, 22):
+            at = draw.randrange(len(sample))
+            text = sample[:at] + draw.choice(['"', "<", "&", "x", ""]) + sample[at + draw.randint(0, 3) :]
+            self.write("d.xml", text)
+            _, lines, _ = self.run_it("check", "--lint", "--clashes", "--format", "jsonl", "d.xml")
+            report = json.loads("\n".join(lines))
+            wanted = json.dumps(report, ensure_ascii=False)
+            for found in self.changed(client, text, version):
+                said = found["message"].split(": ", 1)[-1] if found["code"] == "clash" else found["message"]
+                self.assertIn(json.dumps(said, ensure_ascii=False)[1:-1], wanted)
+                self.assertIn(str(found["range"]["start"]["line"] + 1), wanted)
+
+    def test_a_clash_stands_at_each_of_its_links(self):
+        client = self.client()
+        found = self.opened(client, self.sample("port.xml"))
+        self.assertEqual([one["message"].split(":")[0] for one in found], [f"clash, {number} of 4" for number in range(1, 5)])
+        self.assertEqual([one["range"]["start"]["line"] for one in found], [22, 23, 28, 29])
+        beside = found[1]["relatedInformation"]
+        self.assertEqual([one["location"]["range"]["start"]["line"] for one in beside], [28, 29, 22, 3, 3, 6])
+        self.assertIn("by the calendar Monday ends", beside[3]["message"])
+        self.assertTrue(beside[-1]["message"].startswith('the date of Wednesday (t2) is value="1998-03-11"'))
+        self.assertIn("No timeline fits", self.hover(client, "Monday"))
+
+    def test_settings_of_the_folder(self):
+        self.write("tml-corpus.toml", 'ignore = ["no-creation-time"]\nwrappers = ["q"]\n')
+        self.write("bad/tml-corpus.toml", "ignore = 1\n")
+        client = self.client()
+        self.assertEqual(self.opened(client, document("<q>x</q>")), [])
+        self.assertIn("ignore is a list of texts", self.opened(client, document("x"), "bad/d.xml")[0]["message"])
+
+    def test_settings_are_read_once_for_each_change_of_them(self):
+        server, about = Server(TML, None, io.BytesIO()), Message("textDocument/didChange", {}, uri=self.uri())
+        with mock.patch.object(tomllib, "loads", wraps=tomllib.loads) as load:
+            for content in ('wrappers = ["q"]', "wrappers = 1"):
+                load.reset_mock()
+                self.write("tml-corpus.toml", content)
+                for version in range(20):
+                    server.take_text(about, document("<q>x</q>"), version)
+                self.assertEqual(load.call_count, 1)
+
+    def test_places_are_in_units_of_the_client(self):
+        text = document("😀é <EVENT/>")
+        [found] = self.opened(self.client(), text)
+        self.assertEqual((self.can["positionEncoding"], found["range"]["start"]), ("utf-16", {"line": 1, "character": 4}))
+        [found] = self.opened(self.client(general={"positionEncodings": ["utf-8", "utf-16"]}), text)
+        self.assertEqual((self.can["positionEncoding"], found["range"]["start"]), ("utf-8", {"line": 1, "character": 7}))
+
+
+class Answers(ServeTest):
+    def test_hover(self):
+        client = self.client()
+        self.opened(client, self.sample("rates.xml"))
+        time_of = self.hover(client, "<TIMEX3", 2)
+        self.assertRegex(time_of, r"\*\*.* \(t\d+, (?:DATE|TIME) .*\)\*\*\n\ntime fixed by the calendar: \d+ \w+ \d{4}, \d\d:\d\d to \d\d:\d\d:\d\d\n")
+        self.assertRegex(self.hover(client, "<EVENT", 2), r"^\*\*\w+ \(e\d+, [A-Z_]+\): instance ei\d+\*\*\n\n\w+ [A-Z_, ]+ .* \(ei\d+, \w+\)")
+        self.assertRegex(self.hover(client, "<TLINK", 2), r"^\*\*.* \(l1: \w+ [A-Z_]+ \w+\)\*\*")
+        self.assertRegex(self.hover(client, "<MAKEINSTANCE", 2), r"^\*\*.* \(ei\d+\), an instance of e\d+\*\*")
+        self.assertIsNone(self.hover(client, "<TimeML"))
+
+    def test_hover_says_what_follows(self):
+        client = self.client()
+        link = '<TLINK eventInstanceID="i1" relatedToTime="t1" relType="IS_INCLUDED"/>'
+        self.opened(client, document(DAYS + EVENT + INSTANCE + link + '<TLINK eventInstanceID="i1" relatedToTime="t2" relType="BEFORE"/>'))
+        self.assertEqual(
+            self.hover(client, ">x<", 1),
+            "**x (e1, STATE): instance i1**\n\nx IS_INCLUDED, DURING Thursday (i1, t1)\n\nx BEFORE Friday (i1, t2)",
+        )
+        self.assertIn("follows from the links", self.hover(client, 'relType="BEFORE"', 2))
+        self.assertIn("time fixed by the calendar", self.hover(client, 'relatedToTime="t2"', 16))
+
+    def test_definition_and_references(self):
+        client = self.client()
+        self.opened(client, self.sample("port.xml"))
+        found = client.ask("textDocument/definition", self.about('relatedToTime="t1"', 16))
+        self.assertEqual((self.stretch(found["range"]), found["range"]["start"]), ("t1", self.at('tid="t1"', 5)))
+        for declared, count in ((True, 3), (False, 2)):
+            asked = {**self.about("Monday"), "context": {"includeDeclaration": declared}}
+            found = client.ask("textDocument/references", asked)
+            self.assertEqual([self.stretch(one["range"]) for one in found], ["t1"] * count)
+        self.assertIsNone(client.ask("textDocument/definition", self.about("Lund")))
+
+    def test_completion(self):
+        client = self.client()
+        whole = self.sample("port.xml")
+        begun = whole.replace('<TLINK lid="l5" eventInstanceID="ei4" relatedToTime="t1" relType="IS_INCLUDED"/>', '<TLINK lid="l5" relatedToTime="t" relType="BE')
+        self.opened(client, begun)
+        labels = [one["label"] for one in client.ask("textDocument/completion", self.about('relType="BE\n', 11))]
+        self.assertEqual(labels[:4] + labels[-1:], ["BEFORE", "AFTER", "INCLUDES", "IS_INCLUDED", "OVERLAPPED_BY"])
+        items = client.ask("textDocument/completion", self.about('relatedToTime="t" ', 16))
+        self.assertEqual([(one["label"], one["detail"]) for one in items], [("t0", "Thursday"), ("t1", "Monday"), ("t2", "Wednesday")])
+        self.assertEqual(self.stretch(items[0]["textEdit"]["range"]), "t")
+        names = [one["label"] for one in client.ask("textDocument/completion", self.about('relatedToTime="t" relType="BE\n'))]
+        self.assertEqual(names[0], "relType")
+        self.assertNotIn("lid", names)
+        self.assertEqual(client.ask("textDocument/completion", self.about("Lund", 2)), [])
+        identifier = client.ask("textDocument/completion", self.about('tid="t2"', 5))
+        self.assertEqual([one["label"] for one in identifier], ["t3"])
+
+    def test_symbols(self):
+        tree = self.client(textDocument={"documentSymbol": {"hierarchicalDocumentSymbolSupport": True}})
+        self.opened(tree, self.sample("port.xml"))
+        found = tree.ask("textDocument/documentSymbol", {"textDocument": {"uri": self.uri()}})
+        self.assertEqual([(one["name"], one["detail"]) for one in (found[0], found[-1])], [("t0", "Thursday"), ("l13", "said IS_INCLUDED Thursday")])
+        plain = self.client()
+        self.opened(plain, self.sample("port.xml"))
+        listed = plain.ask("textDocument/documentSymbol", {"textDocument": {"uri": self.uri()}})
+        self.assertEqual([one["name"] for one in listed], [one["name"] for one in found])
+        self.assertIn("location", listed[0])
+
+
+class Actions(ServeTest):
+    def test_a_cure_is_applied_and_the_fault_is_gone(self):
+        client = self.client()
+        rows = [
+            (EVENT + INSTANCE + "a & b", "&", "Mend & that begin no reference (1 change)"),
+            (EVENT.replace("STATE", "State"), "State", "Mend values (1 change)"),
+            (EVENT.replace("EVENT", "event"), "<event", "Mend names of tags (2 changes)"),
+            (EVENT.replace('"e1"', "\u201ce1\u201d"), "<EVENT", "Mend curly quotes (2 changes)"),
+        ]
+        self.opened(client, document("x"))
+        for number, (inner, needle, title) in enumerate(rows):
+            with self.subTest(title):
+                [found] = self.changed(client, document(inner), 2 * number + 2)
+                self.assertEqual(found["severity"], 1)
+                [action] = self.actions(client, needle)
+                self.assertEqual((action["title"], action["kind"]), (title, "quickfix"))
+                left = self.changed(client, self.applied(action), 2 * number + 3)
+                self.assertNotIn(1, [one["severity"] for one in left])
+                self.assertEqual(self.actions(client, "<TimeML"), [])
+
+    def test_all_cures(self):
+        client = self.client()
+        self.opened(client, document("é & b\n" + EVENT.replace("STATE", "State") + "\nx\n"))
+        self.assertEqual(self.actions(client, "&", only=["refactor"]), [])
+        [action] = self.actions(client, "<TimeML", only=["source"])
+        self.assertEqual(self.applied(action), document("é &amp; b\n" + EVENT + "\nx\n"))
+
+    def test_dates_that_touch(self):
+        client = self.client()
+        found = self.opened(client, TOUCHING)
+        self.assertEqual([(one["code"], one["severity"]) for one in found], [("touching", 1), ("no-creation-time", 3)])
+        self.assertIn("write IBEFORE", found[0]["message"])
+        [action] = self.actions(client, "<TLINK")
+        self.assertRegex(action["title"], "^Write IBEFORE: Thursday ends exactly where Friday begins")
+        self.assertEqual(self.applied(action), TOUCHING.replace("BEFORE", "IBEFORE"))
+        self.assertEqual([one["code"] for one in self.changed(client, self.applied(action), 2)], ["no-creation-time"])
+
+    def test_a_link_that_follows_is_taken_out(self):
+        client = self.client()
+        link = '<TLINK timeID="t1" relatedToTime="t2" relType="IBEFORE"/>\n'
+        self.opened(client, document(DAYS + link))
+        [action] = self.actions(client, "<TLINK")
+        self.assertEqual((action["kind"], self.applied(action)), ("refactor.rewrite", document(DAYS)))
+        self.assertEqual(self.actions(client, "<TIMEX3"), [])
+
+
+class Protocol(ServeTest):
+    def test_requests_that_are_not_wanted(self):
+        client = self.client()
+        text = self.sample("rates.xml")
+        self.opened(client, text)
+        hover = client.request("textDocument/hover", self.about("<EVENT", 2))
+        again = client.request("textDocument/hover", self.about("<EVENT", 2))
+        client.send(
+            {"method": "textDocument/didChange", "params": self.change(text + " ", 2)},
+            hover,
+            {"method": "$/cancelRequest", "params": {"id": hover["id"]}},
+            again,
+            {"method": "textDocument/didChange", "params": self.change(text, 3)},
+        )
+        answers = [client.answer(one["id"]) for one in (hover, again)]
+        self.assertEqual([one["error"]["code"] for one in answers], [-32800, -32801])
+        self.assertEqual(client.told, [])
+        self.assertTrue(client.findings(3) is not None)
+
+    def test_only_the_last_of_many_changes_is_judged(self):
+        client = self.client()
+        text = self.sample("port.xml")
+        self.opened(client, text)
+        client.send(*({"method": "textDocument/didChange", "params": self.change(text + " " * number, number)} for number in range(2, 202)))
+        versions = []
+        while not versions or versions[-1] != 201:
+            message = client.receive()
+            versions.append(message["params"]["version"])
+        self.assertLess(len(versions), 100)
+
+    def test_what_is_no_message(self):
+        client = self.client()
+        client.send(b"{", b"[]", b"[" * 100_000, b'{"id": 5}', b'{"id": 9, "method": "no/such"}', b'{"method": "textDocument/didOpen"}')
+        client.send(client.request("textDocument/hover", {"textDocument": {"uri": "x"}}), client.request("initialize", {}))
+        codes = [client.receive()["error"]["code"] for _ in range(6)]
+        self.assertEqual(codes, [-32700, -32600, -32700, -32601, -32602, -32600])
+        client.ask("shutdown")
+        client.send(client.request("textDocument/hover", {}))
+        self.assertEqual(client.answer(client.number)["error"]["code"], -32600)
+
+    def test_before_initialize_and_without_an_end(self):
+        client = Client(self.folder)
+        client.send(client.request("textDocument/hover", {}))
+        self.assertEqual(client.answer(1)["error"]["code"], -32002)
+        client.child.stdin.close()
+        self.assertEqual(client.child.wait(60), 1)
+        for stream in (client.child.stdout, client.child.stderr):
+            stream.close()
+
+    def test_a_wire_that_is_broken(self):
+        for sent in (b"Content-Length: x\r\n\r\n", b"Content-Length: 99999999999\r\n\r\n", b"x" * 9000, b"Content-Length: 9\r\n\r\n{"):
+            with self.subTest(sent[:40]):
+                done = subprocess.run([sys.executable, COMPANION, "serve", "--tml", TML], input=sent, capture_output=True, check=False, timeout=60)
+                self.assertEqual((done.returncode, done.stdout, done.stderr.count(b"\n")), (2, b"", 1))
+
+    def test_hostile_documents(self):
+        client = self.client()
+        texts = ["", "\ud800", "\0", "<", "<TimeML", "&" * 5000, "<TimeML>" * 40, "<TimeML>\r\ud83d" + "é" * 9000 + "<EVENT ", "x" * 4_200_000]
+        texts += [document('<TLINK relType="' + "A" * 100_000 + '"/>' * 3), document("<EVENT/>" * 20_000), "\ufeff" + document("<EVENT/>")]
+        self.opened(client, document("x"))
+        begun = time.monotonic()
+        for version, text in enumerate(texts, 2):
+            with self.subTest(text[:30]):
+                self.assertTrue(self.changed(client, text, version))
+                for line, character in ((0, 0), (0, len(text)), (1, 9), (2**31, 2**31), (0, 17)):
+                    where = {"line": line, "character": character}
+                    for method in ("hover", "definition", "completion", "references", "documentSymbol", "codeAction"):
+                        given = {"position": where, "context": {}, "range": {"start": where, "end": where}, "textDocument": {"uri": self.uri()}}
+                        client.send(client.request(f"textDocument/{method}", given))
+                        self.assertNotIn("error", client.answer(client.number), method)
+        self.assertLess(time.monotonic() - begun, 100)
+
+    def test_a_keystroke(self):
+        client, parts = self.client(), []
+        for number in range(250):
+            parts.append(f'{"word " * 40}<EVENT eid="e{number}" class="STATE">x</EVENT>\n<MAKEINSTANCE eiid="i{number}" eventID="e{number}"/>\n')
+        parts += [f'<TLINK eventInstanceID="i{number}" relatedToEventInstance="i{number + 1}" relType="BEFORE"/>\n' for number in range(249)]
+        text = document("".join(parts))
+        self.opened(client, text)
+        taken = []
+        for version in range(2, 22):
+            begun = time.monotonic()
+            self.changed(client, text.replace("word", "w" * version, 1), version)
+            taken.append(time.monotonic() - begun)
+        self.assertGreater(len(text), 90_000)
+        # Some hundredths of a second are usual; this leaves room for a busy machine.
+        self.assertLess(sorted(taken)[len(taken) // 2], 0.5)
+
+
+class Editors(CorpusTest):
+    """Clients that others wrote."""
+
+    def run_editor(self, *words):
+        """What an editor prints that is started with a document with one fault."""
+        self.write("d.xml", document('<EVENT eid="e1" class="State">x</EVENT>\n'))
+        done = subprocess.run(
+            words,
+            cwd=self.folder,
+            env={
+                **os.environ,
+                "HOME": self.folder,
+                "XDG_STATE_HOME": self.folder,
+                "TML_SERVE": " ".join((sys.executable, COMPANION, "serve", "--tml", TML)),
+                "TML_DOCUMENT": self.path("d.xml"),
+            },
+            stdin=subprocess.DEVNULL,
+            stdout=subprocess.PIPE,
+            stderr=subprocess.STDOUT,
+            check=False,
+            timeout=120,
+        )
+        return done.stdout.decode("utf-8", "replace").replace("\r", "")
+
+    def check_printed(self, printed, *wanted):
+        for line in wanted:
+            self.assertRegex(printed, rf"(?m)^{line}", printed)
+
+    @unittest.skipUnless(shutil.which("nvim"), "no program nvim")
+    def test_neovim(self):
+        script = os.path.join(HERE, "serve.lua")
+        printed = self.run_editor("nvim", "--headless", "--clean", "-n", "d.xml", "-c", f"luafile {script}", "-c", "qa!")
+        self.check_printed(
+            printed,
+            'said: class="State" is not a class: .*did you mean STATE',
+            r"offered: Mend values \(1 change\)",
+            'line: <EVENT eid="e1" class="STATE">x</EVENT>',
+            "then: the document has no creation time",
+            r"hover: \*\*x \(e1, STATE\)",
+            "stopped: true",
+        )
+
+    @unittest.skipUnless(shutil.which("emacs"), "no program emacs")
+    def test_emacs(self):
+        printed = self.run_editor("emacs", "--batch", "--no-init-file", "-l", os.path.join(HERE, "serve.el"))
+        if "no eglot" in printed:
+            self.skipTest("Emacs has no Eglot")
+        self.check_printed(
+            printed,
+            r'said: tml \[11 BadValue\]: class="State" is not a class: .*did you mean STATE',
+            r"then: tml \[no-creation-time\]: the document has no creation time",
+            r"hover: \*\*x \(e1, STATE\)",
+            "stopped",
+        )
+
+
+if __name__ == "__main__":
+    unittest.main()

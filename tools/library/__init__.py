@@ -1,1 +1,0 @@
-"""The library for C: its header, its version script, and how it is linked."""
