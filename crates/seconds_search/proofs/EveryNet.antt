@@ -5,7 +5,6 @@ use Rattle.std.proofs.lemmas.Bool.{cases_lt}
 use Rattle.std.proofs.lemmas.Int.{ints}
 use Rattle.std.proofs.lemmas.List.{get_or-map, get_or-take, length-map, length-replicate, length-reverse, length-set, length-take-le, length_push}
 use Rattle.std.proofs.lemmas.List.Elements.{All-from_get_or, All-get_or, All-push, Contains-append_left, Contains-push}
-use Rattle.std.proofs.lemmas.List.Sorted.{IsPermutation-refl}
 use Rattle.net_core.specs.Nets.{intervals, points}
 use Rattle.seconds_core.specs.Constraints.{IsMet, constraint_of}
 use Rattle.seconds_core.specs.Placed.{IsPlaced, second_at}
@@ -83,7 +82,7 @@ module _ (timed : PlainTimed) (is : IsTimed timed) where
       let (b, m, g, by_interval) = up_to timed IsOfInterval an_interval (intervals timed.net) [] in
       let (c, n, h, by_point) = up_to timed IsOfPoint a_point (points timed.net) b in
       let (d, o, i, by_link) = up_to timed IsOfLink a_link (length timed.net.links) c in
-      (d, edges_are timed [] b c d d m n o is refl g h i by_interval by_point by_link (IsPermutation-refl d))
+      (d, edges_are timed [] b c d m n o is refl g h i by_interval by_point by_link)
 
 -- one second is before another, or it is not
 lower_or_not : (m n : ℤ) → (m <ℤ n) ⊎ (n ≤ℤ m)

@@ -1,10 +1,9 @@
 //! All constraints between the points of a net, each with the line that names it.
-ghost use Rattle.net_core.specs.Limits.{max_intervals, max_links};
 ghost use Rattle.net_core.specs.Nets.{intervals, points};
-ghost use Rattle.seconds_core.specs.Timed.{IsTimed, origin};
+ghost use Rattle.seconds_core.specs.Timed.{IsTimed};
 ghost use Rattle.std.specs.Prelude.{IfOk, OnOk, length, slice_index, ℕ, ◌+◌, ◌*◌, ◌<◌, ◌≡◌, ◌≤◌};
 ghost use Rattle.seconds_search.specs.Edges as spec;
-ghost use Rattle.seconds_search.specs.Edges.{AreEdges, AreInside, CoversAll, Grows, IsOfInterval, IsOfLink, IsOfPoint};
+ghost use Rattle.seconds_search.specs.Edges.{AreEdges, CoversAll, Grows, IsOfInterval, IsOfLink, IsOfPoint};
 
 use crate::ranking::ranks_of;
 use net_core::Memory;
@@ -24,15 +23,25 @@ pub struct Edge {
 ///
 /// Out of memory.
 pub fn edges_of(alloc: Global, timed: &Timed) -> Result<Vec<Edge>, Memory>
+    ensures { IfOk result (λ edges. AreEdges timed.now edges.items) }
+{
+    let points = timed.origin() + 1;
+    let mut edges = all_edges(alloc, timed)?;
+    let ranks = ranks_of(alloc, &edges, points)?;
+    edges.sort_unstable_by_key(|edge| rank_of(&ranks, edge));
+    Ok(edges)
+}
+
+/// The edges of intervals, of points and of links.
+fn all_edges(alloc: Global, timed: &Timed) -> Result<Vec<Edge>, Memory>
+    requires { IsTimed timed.now }
     ensures edges { IfOk result (λ edges. AreEdges timed.now edges.items) }
-    ensures inside { IfOk result (λ edges. AreInside (origin timed.now + 1) edges.items) }
+    ensures few { IfOk result (λ edges. length edges.items < 65536) }
 {
     let mut edges = Vec::new(alloc);
     push_intervals(&mut edges, timed)?;
     push_points(&mut edges, timed)?;
     push_links(&mut edges, timed)?;
-    let ranks = ranks_of(alloc, &edges, timed.origin() + 1)?;
-    edges.sort_unstable_by_key(|edge| rank_of(&ranks, edge));
     Ok(edges)
 }
 

@@ -7,13 +7,13 @@ ghost use Rattle.seconds_search.specs.Relaxation as spec;
 ghost use Rattle.seconds_search.specs.Relaxation.{IsNear, IsRelaxed, Relaxes, RelaxesAll, max_rounds};
 
 use crate::edges::Edge;
-use net_core::Memory;
+use net_core::{MAX_POINTS, Memory};
 use seconds_core::Constraint;
 use std::alloc::Global;
 use std::marker::Model;
 
 /// No distance is lower: that of as many of the heaviest edges as there can be points.
-const LOWEST: i64 = -2_049_000_000_000_000_000;
+const LOWEST: i64 = -(MAX_POINTS as i64 + 1) * 1_000_000_000_000_000;
 
 /// The distance of each point from a source with an edge of weight 0 to all of them, as far as it is known, and the number
 /// of the edge by which it was lowered last, if any.

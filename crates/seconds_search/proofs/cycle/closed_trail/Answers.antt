@@ -1,8 +1,12 @@
-use Rattle.std.proofs.Common.{◌≡◌, ◌∙◌, ℕ, ◌<◌, ◌++◌, List, [], ◌∷◌, Option, None, Some, ap, drop, length, replicate, set, subst, sym, arith, rules}
+use Rattle.std.proofs.Common.{◌≡◌, ◌∙◌, ℕ, ◌<◌, ◌++◌, List, [], ◌∷◌, Option, None, Some, ap, drop, get_or, length, replicate, set, subst, sym, arith, rules}
 use Rattle.std.proofs.lemmas.List.{get_or_default}
 use Rattle.seconds_search.specs.Relaxation.{IsClosed, predecessor}
 use Rattle.seconds_search.proofs.Trails.{IsWalked, free_less, walk_begins, walk_closes, walk_ends, walk_goes_on}
 use Rattle.seconds_search.proofs.cycle.closed_trail.Goals as goal
+
+-- the place of a point, as it was read
+place_is : (places : List (Option ℕ)) (point : ℕ) (read is : Option ℕ) → point < length places → read ≡ get_or places point read → read ≡ is → predecessor places point ≡ is
+place_is places point read is within at same = sym (at ∙ get_or_default places point read None within) ∙ same
 
 pub loop-number-init : goal.loop-number-init
 loop-number-init c =
@@ -20,8 +24,7 @@ rest_of-requires c =
     let walked = c.loop-number.invariant in
     let places = c.loop-number.places.items in
     let point = c.loop-number.point in
-    let within : point < length places = omega (arith, walked.inside, walked.size) in
-    let met : predecessor places point ≡ Some c.in-Some-index.first = sym (c.index.ensures ∙ get_or_default places point c.index.result.now None within) ∙ c.in-Some-index.is in
+    let met = place_is places point c.index.result.now (Some c.in-Some-index.first) (omega (arith, walked.inside, walked.size)) c.index.ensures c.in-Some-index.is in
     omega (arith, (walked.placed point c.in-Some-index.first met).0, ap length c.deref.ensures.value)
 
 pub returns-in-Some-index : goal.returns-in-Some-index
@@ -33,8 +36,7 @@ returns-in-Some-index c =
     let places = c.loop-number.places.items in
     let point = c.loop-number.point in
     let first = c.in-Some-index.first in
-    let within : point < length places = omega (arith, walked.inside, walked.size) in
-    let met : predecessor places point ≡ Some first = sym (c.index.ensures ∙ get_or_default places point c.index.result.now None within) ∙ c.in-Some-index.is in
+    let met = place_is places point c.index.result.now (Some first) (omega (arith, walked.inside, walked.size)) c.index.ensures c.in-Some-index.is in
     let rest : c.in_ok-rest.rest.items ≡ drop first trail = c.in_ok-rest.ensures ∙ ap (drop first) c.deref.ensures.value in
     (point, subst (λ (r : List ℕ). IsClosed edges d r point) (sym rest) (walk_closes edges d c.requires.relaxed c.args.from trail places point walked first met))
 
@@ -46,10 +48,8 @@ loop-number-smaller c =
     let walked = c.loop-number.invariant in
     let places = c.loop-number.places.items in
     let point = c.loop-number.point in
-    let within : point < length places = omega (arith, walked.inside, walked.size) in
-    let unplaced : predecessor places point ≡ None = sym (c.index.ensures ∙ get_or_default places point c.index.result.now None within) ∙ c.in_default-index.is in
-    let less = free_less places point c.len-in-Some.result within unplaced in
-    omega (arith, less)
+    let unplaced = place_is places point c.index.result.now None (omega (arith, walked.inside, walked.size)) c.index.ensures c.in_default-index.is in
+    omega (arith, free_less places point c.len-in-Some.result (omega (arith, walked.inside, walked.size)) unplaced)
 
 pub loop-number-preserved : goal.loop-number-preserved
 loop-number-preserved c =
@@ -61,8 +61,7 @@ loop-number-preserved c =
     let places = c.loop-number.places.items in
     let point = c.loop-number.point in
     let number = c.in-Some.number in
-    let within : point < length places = omega (arith, walked.inside, walked.size) in
-    let unplaced : predecessor places point ≡ None = sym (c.index.ensures ∙ get_or_default places point c.index.result.now None within) ∙ c.in_default-index.is in
+    let unplaced = place_is places point c.index.result.now None (omega (arith, walked.inside, walked.size)) c.index.ensures c.in_default-index.is in
     let goes_on = walk_goes_on edges d c.requires.relaxed from trail places point walked number (sym c.predecessor.ensures ∙ c.in-Some.is) unplaced in
     let pushed : c.push.new.self.items ≡ trail ++ number ∷ [] = search rules in
     let count : c.len-in-Some.result ≡ length trail = search rules in
