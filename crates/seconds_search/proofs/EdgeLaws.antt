@@ -105,21 +105,24 @@ module _ (timed : PlainTimed) (edges : List Edge) (is : IsTimed timed)
   whole (Upper p) = elim (cases_lt p (points timed.net)) [ inl lt ↦ by_point p lt (Upper p) refl | inr ge ↦ nothing_named timed edges (Upper p) (ap (option_map (λ n. at_most (origin timed) p n)) (upper_past timed p (omega (arith, ge)))) ]
   whole (Via k atom) = elim (cases_lt k (length timed.net.links)) [ inl lt ↦ by_link k lt (Via k atom) refl | inr ge ↦ nothing_named timed edges (Via k atom) (link_past timed k atom (omega (arith, ge))) ]
 
--- the same edges in another order are all constraints too
-pub edges_are : (timed : PlainTimed) (a b c d sorted : List Edge) (m n o : ℕ) → IsTimed timed → a ≡ [] → Grows timed a b m → Grows timed b c n → Grows timed c d o
+pub edges_are : (timed : PlainTimed) (a b c d : List Edge) (m n o : ℕ) → IsTimed timed → a ≡ [] → Grows timed a b m → Grows timed b c n → Grows timed c d o
     → ((i : ℕ) → i < intervals timed.net → CoversAll timed b (IsOfInterval i))
     → ((p : ℕ) → p < points timed.net → CoversAll timed c (IsOfPoint p))
     → ((k : ℕ) → k < length timed.net.links → CoversAll timed d (IsOfLink k))
-    → IsPermutation d sorted → AreEdges timed sorted
-edges_are timed a b c d sorted m n o is none g h i by_interval by_point by_link same =
-    let all : All (IsEdge timed) d = i.named (h.named (g.named (subst (All (IsEdge timed)) (sym none) (All-nil (IsEdge timed))))) in
-    let covers = whole timed d is
-    (λ j lt. covers_all_yet timed c d o (IsOfInterval j) i (covers_all_yet timed b c n (IsOfInterval j) h (by_interval j lt)))
-    (λ p lt. covers_all_yet timed c d o (IsOfPoint p) i (by_point p lt)) by_link in
-    record {
-      named = All-weaker (Contains sorted) (IsEdge timed) (λ edge in_sorted. All-contains (IsEdge timed) d edge all (Contains-permutation sorted d edge (IsPermutation-sym d sorted same) in_sorted)) sorted (All-contains_itself sorted);
-      whole = λ line con named. Contains-permutation d sorted (record { line = line; constraint = con }) same (covers line con named);
-    }
+    → AreEdges timed d
+edges_are timed a b c d m n o is none g h i by_interval by_point by_link = record {
+  named = i.named (h.named (g.named (subst (All (IsEdge timed)) (sym none) (All-nil (IsEdge timed)))));
+  whole = whole timed d is
+      (λ j lt. covers_all_yet timed c d o (IsOfInterval j) i (covers_all_yet timed b c n (IsOfInterval j) h (by_interval j lt)))
+      (λ p lt. covers_all_yet timed c d o (IsOfPoint p) i (by_point p lt)) by_link;
+}
+
+-- the same edges in another order are all constraints too
+pub edges_sorted : (timed : PlainTimed) (edges sorted : List Edge) → AreEdges timed edges → IsPermutation edges sorted → AreEdges timed sorted
+edges_sorted timed edges sorted are same = record {
+  named = All-weaker (Contains sorted) (IsEdge timed) (λ edge in_sorted. All-contains (IsEdge timed) edges edge are.named (Contains-permutation sorted edges edge (IsPermutation-sym edges sorted same) in_sorted)) sorted (All-contains_itself sorted);
+  whole = λ line con named. Contains-permutation edges sorted (record { line = line; constraint = con }) same (are.whole line con named);
+}
 
 -- so they are between points
 pub edges_inside : (timed : PlainTimed) (edges : List Edge) → AreEdges timed edges → AreInside (origin timed + 1) edges

@@ -1,10 +1,6 @@
-pub mod Apart
 pub mod EdgeLaws
-pub mod PutLaws
-pub mod RoundLaws
-pub mod SearchLaws
-pub mod WayBack
+pub mod Relaxing
+pub mod Trails
 pub mod Settling
-pub mod Meetings
 pub mod Counted
 pub mod EveryNet

@@ -1,4 +1,4 @@
--- Points that no longer fall are placed, counted from the origin.
+-- Where all edges are met points are placed, counted from the origin.
 use Rattle.std.proofs.Common.{◌≡◌, ℕ, ◌+◌, ◌<◌, ◌≤◌, ℤ, pos, ◌-ℤ◌, List, length, inl, inr, sym, ap, subst, ◌∙◌, arith}
 use Rattle.std.proofs.lemmas.Bool.{cases_lt}
 use Rattle.std.proofs.lemmas.Int.{ints}
@@ -11,15 +11,15 @@ use Rattle.seconds_core.specs.Timed.{IsTimed, PlainTimed, origin}
 use Rattle.seconds_core.proofs.Kept.{constraints_say_what_is_placed}
 use Rattle.seconds_search.specs.declared.edges.Edge.{Edge}
 use Rattle.seconds_search.specs.Edges.{AreEdges, IsEdge, edge_at}
-use Rattle.seconds_search.specs.Search.{AreSettled}
-use Rattle.seconds_search.proofs.RoundLaws.{no_edge}
+use Rattle.seconds_search.specs.Relaxation.{AreMet}
+use Rattle.seconds_search.proofs.Relaxing.{no_edge}
 
-pub settled_is_placed : (timed : PlainTimed) (edges : List Edge) (seconds counted : List ℤ) → IsTimed timed → AreEdges timed edges → AreSettled edges (origin timed + 1) seconds
+pub settled_is_placed : (timed : PlainTimed) (edges : List Edge) (seconds counted : List ℤ) → IsTimed timed → AreEdges timed edges → length seconds ≡ origin timed + 1 → AreMet edges seconds
     → length counted + 1 ≡ length seconds
     → ((p : ℕ) → p < length counted → second_at counted p ≡ second_at seconds p -ℤ second_at seconds (length counted))
     → IsPlaced timed counted
-settled_is_placed timed edges seconds counted is are settled size same =
-    let count : length counted ≡ origin timed = omega (arith, size, settled.size) in
+settled_is_placed timed edges seconds counted is are all met size same =
+    let count : length counted ≡ origin timed = omega (arith, size, all) in
     let at : (p : ℕ) → p ≤ origin timed → second_at counted p ≡ second_at seconds p -ℤ second_at seconds (origin timed) = λ p le. elim (cases_lt p (origin timed)) [
       | inl lt ↦ same p (omega (arith, lt, count)) ∙ ap (λ n. second_at seconds p -ℤ second_at seconds n) count
       | inr ge ↦ let last : p ≡ origin timed = omega (arith, ge, le) in get_or_past counted p (pos 0) (omega (arith, ge, count)) ∙ subst (λ q. pos 0 ≡ second_at seconds q -ℤ second_at seconds (origin timed)) (sym last) (omega (arith, ints))
@@ -28,7 +28,7 @@ settled_is_placed timed edges seconds counted is are settled size same =
     let (k, lt, found) = are.whole line c named in
     let edge : Edge = record { line = line; constraint = c } in
     let here : edge_at edges k ≡ edge = get_or_default edges k no_edge edge lt ∙ found in
-    let met : IsMet seconds c = subst (λ (e : Edge). IsMet seconds e.constraint) here (settled.met k lt) in
+    let here_met : IsMet seconds c = subst (λ (e : Edge). IsMet seconds e.constraint) here (met k lt) in
     let within = (All-contains (IsEdge timed) edges edge are.named (k, lt, found)).1 in
-    omega (arith, ints, met, at c.to within.to, at c.from within.from) in
+    omega (arith, ints, here_met, at c.to within.to, at c.from within.from) in
     (constraints_say_what_is_placed timed counted is).1 (count, meets)

@@ -5,7 +5,7 @@ use Rattle.seconds_core.specs.Cycles.{IsNegative}
 use Rattle.seconds_core.specs.Placed.{HasPlacing, IsPlaced}
 use Rattle.seconds_core.specs.Timed.{IsTimed, PlainTimed, max_second, origin}
 use Rattle.seconds_core.specs.declared.line.Line.{Line}
-use Rattle.seconds_search.specs.Search.{max_rounds}
+use Rattle.seconds_search.specs.Relaxation.{max_rounds}
 use Rattle.seconds_search.specs.declared.deciding.PlaceFault.{PlaceFault}
 use Rattle.seconds_search.specs.declared.deciding.PlaceFault.TheVariants.{Negative, Memory}
 

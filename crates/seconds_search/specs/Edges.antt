@@ -8,12 +8,11 @@ use Rattle.seconds_core.specs.declared.line.Line.{Line}
 use Rattle.seconds_core.specs.declared.line.Line.TheVariants.{Span, Via, Lower, Upper, Least, Most}
 use Rattle.seconds_search.specs.declared.edges.Edge.{Edge}
 
--- the point that an edge leads from
-abbrev pub from_of : Edge → ℕ
-from_of edge = edge.constraint.from
-
 abbrev pub edge_at : List Edge → ℕ → Edge
 edge_at edges e = slice_index_or edges e (record { line = Span 0; constraint = at_most 0 0 (pos 0) })
+
+abbrev pub line_at : List Edge → ℕ → Line
+line_at edges e = (edge_at edges e).line
 
 -- the edge is a constraint of the net, with the line that names it
 abbrev pub IsEdge : PlainTimed → Edge → Type 0

@@ -1,6 +1,4 @@
 pub mod Edges
-pub mod Falls
-pub mod Rounds
-pub mod Search
-pub mod Meetings
+pub mod Ranking
+pub mod Relaxation
 pub mod Decided

@@ -1,101 +1,97 @@
-//! The cycle of points that go on falling.
-ghost use Rattle.seconds_core.specs.Cycles.{IsNegative};
-ghost use Rattle.seconds_core.specs.Timed.{PlainTimed};
+//! The negative cycle that predecessors lead back round.
+ghost use Rattle.std.specs.Prelude.{IfOk, IfSome, IsSome, MatchOption, drop, length, map, ℕ, ◌<◌, ◌≡◌, ◌≤◌};
 ghost use Rattle.std.specs.List.{All};
-ghost use Rattle.std.specs.Prelude.{IfOk, IfSome, MatchOption, length, reverse, ℕ, ◌<◌, ◌≡◌, ◌≢◌, ◌≤◌};
-ghost use Rattle.seconds_search.specs.Edges.{IsEdge};
-ghost use Rattle.seconds_search.specs.Falls as spec;
-ghost use Rattle.seconds_search.specs.Falls.{AreRounds, width};
-ghost use Rattle.seconds_search.specs.Meetings.{AreApart, Meet};
-ghost use Rattle.seconds_search.specs.Search.{max_rounds};
+ghost use Rattle.seconds_search.specs.Relaxation.{AreNegative, IsClosed, IsRelaxed, IsTooLow, constraint_at};
+ghost use Rattle.seconds_search.specs.Edges.{line_at};
 
 use crate::edges::Edge;
-use crate::falls::Fall;
-use net_core::{List, Memory};
+use crate::relaxation::Distances;
+use net_core::Memory;
 use seconds_core::{Cycle, Line};
 use std::alloc::Global;
 
-/// A cycle of edges whose sum is below 0, where there were falls in as many rounds as there are points.
+/// A cycle of edges whose sum is below 0, where predecessors lead back to one from this point. Where the point is too low
+/// they do.
 ///
 /// # Errors
 ///
 /// Out of memory.
-pub fn cycle_of(
+pub fn negative_cycle(
     alloc: Global,
     edges: &[Edge],
-    points: u32,
-    rounds: Vec<List<Fall>>,
-) -> Result<Cycle, Memory>
-    requires rounds { AreRounds edges.now points (reverse rounds.items) }
-    requires count { length rounds.items ≡ points }
-    requires some { 0 < width points (reverse rounds.items) }
-    requires few { points ≤ max_rounds }
-    ensures negative { IfOk result (λ cycle. (timed : PlainTimed) → All (IsEdge timed) edges.now → IsNegative timed cycle) }
-    ensures short { IfOk result (λ cycle. length cycle ≤ points) }
+    distances: &Distances,
+    point: u32,
+) -> Result<Option<Cycle>, Memory>
+    requires relaxed { IsRelaxed edges.now distances.now }
+    requires point { point < length distances.now.seconds }
+    ensures negative { IfOk result (λ found. IfSome found (AreNegative edges.now)) }
+    ensures short { IfOk result (λ found. IfSome found (λ cycle. length cycle ≤ length distances.now.seconds)) }
+    ensures found { IfOk result (λ found. IsTooLow distances.now.seconds point → IsSome found) }
 {
-    let way = way_back(alloc, edges, rounds)?;
-    let Some(Meeting { first, again }) = first_meeting(alloc, &way.points, points)? else {
-        unreachable!()
+    let Some(trail) = closed_trail(alloc, edges, distances, point)? else {
+        return Ok(None);
     };
-    let (_, rest) = way.lines.split_at(first);
-    let (lines, _) = rest.split_at(again - first);
-    let Ok(mut lines) = Vec::from_slice(alloc, lines) else {
+    let mut lines = lines_of(alloc, edges, &trail)?;
+    lines.reverse();
+    Ok(Some(Cycle::from_vec(lines)))
+}
+
+/// The edges that predecessors lead back by from a point that they lead back to again, if they come to one from here.
+fn closed_trail(
+    alloc: Global,
+    edges: &[Edge],
+    distances: &Distances,
+    from: u32,
+) -> Result<Option<Vec<usize>>, Memory>
+    requires relaxed { IsRelaxed edges.now distances.now }
+    requires from { from < length distances.now.seconds }
+    ensures { IfOk result (λ found. MatchOption found (IsTooLow distances.now.seconds from → ⊥) (λ trail. (p : ℕ) × IsClosed edges.now distances.now trail.items p)) }
+{
+    let mut trail = Vec::new(alloc);
+    let Ok(mut places) = vec![in alloc; None; distances.len()] else {
         return Err(Memory);
     };
-    lines.reverse();
-    Ok(Cycle::from_vec(lines))
-}
-
-/// The way back from a fall to where it began: the points, and the lines of the edges between them.
-#[derive(Drop)]
-struct Way {
-    points: Vec<u32>,
-    lines: Vec<Line>,
-}
-
-/// The way back from the first fall of the last round.
-fn way_back(alloc: Global, edges: &[Edge], mut rounds: Vec<List<Fall>>) -> Result<Way, Memory>
-    requires rounds { (points : ℕ) × AreRounds edges.now points (reverse rounds.items) × (0 < width points (reverse rounds.items)) × (points < 2147483648) }
-    ensures points { IfOk result (λ way. way.points.items ≡ spec.points_back (reverse rounds.items) 0) }
-    ensures lines { IfOk result (λ way. way.lines.items ≡ spec.lines_back edges.now (reverse rounds.items) 0) }
-{
-    let mut points = Vec::new(alloc);
-    let mut lines = Vec::new(alloc);
-    let mut back = 0;
-    while let Some(falls) = rounds.pop() {
-        let fall = falls.as_slice()[back as usize];
-        if points.push(fall.point).is_err() || lines.push(edges[fall.edge as usize].line).is_err() {
+    let mut point = from;
+    while let Some(number) = distances.predecessor(point) {
+        if let Some(first) = places[point as usize] {
+            let rest = rest_of(alloc, &trail, first)?;
+            return Ok(Some(rest));
+        }
+        places[point as usize] = Some(trail.len());
+        if trail.push(number).is_err() {
             return Err(Memory);
         }
-        back = fall.back;
-    }
-    if points.push(back).is_err() {
-        return Err(Memory);
-    }
-    Ok(Way { points, lines })
-}
-
-/// Two places of a list where one point is met.
-#[derive(Clone, Copy)]
-struct Meeting {
-    first: usize,
-    again: usize,
-}
-
-/// The first point of a list that was met before, if any.
-fn first_meeting(alloc: Global, met: &[u32], points: u32) -> Result<Option<Meeting>, Memory>
-    requires { All (λ p. p < points) met.now }
-    ensures { IfOk result (λ found. MatchOption found (AreApart met.now) (λ m. Meet met.now m.first m.again)) }
-{
-    let Ok(mut places) = vec![in alloc; None; points as usize] else {
-        return Err(Memory);
-    };
-    for again in 0..met.len() {
-        let point = met[again] as usize;
-        if let Some(first) = places[point] {
-            return Ok(Some(Meeting { first, again }));
-        }
-        places[point] = Some(again);
+        point = from_of(edges, number);
     }
     Ok(None)
+}
+
+/// The point that an edge leads from.
+fn from_of(edges: &[Edge], number: usize) -> u32
+    requires { number < length edges.now }
+    ensures { result ≡ (constraint_at edges.now number).from }
+{
+    edges[number].constraint.from
+}
+
+/// The numbers from this place on.
+fn rest_of(alloc: Global, numbers: &[usize], first: usize) -> Result<Vec<usize>, Memory>
+    requires { first ≤ length numbers.now }
+    ensures { IfOk result (λ rest. rest.items ≡ drop first numbers.now) }
+{
+    Vec::from_slice(alloc, &numbers[first..]).map_err(|_| Memory)
+}
+
+/// The lines of edges.
+fn lines_of(alloc: Global, edges: &[Edge], numbers: &[usize]) -> Result<Vec<Line>, Memory>
+    requires { All (λ e. e < length edges.now) numbers.now }
+    ensures { IfOk result (λ lines. lines.items ≡ map (line_at edges.now) numbers.now) }
+{
+    let mut lines = Vec::new(alloc);
+    for number in numbers {
+        if lines.push(edges[*number].line).is_err() {
+            return Err(Memory);
+        }
+    }
+    Ok(lines)
 }

@@ -1,10 +1,12 @@
 //! A placing of intervals, or a cycle that shows that there is none.
 ghost use Rattle.seconds_search.specs.Decided.{IsDecided};
+ghost use Rattle.seconds_search.specs.declared.deciding.PlaceFault.TheVariants as faults;
+ghost use Rattle.std.specs.Prelude.{◌≡◌};
 
-use crate::cycle::cycle_of;
+use crate::cycle::negative_cycle;
 use crate::edges::edges_of;
-use crate::falls::{Ended, let_fall};
 use crate::placing::from_origin;
+use crate::relaxation::Distances;
 use net_core::Memory;
 use seconds_core::{Cycle, Placing, Timed};
 use std::alloc::Global;
@@ -18,6 +20,14 @@ pub enum PlaceFault {
     Memory,
 }
 
+impl From<Memory> for PlaceFault {
+    ghost from_gives = { λ _ e. e ≡ faults.Memory };
+
+    fn from(_e: Memory) -> PlaceFault {
+        PlaceFault::Memory
+    }
+}
+
 /// Places the start and the end of each interval at a whole second, so that each interval starts before it ends, each
 /// link holds, each point is in the calendar, and each interval lasts as long as its limits say. Which placing, or which
 /// cycle, is unspecified.
@@ -28,16 +38,12 @@ pub enum PlaceFault {
 pub fn place(alloc: Global, timed: &Timed) -> Result<Placing, PlaceFault>
     ensures { IsDecided timed.now result }
 {
-    let Ok(edges) = edges_of(alloc, timed) else {
-        return Err(PlaceFault::Memory);
-    };
-    let points = timed.origin() + 1;
-    match let_fall(alloc, &edges, points) {
-        Ok(Ended::Settled(seconds)) => Ok(Placing::from_vec(from_origin(seconds))),
-        Ok(Ended::Falling(rounds)) => match cycle_of(alloc, edges.items(), points, rounds) {
-            Ok(cycle) => Err(PlaceFault::Negative(cycle)),
-            Err(Memory) => Err(PlaceFault::Memory),
-        },
-        Err(Memory) => Err(PlaceFault::Memory),
+    let edges = edges_of(alloc, timed)?;
+    let mut distances = Distances::new(alloc, timed.origin() + 1)?;
+    while let Some(point) = distances.relax_all(&edges) {
+        if let Some(cycle) = negative_cycle(alloc, &edges, &distances, point)? {
+            return Err(PlaceFault::Negative(cycle));
+        }
     }
+    Ok(Placing::from_vec(from_origin(distances.into_seconds())))
 }

@@ -1,13 +1,12 @@
 //! All constraints between the points of a net, each with the line that names it.
-ghost use Rattle.net_core.specs.Limits.{max_intervals, max_links};
 ghost use Rattle.net_core.specs.Nets.{intervals, points};
-ghost use Rattle.seconds_core.specs.Timed.{IsTimed, origin};
-ghost use Rattle.std.specs.Prelude.{IfOk, OnOk, length, ℕ, ◌+◌, ◌*◌, ◌<◌, ◌≡◌, ◌≤◌};
+ghost use Rattle.seconds_core.specs.Timed.{IsTimed};
+ghost use Rattle.std.specs.Prelude.{IfOk, OnOk, length, slice_index, ℕ, ◌+◌, ◌*◌, ◌<◌, ◌≡◌, ◌≤◌};
 ghost use Rattle.seconds_search.specs.Edges as spec;
-ghost use Rattle.seconds_search.specs.Edges.{AreEdges, AreInside, CoversAll, Grows, IsOfInterval, IsOfLink, IsOfPoint};
+ghost use Rattle.seconds_search.specs.Edges.{AreEdges, CoversAll, Grows, IsOfInterval, IsOfLink, IsOfPoint};
 
+use crate::ranking::ranks_of;
 use net_core::Memory;
-use point_index::{Index, PointOf};
 use seconds_core::{Constraint, Line, Timed, constraint_of};
 use std::alloc::Global;
 
@@ -18,39 +17,42 @@ pub struct Edge {
     pub constraint: Constraint,
 }
 
-/// The point that an edge leads from.
-#[derive(Clone, Copy)]
-pub struct Start;
-
-impl PointOf<Edge> for Start {
-    ghost use Rattle.seconds_search.specs.Edges.{from_of};
-
-    ghost point_of = { λ _. from_of };
-
-    fn point(self, edge: &Edge) -> u32 {
-        edge.constraint.from
-    }
-}
-
-/// The edges of a net, by the point that they lead from.
+/// The edges of a net, in an order in which few rounds of relaxation are needed.
 ///
 /// # Errors
 ///
 /// Out of memory.
-pub fn edges_of(alloc: Global, timed: &Timed) -> Result<Index<Edge, Start>, Memory>
-    ensures points { IfOk result (λ edges. edges.points ≡ origin timed.now + 1) }
+pub fn edges_of(alloc: Global, timed: &Timed) -> Result<Vec<Edge>, Memory>
+    ensures { IfOk result (λ edges. AreEdges timed.now edges.items) }
+{
+    let points = timed.origin() + 1;
+    let mut edges = all_edges(alloc, timed)?;
+    let ranks = ranks_of(alloc, &edges, points)?;
+    edges.sort_unstable_by_key(|edge| rank_of(&ranks, edge));
+    Ok(edges)
+}
+
+/// The edges of intervals, of points and of links.
+fn all_edges(alloc: Global, timed: &Timed) -> Result<Vec<Edge>, Memory>
+    requires { IsTimed timed.now }
     ensures edges { IfOk result (λ edges. AreEdges timed.now edges.items) }
-    ensures inside { IfOk result (λ edges. AreInside (origin timed.now + 1) edges.items) }
     ensures few { IfOk result (λ edges. length edges.items < 65536) }
 {
     let mut edges = Vec::new(alloc);
     push_intervals(&mut edges, timed)?;
     push_points(&mut edges, timed)?;
     push_links(&mut edges, timed)?;
-    let Ok(edges) = Index::new(alloc, edges, Start, timed.origin() + 1) else {
-        return Err(Memory);
-    };
     Ok(edges)
+}
+
+/// The rank of the point that an edge leads from.
+fn rank_of(ranks: &[usize], edge: &Edge) -> usize
+    ensures { result ≡ slice_index ranks.now edge.now.constraint.from }
+{
+    match ranks.get(edge.constraint.from as usize) {
+        Some(rank) => *rank,
+        None => 0,
+    }
 }
 
 fn push_intervals(edges: &mut Vec<Edge>, timed: &Timed) -> Result<(), Memory>

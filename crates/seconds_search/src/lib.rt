@@ -4,10 +4,10 @@
 mod cycle;
 mod deciding;
 mod edges;
-mod falls;
 mod laws;
 mod placing;
-mod round;
+mod ranking;
+mod relaxation;
 
 pub use deciding::{PlaceFault, place};
 pub use laws::every_net_is_decided;

@@ -1,19 +1,16 @@
-//! The placing of points that no longer fall.
+//! The placing of settled points.
 ghost use Rattle.seconds_core.specs.Placed.{second_at};
 ghost use Rattle.std.specs.List.{All};
 ghost use Rattle.std.specs.Prelude.{length, ℕ, ◌+◌, ◌-ℤ◌, ◌<◌, ◌≡◌};
-ghost use Rattle.seconds_search.specs.Search.{IsNear, max_rounds};
-
-use net_core::List;
+ghost use Rattle.seconds_search.specs.Relaxation.{IsNear, max_rounds};
 
 /// The seconds of all points but the last one, the origin, counted from the second where that stands.
-pub fn from_origin(seconds: List<i64>) -> Vec<i64>
-    requires some { 0 < length seconds }
-    requires near { All (IsNear max_rounds) seconds }
-    ensures size { length result.items + 1 ≡ length seconds }
-    ensures counted { (p : ℕ) → p < length result.items → second_at result.items p ≡ second_at seconds p -ℤ second_at seconds (length result.items) }
+pub fn from_origin(mut seconds: Vec<i64>) -> Vec<i64>
+    requires some { 0 < length seconds.items }
+    requires near { All (IsNear max_rounds) seconds.items }
+    ensures size { length result.items + 1 ≡ length seconds.items }
+    ensures counted { (p : ℕ) → p < length result.items → second_at result.items p ≡ second_at seconds.items p -ℤ second_at seconds.items (length result.items) }
 {
-    let mut seconds = seconds.into_vec();
     let Some(zero) = seconds.pop() else {
         return seconds;
     };

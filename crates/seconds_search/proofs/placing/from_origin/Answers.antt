@@ -8,7 +8,7 @@ use Rattle.seconds_search.proofs.placing.from_origin.Goals as goal
 pub loop-point-preserved : goal.loop-point-preserved
 loop-point-preserved c =
     let so_far = c.loop-point.invariant in
-    let old = c.args.seconds in
+    let old = c.args.seconds.items in
     let now = c.loop-point.seconds.items in
     let point = c.loop-point.point in
     let zero = c.in-Some.zero in
