@@ -8,7 +8,6 @@ the words of the sentence. At each step the document has to be the clean one, or
 
 from __future__ import annotations
 
-import os
 import re
 import sys
 from collections import Counter

@@ -358,7 +358,7 @@ class Parts(unittest.TestCase):
 class Walks(unittest.TestCase):
     def test_orders_are_those_of_the_reference(self):
         from reference.relations import ORDERS
-        from tml_corpus.clash.constraints import ORDERS as PLACED
+        from tml.statuses import ORDERS as PLACED
 
         names = {"A0": "a.start", "A1": "a.finish", "B0": "b.start", "B1": "b.finish"}
         signs = {"<": "<", "=": "<="}
