@@ -42,7 +42,7 @@ import tomllib  # noqa: F401
 from corpus import TML, TOOLS, TOP, CorpusTest, document
 from tml.process import Process
 from tml_corpus.asking.pool import Interruption, processors
-from tml_corpus.command_line import commands
+from tml_corpus.command_line import main as command_line
 from tml_corpus.command_line.settings import settings_for
 
 ENVIRONMENT = {**os.environ, "PYTHONIOENCODING": "utf-8", "PYTHONDONTWRITEBYTECODE": "1"}
@@ -231,10 +231,9 @@ class Settings(AttackTest):
         for number in range(300):
             self.write(f"d/{number}.xml", document(""))
         with mock.patch.object(os, "fork", wraps=os.fork) as fork, contextlib.redirect_stdout(io.StringIO()):
-            options = commands.parser("check").parse_args(["check", "--tml", TML, "--no-library", self.path("d")])
-            options.settings = commands.settings_of(options)
-            with Interruption() as stop, commands.prepared(options, stop):
-                self.assertEqual(commands.run_command(options, stop), 0)
+            read = command_line.parser("check").parse_args(["check", "--tml", TML, "--no-library", self.path("d")], command_line.Words())
+            with Interruption() as stop, command_line.prepared(read, command_line.settings_of(read), stop) as made:
+                self.assertEqual(command_line.run_command(read, made), 0)
         self.assertEqual(fork.call_count, 4 * processors())
 
     @needs_root

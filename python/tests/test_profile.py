@@ -5,6 +5,7 @@ import unittest
 from itertools import product
 
 from corpus import TML, CorpusTest
+from tml import statuses
 from tml.statuses import INVERSES
 from tml_corpus.asking.program import Program
 from tml_corpus.check import faults
@@ -136,8 +137,7 @@ class Profile(CorpusTest):
                 self.assertEqual(self.fault(self.inside(f'<SIGNAL sid="x{letter}"/>')), faults.BAD_VALUE)
 
     def test_limits(self):
-        longest, many, links = profile.LONGEST_IDENTIFIER, profile.MOST_INTERVALS, profile.MOST_LINKS
-        deep = profile.MOST_OPEN - 1
+        longest, many, links, deep = statuses.IDENTIFIER_LIMIT, statuses.INTERVAL_LIMIT, statuses.LINK_LIMIT, statuses.OPEN_LIMIT - 1
         link = '<TLINK timeID="T" relatedToTime="T" relType="IDENTITY"/>'
         rows = [
             (lambda count: f'<SIGNAL sid="{"x" * count}"/>', longest, faults.BAD_VALUE),

@@ -98,7 +98,7 @@ class Pages(ReportTest):
         self.assertEqual(self.rows(), rows)
 
     def test_verdicts_are_those_of_check(self):
-        subprocess.run([sys.executable, os.path.join(TOP, "tools", "tests", "ordinary.py"), self.path("corpus"), "40"], check=True)
+        subprocess.run([sys.executable, os.path.join(TOP, "python", "tests", "ordinary.py"), self.path("corpus"), "40"], check=True)
         lines = self.made({}, status=1)
         _, checked, _ = self.run_it("check", "--clashes", "--lint", "corpus")
         self.assertEqual(lines[:-1], checked[-len(lines) + 1 :])
@@ -358,7 +358,7 @@ class Parts(unittest.TestCase):
 class Walks(unittest.TestCase):
     def test_orders_are_those_of_the_reference(self):
         from reference.relations import ORDERS
-        from tml_corpus.clash.constraints import ORDERS as PLACED
+        from tml.statuses import ORDERS as PLACED
 
         names = {"A0": "a.start", "A1": "a.finish", "B0": "b.start", "B1": "b.finish"}
         signs = {"<": "<", "=": "<="}

@@ -245,7 +245,7 @@ class Open(TimelineTest):
         if shutil.which("node") is None:
             self.skipTest("no program node")
         self.drawn(content, "d.html")
-        script = os.path.join(TOP, "tools", "tests", "page.js")
+        script = os.path.join(TOP, "python", "tests", "page.js")
         done = subprocess.run(["node", script, self.path("d.html"), *words], capture_output=True, text=True, check=True)
         return json.loads(done.stdout)
 

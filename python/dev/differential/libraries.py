@@ -12,7 +12,6 @@ import sys
 from contextlib import AbstractContextManager, suppress
 from dataclasses import dataclass
 from multiprocessing import Pipe
-from pathlib import Path
 from types import TracebackType
 
 from differential.cases import STANDARD_INPUT, Case, Output

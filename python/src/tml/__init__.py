@@ -17,80 +17,29 @@ from importlib import import_module
 from typing import TYPE_CHECKING, Any
 
 if TYPE_CHECKING:
-    from .asking import Answerer, File, UnknownName
-    from .library import Library
-    from .lines import Ranks, Step
-    from .matrices import Matrix
-    from .process import Process
-    from .questions import (
-        ask,
-        canon,
-        check,
-        clash,
-        confirm,
-        dates,
-        drill,
-        join,
-        matrix,
-        possible,
-        reduce,
-        relations,
-        renew,
-        score,
-        seconds,
-        solve,
-        spans,
-        verify,
-    )
-    from .results import (
-        Accepted,
-        Attribute,
-        Claim,
-        Clash,
-        Confirmed,
-        Counterexample,
-        Cycle,
-        Date,
-        Drill,
-        Fault,
-        KeyClash,
-        Link,
-        Malformed,
-        Placing,
-        Possible,
-        Proof,
-        Reduced,
-        Refused,
-        Relation,
-        Score,
-        Seconds,
-        Timeline,
-        TooLong,
-        Unit,
-        Verified,
-    )
-    from .running import CannotRun
-    from .statuses import BASE_RELATIONS, FAULT_NAMES, RELATIONS
-    from .writing import document_of, with_links
-
-__all__ = [
-    "BASE_RELATIONS", "FAULT_NAMES", "RELATIONS",
-    "Accepted", "Answerer", "Attribute", "CannotRun", "Claim", "Clash", "Confirmed", "Counterexample", "Cycle", "Date", "Drill", "Fault",
-    "File", "KeyClash", "Library", "Link", "Malformed", "Matrix", "Placing", "Possible", "Process", "Proof", "Ranks", "Reduced", "Refused",
-    "Relation", "Score", "Seconds", "Step", "Timeline", "TooLong", "Unit", "UnknownName", "Verified",
-    "ask", "canon", "check", "clash", "confirm", "dates", "document_of", "drill", "join", "matrix", "possible", "reduce", "relations", "renew",
-    "score", "seconds", "solve", "spans", "verify", "with_links",
-]  # fmt: skip
+    from .asking import *
+    from .library import *
+    from .lines import *
+    from .matrices import *
+    from .process import *
+    from .questions import *
+    from .results import *
+    from .running import *
+    from .statuses import *
+    from .writing import *
 
 MODULES = ("asking", "library", "lines", "matrices", "process", "questions", "results", "running", "statuses", "writing")
-"""The modules that the names above come from."""
+"""The modules whose `__all__` together are the names of this package."""
 
 
 def __getattr__(name: str) -> Any:
     """Loads the package once a name of it is asked for, so that programs which need one module of it begin fast."""
-    if name not in __all__:
+    if name.startswith("__") and name != "__all__":
         raise AttributeError(f"module {__name__!r} has no attribute {name!r}")
-    for module in MODULES:
-        loaded = import_module(f".{module}", __name__)
-        globals().update({known: getattr(loaded, known) for known in __all__ if hasattr(loaded, known)})
+    if "__all__" not in globals():
+        loaded = [import_module(f".{module}", __name__) for module in MODULES]
+        globals().update({known: getattr(module, known) for module in loaded for known in module.__all__})
+        globals()["__all__"] = sorted(known for module in loaded for known in module.__all__)
+    if name not in globals():
+        raise AttributeError(f"module {__name__!r} has no attribute {name!r}")
     return globals()[name]

@@ -18,6 +18,8 @@ from .results import Fault, Malformed, Refused, TooLong
 from .running import CannotRun
 from .statuses import DOCUMENT_LIMIT, EVIDENCE_LIMIT, TmlStatus
 
+__all__ = ["Answerer", "File", "UnknownName"]
+
 File = bytes | bytearray | memoryview | str | os.PathLike[str]
 """A document or another file: its bytes, or the path at which it lies."""
 

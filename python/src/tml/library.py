@@ -8,6 +8,8 @@ from collections.abc import Sequence
 
 from .running import CannotRun
 
+__all__ = ["Library"]
+
 ROOM, MOST_KEPT = 1 << 16, 1 << 20
 """So many bytes of room a text has at first, and so many are kept from call to call at most."""
 

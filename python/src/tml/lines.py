@@ -7,6 +7,8 @@ from collections.abc import Iterator, Mapping, Sequence
 from itertools import chain
 from typing import NamedTuple
 
+__all__ = ["Ranks", "Step"]
+
 
 class Ranks(NamedTuple):
     """Where an interval starts and ends in a timeline."""

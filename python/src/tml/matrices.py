@@ -11,6 +11,8 @@ from functools import cached_property
 from .running import CannotRun
 from .statuses import BASE_RELATIONS, INVERSES
 
+__all__ = ["Matrix"]
+
 APART = "the answers of tml to `check` and `matrix` do not belong together"
 Relations = tuple[str, ...]
 

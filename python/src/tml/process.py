@@ -10,6 +10,8 @@ from .longest import longest
 from .replies import refusal
 from .running import CannotRun, run
 
+__all__ = ["Process"]
+
 
 class Process:
     """The program that lies at a path. Threads may ask it at once."""

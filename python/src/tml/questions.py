@@ -53,6 +53,11 @@ from .results import (
 )
 from .statuses import INTERVAL_LIMIT, TmlStatus
 
+__all__ = [
+    "ask", "canon", "check", "clash", "confirm", "dates", "drill", "join", "matrix", "possible", "reduce", "relations", "renew", "score",
+    "seconds", "solve", "spans", "verify",
+]  # fmt: skip
+
 
 def accepted_of(answer: Answer) -> Accepted:
     """What the document of a question has, which was accepted: its intervals and links have names and numbers there."""

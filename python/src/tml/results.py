@@ -10,6 +10,12 @@ from typing import Literal, NamedTuple
 
 from .lines import Evidence, Ranks, Step
 
+__all__ = [
+    "Accepted", "Attribute", "Claim", "Clash", "Confirmed", "Counterexample", "Cycle", "Date", "Drill", "Fault", "KeyClash", "Link",
+    "Malformed", "Placing", "Possible", "Proof", "Reduced", "Refused", "Relation", "Score", "Seconds", "Timeline", "TooLong", "Unit",
+    "Verified",
+]  # fmt: skip
+
 
 class Relation(NamedTuple):
     """Two intervals and a relation of TLINK between them."""

@@ -13,12 +13,15 @@ from typing import IO, TYPE_CHECKING
 if TYPE_CHECKING:
     import subprocess
 
+__all__ = ["CannotRun"]
+
 SECONDS = 300.0
 """No question takes `tml` more than a second or two; a run that is longer than this is given up."""
 
 TOO_LONG = f"tml took longer than {SECONDS:.0f} seconds"
 
 PART = 65536
+"""So many bytes are read at once."""
 
 RUNNING: set[subprocess.Popen[bytes]] = set()
 """The programs that this process has started and that have not ended."""

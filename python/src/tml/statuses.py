@@ -1,8 +1,10 @@
-"""The numbers and words of `tml` that its manual page says: its statuses, its limits, and the names of faults and relations."""
+"""The numbers and words of `tml` that its manual page says: its statuses, its limits, the names of faults, and its relations."""
 
 from __future__ import annotations
 
 from enum import IntEnum
+
+__all__ = ["BASE_RELATIONS", "FAULT_NAMES", "RELATIONS"]
 
 DOCUMENT_LIMIT = 4_194_304
 """So many bytes `tml` takes of a document."""
@@ -12,6 +14,9 @@ EVIDENCE_LIMIT = 67_108_864
 
 INTERVAL_LIMIT, LINK_LIMIT = 1024, 4096
 """So many intervals and links a document may have."""
+
+OPEN_LIMIT = 32
+"""So many tags may be open at once."""
 
 IDENTIFIER_LIMIT = 64
 """So many characters an identifier may have."""
@@ -38,10 +43,19 @@ FAULT_NAMES = (
 )  # fmt: skip
 """The names of the faults, from number 1 on."""
 
-RELATIONS = (
-    "BEFORE", "AFTER", "INCLUDES", "IS_INCLUDED", "DURING", "DURING_INV", "SIMULTANEOUS", "IDENTITY", "IBEFORE", "IAFTER", "BEGINS",
-    "BEGUN_BY", "ENDS", "ENDED_BY", "OVERLAPS", "OVERLAPPED_BY",
-)  # fmt: skip
+ORDERS = {
+    "BEFORE": ("A1<B0",), "AFTER": ("B1<A0",), "INCLUDES": ("A0<B0", "B1<A1"), "IS_INCLUDED": ("B0<A0", "A1<B1"),
+    "DURING": ("B0=A0", "A1=B1"), "DURING_INV": ("A0=B0", "B1=A1"), "SIMULTANEOUS": ("A0=B0", "B0=A0", "A1=B1", "B1=A1"),
+    "IDENTITY": ("A0=B0", "B0=A0", "A1=B1", "B1=A1"), "IBEFORE": ("A1=B0", "B0=A1"), "IAFTER": ("B1=A0", "A0=B1"),
+    "BEGINS": ("A0=B0", "B0=A0", "A1<B1"), "BEGUN_BY": ("A0=B0", "B0=A0", "B1<A1"), "ENDS": ("A1=B1", "B1=A1", "B0<A0"),
+    "ENDED_BY": ("A1=B1", "B1=A1", "A0<B0"), "OVERLAPS": ("A0<B0", "B0<A1", "A1<B1"), "OVERLAPPED_BY": ("B0<A0", "A0<B1", "B1<A1"),
+}  # fmt: skip
+"""The orders of each relation between A and B, in the order of docs/DEFINITIONS.md: a start is 0 and an end is 1; `<` is before, and `=` no later."""
+
+STRICT_ORDERS = {relation: tuple(place for place, order in enumerate(orders) if "<" in order) for relation, orders in ORDERS.items()}
+"""The places of the orders of a relation that are strict; all others allow for equal points."""
+
+RELATIONS = tuple(ORDERS)
 """The relations of TLINK."""
 
 BASE_RELATIONS = tuple(relation for relation in RELATIONS if relation not in ("DURING", "DURING_INV", "IDENTITY"))

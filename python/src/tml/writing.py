@@ -12,6 +12,8 @@ from .questions import check, dates, spans
 from .results import Fault, TooLong, Unit
 from .statuses import DOCUMENT_LIMIT, IDENTIFIER_LIMIT, RELATIONS
 
+__all__ = ["document_of", "with_links"]
+
 Triple = tuple[str, str, str]
 """Two intervals and a relation between them, as `Relation` has them."""
 

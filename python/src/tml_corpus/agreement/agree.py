@@ -3,8 +3,10 @@
 from __future__ import annotations
 
 import os
-from collections.abc import Iterator
+from collections.abc import Iterator, Sequence
 from dataclasses import dataclass, field
+from functools import partial
+from typing import TYPE_CHECKING
 
 from tml.reading import read_score
 from tml.replies import OF_KEY
@@ -14,10 +16,14 @@ from tml.statuses import TmlStatus
 from ..asking.program import ACCEPTED, CLASH, FAULT, CannotRun, Program, Reply
 from ..asking.room import room_for
 from ..clash.fitting import Fitting, fitting
+from ..command_line.statuses import ENDED
 from ..document.reduced import problem_of
 from ..document.words import Wording
 from ..files.finding import CannotRead, Found, find_files, read_document
 from .disagreements import Disagreement, Side, links_that_do_not_follow
+
+if TYPE_CHECKING:
+    from ..command_line.run import Run
 
 NO_PARTNER, WITH_FAULT, WITH_CLASH, NOT_JUDGED = "without a partner", "with a fault", "with a clash", "not judged"
 REASONS = (NO_PARTNER, WITH_FAULT, WITH_CLASH, NOT_JUDGED)
@@ -116,6 +122,16 @@ def alone(found: list[Found], others: list[Found], folder: str, other_folder: st
             yield NotCounted(one.path, NOT_JUDGED, one.problem)
         elif os.path.normpath(partner) not in there:
             yield NotCounted(one.path, NO_PARTNER, f"there is no {partner}")
+
+
+def pair_reports(run: Run, sides: Sides, found: Sequence[Found], wanted: Wanted) -> Iterator[PairReport]:
+    """What became of each pair, in the order of the documents."""
+
+    def lost(one: Found) -> PairReport:
+        ended = NotCounted(one.path, NOT_JUDGED, ENDED)
+        return PairReport(sides.name_of(one.path), one.path, sides.key_of(one.path), not_counted=ended)
+
+    return run.each(partial(compare, run.program, sides, wanted=wanted), found, lost)
 
 
 def compare(program: Program, sides: Sides, found: Found, wanted: Wanted) -> PairReport:

@@ -3,8 +3,9 @@
 from __future__ import annotations
 
 from collections import Counter
-from collections.abc import Mapping, Sequence
+from collections.abc import Callable, Mapping, Sequence
 from fractions import Fraction
+from typing import Protocol
 
 from tml.results import Score
 
@@ -67,6 +68,25 @@ def in_line(scores: Score) -> str:
     return f"{of_document}, {of_key}, F1 {share(scores.f1)}"
 
 
+class Format(Protocol):
+    """A form in which scores are printed."""
+
+    summary_apart: bool
+    """Whether the output is for programs, so that a summary goes to standard error."""
+
+    def start(self) -> str:
+        """What comes before all pairs."""
+
+    def pair(self, report: PairReport) -> str:
+        """What is printed of a pair."""
+
+    def not_counted(self, one: NotCounted) -> str:
+        """What is printed of a file that is not counted."""
+
+    def sums(self, corpus: Corpus) -> str:
+        """What comes after all pairs."""
+
+
 class Text:
     """A line for each pair, below it one for each link that does not follow, and last the sums."""
 
@@ -96,14 +116,21 @@ class Text:
         return f"micro: {in_line(corpus.micro)}\nmacro: precision {precision}, recall {recall}, F1 {f1}\n"
 
 
-class JsonLines(Text):
-    """One object for each pair and each file that is not counted, on a line of its own, and last one with the sums."""
+class Objects:
+    """One object for each pair and each file that is not counted, and last one with the sums: on lines of their own, or as one array."""
 
     summary_apart = True
 
+    def __init__(self, array: Array | None = None) -> None:
+        self.array = array
+
     def entry(self, entry: dict[str, object]) -> str:
         """What is printed of one object."""
-        return printable(entry)
+        line = printable(entry)
+        return line if self.array is None else self.array.element(line)
+
+    def start(self) -> str:
+        return ""
 
     def pair(self, report: PairReport) -> str:
         if report.not_counted is not None:
@@ -120,20 +147,8 @@ class JsonLines(Text):
     def sums(self, corpus: Corpus) -> str:
         means = {measure: corpus.macro(measure) for measure in MEASURES}
         macro = {measure: {"value": one.value, "pairs": one.pairs} for measure, one in means.items()}
-        return self.entry({"pairs": corpus.pairs, "micro": scores_object(corpus.micro), "macro": macro})
-
-
-class Json(JsonLines):
-    """The same objects as one array."""
-
-    def __init__(self) -> None:
-        self.array = Array()
-
-    def entry(self, entry: dict[str, object]) -> str:
-        return self.array.element(printable(entry))
-
-    def sums(self, corpus: Corpus) -> str:
-        return super().sums(corpus) + self.array.end()
+        last = self.entry({"pairs": corpus.pairs, "micro": scores_object(corpus.micro), "macro": macro})
+        return last if self.array is None else last + self.array.end()
 
 
 def scores_object(scores: Score) -> dict[str, object]:
@@ -154,7 +169,7 @@ def disagreement_object(one: Disagreement) -> dict[str, object]:
     return {"path": one.path, **place_object(one.place), **link, "words": one.words, **there}
 
 
-class CommaSeparated(Text):
+class CommaSeparated:
     """A row for each pair and each file that is not counted, after one with the names of the columns, and last two with the sums."""
 
     summary_apart = True
@@ -189,5 +204,7 @@ def scores_row(kind: str, name: str, scores: Score) -> str:
     return in_lines([[kind, quoted(name), *counts, *("" if value is None else value for value in measures), ""]])
 
 
-FORMS: Mapping[str, type[Text]] = {"text": Text, "json": Json, "jsonl": JsonLines, "csv": CommaSeparated}
-"""The forms by their names."""
+def make_format(name: str) -> Format:
+    """The form of a name."""
+    makers: Mapping[str, Callable[[], Format]] = {"text": Text, "json": lambda: Objects(Array()), "jsonl": Objects, "csv": CommaSeparated}
+    return makers[name]()

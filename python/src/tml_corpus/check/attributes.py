@@ -6,9 +6,11 @@ import re
 from collections.abc import Iterable, Iterator
 from itertools import islice
 
+from tml.statuses import IDENTIFIER_LIMIT
+
 from ..document.edits import Edit, encoded, with_spaces_before, with_value
 from ..document.invisible import first_invisible, without_invisible
-from ..document.profile import IDENTIFIERS, LEFT, LONGEST_IDENTIFIER, RIGHT, TABLE, Kind, Row, is_identifier
+from ..document.profile import IDENTIFIERS, LEFT, RIGHT, TABLE, Kind, Row, is_identifier
 from ..document.similar import MOST_CHOICES, near, nearest, one_letter_apart, plain, same_but_for_case
 from ..document.source import Explanation, Source, attribute_of, attributes_of, cut
 from ..document.units import Attribute, Unit
@@ -242,8 +244,8 @@ def listed_near(row: Row, value: str) -> list[str]:
 
 def not_identifier(source: Source, tag: Unit, row: Row, value: str) -> tuple[str, str | None]:
     """Why a value can be no identifier; and what to write where that is clear."""
-    if len(value) > LONGEST_IDENTIFIER:
-        return f"has {len(value)} letters, and an identifier has {LONGEST_IDENTIFIER} at most", None
+    if len(value) > IDENTIFIER_LIMIT:
+        return f"has {len(value)} letters, and an identifier has {IDENTIFIER_LIMIT} at most", None
     hidden, seen = first_invisible(value), without_invisible(value).strip()
     if hidden and is_identifier(seen):
         return f"has {hidden} in it, which nobody sees: write {seen}", seen

@@ -3,13 +3,18 @@
 from __future__ import annotations
 
 import os
-from typing import IO
+from collections.abc import Iterator, Sequence
+from functools import partial
+from typing import IO, TYPE_CHECKING
 
 from ..asking.program import ACCEPTED, FAULT, CannotRun, Program, Reply
 from ..asking.room import room_for
 from ..files.finding import CannotRead, Found, opened, read_document, read_open
 from ..lint.kinds import Lint
 from .judgement import Judgement, problem_of
+
+if TYPE_CHECKING:
+    from ..command_line.run import Run
 
 
 def judge(program: Program, found: Found, explained: bool, more: int, lint: Lint | None = None) -> Judgement:
@@ -60,3 +65,11 @@ def judgement_to_send(program: Program, found: Found, explained: bool, more: int
     """The judgement of a file, as a process sends it: nothing where it is accepted and there is nothing to say of it."""
     judgement = judge(program, found, explained, more, lint)
     return None if judgement.is_plain() else judgement
+
+
+def judgements(run: Run, found: Sequence[Found], explained: bool, more: int, lint: Lint | None) -> Iterator[Judgement | None]:
+    """The judgements of some files in their order; of one that is accepted, and of which there is nothing to say, None."""
+    from ..command_line.statuses import ENDED
+
+    work = partial(judgement_to_send, run.program, explained=explained, more=more, lint=lint)
+    return run.each(work, found, lambda one: Judgement(one.path, problem=ENDED))

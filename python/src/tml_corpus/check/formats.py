@@ -6,7 +6,7 @@ Each of them has the number and the name of a fault, and the byte at which `tml`
 from __future__ import annotations
 
 from collections import Counter
-from typing import TYPE_CHECKING
+from typing import TYPE_CHECKING, Protocol
 
 from ..files.finding import counted, shown
 from ..lint.kinds import is_mistake
@@ -110,6 +110,22 @@ def warning_message(warning: PlacedWarning) -> str:
     return f"{shown(warning.text)} [{warning.name}]"
 
 
+class Format(Protocol):
+    """A form of a report: what is printed of each file, and what comes after all of them."""
+
+    summary_apart: bool
+    """Whether the output is for programs, so that a summary goes to standard error."""
+
+    def file(self, judgement: Judgement) -> str:
+        """What is reported of one file."""
+
+    def plain(self, path: str) -> str:
+        """What is reported of a file that is accepted, and of which there is nothing to say."""
+
+    def end(self, summary: Summary) -> str:
+        """What comes after all files."""
+
+
 class Text:
     """A line for each fault, warning and note; where that is wanted the line of the source besides, with what it is about marked."""
 
@@ -143,7 +159,7 @@ class Text:
         return ""
 
 
-class JsonLines(Text):
+class JsonLines:
     """One object for each file, on a line of its own. Bytes of names that are not UTF-8 are lone surrogates."""
 
     summary_apart = True
@@ -153,6 +169,9 @@ class JsonLines(Text):
 
     def plain(self, path: str) -> str:
         return self.file(Judgement(path))
+
+    def end(self, summary: Summary) -> str:
+        return ""
 
 
 class Array:
@@ -171,15 +190,19 @@ class Array:
         return "\n]\n" if self.is_begun else "[]\n"
 
 
-class Json(JsonLines):
+class Json:
     """One array with an object for each file."""
 
-    def __init__(self, with_source: bool) -> None:
-        super().__init__(with_source)
+    summary_apart = True
+
+    def __init__(self) -> None:
         self.array = Array()
 
     def file(self, judgement: Judgement) -> str:
-        return self.array.element(super().file(judgement))
+        return self.array.element(printable(judgement_object(judgement)))
+
+    def plain(self, path: str) -> str:
+        return self.file(Judgement(path))
 
     def end(self, summary: Summary) -> str:
         return self.array.end()
@@ -250,8 +273,10 @@ def first_failure(judgement: Judgement, strict: bool) -> tuple[str, str] | None:
     return None
 
 
-class GitHub(Text):
+class GitHub:
     """A workflow command of GitHub for each fault and warning, which GitHub shows beside the line."""
+
+    summary_apart = False
 
     def file(self, judgement: Judgement) -> str:
         file = property_text(shown(judgement.path))
@@ -263,6 +288,12 @@ class GitHub(Text):
         for warning in judgement.warnings:
             lines.append(f"::warning file={file},{stretch(warning.mark)},title={warning.name}::{data_text(warning_message(warning))}")
         return "".join(line + "\n" for line in lines)
+
+    def plain(self, path: str) -> str:
+        return ""
+
+    def end(self, summary: Summary) -> str:
+        return ""
 
 
 def stretch(mark: Mark) -> str:
@@ -282,10 +313,18 @@ def property_text(text: str) -> str:
     return data_text(text).replace(":", "%3A").replace(",", "%2C")
 
 
-def make_format(name: str, with_source: bool, strict: bool = False) -> Text:
+def make_format(name: str, with_source: bool, strict: bool = False) -> Format:
     """The format of a name."""
-    if name == "junit":
-        from .junit import JUnit
+    match name:
+        case "text":
+            return Text(with_source)
+        case "json":
+            return Json()
+        case "jsonl":
+            return JsonLines()
+        case "github":
+            return GitHub()
+        case _:
+            from .junit import JUnit
 
-        return JUnit(with_source, strict)
-    return {"text": Text, "json": Json, "jsonl": JsonLines, "github": GitHub}[name](with_source)
+            return JUnit(with_source, strict)

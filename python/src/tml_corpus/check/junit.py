@@ -47,14 +47,13 @@ class Suite:
         return f'<?xml version="1.0" encoding="UTF-8"?>\n{text}\n'
 
 
-class JUnit(Text):
+class JUnit:
     """One test case for each file."""
 
     summary_apart = True
 
     def __init__(self, with_source: bool, strict: bool) -> None:
-        super().__init__(with_source)
-        self.strict = strict
+        self.lines, self.strict = Text(with_source), strict
         self.suite = Suite("tml check")
 
     def file(self, judgement: Judgement) -> str:
@@ -62,9 +61,9 @@ class JUnit(Text):
         if judgement.problem:
             self.suite.error(judgement.path, judgement.problem)
         elif failure is not None:
-            self.suite.failure(judgement.path, *failure, super().file(judgement))
+            self.suite.failure(judgement.path, *failure, self.lines.file(judgement))
         else:
-            self.suite.success(judgement.path, super().file(judgement))
+            self.suite.success(judgement.path, self.lines.file(judgement))
         return ""
 
     def plain(self, path: str) -> str:

@@ -6,10 +6,11 @@ from collections import Counter
 from collections.abc import Iterator
 
 from tml.places import BYTE_ORDER_MARK
+from tml.statuses import OPEN_LIMIT
 
 from ..document.edits import Edit, encoded
 from ..document.invisible import first_invisible, without_invisible
-from ..document.profile import CARRIED, IDENTIFIERS, LEFT, LINK_TAGS, MOST_OPEN, RIGHT, ROOT, TABLE, TAGS, Kind
+from ..document.profile import CARRIED, IDENTIFIERS, LEFT, LINK_TAGS, RIGHT, ROOT, TABLE, TAGS, Kind
 from ..document.similar import near, nearest, same_but_for_case
 from ..document.source import Explanation, Note, Source, cut, described, renamed
 from ..document.units import END, START, Unit, end_of, open_tags, unit_at
@@ -302,7 +303,7 @@ def too_deep(source: Source, unit: Unit | None, found: Explanation) -> None:
     [(name, count)] = Counter(tag.name for tag in tags).most_common(1)
     first = next(tag for tag in tags if tag.name == name)
     found.start, found.end = first.start, first.end
-    found.text = f"<{name}> opened here is one of {count} that are open at {source.at(unit.start)}, and tml takes {MOST_OPEN} open tags: write the end tags"
+    found.text = f"<{name}> opened here is one of {count} that are open at {source.at(unit.start)}, and tml takes {OPEN_LIMIT} open tags: write the end tags"
 
 
 EXPLAINERS = {UNKNOWN_TAG: unknown_tag, UNBALANCED: unbalanced, UNCLOSED: unclosed, MISPLACED: misplaced, TOO_DEEP: too_deep}

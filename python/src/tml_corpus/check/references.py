@@ -11,8 +11,10 @@ from collections.abc import Callable, Iterable, Iterator
 from functools import partial
 from itertools import islice, pairwise
 
+from tml.statuses import INTERVAL_LIMIT, LINK_LIMIT
+
 from ..document.edits import Edit, encoded, with_value
-from ..document.profile import IDENTIFIERS, LEFT, LINK_TAGS, MOST_INTERVALS, MOST_LINKS, RIGHT, TABLE, Kind, Row
+from ..document.profile import IDENTIFIERS, LEFT, LINK_TAGS, RIGHT, TABLE, Kind, Row
 from ..document.similar import LOOKALIKES, MOST_CHOICES, one_letter_apart, plain
 from ..document.source import Explanation, Note, Source, attribute_of
 from ..document.units import Attribute, Unit
@@ -122,7 +124,7 @@ def is_inside(source: Source, tag: Unit, outer: Unit) -> bool:
 def numbers_beside(source: Source, first: Unit, tag: Unit) -> list[tuple[int, int]]:
     """The places and numbers of the identifiers of a kind without those of two tags; none where they are few or in no order."""
     found: list[tuple[int, int]] = []
-    for one in source.tags(tag.name) if len(source.tags(tag.name)) <= MOST_INTERVALS else ():
+    for one in source.tags(tag.name) if len(source.tags(tag.name)) <= INTERVAL_LIMIT else ():
         numbered = NUMBERED.fullmatch(source.value(one, IDENTIFIERS[tag.name]))
         if numbered is None:
             return []
@@ -312,7 +314,7 @@ def many_intervals(source: Source, tag: Unit, found: Explanation) -> None:
     """Fault 16: more intervals than `tml` takes."""
     found.start, found.end = tag.start, tag.end
     count = len(source.tags("MAKEINSTANCE")) + len(source.tags("TIMEX3"))
-    found.text = f"the document has {count:,} MAKEINSTANCE and TIMEX3, and tml takes {MOST_INTERVALS:,}: split it here or before"
+    found.text = f"the document has {count:,} MAKEINSTANCE and TIMEX3, and tml takes {INTERVAL_LIMIT:,}: split it here or before"
 
 
 def many_links(source: Source, tag: Unit, found: Explanation) -> None:
@@ -320,7 +322,7 @@ def many_links(source: Source, tag: Unit, found: Explanation) -> None:
     found.start, found.end = tag.start, tag.end
     count = len(source.tags("TLINK"))
     found.text = (
-        f"the document has {count:,} TLINK, and tml takes {MOST_LINKS:,}: split it, or leave out links that follow from others "
+        f"the document has {count:,} TLINK, and tml takes {LINK_LIMIT:,}: split it, or leave out links that follow from others "
         "(`redundant-links` names them)"
     )
 

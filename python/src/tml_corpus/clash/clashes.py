@@ -15,12 +15,6 @@ from ..asking.program import ACCEPTED, CannotRun, File, Program, Reply
 from ..files.finding import CannotRead, reason
 from ..files.replacing import written
 
-STRICT_ORDERS = {
-    "BEFORE": (0,), "AFTER": (0,), "INCLUDES": (0, 1), "IS_INCLUDED": (0, 1), "BEGINS": (2,), "BEGUN_BY": (2,), "ENDS": (2,), "ENDED_BY": (2,),
-    "OVERLAPS": (0, 1, 2), "OVERLAPPED_BY": (0, 1, 2),
-}  # fmt: skip
-"""The orders of a relation that are strict, by their numbers in docs/DEFINITIONS.md; all others allow for equal points."""
-
 
 class Clash(NamedTuple):
     """A minimal clash as `tml solve` printed it: the numbers of its links, the steps of its walk, and the whole text."""

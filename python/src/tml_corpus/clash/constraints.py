@@ -12,19 +12,11 @@ from collections.abc import Iterator, Sequence
 from dataclasses import dataclass
 
 from tml.lines import Step
+from tml.statuses import ORDERS
 
 from ..asking.program import CannotRun
 from ..document.words import Wording
 from ..seconds.placing import Cycle
-
-ORDERS = {
-    "BEFORE": ("A1<B0",), "AFTER": ("B1<A0",), "INCLUDES": ("A0<B0", "B1<A1"), "IS_INCLUDED": ("B0<A0", "A1<B1"),
-    "DURING": ("B0=A0", "A1=B1"), "DURING_INV": ("A0=B0", "B1=A1"), "SIMULTANEOUS": ("A0=B0", "B0=A0", "A1=B1", "B1=A1"),
-    "IDENTITY": ("A0=B0", "B0=A0", "A1=B1", "B1=A1"), "IBEFORE": ("A1=B0", "B0=A1"), "IAFTER": ("B1=A0", "A0=B1"),
-    "BEGINS": ("A0=B0", "B0=A0", "A1<B1"), "BEGUN_BY": ("A0=B0", "B0=A0", "B1<A1"), "ENDS": ("A1=B1", "B1=A1", "B0<A0"),
-    "ENDED_BY": ("A1=B1", "B1=A1", "A0<B0"), "OVERLAPS": ("A0<B0", "B0<A1", "A1<B1"), "OVERLAPPED_BY": ("B0<A0", "A0<B1", "B1<A1"),
-}  # fmt: skip
-"""The orders of each relation between A and B, in their order: a start is 0 and an end is 1; `<` is before, and `=` no later."""
 
 DURATION = re.compile(r"P(?:(\d{1,9})W)?(?:(\d{1,9})D)?(?:(T)(?:(\d{1,9})H)?(?:(\d{1,9})M)?(?:(\d{1,9})S)?)?", re.ASCII)
 UNITS = (604_800, 86_400, 3_600, 60, 1)

@@ -2,12 +2,19 @@
 
 from __future__ import annotations
 
+from collections.abc import Iterator, Sequence
+from functools import partial
+from typing import TYPE_CHECKING
+
 from ..asking.program import CannotRun, Program
 from ..asking.room import room_for
 from ..check.judgement import Judgement
 from ..files.finding import CannotRead, Found, read_document
 from .clashes import is_timeline
 from .report import ClashReport, Wanted
+
+if TYPE_CHECKING:
+    from ..command_line.run import Run
 
 
 def find_clashes(program: Program, found: Found, wanted: Wanted) -> ClashReport:
@@ -39,3 +46,11 @@ def clashes_to_send(program: Program, found: Found, wanted: Wanted) -> ClashRepo
     """The report on a file, as a process sends it: nothing where some timeline fits it and there is nothing to say of it."""
     report = find_clashes(program, found, wanted)
     return None if report.is_plain() else report
+
+
+def clash_reports(run: Run, found: Sequence[Found], wanted: Wanted) -> Iterator[ClashReport | None]:
+    """The reports on some files in their order; of one that some timeline fits, and of which there is nothing to say, None."""
+    from ..command_line.statuses import ENDED
+
+    work = partial(clashes_to_send, run.program, wanted=wanted)
+    return run.each(work, found, lambda one: ClashReport(Judgement(one.path, problem=ENDED)))

@@ -3,7 +3,7 @@
 from __future__ import annotations
 
 from collections.abc import Callable
-from typing import TYPE_CHECKING
+from typing import TYPE_CHECKING, Protocol
 
 from ..check import formats
 from ..check.formats import data_text, property_text
@@ -13,6 +13,22 @@ from .report import TOUCHING, ClashReport, ClashSummary, PlacedChange, PlacedCla
 
 if TYPE_CHECKING:
     from tml.places import Place
+
+
+class Format(Protocol):
+    """A form of a report on clashes: what is printed of each file, and what comes after all of them."""
+
+    summary_apart: bool
+    """Whether the output is for programs, so that a summary goes to standard error."""
+
+    def file(self, report: ClashReport) -> str:
+        """What is printed of one file."""
+
+    def plain(self, path: str) -> str:
+        """What is printed of a file that some timeline fits, and of which there is nothing to say."""
+
+    def end(self, summary: ClashSummary) -> str:
+        """What comes after all files."""
 
 
 class Text:
@@ -97,38 +113,49 @@ def repair_lines(path: str, report: ClashReport) -> list[str]:
     return lines
 
 
-class JsonLines(Text):
+class JsonLines:
     """One object for each file, on a line of its own. Bytes of names that are not UTF-8 are lone surrogates."""
 
     summary_apart = True
 
     def __init__(self, checked: bool) -> None:
-        super().__init__(False)
         self.checked = checked
 
     def file(self, report: ClashReport) -> str:
-        printed, verdict = formats.judgement_object(report.judgement), report.verdict()
-        printed["verdict"] = "accepted" if verdict == "fits" and self.checked else verdict
-        printed["clashes"] = [clash_object(clash) for clash in report.clashes]
-        printed["touching"] = [change_object(change) for change in report.touching]
-        printed["readTouching"] = report.read_touching
-        if report.repair is not None:
-            printed["repair"] = repair_object(report.repair)
-        return formats.printable(printed)
+        return formats.printable(report_object(report, self.checked))
 
     def plain(self, path: str) -> str:
         return self.file(ClashReport(Judgement(path)))
 
+    def end(self, summary: ClashSummary) -> str:
+        return ""
 
-class Json(JsonLines):
+
+def report_object(report: ClashReport, checked: bool) -> dict[str, object]:
+    """A report on clashes as JSON has it."""
+    printed, verdict = formats.judgement_object(report.judgement), report.verdict()
+    printed["verdict"] = "accepted" if verdict == "fits" and checked else verdict
+    printed["clashes"] = [clash_object(clash) for clash in report.clashes]
+    printed["touching"] = [change_object(change) for change in report.touching]
+    printed["readTouching"] = report.read_touching
+    if report.repair is not None:
+        printed["repair"] = repair_object(report.repair)
+    return printed
+
+
+class Json:
     """One array with an object for each file."""
 
+    summary_apart = True
+
     def __init__(self, checked: bool) -> None:
-        super().__init__(checked)
-        self.array = formats.Array()
+        self.checked, self.array = checked, formats.Array()
 
     def file(self, report: ClashReport) -> str:
-        return self.array.element(super().file(report))
+        return self.array.element(formats.printable(report_object(report, self.checked)))
+
+    def plain(self, path: str) -> str:
+        return self.file(ClashReport(Judgement(path)))
 
     def end(self, summary: ClashSummary) -> str:
         return self.array.end()
@@ -177,16 +204,15 @@ def first_line(report: ClashReport) -> str:
     return located(path, report.clashes[0].links[0].place(), headline(report.clashes[0]))
 
 
-class JUnit(Text):
+class JUnit:
     """One test case for each file."""
 
     summary_apart = True
 
     def __init__(self, name: str, with_source: bool, strict: bool) -> None:
-        super().__init__(with_source)
         from ..check.junit import Suite
 
-        self.suite, self.strict = Suite(name), strict
+        self.lines, self.suite, self.strict = Text(with_source), Suite(name), strict
 
     def file(self, report: ClashReport) -> str:
         judgement = report.judgement
@@ -197,9 +223,9 @@ class JUnit(Text):
         if judgement.problem is not None:
             self.suite.error(judgement.path, judgement.problem)
         elif failure is not None:
-            self.suite.failure(judgement.path, *failure, super().file(report))
+            self.suite.failure(judgement.path, *failure, self.lines.file(report))
         else:
-            self.suite.success(judgement.path, super().file(report))
+            self.suite.success(judgement.path, self.lines.file(report))
         return ""
 
     def plain(self, path: str) -> str:
@@ -209,21 +235,27 @@ class JUnit(Text):
         return self.suite.text()
 
 
-class GitHub(Text):
-    """A workflow command of GitHub for each clash, which GitHub shows beside the line of its first link, and for each link of dates that touch."""
+class GitHub:
+    """A workflow command of GitHub for each clash, which GitHub shows beside the line of its first link, and for each link of dates that
+    touch."""
 
-    def __init__(self) -> None:
-        super().__init__(False)
+    summary_apart = False
 
     def file(self, report: ClashReport) -> str:
         path = report.judgement.path
-        lines = [formats.GitHub(False).file(report.judgement)]
+        lines = [formats.GitHub().file(report.judgement)]
         for number, clash in enumerate(report.shown_clashes(), 1):
             title = f"clash of {counted(len(clash.links), 'link')}"
             lines.append(command(path, clash.links[0].place(), title, "\n".join(message_lines(clash) + (repair_message(report) if number == 1 else []))))
         if not report.read_touching:
             lines += [command(path, change.link.place(), TOUCHING, shown(change.cure())) for change in report.touching]
         return "".join(lines)
+
+    def plain(self, path: str) -> str:
+        return ""
+
+    def end(self, summary: ClashSummary) -> str:
+        return ""
 
 
 def command(path: str, place: Place, title: str, text: str) -> str:
@@ -250,9 +282,9 @@ def repair_message(report: ClashReport) -> list[str]:
     return [shown(report.repair.text()), *(beside(link.place(), link.text) for links in report.repair.choices for link in links)]
 
 
-def make_format(name: str, with_source: bool, quiet: bool, checked: bool, strict: bool) -> Text:
+def make_format(name: str, with_source: bool, quiet: bool, checked: bool, strict: bool) -> Format:
     """The format of a name, for `check --clashes` or for `clashes`."""
-    makers: dict[str, Callable[[], Text]] = {
+    makers: dict[str, Callable[[], Format]] = {
         "text": lambda: Text(with_source, quiet),
         "json": lambda: Json(checked),
         "jsonl": lambda: JsonLines(checked),

@@ -5,6 +5,8 @@ from __future__ import annotations
 import os
 from functools import cached_property
 
+from tml.statuses import STRICT_ORDERS
+
 from ..asking.program import CLASH, FAULT, CannotRun, Program, Reply
 from ..check.judgement import Judgement, PlacedNote
 from ..check.judging import judge_document, placed_warnings
@@ -12,7 +14,7 @@ from ..document.cutting import units_of_whole
 from ..document.source import Source
 from ..document.words import Wording
 from ..files.finding import Found
-from .clashes import STRICT_ORDERS, Clash, evidence_name, read_clash, verify_clash
+from .clashes import Clash, evidence_name, read_clash, verify_clash
 from .hitting import TooMuch
 from .leftout import Copies
 from .repair import find_repair

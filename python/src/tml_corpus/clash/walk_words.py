@@ -9,10 +9,10 @@ from collections.abc import Sequence
 from dataclasses import dataclass
 
 from tml.lines import Step
+from tml.statuses import ORDERS
 
 from ..asking.program import CannotRun
 from ..document.words import Wording
-from .constraints import ORDERS
 from .search import is_equal_end
 
 

@@ -198,7 +198,7 @@ def report_words_of(words: Parser, things: str) -> None:
     words.add_argument("--stdin-name", metavar="NAME", help=name)
     words.add_argument("--quiet", action="store_true", help="print no summary, and no list of links that are read as touching")
     words.add_argument("--watch", action="store_true", help="go on, and look again at files that change, until interrupted")
-    words.set_defaults(found=None)
+    words.set_defaults(reads_input=True)
 
 
 def more_words(words: Parser, things: str) -> None:

@@ -10,6 +10,8 @@ import re
 from enum import Enum
 from typing import NamedTuple
 
+from tml.statuses import IDENTIFIER_LIMIT, RELATIONS
+
 ROOT = "TimeML"
 WRAPPERS = (
     "DOCID", "DOCNO", "DOC", "DCT", "TITLE", "EXTRAINFO", "TEXT", "BODY", "HEADLINE", "P", "p", "S", "s", "ENAMEX", "NUMEX", "CONFIDENCE",
@@ -18,8 +20,6 @@ WRAPPERS = (
 LINK_TAGS = ("MAKEINSTANCE", "TLINK", "ALINK", "SLINK")
 """The tags that hold neither tags nor text."""
 
-MOST_OPEN, MOST_INTERVALS, MOST_LINKS = 32, 1024, 4096
-LONGEST_IDENTIFIER = 64
 IDENTIFIER_LETTERS = re.compile(r"[A-Za-z0-9_.-]")
 
 
@@ -58,7 +58,7 @@ class Row(NamedTuple):
 
 def is_identifier(value: str) -> bool:
     """Whether a value may be an identifier, or a reference to one."""
-    return 1 <= len(value) <= LONGEST_IDENTIFIER and all(map(IDENTIFIER_LETTERS.fullmatch, value))
+    return 1 <= len(value) <= IDENTIFIER_LIMIT and all(map(IDENTIFIER_LETTERS.fullmatch, value))
 
 
 def listed(noun: str, values: str) -> Form:
@@ -86,11 +86,7 @@ FUNCTION = listed(
     "CREATION_TIME EXPIRATION_TIME MODIFICATION_TIME PUBLICATION_TIME RELEASE_TIME RECEPTION_TIME NONE",
 )
 TRUTH = listed("a truth value", "true false")
-RELATION = listed(
-    "a relation of TLINK",
-    "BEFORE AFTER INCLUDES IS_INCLUDED DURING DURING_INV SIMULTANEOUS IDENTITY IBEFORE IAFTER BEGINS BEGUN_BY ENDS ENDED_BY OVERLAPS "
-    "OVERLAPPED_BY",
-)
+RELATION = Form(Kind.LISTED, "a relation of TLINK", RELATIONS)
 ASPECTUAL_RELATION = listed("a relation of ALINK", "INITIATES CULMINATES TERMINATES CONTINUES REINITIATES")
 SUBORDINATION = listed("a relation of SLINK", "MODAL EVIDENTIAL NEG_EVIDENTIAL FACTIVE COUNTER_FACTIVE CONDITIONAL INTENSIONAL")
 

@@ -10,10 +10,10 @@ from itertools import chain
 from typing import IO, NamedTuple
 
 from tml.logs import COMMAND
+from tml.running import PART
 from tml.statuses import DOCUMENT_LIMIT
 
 PATTERNS = ("*.tml", "*.xml")
-PART = 65536
 
 LONGEST_LINE = 65536
 """So many bytes a line of a table or of a baseline has at most. One of a baseline has a path and a tag of 80 characters, in ASCII."""

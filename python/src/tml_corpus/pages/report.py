@@ -6,7 +6,10 @@ The pages of documents are written where the documents are looked at, by all pro
 from __future__ import annotations
 
 import os
+from collections.abc import Iterator, Sequence
 from dataclasses import dataclass, field
+from functools import partial
+from typing import TYPE_CHECKING
 
 from ..asking.program import CannotRun, Program
 from ..check.judgement import Judgement
@@ -20,6 +23,9 @@ from .index import index_of
 from .page import page_of
 from .script import DOCUMENT_SCRIPT, INDEX_SCRIPT
 from .style import STYLE
+
+if TYPE_CHECKING:
+    from ..command_line.run import Run
 
 INDEX = "index.html"
 SHARED = {"report.css": STYLE, "index.js": INDEX_SCRIPT, "document.js": DOCUMENT_SCRIPT}
@@ -72,6 +78,13 @@ def write_page(target: str, text: str) -> None:
             file.write(text.encode("utf-8", "replace"))
     except (OSError, ValueError) as error:
         raise CannotRun(f"{target} cannot be written: {reason(error)}") from None
+
+
+def reported_files(run: Run, folder: Folder, found: Sequence[Found], wanted: Wanted) -> Iterator[Reported]:
+    """Writes the pages of some files, and answers in their order what became of each; the lines of the index are kept with the folder."""
+    for one in run.each(partial(report_file, run.program, folder.path, wanted=wanted), found, ended):
+        folder.entries.append(one.entry)
+        yield one
 
 
 def report_file(program: Program, folder: str, found: Found, wanted: Wanted) -> Reported:

@@ -6,6 +6,8 @@ import json
 from collections.abc import Callable
 from typing import IO, Any
 
+from tml.running import PART
+
 Json = Any
 """A value of JSON, from a client that may send anything: it is looked at by `member` before it is used."""
 
@@ -13,8 +15,6 @@ END_OF_HEAD = b"\r\n\r\n"
 LONGEST_HEAD = 4096
 LONGEST_BODY = 64 * 1024 * 1024
 """So many bytes a message may have: a document of 4 MiB takes six times as many where each byte of it is escaped."""
-
-PART = 65536
 
 
 class BrokenWire(Exception):

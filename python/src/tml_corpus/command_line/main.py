@@ -1,0 +1,155 @@
+"""The command line of `tml-corpus`.
+
+Status 0 says that all was well, 1 that a document has a fault (or a clash, or an unknown tag), 2 that something could not
+be run or read, and 130 that the run was interrupted.
+
+What one command alone needs is imported where it is needed: most runs are `check`, often of one file.
+"""
+
+from __future__ import annotations
+
+import argparse
+import sys
+from collections.abc import Callable, Iterator, Sequence
+from contextlib import contextmanager
+from functools import partial
+from importlib import import_module
+from typing import TYPE_CHECKING, Any
+
+from ..asking.pool import Interruption, in_order, processors
+from ..asking.program import CannotRun, Program, find_program, present_program
+from ..files.finding import PATTERNS, Found, find_files
+from ..files.standard_input import STANDARD_INPUT, StandardInput
+from .output import complain, run
+from .parser import parser
+from .run import Files, Run
+from .settings import Settings, settings_for
+from .statuses import Status
+
+if TYPE_CHECKING:
+    from ..asking.libraries import AtPath
+
+
+class Words(argparse.Namespace):
+    """The words that are read here; where a command does not have one of them it is as it stands here."""
+
+    command: str
+    config: str | None = None
+    tml: str | None = None
+    library: str | None = ""
+    cluster: str | None = None
+    jobs: int | None = 1
+    paths: Sequence[str] = ()
+    glob: Sequence[str] | None = None
+    document: str | None = None
+    key: str | None = None
+    format: str = "text"
+    reads_input: bool = False
+    stdin_name: str | None = None
+    quiet: bool = False
+    watch: bool = False
+    write_baseline: bool = False
+
+
+def main(words: Sequence[str] | None = None) -> int:
+    """Runs the program and answers its status."""
+    return run(command, words)
+
+
+def command(words: list[str]) -> int:
+    """Runs one command and answers its status."""
+    read = parser(words[0] if words else None).parse_args(words, Words())
+    settings = settings_of(read)
+    with Interruption() as stop, prepared(read, settings, stop) as made:
+        status = run_command(read, made)
+        sys.stdout.flush()
+        return Status.INTERRUPTED if made.is_interrupted() else status
+
+
+def run_command(words: Words, made: Run) -> int:
+    """Runs one command, where it is wanted again and again on the files that change, and answers its status."""
+    module = import_module(f"..commands.{words.command}", __package__)
+    work: Callable[[Run], int] = partial(module.command, options=options_of(module.Options, words))
+    if not words.watch:
+        return work(made)
+
+    def look(found: list[Found]) -> None:
+        work(made._replace(files=made.files._replace(changed=found)))
+
+    from ..files.watch import watch
+
+    watch(lambda: find_files(made.files.paths, list(made.files.patterns)), look, made.stop)
+    return 0
+
+
+def options_of(kind: Any, words: Words) -> Any:
+    """The options of a command, a named tuple of this kind, out of the words that were read."""
+    return kind(**{name: getattr(words, name) for name in kind._fields})
+
+
+@contextmanager
+def prepared(words: Words, settings: Settings, stop: Interruption) -> Iterator[Run]:
+    """The run: with the program, and what does the work on files in their order, the processors here or a cluster."""
+    if words.cluster is None:
+        path = find_program(words.tml)
+        program = with_wrappers(Program(path, library(words, path)), words, settings)
+        order = partial(in_order, workers=max(words.jobs or settings.jobs or processors(), 1), prepare=program.load)
+        yield Run(program, settings, files_of(words, settings), stop, order, words.quiet)
+    else:
+        from ..asking.cluster import connected
+
+        with connected(words.cluster, library(words, present_program()), stop) as cluster:
+            program = with_wrappers(cluster.program(words.tml), words, settings)
+            yield Run(program, settings, files_of(words, settings), stop, partial(cluster.in_order, prepare=program.load), words.quiet)
+
+
+def library(words: Words, program: str | None) -> AtPath | None:
+    """The library that is asked in the place of the program, by commands that work in several processes."""
+    if words.library == "":
+        return None
+    from ..asking.libraries import library_of
+
+    return library_of(words.library, program, is_chosen=words.tml is not None)
+
+
+def settings_of(words: Words) -> Settings:
+    """What the file of settings says that lies where the paths are; standard input lies in the current folder.
+
+    A server looks for it where each document lies.
+    """
+    if words.command == "serve":
+        return Settings()
+    paths = words.paths or [path for path in (words.document, words.key) if path is not None]
+    settings, remarks = settings_for(["." if path == STANDARD_INPUT else path for path in paths], words.config)
+    for remark in remarks:
+        complain(remark)
+    return settings
+
+
+def with_wrappers(program: Program, words: Words, settings: Settings) -> Program:
+    """The program, asked without the tags of the corpus's own wrappers; `tags` counts these too."""
+    if not settings.wrappers or words.command == "tags":
+        return program
+    from ..document.wrappers import Unwrapping
+
+    return Unwrapping(program.path, settings.wrappers, program.library)
+
+
+def files_of(words: Words, settings: Settings) -> Files:
+    """The files that the command is about."""
+    if words.watch and (words.format in ("junit", "json") or words.cluster is not None or STANDARD_INPUT in words.paths):
+        raise CannotRun("--watch goes neither with --format junit or json, nor with --cluster, nor with -")
+    if words.watch and words.write_baseline:
+        raise CannotRun("--watch goes not with --write-baseline, which would have the last files alone")
+    return Files(words.paths, words.glob or settings.patterns or PATTERNS, standard_input_of(words) if words.reads_input else None)
+
+
+def standard_input_of(words: Words) -> StandardInput | None:
+    """Standard input, where it is among the paths."""
+    if STANDARD_INPUT not in words.paths:
+        if words.stdin_name is not None:
+            raise CannotRun("--stdin-name names the document of -, which is not among the paths")
+        return None
+    if words.cluster is not None:
+        raise CannotRun("- cannot be judged on a cluster, whose workers have another standard input")
+    return StandardInput(words.stdin_name)

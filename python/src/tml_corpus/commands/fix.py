@@ -1,0 +1,40 @@
+"""`tml-corpus fix`."""
+
+from __future__ import annotations
+
+import sys
+from collections import Counter
+from functools import partial
+from typing import NamedTuple
+
+from ..check.fix import FixReport, fix, not_mended
+from ..command_line.run import Run, print_each
+from ..command_line.statuses import ENDED, Status
+from ..files.finding import Found, counted
+
+
+class Options(NamedTuple):
+    """What is asked of `fix`."""
+
+    write: bool
+
+
+def command(run: Run, options: Options) -> int:
+    """Prints or writes what has one cure only, and answers the status."""
+    found = run.files.search()
+    reports: Counter[str] = Counter()
+
+    def reported(_: Found, report: FixReport) -> str:
+        reports["changed"] += report.changed
+        reports["left"] += report.left
+        reports["problem"] += report.problem
+        return report.text
+
+    work = partial(fix, run.program, writes=options.write)
+    print_each(found, run.each(work, found, lambda one: not_mended(one, ENDED)), reported)
+    changed, left, problems = reports["changed"], reports["left"], reports["problem"]
+    done = "mended" if options.write else "can be mended (--write does it)"
+    sys.stdout.write(f"{counted(len(found), 'file')}: {changed} {done}, {left} with a fault that is left, {problems} not looked at\n")
+    if run.is_interrupted():
+        sys.stdout.write("interrupted: not all files were looked at\n")
+    return Status.TROUBLE if problems else Status.FINDING if left or (changed and not options.write) else Status.SUCCESS

@@ -1,0 +1,41 @@
+"""`tml-corpus tags`."""
+
+from __future__ import annotations
+
+import sys
+from functools import partial
+from typing import NamedTuple
+
+from ..check.tags import MOST_NAMES, Names, Table, is_known, names_in
+from ..command_line.run import Run, print_each
+from ..command_line.statuses import ENDED, Status
+from ..files.finding import Found, counted, shown
+
+
+class Options(NamedTuple):
+    """Of `tags` nothing is asked besides the files."""
+
+
+def command(run: Run, options: Options) -> int:
+    """Prints how often each tag stands in the files, and which of them `tml` does not know, and answers the status."""
+    found = run.files.search()
+    table, problems = Table(), 0
+
+    def reported(_: Found, names: Names) -> str:
+        nonlocal problems
+        table.add(names)
+        problems += names.problem is not None
+        remark = f"not counted: {names.problem}" if names.problem else names.remark
+        return f"{shown(names.path)}: {shown(remark)}\n" if remark else ""
+
+    print_each(found, run.each(partial(names_in, run.program), found, lambda one: Names(one.path, problem=ENDED)), reported)
+    asked = table.names()[:MOST_NAMES]
+    answers = run.in_order(partial(is_known, run.program), asked, stop=run.stop, lost=lambda name: None)
+    known = dict(zip(asked, answers, strict=False))
+    sys.stdout.write(table.text(known))
+    unknown = list(known.values()).count(False)
+    sys.stdout.write(f"{counted(len(found), 'file')}: {counted(len(table.counts), 'name')} of tags, {unknown} unknown to tml; ")
+    sys.stdout.write(f"{problems} not counted\n")
+    if run.is_interrupted():
+        sys.stdout.write("interrupted: not all files were looked at\n")
+    return Status.TROUBLE if problems else Status.FINDING if unknown else Status.SUCCESS
