@@ -8,6 +8,7 @@ use Rattle.document_answers.specs.Canon.{canon_rows}
 use Rattle.document_answers.specs.Check.{check_rows}
 use Rattle.document_answers.specs.Dates.{dates_rows}
 use Rattle.document_answers.specs.Spans.{spans_rows}
+use Rattle.evidence_answers.specs.Confirmed.{confirm_rows}
 use Rattle.evidence_answers.specs.Join.{join_rows}
 use Rattle.evidence_answers.specs.Renew.{renew_rows}
 use Rattle.evidence_answers.specs.Verify.{verify_rows}
@@ -20,7 +21,6 @@ use Rattle.possible_answers.specs.Matrix.{matrix_rows}
 use Rattle.possible_answers.specs.Possible.{possible_rows}
 use Rattle.score_answers.specs.Reduce.{reduce_rows}
 use Rattle.score_answers.specs.Score.{ScoreIsFree, score_rows}
-use Rattle.seconds_answers.specs.Confirmed.{confirm_rows}
 use Rattle.seconds_answers.specs.Placed.{SecondsAreFree, seconds_rows}
 use Rattle.tml_run.specs.Answered.{Freedom, NeverFree}
 use Rattle.tml_run.specs.Rows.{Rows, answers}
