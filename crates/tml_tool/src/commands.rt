@@ -5,8 +5,9 @@ ghost use Rattle.std.specs.Prelude.{◌≡◌, ◌≤◌, ◌<◌, ◌↔◌, le
 ghost use Rattle.tml_io.specs.Faults.{HasRisen, RisesAtMost};
 ghost use Rattle.tml_run.specs.Replied.{IsReplyTo};
 ghost use Rattle.tml_run.specs.View.{status_of, text_of};
+ghost use Rattle.tml_run.specs.Words.{texts_of};
 ghost use Rattle.tml_tool.specs.Commands.{arguments_of, most_calls, rows_of, taken, usage};
-ghost use Rattle.tml_tool.specs.Forms.{argument, texts_of};
+ghost use Rattle.tml_tool.specs.Forms.{argument};
 
 use answers::{DOC, reply_of_document, reply_of_judged};
 use document_answers::{Canon, Check, Dates, Spans};
