@@ -21,7 +21,7 @@ from pathlib import Path
 
 TOP = Path(__file__).resolve().parents[2]
 CRATES = TOP / "crates"
-PAGE = TOP / "tools" / "tests" / "memory_calls.md"
+PAGE = TOP / "python" / "tests" / "memory_calls.md"
 HEAD = "| crate | call | shown by |\n|---|---|---|\n"
 
 OUT_OF_MEMORY = {"Memory", "NoMemory", "AllocError", "AllocFailed", "Fault"}

@@ -7,7 +7,7 @@ from pathlib import Path
 
 from corpus import TOP
 
-PAGES = sorted([*Path(TOP).glob("*.md"), *Path(TOP, "docs").glob("*.md"), *Path(TOP, "tools").rglob("*.md"), *Path(TOP, "bench").glob("*.md")])
+PAGES = sorted([*Path(TOP).glob("*.md"), *Path(TOP, "docs").glob("*.md"), *Path(TOP, "python").rglob("*.md"), *Path(TOP, "bench").glob("*.md")])
 LINK = re.compile(r"\]\(([^)#\s]*)(?:#([^)\s]*))?\)")
 
 

@@ -14,7 +14,7 @@ ROW = re.compile(rf"\| {CODE} \| {CODE} \| {CODE} \|")
 def rows():
     """The rows: what was replaced, by what, and the line."""
     page = Path(TOP, "docs", "FAULTS.md").read_text(encoding="utf-8").split("\n## Slips, and the line that is printed\n")[1].split("\n## ")[0]
-    further = Path(TOP, "tools", "tests", "mistakes.md").read_text(encoding="utf-8")
+    further = Path(TOP, "python", "tests", "mistakes.md").read_text(encoding="utf-8")
     tables = [[line for line in text.splitlines() if line.startswith("| ")][1:] for text in (page, further)]
     lines = [line for table in tables for line in table]
     found = [ROW.fullmatch(line) for line in lines]

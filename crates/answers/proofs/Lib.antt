@@ -1,4 +1,5 @@
 pub mod Answered
+pub mod Contents
 pub mod Refusals
 pub mod NamedIntervals
 pub mod Reporting

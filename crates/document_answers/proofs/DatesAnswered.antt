@@ -3,6 +3,7 @@ use Rattle.std.proofs.Common.{◌≡◌, ℕ, ℤ, List, [], ◌∷◌, ◌++◌
 use Rattle.std.specs.List.{All, AllZip}
 use Rattle.std.proofs.lemmas.List.Elements.{All-head, All-tail}
 use Rattle.answers.proofs.Answered.{document_answered}
+use Rattle.answers.proofs.Contents.{its_document}
 use Rattle.net_core.specs.declared.bounds.Bounds.{Bounds}
 use Rattle.net_core.specs.declared.bounds.Bounds.TheVariants.{Exact, Within, Free}
 use Rattle.net_build.specs.Built.{IntervalBounds}
@@ -12,7 +13,6 @@ use Rattle.timex_dates.specs.Seconds.{IsCivilSecond}
 use Rattle.timex_dates.proofs.EveryText.{every_text}
 use Rattle.tml_accept.specs.Acceptance.{Says}
 use Rattle.tml_refs.specs.Documents.{PlainDocument, PlainInterval, instance, time}
-use Rattle.tml_refs.proofs.Documents.{resolved_document}
 use Rattle.tml_run.specs.Answered.{AreAnswered, NeverFree}
 use Rattle.tml_run.specs.OneReply.{is_broken_off}
 use Rattle.tml_run.specs.declared.status.Status.{Status}
@@ -50,8 +50,8 @@ date_lines (interval ∷ intervals) (b ∷ bounds) has civil =
     (line.0 ++ rest.0, (line.0, rest.0, line.1, rest.1, refl))
 
 some : (doc : List ℕ) (contents : PlainDocument) → Says doc contents → (status : Status) × (text : List ℕ) × OfDates contents status text
-some doc contents (root, (tree, (tags, types, resolved))) =
-    let net = every_net contents (resolved_document tags contents resolved) in
+some doc contents says =
+    let net = every_net contents (its_document doc contents says) in
     let lines = date_lines contents.intervals net.0.bounds net.1.bounds net.3 in
     (Done, lines.0, lines.1)
 

@@ -1,7 +1,8 @@
-pub mod Judging
+pub mod ConfirmAnswered
 pub mod Files
 pub mod JoinAnswered
 pub mod Joined
+pub mod Judging
 pub mod Naming
 pub mod Refused
 pub mod RenewAnswered

@@ -2,8 +2,8 @@
 use Rattle.std.proofs.Common.{arith}
 use Rattle.evidence_check.specs.Supported.{IsSupported}
 use Rattle.evidence_format.specs.Evidence.{PlainEvidence, timeline, entails, counter, clash}
-use Rattle.net_answers.proofs.Nets.{as_many}
 use Rattle.net_build.specs.Built.{IsNetOf}
+use Rattle.net_build.proofs.Intervals.{as_many}
 use Rattle.net_core.specs.Nets.{PlainNet}
 use Rattle.tml_refs.specs.Documents.{PlainDocument}
 use Rattle.evidence_answers.specs.Texts.{NamesIntervals}

@@ -3,13 +3,14 @@ use Rattle.std.proofs.Common.{◌≡◌, ◌⊎◌, ℕ, List, codes, false, ref
 use Rattle.answers.specs.Judged.{AreJudged}
 use Rattle.answers.specs.Lines.{numbered}
 use Rattle.answers.proofs.Answered.{judged_answered_once}
+use Rattle.answers.proofs.Contents.{its_document}
 use Rattle.evidence_check.specs.Bundles.{IsFirstRefused}
 use Rattle.evidence_check.proofs.Bundles.{all_true, one_bundle_verdict}
 use Rattle.evidence_format.specs.Evidence.{PlainEvidence}
 use Rattle.evidence_format.proofs.Claims.{well_formed_claims}
 use Rattle.evidence_format.proofs.EveryText.{bundle_or_bad_line}
-use Rattle.net_answers.proofs.Nets.{its_net}
 use Rattle.net_build.specs.Built.{IsNetOf}
+use Rattle.net_build.proofs.EveryNet.{every_net}
 use Rattle.net_build.proofs.OneNet.{one_net}
 use Rattle.net_core.specs.Limits.{max_evidence}
 use Rattle.net_core.specs.Nets.{PlainNet}
@@ -63,12 +64,12 @@ along contents evidence status text net other built too h = subst (λ (n : Plain
 
 some : (doc : List ℕ) (contents : PlainDocument) → Says doc contents → (bytes : List ℕ) → (status : Status) × (text : List ℕ) × OfVerify contents bytes status text
 some doc contents says bytes =
-    let has = its_net doc contents says in
+    let (net, built, is, civil) = every_net contents (its_document doc contents says) in
     elim (bundle_or_bad_line bytes) [
-      | inr bad ↦ (EvidenceFault, numbered (codes "evidence line ") bad.1, (has.net, has.built, inl (bad.0, bad.1, bad.2, refl)))
-      | inl e ↦ elim ((one_bundle_verdict has.net e.0).supported_or_refused (well_formed_claims e.0 bytes e.1)) [
-        | inl supported ↦ (Done, claim_lines contents e.0, (has.net, has.built, (e.0, e.1, supported, all_true has.net e.0 supported, refl)))
-        | inr refused ↦ (EvidenceFault, refusal_line refused.0, (has.net, has.built, inr (e.0, refused.0, e.1, refused.1, refl)))
+      | inr bad ↦ (EvidenceFault, numbered (codes "evidence line ") bad.1, (net, built, inl (bad.0, bad.1, bad.2, refl)))
+      | inl e ↦ elim ((one_bundle_verdict net e.0).supported_or_refused (well_formed_claims e.0 bytes e.1)) [
+        | inl supported ↦ (Done, claim_lines contents e.0, (net, built, (e.0, e.1, supported, all_true net e.0 supported, refl)))
+        | inr refused ↦ (EvidenceFault, refusal_line refused.0, (net, built, inr (e.0, refused.0, e.1, refused.1, refl)))
       ]
     ]
 
@@ -77,8 +78,8 @@ whole_of contents net evidence Done text h = refl
 whole_of contents net evidence EvidenceFault text h = refl
 whole_of contents net evidence status text h = absurd h
 
-judged : AreJudged max_evidence OfVerify (λ contents bytes status. ⊥)
-judged = record {
+pub verify_judged : AreJudged max_evidence OfVerify (λ contents bytes status. ⊥)
+verify_judged = record {
   some = λ doc short contents says bytes few. some doc contents says bytes;
   one_status = λ doc contents says evidence status other text line h k. same_status contents k.0 evidence status other text line (along contents evidence status text h.0 k.0 h.1 k.1 h.2) k.2;
   whole = λ contents evidence status text h. whole_of contents h.0 evidence status text h.2;
@@ -86,4 +87,4 @@ judged = record {
 }
 
 pub verify_answered : (name evidence : List ℕ) → AreAnswered (verify_rows name evidence) NeverFree
-verify_answered name evidence = judged_answered_once name (evidence_file evidence) OfVerify judged
+verify_answered name evidence = judged_answered_once name (evidence_file evidence) OfVerify verify_judged

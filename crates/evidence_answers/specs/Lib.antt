@@ -1,3 +1,5 @@
+pub mod ConfirmTexts
+pub mod Confirmed
 pub mod Files
 pub mod Join
 pub mod Judging

@@ -1,4 +1,4 @@
-//! Evidence as a file that is read.
+//! Evidence, placings and cycles as files that are read.
 use net_core::MAX_EVIDENCE;
 use tml_run::Role;
 
@@ -14,4 +14,11 @@ pub const SECOND: Role = Role {
     word: b"SECOND",
     limit: MAX_EVIDENCE,
     line: b"too long SECOND\n",
+};
+
+/// A placing of a document, or a cycle that shows that there is none.
+pub const SECONDS: Role = Role {
+    word: b"SECONDS",
+    limit: MAX_EVIDENCE,
+    line: b"too long SECONDS\n",
 };

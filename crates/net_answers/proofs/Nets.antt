@@ -1,17 +1,18 @@
 -- A document has one net, and what is asked of it an answer: where no timeline fits a minimal clash.
-use Rattle.std.proofs.Common.{◌≡◌, ◌⊎◌, ℕ, ◌<◌, List, [], ◌∷◌, map, false, length, refl, sym, ap, subst, ◌∙◌, inl, inr, arith}
+use Rattle.std.proofs.Common.{◌≡◌, ◌⊎◌, ℕ, ◌<◌, List, [], ◌∷◌, map, false, refl, sym, ap, subst, ◌∙◌, inl, inr, arith}
 use Rattle.std.specs.List.{Contains}
 use Rattle.std.proofs.lemmas.Option.{slice_get_within}
-use Rattle.std.proofs.lemmas.Slice.Zip.{AllZip-long}
 use Rattle.answers.specs.Documents.{AreAnswered, doc_file, document_rows, of_contents, of_its_contents}
 use Rattle.answers.proofs.Answered.{contents_answered}
+use Rattle.answers.proofs.Contents.{its_document}
 use Rattle.clash.specs.Minimal.{IsProvedClash}
 use Rattle.clash.specs.declared.minimal.Clash.{Clash as ClashOf}
 use Rattle.clash.proofs.Answered.{every_net as answered_net}
 use Rattle.evidence_format.proofs.Claims.{claim_text, has_claim_text}
 use Rattle.evidence_format.specs.Evidence.{PlainEvidence, clash}
-use Rattle.net_build.specs.Built.{IntervalBounds, IsNetOf}
+use Rattle.net_build.specs.Built.{IsNetOf}
 use Rattle.net_build.proofs.EveryNet.{every_net}
+use Rattle.net_build.proofs.Intervals.{as_many}
 use Rattle.net_build.proofs.OneNet.{one_net}
 use Rattle.net_core.specs.Entailment.{HasNoTimeline, HasTimeline}
 use Rattle.net_core.specs.Fits.{EveryLink}
@@ -21,7 +22,6 @@ use Rattle.net_core.proofs.StepLaws.{fits_fewer}
 use Rattle.tml_accept.specs.Acceptance.{Says}
 use Rattle.tml_accept.proofs.Phases.{one_document}
 use Rattle.tml_refs.specs.Documents.{IsNamed, PlainDocument}
-use Rattle.tml_refs.proofs.Documents.{resolved_document}
 use Rattle.tml_run.specs.Answered.{AreAnswered as RowsAreAnswered}
 use Rattle.tml_run.specs.OneFile.{of_its_bytes}
 use Rattle.tml_run.specs.OneReply.{is_broken_off}
@@ -37,10 +37,6 @@ one_net_of doc net other h k =
     let same = one_document doc h.0 k.0 h.1 k.1 in
     one_net k.0 net other (subst (λ (c : PlainDocument). IsNetOf c net) same h.2) k.2
 
--- a net has an interval for each of its document
-pub as_many : (contents : PlainDocument) (net : PlainNet) → IsNetOf contents net → length contents.intervals ≡ intervals net
-as_many contents net built = sym (AllZip-long IntervalBounds contents.intervals net.bounds built.bounds)
-
 -- the number of a named interval is that of one of the net
 pub named_within : (contents : PlainDocument) (net : PlainNet) (name : List ℕ) (i : ℕ) → IsNetOf contents net → IsNamed contents.intervals name i → i < intervals net
 named_within contents net name i built named = omega (arith, slice_get_within contents.intervals i named.0 named.1, as_many contents net built)
@@ -54,8 +50,8 @@ pub record HasItsNet (contents : PlainDocument) : Type 0 where
   pub is : IsNet net
 
 pub its_net : (doc : List ℕ) (contents : PlainDocument) → Says doc contents → HasItsNet contents
-its_net doc contents (root, (tree, (tags, types, resolved))) =
-    let found = every_net contents (resolved_document tags contents resolved) in
+its_net doc contents says =
+    let found = every_net contents (its_document doc contents says) in
     record { net = found.0; built = found.1; is = found.2 }
 
 -- some timeline fits a net, or a clash of it is printed

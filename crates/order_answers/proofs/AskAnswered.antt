@@ -1,6 +1,7 @@
 -- Whether a relation holds has one answer: one status, and one text, but for which walks prove a relation and which clash is printed.
 use Rattle.std.proofs.Common.{◌≡◌, ◌⊎◌, ℕ, List, codes, false, refl, sym, ap, subst, ◌∙◌, inl, inr, Option, Some, None}
 use Rattle.answers.proofs.Answered.{contents_answered}
+use Rattle.answers.proofs.Contents.{its_document}
 use Rattle.tml_refs.proofs.NamedIntervals.{named_or_not}
 use Rattle.answers.specs.Documents.{AreAnswered as ContentsAreAnswered, doc_file, of_contents, of_its_contents}
 use Rattle.named.specs.Texts.{NoneHas, named_of}
@@ -16,7 +17,6 @@ use Rattle.net_core.specs.declared.rels.Rel.{Rel}
 use Rattle.net_core.proofs.RelLaws.{rels_apart}
 use Rattle.tml_accept.specs.Acceptance.{Says}
 use Rattle.tml_refs.specs.Documents.{IsNamed, PlainDocument}
-use Rattle.tml_refs.proofs.Documents.{resolved_document}
 use Rattle.tml_run.specs.Answered.{AreAnswered}
 use Rattle.tml_run.specs.OneReply.{is_broken_off}
 use Rattle.tml_run.proofs.OneFile.{answered}
@@ -51,8 +51,8 @@ abbrev AreSame : ℕ → Rel → ℕ → ℕ → Rel → ℕ → Type 0
 AreSame a r b c s d = (a ≡ c) × (r ≡ s) × (b ≡ d)
 
 one_name : (doc : List ℕ) (contents : PlainDocument) → Says doc contents → (x rel y : List ℕ) (a : ℕ) (r : Rel) (b c : ℕ) (s : Rel) (d : ℕ) → Name contents x rel y a r b → Name contents x rel y c s d → AreSame a r b c s d
-one_name doc contents (root, (tree, (tags, types, resolved))) x rel y a r b c s d h k =
-    let is = resolved_document tags contents resolved in (
+one_name doc contents says x rel y a r b c s d h k =
+    let is = its_document doc contents says in (
       is.distinct x a c h.first k.first,
       texts_tell rel_text all_rels r s rels_apart (h.relation ∙ sym k.relation),
       is.distinct y b d h.second k.second,

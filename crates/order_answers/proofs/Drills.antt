@@ -8,6 +8,7 @@ use Rattle.net_core.specs.Fits.{RanksFit}
 use Rattle.net_core.specs.Nets.{PlainNet, points}
 use Rattle.net_core.specs.Ranks.{pairs_of}
 use Rattle.net_build.specs.Built.{IsNetOf}
+use Rattle.net_build.proofs.Intervals.{as_many}
 use Rattle.net_build.proofs.OneNet.{one_net}
 use Rattle.derive_rel.specs.declared.all_rows.Row.{Row}
 use Rattle.drill.specs.Laws.{IsDrill}
@@ -31,7 +32,7 @@ use Rattle.tml_run.specs.declared.status.Status.{Status}
 use Rattle.tml_run.specs.declared.status.Status.TheVariants.{Done}
 use Rattle.order_answers.specs.declared.drill_command.Figures.{Figures}
 use Rattle.order_answers.proofs.RelationsAnswered.{one_list_of}
-use Rattle.net_answers.proofs.Nets.{as_many, one_net_of}
+use Rattle.net_answers.proofs.Nets.{one_net_of}
 use Rattle.evidence_answers.proofs.VerifyAnswered.{same_status, same_text}
 use Rattle.tml_accept.proofs.Phases.{accepted_or_fault, one_document}
 use Rattle.order_answers.proofs.Timelines.{one_least, timeline_supported}

@@ -3,6 +3,7 @@ use Rattle.std.proofs.Common.{◌≡◌, inl, inr, ℕ, List, [], ◌∷◌, cod
 use Rattle.answers.specs.Documents.{AreAnswered as ContentsAreAnswered, doc_file, of_contents, of_its_contents}
 use Rattle.answers.specs.Names.{NamesOne}
 use Rattle.answers.proofs.Answered.{contents_answered}
+use Rattle.answers.proofs.Contents.{its_document}
 use Rattle.tml_refs.proofs.NamedIntervals.{named_or_not}
 use Rattle.clash.specs.Closures.{IsClosureOf}
 use Rattle.clash.proofs.Answered.{closed_net}
@@ -20,7 +21,6 @@ use Rattle.tml_possible.specs.Possible.{AreShown}
 use Rattle.tml_possible.proofs.Deciding.{every_item}
 use Rattle.tml_possible.proofs.OneList.{one_item_list, shown_by}
 use Rattle.tml_refs.specs.Documents.{IsNamed, PlainDocument}
-use Rattle.tml_refs.proofs.Documents.{resolved_document}
 use Rattle.tml_run.specs.Answered.{AreAnswered}
 use Rattle.tml_run.specs.OneFile.{of_its_bytes}
 use Rattle.tml_run.specs.OneReply.{is_broken_off}
@@ -47,7 +47,7 @@ one_unknown contents x y text line (inr h) (inl k) = absurd (k.0 h.0.0 h.0.1)
 one_unknown contents x y text line (inr h) (inr k) = h.2 ∙ sym k.2
 
 one_name : (doc : List ℕ) (contents : PlainDocument) → Says doc contents → (x : List ℕ) (a c : ℕ) → IsNamed contents.intervals x a → IsNamed contents.intervals x c → a ≡ c
-one_name doc contents (root, (tree, (tags, types, resolved))) x a c h k = (resolved_document tags contents resolved).distinct x a c h k
+one_name doc contents says x a c h k = (its_document doc contents says).distinct x a c h k
 
 -- ---- there is an answer
 

@@ -3,6 +3,7 @@ use Rattle.std.proofs.Common.{◌≡◌, ℕ, List, ◌++◌, codes, false, refl
 use Rattle.answers.specs.Judged.{AreJudged}
 use Rattle.answers.specs.Lines.{fault_line}
 use Rattle.answers.proofs.Answered.{judged_answered}
+use Rattle.answers.proofs.Contents.{its_document}
 use Rattle.answers.proofs.Refusals.{one_fault_line}
 use Rattle.net_answers.specs.Nets.{of_fitting}
 use Rattle.net_answers.proofs.Nets.{HasItsNet, fits_or_clash, fitting_status, fitting_whole, its_net}
@@ -14,8 +15,7 @@ use Rattle.net_core.specs.Nets.{PlainNet}
 use Rattle.tml_accept.specs.Acceptance.{FirstFault, Says}
 use Rattle.tml_accept.proofs.Judged.{every_document}
 use Rattle.tml_accept.proofs.Phases.{accepted_or_fault, one_document, one_fault}
-use Rattle.tml_refs.specs.Documents.{IsDocument, PlainDocument}
-use Rattle.tml_refs.proofs.Documents.{resolved_document}
+use Rattle.tml_refs.specs.Documents.{PlainDocument}
 use Rattle.tml_run.specs.Answered.{AreAnswered}
 use Rattle.tml_run.specs.OneReply.{is_broken_off}
 use Rattle.tml_run.specs.declared.status.Status.{Status}
@@ -50,9 +50,6 @@ module _ (doc key : Annotation) where
 
 abbrev annotated : PlainDocument → PlainNet → Annotation
 annotated contents net = record { contents = contents; net = net }
-
-its_document : (doc : List ℕ) (contents : PlainDocument) → Says doc contents → IsDocument contents
-its_document doc contents (root, (tree, (tags, types, resolved))) = resolved_document tags contents resolved
 
 -- what an accepted document says, with its net, is sound where some timeline fits
 sound : (doc : List ℕ) (contents : PlainDocument) → Says doc contents → (its : HasItsNet contents) → HasTimeline its.net → IsSound (annotated contents its.net)

@@ -1,3 +1,3 @@
 pub mod Whole
 pub mod SecondsAnswered
-pub mod ConfirmAnswered
+pub mod SecondsConfirmed

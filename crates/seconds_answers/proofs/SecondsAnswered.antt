@@ -2,13 +2,11 @@
 use Rattle.std.proofs.Common.{◌≡◌, ◌⊎◌, ℕ, List, [], ◌∷◌, false, refl, subst, inl, inr}
 use Rattle.answers.specs.Documents.{AreAnswered, doc_file, of_contents, of_its_contents}
 use Rattle.answers.proofs.Answered.{contents_answered}
-use Rattle.seconds_build.specs.Built.{IsTimedOf}
+use Rattle.answers.proofs.Contents.{its_document}
 use Rattle.seconds_build.proofs.EveryTime.{every_timed}
 use Rattle.seconds_build.proofs.Nets.{one_timed}
-use Rattle.seconds_core.specs.Timed.{IsTimed, PlainTimed}
-use Rattle.tml_accept.specs.Acceptance.{Says}
+use Rattle.seconds_core.specs.Timed.{PlainTimed}
 use Rattle.tml_refs.specs.Documents.{PlainDocument}
-use Rattle.tml_refs.proofs.Documents.{resolved_document}
 use Rattle.tml_run.specs.Answered.{AreAnswered as RowsAreAnswered}
 use Rattle.tml_run.specs.OneFile.{of_its_bytes}
 use Rattle.tml_run.specs.OneReply.{is_broken_off}
@@ -17,17 +15,6 @@ use Rattle.tml_run.specs.declared.status.Status.TheVariants.{Clash, Done}
 use Rattle.tml_run.proofs.OneFile.{answered, freer}
 use Rattle.seconds_answers.specs.Placed.{OfSeconds, OfTimed, SecondsAreFree, seconds_rows}
 use Rattle.seconds_answers.proofs.Whole.{timed_answered}
-
--- what an accepted document says has a net with limits
-pub record HasItsTimed (contents : PlainDocument) : Type 0 where
-  pub timed : PlainTimed
-  pub built : IsTimedOf contents timed
-  pub is : IsTimed timed
-
-pub its_timed : (doc : List ℕ) (contents : PlainDocument) → Says doc contents → HasItsTimed contents
-its_timed doc contents (root, (tree, (tags, types, resolved))) =
-    let found = every_timed contents (resolved_document tags contents resolved) in
-    record { timed = found.0; built = found.1; is = found.2 }
 
 timed_status : (timed : PlainTimed) (status other : Status) (text line : List ℕ) → OfTimed timed status text → OfTimed timed other line → status ≡ other
 timed_status timed Done Done text line h k = refl
@@ -54,7 +41,7 @@ no_other timed status text line determined h = absurd h
 
 seconds : AreAnswered OfSeconds IsFree
 seconds = record {
-  some = λ doc contents says. let its = its_timed doc contents says in let answer = timed_answered its.timed its.is in (answer.0, answer.1, (its.timed, its.built, answer.2));
+  some = λ doc contents says. let (timed, built, is) = every_timed contents (its_document doc contents says) in let answer = timed_answered timed is in (answer.0, answer.1, (timed, built, answer.2));
   one_status = λ doc contents says status other text line h k.
       timed_status k.0 status other text line (subst (λ (t : PlainTimed). OfTimed t status text) (one_timed contents h.0 k.0 h.1 k.1) h.2) k.2;
   whole = λ contents status text h. whole h.0 status text h.2;

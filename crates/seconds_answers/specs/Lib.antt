@@ -1,3 +1,2 @@
+pub mod Laws
 pub mod Placed
-pub mod Texts
-pub mod Confirmed

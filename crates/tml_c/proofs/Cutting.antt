@@ -9,7 +9,7 @@ use Rattle.std.proofs.lemmas.List.Elements.{All-from_get_or}
 use Rattle.std.proofs.lemmas.List.Splits.{slice_split_first, slice_split_none}
 use Rattle.std.proofs.lemmas.List.Sums.{fails_before_first}
 use Rattle.tml_c.specs.Words.{HaveNoWords, between_zeros}
-use Rattle.tml_tool.specs.Forms.{texts_of}
+use Rattle.tml_run.specs.Words.{texts_of}
 
 -- where the first zero byte stands
 abbrev pub first_zero : List ℕ → ℕ

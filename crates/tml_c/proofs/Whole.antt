@@ -13,7 +13,7 @@ use Rattle.tml_run.specs.Rows.{Rows}
 use Rattle.tml_run.specs.declared.status.Status.{Status}
 use Rattle.tml_run.specs.declared.status.Status.TheVariants.{Done, ReadFault, WriteFault}
 use Rattle.tml_tool.specs.Commands.{rows_of_words}
-use Rattle.tml_tool.specs.Forms.{texts_of}
+use Rattle.tml_run.specs.Words.{texts_of}
 
 -- a text is written whole, and the status is that of the reply
 record IsWhole (status : Status) (text bytes : List ℕ) : Type 0 where

@@ -1,7 +1,7 @@
 //! The words of a call.
 ghost use Rattle.std.specs.Prelude.{◌≡◌, ◌++◌, [], ◌∷◌, IfOk, MatchOption};
 ghost use Rattle.tml_c.specs.Words.{AreTakenFor, HaveNoWords, between_zeros};
-ghost use Rattle.tml_tool.specs.Forms.{texts_of};
+ghost use Rattle.tml_run.specs.Words.{texts_of};
 
 use std::alloc::{AllocError, Global};
 use std::str;

@@ -4,3 +4,4 @@ pub mod Missing
 pub mod OneFile
 pub mod OneReply
 pub mod TwoFiles
+pub mod Usage

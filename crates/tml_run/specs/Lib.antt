@@ -12,3 +12,4 @@ pub mod Rows
 pub mod Status
 pub mod TwoFiles
 pub mod View
+pub mod Words

@@ -9,11 +9,12 @@ use Rattle.tml_io.specs.Files.{Files}
 use Rattle.tml_run.specs.declared.status.Status.{Status}
 use Rattle.tml_run.specs.declared.status.Status.TheVariants.{Usage}
 use Rattle.tml_run.specs.Replied.{IsReplyTo}
-use Rattle.tml_run.proofs.HowItEnds.{answered}
+use Rattle.tml_run.specs.Words.{texts_of}
+use Rattle.tml_run.proofs.Usage.{usage_replied as replied_usage}
 use Rattle.tml_tool.specs.declared.commands.Form.{Form}
 use Rattle.tml_tool.specs.declared.commands.Form.TheVariants.{Spans}
 use Rattle.tml_tool.specs.Commands.{all_forms, arguments_of, form_of, rows_of, taken, takes, usage, word_of}
-use Rattle.tml_tool.specs.Forms.{texts_of, with_arguments}
+use Rattle.tml_tool.specs.Forms.{with_arguments}
 
 pub by_test : (b : Bool) (asked : Option (Form × List (List ℕ))) → b ≡ true → (if b then asked else None) ≡ asked
 by_test b asked e = ap (λ (t : Bool). if t then asked else None) e
@@ -51,11 +52,7 @@ pub along : (known : Option Files) (sound : Bool) (given now faults risen : ℕ)
 along known sound given now faults risen same form other status text e h = subst (λ (f : Option (Form × List (List ℕ))). IsReplyTo (rows_of f) known sound given now faults risen same status text) (sym e) h
 
 pub usage_replied : (known : Option Files) (sound : Bool) (given faults : ℕ) (same : Type 0) (form : Option (Form × List (List ℕ))) (text : List ℕ) → form ≡ None → text ≡ usage → same → IsReplyTo (rows_of form) known sound given given faults faults same Usage text
-usage_replied known sound given faults same form text e is unchanged = along known sound given given faults faults same form None Usage text e (record {
-  replies = (0, answered known (rows_of None) [] Usage text 0 tt is (omega arith), omega arith);
-  no_fault = λ sound there. refl;
-  untouched = λ none. unchanged;
-})
+usage_replied known sound given faults same form text e is unchanged = along known sound given given faults faults same form None Usage text e (replied_usage usage known sound given faults same text is unchanged)
 
 -- the usage text is the reply to words that have no form
 pub usage_along : (form other : Option (Form × List (List ℕ))) (status : Status) → form ≡ other → (status ≡ Usage) ↔ (other ≡ None) → (status ≡ Usage) ↔ (form ≡ None)

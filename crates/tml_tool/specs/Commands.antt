@@ -1,5 +1,5 @@
 -- The table of commands: of each form its word, its arguments and its rows. A further command adds a line to each.
-use Rattle.std.specs.Prelude.{◌≡◌, Bool, true, ℕ, List, [], ◌∷◌, codes, length, String, None, Some, is_some}
+use Rattle.std.specs.Prelude.{Bool, true, ℕ, List, [], ◌∷◌, codes, length, String, None, Some, is_some}
 use Rattle.std.specs.declared.alloc.Global.{Global}
 use Rattle.std.specs.declared.option.Option.{Option}
 use Rattle.named.specs.Texts.{named_of}
@@ -8,6 +8,7 @@ use Rattle.document_answers.specs.Canon.{canon_rows}
 use Rattle.document_answers.specs.Check.{check_rows}
 use Rattle.document_answers.specs.Dates.{dates_rows}
 use Rattle.document_answers.specs.Spans.{spans_rows}
+use Rattle.evidence_answers.specs.Confirmed.{confirm_rows}
 use Rattle.evidence_answers.specs.Join.{join_rows}
 use Rattle.evidence_answers.specs.Renew.{renew_rows}
 use Rattle.evidence_answers.specs.Verify.{verify_rows}
@@ -20,12 +21,11 @@ use Rattle.possible_answers.specs.Matrix.{matrix_rows}
 use Rattle.possible_answers.specs.Possible.{possible_rows}
 use Rattle.score_answers.specs.Reduce.{reduce_rows}
 use Rattle.score_answers.specs.Score.{ScoreIsFree, score_rows}
-use Rattle.seconds_answers.specs.Confirmed.{confirm_rows}
 use Rattle.seconds_answers.specs.Placed.{SecondsAreFree, seconds_rows}
 use Rattle.tml_run.specs.Answered.{Freedom, NeverFree}
-use Rattle.tml_run.specs.Rows.{Rows, answers}
-use Rattle.tml_run.specs.declared.status.Status.TheVariants.{Usage}
-use Rattle.tml_tool.specs.Forms.{argument, calls_for, taken_by, texts_of, usage_of, with_arguments}
+use Rattle.tml_run.specs.Rows.{Rows}
+use Rattle.tml_run.specs.Words.{calls_for, texts_of, usage_rows}
+use Rattle.tml_tool.specs.Forms.{argument, taken_by, usage_of, with_arguments}
 use Rattle.tml_tool.specs.declared.commands.Form.{Form}
 use Rattle.tml_tool.specs.declared.commands.Form.TheVariants.{Spans, Check, Dates, Solve, Ask, Relations, Canon, Verify, Drill, Renew, Join, Possible, Matrix, Reduce, Score, Seconds, Confirm}
 
@@ -136,14 +136,9 @@ abbrev pub most_files : Option (Form × List (List ℕ)) → ℕ
 most_files None = 0
 most_files (Some asked) = length (limits_of asked.0)
 
--- words that have no form are answered by the usage text
-abbrev pub usage_rows : Rows
-usage_rows [] (answers Usage text) = text ≡ usage
-usage_rows contents next = ⊥
-
 -- the rows of a form with its arguments, or of words that have no form
 abbrev pub rows_of : Option (Form × List (List ℕ)) → Rows
-rows_of None = usage_rows
+rows_of None = usage_rows usage
 rows_of (Some asked) = rows_with asked.0 asked.1
 
 abbrev pub is_free : Option (Form × List (List ℕ)) → Freedom

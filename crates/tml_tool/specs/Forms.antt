@@ -1,12 +1,7 @@
--- Words, and the form that they have; and the calls that files take. Nothing here knows what forms there are.
-use Rattle.std.specs.Prelude.{ℕ, ◌+◌, Bool, List, [], ◌∷◌, ◌++◌, codes, length, map, String, string_bytes, ◌==◌, None, Some, if◌then◌else◌}
+-- Words, and the form that they have. Nothing here knows what forms there are.
+use Rattle.std.specs.Prelude.{ℕ, Bool, List, [], ◌++◌, codes, length, ◌==◌, None, Some, if◌then◌else◌}
 use Rattle.std.specs.List.{flat_map, slice_index_or}
-use Rattle.std.specs.declared.alloc.Global.{Global}
 use Rattle.std.specs.declared.option.Option.{Option}
-
--- the words as bytes
-abbrev pub texts_of : List (String Global) → List (List ℕ)
-texts_of words = map (λ (w : String Global). string_bytes w) words
 
 -- the argument of this number
 abbrev pub argument : List (List ℕ) → ℕ → List ℕ
@@ -31,8 +26,3 @@ usage_line word names form = codes "tml " ++ word form ++ flat_map argument_text
 -- the usage text has a line for each form
 abbrev pub usage_of : {F : Type 0} → (F → List ℕ) → List F → (F → List (List ℕ)) → List ℕ
 usage_of word all names = codes "usage:\n" ++ flat_map (usage_line word names) all
-
--- how many calls reading files of these lengths takes at most: each is started, and read byte by byte up to its end
-abbrev pub calls_for : List ℕ → ℕ
-calls_for [] = 0
-calls_for (limit ∷ rest) = limit + 2 + calls_for rest

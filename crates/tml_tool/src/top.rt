@@ -6,8 +6,8 @@ ghost use Rattle.tml_run.specs.Outcome.{Outcome};
 ghost use Rattle.tml_run.specs.Reading.{AllThere, NoneReached};
 ghost use Rattle.tml_run.specs.Replied.{IsReplyTo};
 ghost use Rattle.tml_run.specs.View.{status_of, text_of};
+ghost use Rattle.tml_run.specs.Words.{texts_of};
 ghost use Rattle.tml_tool.specs.Commands.{form_of, most_calls, most_files, rows_of_words};
-ghost use Rattle.tml_tool.specs.Forms.{texts_of};
 
 use crate::commands::{Form, reply_with, usage_text};
 use answers::DOC;

@@ -16,9 +16,9 @@ import argparse
 import os
 import subprocess
 import sys
-from collections.abc import Iterator
 from pathlib import Path
 
+from building.crates import libraries_below, listed
 from building.linking import CannotMake, folder_of_kit, linked, need_programs
 from tml_corpus import VERSION
 
@@ -64,25 +64,6 @@ def compile_crate(kit: str) -> None:
     status = subprocess.run(words, cwd=CRATES / NAME, stdin=subprocess.DEVNULL, stdout=sys.stderr, check=False).returncode
     if status != 0:
         raise CannotMake(f"the crate {NAME} was not built: rattle ended with status {status}")
-
-
-def listed() -> Iterator[tuple[str, list[str]]]:
-    """The crates of crates.txt, each with the libraries that it uses."""
-    for line in (TOP / "crates.txt").read_text(encoding="utf-8").splitlines():
-        name, colon, uses = line.partition(":")
-        if colon and not line.startswith("#"):
-            yield name.split()[0], uses.split()
-
-
-def libraries_below(crate: str, uses: dict[str, list[str]]) -> list[str]:
-    """The libraries of this repository that a crate uses, and that these use."""
-    found: dict[str, None] = {}
-    waiting = [crate]
-    while waiting:
-        new = [library for library in uses[waiting.pop()] if library in uses and library not in found]
-        found |= dict.fromkeys(new)
-        waiting += new
-    return list(found)
 
 
 def rlib(library: str) -> Path:

@@ -1,5 +1,5 @@
 use Rattle.std.proofs.Common.{rules, arith, ◌∙◌}
-use Rattle.tml_tool.specs.Forms.{texts_of}
+use Rattle.tml_run.specs.Words.{texts_of}
 use Rattle.tml_c.proofs.Cutting.{next_word, not_ended}
 use Rattle.tml_c.proofs.words.ended_words.Goals as goal
 

@@ -1,6 +1,6 @@
 use Rattle.std.proofs.Common.{refl, sym, ap, ◌∙◌}
 use Rattle.order_answers.specs.Drill.{drill_number}
-use Rattle.tml_tool.specs.Forms.{texts_of}
+use Rattle.tml_run.specs.Words.{texts_of}
 use Rattle.tml_tool.proofs.Asked.{usage_replied}
 use Rattle.tml_tool.proofs.Drilled.{drill_replied, no_drill}
 use Rattle.tml_tool.proofs.commands.reply_with.Goals as goal

@@ -1,5 +1,5 @@
 use Rattle.std.proofs.Common.{arith}
-use Rattle.net_answers.proofs.Nets.{as_many}
+use Rattle.net_build.proofs.Intervals.{as_many}
 use Rattle.order_answers.proofs.Entailments.{shows_relations}
 use Rattle.order_answers.proofs.relations.RelationsOfNet.answer.Goals as goal
 

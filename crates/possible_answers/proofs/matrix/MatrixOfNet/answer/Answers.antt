@@ -1,5 +1,5 @@
 use Rattle.std.proofs.Common.{◌≡◌, ℕ, arith, subst}
-use Rattle.net_answers.proofs.Nets.{as_many}
+use Rattle.net_build.proofs.Intervals.{as_many}
 use Rattle.possible_answers.specs.Matrix.{RelTest, TellsTable, matrix_lines}
 use Rattle.possible_answers.proofs.MatrixAnswered.{shows_matrix}
 use Rattle.possible_answers.proofs.matrix.MatrixOfNet.answer.Goals as goal

@@ -1,5 +1,5 @@
 use Rattle.std.proofs.Common.{arith}
-use Rattle.net_answers.proofs.Nets.{as_many}
+use Rattle.net_build.proofs.Intervals.{as_many}
 use Rattle.possible_answers.proofs.PossibleAnswered.{shows_items}
 use Rattle.possible_answers.proofs.possible.IntervalsOfNet.answer.Goals as goal
 

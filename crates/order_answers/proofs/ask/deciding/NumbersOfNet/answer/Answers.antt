@@ -1,5 +1,5 @@
 use Rattle.std.proofs.Common.{arith}
-use Rattle.net_answers.proofs.Nets.{as_many}
+use Rattle.net_build.proofs.Intervals.{as_many}
 use Rattle.order_answers.proofs.ask.deciding.NumbersOfNet.answer.Goals as goal
 
 pub decide-requires-clause-intervals : goal.decide-requires-clause-intervals

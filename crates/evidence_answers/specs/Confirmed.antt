@@ -1,6 +1,6 @@
 -- The command `confirm`: whether a placing or a cycle of a document is one.
 use Rattle.std.specs.Prelude.{◌≡◌, ◌⊎◌, ℕ, List, codes}
-use Rattle.answers.specs.Judged.{Judgements, JudgesFirst, judged_rows}
+use Rattle.answers.specs.Judged.{Judgements, judged_rows}
 use Rattle.answers.specs.Lines.{numbered}
 use Rattle.net_core.specs.Limits.{max_evidence}
 use Rattle.seconds_build.specs.Built.{IsTimedOf}
@@ -11,12 +11,10 @@ use Rattle.seconds_core.specs.Evidence.{PlainEvidence}
 use Rattle.seconds_core.specs.Timed.{PlainTimed}
 use Rattle.seconds_format.specs.Begun.{IsBadLine}
 use Rattle.seconds_format.specs.Texts.{IsText}
-use Rattle.tml_refs.specs.Documents.{PlainDocument}
 use Rattle.tml_run.specs.Rows.{File, Rows}
 use Rattle.tml_run.specs.declared.status.Status.{Status}
 use Rattle.tml_run.specs.declared.status.Status.TheVariants.{Done, EvidenceFault}
-use Rattle.seconds_answers.specs.Placed.{OfSeconds}
-use Rattle.seconds_answers.specs.Texts.{claim_line, refusal_line}
+use Rattle.evidence_answers.specs.ConfirmTexts.{claim_line, refusal_line}
 
 -- the file of a name that is read as a placing or a cycle
 abbrev pub seconds_file : List ℕ → File
@@ -46,11 +44,3 @@ OfConfirm contents bytes status text = (timed : PlainTimed) × IsTimedOf content
 -- the rows of `confirm NAME SECONDS`
 abbrev pub confirm_rows : List ℕ → List ℕ → Rows
 confirm_rows name seconds = judged_rows name (seconds_file seconds) OfConfirm
-
--- the law: `confirm BAD MISSING` is answered by the fault of the document, and the other file is not reached
-abbrev pub ConfirmJudgesFirst : Type 0
-ConfirmJudgesFirst = (name seconds : List ℕ) → JudgesFirst name (confirm_rows name seconds)
-
--- the law: what `seconds` prints of a document, `confirm` confirms of it
-abbrev pub SecondsAreConfirmed : Type 0
-SecondsAreConfirmed = (contents : PlainDocument) (status : Status) (text : List ℕ) → OfSeconds contents status text → (line : List ℕ) × OfConfirm contents text Done line

@@ -1,24 +1,27 @@
 //! The command `confirm`: whether a placing or a cycle of a document is one.
-ghost use Rattle.seconds_answers.specs.Texts as texts;
+ghost use Rattle.evidence_answers.specs.ConfirmTexts as texts;
 ghost use Rattle.seconds_core.specs.View.{evidence_of};
 ghost use Rattle.std.specs.Prelude.{IfOk, OnOk, ◌++◌, ◌≡◌};
 
+use crate::malformed::malformed_answer;
 use answers::{OfJudged, push_numbered};
-use evidence_answers::malformed_answer;
 use evidence_format::ReadEvidence;
 use net_core::Memory;
+use seconds_build::timed_of;
+use seconds_check::{SecondsReason, confirm};
+use seconds_core::SecondsEvidence;
+use seconds_format::read_seconds;
 use std::alloc::{AllocError, Global};
 use tml_refs::Document;
 use tml_run::{Answer, Finding};
-use tml_seconds::{SecondsEvidence, SecondsReason, confirm, read_seconds, timed_of};
 
 /// The command `confirm`.
 #[derive(Clone, Copy)]
 pub struct Confirm;
 
 impl OfJudged for Confirm {
+    ghost use Rattle.evidence_answers.specs.Confirmed.{OfConfirm};
     ghost use Rattle.net_core.specs.Limits.{max_evidence};
-    ghost use Rattle.seconds_answers.specs.Confirmed.{OfConfirm};
 
     ghost says = { λ _. OfConfirm };
 

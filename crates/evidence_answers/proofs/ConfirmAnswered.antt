@@ -2,9 +2,11 @@
 use Rattle.std.proofs.Common.{◌≡◌, ◌⊎◌, ℕ, List, codes, false, refl, sym, ap, subst, ◌∙◌, inl, inr}
 use Rattle.answers.specs.Judged.{AreJudged}
 use Rattle.answers.specs.Lines.{numbered}
-use Rattle.answers.proofs.Answered.{judged_answered_once, judges_first}
+use Rattle.answers.proofs.Answered.{judged_answered_once}
+use Rattle.answers.proofs.Contents.{its_document}
 use Rattle.net_core.specs.Limits.{max_evidence}
 use Rattle.seconds_build.specs.Built.{IsTimedOf}
+use Rattle.seconds_build.proofs.EveryTime.{every_timed}
 use Rattle.seconds_build.proofs.Nets.{one_timed}
 use Rattle.seconds_check.specs.Refusals.{IsPaired, IsRefused}
 use Rattle.seconds_check.proofs.Judged.{confirmed_or_refused}
@@ -18,11 +20,9 @@ use Rattle.tml_refs.specs.Documents.{PlainDocument}
 use Rattle.tml_run.specs.Answered.{AreAnswered, NeverFree}
 use Rattle.tml_run.specs.OneReply.{is_broken_off}
 use Rattle.tml_run.specs.declared.status.Status.{Status}
-use Rattle.tml_run.specs.declared.status.Status.TheVariants.{Clash, Done, EvidenceFault}
-use Rattle.seconds_answers.specs.Confirmed.{ConfirmJudgesFirst, OfConfirm, OfText, ReportsBadLine, ReportsClaim, ReportsRefusal, SecondsAreConfirmed, confirm_rows, seconds_file}
-use Rattle.seconds_answers.specs.Placed.{OfTimed}
-use Rattle.seconds_answers.specs.Texts.{claim_line, refusal_line}
-use Rattle.seconds_answers.proofs.SecondsAnswered.{its_timed}
+use Rattle.tml_run.specs.declared.status.Status.TheVariants.{Done, EvidenceFault}
+use Rattle.evidence_answers.specs.ConfirmTexts.{claim_line, refusal_line}
+use Rattle.evidence_answers.specs.Confirmed.{OfConfirm, OfText, ReportsBadLine, ReportsClaim, ReportsRefusal, confirm_rows, seconds_file}
 
 module _ (timed : PlainTimed) (bytes : List ℕ) where
   -- what is confirmed is not refused
@@ -70,17 +70,17 @@ paired (Round lines) bytes is = tt
 
 some : (doc : List ℕ) (contents : PlainDocument) → Says doc contents → (bytes : List ℕ) → (status : Status) × (text : List ℕ) × OfConfirm contents bytes status text
 some doc contents says bytes =
-    let its = its_timed doc contents says in
+    let (timed, built, is) = every_timed contents (its_document doc contents says) in
     elim (every_text bytes) [
-      | inr bad ↦ (EvidenceFault, numbered (codes "evidence line ") bad.1, (its.timed, its.built, inl (bad.0, bad.1, bad.2, refl)))
-      | inl e ↦ elim (confirmed_or_refused its.timed e.0 (paired e.0 bytes e.1)) [
-        | inl confirmed ↦ (Done, claim_line e.0, (its.timed, its.built, (e.0, e.1, confirmed, refl)))
-        | inr refused ↦ (EvidenceFault, refusal_line refused.0, (its.timed, its.built, inr (e.0, refused.0, e.1, refused.1, refl)))
+      | inr bad ↦ (EvidenceFault, numbered (codes "evidence line ") bad.1, (timed, built, inl (bad.0, bad.1, bad.2, refl)))
+      | inl e ↦ elim (confirmed_or_refused timed e.0 (paired e.0 bytes e.1)) [
+        | inl confirmed ↦ (Done, claim_line e.0, (timed, built, (e.0, e.1, confirmed, refl)))
+        | inr refused ↦ (EvidenceFault, refusal_line refused.0, (timed, built, inr (e.0, refused.0, e.1, refused.1, refl)))
       ]
     ]
 
-judged : AreJudged max_evidence OfConfirm (λ contents bytes status. ⊥)
-judged = record {
+pub confirm_judged : AreJudged max_evidence OfConfirm (λ contents bytes status. ⊥)
+confirm_judged = record {
   some = λ doc short contents says bytes few. some doc contents says bytes;
   one_status = λ doc contents says bytes status other text line h k. same_status k.0 bytes status other text line (along contents bytes status text h.0 k.0 h.1 k.1 h.2) k.2;
   whole = λ contents bytes status text h. whole h.0 bytes status text h.2;
@@ -88,16 +88,4 @@ judged = record {
 }
 
 pub confirm_answered : (name seconds : List ℕ) → AreAnswered (confirm_rows name seconds) NeverFree
-confirm_answered name seconds = judged_answered_once name (seconds_file seconds) OfConfirm judged
-
-pub confirm_judges_first : ConfirmJudgesFirst
-confirm_judges_first name seconds = judges_first name (seconds_file seconds) OfConfirm
-
--- what is printed is confirmed
-shown : (contents : PlainDocument) (timed : PlainTimed) (status : Status) (text : List ℕ) → IsTimedOf contents timed → OfTimed timed status text → (line : List ℕ) × OfConfirm contents text Done line
-shown contents timed Done text built h = (claim_line (Placed h.0), (timed, built, (Placed h.0, h.2, h.1, refl)))
-shown contents timed Clash text built h = (claim_line (Round h.1), (timed, built, (Round h.1, h.3, h.2.0, refl)))
-shown contents timed status text built h = absurd h
-
-pub seconds_are_confirmed : SecondsAreConfirmed
-seconds_are_confirmed contents status text (timed, built, h) = shown contents timed status text built h
+confirm_answered name seconds = judged_answered_once name (seconds_file seconds) OfConfirm confirm_judged

@@ -1,0 +1,16 @@
+use Rattle.std.proofs.Common.{refl, arith}
+use Rattle.tml_run.proofs.Usage.{usage_replied}
+use Rattle.tml_verify.specs.Words.{usage}
+use Rattle.tml_verify.proofs.Asked.{along, no_form, two_words}
+use Rattle.tml_verify.proofs.top.reply_to.Goals as goal
+use Rattle.tml_verify.proofs.top.reply_to.Goals.{in_default-via-then-words-lt2, in_default-via-else-words-lt2+else-words-lt3}
+
+pub returns-in_default-clause-reply : goal.returns-in_default-clause-reply
+returns-in_default-clause-reply g c =
+    let none = no_form c.args.words.now (elim c.in_default.branch [ in_default-via-then-words-lt2 w ↦ grind arith | in_default-via-else-words-lt2+else-words-lt3 w ↦ grind arith ]) in
+    along _ _ _ _ _ _ _ _ _ _ _ none (usage_replied usage _ _ _ _ _ _ c.usage_text.ensures refl)
+
+pub returns-clause-reply : goal.returns-clause-reply
+returns-clause-reply g c =
+    let asked = two_words c.args.words.now c.doc-item.result c.other-item.result (omega arith) c.doc-item.is c.other-item.is in
+    along _ _ _ _ _ _ _ _ _ _ _ asked (rw (c.as_str.ensures.value, c.as_str-2.ensures.value) at c.reply_of_judged.ensures.reply)

@@ -1,0 +1,18 @@
+//! `tml-verify`: checks evidence of a TimeML document, or a placing or a cycle of it. No search for what it checks stands
+//! below this program.
+#![tactic(auto)]
+
+mod either;
+mod laws;
+mod top;
+
+use std::process::ExitCode;
+use tml_run::run_program;
+use top::run;
+
+fn main(rt: HostRuntime) -> ExitCode {
+    run_program(
+        &rt,
+        |words, inputs, sink| run(rt.alloc(), words, inputs, sink),
+    )
+}
