@@ -37,11 +37,14 @@ one_closure net is = record {
       let back = λ (u : Timeline) (f : FitsWith net (λ k. true ≡ true) u). fits_fewer net (λ k. true ≡ true) EveryLink u (λ k lt chosen. refl) f in
       let (cell, closed, kept) = closed_cells net (λ k. true) is fits.0 (every fits.0 fits.1) in
       let table = table_of (points net) cell in
-      let table_closed : IsClosed table = table_of-closed (points net) cell closed in
-      (table, table_closed, closure_from net table table_closed refl (λ t. (
-        λ keeps. back t ((kept t).0 ((table_kept (points net) cell t).0 keeps)),
-        λ f. (table_kept (points net) cell t).1 ((kept t).1 (every t f)),
-      )));
+      let table_closed : IsClosed table = table_of-closed (points net) cell closed in (
+        table,
+        table_closed,
+        closure_from net table table_closed refl (λ t. (
+          λ keeps. back t ((kept t).0 ((table_kept (points net) cell t).0 keeps)),
+          λ f. (table_kept (points net) cell t).1 ((kept t).1 (every t f)),
+        )),
+      );
   fits = λ table closed closure. one_fits net table closed closure.size closure.keeps;
   one = λ table other h k p q lp lq.
       let hs = h.strict p q lp lq in

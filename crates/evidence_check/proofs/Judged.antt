@@ -54,10 +54,10 @@ module _ (net : PlainNet) where
         let atoms = atoms_of r a b in
         let size : length walks ≡ length atoms = well.3 ∙ sym (atoms_counted r (points_of a) (points_of b)) in
         elim (first_bad (Proves net atoms walks) (λ k. IsNoProof net (atom_at atoms k) (walk_at walks k)) (λ k. not_both net (atom_at atoms k) (walk_at walks k))
-            (λ k. proof_or_none net (atom_at atoms k) (walk_at walks k)) (length atoms)) [
-              | inr first ↦ inr (refusal (first.0 + 1) first.1, inr (good, (first.0, first.2, refl, first.3)))
-              | inl all ↦ inl (good, zip_from (IsProof net) (record { from = 0; to = 0; strict = false }) [] atoms walks size all)
-            ]
+        (λ k. proof_or_none net (atom_at atoms k) (walk_at walks k)) (length atoms)) [
+          | inr first ↦ inr (refusal (first.0 + 1) first.1, inr (good, (first.0, first.2, refl, first.3)))
+          | inl all ↦ inl (good, zip_from (IsProof net) (record { from = 0; to = 0; strict = false }) [] atoms walks size all)
+        ]
   ]
 
   judged_counterexample : (a : ℕ) (r : Rel) (b : ℕ) (ranks : List (ℕ × ℕ)) → SupportedOrRefused net (counter a r b ranks)
