@@ -16,7 +16,7 @@ use Rattle.seconds_core.proofs.InRange.{named_within}
 use Rattle.seconds_search.specs.declared.edges.Edge.{Edge}
 use Rattle.seconds_search.specs.Decided.{EveryNetIsDecided, IsFar, IsShortCycle}
 use Rattle.seconds_search.specs.Edges.{AreEdges, Covers, CoversAll, Grows, IsEdge, IsOfInterval, IsOfLink, IsOfPoint, line_at}
-use Rattle.seconds_search.specs.Relaxation.{AreMet, IsClosed, IsNear, IsRelaxed, IsTooLow, PlainDistances, constraint_at, lowest, max_rounds, predecessor, total}
+use Rattle.seconds_search.specs.Relaxation.{AreMet, IsClosed, IsNear, IsRelaxed, IsTooLow, PlainDistances, constraint_at, lowest, predecessor, total}
 use Rattle.seconds_search.proofs.EdgeLaws.{all_covered, covers_interval, covers_link, covers_point, edges_are, edges_inside, grows_not, grows_on}
 use Rattle.seconds_search.proofs.Relaxing.{at_zero, edge_inside, relaxed, relaxed_at_zero, stays_relaxed, total_less}
 use Rattle.seconds_search.proofs.Settling.{settled_is_placed}
@@ -98,8 +98,8 @@ module _ (edges : List Edge) where
   abbrev Settled : ℕ → Type 0
   Settled size = (d : PlainDistances) × IsRelaxed edges d × AreMet edges d.seconds × (length d.seconds ≡ size)
 
-  abbrev Round : ℕ → Type 0
-  Round size = (d : PlainDistances) × IsRelaxed edges d × (length d.seconds ≡ size) × ((trail : List ℕ) × (p : ℕ) × IsClosed edges d trail p)
+  abbrev Cyclic : ℕ → Type 0
+  Cyclic size = (d : PlainDistances) × IsRelaxed edges d × (length d.seconds ≡ size) × ((trail : List ℕ) × (p : ℕ) × IsClosed edges d trail p)
 
   unmet : (seconds : List ℤ) (n : ℕ) → n ≤ length edges → ((e : ℕ) → e < n → IsMet seconds (constraint_at edges e)) ⊎ ((e : ℕ) × (e < length edges) × ((second_at seconds (constraint_at edges e).from +ℤ (constraint_at edges e).weight) <ℤ second_at seconds (constraint_at edges e).to))
   unmet seconds zero le = inl (λ e lt. absurd (omega (arith, lt)))
@@ -127,7 +127,7 @@ module _ (edges : List Edge) where
       ]
     ]
 
-  settled : (n : ℕ) (d : PlainDistances) → total d.seconds < n → IsRelaxed edges d → Settled (length d.seconds) ⊎ Round (length d.seconds)
+  settled : (n : ℕ) (d : PlainDistances) → total d.seconds < n → IsRelaxed edges d → Settled (length d.seconds) ⊎ Cyclic (length d.seconds)
   settled zero d few is = absurd (omega (arith, few))
   settled (suc n) d few is = elim (unmet d.seconds (length edges) (omega arith)) [
     | inl met ↦ inl (d, is, met, refl)
@@ -140,14 +140,14 @@ module _ (edges : List Edge) where
           | inr low ↦
               let size = length-set d.seconds c.to s in
               let less = total_less d.seconds c.to s within.to low later in
-              subst (λ (m : ℕ). Settled m ⊎ Round m) size (settled n (relaxed edges d is e lt s refl later low) (omega (arith, few, less)) (stays_relaxed edges d is e lt s refl later low))
+              subst (λ (m : ℕ). Settled m ⊎ Cyclic m) size (settled n (relaxed edges d is e lt s refl later low) (omega (arith, few, less)) (stays_relaxed edges d is e lt s refl later low))
         ]
   ]
 
 -- ---- placed, or a cycle
 
 -- the seconds of all points but the origin, counted from there
-counted_from : (seconds : List ℤ) (n : ℕ) → n < length seconds → All (IsNear max_rounds) seconds
+counted_from : (seconds : List ℤ) (n : ℕ) → n < length seconds → All IsNear seconds
     → (counted : List ℤ) × (length counted ≡ n) × ((p : ℕ) → p < n → second_at counted p ≡ second_at seconds p -ℤ second_at seconds n) × All IsFar counted
 counted_from seconds n lt near =
     let origin = second_at seconds n in
@@ -155,12 +155,12 @@ counted_from seconds n lt near =
     let size : length counted ≡ n = length-map (take n seconds) (λ s. s -ℤ origin) ∙ length-take-le n seconds (omega (arith, lt)) in
     let at : (p : ℕ) → p < n → second_at counted p ≡ second_at seconds p -ℤ origin = λ p less.
     get_or-map (λ s. s -ℤ origin) (take n seconds) p (pos 0) (pos 0) (omega (arith, less, size, length-map (take n seconds) (λ s. s -ℤ origin))) ∙ ap (λ s. s -ℤ origin) (get_or-take n seconds p (pos 0) less) in
-    let last : IsNear max_rounds origin = All-get_or (IsNear max_rounds) seconds n (pos 0) lt near in (
+    let last : IsNear origin = All-get_or IsNear seconds n (pos 0) lt near in (
       counted,
       size,
       at,
       All-from_get_or IsFar counted (pos 0) (λ p less.
-          let here : IsNear max_rounds (second_at seconds p) = All-get_or (IsNear max_rounds) seconds p (pos 0) (omega (arith, less, size, lt)) near in
+          let here : IsNear (second_at seconds p) = All-get_or IsNear seconds p (pos 0) (omega (arith, less, size, lt)) near in
           let is = at p (omega (arith, less, size)) in
           (omega (arith, ints, is, here.0, last.1), omega (arith, ints, is, here.1, last.0))),
     )
@@ -175,7 +175,7 @@ module _ (timed : PlainTimed) (is : IsTimed timed) (edges : List Edge) (are : Ar
         far,
       )
 
-  cycle : Round edges (origin timed + 1) → (lines : List Line) × IsShortCycle timed lines
+  cycle : Cyclic edges (origin timed + 1) → (lines : List Line) × IsShortCycle timed lines
   cycle (d, relaxed, size, (trail, p, closed)) =
       let lines = map (line_at edges) trail in
       (reverse lines, (closed_is_negative timed edges d relaxed are.named trail p closed, omega (arith, length-reverse lines, length-map trail (line_at edges), closed.few, size)))
@@ -187,7 +187,7 @@ every_net_is_decided timed is =
     let n : ℕ = origin timed + 1 in
     let begun = relaxed_at_zero edges n (omega (arith, net.few_intervals)) (edges_inside timed edges are) in
     let ended = settled edges (suc (total (at_zero n).seconds)) (at_zero n) (omega arith) begun in
-    elim (subst (λ (m : ℕ). Settled edges m ⊎ Round edges m) (length-replicate n (pos 0)) ended) [
+    elim (subst (λ (m : ℕ). Settled edges m ⊎ Cyclic edges m) (length-replicate n (pos 0)) ended) [
       | inl settled ↦ inl (placed timed is edges are settled)
       | inr round ↦ inr (cycle timed is edges are round)
     ]

@@ -38,7 +38,7 @@ relaxed_at_zero edges n few inside =
       size = length-replicate n None ∙ sym size;
       few = omega (arith, few, size);
       inside = subst (λ (m : ℕ). AreInside m edges) (sym size) inside;
-      near = All-replicate (IsNear max_rounds) n (pos 0) (omega (arith, ints), omega (arith, ints));
+      near = All-replicate IsNear n (pos 0) (omega (arith, ints), omega (arith, ints));
       root = λ p none. filled (pos 0) n p;
       lowered = λ p e at. absurd (no_predecessor n p e at);
       negative = λ p e trail on. absurd (no_predecessor n p e on.0);
@@ -139,12 +139,12 @@ module _ (edges : List Edge) (d : PlainDistances) (is : IsRelaxed edges d) (e : 
   pub stays_relaxed : IsRelaxed edges relaxed
   stays_relaxed =
       let size = length-set d.seconds c.to s in
-      let was : IsNear max_rounds (second_at d.seconds c.to) = All-get_or (IsNear max_rounds) d.seconds c.to (pos 0) inside.to is.near in
+      let was : IsNear (second_at d.seconds c.to) = All-get_or IsNear d.seconds c.to (pos 0) inside.to is.near in
       record {
         size = length-set d.predecessors c.to (Some e) ∙ is.size ∙ sym size;
         few = omega (arith, is.few, size);
         inside = subst (λ (n : ℕ). AreInside n edges) (sym size) is.inside;
-        near = All-set (IsNear max_rounds) d.seconds c.to s (low, omega (arith, ints, lower, was.1)) is.near;
+        near = All-set IsNear d.seconds c.to s (low, omega (arith, ints, lower, was.1)) is.near;
         root = λ p none. elim (cases_eq p c.to) [
           | inl same ↦ let both : Some e ≡ None = sym (edge_here p same) ∙ none in absurd cc
           | inr other ↦ second_there p other ∙ is.root p (sym (edge_there p other) ∙ none)

@@ -13,13 +13,16 @@ use Rattle.seconds_search.specs.declared.relaxation.Relaxed.{Relaxed}
 use Rattle.seconds_search.specs.declared.relaxation.Relaxed.TheVariants.{Met, Lowered, TooLow}
 use Rattle.seconds_search.specs.Edges.{AreInside, IsEdge, edge_at}
 
--- the most points there are, with the origin: after as many rounds distances are settled, if they ever are
+-- the most points there are, with the origin
 abbrev pub max_rounds : ℕ
 max_rounds = max_points + 1
 
--- a distance is not above 0, and no further below than so many of the heaviest edges
-abbrev pub IsNear : ℕ → ℤ → Type 0
-IsNear edges s = (neg_ℤ (pos (edges * max_second)) ≤ℤ s) × (s ≤ℤ pos 0)
+-- no distance is further below 0: as many of the heaviest edges as there can be points
+abbrev pub lowest : ℕ
+lowest = max_rounds * max_second
+
+abbrev pub IsNear : ℤ → Type 0
+IsNear s = (neg_ℤ (pos lowest) ≤ℤ s) × (s ≤ℤ pos 0)
 
 pub record PlainDistances : Type 0 where
   pub seconds : List ℤ
@@ -52,7 +55,7 @@ pub record IsRelaxed (edges : List Edge) (distances : PlainDistances) : Type 0 w
   pub size : length distances.predecessors ≡ length distances.seconds
   pub few : length distances.seconds ≤ max_rounds
   pub inside : AreInside (length distances.seconds) edges
-  pub near : All (IsNear max_rounds) distances.seconds
+  pub near : All IsNear distances.seconds
   pub root : (p : ℕ) → predecessor distances.predecessors p ≡ None → second_at distances.seconds p ≡ pos 0
   pub lowered : (p e : ℕ) → predecessor distances.predecessors p ≡ Some e → IsPredecessor edges distances.seconds p e
   pub negative : (p e : ℕ) (trail : List ℕ) → IsTrail edges distances.predecessors p (e ∷ trail) p → weight_of edges (e ∷ trail) <ℤ pos 0
@@ -62,9 +65,6 @@ abbrev pub IsTooLow : List ℤ → ℕ → Type 0
 IsTooLow seconds p = second_at seconds p <ℤ neg_ℤ (pos (max_points * max_second))
 
 -- how far distances are above the least that they can be, in all: what relaxation makes less
-abbrev pub lowest : ℕ
-lowest = max_rounds * max_second
-
 abbrev pub height : ℤ → ℕ
 height (pos n) = lowest + n
 height (negsuc n) = lowest - (n + 1)

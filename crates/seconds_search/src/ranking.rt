@@ -9,8 +9,8 @@ use net_core::Memory;
 use seconds_core::Line;
 use std::alloc::Global;
 
-/// A rank for each point. Mostly a point that an order leads to from another has a greater one, so that distances go on
-/// from point to point in one round. The ranks are found by a search along the orders, depth first.
+/// A rank for each point. Mostly an order, which is an edge of a span or a link, leads to a point with a greater rank, so
+/// that one round carries distances along whole chains. The ranks are found by a search along the orders, depth first.
 ///
 /// # Errors
 ///

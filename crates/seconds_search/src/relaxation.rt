@@ -4,7 +4,7 @@ ghost use Rattle.seconds_core.specs.Timed.{max_second};
 ghost use Rattle.std.specs.List.{All};
 ghost use Rattle.std.specs.Prelude.{IfOk, None as NoEdge, length, neg_ℤ, pos, replicate, set, ◌+ℤ◌, ◌<◌, ◌≡◌, ◌≤◌, ◌≤ℤ◌};
 ghost use Rattle.seconds_search.specs.Relaxation as spec;
-ghost use Rattle.seconds_search.specs.Relaxation.{IsNear, IsRelaxed, Relaxes, RelaxesAll, max_rounds};
+ghost use Rattle.seconds_search.specs.Relaxation.{IsNear, IsRelaxed, Relaxes, RelaxesAll};
 
 use crate::edges::Edge;
 use net_core::{MAX_POINTS, Memory};
@@ -84,8 +84,8 @@ impl Distances {
         self.seconds
     }
 
-    /// Relaxes each edge once. Where one was not met, answers a point that was lowered, or from which one leads that is
-    /// too low: if there is a negative cycle, predecessors lead to it from there sooner or later.
+    /// Relaxes each edge once. Answers None where all are met already, and else a point from which predecessors may lead back
+    /// to a negative cycle: the last one that was lowered, or one from which an edge leads too low.
     pub fn relax_all(&mut self, edges: &[Edge]) -> Option<u32>
         requires { IsRelaxed edges.now self.old }
         ensures relaxed { IsRelaxed edges.now self.new }
@@ -128,7 +128,7 @@ impl Distances {
         requires from { constraint.from < length self.now.seconds }
         requires low { neg_ℤ (pos max_second) ≤ℤ constraint.weight }
         requires high { constraint.weight ≤ℤ pos max_second }
-        requires near { All (IsNear max_rounds) self.now.seconds }
+        requires near { All IsNear self.now.seconds }
         ensures { result ≡ second_at self.now.seconds constraint.from +ℤ constraint.weight }
     {
         self.seconds[constraint.from as usize] + constraint.weight
