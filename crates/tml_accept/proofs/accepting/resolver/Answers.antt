@@ -8,23 +8,23 @@ pub take-requires : goal.take-requires
 take-requires c =
     let (typed, taken, given) = c.loop-tag.invariant in
     let gives = rw c.in-Ok-Some.field-0-is at c.in-Ok-Some.ensures.gives in
-    (typed, taken, (gives c.args.units.source typed given).1)
+    (typed, taken, (gives c.args.doc.now typed given).1)
 
 pub loop-tag-preserved : goal.loop-tag-preserved
 loop-tag-preserved c =
     let (typed, taken, given) = c.loop-tag.invariant in
     let gives = rw c.in-Ok-Some.field-0-is at c.in-Ok-Some.ensures.gives in
-    let more = gives c.args.units.source typed given in
+    let more = gives c.args.doc.now typed given in
     (typed ++ typed_of c.in-Ok-Some.tag ∷ [], when_ok c.take.result c.if-is_err.ensures.value c.take.ensures typed taken more.1, more.0)
 
 pub returns-in-Ok-None-clause-ok : goal.returns-in-Ok-None-clause-ok
 returns-in-Ok-None-clause-ok c =
     let (typed, taken, given) = c.loop-tag.invariant in
     let gives = rw c.in-Ok-None.field-0-is at c.in-Ok-None.ensures.gives in
-    let tree = gives c.args.units.source typed given in
+    let tree = gives c.args.doc.now typed given in
     (tree.0, typed, (tree.1, tree.2), taken)
 
 pub returns-in-Err-clause-err : goal.returns-in-Err-clause-err
 returns-in-Err-clause-err c =
     let (typed, taken, given) = c.loop-tag.invariant in
-    rw c.kind_and_place.ensures (of_source c.args.units.source c.in-Err.fault (c.in-Err.ensures.gives c.args.units.source typed given))
+    rw c.kind_and_place.ensures (of_source c.args.doc.now c.in-Err.fault (c.in-Err.ensures.gives c.args.doc.now typed given))
