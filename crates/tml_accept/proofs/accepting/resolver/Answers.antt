@@ -1,7 +1,8 @@
-use Rattle.std.proofs.Common.{◌++◌, ◌∷◌, []}
+use Rattle.std.proofs.Common.{List, ℕ, ◌++◌, ◌∷◌, [], subst}
+use Rattle.tml_span.specs.Faults.{HasFault}
 use Rattle.tml_types.specs.View.{typed_of}
 use Rattle.tml_types.proofs.Walks.{when_ok}
-use Rattle.tml_accept.proofs.FirstOf.{of_source}
+use Rattle.tml_accept.proofs.FirstOf.{of_cut, of_source}
 use Rattle.tml_accept.proofs.accepting.resolver.Goals as goal
 
 pub take-requires : goal.take-requires
@@ -24,7 +25,15 @@ returns-in-Ok-None-clause-ok c =
     let tree = gives c.args.doc.now typed given in
     (tree.0, typed, (tree.1, tree.2), taken)
 
-pub returns-in-Err-clause-err : goal.returns-in-Err-clause-err
-returns-in-Err-clause-err c =
+pub returns-then-is_err-clause-err : goal.returns-then-is_err-clause-err
+returns-then-is_err-clause-err c =
     let (typed, taken, given) = c.loop-tag.invariant in
-    rw c.kind_and_place.ensures (of_source c.args.doc.now c.in-Err.fault (c.in-Err.ensures.gives c.args.doc.now typed given))
+    let gives = rw c.in-Ok-Some.field-0-is at c.in-Ok-Some.ensures.gives in
+    let more = gives c.args.doc.now typed given in
+    let cut = c.out_of_memory.result in
+    rw c.kind_and_place-then-is_err.ensures (of_cut c.args.doc.now cut (subst (λ (doc : List ℕ). HasFault doc cut) more.0.source_is c.out_of_memory.ensures))
+
+pub returns-in-Err-pull-clause-err : goal.returns-in-Err-pull-clause-err
+returns-in-Err-pull-clause-err c =
+    let (typed, taken, given) = c.loop-tag.invariant in
+    rw c.kind_and_place-in-Err-pull.ensures (of_source c.args.doc.now c.in-Err-pull.fault (c.in-Err-pull.ensures.gives c.args.doc.now typed given))
