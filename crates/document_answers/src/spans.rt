@@ -2,15 +2,15 @@
 ghost use Rattle.document_answers.specs.Spans as texts;
 ghost use Rattle.document_answers.specs.Spans.{HasTable, OfSpans};
 ghost use Rattle.std.specs.List.{flat_map};
-ghost use Rattle.std.specs.Prelude.{◌≡◌, ◌++◌, map, IfOk, OnOk};
-ghost use Rattle.tml_span.specs.Reader.{Begins};
+ghost use Rattle.std.specs.Prelude.{◌≡◌, ◌<◌, ◌++◌, ◌^◌, length, map, IfOk, IfErr, OnOk};
+ghost use Rattle.tml_span.specs.Faults.{HasFault};
 ghost use Rattle.tml_span.specs.View.{attribute_of, unit_of};
 
 use answers::refusal;
 use itoa::write_digits;
 use std::alloc::{AllocError, Global};
 use tml_run::{Answer, OfFile};
-use tml_span::{Attr, Span, Unit, UnitReader, reader};
+use tml_span::{Attr, Cut, Cutter, Span, Unit, cut_of};
 
 /// The command `spans`.
 #[derive(Clone, Copy)]
@@ -26,25 +26,33 @@ impl OfFile for Spans {
 
     /// The table of the units, or the fault of the cut.
     fn answer(&self, alloc: Global, bytes: &[u8]) -> Result<Answer, AllocError> {
-        match reader(bytes) {
-            Ok(reader) => Ok(Answer::done(unit_table(alloc, reader)?)),
-            Err(fault) => refusal(alloc, Some(fault.kind_and_place())),
+        match unit_table(alloc, bytes) {
+            Ok(table) => Ok(Answer::done(table)),
+            Err(cut) => refusal(alloc, cut.kind_and_place()),
         }
     }
 }
 
 /// A line for each unit, and after that of a start tag one for each attribute.
-fn unit_table(alloc: Global, reader: UnitReader<'_>) -> Result<Vec<u8>, AllocError>
-    requires { Begins reader.source reader }
-    ensures { IfOk result (λ table. HasTable reader.entry.source table.items) }
+fn unit_table(alloc: Global, doc: &[u8]) -> Result<Vec<u8>, Cut>
+    requires { length doc.now < 2 ^ 32 }
+    ensures table { IfOk result (λ table. HasTable doc.now table.items) }
+    ensures fault { IfErr result (λ cut. HasFault doc.now cut) }
 {
-    let mut reader = reader;
+    let mut cutter = match Cutter::new(doc) {
+        Ok(cutter) => cutter,
+        Err(fault) => return Err(cut_of(fault)),
+    };
     let mut table = Vec::new(alloc);
     loop {
-        match reader.pull(alloc) {
-            Ok(Some(unit)) => push_unit(&mut table, &unit)?,
+        match cutter.pull(alloc) {
+            Ok(Some(unit)) => {
+                if push_unit(&mut table, &unit).is_err() {
+                    return Err(cutter.out_of_memory());
+                }
+            }
             Ok(None) => return Ok(table),
-            Err(_) => return Err(AllocError),
+            Err(cut) => return Err(cut),
         }
     }
 }

@@ -8,7 +8,7 @@ ghost use Rattle.net_core.specs.Limits.{max_document};
 use faults::FaultKind;
 use std::alloc::Global;
 use tml_refs::{Document, Resolver, resolve};
-use tml_span::{UnitReader, reader};
+use tml_span::reader;
 use tml_tree::{TagTree, tree_from};
 use tml_types::{TagReader, Typed, type_tags};
 
@@ -17,7 +17,7 @@ pub type Fault = Option<(FaultKind, u32)>;
 
 /// What a document says that has no fault in any of the five phases: that its bytes are UTF-8 and are cut into units,
 /// that the units nest, that the attributes are right, and the identifiers, references and limits. No tree is built and no
-/// list of the tags: they are typed as the units are read, and taken as they come.
+/// list of the tags: they are typed as the units are cut, and taken as they come.
 ///
 /// # Errors
 ///
@@ -28,11 +28,7 @@ pub fn accept<'s>(alloc: Global, doc: &'s [u8]) -> Result<Document<'s>, Fault>
     ensures ok { IfOk result (Says doc.now) }
     ensures err { IfErr result (λ fault. IfSome fault (λ f. FirstFault doc.now f.0 f.1)) }
 {
-    let units = match reader(doc) {
-        Ok(units) => units,
-        Err(fault) => return Err(Some(fault.kind_and_place())),
-    };
-    let resolver = match resolver(alloc, units) {
+    let resolver = match resolver(alloc, doc) {
         Ok(resolver) => resolver,
         Err(fault) => return Err(fault),
     };
@@ -67,19 +63,23 @@ pub fn accepted_tree<'s>(alloc: Global, doc: &'s [u8]) -> Result<TagTree<'s>, Fa
     }
 }
 
-/// A resolver that has taken all tags of a reader, which has given no unit.
-fn resolver<'s>(alloc: Global, units: UnitReader<'s>) -> Result<Resolver<'s>, Fault>
-    requires { units.place ≡ 0 }
-    ensures ok { IfOk result (HasTakenAll units.entry.source) }
-    ensures err { IfErr result (λ fault. IfSome fault (λ f. FirstFault units.entry.source f.0 f.1)) }
+/// A resolver that has taken all tags of a document, or the first fault of its bytes, its units, their nesting or its
+/// attributes.
+fn resolver<'s>(alloc: Global, doc: &'s [u8]) -> Result<Resolver<'s>, Fault>
+    requires { length doc.now ≤ max_document }
+    ensures ok { IfOk result (HasTakenAll doc.now) }
+    ensures err { IfErr result (λ fault. IfSome fault (λ f. FirstFault doc.now f.0 f.1)) }
 {
-    let mut tags = TagReader::new(alloc, units);
+    let mut tags = match TagReader::new(alloc, doc) {
+        Ok(tags) => tags,
+        Err(cut) => return Err(Some(cut.kind_and_place())),
+    };
     let mut resolver = Resolver::new(alloc);
     loop {
         match tags.pull(alloc) {
             Ok(Some(tag)) => {
                 if resolver.take(&tag).is_err() {
-                    return Err(None);
+                    return Err(tags.out_of_memory().kind_and_place());
                 }
             }
             Ok(None) => return Ok(resolver),

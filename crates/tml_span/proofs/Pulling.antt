@@ -1,23 +1,32 @@
--- A reader of units, one unit further.
-use Rattle.std.proofs.Common.{◌≡◌, ℕ, ◌+◌, ◌-◌, ◌<◌, ◌≤◌, ◌^◌, List, [], ◌∷◌, ◌++◌, length, drop, refl, sym, ap, subst, ◌∙◌, append_assoc, arith, length-append, Some, None, Ok}
+-- A cutter of units, one unit further.
+use Rattle.std.proofs.Common.{◌≡◌, ℕ, ◌+◌, ◌-◌, ◌<◌, ◌≤◌, List, [], ◌∷◌, ◌++◌, length, drop, refl, sym, ap, subst, ◌∙◌, append_assoc, arith, length-append, None, Ok}
+use Rattle.std.specs.Prelude.{IsUtf8}
 use Rattle.std.proofs.Math.Seq.{drop-append_seam}
-use Rattle.std.proofs.lemmas.List.{append-nil, length-drop}
-use Rattle.tml_span.specs.declared.unit.Unit as rust
-use Rattle.tml_span.specs.Units.{PlainUnit, Spelled}
+use Rattle.tml_span.specs.Units.{PlainUnit}
 use Rattle.tml_span.specs.Cutting.{Stops, CutsFrom, FindsUnit}
+use Rattle.tml_span.specs.Cutter.{CutsOn, HasCut, IsCutSoFar}
+use Rattle.tml_span.specs.Faults.{HasBadMarkup, HasBadReference}
+use Rattle.tml_span.specs.References.{IsBadIn, IsFirst, IsNowhere, pieces_of}
 use Rattle.tml_span.specs.Slices.{UnitIsIn}
 use Rattle.tml_span.specs.Whole.{IsWhole, CutsWhole}
-use Rattle.tml_span.specs.Reader.{Reading, Divides, IsReading, Gives, end_of}
-use Rattle.tml_span.specs.View.{unit_of}
-use Rattle.tml_span.proofs.Joining.{empty_stops}
-use Rattle.tml_span.proofs.OneCut.{one_unit}
+use Rattle.tml_span.specs.Reader.{Reading, end_of}
+use Rattle.tml_span.proofs.EveryCut.{every_cut_from}
+use Rattle.tml_span.proofs.Joining.{GoesOn, whole_here}
+use Rattle.tml_span.proofs.OneCut.{one_cut_from}
+use Rattle.tml_span.proofs.Passing.{HasPassed, IsPassing, bad_reference, passed_more, stopped}
 use Rattle.tml_span.proofs.SlicesIn.{unit_is_in}
 
 abbrev pub at : List ℕ → ℕ → Reading
 at source place = record { source = source; place = place }
 
-pub begins : (source : List ℕ) → length source < 2 ^ 32 → CutsWhole source → IsReading (at source 0)
-begins source small whole = (small, [], whole.0, record { whole = whole.1; place = refl })
+abbrev pub left_of : Reading → List ℕ
+left_of r = drop r.place r.source
+
+-- before the first unit
+pub nothing_cut : (source : List ℕ) → IsUtf8 source → HasCut (at source 0) []
+nothing_cut source utf8 = record { utf8 = utf8; cuts = λ left rest h. h; sound = λ place h. h; place = refl }
+
+-- ---- the bytes on both sides of the place
 
 end_more : (place : ℕ) (units : List PlainUnit) (u : PlainUnit) → end_of place (units ++ u ∷ []) ≡ u.end
 end_more place [] u = refl
@@ -32,104 +41,101 @@ parts place bytes rest (u ∷ given) left h =
     let p = parts u.end h.1 rest given left (subst (λ (n : ℕ). CutsFrom n h.1 (given ++ left) rest) end h.5) in
     (h.0 ++ p.0, p.1, h.2 ∙ ap (λ (bs : List ℕ). h.0 ++ bs) p.2 ∙ sym (append_assoc h.0 p.0 p.1), omega (arith, p.3, end, length-append h.0 p.0), p.4)
 
--- what follows the place is cut into the units that are left
-pub record LeavesBytes (r : Reading) (left : List PlainUnit) : Type 0 where
+-- the source is what is before the place and what follows it, which is cut so
+pub record SplitsAt (r : Reading) (left : List PlainUnit) (rest : List ℕ) : Type 0 where
   pub before : List ℕ
-  pub whole : r.source ≡ before ++ drop r.place r.source
+  pub whole : r.source ≡ before ++ left_of r
   pub place : length before ≡ r.place
-  pub cuts : CutsFrom r.place (drop r.place r.source) left []
+  pub cuts : CutsFrom r.place (left_of r) left rest
 
-pub leaves_bytes : (r : Reading) (given left : List PlainUnit) → Divides r given left → LeavesBytes r left
-leaves_bytes r given left d =
-    let p = parts 0 r.source [] given left d.whole.1 in
-    let place : length p.0 ≡ r.place = omega (arith, p.3, d.place) in
-    let after : drop r.place r.source ≡ p.1 = ap (λ (n : ℕ). drop n r.source) (sym place) ∙ ap (drop (length p.0)) p.2 ∙ drop-append_seam p.0 p.1 in
+pub splits : (r : Reading) (given left : List PlainUnit) (rest : List ℕ) → r.place ≡ end_of 0 given → CutsFrom 0 r.source (given ++ left) rest → SplitsAt r left rest
+splits r given left rest end cut =
+    let p = parts 0 r.source rest given left cut in
+    let place : length p.0 ≡ r.place = omega (arith, p.3, end) in
+    let after : left_of r ≡ p.1 = ap (λ (n : ℕ). drop n r.source) (sym place) ∙ ap (drop (length p.0)) p.2 ∙ drop-append_seam p.0 p.1 in
     record {
       before = p.0;
       whole = p.2 ∙ ap (λ (bs : List ℕ). p.0 ++ bs) (sym after);
       place = place;
-      cuts = subst (λ (q : ℕ × List ℕ). CutsFrom q.0 q.1 left []) (λ i. (sym d.place i, sym after i)) p.4;
+      cuts = subst (λ (q : ℕ × List ℕ). CutsFrom q.0 q.1 left rest) (λ i. (sym end i, sym after i)) p.4;
     }
 
-pub place_within : (r : Reading) → IsReading r → r.place ≤ length r.source
-place_within r h =
-    let l = leaves_bytes r h.1 h.2 h.3 in
-    omega (arith, l.place, ap length l.whole, length-append l.before (drop r.place r.source))
+-- what follows the place has some cut
+pub some_cut : (r : Reading) (given : List PlainUnit) → HasCut r given → (left : List PlainUnit) × (rest : List ℕ) × CutsFrom 0 r.source (given ++ left) rest
+some_cut r given h = let all = every_cut_from (length (left_of r)) r.place (left_of r) (omega arith) in (all.0, all.1.0, h.cuts all.0 all.1.0 all.1.1)
 
--- ---- before the first unit
+splits_here : (r : Reading) (given : List PlainUnit) (h : HasCut r given) → let some = some_cut r given h in SplitsAt r some.0 some.1
+splits_here r given h = let some = some_cut r given h in splits r given some.0 some.1 h.place some.2
 
-some_bytes : (place : ℕ) (u : PlainUnit) (prefix : List ℕ) → Spelled place u prefix → 0 < length prefix
-some_bytes place u [] h = absurd (empty_stops place u [] [] refl h)
-some_bytes place u (b ∷ prefix) h = omega arith
+joins : (r : Reading) → IsCutSoFar r → r.place + length (left_of r) ≡ length r.source
+joins r h = let s = splits_here r h.1 h.2 in omega (arith, s.place, ap length s.whole, length-append s.before (left_of r))
 
-pub none_given : (r : Reading) → IsReading r → r.place ≡ 0 → (left : List PlainUnit) × Divides r [] left
-none_given r (small, [], left, d) start = (left, d)
-none_given r (small, u ∷ given, left, d) start =
-    let c = d.whole.1 in
-    let end : 0 + length c.0 ≡ u.end = sym c.3.end in
-    let others = parts u.end c.1 [] given left (subst (λ (n : ℕ). CutsFrom n c.1 (given ++ left) []) end c.5) in
-    absurd (omega (arith, start, d.place, others.3, end, some_bytes 0 u c.0 c.3))
+pub place_within : (r : Reading) → IsCutSoFar r → r.place ≤ length r.source
+place_within r h = omega (arith, joins r h)
 
--- ---- where no unit begins
+module _ (r : Reading) (cut : IsCutSoFar r) (bytes : List ℕ) (is : bytes ≡ left_of r) where
+  here : r.place + length bytes ≡ length r.source
+  here = omega (arith, ap length is, joins r cut)
 
-none_left : (r : Reading) → Stops r.place (drop r.place r.source) → (given left : List PlainUnit) → Divides r given left → left ≡ []
-none_left r stops given [] d = refl
-none_left r stops given (u ∷ left) d =
-    let c = (leaves_bytes r given (u ∷ left) d).cuts in
-    absurd (stops u c.0 c.1 c.2 c.3)
+  passed : (given : List PlainUnit) → HasCut r given → HasPassed r.source r.place bytes given
+  passed given h = record { sound = h.sound; cuts = subst (GoesOn r.source given r.place) (sym is) h.cuts }
 
-at_end : (r : Reading) → IsReading r → Stops r.place (drop r.place r.source) → r.place ≡ length r.source
-at_end r h stops =
-    let none = none_left r stops h.1 h.2 h.3 in
-    let l = leaves_bytes r h.1 h.2 h.3 in
-    let cut = subst (λ (left : List PlainUnit). CutsFrom r.place (drop r.place r.source) left []) none l.cuts in
-    omega (arith, place_within r h, ap length cut.0, length-drop r.place r.source)
+  pub passing : IsPassing r.source r.place bytes
+  passing = record { joins = here; passed = (cut.1, passed cut.1 cut.2) }
 
-pub gives_none : (r : Reading) (bytes : List ℕ) → IsReading r → bytes ≡ drop r.place r.source → Stops r.place bytes → Gives r r (Ok None)
-gives_none r bytes h is stops =
-    let here = subst (Stops r.place) is stops in
-    (refl, at_end r h here, none_left r here)
+  -- ---- where no unit begins
 
--- ---- where a unit begins
+  pub gives_none : length bytes ≡ 0 → CutsOn r r (Ok None)
+  gives_none none = (refl, omega (arith, here), λ given h. (h.utf8, whole_here r.source bytes given r.place (passed given h).cuts none, h.sound))
 
-abbrev pub next : Reading → List ℕ → List ℕ → Reading
-next r bytes after = at r.source (r.place + (length bytes - length after))
+  pub no_unit : (length bytes ≡ 0 → ⊥) → Stops r.place bytes → HasBadMarkup r.source r.place
+  no_unit some stops = stopped r.source bytes r.place cut.2.utf8 passing some stops
 
-first_left : (r : Reading) (bytes after : List ℕ) (u : PlainUnit) → bytes ≡ drop r.place r.source → FindsUnit r.place bytes u after → (given left : List PlainUnit) → Divides r given left
-    → (more : List PlainUnit) × (left ≡ u ∷ more) × Divides (next r bytes after) (given ++ u ∷ []) more
-first_left r bytes after u is found given [] d =
-    let c = (leaves_bytes r given [] d).cuts in
-    absurd (c.1 u found.0 after (sym c.0 ∙ sym is ∙ found.1) found.2)
-first_left r bytes after u is found given (v ∷ left) d =
-    let c = (leaves_bytes r given (v ∷ left) d).cuts in
-    let one = one_unit r.place v u c.0 c.1 found.0 after (sym c.2 ∙ sym is ∙ found.1) c.3 c.4 found.2 found.3 in
-    let len = ap length found.1 ∙ length-append found.0 after in
-    let units : given ++ v ∷ left ≡ (given ++ u ∷ []) ++ left = ap (λ (w : PlainUnit). given ++ w ∷ left) one.0 ∙ sym (append_assoc given (u ∷ []) left) in (
-      left,
-      ap (λ (w : PlainUnit). w ∷ left) one.0,
-      record {
-        whole = subst (λ (us : List PlainUnit). IsWhole (record { source = r.source; units = us })) units d.whole;
-        place = omega (arith, len, found.2.end, end_more 0 given u);
-      },
-    )
+  -- ---- where a unit begins
 
-unit_in_source : (r : Reading) (bytes after : List ℕ) (u : PlainUnit) → IsReading r → bytes ≡ drop r.place r.source → FindsUnit r.place bytes u after → UnitIsIn r.source u
-unit_in_source r bytes after u h is found =
-    let l = leaves_bytes r h.1 h.2 h.3 in
-    unit_is_in r.source l.before after found.0 r.place u (l.whole ∙ ap (λ (bs : List ℕ). l.before ++ bs) (sym is ∙ found.1)) l.place found.2
+  module _ (after : List ℕ) (u : PlainUnit) (found : FindsUnit r.place bytes u after) where
+    pub unit_is_bad : (bad : ℕ) → IsFirst (IsBadIn (pieces_of u)) bad → HasBadReference r.source bad
+    unit_is_bad bad first = bad_reference r.source bytes after r.place u bad cut.2.utf8 passing found first
 
-pub goes_further : (r : Reading) (bytes after : List ℕ) (u : PlainUnit) → IsReading r → bytes ≡ drop r.place r.source → FindsUnit r.place bytes u after → IsReading (next r bytes after)
-goes_further r bytes after u h is found =
-    let m = first_left r bytes after u is found h.1 h.2 h.3 in
-    (h.0, h.1 ++ u ∷ [], m.0, m.2)
+    abbrev pub next : Reading
+    next = at r.source (r.place + (length bytes - length after))
 
-pub gives_unit : (r : Reading) (bytes after : List ℕ) (u : rust.Unit) → IsReading r → bytes ≡ drop r.place r.source → FindsUnit r.place bytes (unit_of u) after → length after < length bytes → Gives r (next r bytes after) (Ok (Some u))
-gives_unit r bytes after u h is found shorter =
-    let l = leaves_bytes r h.1 h.2 h.3 in
-    let within : length r.source ≡ r.place + length bytes = omega (arith, l.place, ap length is, ap length l.whole, length-append l.before (drop r.place r.source)) in
-    (refl, omega arith, omega arith, unit_in_source r bytes after (unit_of u) h is found, first_left r bytes after (unit_of u) is found)
+    len : length bytes ≡ length found.0 + length after
+    len = ap length found.1 ∙ length-append found.0 after
 
--- ---- where all units are given
+    source_here : r.source ≡ (splits_here r cut.1 cut.2).before ++ (found.0 ++ after)
+    source_here = let s = splits_here r cut.1 cut.2 in s.whole ∙ ap (λ (bs : List ℕ). s.before ++ bs) (sym is ∙ found.1)
 
-pub all_given : (r : Reading) (given left : List PlainUnit) → left ≡ [] → Divides r given left → IsWhole (record { source = r.source; units = given })
-all_given r given left none d = subst (λ (us : List PlainUnit). IsWhole (record { source = r.source; units = us })) (ap (λ (us : List PlainUnit). given ++ us) none ∙ append-nil given) d.whole
+    left_next : left_of next ≡ after
+    left_next =
+        let s = splits_here r cut.1 cut.2 in
+        let place : next.place ≡ length (s.before ++ found.0) = omega (arith, len, s.place, length-append s.before found.0) in
+        ap (λ (n : ℕ). drop n r.source) place ∙ ap (drop (length (s.before ++ found.0))) (source_here ∙ sym (append_assoc s.before found.0 after)) ∙ drop-append_seam (s.before ++ found.0) after
+
+    module _ (good : IsNowhere (IsBadIn (pieces_of u))) (shorter : length after < length bytes) where
+      cuts_more : (given : List PlainUnit) → HasCut r given → HasCut next (given ++ u ∷ [])
+      cuts_more given h =
+          let p = passed_more r.source bytes after r.place given u (passed given h) found good in
+          record {
+            utf8 = h.utf8;
+            cuts = subst (GoesOn r.source (given ++ u ∷ []) next.place) (sym left_next) p.cuts;
+            sound = p.sound;
+            place = omega (arith, len, found.2.end, end_more 0 given u);
+          }
+
+      pub goes_further : IsCutSoFar next
+      goes_further = (cut.0, cut.1 ++ u ∷ [], cuts_more cut.1 cut.2)
+
+      pub moves_on : (next.source ≡ r.source) × (r.place < next.place) × (next.place ≤ length r.source) × UnitIsIn r.source u × ((given : List PlainUnit) → HasCut r given → HasCut next (given ++ u ∷ []))
+      moves_on =
+          let s = splits_here r cut.1 cut.2 in
+          (refl, omega (arith, shorter), omega (arith, here), unit_is_in r.source s.before after found.0 r.place u source_here s.place found.2, cuts_more)
+
+-- ---- a source that has no fault
+
+-- the units given are the first of its units
+pub left_units : (r : Reading) (given : List PlainUnit) → CutsWhole r.source → HasCut r given → (left : List PlainUnit) × IsWhole (record { source = r.source; units = given ++ left })
+left_units r given whole h =
+    let some = some_cut r given h in
+    let one = one_cut_from 0 r.source (given ++ some.0) whole.0 some.1 [] some.2 whole.1.1 in
+    (some.0, subst (λ (us : List PlainUnit). IsWhole (record { source = r.source; units = us })) (sym one.0) whole.1)

@@ -1,5 +1,5 @@
 -- Why a source is not cut into units whole.
-use Rattle.std.specs.Prelude.{◌≡◌, ◌≢◌, ◌⊎◌, ℕ, ◌+◌, List, [], length, IsUtf8, ⊤}
+use Rattle.std.specs.Prelude.{◌≡◌, ◌≢◌, ◌⊎◌, ℕ, ◌+◌, List, [], length, IsUtf8, Option, Some, None, ⊤}
 use Rattle.std.specs.Str.{IsValidUpTo}
 use Rattle.faults.specs.declared.kind.FaultKind.{FaultKind}
 use Rattle.faults.specs.declared.kind.FaultKind.TheVariants as fault
@@ -46,6 +46,13 @@ abbrev pub cut_of : PlainCut → Cut
 cut_of (plain.NotUtf8 place) = NotUtf8 place
 cut_of (plain.BadReference place) = BadReference place
 cut_of (plain.BadMarkup place) = BadMarkup place
+
+-- the kind of a fault and its place; out of memory has none
+abbrev pub cut_kind_and_place : Cut → Option (FaultKind × ℕ)
+cut_kind_and_place (NotUtf8 place) = Some (fault.NotUtf8, place)
+cut_kind_and_place (BadReference place) = Some (fault.BadReference, place)
+cut_kind_and_place (BadMarkup place) = Some (fault.BadMarkup, place)
+cut_kind_and_place Memory = None
 
 -- what a refusal says of the source
 abbrev pub HasFault : List ℕ → Cut → Type 0

@@ -7,6 +7,7 @@ pub mod Slices
 pub mod View
 pub mod Whole
 pub mod Reader
+pub mod Cutter
 pub mod Reading
 pub mod Checking
 pub mod Written

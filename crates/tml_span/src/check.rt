@@ -1,7 +1,8 @@
 //! Units that are checked and not kept, which takes no memory.
-ghost use Rattle.std.specs.Prelude.{◌≡◌, ◌≢◌, ◌+◌, ◌<◌, ◌≤◌, ◌^◌, ◌++◌, [], codes, slice_index, length, IfErr, IfSome, IsUtf8, OnOk};
+ghost use Rattle.std.specs.Prelude.{◌≡◌, ◌≢◌, ◌+◌, ◌<◌, ◌≤◌, ◌^◌, ◌++◌, [], codes, slice_index, length, IfErr, IfSome, OnOk};
 ghost use Rattle.tml_span.specs.Bytes as kinds;
 ghost use Rattle.tml_span.specs.Checking.{AddsPiece, ChecksAttributes, ChecksUnit};
+ghost use Rattle.tml_span.specs.Cutter.{IsCutSoFar};
 ghost use Rattle.tml_span.specs.Faults.{HasPlainFault};
 ghost use Rattle.tml_span.specs.References.{FirstBadIn, IsPlaced, IsWithin, pieces_of, value_piece};
 ghost use Rattle.tml_span.specs.View.{attribute_of, unit_of};
@@ -82,7 +83,7 @@ fn check_found<'s>(found: (Unit<'s>, &'s [u8])) -> Checked<'s>
 }
 
 /// The unit at the start. There is none where no unit begins.
-pub fn check_unit(place: u32, bytes: &[u8]) -> Option<Checked<'_>>
+fn check_unit(place: u32, bytes: &[u8]) -> Option<Checked<'_>>
     requires { place + length bytes.now < 2 ^ 32 }
     ensures unit { ChecksUnit place bytes.now result }
     ensures shorter { IfSome result (λ r. length r.rest.now < length bytes.now) }
@@ -97,15 +98,14 @@ pub fn check_unit(place: u32, bytes: &[u8]) -> Option<Checked<'_>>
     }
 }
 
-/// Looks at the units of a source that is UTF-8, one after another.
-fn check_units(source: &[u8]) -> Result<(), PlainCut>
-    requires small { length source.now < 2 ^ 32 }
-    requires utf8 { IsUtf8 source.now }
+/// Looks at the units of a source from a place on, up to which it has no fault, one after another.
+pub fn check_units(source: &[u8], start: u32) -> Result<(), PlainCut>
+    requires { IsCutSoFar (record { source = source.now; place = start }) }
     ensures ok { OnOk result (CutsWhole source.now) }
     ensures err { IfErr result (λ e. HasPlainFault source.now e) }
 {
-    let mut place = 0;
-    let mut rest = source;
+    let mut place = start;
+    let (_, mut rest) = source.split_at(start as usize);
     while !rest.is_empty() {
         let Some(Checked { bad, rest: after }) = check_unit(place, rest) else {
             return Err(PlainCut::BadMarkup { place });
@@ -117,22 +117,4 @@ fn check_units(source: &[u8]) -> Result<(), PlainCut>
         rest = after;
     }
     Ok(())
-}
-
-/// Looks at a source as a whole.
-///
-/// # Errors
-///
-/// The fault of the source, where it has one.
-pub fn check_source(source: &[u8]) -> Result<(), PlainCut>
-    requires { length source.now < 2 ^ 32 }
-    ensures ok { OnOk result (CutsWhole source.now) }
-    ensures err { IfErr result (λ e. HasPlainFault source.now e) }
-{
-    if let Err(e) = simdutf8::compat::from_utf8(source) {
-        return Err(PlainCut::NotUtf8 {
-            place: e.valid_up_to() as u32,
-        });
-    }
-    check_units(source)
 }

@@ -41,6 +41,20 @@ pub enum Cut {
     Memory,
 }
 
+impl Cut {
+    /// The kind of the fault and its place, or none where it is that of memory.
+    pub fn kind_and_place(self) -> Option<(FaultKind, u32)>
+        ensures { result ≡ faults.cut_kind_and_place self }
+    {
+        match self {
+            Cut::NotUtf8 { place } => Some((FaultKind::NotUtf8, place)),
+            Cut::BadReference { place } => Some((FaultKind::BadReference, place)),
+            Cut::BadMarkup { place } => Some((FaultKind::BadMarkup, place)),
+            Cut::Memory => None,
+        }
+    }
+}
+
 /// The fault of a source, where a list of its units is asked for.
 pub fn cut_of(fault: PlainCut) -> Cut
     ensures { result ≡ faults.cut_of fault }

@@ -1,12 +1,10 @@
-//! The units of a source, one by one.
-ghost use Rattle.std.specs.Prelude.{◌≡◌, ◌<◌, ◌^◌, length, drop, IfOk, IfErr};
+//! The units of a source that has no fault, one by one.
+ghost use Rattle.std.specs.Prelude.{◌≡◌, ◌<◌, ◌^◌, length, IfOk, IfErr};
 ghost use Rattle.tml_span.specs.Faults.{HasPlainFault};
 ghost use Rattle.tml_span.specs.Reader.{Begins};
 
-use crate::check::check_source;
 use crate::fault::PlainCut;
-use crate::scan::unit_at;
-use crate::{Memory, Unit};
+use crate::{Cutter, Memory, Unit};
 use std::alloc::Global;
 use std::marker::Model;
 
@@ -14,8 +12,7 @@ use std::marker::Model;
 /// place: the units that are given are those that end at or before it.
 #[derive(Drop)]
 pub struct UnitReader<'s> {
-    source: &'s [u8],
-    place: u32,
+    cutter: Cutter<'s>,
 }
 
 impl<'s> Model for UnitReader<'s> {
@@ -23,9 +20,9 @@ impl<'s> Model for UnitReader<'s> {
 
     ghost Value = { Reading };
 
-    ghost view = { λ a. record { source = a.source.now; place = a.place } };
+    ghost view = { λ a. a.cutter };
 
-    ghost invariant = { λ a. IsReading (record { source = a.source.now; place = a.place }) };
+    ghost invariant = { λ a. IsReading a.cutter };
 }
 
 /// Looks at a source of fewer than 2^32 bytes once as a whole, which takes no memory, and gives a reader that has given
@@ -39,8 +36,9 @@ pub fn reader<'s>(source: &'s [u8]) -> Result<UnitReader<'s>, PlainCut>
     ensures ok { IfOk result (λ r. Begins source.now r) }
     ensures err { IfErr result (λ e. HasPlainFault source.now e) }
 {
-    check_source(source)?;
-    Ok(UnitReader { source, place: 0 })
+    let cutter = Cutter::new(source)?;
+    cutter.check()?;
+    Ok(UnitReader { cutter })
 }
 
 impl<'s> UnitReader<'s> {
@@ -51,7 +49,7 @@ impl<'s> UnitReader<'s> {
         ensures place { result ≡ self.now.place }
         ensures reading { IsReading self.now }
     {
-        self.place
+        self.cutter.place()
     }
 
     /// The source of the units.
@@ -59,7 +57,7 @@ impl<'s> UnitReader<'s> {
         ensures source { result.now ≡ self.now.source }
         ensures reading { IsReading self.now }
     {
-        self.source
+        self.cutter.source()
     }
 
     /// The next unit. None comes exactly where all units were given, and again then.
@@ -70,22 +68,10 @@ impl<'s> UnitReader<'s> {
     pub fn pull(&mut self, alloc: Global) -> Result<Option<Unit<'s>>, Memory>
         ensures gives { Gives self.old self.new result }
     {
-        let left = self.left();
-        let Ok(found) = unit_at(alloc, self.place, left) else {
-            return Err(Memory);
-        };
-        let Some((unit, rest)) = found else {
-            return Ok(None);
-        };
-        self.place += (left.len() - rest.len()) as u32;
-        Ok(Some(unit))
-    }
-
-    /// What follows the place.
-    fn left(&self) -> &'s [u8]
-        ensures { result.now ≡ drop self.now.place self.now.source }
-    {
-        let (_, left) = self.source.split_at(self.place as usize);
-        left
+        match self.cutter.pull(alloc) {
+            Ok(found) => Ok(found),
+            // The source has no fault, so this is want of memory.
+            Err(_) => Err(Memory),
+        }
     }
 }

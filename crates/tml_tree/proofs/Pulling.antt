@@ -5,7 +5,7 @@ use Rattle.tml_span.specs.Reader.{Reading, Divides, Gives, IsReading}
 use Rattle.tml_span.specs.Units.{PlainUnit}
 use Rattle.tml_span.specs.View.{unit_of}
 use Rattle.tml_span.specs.Whole.{IsWhole}
-use Rattle.tml_span.proofs.Pulling.{all_given, none_given}
+use Rattle.tml_span.proofs.Dividing.{all_given, none_given}
 use Rattle.faults.specs.declared.kind.FaultKind.TheVariants as fault
 use Rattle.tml_tree.specs.declared.whole.TreeFault.{TreeFault}
 use Rattle.tml_tree.specs.declared.whole.TreeFault.TheVariants as tree
@@ -37,7 +37,7 @@ left_past_unit source r h before left u (tree.TooDeep place) e reading d refuses
 left_past_unit source r h before left u tree.Memory e reading d refuses = (e, reading)
 
 -- the fault of all units is that of their source
-units_fault : (source : List ℕ) (units : List PlainUnit) (f : TreeFault) → IsWhole (record { source = source; units = units }) → UnitsFault (length source) units f → HasTreeFault source f
+pub units_fault : (source : List ℕ) (units : List PlainUnit) (f : TreeFault) → IsWhole (record { source = source; units = units }) → UnitsFault (length source) units f → HasTreeFault source f
 units_fault source units f whole h = elim (kind_and_place f) as (λ o. IfSome o (λ q. FaultOf (length source) units q.1 q.0) → IfSome o (λ q. UnitsFaultAt source q.1 q.0)) [
   | None ↦ λ k. tt
   | Some q ↦ λ k. (units, whole, k)

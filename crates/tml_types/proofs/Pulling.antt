@@ -1,14 +1,17 @@
 -- Tags that are typed one after another, as the units that begin them are pulled.
-use Rattle.std.proofs.Common.{◌≡◌, ℕ, true, false, List, [], ◌∷◌, ◌++◌, append-nil, length, map, refl, sym, ap, subst, ◌∙◌, inr, Option, Some, None, Ok, ◌<◌, arith}
+use Rattle.std.proofs.Common.{◌≡◌, ℕ, true, false, List, [], ◌∷◌, ◌++◌, append-nil, append_assoc, length, map, refl, sym, ap, subst, ◌∙◌, inr, Option, Some, None, Ok, Err, ◌<◌, arith}
 use Rattle.std.specs.List.{cons_option}
 use Rattle.std.specs.Option.{option_to_list}
 use Rattle.std.proofs.lemmas.List.Elements.{All-append, All-nil, filter_map-append}
+use Rattle.tml_span.specs.declared.fault.Cut as cuts
 use Rattle.tml_span.specs.declared.unit.Unit.{Unit}
-use Rattle.tml_span.specs.Reader.{Reading, Gives, IsReading}
+use Rattle.tml_span.specs.Cutter.{BeginsCut, CutsOn}
+use Rattle.tml_span.specs.Faults.{HasFault as HasCutFault}
+use Rattle.tml_span.specs.Reader.{Reading}
 use Rattle.tml_span.specs.Units.{PlainUnit}
 use Rattle.tml_span.specs.View.{unit_of}
-use Rattle.tml_span.specs.Whole.{IsWhole}
-use Rattle.tml_span.proofs.Pulling.{all_given, none_given}
+use Rattle.tml_span.specs.Whole.{CutsWhole, IsWhole}
+use Rattle.tml_span.proofs.Pulling.{left_units, some_cut}
 use Rattle.tml_tree.specs.declared.whole.TreeFault.{TreeFault}
 use Rattle.tml_tree.specs.declared.whole.TreeFault.TheVariants as tree
 use Rattle.tml_tree.specs.Judging.{HavePassed, Passes, Refuses, no_history}
@@ -19,15 +22,17 @@ use Rattle.tml_tree.specs.Walking.{PlainTag, tag_of, tags_of}
 use Rattle.tml_tree.specs.Whole.{HasTreeFault}
 use Rattle.tml_tree.proofs.Elements.{elements_are_tags}
 use Rattle.tml_tree.proofs.Passed.{passed_none}
-use Rattle.tml_tree.proofs.Passing.{passes_on, passed_unclosed, passed_whole}
-use Rattle.tml_tree.proofs.Pulling.{HasGiven as HasGivenUnits, source_fault}
+use Rattle.tml_tree.proofs.Passing.{passes_on, passed_unclosed, passed_whole, refused}
+use Rattle.tml_tree.proofs.Pulling.{units_fault}
+use Rattle.tml_types.specs.declared.tag_reader.SourceFault.{SourceFault}
+use Rattle.tml_types.specs.declared.tag_reader.SourceFault.TheVariants as faults
 use Rattle.tml_types.specs.declared.tag_reader.TagReader.{TagReader}
 use Rattle.tml_types.specs.declared.typed.TypedTag.{TypedTag}
 use Rattle.tml_types.specs.declared.walk.TypeFault.{TypeFault}
 use Rattle.tml_types.specs.Content.{PlainTyped}
 use Rattle.tml_types.specs.Places.{ArePlaced, IsPlaceSmall}
 use Rattle.tml_types.specs.Rules.{IsSound}
-use Rattle.tml_types.specs.TagReader.{AreTypedSo, HasGiven, HasRead, bytes_left, is_complete}
+use Rattle.tml_types.specs.TagReader.{AreTypedSo, HasGiven, HasRead, HasSourceFault, bytes_left, is_complete}
 use Rattle.tml_types.specs.View.{typed_of}
 use Rattle.tml_types.specs.Walking.{Yields}
 use Rattle.tml_types.specs.Whole.{HasFault, OfTree}
@@ -35,19 +40,16 @@ use Rattle.tml_types.proofs.Rising.{units_placed}
 use Rattle.tml_types.proofs.Walks.{fault_of_more, types_append}
 
 -- before the first unit
-pub nothing_read : (units : Reading) (h : History) → IsReading units → units.place ≡ 0 → h ≡ no_history → HasGiven units.source [] (record { units = units; nesting = h })
-nothing_read units h reading start e =
-    let none = none_given units reading start in
-    record {
-      source_is = refl;
-      given = [];
-      left = none.0;
-      divides = none.1;
-      open_tags = [];
-      nodes = [];
-      passed = subst (λ (g : History). HavePassed [] [] [] g) (sym e) passed_none;
-      known = (record { sound = All-nil IsSound; typed_tags = tt }, All-nil IsPlaceSmall);
-    }
+pub nothing_read : (source : List ℕ) (units : Reading) (h : History) → BeginsCut source units → h ≡ no_history → HasGiven source [] (record { units = units; nesting = h })
+nothing_read source units h begins e = record {
+  source_is = ap (λ (r : Reading). r.source) begins.0;
+  given = [];
+  cut = begins.1;
+  open_tags = [];
+  nodes = [];
+  passed = subst (λ (g : History). HavePassed [] [] [] g) (sym e) passed_none;
+  known = (record { sound = All-nil IsSound; typed_tags = tt }, All-nil IsPlaceSmall);
+}
 
 -- ---- one more unit
 
@@ -59,36 +61,42 @@ tags_more : (us : List PlainUnit) (u : PlainUnit) → tags_of us ++ option_to_li
 tags_more us u = ap (λ (ts : List PlainTag). tags_of us ++ ts) (sym (one_tag (tag_of u))) ∙ sym (filter_map-append tag_of us (u ∷ []))
 
 module _ {source : List ℕ} {Known : List PlainTag → Type 0} (old : TagReader) (h : HasRead source Known old) where
-  units_given : HasGivenUnits source (λ us. (tags : List OpenTag) × (nodes : List PlainNode) × HavePassed us tags nodes old.nesting) old.units
-  units_given = record { source_is = h.source_is; given = h.given; left = h.left; divides = h.divides; known = (h.open_tags, h.nodes, h.passed) }
-
-  module _ (units : Reading) (u : Unit) (gives : Gives old.units units (Ok (Some u))) where
+  module _ (units : Reading) (u : Unit) (gives : CutsOn old.units units (Ok (Some u))) where
     -- it passes
     pub reads_on : (More : List PlainTag → Type 0) (nesting : History) → Passes old.nesting (unit_of u).kind nesting → ((tags : List PlainTag) → Known tags → More (tags ++ option_to_list (tag_of (unit_of u))))
         → HasRead source More (record { units = units; nesting = nesting })
     reads_on More nesting passes more =
-        let next = gives.4 h.given h.left h.divides in
         let p = passes_on h.given (unit_of u) h.open_tags h.nodes old.nesting nesting h.passed passes in
         record {
           source_is = gives.0 ∙ h.source_is;
           given = h.given ++ unit_of u ∷ [];
-          left = next.0;
-          divides = next.2;
+          cut = gives.4 h.given h.cut;
           open_tags = p.0.tags;
           nodes = p.0.nodes;
           passed = p.1;
           known = subst More (tags_more h.given (unit_of u)) (more (tags_of h.given) h.known);
         }
 
-    -- or is the fault of the source
-    pub unit_fault : (f : TreeFault) → Refuses old.nesting (unit_of u).kind (unit_of u).start f → HasTreeFault source f
-    unit_fault f refuses = source_fault u units_given gives old.nesting f (λ given known. known) refuses
+    -- or is refused: what is found then is the fault of the source
+    pub unit_fault : (f : TreeFault) (found : SourceFault) → Refuses old.nesting (unit_of u).kind (unit_of u).start f
+        → ((CutsWhole units.source → HasTreeFault units.source f) → HasSourceFault units.source found) → HasSourceFault source found
+    unit_fault f found refuses finds =
+        let all : CutsWhole units.source → HasTreeFault units.source f = λ whole.
+            let left = left_units units (h.given ++ unit_of u ∷ []) whole (gives.4 h.given h.cut) in
+            let cut = subst (λ (us : List PlainUnit). IsWhole (record { source = units.source; units = us })) (append_assoc h.given (unit_of u ∷ []) left.0) left.1 in
+            units_fault units.source (h.given ++ unit_of u ∷ left.0) f cut (refused (length units.source) h.given left.0 (unit_of u) h.open_tags h.nodes old.nesting _ h.passed refuses)
+        in
+        subst (λ (bytes : List ℕ). HasSourceFault bytes found) (gives.0 ∙ h.source_is) (finds all)
+
+  -- ---- no unit, since the source has a fault of the cut
+  pub cut_fault : (units : Reading) (cut : cuts.Cut) → CutsOn old.units units (Err cut) → HasSourceFault source (faults.Cut cut)
+  cut_fault units cut gives = subst (λ (bytes : List ℕ). HasCutFault bytes cut) h.source_is gives.1
 
   -- ---- no more units
 
-  module _ (units : Reading) (gives : Gives old.units units (Ok None)) where
+  module _ (units : Reading) (gives : CutsOn old.units units (Ok None)) where
     whole : IsWhole (record { source = source; units = h.given })
-    whole = subst (λ (bytes : List ℕ). IsWhole (record { source = bytes; units = h.given })) h.source_is (all_given old.units h.given h.left (gives.2 h.given h.left h.divides) h.divides)
+    whole = subst (λ (bytes : List ℕ). IsWhole (record { source = bytes; units = h.given })) h.source_is (gives.2 h.given h.cut)
 
     -- where the root was seen whole, what is known of the tags of the units is known of those of the tree
     pub whole_read : is_complete old.nesting ≡ true → OfTree source Known
@@ -131,8 +139,10 @@ fault_stays f more tags h = fault_of_more [] tags more (tags ++ more) f refl (Al
 
 -- the typed tags that a reader has given are at places that rise
 pub given_placed : (source : List ℕ) (typed : List PlainTyped) (r : TagReader) → HasGiven source typed r → ArePlaced typed
-given_placed source typed r h = units_placed r.units.source h.given h.left typed h.divides.whole.1 h.known.0.typed_tags h.known.1
+given_placed source typed r h =
+    let some = some_cut r.units h.given h.cut in
+    units_placed r.units.source some.1 h.given some.0 typed some.2 h.known.0.typed_tags h.known.1
 
 -- where a unit is pulled fewer bytes are left
-pub fewer_left : (old : TagReader) (units : Reading) (nesting : History) (u : Unit) → Gives old.units units (Ok (Some u)) → bytes_left (record { units = units; nesting = nesting }) < bytes_left old
+pub fewer_left : (old : TagReader) (units : Reading) (nesting : History) (u : Unit) → CutsOn old.units units (Ok (Some u)) → bytes_left (record { units = units; nesting = nesting }) < bytes_left old
 fewer_left old units nesting u gives = let e : length units.source ≡ length old.units.source = ap length gives.0 in omega (arith, e, gives.1, gives.2)

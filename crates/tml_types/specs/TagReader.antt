@@ -2,7 +2,8 @@
 use Rattle.std.specs.Prelude.{◌≡◌, ◌<◌, ◌-◌, ◌&&◌, ℕ, Bool, false, List, [], ◌∷◌, ◌++◌, length, Option, Some, None, Result, Ok, Err, ⊤}
 use Rattle.std.specs.List.{All}
 use Rattle.faults.specs.declared.kind.FaultKind.{FaultKind}
-use Rattle.tml_span.specs.Reader.{Divides}
+use Rattle.tml_span.specs.Cutter.{HasCut}
+use Rattle.tml_span.specs.Faults.{HasFault as HasCutFault, cut_kind_and_place}
 use Rattle.tml_span.specs.Units.{PlainUnit}
 use Rattle.tml_tree.specs.declared.whole.TreeFault.{TreeFault}
 use Rattle.tml_tree.specs.declared.whole.TreeFault.TheVariants as tree
@@ -14,7 +15,7 @@ use Rattle.tml_tree.specs.Walking.{PlainTag, tags_of}
 use Rattle.tml_tree.specs.Whole.{HasTreeFault, kind_and_place as tree_kind_and_place}
 use Rattle.tml_types.specs.declared.tag_reader.Begun.{Begun}
 use Rattle.tml_types.specs.declared.tag_reader.SourceFault.{SourceFault}
-use Rattle.tml_types.specs.declared.tag_reader.SourceFault.TheVariants.{Tree, Tag}
+use Rattle.tml_types.specs.declared.tag_reader.SourceFault.TheVariants.{Cut, Tree, Tag}
 use Rattle.tml_types.specs.declared.tag_reader.TagReader.{TagReader}
 use Rattle.tml_types.specs.declared.typed.TypedTag.{TypedTag}
 use Rattle.tml_types.specs.declared.walk.TypeFault.{TypeFault}
@@ -27,11 +28,13 @@ use Rattle.tml_types.specs.Whole.{HasFault, OfTree, Types, kind_and_place}
 
 -- the kind and the place of a fault; out of memory has none
 abbrev pub source_kind_and_place : SourceFault → Option (FaultKind × ℕ)
+source_kind_and_place (Cut cut) = cut_kind_and_place cut
 source_kind_and_place (Tree fault) = tree_kind_and_place fault
 source_kind_and_place (Tag fault) = kind_and_place fault
 
--- the fault of a source: that of its units, or where they make a tree that of the tags of the tree
+-- the fault of a source: that of its cut, or where it has none that of its units, or where they make a tree that of the tags of the tree
 abbrev pub HasSourceFault : List ℕ → SourceFault → Type 0
+HasSourceFault source (Cut cut) = HasCutFault source cut
 HasSourceFault source (Tree fault) = HasTreeFault source fault
 HasSourceFault source (Tag fault) = OfTree source (λ tags. HasFault tags fault)
 
@@ -43,8 +46,7 @@ begun_tag b = tag_at b.of.place b.name (attrs_of b.of)
 pub record HasRead (source : List ℕ) (Known : List PlainTag → Type 0) (r : TagReader) : Type 0 where
   pub source_is : r.units.source ≡ source
   pub given : List PlainUnit
-  pub left : List PlainUnit
-  pub divides : Divides r.units given left
+  pub cut : HasCut r.units given
   pub open_tags : List OpenTag
   pub nodes : List PlainNode
   pub passed : HavePassed given open_tags nodes r.nesting

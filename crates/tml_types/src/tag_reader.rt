@@ -1,10 +1,13 @@
 //! The typed tags of a source, one by one, as its units are pulled: no tree is built.
-ghost use Rattle.std.specs.Prelude.{◌≡◌, [], true, IfOk, IfErr, OnOk, option_map};
+ghost use Rattle.std.specs.Prelude.{◌≡◌, ◌<◌, ◌^◌, [], true, length, IfOk, IfErr, OnOk, option_map};
+ghost use Rattle.tml_span.specs.Faults.{HasFault as HasCutFault, HasPlainFault};
 ghost use Rattle.tml_span.specs.View.{unit_of};
+ghost use Rattle.tml_span.specs.Whole.{CutsWhole};
 ghost use Rattle.tml_tree.specs.Judging.{Passes, Refuses};
 ghost use Rattle.tml_tree.specs.Walking.{tag_of};
+ghost use Rattle.tml_tree.specs.Whole.{HasTreeFault};
 ghost use Rattle.tml_types.specs.TagReader as tag_reader;
-ghost use Rattle.tml_types.specs.TagReader.{FaultsWith, Gives, HasGiven, IsUnclosed, MovesOn, begun_tag, is_complete};
+ghost use Rattle.tml_types.specs.TagReader.{FaultsWith, Gives, HasGiven, HasSourceFault, IsUnclosed, MovesOn, begun_tag, is_complete};
 
 use crate::TypeFault;
 use crate::attributes::Attributes;
@@ -12,13 +15,15 @@ use crate::typed::TypedTag;
 use crate::typing::type_one;
 use faults::FaultKind;
 use std::alloc::Global;
-use tml_span::{Memory, Unit, UnitReader};
+use tml_span::{Cut, Cutter, PlainCut, Unit, cut_of};
 use tml_tree::{Nesting, TagName, TreeFault};
 
-/// Why a source that has no fault of the cut has no typed tags.
+/// Why a source has no typed tags.
 #[derive(Clone, Copy)]
 pub enum SourceFault {
-    /// Its units make no tree.
+    /// It is not cut into units whole.
+    Cut(Cut),
+    /// It is, and its units make no tree.
     Tree(TreeFault),
     /// They do, and a tag is at fault.
     Tag(TypeFault),
@@ -30,6 +35,7 @@ impl SourceFault {
         ensures { result ≡ tag_reader.source_kind_and_place self }
     {
         match self {
+            SourceFault::Cut(cut) => cut.kind_and_place(),
             SourceFault::Tree(fault) => fault.kind_and_place(),
             SourceFault::Tag(fault) => fault.kind_and_place(),
         }
@@ -39,31 +45,37 @@ impl SourceFault {
 /// Gives the typed tags of a source one by one, in document order, as its units are read.
 #[derive(Drop)]
 pub struct TagReader<'s> {
-    units: UnitReader<'s>,
+    units: Cutter<'s>,
     nesting: Nesting,
 }
 
 impl<'s> TagReader<'s> {
-    /// Before the first tag of a reader that has given no unit. It takes no memory.
-    pub fn new(alloc: Global, units: UnitReader<'s>) -> TagReader<'s>
-        requires { units.place ≡ 0 }
-        ensures { HasGiven units.entry.source [] result }
-    {
-        // The clauses of this call say that the source is cut into units without a fault, as that of every reader.
-        let _source = units.source();
-        TagReader {
-            units,
-            nesting: Nesting::new(alloc),
-        }
-    }
-
-    /// The next typed tag. None comes where all were given: then the units make a tree, and no tag of it is at fault.
+    /// Before the first tag of a source of fewer than 2^32 bytes. It takes no memory.
     ///
     /// # Errors
     ///
-    /// The fault that `tree_from` gives for the units of the source, and only where they make a tree the one that
-    /// `type_tags` gives for its tags: a fault of the tree anywhere comes before any fault of a tag. `Memory` may come
-    /// at any place. After a fault nothing is said of the reader.
+    /// The fault of the source, where it is not UTF-8.
+    pub fn new(alloc: Global, source: &'s [u8]) -> Result<TagReader<'s>, PlainCut>
+        requires { length source.now < 2 ^ 32 }
+        ensures ok { IfOk result (HasGiven source.now []) }
+        ensures err { IfErr result (λ e. HasPlainFault source.now e) }
+    {
+        let units = Cutter::new(source)?;
+        Ok(TagReader {
+            units,
+            nesting: Nesting::new(alloc),
+        })
+    }
+
+    /// The next typed tag. None comes where all were given: then the source has no fault of the cut, its units make a
+    /// tree, and no tag of it is at fault.
+    ///
+    /// # Errors
+    ///
+    /// The fault that `reader` gives for the source; only where it has none the one that `tree_from` gives for its units,
+    /// and only where they make a tree the one that `type_tags` gives for its tags: a fault of the cut anywhere comes
+    /// before any fault of the tree, and that before any fault of a tag. So what is left is looked at where a unit is
+    /// refused or a tag is at fault. `Memory` may come at any place. After a fault nothing is said of the reader.
     pub fn pull(&mut self, alloc: Global) -> Result<Option<TypedTag<'s>>, SourceFault>
         ensures gives { Gives self.old self.new result }
         ensures moves { MovesOn self.old self.new result }
@@ -77,11 +89,11 @@ impl<'s> TagReader<'s> {
                         Err(unclosed) => Err(SourceFault::Tree(unclosed)),
                     };
                 }
-                Err(Memory) => return Err(SourceFault::Tree(TreeFault::Memory)),
+                Err(cut) => return Err(SourceFault::Cut(cut)),
             };
             let begun = match judge(&mut self.nesting, &unit) {
                 Ok(begun) => begun,
-                Err(fault) => return Err(SourceFault::Tree(fault)),
+                Err(fault) => return Err(self.refusal(fault)),
             };
             if let Some(tag) = begun {
                 match type_one(alloc, tag.name, tag.of) {
@@ -93,7 +105,24 @@ impl<'s> TagReader<'s> {
         }
     }
 
-    /// The fault of a source with a tag at fault: that of its units, where one of those that are left has one.
+    /// What is answered out of memory: the fault of the cut, where the source has one, comes before that.
+    pub fn out_of_memory(&self) -> Cut
+        ensures { HasCutFault self.now.units.source result }
+    {
+        self.units.out_of_memory()
+    }
+
+    /// The fault of a source of which a unit was refused: that of its cut, where it has one.
+    fn refusal(&self, fault: TreeFault) -> SourceFault
+        ensures { (CutsWhole self.now.units.source → HasTreeFault self.now.units.source fault) → HasSourceFault self.now.units.source result }
+    {
+        match self.units.check() {
+            Ok(()) => SourceFault::Tree(fault),
+            Err(cut) => SourceFault::Cut(cut_of(cut)),
+        }
+    }
+
+    /// The fault of a source with a tag at fault: that of its cut or of its units, where one of those that are left has one.
     fn fault_with(&mut self, alloc: Global, fault: TypeFault) -> SourceFault
         ensures { FaultsWith self.old fault result }
     {
@@ -101,7 +130,7 @@ impl<'s> TagReader<'s> {
             match self.units.pull(alloc) {
                 Ok(Some(unit)) => {
                     if let Err(refused) = judge(&mut self.nesting, &unit) {
-                        return SourceFault::Tree(refused);
+                        return self.refusal(refused);
                     }
                 }
                 Ok(None) => {
@@ -110,7 +139,7 @@ impl<'s> TagReader<'s> {
                         Err(unclosed) => SourceFault::Tree(unclosed),
                     };
                 }
-                Err(Memory) => return SourceFault::Tree(TreeFault::Memory),
+                Err(cut) => return SourceFault::Cut(cut),
             }
         }
     }

@@ -1,31 +1,40 @@
-use Rattle.std.proofs.Common.{[], refl, ap, ◌∙◌}
+use Rattle.std.proofs.Common.{◌≡◌, ◌++◌, [], ap, arith, ◌∙◌}
+use Rattle.std.proofs.lemmas.Grind.{common_steps}
 use Rattle.tml_span.specs.Reader.{Reading}
 use Rattle.tml_span.specs.View.{unit_of}
+use Rattle.document_answers.specs.Spans as texts
 use Rattle.document_answers.proofs.UnitTables.{one_more}
 use Rattle.document_answers.proofs.spans.unit_table.Goals as goal
 
 pub loop-unit-init : goal.loop-unit-init
-loop-unit-init c =
-    let start = ap (λ (r : Reading). r.place) c.requires.0 in
-    record { source = refl; rows = ([], c.requires.1.0, record { whole = c.requires.1.1; place = start }, c.new-table.ensures.items) }
+loop-unit-init c = record { source = ap (λ (r : Reading). r.source) c.in-Ok.ensures.ok.0; rows = ([], c.in-Ok.ensures.ok.1, c.new-table.ensures.items) }
 
-pub loop-unit-preserved-in_ok-push_unit-in-Ok-Some : goal.loop-unit-preserved-in_ok-push_unit-in-Ok-Some
-loop-unit-preserved-in_ok-push_unit-in-Ok-Some c =
-    let gives = rw c.in-Ok-Some.field-0-is at c.in-Ok-Some.ensures.gives in record {
+pub loop-unit-preserved-else-is_err : goal.loop-unit-preserved-else-is_err
+loop-unit-preserved-else-is_err c =
+    let gives = rw c.in-Ok-Some.field-0-is at c.in-Ok-Some.ensures in
+    let unit = unit_of c.in-Ok-Some.unit in
+    let lines : c.push_unit.new.out.items ≡ c.loop-unit.table.items ++ texts.unit_lines unit = grind (arith, common_steps, c.push_unit.ensures, c.if-is_err.ensures.value) in
+    record {
       source = gives.0 ∙ c.loop-unit.invariant.source;
-      rows = one_more c.loop-unit.reader c.pull.new.self c.loop-unit.table.items _ (unit_of c.in-Ok-Some.unit) gives.4 c.loop-unit.invariant.rows c.in_ok-push_unit-in-Ok-Some.ensures;
+      rows = one_more c.loop-unit.cutter c.pull.new.self c.loop-unit.table.items c.push_unit.new.out.items unit gives.4 c.loop-unit.invariant.rows lines;
     }
 
-pub loop-unit-preserved-in_ok-push_unit-in-Ok-Some-2 : goal.loop-unit-preserved-in_ok-push_unit-in-Ok-Some-2
-loop-unit-preserved-in_ok-push_unit-in-Ok-Some-2 c =
-    let gives = rw c.in-Ok-Some.field-0-is at c.in-Ok-Some.ensures.gives in record {
+pub loop-unit-preserved-else-is_err-2 : goal.loop-unit-preserved-else-is_err-2
+loop-unit-preserved-else-is_err-2 c =
+    let gives = rw c.in-Ok-Some.field-0-is at c.in-Ok-Some.ensures in
+    let unit = unit_of c.in-Ok-Some.unit in
+    let lines : c.push_unit.new.out.items ≡ c.loop-unit.table.items ++ texts.unit_lines unit = grind (arith, common_steps, c.push_unit.ensures, c.if-is_err.ensures.value) in
+    record {
       source = gives.0 ∙ c.loop-unit.invariant.source;
-      rows = one_more c.loop-unit.reader c.pull.new.self c.loop-unit.table.items _ (unit_of c.in-Ok-Some.unit) gives.4 c.loop-unit.invariant.rows c.in_ok-push_unit-in-Ok-Some.ensures;
+      rows = one_more c.loop-unit.cutter c.pull.new.self c.loop-unit.table.items c.push_unit.new.out.items unit gives.4 c.loop-unit.invariant.rows lines;
     }
 
 pub loop-unit-preserved : goal.loop-unit-preserved
 loop-unit-preserved c =
-    let gives = rw c.in-Ok-Some.field-0-is at c.in-Ok-Some.ensures.gives in record {
+    let gives = rw c.in-Ok-Some.field-0-is at c.in-Ok-Some.ensures in
+    let unit = unit_of c.in-Ok-Some.unit in
+    let lines : c.push_unit.new.out.items ≡ c.loop-unit.table.items ++ texts.unit_lines unit = grind (arith, common_steps, c.push_unit.ensures, c.if-is_err.ensures.value) in
+    record {
       source = gives.0 ∙ c.loop-unit.invariant.source;
-      rows = one_more c.loop-unit.reader c.pull.new.self c.loop-unit.table.items _ (unit_of c.in-Ok-Some.unit) gives.4 c.loop-unit.invariant.rows c.in_ok-push_unit-in-Ok-Some.ensures;
+      rows = one_more c.loop-unit.cutter c.pull.new.self c.loop-unit.table.items c.push_unit.new.out.items unit gives.4 c.loop-unit.invariant.rows lines;
     }

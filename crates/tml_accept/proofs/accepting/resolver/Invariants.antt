@@ -6,7 +6,7 @@ use Rattle.tml_accept.proofs.accepting.resolver.Given as goal
 
 -- what was given was taken
 abbrev pub invariant-loop-tag : goal.invariant-loop-tag
-invariant-loop-tag l = (typed : List PlainTyped) × HasTaken typed l.resolver × HasGiven l.fn.units.source typed l.tags
+invariant-loop-tag l = (typed : List PlainTyped) × HasTaken typed l.resolver × HasGiven l.fn.doc typed l.tags
 
 abbrev pub decreases-loop-tag : goal.decreases-loop-tag
 decreases-loop-tag l = bytes_left l.tags

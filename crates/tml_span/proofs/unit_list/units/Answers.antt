@@ -5,7 +5,7 @@ use Rattle.tml_span.specs.Units.{PlainUnit}
 use Rattle.tml_span.specs.Reader.{Divides}
 use Rattle.tml_span.specs.Slices.{UnitIsIn}
 use Rattle.tml_span.specs.View.{unit_of}
-use Rattle.tml_span.proofs.Pulling.{all_given}
+use Rattle.tml_span.proofs.Dividing.{all_given}
 use Rattle.tml_span.proofs.SlicesIn.{units_are_in}
 use Rattle.tml_span.proofs.unit_list.units.Goals as goal
 

@@ -1,5 +1,5 @@
 use Rattle.tml_types.proofs.Pulling.{nothing_read}
 use Rattle.tml_types.proofs.tag_reader.TagReader.new.Goals as goal
 
-pub returns : goal.returns
-returns c = nothing_read c.args.units c.new.result c.source-source.ensures.reading c.requires c.new.ensures
+pub returns-clause-ok : goal.returns-clause-ok
+returns-clause-ok c = nothing_read c.args.source.now _ _ c.in_ok-units.ensures.ok c.new-2.ensures

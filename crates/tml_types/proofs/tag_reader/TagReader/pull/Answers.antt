@@ -4,29 +4,32 @@ use Rattle.tml_tree.specs.Walking.{PlainTag, tag_of}
 use Rattle.tml_types.specs.TagReader.{AreTypedSo, begun_tag}
 use Rattle.tml_types.specs.View.{typed_of}
 use Rattle.tml_types.specs.Whole.{HasFault}
-use Rattle.tml_types.proofs.Pulling.{fault_comes, fewer_left, given_placed, no_tag, reads_on, typed_more, typed_same, unclosed_read, unit_fault, whole_read}
+use Rattle.tml_types.proofs.Pulling.{fault_comes, fewer_left, given_placed, no_tag, reads_on, typed_more, typed_same, cut_fault, unclosed_read, unit_fault, whole_read}
 use Rattle.tml_types.proofs.tag_reader.TagReader.pull.Goals as goal
 use Rattle.tml_types.proofs.tag_reader.TagReader.pull.Goals.{in-Some+in-Ok-None-type_one, in_default}
 
 pub returns-in-Ok-clause-gives : goal.returns-in-Ok-clause-gives
 returns-in-Ok-clause-gives c = λ source typed given.
-    let gives = rw c.in-Ok-None.field-0-is at c.in-Ok-None.ensures.gives in
+    let gives = rw c.in-Ok-None.field-0-is at c.in-Ok-None.ensures in
     let tree = whole_read c.loop-unit.self (c.loop-unit.invariant.stays source typed given) c.pull.new.self gives c.in-Ok.ensures.ok in
     (tree.0, tree.1, tree.2.0)
 
 pub returns-in-Err-end-clause-gives : goal.returns-in-Err-end-clause-gives
 returns-in-Err-end-clause-gives c = λ source typed given.
-    let gives = rw c.in-Ok-None.field-0-is at c.in-Ok-None.ensures.gives in
+    let gives = rw c.in-Ok-None.field-0-is at c.in-Ok-None.ensures in
     rw c.in-Err-end.ensures.err.0 (unclosed_read c.loop-unit.self (c.loop-unit.invariant.stays source typed given) c.pull.new.self gives c.in-Err-end.ensures.err.1)
+
+pub returns-in-Err-clause-gives : goal.returns-in-Err-clause-gives
+returns-in-Err-clause-gives c = λ source typed given. cut_fault c.loop-unit.self (c.loop-unit.invariant.stays source typed given) c.pull.new.self c.in-Err.cut c.in-Err.ensures
 
 pub returns-in-Err-judge-clause-gives : goal.returns-in-Err-judge-clause-gives
 returns-in-Err-judge-clause-gives c = λ source typed given.
-    let gives = rw c.in-Ok-Some.field-0-is at c.in-Ok-Some.ensures.gives in
-    unit_fault c.loop-unit.self (c.loop-unit.invariant.stays source typed given) c.pull.new.self c.in-Ok-Some.unit gives c.in-Err-judge.fault c.in-Err-judge.ensures.err
+    let gives = rw c.in-Ok-Some.field-0-is at c.in-Ok-Some.ensures in
+    unit_fault c.loop-unit.self (c.loop-unit.invariant.stays source typed given) c.pull.new.self c.in-Ok-Some.unit gives c.in-Err-judge.fault c.refusal.result c.in-Err-judge.ensures.err c.refusal.ensures
 
 pub returns-in-Ok-Some-type_one-clause-gives : goal.returns-in-Ok-Some-type_one-clause-gives
 returns-in-Ok-Some-type_one-clause-gives c = λ source typed given.
-    let gives = rw c.in-Ok-Some.field-0-is at c.in-Ok-Some.ensures.gives in
+    let gives = rw c.in-Ok-Some.field-0-is at c.in-Ok-Some.ensures in
     let begun = ap (option_map begun_tag) (sym c.in-Some.is) ∙ c.in-Ok-judge.ensures.begun in
     let yields = rw c.in-Ok-Some-type_one.field-0-is at c.in-Ok-Some-type_one.ensures.ok in
     let t = c.in-Ok-Some-type_one.typed in
@@ -36,7 +39,7 @@ returns-in-Ok-Some-type_one-clause-gives c = λ source typed given.
 
 pub returns-in-Err-type_one-clause-gives : goal.returns-in-Err-type_one-clause-gives
 returns-in-Err-type_one-clause-gives c = λ source typed given.
-    let gives = rw c.in-Ok-Some.field-0-is at c.in-Ok-Some.ensures.gives in
+    let gives = rw c.in-Ok-Some.field-0-is at c.in-Ok-Some.ensures in
     let begun = ap (option_map begun_tag) (sym c.in-Some.is) ∙ c.in-Ok-judge.ensures.begun in
     let fault = c.in-Err-type_one.fault in
     let comes = fault_comes typed (begun_tag c.in-Some.tag) fault (tag_of (unit_of c.in-Ok-Some.unit)) begun c.in-Err-type_one.ensures.err in
@@ -45,7 +48,7 @@ returns-in-Err-type_one-clause-gives c = λ source typed given.
 
 pub loop-unit-preserved-after-begun : goal.loop-unit-preserved-after-begun
 loop-unit-preserved-after-begun c =
-    let gives = rw c.in-Ok-Some.field-0-is at c.in-Ok-Some.ensures.gives in
+    let gives = rw c.in-Ok-Some.field-0-is at c.in-Ok-Some.ensures in
     let tag = tag_of (unit_of c.in-Ok-Some.unit) in
     let fewer = fewer_left c.loop-unit.self c.pull.new.self c.judge.new.nesting c.in-Ok-Some.unit gives in
     record {
@@ -59,7 +62,7 @@ loop-unit-preserved-after-begun c =
 
 pub loop-unit-preserved-after-begun-2 : goal.loop-unit-preserved-after-begun-2
 loop-unit-preserved-after-begun-2 c =
-    let gives = rw c.in-Ok-Some.field-0-is at c.in-Ok-Some.ensures.gives in
+    let gives = rw c.in-Ok-Some.field-0-is at c.in-Ok-Some.ensures in
     let tag = tag_of (unit_of c.in-Ok-Some.unit) in
     let fewer = fewer_left c.loop-unit.self c.pull.new.self c.judge.new.nesting c.in-Ok-Some.unit gives in
     record {
@@ -73,7 +76,7 @@ loop-unit-preserved-after-begun-2 c =
 
 pub loop-unit-preserved : goal.loop-unit-preserved
 loop-unit-preserved c =
-    let gives = rw c.in-Ok-Some.field-0-is at c.in-Ok-Some.ensures.gives in
+    let gives = rw c.in-Ok-Some.field-0-is at c.in-Ok-Some.ensures in
     let tag = tag_of (unit_of c.in-Ok-Some.unit) in
     let fewer = fewer_left c.loop-unit.self c.pull.new.self c.judge.new.nesting c.in-Ok-Some.unit gives in
     record {

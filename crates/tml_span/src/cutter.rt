@@ -1,0 +1,127 @@
+//! A source cut into its units, and judged, as they are asked for.
+ghost use Rattle.std.specs.Prelude.{◌<◌, ◌^◌, ◌≡◌, length, drop, IfOk, IfErr, OnOk};
+ghost use Rattle.tml_span.specs.Cutter.{BeginsCut};
+ghost use Rattle.tml_span.specs.Faults.{HasPlainFault};
+
+use crate::Unit;
+use crate::check::check_units;
+use crate::fault::{Cut, PlainCut, cut_of};
+use crate::references::bad_reference_in;
+use crate::scan::unit_at;
+use std::alloc::Global;
+use std::marker::Model;
+
+/// Gives the units of a source one by one, from the first on, and looks at each once. The source has no fault up to the
+/// place; nothing is known of what follows. Contracts see the source and the place, as those of `UnitReader`.
+#[derive(Drop)]
+pub struct Cutter<'s> {
+    source: &'s [u8],
+    place: u32,
+}
+
+impl<'s> Model for Cutter<'s> {
+    ghost use Rattle.tml_span.specs.Cutter.{IsCutSoFar};
+    ghost use Rattle.tml_span.specs.Reader.{Reading};
+
+    ghost Value = { Reading };
+
+    ghost view = { λ a. record { source = a.source.now; place = a.place } };
+
+    ghost invariant = { λ a. IsCutSoFar (record { source = a.source.now; place = a.place }) };
+}
+
+impl<'s> Cutter<'s> {
+    ghost use Rattle.tml_span.specs.Cutter.{CutsOn, IsCutSoFar};
+    ghost use Rattle.tml_span.specs.Faults.{HasFault};
+    ghost use Rattle.tml_span.specs.Whole.{CutsWhole};
+
+    /// Looks at the bytes of a source of fewer than 2^32, which takes no memory. No unit was given.
+    ///
+    /// # Errors
+    ///
+    /// The fault of the source, where it is not UTF-8.
+    pub fn new(source: &'s [u8]) -> Result<Cutter<'s>, PlainCut>
+        requires { length source.now < 2 ^ 32 }
+        ensures ok { IfOk result (BeginsCut source.now) }
+        ensures err { IfErr result (λ e. HasPlainFault source.now e) }
+    {
+        match simdutf8::compat::from_utf8(source) {
+            Ok(_) => Ok(Cutter { source, place: 0 }),
+            Err(e) => Err(PlainCut::NotUtf8 {
+                place: e.valid_up_to() as u32,
+            }),
+        }
+    }
+
+    /// The end of the last unit that was given, or 0.
+    pub fn place(&self) -> u32
+        ensures place { result ≡ self.now.place }
+        ensures cut { IsCutSoFar self.now }
+    {
+        self.place
+    }
+
+    /// The source of the units.
+    pub fn source(&self) -> &'s [u8]
+        ensures source { result.now ≡ self.now.source }
+        ensures cut { IsCutSoFar self.now }
+    {
+        self.source
+    }
+
+    /// Looks at the units that are left and gives none, which takes no memory.
+    ///
+    /// # Errors
+    ///
+    /// The fault of the source, where it has one.
+    pub fn check(&self) -> Result<(), PlainCut>
+        ensures ok { OnOk result (CutsWhole self.now.source) }
+        ensures err { IfErr result (λ e. HasPlainFault self.now.source e) }
+    {
+        check_units(self.source, self.place)
+    }
+
+    /// The next unit. None comes exactly where all units were given, and again then: the source has no fault.
+    ///
+    /// # Errors
+    ///
+    /// The fault of the source, where at the place no unit begins, or one with a bad reference; out of memory that of
+    /// what follows, if it has one. The cutter is unchanged.
+    pub fn pull(&mut self, alloc: Global) -> Result<Option<Unit<'s>>, Cut>
+        ensures { CutsOn self.old self.new result }
+    {
+        let left = self.left();
+        let Ok(found) = unit_at(alloc, self.place, left) else {
+            return Err(self.out_of_memory());
+        };
+        let Some((unit, rest)) = found else {
+            if left.is_empty() {
+                return Ok(None);
+            }
+            return Err(Cut::BadMarkup { place: self.place });
+        };
+        if let Some(place) = bad_reference_in(&unit) {
+            return Err(Cut::BadReference { place });
+        }
+        self.place += (left.len() - rest.len()) as u32;
+        Ok(Some(unit))
+    }
+
+    /// What is answered out of memory: the fault of the source, where it has one, comes before that.
+    pub fn out_of_memory(&self) -> Cut
+        ensures { HasFault self.now.source result }
+    {
+        match self.check() {
+            Ok(()) => Cut::Memory,
+            Err(fault) => cut_of(fault),
+        }
+    }
+
+    /// What follows the place.
+    fn left(&self) -> &'s [u8]
+        ensures { result.now ≡ drop self.now.place self.now.source }
+    {
+        let (_, left) = self.source.split_at(self.place as usize);
+        left
+    }
+}
