@@ -82,9 +82,9 @@ module _ {source : List ℕ} {Known : List PlainTag → Type 0} (old : TagReader
         → ((CutsWhole units.source → HasTreeFault units.source f) → HasSourceFault units.source found) → HasSourceFault source found
     unit_fault f found refuses finds =
         let all : CutsWhole units.source → HasTreeFault units.source f = λ whole.
-            let left = left_units units (h.given ++ unit_of u ∷ []) whole (gives.4 h.given h.cut) in
-            let cut = subst (λ (us : List PlainUnit). IsWhole (record { source = units.source; units = us })) (append_assoc h.given (unit_of u ∷ []) left.0) left.1 in
-            units_fault units.source (h.given ++ unit_of u ∷ left.0) f cut (refused (length units.source) h.given left.0 (unit_of u) h.open_tags h.nodes old.nesting _ h.passed refuses)
+        let left = left_units units (h.given ++ unit_of u ∷ []) whole (gives.4 h.given h.cut) in
+        let cut = subst (λ (us : List PlainUnit). IsWhole (record { source = units.source; units = us })) (append_assoc h.given (unit_of u ∷ []) left.0) left.1 in
+        units_fault units.source (h.given ++ unit_of u ∷ left.0) f cut (refused (length units.source) h.given left.0 (unit_of u) h.open_tags h.nodes old.nesting _ h.passed refuses)
         in
         subst (λ (bytes : List ℕ). HasSourceFault bytes found) (gives.0 ∙ h.source_is) (finds all)
 
