@@ -22,7 +22,7 @@ EVENT = '<EVENT eid="e1" class="STATE">x</EVENT>'
 INSTANCE = '<MAKEINSTANCE eiid="i1" eventID="e1"/>'
 
 
-def forms():
+def forms() -> list[str]:
     """The lines of the usage text of the program; none where there is no program."""
     if not os.access(TML, os.X_OK):
         return []
@@ -35,7 +35,7 @@ needs_seconds = unittest.skipUnless("tml seconds DOC" in forms(), f"no program {
 needs_score = unittest.skipUnless("tml score DOC KEY" in forms(), f"no program {TML} that has the commands reduce and score")
 
 
-def document(inner):
+def document(inner: str) -> str:
     """A document with some tags on its second line."""
     return f"<TimeML>\n{inner}</TimeML>\n"
 
@@ -44,21 +44,21 @@ def document(inner):
 class CorpusTest(unittest.TestCase):
     """A test with a folder of its own, which is the current one of each run."""
 
-    def setUp(self):
+    def setUp(self) -> None:
         held = tempfile.TemporaryDirectory()
         self.addCleanup(held.cleanup)
         self.folder = held.name
 
-    def path(self, name):
+    def path(self, name: str) -> str:
         return os.path.join(self.folder, name)
 
-    def write(self, name, content):
+    def write(self, name: str, content: str | bytes) -> None:
         path = self.path(name)
         os.makedirs(os.path.dirname(path), exist_ok=True)
         with open(path, "wb") as file:
             file.write(content if isinstance(content, bytes) else content.encode())
 
-    def start(self, *words, tml=TML, python=sys.executable):
+    def start(self, *words: str, tml: str = TML, python: str = sys.executable) -> subprocess.Popen[bytes]:
         command, *rest = words
         return subprocess.Popen(
             [python, COMPANION, command, "--tml", tml, *rest],
@@ -69,13 +69,13 @@ class CorpusTest(unittest.TestCase):
             env={**os.environ, "PYTHONIOENCODING": "utf-8", "PYTHONDONTWRITEBYTECODE": "1"},
         )
 
-    def run_it(self, *words, tml=TML):
+    def run_it(self, *words: str, tml: str = TML) -> tuple[int, list[str], str]:
         """The status, the lines of standard output, and standard error."""
         child = self.start(*words, tml=tml)
         out, err = child.communicate(timeout=120)
         return child.returncode, out.decode("utf-8", "replace").splitlines(), err.decode("utf-8", "replace")
 
-    def notes(self, content, *words):
+    def notes(self, content: str | bytes, *words: str) -> list[str]:
         """The notes on a document, from line and column on."""
         self.write("d.xml", content)
         _, lines, _ = self.run_it("check", *words, "d.xml")

@@ -37,7 +37,7 @@ DATES = (
     '<TIMEX3 tid="t" type="DATE" value="1998-01-08">x</TIMEX3><TIMEX3 tid="u" type="DATE" value="1998-01-09" mod="MID"/>'
     '<TIMEX3 tid="v" type="SET"/>'
 )
-AB, BC, CA, AC = (f'<TLINK eventInstanceID="{x}" relatedToEventInstance="{y}" relType="BEFORE"/>' for x, y in ("ab", "bc", "ca", "ac"))
+AB, BC, CA, AC = (f'<TLINK eventInstanceID="{x}" relatedToEventInstance="{y}" relType="BEFORE"/>' for x, y in zip("abca", "bcac", strict=True))
 UNITS = "<?xml version='1.0'?><!DOCTYPE TimeML><!-- a --><TimeML b='\"' a=\"&amp;\">x<P></P ><!-- b --></TimeML>\n"
 FAULTY = {
     "NotUtf8": b"<TimeML>\xff</TimeML>",
@@ -248,7 +248,7 @@ class Refusing:
 
     def __init__(self, folder: Path, program: Path) -> None:
         library, self.tally = folder / "refused_memory.so", folder / "tally"
-        command = ["cc", "-shared", "-fPIC", "-O1", "-o", library, LIBRARY]
+        command = ["cc", "-shared", "-fPIC", "-O1", "-o", str(library), str(LIBRARY)]
         built = subprocess.run(command, capture_output=True, check=False)
         self.is_built = built.returncode == 0
         self.programs = Programs(program, {**os.environ, "LD_PRELOAD": str(library), "REFUSED_MEMORY": str(self.tally)})

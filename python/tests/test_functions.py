@@ -61,7 +61,7 @@ class Functions(CorpusTest):
 
     def test_names(self) -> None:
         with self.assertRaises(AttributeError):
-            tml_corpus.no_such_function  # type: ignore[attr-defined]
+            tml_corpus.no_such_function
 
 
 if __name__ == "__main__":

@@ -25,9 +25,11 @@ import subprocess
 import sys
 import tempfile
 import time
-from collections import Counter
+from collections import Counter, defaultdict
 from collections.abc import Iterator, Sequence
 from dataclasses import asdict, dataclass
+from heapq import nlargest
+from operator import itemgetter
 from pathlib import Path
 from types import ModuleType
 
@@ -109,15 +111,15 @@ def table(log: str) -> Iterator[str]:
     """The processor time by crate, the slowest first, as a table."""
     with open(log, encoding="utf-8") as lines:
         checks = [Check(**json.loads(line)) for line in lines]
-    seconds: Counter[tuple[str, str]] = Counter()
+    seconds: defaultdict[tuple[str, str], float] = defaultdict(float)
     edits: Counter[str] = Counter()
     for check in checks:
         seconds[check.crate, check.kind] += check.processor
         edits[check.crate] += check.kind == "edit"
-    whole = Counter({crate: sum(seconds[crate, kind] for kind in ("proof", "tests", "edit", "program")) for crate, _ in seconds})
+    whole = {crate: sum(seconds[crate, kind] for kind in ("proof", "tests", "edit", "program")) for crate, _ in list(seconds)}
     yield "| crate | proof | tests | edits: checks | edits: seconds | all |"
     yield "|---|---|---|---|---|---|"
-    for crate, total in whole.most_common():
+    for crate, total in sorted(whole.items(), key=itemgetter(1), reverse=True):
         proof = seconds[crate, "proof"] + seconds[crate, "program"]
         yield f"| {crate} | {proof:.0f} | {seconds[crate, 'tests']:.0f} | {edits[crate]} | {seconds[crate, 'edit']:.0f} | {total:.0f} |"
     kinds = [sum(check.processor for check in checks if check.kind in of) / 60 for of in (("proof", "program"), ("tests",), ("edit",))]
@@ -148,7 +150,7 @@ def modules_of(name: str) -> Iterator[tuple[str, float]]:
 
 def slowest(count: int, names: Sequence[str]) -> Iterator[str]:
     """The slowest functions and files of lemmas of some crates, as a table."""
-    seconds: Counter[str] = Counter()
+    seconds: defaultdict[str, float] = defaultdict(float)
     for name in names:
         for module, took in modules_of(name):
             folder, _, rest = module.partition(".")
@@ -156,7 +158,7 @@ def slowest(count: int, names: Sequence[str]) -> Iterator[str]:
             seconds[f"{name}: {what}"] += took
     yield "| function or file of lemmas | seconds |"
     yield "|---|---|"
-    yield from (f"| {what} | {took:.1f} |" for what, took in seconds.most_common(count))
+    yield from (f"| {what} | {took:.1f} |" for what, took in nlargest(count, seconds.items(), key=itemgetter(1)))
 
 
 def main(words: list[str]) -> int:

@@ -68,8 +68,15 @@ def parser() -> argparse.ArgumentParser:
     words.add_argument("--version", action="version", version=f"%(prog)s {VERSION}")
     words.add_argument("program", nargs="?", default=BUILT, metavar="PROGRAM", help="the program tml (default: crates/tml/out/tml)")
     words.add_argument("--library", metavar="ARCHIVE", help="make the packages of the library instead, from the archive of the crate tml_c")
-    words.add_argument("--output", default=".", metavar="FOLDER", help="the folder for the package, which is made where it is not there (default: this one)")
-    words.add_argument("--maintainer", metavar="TEXT", help="who maintains the package, as `Name <address>` (default: the author of the last commit)")
+    words.add_argument(
+        "--output",
+        default=".",
+        metavar="FOLDER",
+        help="the folder for the package, which is made where it is not there (default: this one)",
+    )
+    words.add_argument(
+        "--maintainer", metavar="TEXT", help="who maintains the package, as `Name <address>` (default: the author of the last commit)"
+    )
     return words
 
 

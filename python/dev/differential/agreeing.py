@@ -60,7 +60,7 @@ def further(case: Case, outcome: Outcome) -> list[Case]:
         return []
     _, document, first, second = case.words
     relation = next(iter(found.timelines), BASE_RELATIONS[0])
-    words = [(b"ask", document, first, one.encode(), second) for one in {relation: None, BASE_RELATIONS[-1]: None}]
+    words: list[tuple[bytes, ...]] = [(b"ask", document, first, one.encode(), second) for one in {relation: None, BASE_RELATIONS[-1]: None}]
     words += [(b"check", document), (b"matrix", document), (b"relations", document), (b"reduce", document), (b"score", document, document)]
     questions = [Case("agreed", one, case.files) for one in words]
     verified = Case("agreed", (b"verify", document, EVIDENCE), {**case.files, EVIDENCE: found.evidence()})

@@ -97,9 +97,9 @@ def change_parts(random: Random, text: bytes) -> bytes:
 def change_spelling(random: Random, text: bytes) -> bytes:
     """A number in another's place, or another word."""
     if chance(random, 0.3):
-        one = random.choice(list(re.finditer(rb"[A-Z_a-z-]{2,}", text)) or [None])
+        one = random.choice([*re.finditer(rb"[A-Z_a-z-]{2,}", text)] or (None,))
         return text if one is None else text[: one.start()] + random.choice(KEYWORDS) + text[one.end() :]
-    one = random.choice(list(re.finditer(rb"(?<= )-?[0-9]{1,20}(?=[ \n])", text)) or [None])
+    one = random.choice([*re.finditer(rb"(?<= )-?[0-9]{1,20}(?=[ \n])", text)] or (None,))
     if one is None:
         return text
     near = b"%d" % (int(one[0]) + random.choice((-1, 1)))

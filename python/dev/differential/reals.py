@@ -105,7 +105,7 @@ class Reals:
 
 def complaint(case: Case, outcome: Outcome) -> str | None:
     """What is wrong with a timeline, a clash, an answer to `ask` or lines of relations, by real numbers; nothing where z3 is missing."""
-    if not IS_THERE or outcome.status not in (0, CLASH) or case.words[:1] not in ((command,) for command in COMMANDS):
+    if not IS_THERE or outcome.status not in (0, CLASH) or not case.words or case.words[0] not in COMMANDS:
         return None
     document = case.files[case.words[1]]
     nodes = None if DECODED.search(document) else tree_of(document)

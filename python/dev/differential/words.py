@@ -64,7 +64,7 @@ def draw_possible(random: Random, document: bytes, right: bool = False) -> tuple
 
 def draw_ask(random: Random, document: bytes, right: bool = False) -> tuple[bytes, ...]:
     """A question for a relation, mostly between intervals of the document."""
-    names = NAME.findall(document) or [b"t1"]
+    names: list[bytes] = NAME.findall(document) or [b"t1"]
     others = [*OTHER_NAME.findall(document), b"", b"none", b"-", b"BEFORE", names[0] + b" ", names[0].upper(), b"0"]
 
     def name() -> bytes:

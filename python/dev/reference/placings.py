@@ -173,7 +173,8 @@ class Rounds:
         """The cycle that is met by going back from a point, which fell in as many rounds as there are points."""
         for _ in range(self.points):
             point, _ = self.step_to(point)
-        end, lines = point, []
+        end = point
+        lines: list[Line] = []
         while not lines or point != end:
             point, line = self.step_to(point)
             lines.append(line)

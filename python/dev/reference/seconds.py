@@ -29,7 +29,7 @@ class SecondsReading(Reading):
             raise BadLineError
         return int(found[1]), int(found[2])
 
-    def step(self) -> Line:
+    def cycle_line(self) -> Line:
         """Takes a line of a cycle."""
         forms = (b"via " + NUMBER + b" " + NUMBER, *(word + b" " + NUMBER for word in ONE_NUMBER))
         form, words = self.take(*forms)
@@ -43,7 +43,7 @@ class SecondsReading(Reading):
         if form == 0:
             found = Placing(tuple(second for _ in range(int(count)) for second in self.pair()))
         else:
-            found = Cycle(tuple(self.step() for _ in range(int(count))))
+            found = Cycle(tuple(self.cycle_line() for _ in range(int(count))))
         self.end()
         return found
 

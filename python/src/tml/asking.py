@@ -102,7 +102,11 @@ class Answer:
 
     def malformed(self) -> Malformed | None:
         """The bad line of evidence or of a text of seconds, where one has any."""
-        return read_malformed(self.text, "seconds" if self.command == "confirm" else "evidence") if self.status == TmlStatus.EVIDENCE_FAULT else None
+        return (
+            read_malformed(self.text, "seconds" if self.command == "confirm" else "evidence")
+            if self.status == TmlStatus.EVIDENCE_FAULT
+            else None
+        )
 
     def refusal(self) -> Malformed | Refused | None:
         """Why evidence or a text of seconds is not right, where it is not."""

@@ -131,7 +131,9 @@ def of_matrix(limits: Limits) -> int:
 def of_ask(limits: Limits) -> int:
     """Of a proof of four orders at most, or of a counterexample."""
     last = limits.intervals - 1
-    return of_claim(lengths([f"entails {last} {LONGEST_RELATION} {last}"]) + max(4 * of_walk(limits), of_timeline(limits)), of_clash(limits))
+    return of_claim(
+        lengths([f"entails {last} {LONGEST_RELATION} {last}"]) + max(4 * of_walk(limits), of_timeline(limits)), of_clash(limits)
+    )
 
 
 def of_possible(limits: Limits) -> int:

@@ -78,7 +78,8 @@ class Places:
         return part, 1 + len(characters(self.document[first : place.offset]))
 
     def marked(self, start: Place, end: Place) -> list[str]:
-        """The line where a stretch begins, and below it a mark under as much of the stretch as lies there; of a long line the part around it."""
+        """The line where a stretch begins, and below it a mark under as much of the stretch as lies there; of a long line the part
+        around it."""
         text, column = self.excerpt(start)
         return caret_lines(text, column, end.column - start.column if end.line == start.line else len(text))
 

@@ -99,7 +99,9 @@ def clash(document: File, by: Answerer | None = None) -> Clash | Fault | TooLong
     return answer.problem() or clash_of(answer)
 
 
-def ask(document: File, first: str, relation: str, second: str, by: Answerer | None = None) -> Proof | Counterexample | Clash | Fault | TooLong:
+def ask(
+    document: File, first: str, relation: str, second: str, by: Answerer | None = None
+) -> Proof | Counterexample | Clash | Fault | TooLong:
     """Whether a relation holds between two intervals in every timeline that fits: a proof, or a timeline in which it is false."""
     answer = answer_to(by, "ask", document, arguments=(first, relation, second))
     return answer.problem() or clash_of(answer) or read_proof(answer.text, Relation(first, relation, second), accepted_of(answer))

@@ -139,7 +139,8 @@ class Clash:
 
     @cached_property
     def spares(self) -> tuple[Mapping[str, Ranks], ...]:
-        """For each of the links a timeline in which the others are true. All of them may be long, so they are read once they are asked for."""
+        """For each of the links a timeline in which the others are true. All of them may be long, so they are read once they are asked
+        for."""
         lines = Evidence(self.evidence)
         lines.counted()
         lines.counted()

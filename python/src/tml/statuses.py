@@ -50,7 +50,8 @@ ORDERS = {
     "BEGINS": ("A0=B0", "B0=A0", "A1<B1"), "BEGUN_BY": ("A0=B0", "B0=A0", "B1<A1"), "ENDS": ("A1=B1", "B1=A1", "B0<A0"),
     "ENDED_BY": ("A1=B1", "B1=A1", "A0<B0"), "OVERLAPS": ("A0<B0", "B0<A1", "A1<B1"), "OVERLAPPED_BY": ("B0<A0", "A0<B1", "B1<A1"),
 }  # fmt: skip
-"""The orders of each relation between A and B, in the order of docs/DEFINITIONS.md: a start is 0 and an end is 1; `<` is before, and `=` no later."""
+"""The orders of each relation between A and B, in the order of docs/DEFINITIONS.md: a start is 0 and an end is 1; `<` is before, and
+`=` no later."""
 
 STRICT_ORDERS = {relation: tuple(place for place, order in enumerate(orders) if "<" in order) for relation, orders in ORDERS.items()}
 """The places of the orders of a relation that are strict; all others allow for equal points."""

@@ -90,7 +90,7 @@ def agree(documents: str, keys: str, *, links: bool = False, touching: bool = Fa
     """How far the links of two annotations agree: of two folders, or of two files."""
     with run_over((documents, keys), asked) as run:
         sides = sides_of(documents, keys)
-        pairs, corpus = find_pairs(sides, list(run.files.patterns)), Corpus()
+        pairs, corpus = find_pairs(sides, run.files.patterns), Corpus()
         reports = list(pair_reports(run, sides, pairs.found, Wanted(links, touching)))
         for one in reports:
             if one.scores is not None:

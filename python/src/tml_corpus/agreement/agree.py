@@ -103,7 +103,7 @@ class Pairs:
     not_counted: list[NotCounted]
 
 
-def find_pairs(sides: Sides, patterns: list[str]) -> Pairs:
+def find_pairs(sides: Sides, patterns: Sequence[str]) -> Pairs:
     """The files of two folders, paired by their names there; or two files."""
     if not sides.are_folders:
         return Pairs([Found(sides.documents)], [])

@@ -90,7 +90,9 @@ class Cluster:
         try:
             yield
         except (OSError, *CANCELLED) as error:
-            raise CannotRun(f"the cluster at {self.address} was lost or cancelled the tasks, so not all files were looked at ({error})") from None
+            raise CannotRun(
+                f"the cluster at {self.address} was lost or cancelled the tasks, so not all files were looked at ({error})"
+            ) from None
 
     def look(self) -> None:
         """Counts the threads of the workers, if that was long ago; where there is none, that is said once."""
@@ -135,7 +137,8 @@ class Cluster:
     def in_order(
         self, work: Work[Result], files: Sequence[Found], stop: Interruption, lost: Callable[[Found], Result], prepare: Callable[[], None]
     ) -> Iterator[Result]:
-        """The results of the files in their order. After an interruption those that are there are reported, and the other tasks cancelled."""
+        """The results of the files in their order. After an interruption those that are there are reported, and the other tasks
+        cancelled."""
         rest, self.prepare = iter(files), prepare
         waiting: deque[tuple[list[Found], Future]] = deque()
         with self.needed():
@@ -195,7 +198,8 @@ class Cluster:
     def one_by_one(
         self, work: Work[Result], batch: list[Found], others: list[Future], stop: Interruption, lost: Callable[[Found], Result]
     ) -> Iterator[Result]:
-        """The results of a batch with which workers were lost, each file alone, so that only the one that ends workers has it in its report.
+        """The results of a batch with which workers were lost, each file alone, so that only the one that ends workers has it in its
+        report.
 
         Nothing else is under way then: the scheduler blames all tasks that a lost worker had.
         """

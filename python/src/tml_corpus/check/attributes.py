@@ -19,7 +19,8 @@ from .faults import BAD_DATE, BAD_VALUE, CONFLICT, MISSING, REPEATED
 
 MORE_INTERVALS = "`tml-edit --overlaps` says it by more intervals, or leave the link out"
 OTHER_RELATIONS = {
-    "OVERLAP": "none of the sixteen says only that some time is shared: write OVERLAPS where the first one begins first and ends inside the "
+    "OVERLAP": "none of the sixteen says only that some time is shared: write OVERLAPS where the first one begins first "
+    "and ends inside the "
     f"second, OVERLAPPED_BY the other way round, or another one that is meant; {MORE_INTERVALS}; `tml possible` shows what is left open "
     "then",
     "BEFORE-OR-OVERLAP": f"none of the sixteen relations says it: {MORE_INTERVALS}",
@@ -100,7 +101,11 @@ def why_right(row: Row | None, value: str) -> str:
     """Why one of two values is the right one."""
     if row is None or row.form.kind is Kind.LISTED:
         return f"only {value} is a value that it may have"
-    return f"only {value} is referred to" if row.form.kind is Kind.IDENTIFIER else f"only {value} is {article(row.form.target)} {row.form.target}"
+    return (
+        f"only {value} is referred to"
+        if row.form.kind is Kind.IDENTIFIER
+        else f"only {value} is {article(row.form.target)} {row.form.target}"
+    )
 
 
 def missing(source: Source, tag: Unit, found: Explanation) -> None:
@@ -177,7 +182,10 @@ def wanted_identifier(source: Source, tag: Unit) -> tuple[str, str | None]:
     names = source.dangling(tag.name)
     if len(names) == 1:
         [(name, other)] = names.items()
-        return f"write {IDENTIFIERS[tag.name]}=\"{name}\", to which the {other.name} at {source.at(other.start)} refers and which no tag has", name
+        return (
+            f'write {IDENTIFIERS[tag.name]}="{name}", to which the {other.name} at {source.at(other.start)} refers and which no tag has',
+            name,
+        )
     if names:
         return f"one of {', '.join(islice(names, MOST_CHOICES))}, to which tags refer and which no tag has", None
     return f"an identifier that no other tag has, such as {source.fresh(tag.name)}", None
@@ -268,7 +276,9 @@ def conflict(source: Source, tag: Unit, found: Explanation) -> None:
         both = [one for name in pair for one in attributes_of(tag, name) if one.value(source.document)]
         if len(both) < 2:
             continue
-        unknown = [one for one, kind in zip(both, ("MAKEINSTANCE", "TIMEX3"), strict=False) if text_of(source, one) not in source.identifiers[kind]]
+        unknown = [
+            one for one, kind in zip(both, ("MAKEINSTANCE", "TIMEX3"), strict=False) if text_of(source, one) not in source.identifiers[kind]
+        ]
         out = unknown[0] if len(unknown) == 1 else None
         about(found, out or both[1])
         first, second = (one.written(source.document) for one in both[:2])

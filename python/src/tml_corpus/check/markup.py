@@ -19,9 +19,7 @@ SPACES = re.compile(rb"[ \t\r\n]*")
 SUBSET = re.compile(rb"[^\[<>]*\[")
 EQUALS = re.compile(rb"[ \t\r\n]*=[ \t\r\n]*")
 VALUES = (b'"', b"'")
-ATTRIBUTE = re.compile(
-    rb"[ \t\r\n]+[A-Za-z_:\x80-\xff][A-Za-z0-9_:.\-\x80-\xff]*[ \t\r\n]*=[ \t\r\n]*(?:\"[^\"<]*\"|'[^'<]*')"
-)
+ATTRIBUTE = re.compile(rb"[ \t\r\n]+[A-Za-z_:\x80-\xff][A-Za-z0-9_:.\-\x80-\xff]*[ \t\r\n]*=[ \t\r\n]*(?:\"[^\"<]*\"|'[^'<]*')")
 """An attribute that is well formed."""
 REFERENCE = re.compile(rb"&(?:lt|gt|amp|quot|apos|#\d{1,7}|#x[0-9A-Fa-f]{1,6});")
 CURLY = "\u201c\u201d\u201e\u201f\u2018\u2019\u201a\u201b\u2033\u2032\u00ab\u00bb\uff02`\u00b4"
@@ -163,7 +161,10 @@ def bad_markup(source: Source, offset: int) -> Explanation:
     document = source.document
     found = Explanation(start=offset, end=min(offset + 1, len(document)))
     if b"\0" in document[:64]:
-        found.text = "the file looks like UTF-16: `iconv -f utf-16 -t utf-8` turns it into UTF-8; change the name of the encoding in its first line too"
+        found.text = (
+            "the file looks like UTF-16: `iconv -f utf-16 -t utf-8` turns it into UTF-8; change the name of the "
+            "encoding in its first line too"
+        )
         return found
     for begin, finder in (
         (b"<![CDATA[", cdata), (b"<!--", comment), (b"<!", declaration), (b"<?", instruction), (b"</", end_tag), (b"<", start_tag),

@@ -61,7 +61,11 @@ def meant_tags(source: Source, unit: Unit) -> list[str]:
 def meant_links(source: Source, unit: Unit, names: set[str]) -> list[str]:
     """The kinds of links that have the attributes and the relation of a tag."""
     relation = source.value(unit, "relType")
-    kinds = [kind for kind in ("TLINK", "ALINK", "SLINK") if names <= {*TABLE[kind], *CARRIED[kind]} and TABLE[kind]["relType"].form.fits(relation)]
+    kinds = [
+        kind
+        for kind in ("TLINK", "ALINK", "SLINK")
+        if names <= {*TABLE[kind], *CARRIED[kind]} and TABLE[kind]["relType"].form.fits(relation)
+    ]
     return kinds or near(unit.name, TAGS) or ["TLINK", "ALINK", "SLINK"]
 
 
@@ -104,14 +108,22 @@ def closes_nothing(source: Source, unit: Unit, inner: Unit | None, found: Explan
     if inner is not None and (nearest(unit.name, [inner.name]) or is_wrong_name(source, unit, inner)):
         found.text = f"</{name}> does not close {opened}: write </{cut(inner.name)}>"
         found.edits.append(renamed(unit, inner.name))
-    elif before is not None and before.kind == "end" and before.name == unit.name and before.end == unit.start and not (unit.name in TABLE and source.dangling(unit.name)):
+    elif (
+        before is not None
+        and before.kind == "end"
+        and before.name == unit.name
+        and before.end == unit.start
+        and not (unit.name in TABLE and source.dangling(unit.name))
+    ):
         found.text = f"</{name}> stands twice: take one of the two out"
         found.edits.append(Edit(unit.start, unit.end, b""))
     elif inner is None and unit.name == ROOT and source.units.opening(ROOT):
         found.text = f"</{name}> stands twice: the root is closed already, so take one of the two out"
         found.edits += [Edit(unit.start, unit.end, b"")] if before is not None and before.name == ROOT else []
     else:
-        found.text = f"</{name}> closes nothing{f', since the tag that is open is {opened}' if opened else ''}: {lost_start(source, unit.name)}"
+        found.text = (
+            f"</{name}> closes nothing{f', since the tag that is open is {opened}' if opened else ''}: {lost_start(source, unit.name)}"
+        )
 
 
 def is_wrong_name(source: Source, unit: Unit, inner: Unit) -> bool:
@@ -199,7 +211,9 @@ def second_document(source: Source, unit: Unit, found: Explanation) -> None:
     """A second document after the first one, or inside of it where the first has lost its end."""
     inside = f", inside of <{ROOT}>, of which the end was lost" if open_tags(source.units, unit.start) else ""
     size = unit.start - (len(BYTE_ORDER_MARK) if source.document[: unit.start].endswith(BYTE_ORDER_MARK) else 0)
-    found.text = f"a second document begins here{inside}: split it off; `head -c {size} FILE > FIRST` and `tail -c +{size + 1} FILE > SECOND` do it"
+    found.text = (
+        f"a second document begins here{inside}: split it off; `head -c {size} FILE > FIRST` and `tail -c +{size + 1} FILE > SECOND` do it"
+    )
 
 
 def late_declaration(source: Source, unit: Unit, found: Explanation) -> None:
@@ -303,7 +317,10 @@ def too_deep(source: Source, unit: Unit | None, found: Explanation) -> None:
     [(name, count)] = Counter(tag.name for tag in tags).most_common(1)
     first = next(tag for tag in tags if tag.name == name)
     found.start, found.end = first.start, first.end
-    found.text = f"<{name}> opened here is one of {count} that are open at {source.at(unit.start)}, and tml takes {OPEN_LIMIT} open tags: write the end tags"
+    found.text = (
+        f"<{name}> opened here is one of {count} that are open at {source.at(unit.start)}, and tml takes "
+        f"{OPEN_LIMIT} open tags: write the end tags"
+    )
 
 
 EXPLAINERS = {UNKNOWN_TAG: unknown_tag, UNBALANCED: unbalanced, UNCLOSED: unclosed, MISPLACED: misplaced, TOO_DEEP: too_deep}

@@ -68,7 +68,8 @@ def cure_of_two(source: Source, first: Unit, tag: Unit, attribute: Attribute, fo
     if name in source.referred[tag.name]:
         other = source.referred[tag.name][name]
         return (
-            f"take one of the two out if it was pasted; if not, the {other.name} at {source.at(other.start)} means one of them, and the other "
+            f"take one of the two out if it was pasted; if not, the {other.name} at {source.at(other.start)} means one of "
+            f"them, and the other "
             f"one is to have another identifier, such as {source.fresh(tag.name)}"
         )
     if tag.name in LINK_TAGS:
@@ -103,7 +104,7 @@ def cure_by_lost_name(source: Source, first: Unit, tag: Unit, attribute: Attribu
     [(name, other), *more] = names.items()
     if more:
         return f"one of the two is meant to be one of {some(names)}, to which tags refer and which no tag has"
-    said = f"{IDENTIFIERS[tag.name]}=\"{name}\", to which the {other.name} at {source.at(other.start)} refers and which no tag has"
+    said = f'{IDENTIFIERS[tag.name]}="{name}", to which the {other.name} at {source.at(other.start)} refers and which no tag has'
     if first.name != tag.name or is_by_order(source, first, tag, name):
         found.edits.append(with_value(attribute, source.document, encoded(name)))
         return f"write {said}"
@@ -194,7 +195,10 @@ def lost(source: Source, tag: Unit, attribute: Attribute, row: Row) -> tuple[str
     twice = source.once("twice", target, lambda: stands_twice(source, target))
     if twice is not None:
         places = f"{source.at(twice[0].start)} and {source.at(twice[1].start)}"
-        return f"{sentence}, and two have {source.value(twice[0], IDENTIFIERS[target])}, at {places}: one of the two is probably meant", None
+        return (
+            f"{sentence}, and two have {source.value(twice[0], IDENTIFIERS[target])}, at {places}: one of the two is probably meant",
+            None,
+        )
     near = meant_identifier(source, name, target)
     if near is not None:
         return f"{sentence}; did you mean {near}?", f'{attribute.name}="{near}"'
@@ -256,7 +260,10 @@ def lost_instance(source: Source, name: str) -> str:
     same = bare_of_number(source, number_of(name))
     event = same[0] if len(same) == 1 else events[0] if len(events) == 1 else None
     if event is None:
-        return f"it was probably lost: add <MAKEINSTANCE eiid=\"{name}\" eventID=\"..\"/> for one of the events without an instance, {some(events)}"
+        return (
+            f'it was probably lost: add <MAKEINSTANCE eiid="{name}" eventID=".."/> for one of the events without an '
+            f'instance, {some(events)}'
+        )
     return f"it was probably lost: add {new_instance(source, name, event)}"
 
 
@@ -297,7 +304,10 @@ def of_other_kind(source: Source, tag: Unit, attribute: Attribute, row: Row, oth
         meant = f'{pair[other.name == "TIMEX3"]}="{name}"'
         return f"{sentence}: write {meant}", meant
     names = source.identifiers[target]
-    return sentence + (f", and there {'is' if len(names) == 1 else 'are'} {some(names)}" if names else f", and the document has no {target}"), None
+    return (
+        sentence + (f", and there {'is' if len(names) == 1 else 'are'} {some(names)}" if names else f", and the document has no {target}"),
+        None,
+    )
 
 
 def of_instance(source: Source, tag: Unit, attribute: Attribute, sentence: str, other: Unit) -> tuple[str, str | None]:
@@ -306,7 +316,12 @@ def of_instance(source: Source, tag: Unit, attribute: Attribute, sentence: str, 
     if len(same) == 1:
         return f"{sentence}; did you mean {same[0]}, which has no instance?", f'{attribute.name}="{same[0]}"'
     if other.start == tag.start:
-        return f"{sentence}; there are {some(source.identifiers['EVENT'])}" if source.identifiers["EVENT"] else f"{sentence}, and the document has no EVENT", None
+        return (
+            f"{sentence}; there are {some(source.identifiers['EVENT'])}"
+            if source.identifiers["EVENT"]
+            else f"{sentence}, and the document has no EVENT",
+            None,
+        )
     return f"{sentence}, of the EVENT {source.value(other, 'eventID')}", None
 
 

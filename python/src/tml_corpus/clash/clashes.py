@@ -26,7 +26,9 @@ class Clash(NamedTuple):
     def renumbered(self, numbers: Sequence[int]) -> Clash:
         """The clash of a document that has more links: link K of this one is its link `numbers[K]`."""
         walk = tuple(Step(step.kind, numbers[step.first], step.second) if step.kind == "via" else step for step in self.walk)
-        lines = re.sub(rb"^(cite|via) (\d+)", lambda found: b"%s %d" % (found[1], numbers[int(found[2])]), self.evidence, flags=re.MULTILINE)
+        lines = re.sub(
+            rb"^(cite|via) (\d+)", lambda found: b"%s %d" % (found[1], numbers[int(found[2])]), self.evidence, flags=re.MULTILINE
+        )
         return Clash(tuple(numbers[link] for link in self.links), walk, lines)
 
 

@@ -56,9 +56,9 @@ def limits_of(kind: str, modifier: str, value: str) -> Limits:
     length = length_of(value) if kind == "DURATION" else None
     if length is None:
         return Limits()
-    by_modifier = {"": (length, length), "LESS_THAN": (None, length - 1), "EQUAL_OR_LESS": (None, length)}
-    by_modifier |= {"MORE_THAN": (length + 1, None), "EQUAL_OR_MORE": (length, None)}
-    return Limits(*by_modifier.get(modifier, (None, None)))
+    by_modifier = {"": Limits(length, length), "LESS_THAN": Limits(most=length - 1), "EQUAL_OR_LESS": Limits(most=length)}
+    by_modifier |= {"MORE_THAN": Limits(least=length + 1), "EQUAL_OR_MORE": Limits(least=length)}
+    return by_modifier.get(modifier, Limits())
 
 
 class Constraints:

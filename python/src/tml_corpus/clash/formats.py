@@ -99,7 +99,9 @@ def repair_lines(path: str, report: ClashReport) -> list[str]:
     if repair is None:
         return []
     lines = [f"{path}: repair: {shown(repair.text())}"]
-    if len(repair.choices) == 1 and {link.link.number for link in repair.choices[0]} == {link.link.number for link in report.clashes[0].links}:
+    if len(repair.choices) == 1 and {link.link.number for link in repair.choices[0]} == {
+        link.link.number for link in report.clashes[0].links
+    }:
         return lines
     for number, choices in enumerate(repair.choices, 1):
         for place, link in enumerate(choices):
@@ -246,7 +248,11 @@ class GitHub:
         lines = [formats.GitHub().file(report.judgement)]
         for number, clash in enumerate(report.shown_clashes(), 1):
             title = f"clash of {counted(len(clash.links), 'link')}"
-            lines.append(command(path, clash.links[0].place(), title, "\n".join(message_lines(clash) + (repair_message(report) if number == 1 else []))))
+            lines.append(
+                command(
+                    path, clash.links[0].place(), title, "\n".join(message_lines(clash) + (repair_message(report) if number == 1 else []))
+                )
+            )
         if not report.read_touching:
             lines += [command(path, change.link.place(), TOUCHING, shown(change.cure())) for change in report.touching]
         return "".join(lines)

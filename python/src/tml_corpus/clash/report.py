@@ -93,7 +93,10 @@ class PlacedRepair(NamedTuple):
         links = "link" if self.changes == 1 else f"{self.changes} links"
         besides = [f"mend the {links} between dates that touch as said above"] if self.changes else []
         if not self.choices and self.at_least:
-            return f"no set of links was found without which a timeline fits, in as many questions as are asked about one document; {self.known()}"
+            return (
+                f"no set of links was found without which a timeline fits, in as many questions as are asked about one "
+                f"document; {self.known()}"
+            )
         if self.choices:
             or_a_date = ", or correct a date" if self.is_of_dates and len(self.choices) == 1 else ""
             besides.append(f"leave out or mend {self.which()}{or_a_date}")

@@ -159,7 +159,10 @@ class ClashSearch:
                 if self.copies.fit_alone(clash.links, {number: relation}):
                     between = f"{self.wording.text_of(link.left)} and {self.wording.text_of(link.right)}"
                     nothing = "no gap" if link.relation in GAP else "no room at both ends"
-                    text = f"the dates and the other links leave {nothing} between {between}: {relation} for {link.relation} would not clash with them"
+                    text = (
+                        f"the dates and the other links leave {nothing} between {between}: {relation} for "
+                        f"{link.relation} would not clash with them"
+                    )
                     notes.append(PlacedNote(link.place, text))
         except TooMuch:
             pass

@@ -78,7 +78,7 @@ def run_command(words: Words, made: Run) -> int:
 
     from ..files.watch import watch
 
-    watch(lambda: find_files(made.files.paths, list(made.files.patterns)), look, made.stop)
+    watch(lambda: find_files(made.files.paths, made.files.patterns), look, made.stop)
     return 0
 
 

@@ -36,7 +36,7 @@ class Files(NamedTuple):
         """The files."""
         if self.changed is not None:
             return self.changed
-        return find_with(self.given, self.paths, list(self.patterns)) if self.given else find_files(self.paths, list(self.patterns))
+        return find_with(self.given, self.paths, self.patterns) if self.given else find_files(self.paths, self.patterns)
 
 
 class Run(NamedTuple):

@@ -27,7 +27,7 @@ def command(run: Run, options: Options) -> int:
     if options.links and options.format == "csv":
         raise CannotRun("--links goes with --format text, json or jsonl")
     sides, form, summary = sides_of(options.document, options.key), make_format(options.format), Summary()
-    pairs, wanted = find_pairs(sides, list(run.files.patterns)), Wanted(options.links, options.touching)
+    pairs, wanted = find_pairs(sides, run.files.patterns), Wanted(options.links, options.touching)
 
     def reported(_: Found, report: PairReport) -> str:
         summary.add(report)

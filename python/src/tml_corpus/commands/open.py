@@ -23,6 +23,6 @@ def command(run: Run, options: Options) -> int:
     """Prints the open pairs of a document, or of each one of a folder, and answers the status."""
     bounds = Bounds(options.pairs, options.limit)
     if os.path.isdir(options.document):
-        found = find_files([options.document], list(run.files.patterns))
+        found = find_files([options.document], run.files.patterns)
         return show_open_of_all(run.program, found, bounds, options.touching, run.in_order, run.stop)
     return show_open(run.program, options.document, bounds, options.touching, run.in_order, run.stop)

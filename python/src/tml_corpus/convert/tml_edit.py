@@ -46,7 +46,14 @@ from .tables import BadTable, Word, rows
 LINK_TAGS = ("TLINK", "ALINK", "SLINK")
 IDENTIFIERS = {"EVENT": "eid", "MAKEINSTANCE": "eiid", "TIMEX3": "tid", "SIGNAL": "sid", "TLINK": "lid", "ALINK": "lid", "SLINK": "lid"}
 REFERENCES = ("eventID", "signalID", "anchorTimeID", "beginPoint", "endPoint", "timeID", "relatedToTime", "eventInstanceID")
-OTHER_REFERENCES = ("relatedToEventInstance", "relatedToEvent", "relatedToEventID", "subordinatedEventInstance", "subordinatedEvent", "subordinatedEventID")
+OTHER_REFERENCES = (
+    "relatedToEventInstance",
+    "relatedToEvent",
+    "relatedToEventID",
+    "subordinatedEventInstance",
+    "subordinatedEvent",
+    "subordinatedEventID",
+)
 TO_INSTANCES = {
     "eventID": "eventInstanceID",
     "relatedToEvent": "relatedToEventInstance",
@@ -326,7 +333,9 @@ def parser() -> ProgramParser:
     words.add_argument("--write", action="store_true", help="write the changed documents in the place of the files")
     words.add_argument("--glob", action="append", metavar="PATTERN", help=f"names to look for in folders (default {' '.join(PATTERNS)})")
     words.add_argument("--rename", type=renaming, action="append", default=[], metavar="OLD=NEW", help="give tags another name")
-    words.add_argument("--unwrap", type=names_of, action="extend", default=[], metavar="NAMES", help="take tags out, and leave what they hold")
+    words.add_argument(
+        "--unwrap", type=names_of, action="extend", default=[], metavar="NAMES", help="take tags out, and leave what they hold"
+    )
     words.add_argument(
         "--value",
         type=utf8,
@@ -338,7 +347,9 @@ def parser() -> ProgramParser:
     )
     words.add_argument("--iso", action="store_true", help="xml:id becomes eid, tid, sid, lid, and #e1 becomes e1; then as --instances")
     words.add_argument("--instances", action="store_true", help="make a MAKEINSTANCE for each EVENT without one, and let links refer to it")
-    words.add_argument("--links", metavar="TABLE", help="add the links of a table with four words a line: document, interval, interval, relation")
+    words.add_argument(
+        "--links", metavar="TABLE", help="add the links of a table with four words a line: document, interval, interval, relation"
+    )
     words.add_argument("--name", help="the name of the document in the table (default: that of the file without its ending)")
     words.add_argument(
         "--drop-links",
@@ -349,7 +360,9 @@ def parser() -> ProgramParser:
         help="take links out by their relType; an empty name is that of links without one",
     )
     words.add_argument("--overlaps", action="store_true", help=f"say {', '.join(OVERLAPS)} by TIMEX3 tags that lie within")
-    words.add_argument("--touching-dates", action="store_true", help="give links between dates that touch the relation that holds, as IBEFORE for BEFORE")
+    words.add_argument(
+        "--touching-dates", action="store_true", help="give links between dates that touch the relation that holds, as IBEFORE for BEFORE"
+    )
     words.add_argument("--tml", metavar="PROGRAM", help="the program tml (default: that of this repository, else that on PATH)")
     return words
 

@@ -263,7 +263,9 @@ class Source:
     @cached_property
     def points(self) -> set[str]:
         """The identifiers of the times that other times name."""
-        return {value for tag in self.tags("TIMEX3") for name in ("anchorTimeID", "beginPoint", "endPoint") if (value := self.value(tag, name))}
+        return {
+            value for tag in self.tags("TIMEX3") for name in ("anchorTimeID", "beginPoint", "endPoint") if (value := self.value(tag, name))
+        }
 
     @cached_property
     def odd_times(self) -> list[tuple[Unit, str, str]]:
@@ -285,7 +287,9 @@ class Source:
         units, parts, depth, size = self.units, list[bytes](), 1, 0
         after = tag.row + 1
         if tag.kind == "start" and units.kinds[after : after + 2] == TEXT_AND_END:
-            return self.document[units.starts[after] : min(units.ends[after], units.starts[after] + LONGEST_WORDS)].decode("utf-8", "replace")
+            return self.document[units.starts[after] : min(units.ends[after], units.starts[after] + LONGEST_WORDS)].decode(
+                "utf-8", "replace"
+            )
         for row in range(tag.row + 1, len(units.kinds)) if tag.kind == "start" else ():
             kind = units.kinds[row]
             if kind == TEXT:

@@ -112,17 +112,23 @@ class Units(Sequence[Unit]):
         else:
             self.rows = range(len(self.kinds))
         whole = ends[-1] if ends else 0
-        if self.places[1:] != ends[:-1] or self.places[:1] not in (array("I"), array("I", [0])) or whole != (whole if size is None else size):
+        if (
+            self.places[1:] != ends[:-1]
+            or self.places[:1] not in (array("I"), array("I", [0]))
+            or whole != (whole if size is None else size)
+        ):
             raise ValueError
 
     def __len__(self) -> int:
         return len(self.rows)
 
     @overload
-    def __getitem__(self, index: int) -> Unit: ...
+    def __getitem__(self, index: int) -> Unit:
+        ...
 
     @overload
-    def __getitem__(self, index: slice) -> list[Unit]: ...
+    def __getitem__(self, index: slice) -> list[Unit]:
+        ...
 
     def __getitem__(self, index: int | slice) -> Unit | list[Unit]:
         if isinstance(index, slice):

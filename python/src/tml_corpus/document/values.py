@@ -20,7 +20,8 @@ CALENDAR = re.compile(
 
 NUMBER = r"(?:\d{1,9}|X)"
 DURATION = re.compile(
-    rf"P(?=[\dXT])(?:{NUMBER}Y)?(?:{NUMBER}M)?(?:{NUMBER}W)?(?:{NUMBER}D)?(?:T(?=[\dX])(?:{NUMBER}H)?(?:{NUMBER}M)?(?:{NUMBER}S)?)?", re.ASCII
+    rf"P(?=[\dXT])(?:{NUMBER}Y)?(?:{NUMBER}M)?(?:{NUMBER}W)?(?:{NUMBER}D)?(?:T(?=[\dX])(?:{NUMBER}H)?(?:{NUMBER}M)?(?:{NUMBER}S)?)?",
+    re.ASCII,
 )
 
 YEAR = r"(?:\d{4}|\d{3}X|\d\dXX|XXXX)"
@@ -58,7 +59,8 @@ def has_form(value: str) -> bool:
 
 
 def better(value: str) -> list[str]:
-    """The values that may have been meant by one that has no form: one where it is clear, two where the day and the month cannot be told apart."""
+    """The values that may have been meant by one that has no form: one where it is clear, two where the day and the month cannot be
+    told apart."""
     plain = without_invisible(value).strip().upper()
     if plain != value and has_form(plain):
         return [plain]
@@ -87,7 +89,8 @@ def part_of_year(value: str) -> list[str]:
 
 
 def dated(value: str) -> list[str]:
-    """A date in the order of the calendar: of one with the year last both readings, the day first and the month first, where both are dates."""
+    """A date in the order of the calendar: of one with the year last both readings, the day first and the month first, where both are
+    dates."""
     first, last = YEAR_FIRST.fullmatch(value), YEAR_LAST.fullmatch(value)
     if first:
         month, day = first[2] or first[4], first[3] or first[5]

@@ -4,7 +4,7 @@ import fnmatch
 import os
 import re
 import stat
-from collections.abc import Callable, Iterator
+from collections.abc import Callable, Iterator, Sequence
 from contextlib import contextmanager
 from itertools import chain
 from typing import IO, NamedTuple
@@ -44,7 +44,7 @@ class Found(NamedTuple):
         return bool(self.top) and os.path.islink(self.place())
 
 
-def find_files(paths: list[str], patterns: list[str]) -> list[Found]:
+def find_files(paths: Sequence[str], patterns: Sequence[str]) -> list[Found]:
     """The files that the paths stand for: a file is itself, a folder all files below it that match a pattern.
 
     The order is that of the paths, and within a folder that of the names, so it is the same in each run. No file is
@@ -61,7 +61,7 @@ def find_files(paths: list[str], patterns: list[str]) -> list[Found]:
     return list(found.values())
 
 
-def search_folder(folder: str, patterns: list[str]) -> list[Found]:
+def search_folder(folder: str, patterns: Sequence[str]) -> list[Found]:
     """The matching files below a folder, and the folders that could not be read."""
     found: list[Found] = []
     matches = matcher(patterns)
@@ -81,7 +81,7 @@ def search_folder(folder: str, patterns: list[str]) -> list[Found]:
     return found
 
 
-def matcher(patterns: list[str]) -> Callable[[str], object]:
+def matcher(patterns: Sequence[str]) -> Callable[[str], object]:
     """What tells whether a name matches one of some patterns. Most patterns say how a name ends, which is seen faster."""
     ends = tuple(pattern[1:] for pattern in patterns)
     if all(pattern.startswith("*") and not set("*?[") & set(end) for pattern, end in zip(patterns, ends, strict=True)):

@@ -33,7 +33,7 @@ class StandardInput:
         return Found(self.name, lies_at=f"/dev/fd/{self.file.fileno()}")
 
 
-def find_with(given: StandardInput, paths: Sequence[str], patterns: list[str]) -> list[Found]:
+def find_with(given: StandardInput, paths: Sequence[str], patterns: Sequence[str]) -> list[Found]:
     """The files that the paths stand for, where `-` is standard input; no file is named twice."""
     found: dict[str, Found] = {}
     for path in paths:

@@ -41,7 +41,9 @@ def repeated_link(source: Source) -> Iterator[Suspect]:
             seen[left, relation, right] = tag
         elif left != right:
             where = source.at(first.start)
-            yield Suspect(tag, f"{left} {relation} {right} is given at {where} already: see whether another pair is meant, or take one of the two out")
+            yield Suspect(
+                tag, f"{left} {relation} {right} is given at {where} already: see whether another pair is meant, or take one of the two out"
+            )
 
 
 def opposed_instances(source: Source) -> Iterator[Suspect]:
@@ -52,10 +54,15 @@ def opposed_instances(source: Source) -> Iterator[Suspect]:
     pairs = [pair for group in groups.values() if len(group) > 1 for pair in combinations(group, 2)]
     related = relations_of(source) if pairs else {}
     for (name, tag), (other, later) in pairs:
-        opposite = {(INVERSES.get(relation, ""), right) for relation, right in related.get(name, set()) if INVERSES.get(relation) != relation}
+        opposite = {
+            (INVERSES.get(relation, ""), right) for relation, right in related.get(name, set()) if INVERSES.get(relation) != relation
+        }
         for relation, right in sorted(opposite & related.get(other, set())):
             event = source.value(tag, "eventID")
-            text = f"{name} and {other} are instances of {event} with the same attributes, and {name} {INVERSES[relation]} {right}, {other} {relation} {right}"
+            text = (
+                f"{name} and {other} are instances of {event} with the same attributes, and {name} "
+                f"{INVERSES[relation]} {right}, {other} {relation} {right}"
+            )
             yield Suspect(later, f"{text}: see whether one of the two instances was pasted")
             break
 

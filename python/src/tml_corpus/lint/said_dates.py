@@ -100,7 +100,8 @@ def contradiction(words: str, value: str) -> str | None:
 
 
 def spoken_for(readings: list[str], words: str, created: str) -> tuple[str, str, bool] | None:
-    """The one of two readings of a date for which a word of the text speaks, or else the creation time; what speaks; and whether it is a word.
+    """The one of two readings of a date for which a word of the text speaks, or else the creation time; what speaks; and whether it is
+    a word.
 
     The creation time speaks for the reading that is nearer, where that lies within a month of it and the other one does not.
     """

@@ -82,7 +82,11 @@ def nested_tag(source: Source) -> Iterator[Suspect]:
         if open_rows:
             tag, outer = units.unit(row), units.unit(open_rows[-1])
             where = source.at(outer.start)
-            yield Suspect(tag, f"this {tag.name} stands inside of the {outer.name} at {where}: see which words each is around, and whether one is too many")
+            yield Suspect(
+                tag,
+                f"this {tag.name} stands inside of the {outer.name} at {where}: see which words each is around, and "
+                f"whether one is too many",
+            )
         if units.kinds[row] == START:
             open_rows.append(row)
 

@@ -123,7 +123,10 @@ def far_date(source: Source) -> Iterator[Suspect]:
     words = source.words_of(tag)
     is_named = f"{year}"[-2:] in words
     if abs(year - created) >= FAR and not is_named and (len(value) > len("YYYY") or YEAR.search(words)):
-        yield of_value(tag, f'value="{cut(value)}" is far from the creation time in {created} and from all other dates, and the text does not name {year}')
+        yield of_value(
+            tag,
+            f'value="{cut(value)}" is far from the creation time in {created} and from all other dates, and the text does not name {year}',
+        )
 
 
 def two_creation_times(source: Source) -> Iterator[Suspect]:
@@ -131,7 +134,10 @@ def two_creation_times(source: Source) -> Iterator[Suspect]:
     for tag in source.creation_times[1:]:
         attribute, first = attribute_of(tag, "functionInDocument"), source.creation_times[0]
         if attribute is not None:
-            text = f"the TIMEX3 at {source.at(first.start)} is the creation time already: see which of the two is, and take this attribute from the other one"
+            text = (
+                f"the TIMEX3 at {source.at(first.start)} is the creation time already: see which of the two is, and "
+                f"take this attribute from the other one"
+            )
             yield Suspect.of_attribute(tag, attribute, text)
 
 
@@ -142,7 +148,9 @@ def date_with_points(source: Source) -> Iterator[Suspect]:
         kind = values.get("type", "")
         attribute = attribute_of(tag, names[0]) if names and kind in DATED else None
         if attribute is not None:
-            text = f"{' and '.join(names)} of a {kind} {'say' if len(names) > 1 else 'says'} nothing of its time: only its value and links do"
+            text = (
+                f"{' and '.join(names)} of a {kind} {'say' if len(names) > 1 else 'says'} nothing of its time: only its value and links do"
+            )
             yield Suspect.of_attribute(tag, attribute, text)
 
 
@@ -150,4 +158,6 @@ def no_creation_time(source: Source) -> Iterator[Suspect]:
     """A document of which no time says when it was made."""
     root = source.units.first_tag() if not source.creation_times else None
     if root is not None:
-        yield Suspect(root, 'the document has no creation time: add functionInDocument="CREATION_TIME" to the TIMEX3 that says when it was made')
+        yield Suspect(
+            root, 'the document has no creation time: add functionInDocument="CREATION_TIME" to the TIMEX3 that says when it was made'
+        )

@@ -18,7 +18,8 @@ MOST_WARNINGS = 1000
 
 @dataclass(frozen=True)
 class Finding:
-    """Something suspect: the name of its kind, the sentence on it, the stretch that it speaks of, the tag as it is written, and its one cure."""
+    """Something suspect: the name of its kind, the sentence on it, the stretch that it speaks of, the tag as it is written, and its
+    one cure."""
 
     name: str
     text: str
@@ -93,7 +94,9 @@ KINDS: dict[str, WarningKind] = {
     "repeated-link": WarningKind("a TLINK that was given before", links.repeated_link),
     "opposed-instances": WarningKind("two instances of one event with opposite links", links.opposed_instances),
     "part-of-day": WarningKind("a part of a day, which the calendar does not place", times.part_of_day, of_free_times=True),
-    "fiscal-value": WarningKind("a fiscal year or a part of one, which the calendar does not place", times.fiscal_value, of_free_times=True),
+    "fiscal-value": WarningKind(
+        "a fiscal year or a part of one, which the calendar does not place", times.fiscal_value, of_free_times=True
+    ),
     "event-without-instance": WarningKind("an EVENT that no MAKEINSTANCE names", links.event_without_instance),
     "unlinked-instance": WarningKind("an instance that no link names", links.unlinked_instance),
     "no-creation-time": WarningKind("a document without a creation time", times.no_creation_time),

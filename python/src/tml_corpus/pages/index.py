@@ -26,21 +26,28 @@ COLUMNS = (
 """The columns, and how they are sorted."""
 
 EXPLAINED = (
-    "Each verdict is one of tml. A clash is links that cannot all be true. Dates that touch leave no gap where a link between them asks for one. "
-    "A free date is a date or time of a day that the calendar does not place. Of a pair of intervals that is decided one relation is possible."
+    "Each verdict is one of tml. A clash is links that cannot all be true. Dates that touch leave no gap where a link "
+    "between them asks for one. "
+    "A free date is a date or time of a day that the calendar does not place. Of a pair of intervals that is decided one "
+    "relation is possible."
 )
 
 
 def index_of(entries: Sequence[Entry], expected: int) -> str:
     """The whole page. Where not all documents were looked at it says so."""
     title = f"Report on {counted(len(entries), 'document')}"
-    missing = f"<p><strong>Interrupted: {len(entries)} of {counted(expected, 'document')} were looked at.</strong></p>\n" if len(entries) < expected else ""
+    missing = (
+        f"<p><strong>Interrupted: {len(entries)} of {counted(expected, 'document')} were looked at.</strong></p>\n"
+        if len(entries) < expected
+        else ""
+    )
     rows = "".join(map(row_of, entries))
     heads = "".join(f'<th scope="col" data-kind="{kind}">{name}</th>' for name, kind in COLUMNS)
     return (
         f"{head(title, 'index.js')}<h1>{title}</h1>\n{missing}{totals(entries)}<p class=\"explained\">{EXPLAINED}</p>\n"
         '<div id="search"></div>\n'
-        f'<div class="wide" tabindex="0" role="region" aria-label="Documents">\n<table id="documents">\n<thead>\n<tr>{heads}</tr>\n</thead>\n'
+        f'<div class="wide" tabindex="0" role="region" aria-label="Documents">\n<table '
+        f'id="documents">\n<thead>\n<tr>{heads}</tr>\n</thead>\n'
         f"<tbody>\n{rows}</tbody>\n</table>\n</div>\n{END}"
     )
 
@@ -49,7 +56,9 @@ def totals(entries: Sequence[Entry]) -> str:
     """What became of the documents, the kinds of faults and warnings, and the sums."""
     counts = [entry.counts for entry in entries if entry.counts is not None]
     pairs, decided = (sum(getattr(one, name) or 0 for one in counts) for name in ("pairs", "decided"))
-    sums = Counter({"clashes": sum(entry.clashes for entry in entries), "links between dates that touch": sum(entry.touching for entry in entries)})
+    sums = Counter(
+        {"clashes": sum(entry.clashes for entry in entries), "links between dates that touch": sum(entry.touching for entry in entries)}
+    )
     sums["free dates"] = sum(one.free_dates for one in counts)
     sums["pairs of intervals"], sums["pairs that are decided"] = pairs, decided
     faults = Counter(entry.said for entry in entries if entry.verdict == "fault")
@@ -67,7 +76,9 @@ def totals(entries: Sequence[Entry]) -> str:
 
 def listed(title: str, counts: Iterable[tuple[str, int]]) -> str:
     """A small table of counts; nothing where there are none."""
-    rows = "".join(f'<tr><th scope="row" data-search="{said(name)}">{said(name)}</th><td class="number">{count}</td></tr>\n' for name, count in counts)
+    rows = "".join(
+        f'<tr><th scope="row" data-search="{said(name)}">{said(name)}</th><td class="number">{count}</td></tr>\n' for name, count in counts
+    )
     return f"<table>\n<caption>{title}</caption>\n<tbody>\n{rows}</tbody>\n</table>\n" if rows else ""
 
 

@@ -137,7 +137,9 @@ def clash_part(wording: Wording, words: Words, clash: PlacedClash, number: int) 
     steps = steps_in_words(wording, clash.walk)
     walk = "".join(step_part(wording, words, step) for step in steps)
     first = point_part(wording, steps[0].first)
-    cure = "Any one of these links, left out, lets the others be true; one of them is wrong" if len(clash.links) > 1 else "This link is wrong"
+    cure = (
+        "Any one of these links, left out, lets the others be true; one of them is wrong" if len(clash.links) > 1 else "This link is wrong"
+    )
     return (
         f'<div class="clash" id="clash{number}">\n<h3>Clash {number}: {title}</h3>\n<ul class="cited">\n{links}</ul>\n'
         + (f"<ul>\n{notes}</ul>\n" if notes else "")
@@ -232,8 +234,7 @@ def link_part(wording: Wording, words: Words, number: int, notes: list[str]) -> 
     names = (f"{called}: " if called else "") + f"{link.left}, {link.right}; line {link.place.line}"
     noted = "".join(f' <strong class="noted">{said(note)}</strong>' for note in notes)
     return (
-        f'<li id="link{number}" data-left="{ends[0]}" data-right="{ends[1]}" data-relation="{said(link.relation)}">{left} {said(link.relation)} {right} '
+        f'<li id="link{number}" data-left="{ends[0]}" data-right="{ends[1]}" data-relation="{said(link.relation)}">{left} '
+        f'{said(link.relation)} {right} '
         f'<span class="place">({said(names)})</span>{noted}</li>\n'
     )
-
-

@@ -12,7 +12,6 @@ than another, it is so in every timeline that fits. Nothing else is used here:
 
 from __future__ import annotations
 
-import itertools
 import math
 from collections.abc import Mapping, Sequence
 from dataclasses import dataclass
@@ -29,7 +28,7 @@ SIGNS = dict(
 )
 """Of each base relation how the start and then the end of the first interval stand to the start and then to the end of the second."""
 
-POINTS = tuple(itertools.product(range(2), repeat=2))
+POINTS = tuple((one, other) for one in range(2) for other in range(2))
 """The four pairs of a point of one interval and one of another, in the order of the signs: a start is 0, and an end is 1."""
 
 

@@ -36,7 +36,8 @@ STYLE = (
     ".number{text-anchor:middle}.around tspan{font-weight:bold}"
     ".odd{fill:#eef1f4}.grid{stroke:#c3cad1;fill:none}.axis{stroke:#333;fill:none}.back{fill:#f6b800;fill-opacity:0}"
     ".bar{fill:#fff;stroke:#16324f;stroke-width:1.5}.exact .bar{fill:#16324f}.within .bar{fill:url(#hatch)}"
-    ".free .bar{stroke-dasharray:4 2.5}.moving .bar:not(.core){fill-opacity:.18;stroke-width:1;stroke-dasharray:1 2.2}.span{stroke:#a34b00;stroke-width:1.5;fill:none}"
+    ".free .bar{stroke-dasharray:4 2.5}.moving "
+    ".bar:not(.core){fill-opacity:.18;stroke-width:1;stroke-dasharray:1 2.2}.span{stroke:#a34b00;stroke-width:1.5;fill:none}"
     ".anywhere{stroke:#777;stroke-dasharray:1 5;fill:none}"
     ".unasserted text{font-style:italic}.unasserted .bar{stroke:#777;fill:#ddd}"
 )
