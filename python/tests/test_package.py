@@ -35,7 +35,7 @@ def expected_names():
     names = {"usr/bin/tml", "usr/share/lintian/overrides/tml-timeml"}
     names |= {f"usr/bin/{called}" for called in SCRIPTS} | {f"{SHARE}/tools/{name}" for name in SCRIPTS.values()}
     names |= {f"{SHARE}/{path.relative_to(TOP).as_posix()}" for path in Path(SOURCES).rglob("*.py")}
-    names |= {f"{IMPORTED}/tml", f"{SHARE}/python/src/tml/py.typed"}
+    names |= {f"{IMPORTED}/tml", *(f"{SHARE}/python/src/{package}/py.typed" for package in ("tml", "tml_corpus"))}
     names |= {f"usr/share/bash-completion/completions/{name}" for name in ("tml", *SCRIPTS)}
     names |= {f"usr/share/man/man1/{name}.1.gz" for name in ("tml", "tml-tools", *SCRIPTS)}
     names |= {f"{DOCS}/{name}" for name in ("README.md", "CHANGELOG.md", "changelog.gz", "copyright")}

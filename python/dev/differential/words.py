@@ -65,7 +65,7 @@ def draw_possible(random: Random, document: bytes, right: bool = False) -> tuple
 def draw_ask(random: Random, document: bytes, right: bool = False) -> tuple[bytes, ...]:
     """A question for a relation, mostly between intervals of the document."""
     names: list[bytes] = NAME.findall(document) or [b"t1"]
-    others = [*OTHER_NAME.findall(document), b"", b"none", b"-", b"BEFORE", names[0] + b" ", names[0].upper(), b"0"]
+    others: list[bytes] = [*OTHER_NAME.findall(document), b"", b"none", b"-", b"BEFORE", names[0] + b" ", names[0].upper(), b"0"]
 
     def name() -> bytes:
         return random.choice(names) if right or chance(random, 0.93) else random.choice(others)
