@@ -28,7 +28,13 @@ def put(text: str, found: re.Match[str] | None, new: Callable[[re.Match[str]], s
 
 def replaced(pattern: str, new: Callable[[re.Match[str]], str | None] | str) -> Slip:
     """Something else in the place of one match."""
-    return lambda random, text: put(text, one(random, pattern, text), new if callable(new) else lambda found: found.expand(new))
+    made = template_of(new) if isinstance(new, str) else new
+    return lambda random, text: put(text, one(random, pattern, text), made)
+
+
+def template_of(text: str) -> Callable[[re.Match[str]], str | None]:
+    """What puts the groups of a match into a template."""
+    return lambda found: found.expand(text)
 
 
 def mistyped(random: Random, word: str) -> str:
