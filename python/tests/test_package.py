@@ -13,6 +13,7 @@ from pathlib import Path
 
 from corpus import SOURCES, TML, TOOLS, TOP
 
+TML_VERIFY = os.path.abspath(os.environ.get("TML_VERIFY") or os.path.join(TOP, "crates", "tml_verify", "out", "tml_verify"))
 DOCS = "usr/share/doc/tml-timeml"
 SHARE = "usr/share/tml-timeml"
 IMPORTED = "usr/lib/python3/dist-packages"
@@ -32,18 +33,19 @@ def files_in(folder, end=""):
 
 def expected_names():
     """What is to be in the package; the mode and the target of each are in other tests."""
-    names = {"usr/bin/tml", "usr/share/lintian/overrides/tml-timeml"}
+    names = {"usr/bin/tml", "usr/bin/tml-verify", "usr/share/lintian/overrides/tml-timeml"}
     names |= {f"usr/bin/{called}" for called in SCRIPTS} | {f"{SHARE}/tools/{name}" for name in SCRIPTS.values()}
     names |= {f"{SHARE}/{path.relative_to(TOP).as_posix()}" for path in Path(SOURCES).rglob("*.py")}
     names |= {f"{IMPORTED}/tml", *(f"{SHARE}/python/src/{package}/py.typed" for package in ("tml", "tml_corpus"))}
     names |= {f"usr/share/bash-completion/completions/{name}" for name in ("tml", *SCRIPTS)}
-    names |= {f"usr/share/man/man1/{name}.1.gz" for name in ("tml", "tml-tools", *SCRIPTS)}
+    names |= {f"usr/share/man/man1/{name}.1.gz" for name in ("tml", "tml-verify", "tml-tools", *SCRIPTS)}
     names |= {f"{DOCS}/{name}" for name in ("README.md", "CHANGELOG.md", "changelog.gz", "copyright")}
     names |= {f"{DOCS}/docs/{name}" for name in files_in("docs", ".md")}
     return names | {f"{DOCS}/samples/{name}" for name in files_in("samples")}
 
 
 @unittest.skipUnless(os.access(TML, os.X_OK), f"no program {TML}: build it as README.md says, or name one by TML=PROGRAM")
+@unittest.skipUnless(os.access(TML_VERIFY, os.X_OK), f"no program {TML_VERIFY}: `rt ci` makes it, or name one by TML_VERIFY=PROGRAM")
 @unittest.skipUnless(shutil.which("dpkg-deb"), "no program dpkg-deb")
 class Package(unittest.TestCase):
     @classmethod
@@ -62,7 +64,7 @@ class Package(unittest.TestCase):
     def package(*words, umask=-1):
         """Runs `tools/package`, with a time and a maintainer, so that git is not asked."""
         return subprocess.run(
-            [sys.executable, os.path.join(TOOLS, "package"), "--maintainer", "A Name <a@example.org>", *words],
+            [sys.executable, os.path.join(TOOLS, "package"), "--maintainer", "A Name <a@example.org>", "--checker", TML_VERIFY, *words],
             env={**os.environ, "SOURCE_DATE_EPOCH": "1795824000", "PYTHONDONTWRITEBYTECODE": "1"},
             capture_output=True,
             text=True,
@@ -75,7 +77,7 @@ class Package(unittest.TestCase):
         """The status and the text of an unpacked program; PATH has nothing but the programs of the package."""
         program, *rest = words
         path = os.path.join(self.root, "usr/bin")
-        start = [] if program == "tml" else [sys.executable]
+        start = [] if program in ("tml", "tml-verify") else [sys.executable]
         done = subprocess.run(
             [*start, os.path.join(path, program), *rest],
             input=given,
@@ -96,7 +98,7 @@ class Package(unittest.TestCase):
         rows = [re.fullmatch(r"(\S+) (\S+) +\d+ (\S+ \S+) \./(.*?)(?: -> (.*))?", line).groups() for line in listed.stdout.splitlines()]
         self.assertEqual({name for mode, _, _, name, _ in rows if mode[0] != "d"}, expected_names())
         self.assertEqual({(owner, time) for _, owner, time, _, _ in rows}, {("root/root", "2026-11-28 00:00")})
-        programs = {"usr/bin/tml", *(f"{SHARE}/tools/{name}" for name in SCRIPTS.values())}
+        programs = {"usr/bin/tml", "usr/bin/tml-verify", *(f"{SHARE}/tools/{name}" for name in SCRIPTS.values())}
         for mode, _, _, name, target in rows:
             with self.subTest(name):
                 kinds = {"d": "drwxr-xr-x", "l": "lrwxrwxrwx"}
@@ -115,8 +117,9 @@ class Package(unittest.TestCase):
         self.assertEqual(os.path.basename(self.made), f"tml-timeml_{version}_amd64.deb")
 
     def test_contents(self):
-        with open(TML, "rb") as file:
-            self.assertEqual(self.content("usr/bin/tml"), file.read())
+        for name, program in (("tml", TML), ("tml-verify", TML_VERIFY)):
+            with open(program, "rb") as file:
+                self.assertEqual(self.content(f"usr/bin/{name}"), file.read())
         for name in files_in("docs", ".1"):
             with open(os.path.join(TOP, "docs", name), "rb") as file:
                 self.assertEqual(gzip.decompress(self.content(f"usr/share/man/man1/{name}.gz")), file.read())

@@ -1,8 +1,8 @@
-"""Makes a package for Debian of the program tml, its tools, manual pages, documentation and completion; or, of the library
-for C, the packages libtml and libtml-dev.
+"""Makes a package for Debian of the programs tml and tml-verify, the tools, manual pages, documentation and completion; or,
+of the library for C, the packages libtml and libtml-dev.
 
-The version is that of the first heading of CHANGELOG.md. The program has to be built before, and to answer `tml drill 1`;
-it is packed byte for byte. The same files, at the same commit, give the same package: all times are that of the last
+The version is that of the first heading of CHANGELOG.md. The programs have to be built before; tml has to answer `tml drill 1`, and
+tml-verify to verify a sample. They are packed byte for byte. The same files, at the same commit, give the same package: all times are that of the last
 commit of git, or SOURCE_DATE_EPOCH where it is set.
 
 Example: tools/package --output /tmp && sudo apt install /tmp/tml-timeml_0.1.1_amd64.deb
@@ -32,6 +32,7 @@ from tml_corpus import VERSION
 TOP = str(Path(__file__).resolve().parents[3])
 TEMPLATES = Path(__file__).resolve().parent / "templates"
 BUILT = os.path.join(TOP, "crates", "tml", "out", "tml")
+BUILT_CHECKER = os.path.join(TOP, "crates", "tml_verify", "out", "tml_verify")
 NAME = "tml-timeml"
 DOCS = f"usr/share/doc/{NAME}"
 LIBRARY = "libtml"
@@ -53,7 +54,7 @@ def main(words: list[str]) -> int:
     options = parser().parse_args(words)
     try:
         if options.library is None:
-            print(made(options.program, options.output, options.maintainer))
+            print(made(options.program, options.checker, options.output, options.maintainer))
         else:
             print("\n".join(made_of_library(options.library, options.output, options.maintainer)))
     except (CannotMake, OSError, ValueError) as problem:
@@ -67,6 +68,9 @@ def parser() -> argparse.ArgumentParser:
     words = argparse.ArgumentParser(prog="package", description=__doc__, formatter_class=argparse.RawDescriptionHelpFormatter)
     words.add_argument("--version", action="version", version=f"%(prog)s {VERSION}")
     words.add_argument("program", nargs="?", default=BUILT, metavar="PROGRAM", help="the program tml (default: crates/tml/out/tml)")
+    words.add_argument(
+        "--checker", default=BUILT_CHECKER, metavar="PROGRAM", help="the program tml-verify (default: crates/tml_verify/out/tml_verify)"
+    )
     words.add_argument("--library", metavar="ARCHIVE", help="make the packages of the library instead, from the archive of the crate tml_c")
     words.add_argument(
         "--output",
@@ -80,12 +84,12 @@ def parser() -> argparse.ArgumentParser:
     return words
 
 
-def made(program: str, output: str, maintainer: str | None) -> str:
+def made(program: str, checker: str, output: str, maintainer: str | None) -> str:
     """Makes the package and answers its name."""
     releases = releases_of(read("CHANGELOG.md").decode())
     maintainer = maintainer or last_commit("%an <%ae>")
     epoch = time_of_all()
-    tree = {**program_files(program), **script_files(), **manual_files(), **document_files(releases, maintainer)}
+    tree = {**program_files(program, checker), **script_files(), **manual_files(), **document_files(releases, maintainer)}
     control = control_files(tree, releases[0].version, maintainer)
     return built({**tree, **control}, os.path.join(output, f"{NAME}_{releases[0].version}_amd64.deb"), epoch)
 
@@ -153,8 +157,20 @@ def names_in(folder: str, end: str = "") -> list[str]:
     return sorted(f"{folder}/{one.name}" for one in os.scandir(os.path.join(TOP, folder)) if one.is_file() and one.name.endswith(end))
 
 
-def program_files(path: str) -> Tree:
-    """The program, once it was tried."""
+def program_files(program: str, checker: str) -> Tree:
+    """The programs, once they were tried."""
+    files = {"usr/bin/tml": program_at(program), "usr/bin/tml-verify": program_at(checker)}
+    said = said_by(files["usr/bin/tml"], "drill", "1")
+    if not (said.startswith("drill 1\n") and said.endswith("\nverified timeline\n")):
+        raise CannotMake(f"{program} does not answer `drill 1` as tml does")
+    sample = os.path.join(TOP, "crates", "tml_verify", "data", "rates")
+    if said_by(files["usr/bin/tml-verify"], f"{sample}.xml", f"{sample}.evidence").encode() != read("crates/tml_verify/stdout"):
+        raise CannotMake(f"{checker} does not verify a sample as tml-verify does")
+    return {**files, f"usr/share/lintian/overrides/{NAME}": File(template("lintian-overrides").encode())}
+
+
+def program_at(path: str) -> File:
+    """A program for amd64."""
     try:
         with open(path, "rb") as file:
             content = file.read()
@@ -162,12 +178,14 @@ def program_files(path: str) -> Tree:
         raise CannotMake(f"no program {path}: build it as README.md says, or name one ({problem.strerror})") from None
     if content[:5] != b"\x7fELF\x02" or content[18:20] != b"\x3e\0":
         raise CannotMake(f"{path} is no program for amd64")
+    return File(content, 0o755)
+
+
+def said_by(program: File, *words: str) -> str:
+    """What a program prints, run out of a folder of its own."""
     with tempfile.TemporaryDirectory() as folder:
-        write_tree(folder, {"tml": File(content, 0o755)})
-        said = run([os.path.join(folder, "tml"), "drill", "1"])
-    if not (said.startswith("drill 1\n") and said.endswith("\nverified timeline\n")):
-        raise CannotMake(f"{path} does not answer `drill 1` as tml does")
-    return {"usr/bin/tml": File(content, 0o755), f"usr/share/lintian/overrides/{NAME}": File(template("lintian-overrides").encode())}
+        write_tree(folder, {"program": program})
+        return run([os.path.join(folder, "program"), *words])
 
 
 def script_files() -> Tree:
