@@ -212,7 +212,7 @@ GROUPS: dict[str, dict[str, Slip]] = {
     },
     "signs of a tag lost or too many": {
         "< lost": replaced(rf"<(?=/?(?:{MARKED}|{LINKS}))", ""),
-        "> lost": replaced(rf"(?<=[\"TL3])>", ""),
+        "> lost": replaced(r"(?<=[\"TL3])>", ""),
         "/ of an empty tag lost": replaced(r"/>", ">"),
         "/ of an end tag lost": replaced(rf"</(?={MARKED})", "<"),
         "> of an empty tag lost": replaced(r"/>", "/"),

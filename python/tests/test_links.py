@@ -11,20 +11,20 @@ PAGES = sorted([*Path(TOP).glob("*.md"), *Path(TOP, "docs").glob("*.md"), *Path(
 LINK = re.compile(r"\]\(([^)#\s]*)(?:#([^)\s]*))?\)")
 
 
-def without_blocks(page):
+def without_blocks(page: Path) -> str:
     """A page without its blocks of code."""
     return re.sub(r"^```.*?^```$", "", page.read_text(encoding="utf-8"), flags=re.MULTILINE | re.DOTALL)
 
 
 @cache
-def anchors(page):
+def anchors(page: Path) -> set[str]:
     """The names by which the headings of a page can be linked to."""
     heads = re.findall(r"^#+ (.*)$", without_blocks(page), re.MULTILINE)
     return {re.sub(r"[^\w\- ]", "", head.lower()).replace(" ", "-") for head in heads}
 
 
 class Links(unittest.TestCase):
-    def test_lead_to_files_and_headings(self):
+    def test_lead_to_files_and_headings(self) -> None:
         for page in PAGES:
             for path, anchor in LINK.findall(without_blocks(page)):
                 with self.subTest(page=page.name, link=f"{path}#{anchor}"):
@@ -34,8 +34,8 @@ class Links(unittest.TestCase):
                     if anchor and target.suffix == ".md":
                         self.assertIn(anchor, anchors(target.resolve()))
 
-    def test_pages_that_sources_name_are_there(self):
-        files = [path for folder in ("tools", "crates", "bench") for path in Path(TOP, folder).rglob("*") if path.suffix in (".py", ".rt", ".rs", ".h")]
+    def test_pages_that_sources_name_are_there(self) -> None:
+        files = [path for folder in ("tools", "python", "crates", "bench") for path in Path(TOP, folder).rglob("*") if path.suffix in (".py", ".rt", ".rs", ".h")]
         for path in files:
             for name in re.findall(r"\bdocs/(\w+\.(?:md|1))\b", path.read_text(encoding="utf-8")):
                 self.assertTrue(Path(TOP, "docs", name).exists(), f"{path}: docs/{name}")

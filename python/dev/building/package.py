@@ -1,9 +1,9 @@
 """Makes a package for Debian of the programs tml and tml-verify, the tools, manual pages, documentation and completion; or,
 of the library for C, the packages libtml and libtml-dev.
 
-The version is that of the first heading of CHANGELOG.md. The programs have to be built before; tml has to answer `tml drill 1`, and
-tml-verify to verify a sample. They are packed byte for byte. The same files, at the same commit, give the same package: all times are that of the last
-commit of git, or SOURCE_DATE_EPOCH where it is set.
+The version is that of the first heading of CHANGELOG.md. The programs have to be built before; tml has to answer `tml drill 1`,
+and tml-verify to verify a sample. They are packed byte for byte. The same files, at the same commit, give the same package:
+all times are that of the last commit of git, or SOURCE_DATE_EPOCH where it is set.
 
 Example: tools/package --output /tmp && sudo apt install /tmp/tml-timeml_0.1.1_amd64.deb
 Example: tools/package --library crates/tml_c/out/libtml_c.a --output /tmp
