@@ -45,12 +45,12 @@ class Explanations(CorpusTest):
                 ('<EVENT eid="" class="STATE"/>', "2:1 this EVENT has no text: take it out, or add eid if it is meant"),
                 (
                     '<TLINK eventID="e1" relatedToEvent="e2" relType="ENDS"/>',
-                    "2:8 eventInstanceID is missing, and eventID is no attribute of TLINK; did you mean eventInstanceID? (tml-edit --instances does it)"
-                    "; and relatedToEventInstance is missing, and relatedToEvent is no attribute of TLINK; did you mean relatedToEventInstance?"
+                    "2:8 eventInstanceID is missing, and eventID is not a known attribute of TLINK; did you mean eventInstanceID? (tml-edit --instances does it)"
+                    "; and relatedToEventInstance is missing, and relatedToEvent is not a known attribute of TLINK; did you mean relatedToEventInstance?"
                     " (tml-edit --instances does it)",
                 ),
                 ('<MAKEINSTANCE eiid="i1"/>', "2:1 eventID is missing: the eid of an EVENT"),
-                ('<TIMEX3 tid="t" Type="DATE"/>', "2:17 type is missing, and Type is no attribute of TIMEX3; did you mean type?"),
+                ('<TIMEX3 tid="t" Type="DATE"/>', "2:17 type is missing, and Type is not a known attribute of TIMEX3; did you mean type?"),
                 (
                     '<TLINK timeID="t" relatedToTime="t" relType="MODAL"/>',
                     '2:37 relType="MODAL" is not a relation of TLINK but a relation of SLINK: BEFORE, AFTER, INCLUDES, IS_INCLUDED, DURING, '
@@ -185,11 +185,11 @@ class Explanations(CorpusTest):
     def test_markup(self):
         rows = [
             ("&", "1:9 write &amp; for the sign &"),
-            ("&eacute;", "1:9 &eacute; is an entity of HTML that XML has not: write é"),
-            ("&nbsp;", "1:9 &nbsp; is an entity of HTML that XML has not: write &#160;"),
+            ("&eacute;", "1:9 &eacute; is an HTML entity, undefined in XML: write é"),
+            ("&nbsp;", "1:9 &nbsp; is an HTML entity, undefined in XML: write &#160;"),
             ("&bank;", "1:9 &bank; is an entity that nothing declares: write what it stands for, or &amp;bank; for the sign &"),
             ("&lt ", "1:9 &lt lacks its ;: write &lt;"),
-            ("&#x;", "1:9 &#x; is no number of a character: write &# and 1 to 7 digits and ;, or &#x and 1 to 6 digits and ;"),
+            ("&#x;", "1:9 &#x; is not the number of a character: write &# and 1 to 7 digits and ;, or &#x and 1 to 6 digits and ;"),
             ("< 3", "1:9 no tag begins with this <: write &lt; for the sign <"),
             ("< EVENT>", "1:9 no space may stand after <: write <EVENT"),
             ("<P", "1:10 <P> has no >: write it after P"),

@@ -138,7 +138,7 @@ def lack(source: Source, tag: Unit, row: Row, found: Explanation) -> str:
             about(found, attribute)
             found.edits.append(Edit(attribute.start, attribute.start + len(encoded(attribute.name)), meant.encode()))
             hint = " (tml-edit --instances does it)" if attribute.name in OF_EVENTS else ""
-            return f"{meant} is missing, and {cut(attribute.name)} is no attribute of {tag.name}; did you mean {meant}?{hint}"
+            return f"{meant} is missing, and {cut(attribute.name)} is not a known attribute of {tag.name}; did you mean {meant}?{hint}"
     said, meant = wanted(source, tag, row)
     if empty is not None:
         about(found, empty)

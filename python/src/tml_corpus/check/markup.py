@@ -48,11 +48,11 @@ def bad_reference(source: Source, offset: int) -> Explanation:
     entity, ended = found[1].decode(), found[0].endswith(b";")
     where = Explanation(start=offset, end=found.end())
     if entity.startswith("#"):
-        where.text = f"{words(found[0])} is no number of a character: write &# and 1 to 7 digits and ;, or &#x and 1 to 6 digits and ;"
+        where.text = f"{words(found[0])} is not the number of a character: write &# and 1 to 7 digits and ;, or &#x and 1 to 6 digits and ;"
     elif not ended and (half := HALF_A_REFERENCE.match(document, offset)):
         half_a_reference(half, where)
     elif ended and entity + ";" in html5:
-        where.text = f"&{entity}; is an entity of HTML that XML has not: write {character_of(entity)}"
+        where.text = f"&{entity}; is an HTML entity, undefined in XML: write {character_of(entity)}"
     elif ended and entity:
         where.text = f"&{entity}; is an entity that nothing declares: write what it stands for, or &amp;{entity}; for the sign &"
     else:
@@ -72,13 +72,13 @@ def half_a_reference(half: re.Match[bytes], found: Explanation) -> None:
 
 
 def character_of(entity: str) -> str:
-    """The character of an entity of HTML, as it may be written: where it cannot be seen by its number."""
+    """The character of an HTML entity, as it may be written: where it cannot be seen by its number."""
     letters = html5[entity + ";"]
     return escape(letters) if letters.isprintable() and not letters.isspace() else "".join(f"&#{ord(letter)};" for letter in letters)
 
 
 def reference_edits(document: bytes) -> Iterator[Edit]:
-    """The edits for every `&` that begins no reference: the character of an entity of HTML, and else `&amp;`."""
+    """The edits for every unescaped `&`: the character of an HTML entity, and else `&amp;`."""
     passed = deque(passed_over(document))
     for found in re.finditer(rb"&(?:([A-Za-z0-9]{1,40});)?", document):
         while passed and passed[0][1] <= found.start():

@@ -26,7 +26,7 @@ def misspelled_attribute(source: Source) -> Iterator[Suspect]:
             at, missing = tag.start, set(TABLE.get(tag.name, ())).difference(one.name for one in tag.attributes)
         near = sorted(name for name in missing if one_letter_apart(attribute.name, name))
         if near:
-            text = f"{cut(attribute.name)} is no attribute of {tag.name} that means something; did you mean {' or '.join(near)}?"
+            text = f"{cut(attribute.name)} is not a known attribute of {tag.name}; did you mean {' or '.join(near)}?"
             edit = Edit(attribute.start, attribute.start + len(attribute.name.encode("utf-8", "surrogateescape")), near[0].encode())
             yield Suspect.of_attribute(tag, attribute, text, edit if len(near) == 1 else None)
 
@@ -34,7 +34,7 @@ def misspelled_attribute(source: Source) -> Iterator[Suspect]:
 def unknown_attribute(source: Source) -> Iterator[Suspect]:
     """An attribute that neither the profile nor TimeML knows."""
     for tag, attribute in unknown_attributes(source):
-        yield Suspect.of_attribute(tag, attribute, f"{cut(attribute.name)} is no attribute of {tag.name} that means something")
+        yield Suspect.of_attribute(tag, attribute, f"{cut(attribute.name)} is not a known attribute of {tag.name}")
 
 
 def unknown_attributes(source: Source) -> Iterator[tuple[Unit, Attribute]]:
