@@ -41,7 +41,7 @@ FOUND_LINK = "is a symbolic link that was found in a folder: name it to have wha
 Edits = Callable[[Source], Iterator[Edit]]
 FIXERS: dict[int, list[tuple[str, Edits]]] = {
     faults.NOT_UTF8: [("the encoding", lambda source: converted(source.document))],
-    faults.BAD_REFERENCE: [("& that begin no reference", lambda source: reference_edits(source.document))],
+    faults.BAD_REFERENCE: [("unescaped &", lambda source: reference_edits(source.document))],
     faults.BAD_MARKUP: [
         ("CDATA sections", lambda source: cdata_edits(source.document)),
         ("curly quotes", lambda source: quote_edits(source.document)),
@@ -77,7 +77,7 @@ class Step:
 
 @dataclass
 class Fixed:
-    """A document that was mended as far as there is one cure only, what was changed, and the fault that is left."""
+    """A document that was mended as far as there is one cure only, what was changed, and the fault that remains."""
 
     before: bytes
     after: bytes

@@ -70,11 +70,9 @@ def tags_words(words: Parser) -> None:
 def fix_words(words: Parser) -> None:
     """The words of `fix`."""
     words.description = (
-        "Mends what has one cure only, of faults and of warnings: as & that begin no reference, lost quotes, CDATA, "
-        "Latin-1, mistyped names, "
-        "values and dates, and references to an event that has one instance. It prints the changes, and writes them "
-        "where --write is given. "
-        "The status is 0 where tml accepts each file as it is then."
+        "Mends each fault and warning that has only one cure, such as an unescaped &, lost quotes, CDATA, Latin-1, mistyped names, "
+        "values and dates, and references to an event that has one instance. It prints the changes, and writes them with --write. "
+        "The status is 0 if tml then accepts each file."
     )
     words.epilog = "Example: tools/tml-corpus fix samples"
     what = words.add_mutually_exclusive_group()
