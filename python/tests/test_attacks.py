@@ -361,7 +361,7 @@ class Programs(AttackTest):
             with self.subTest(question):
                 ended = self.ended(command, tml=fake)
                 self.assertEqual((ended.status, ended.error), (2, ""))
-                self.assertRegex(ended.out, r"(?m)^2 files(: 1 accepted|: 0 with a clash, 1 without|, 1 not asked about)")
+                self.assertRegex(ended.out, r"(?m)^2 files(: 1 accepted|: 0 with a clash, 1 without|, 1 skipped)")
                 self.assertIn("and a text that does not go with it", ended.out)
 
     def test_a_program_that_hangs_is_ended_with_the_second_interruption(self):

@@ -325,7 +325,7 @@ class Tags(CorpusTest):
                 "        1       1  é  unknown, first at ./b.xml:1:35",
                 "        2       2  TimeML",
                 "        1       1  P",
-                "2 files: 4 names of tags, 2 unknown to tml; 0 not counted",
+                "2 files: 4 names of tags, 2 unknown to tml; 0 skipped",
             ],
         )
 

@@ -105,7 +105,7 @@ class RedundantLinks(ScriptTest):
         self.write("d.xml", document(f"<s>{EVENT} {A}</s>{INSTANCE}" + 2 * '<TLINK eventInstanceID="i1" relatedToTime="a" relType="ENDS"/>'))
         _, out, _ = self.run_script("redundant-links", "d.xml")
         self.assertEqual(out.splitlines()[0], "d.xml:2:114: follows: x ENDS a (link 0: i1 ENDS a)")
-        self.assertEqual(out.splitlines()[1:], ["1 file, 0 not asked about; links that follow from those that are kept: 1 of 2"])
+        self.assertEqual(out.splitlines()[1:], ["1 file, 0 skipped; links that follow from those that are kept: 1 of 2"])
 
     def test_what_is_named_follows_from_the_rest(self):
         names = [f"t{number}" for number in range(5)]
@@ -128,10 +128,10 @@ class RedundantLinks(ScriptTest):
         self.assertEqual(
             out.splitlines(),
             [
-                "./a.xml: not asked: fault 10 MissingAttribute at 2:1",
-                "./b.xml: not asked: no timeline fits it: see tml-corpus clashes",
-                "gone.xml: not asked: no such file or directory",
-                "4 files, 3 not asked about; links that follow from those that are kept: 0 of 1",
+                "./a.xml: skipped: fault 10 MissingAttribute at 2:1",
+                "./b.xml: skipped: its links contradict each other: see tml-corpus clashes",
+                "gone.xml: skipped: no such file or directory",
+                "4 files, 3 skipped; links that follow from those that are kept: 0 of 1",
             ],
         )
 

@@ -151,7 +151,7 @@ def agree_words(words: Parser) -> None:
     words.description = (
         "Compares the links of documents with those of the key, file by file of the same name: precision, recall and F1 over links without "
         "redundancy, as tml score counts them, then their sums and means over the corpus. What has no partner, a fault or a clash is "
-        "listed and not counted."
+        "listed and skipped."
     )
     words.epilog = "Example: tools/tml-corpus agree --links first second"
     words.add_argument("document", metavar="DIR", help="a folder, or a file")
