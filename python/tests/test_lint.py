@@ -367,7 +367,7 @@ class Baselines(CorpusTest):
         self.write("known", document(""))
         status, error = self.write_baseline("--lint", "d.xml")
         self.assertEqual((status, self.read("known")), (2, document("")))
-        self.assertIn("known:1:1: this is no baseline; --write-baseline writes one where there is no file, or over another one", error)
+        self.assertIn("known:1:1: this is not a baseline; --write-baseline creates one, or overwrites another", error)
         self.write("known", "")
         self.assertEqual(self.write_baseline("--lint", "d.xml"), (0, ""))
 

@@ -289,7 +289,7 @@ def conflict(source: Source, tag: Unit, found: Explanation) -> None:
 
 
 def bad_date(source: Source, tag: Unit, found: Explanation) -> None:
-    """Fault 13: a value that is no date."""
+    """Fault 13: a value that is not a date."""
     attribute = attribute_of(tag, "value")
     why = no_date(text_of(source, attribute)) if attribute is not None else None
     if attribute is not None and why is not None:

@@ -311,7 +311,7 @@ def less_than(source: Source, at: int, found: Explanation) -> None:
 
 
 def stray(source: Source, found: Explanation, tag: str, here: int, last: tuple[int, int]) -> None:
-    """What is no attribute and not the end of the tag."""
+    """What is neither an attribute nor the end of the tag."""
     document = source.document
     sign = words(document[here : here + 4])[:1]
     after = words(document[last[0] : last[1]])

@@ -149,7 +149,7 @@ def no_end_tag(source: Source, inner: Unit, tags: list[Unit], found: Explanation
     """A start tag that is open where another one is closed. How far it was to go is known of wrappers alone."""
     name, outer = cut(inner.name), tags[-2] if len(tags) > 1 else None
     if outer is not None and outer.name == inner.name and inner.name in TABLE and next(inner.attributes, None) is None:
-        found.text = f"<{name}> here is no start tag, since it has no attributes: write </{name}> for it"
+        found.text = f"<{name}> here is not a start tag, since it has no attributes: write </{name}> for it"
         found.edits.append(Edit(inner.start + 1, inner.start + 1, b"/"))
     elif inner.name in TABLE:
         found.text = f"<{name}> opened here has no end tag: write </{name}> right after its words"
@@ -217,7 +217,7 @@ def second_document(source: Source, unit: Unit, found: Explanation) -> None:
 
 
 def late_declaration(source: Source, unit: Unit, found: Explanation) -> None:
-    """A declaration before which something stands that is no document."""
+    """A declaration with something before it that is not a document."""
     before = source.document[: unit.start]
     if not without_invisible(before.decode("utf-8", "replace")).strip():
         found.text = f"<?xml ..?> has to come first: take out what stands before it ({counted(unit.start, 'byte')})"

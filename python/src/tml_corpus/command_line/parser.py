@@ -266,7 +266,7 @@ COMMANDS: Mapping[str, tuple[str, Callable[[Parser], None]]] = {
     "tags": ("count the names of tags, and say which of them tml does not know", tags_words),
     "clashes": ("show the links of each document that contradict each other", clashes_words),
     "fix": ("mend what has one cure only", fix_words),
-    "open": ("print the pairs of intervals that are open, those first of which one more link settles most", open_words),
+    "open": ("list undecided pairs, most informative first", open_words),
     "agree": ("say how far the links of two annotations of the same texts agree", agree_words),
     "report": ("write pages about all documents, to be opened in a browser", report_words),
     "timeline": ("draw the least timeline of a document", timeline_words),

@@ -277,7 +277,7 @@ def interval_of(word: Word, instances: dict[str, str], events: set[str], interva
     """The instance or time that a word of a table names: of an event the first instance."""
     name = word.text if word.text in events else instances.get(word.text, word.text)
     if name not in intervals or not IDENTIFIER.fullmatch(name):
-        raise word.wrong(f"{word.text} is no event and no time of the document")
+        raise word.wrong(f"{word.text} is not an event or a time of the document")
     return name
 
 
