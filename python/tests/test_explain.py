@@ -154,7 +154,7 @@ class Explanations(CorpusTest):
     def test_nesting(self):
         self.check(
             [
-                ("<TimeML>\n<P>\n<EVENT>x</P></TimeML>", "3:1 <EVENT> opened here has no end tag: write </EVENT> right after its words"),
+                ("<TimeML>\n<P>\n<EVENT>x</P></TimeML>", "3:1 <EVENT> is never closed: write </EVENT> right after its words"),
                 ("<TimeML><P><S>x</P></S></TimeML>", "1:12 <S> opened here crosses </P> at 1:16: exchange </P> and the </S> after it"),
                 ("<TimeML><P>x</p></TimeML>", "1:13 </p> does not close <P>, opened at 1:9: write </P>"),
                 ("<TimeML><P>x</S></TimeML>", "1:13 </S> does not close <P>, opened at 1:9: write </P>"),
@@ -168,7 +168,7 @@ class Explanations(CorpusTest):
                 ("<TimeML><HL/></TimeML>", "1:10 <HL> is not known: `tml-edit --unwrap HL` takes such tags out and leaves what they hold"),
                 ("<TimeML><TLINK>x</TLINK></TimeML>", "1:9 <TLINK> holds text (x), and may hold nothing: move it before this tag"),
                 ("<TimeML><TLINK>\n<TLINK/></TimeML>", "1:9 <TLINK> opened here is not closed before <TLINK/> at 2:1: write /> for its >"),
-                ("x<TimeML/>", "1:1 text stands before <TimeML>: is it part of the document? If so, move it behind that, and else take it out"),
+                ("x<TimeML/>", "1:1 there is text before <TimeML>: delete it or move it inside"),
                 ("x\ty\n", "1:1 the document has no <TimeML>: write <TimeML> before its text and </TimeML> after it"),
                 ("<TEXT/>", "1:1 the root has to be <TimeML>: write <TimeML> before <TEXT> and </TimeML> at the end"),
                 ("<TimeML><P><TimeML/></P></TimeML>", "1:12 <TimeML> stands inside of <TimeML>, opened at 1:1: does a second document begin here? If so, split it off, and else take the tag out"),

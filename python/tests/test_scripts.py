@@ -211,7 +211,7 @@ class Edits(ScriptTest):
     def test_what_cannot_be_changed(self):
         rows = [
             (1, document("&"), ["--unwrap", "P"], "tml-edit: d.xml: not changed: fault 2 BadReference at 2:1: mend it first\n"),
-            (1, document("<TLINK relType='NONE'>"), ["--drop-links", "NONE"], "tml-edit: d.xml: not changed: <TLINK> at 2:1 has no end tag\n"),
+            (1, document("<TLINK relType='NONE'>"), ["--drop-links", "NONE"], "tml-edit: d.xml: not changed: <TLINK> at 2:1 is never closed\n"),
             (1, document("<TLINK relType='OVERLAP'/>"), ["--overlaps"], "tml-edit: d.xml: not changed: <TLINK> at 2:1 lacks eventInstanceID or timeID\n"),
             (1, "<P>" + EVENT + "</P>", ["--instances"], "tml-edit: d.xml: not changed: there is no </TimeML>\n"),
             (1, document("<P a='1'/>"), ["--value", "P", "a", "1", "'"], "tml-edit: d.xml: not changed: fault 3 BadMarkup at 2:1: mend it first\n"),

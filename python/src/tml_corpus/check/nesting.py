@@ -152,9 +152,9 @@ def no_end_tag(source: Source, inner: Unit, tags: list[Unit], found: Explanation
         found.text = f"<{name}> here is not a start tag, since it has no attributes: write </{name}> for it"
         found.edits.append(Edit(inner.start + 1, inner.start + 1, b"/"))
     elif inner.name in TABLE:
-        found.text = f"<{name}> opened here has no end tag: write </{name}> right after its words"
+        found.text = f"<{name}> is never closed: write </{name}> right after its words"
     else:
-        found.text = f"<{name}> opened here has no end tag: write </{name}> after what it holds{before_what(source, inner)}"
+        found.text = f"<{name}> is never closed: write </{name}> after what it holds{before_what(source, inner)}"
 
 
 def before_what(source: Source, inner: Unit) -> str:
@@ -173,7 +173,7 @@ def unclosed(source: Source, unit: Unit | None, found: Explanation) -> None:
     else:
         inner = tags[-1]
         found.start, found.end = inner.start, inner.end
-        found.text = f"<{cut(inner.name)}> opened here has no end tag: see whether the end of the file was lost"
+        found.text = f"<{cut(inner.name)}> is never closed: see whether the end of the file was lost"
 
 
 def misplaced(source: Source, unit: Unit | None, found: Explanation) -> None:
@@ -245,9 +245,9 @@ def misplaced_text(source: Source, unit: Unit, found: Explanation) -> None:
         found.text = f"{hidden} stands here, which nobody sees, and nothing may stand outside of <{ROOT}>: take it out"
         found.edits.append(Edit(found.start, unit.start + len(raw.rstrip()), b""))
     elif has_tag_before(source, unit):
-        found.text = f"text stands after </{ROOT}>: is it part of the document? If so, move </{ROOT}> behind it, and else take it out"
+        found.text = f"there is text after </{ROOT}>: delete it or move </{ROOT}> after it"
     elif source.units.opening(ROOT):
-        found.text = f"text stands before <{ROOT}>: is it part of the document? If so, move it behind that, and else take it out"
+        found.text = f"there is text before <{ROOT}>: delete it or move it inside"
     else:
         found.text = f"the document has no <{ROOT}>: write <{ROOT}> before its text and </{ROOT}> after it"
 

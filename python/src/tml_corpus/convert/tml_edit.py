@@ -151,7 +151,7 @@ class Document:
         self.ends = self.units.end_tags() if self.ends is None else self.ends
         if unit.kind == "start" and unit.start not in self.ends:
             place = Places(self.text).place(unit.start)
-            raise CannotEdit(f"<{unit.name}> at {place.line}:{place.column} has no end tag")
+            raise CannotEdit(f"<{unit.name}> at {place.line}:{place.column} is never closed")
         end = self.units[self.ends[unit.start]] if unit.kind == "start" else unit
         return Edit(unit.start, end.end, text.encode("utf-8", "surrogateescape"))
 
