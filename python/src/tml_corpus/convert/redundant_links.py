@@ -69,7 +69,7 @@ def parser() -> ProgramParser:
     words.add_argument("paths", nargs="+", metavar="PATH", help="a file, or a folder to search")
     words.add_argument("--glob", action="append", metavar="PATTERN", help=f"names to look for in folders (default {' '.join(PATTERNS)})")
     words.add_argument("--tml", metavar="PROGRAM", help="the program tml (default: that of this repository, else that on PATH)")
-    words.add_argument("--jobs", type=int, default=processors(), metavar="N", help="how many files at once (default: one a processor)")
+    words.add_argument("--jobs", type=int, default=processors(), metavar="N", help="how many files at once (default: one per processor)")
     return words
 
 
