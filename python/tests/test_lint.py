@@ -123,13 +123,13 @@ class Warnings(CorpusTest):
         )
 
     def test_links(self):
-        given = "given at 2:171 already: see whether another pair is meant, or take one of the two out"
+        given = "given at 2:171 already: see whether another pair is meant, or delete one of the two"
         self.check(
             [
                 (link("ENDS", "i1", "i1"), ["3:1 self-link: this link is from i1 to i1: one of the two is meant to be another one"]),
                 (link("DURING"), [f"3:1 repeated-link: i1 DURING t0 is {given}"]),
                 (link("DURING_INV", "t0", "i1"), [f"3:1 repeated-link: t0 DURING_INV i1 is {given}"]),
-                (link("OVERLAPS") + link("OVERLAPPED_BY", "t0", "i1"), ["3:68 repeated-link: t0 OVERLAPPED_BY i1 is given at 3:1 already: see whether another pair is meant, or take one of the two out"]),
+                (link("OVERLAPS") + link("OVERLAPPED_BY", "t0", "i1"), ["3:68 repeated-link: t0 OVERLAPPED_BY i1 is given at 3:1 already: see whether another pair is meant, or delete one of the two"]),
                 (link("OVERLAPS") + link("OVERLAPPED_BY"), []),
                 (link("DURING", "t0", "i1"), []),
                 (link("ENDS"), []),

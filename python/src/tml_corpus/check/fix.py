@@ -48,7 +48,7 @@ FIXERS: dict[int, list[tuple[str, Edits]]] = {
     ],
     faults.UNKNOWN_TAG: [("names of tags", name_edits)],
     faults.UNBALANCED: [("names of tags", end_edits)],
-    faults.REPEATED: [("attributes that stand twice", lambda source: cures_of_tags(source, faults.REPEATED))],
+    faults.REPEATED: [("repeated attributes", lambda source: cures_of_tags(source, faults.REPEATED))],
     faults.MISSING: [("names of attributes, and identifiers", lambda source: cures_of_tags(source, faults.MISSING))],
     faults.BAD_VALUE: [("values", lambda source: cures_of_tags(source, faults.BAD_VALUE))],
     faults.CONFLICT: [("ends of links", lambda source: cures_of_tags(source, faults.CONFLICT))],

@@ -198,12 +198,12 @@ def declaration(source: Source, at: int, found: Explanation) -> None:
     called = words(name[0]) if name else ""
     subset = SUBSET.match(document, found.end)
     if called.upper() != "DOCTYPE":
-        found.text = f"<!{called} is not read: take it out, up to its >"
+        found.text = f"<!{called} is not read: delete it, up to its >"
     elif called != "DOCTYPE":
         found.text = f"write <!DOCTYPE for <!{called}"
     elif subset is not None:
         found.start, found.end = subset.end() - 1, subset.end()
-        found.text = "a doctype with a subset of its own is not read: take out all from [ to ]"
+        found.text = "a doctype with a subset of its own is not read: delete all from [ to ]"
     else:
         found.text = "this doctype has no >"
 
@@ -219,7 +219,7 @@ def instruction(source: Source, at: int, found: Explanation) -> None:
     elif called.lower() == "xml":
         found.text = "write <?xml, a space and what is declared"
     else:
-        found.text = f"a processing instruction is not read: take out <?{called} .. ?>"
+        found.text = f"a processing instruction is not read: delete <?{called} .. ?>"
 
 
 def end_tag(source: Source, at: int, found: Explanation) -> None:
@@ -297,7 +297,7 @@ def less_than(source: Source, at: int, found: Explanation) -> None:
     if at + 1 >= len(document):
         found.text = "the file ends with a <: write &lt;, or see whether its end was lost"
     elif document[at + 1 : at + 2] == b"<" and NAME.match(document, at + 2):
-        found.text = "< stands twice: take one of the two out"
+        found.text = "< appears twice: delete one of the two"
         found.edits.append(Edit(at, at + 1, b""))
     elif spaced and (words(spaced[0]) in TAGS):
         found.end = spaced.end()
@@ -325,10 +325,10 @@ def stray(source: Source, found: Explanation, tag: str, here: int, last: tuple[i
         found.text = f"this / is not followed by >: write /> at the end of <{tag}>"
         found.edits += [Edit(here + 1, here + 1, b">")] if tag in LINK_TAGS else []
     elif sign in ",;":
-        found.text = f"no {sign} may stand between attributes: take it out"
+        found.text = f"no {sign} may stand between attributes: delete it"
         found.edits.append(Edit(found.start, found.end, b""))
     elif sign in "\"'" or sign in CURLY:
-        found.text = f"one quote too many after {after}: take it out"
+        found.text = f"one quote too many after {after}: delete it"
         found.edits.append(Edit(found.start, found.end, b""))
     else:
         found.text = f"no attribute begins with {sign}: after {after} a name, > or /> may come"
@@ -367,7 +367,7 @@ def no_value(source: Source, found: Explanation, tag: str, attribute: tuple[int,
     following = re.compile(rb"[ \t\r\n]*(?:/?>|[A-Za-z_:\x80-\xff][A-Za-z0-9_:.\-\x80-\xff]*[ \t\r\n]*=)").match(document, attribute[1])
     if following or same_but_for_case(name, TABLE.get(tag, {})):
         found.start, found.end = attribute
-        found.text = f'{name} has no value: write {name}="..", or take it out'
+        found.text = f'{name} has no value: write {name}="..", or delete it'
     else:
         no_end(found, tag, words(document[last[0] : last[1]]), last)
 

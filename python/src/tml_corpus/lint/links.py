@@ -42,7 +42,7 @@ def repeated_link(source: Source) -> Iterator[Suspect]:
         elif left != right:
             where = source.at(first.start)
             yield Suspect(
-                tag, f"{left} {relation} {right} is given at {where} already: see whether another pair is meant, or take one of the two out"
+                tag, f"{left} {relation} {right} is given at {where} already: see whether another pair is meant, or delete one of the two"
             )
 
 

@@ -96,7 +96,7 @@ def version_mark(source: Source) -> Iterator[Suspect]:
     root = source.units.first_tag()
     if root is not None and first_conflict(source.document) is not None:
         for start, end in version_marks(source.document):
-            yield Suspect(root, "a mark of version control: see which version of these lines is right, and take the mark out", (start, end))
+            yield Suspect(root, "a mark of version control: see which version of these lines is right, and delete the mark", (start, end))
 
 
 def tag_as_text(source: Source) -> Iterator[Suspect]:
