@@ -180,8 +180,8 @@ class Warnings(CorpusTest):
         where = "see which words each is around, and whether one is too many"
         self.check(
             [
-                (time('type="DATE" value="1998"', second) + linked, [f"3:43 nested-tag: this EVENT stands inside of the TIMEX3 at 3:1: {where}"]),
-                (second.replace("y", "<P>" + time('type="DATE" value="1998"') + "</P>") + linked, [f"3:34 nested-tag: this TIMEX3 stands inside of the EVENT at 3:1: {where}"]),
+                (time('type="DATE" value="1998"', second) + linked, [f"3:43 nested-tag: this EVENT is inside the TIMEX3 at 3:1: {where}"]),
+                (second.replace("y", "<P>" + time('type="DATE" value="1998"') + "</P>") + linked, [f"3:34 nested-tag: this TIMEX3 is inside the EVENT at 3:1: {where}"]),
                 (second.replace("y", '<SIGNAL sid="s1">y</SIGNAL>') + linked, []),
             ]
         )

@@ -65,7 +65,7 @@ def half_a_reference(half: re.Match[bytes], found: Explanation) -> None:
     """A reference without its semicolon, unless letters follow: then it may as well be the sign `&` before a word."""
     name, rest = half[1].decode(), half[2].decode()
     if rest:
-        found.text = f"&{name} lacks its ;, or the sign & stands before {name}{rest}: write &{name};{rest} or &amp;{name}{rest}"
+        found.text = f"&{name} lacks its ;, or the sign & comes before {name}{rest}: write &{name};{rest} or &amp;{name}{rest}"
     else:
         found.text = f"&{name} lacks its ;: write &{name};"
         found.edits.append(Edit(half.end(), half.end(), b";"))
@@ -229,7 +229,7 @@ def end_tag(source: Source, at: int, found: Explanation) -> None:
     if name is None:
         spaced = NAME.match(document, past_spaces(document, at + 2))
         found.end = spaced.end() if spaced else at + 2
-        found.text = f"no space may stand after </: write </{words(spaced[0])}>" if spaced else "this end tag has no name"
+        found.text = f"no space is allowed after </: write </{words(spaced[0])}>" if spaced else "this end tag has no name"
         found.edits += [Edit(at + 2, spaced.start(), b"")] if spaced else []
         return
     called, rest = words(name[0]), past_spaces(document, name.end())
@@ -284,7 +284,7 @@ def not_seen(source: Source, name: re.Match[bytes], found: Explanation) -> bool:
         if hidden:
             found.start = begin + len(text[: hidden.start()].encode())
             found.end = found.start + len(hidden[0].encode())
-            found.text = f"{named(hidden[0])} stands here, which nobody sees: write a space for it"
+            found.text = f"{named(hidden[0])}, which nobody sees, is here: write a space for it"
             found.edits.append(Edit(found.start, found.end, b" "))
             return True
     return False
@@ -301,7 +301,7 @@ def less_than(source: Source, at: int, found: Explanation) -> None:
         found.edits.append(Edit(at, at + 1, b""))
     elif spaced and (words(spaced[0]) in TAGS):
         found.end = spaced.end()
-        found.text = f"no space may stand after <: write <{words(spaced[0])}"
+        found.text = f"no space is allowed after <: write <{words(spaced[0])}"
         found.edits.append(Edit(at + 1, spaced.start(), b""))
     elif ATTRIBUTE.match(document, at + 1) or document[at + 1 : at + 2] == b">" or (spaced and EQUALS.match(document, spaced.end())):
         found.text = "the name of this tag is missing: write it after <"
@@ -325,7 +325,7 @@ def stray(source: Source, found: Explanation, tag: str, here: int, last: tuple[i
         found.text = f"this / is not followed by >: write /> at the end of <{tag}>"
         found.edits += [Edit(here + 1, here + 1, b">")] if tag in LINK_TAGS else []
     elif sign in ",;":
-        found.text = f"no {sign} may stand between attributes: delete it"
+        found.text = f"no {sign} is allowed between attributes: delete it"
         found.edits.append(Edit(found.start, found.end, b""))
     elif sign in "\"'" or sign in CURLY:
         found.text = f"one quote too many after {after}: delete it"

@@ -263,7 +263,7 @@ def misplaced_tag(source: Source, unit: Unit, found: Explanation) -> None:
     elif open_tags(source.units, unit.start):
         root_inside(source, unit, first, last, found)
     else:
-        found.text = f"<{cut(unit.name)}> stands after </{ROOT}> at {source.at(last.start)}: move </{ROOT}> to the end of the document"
+        found.text = f"<{cut(unit.name)}> comes after </{ROOT}> at {source.at(last.start)}: move </{ROOT}> to the end of the document"
         if last.name == ROOT and last.kind == "end" and not any(one.name == ROOT for one in source.units.after(last.start)):
             end = source.document[last.start : last.end]
             found.edits += [Edit(last.start, last.end, b""), Edit(len(source.document), len(source.document), end + b"\n")]
@@ -271,7 +271,7 @@ def misplaced_tag(source: Source, unit: Unit, found: Explanation) -> None:
 
 def root_inside(source: Source, unit: Unit, first: Unit, last: Unit, found: Explanation) -> None:
     """A root inside of a root: pasted twice, or the beginning of another document."""
-    said = f"<{ROOT}> stands inside of <{ROOT}>, opened at {source.at(first.start)}"
+    said = f"<{ROOT}> is inside <{ROOT}>, opened at {source.at(first.start)}"
     if last != first:
         found.text = f"{said}: does a second document begin here? If so, split it off; otherwise delete the tag"
         return

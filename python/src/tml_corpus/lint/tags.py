@@ -84,7 +84,7 @@ def nested_tag(source: Source) -> Iterator[Suspect]:
             where = source.at(outer.start)
             yield Suspect(
                 tag,
-                f"this {tag.name} stands inside of the {outer.name} at {where}: see which words each is around, and "
+                f"this {tag.name} is inside the {outer.name} at {where}: see which words each is around, and "
                 f"whether one is too many",
             )
         if units.kinds[row] == START:
