@@ -272,7 +272,7 @@ class Tables(ScriptTest):
         rows = [
             ({"base_segmentation": "a 0 0\n"}, "base-segmentation.tab:1:6: 3 of 4 columns: document, sentence, token number, token"),
             ({"base_segmentation": "a x 0 0\n"}, "base-segmentation.tab:1:3: 'x' is not a number of at most 9 digits"),
-            ({"base_segmentation": "../a 0 0 x\n"}, "is no name for a file"),
+            ({"base_segmentation": "../a 0 0 x\n"}, "is not a name for a file"),
             ({"base_segmentation": base, "event_extents": "a 0 7 event e1 1\n"}, "e1 stands at a token that is not there"),
             ({"base_segmentation": base, "event_extents": "a 0 0 event e1 1\na 0 2 event e1 1\n"}, "the tokens of e1 do not follow each other"),
             (
