@@ -153,8 +153,8 @@ DOING = [
     (r": write another one here, such as (\S+)", lambda document, start, end, found: new_value(document, start, end, found[1])),
     (r"^(\w+) is missing: an identifier that no other tag has, such as (\S+)", lambda document, start, end, found: document[:start] + re.sub(rb"<\w+", lambda tag: tag[0] + f' {found[1]}="{found[2]}"'.encode(), document[start:], count=1)),
     (r"add (<MAKEINSTANCE [^<>]*/>)", lambda document, start, end, found: at_the_end(document, found[1])),
-    (r"take out what stands before it", lambda document, start, end, found: document[start:]),
-    (r": take it out", lambda document, start, end, found: document[:start] + document[end:]),
+    (r"delete what is before it", lambda document, start, end, found: document[start:]),
+    (r": delete it(?! or move)", lambda document, start, end, found: document[:start] + document[end:]),
     (r"^write (\S+) for|: write (/>|&\w+;|<\w+)$", lambda document, start, end, found: put(document, start, end, found[1] or found[2])),
 ]  # fmt: skip
 """What a sentence says, and how it is done to the stretch that is marked."""

@@ -313,7 +313,7 @@ GROUPS: dict[str, dict[str, Slip]] = {
     "& and < in the text, entities, CDATA": {
         "& in the text": replaced(r"&amp;", "&"),
         "half a reference": replaced(r"&amp;", "&amp"),
-        "entity of HTML": replaced(r"é", "&eacute;"),
+        "HTML entity": replaced(r"é", "&eacute;"),
         "< in the text": replaced(r"&lt;", "<"),
         "CDATA": replaced(r"AT&amp;T", "<![CDATA[AT&T]]>"),
     },

@@ -21,7 +21,7 @@ from tml_corpus.asking.pool import nothing
 from tml_corpus.asking.program import Program
 from tml_corpus.files.finding import Found
 
-NOTHING_LEFT_OUT = "not counted: 0 without a partner, 0 with a fault, 0 with a clash, 0 not judged"
+NOTHING_LEFT_OUT = "skipped: 0 without a partner, 0 with a fault, 0 with a clash, 0 not judged"
 
 
 def three(*links):
@@ -81,12 +81,12 @@ class Pairs(AgreeTest):
         self.write("a/name.txt", "no document")
         status, lines, error = self.run_it("agree", "a", "b")
         self.assertEqual((status, error), (1, ""))
-        begins = ["chain.xml", "x/one.xml", "b/x/other.tml", "micro", "macro", "2 pairs counted; not counted"]
+        begins = ["chain.xml", "x/one.xml", "b/x/other.tml", "micro", "macro", "2 pairs counted; skipped"]
         self.assertEqual([line.split(":")[0] for line in lines], begins)
-        self.assertEqual(lines[2], "b/x/other.tml: not counted: there is no a/x/other.tml")
+        self.assertEqual(lines[2], "b/x/other.tml: skipped: there is no a/x/other.tml")
         self.assertEqual(lines[3], "micro: precision 1 of 3 (0.333), recall 2 of 2 (1.000), F1 0.500")
         self.assertEqual(lines[4], "macro: precision 0.500 (of 2 pairs), recall 1.000 (of 2 pairs), F1 0.500 (of 2 pairs)")
-        self.assertEqual(lines[5], "2 pairs counted; not counted: 1 without a partner, 0 with a fault, 0 with a clash, 0 not judged")
+        self.assertEqual(lines[5], "2 pairs counted; skipped: 1 without a partner, 0 with a fault, 0 with a clash, 0 not judged")
         self.assertEqual(self.run_it("agree", "--glob", "one.*", "a", "b")[0], 0)
 
     def test_what_is_not_counted(self):
@@ -101,20 +101,20 @@ class Pairs(AgreeTest):
         self.write("b/pipe.xml", three())
         status, lines, _ = self.run_it("agree", "a", "b")
         self.assertEqual(status, 2)
-        fits = "no timeline fits it: see tml-corpus clashes"
+        fits = "its links contradict each other: see tml-corpus clashes"
         self.assertEqual(
             lines[:6],
             [
-                f"a/c1.xml: not counted: {fits}",
-                f"b/c2.xml: not counted: {fits}",
+                f"a/c1.xml: skipped: {fits}",
+                f"b/c2.xml: skipped: {fits}",
                 "chain.xml: precision 0 of 2 (0.000), recall 1 of 1 (1.000), F1 0.000",
-                "a/f1.xml: not counted: fault 6 Unclosed at 2:1",
-                "b/f2.xml: not counted: fault 6 Unclosed at 2:4",
-                "b/long.xml: not counted: the file has more than 4,194,304 bytes",
+                "a/f1.xml: skipped: fault 6 Unclosed at 2:1",
+                "b/f2.xml: skipped: fault 6 Unclosed at 2:4",
+                "b/long.xml: skipped: the file has more than 4,194,304 bytes",
             ],
         )
-        self.assertEqual(lines[6], "a/pipe.xml: not counted: is not a regular file")
-        self.assertEqual(lines[-1], "1 pair counted; not counted: 0 without a partner, 2 with a fault, 2 with a clash, 2 not judged")
+        self.assertEqual(lines[6], "a/pipe.xml: skipped: is not a regular file")
+        self.assertEqual(lines[-1], "1 pair counted; skipped: 0 without a partner, 2 with a fault, 2 with a clash, 2 not judged")
 
     def test_dates_that_touch(self):
         days = "".join(f'<TIMEX3 tid="t{day}" type="DATE" value="1998-01-0{day}"/>' for day in (1, 2, 3))
@@ -135,7 +135,7 @@ class Pairs(AgreeTest):
         self.assertTrue(json.loads(lines[0])["readTouching"])
         self.write("b/chain.xml", three((1, "BEFORE", 1)))
         _, lines, _ = self.run_it("agree", "--touching", "a", "b")
-        self.assertEqual(lines[0], "b/chain.xml: not counted: no timeline fits it: see tml-corpus clashes")
+        self.assertEqual(lines[0], "b/chain.xml: skipped: its links contradict each other: see tml-corpus clashes")
 
     def test_documents_without_links(self):
         self.write("a/none.xml", three())
@@ -160,8 +160,8 @@ class Pairs(AgreeTest):
         os.mkdir(self.path("empty"))
         status, lines, _ = self.run_it("agree", "a", "empty")
         self.assertEqual(status, 2)
-        alone = "a/chain.xml: not counted: there is no empty/chain.xml"
-        self.assertEqual(lines[:2], [alone, "empty: not counted: no file in this folder matches *.tml or *.xml"])
+        alone = "a/chain.xml: skipped: there is no empty/chain.xml"
+        self.assertEqual(lines[:2], [alone, "empty: skipped: no file in this folder matches *.tml or *.xml"])
 
     def test_wrappers_of_a_corpus(self):
         self.write("tml-corpus.toml", 'wrappers = ["chunk"]\n')
@@ -222,7 +222,7 @@ class Links(AgreeTest):
                 self.write("b/chain.xml", three((1, "BEFORE", 3), *more))
                 status, lines, _ = self.run_it("agree", "--links", "a", "b", tml=self.path("fake"))
                 self.assertEqual(status, 2, lines)
-                self.assertRegex(lines[0], r"^a/chain\.xml: not counted: the answers of tml to .* do not belong together$")
+                self.assertRegex(lines[0], r"^a/chain\.xml: skipped: the answers of tml to .* do not belong together$")
 
 
 class Forms(AgreeTest):
@@ -230,7 +230,7 @@ class Forms(AgreeTest):
         self.write("a/alone.xml", three())
         status, lines, error = self.run_it("agree", "--links", "--format", "jsonl", "a", "b")
         pair, left_out, sums = map(json.loads, lines)
-        sum_line = "1 pair counted; not counted: 1 without a partner, 0 with a fault, 0 with a clash, 0 not judged\n"
+        sum_line = "1 pair counted; skipped: 1 without a partner, 0 with a fault, 0 with a clash, 0 not judged\n"
         self.assertEqual((status, error), (1, sum_line))
         names = ("name", "path", "key", "matched", "documentLinks", "found", "keyLinks")
         self.assertEqual([pair[name] for name in names], ["chain.xml", "a/chain.xml", "b/chain.xml", 0, 2, 1, 1])

@@ -361,7 +361,7 @@ class Programs(AttackTest):
             with self.subTest(question):
                 ended = self.ended(command, tml=fake)
                 self.assertEqual((ended.status, ended.error), (2, ""))
-                self.assertRegex(ended.out, r"(?m)^2 files(: 1 accepted|: 0 with a clash, 1 without|, 1 not asked about)")
+                self.assertRegex(ended.out, r"(?m)^2 files(: 1 accepted|: 0 with a clash, 1 without|, 1 skipped)")
                 self.assertIn("and a text that does not go with it", ended.out)
 
     def test_a_program_that_hangs_is_ended_with_the_second_interruption(self):
@@ -608,19 +608,19 @@ TABLES = (
     ("from-tempeval2", "base-segmentation.tab", "a\tx\t0\ty\n", "1:3: 'x' is not a number of at most 9 digits"),
     ("from-tempeval2", "base-segmentation.tab", "a\t0\t" + "9" * 5000 + "\ty\n", "1:5: '9"),
     ("from-tempeval2", "base-segmentation.tab", "a\t0\t\u0661\ty\n", "1:5: '\u0661' is not a number"),
-    ("from-tempeval2", "base-segmentation.tab", "../a\t0\t0\ty\n", "1:1: '../a' is no name for a file"),
-    ("from-tempeval2", "base-segmentation.tab", "a\u202e\t0\t0\ty\n", "1:1: 'a\\u202e' is no name for a file"),
-    ("from-tempeval2", "base-segmentation.tab", "\x9b31m\t0\t0\ty\n", "1:1: '\\x9b31m' is no name for a file"),
+    ("from-tempeval2", "base-segmentation.tab", "../a\t0\t0\ty\n", "1:1: '../a' is not a name for a file"),
+    ("from-tempeval2", "base-segmentation.tab", "a\u202e\t0\t0\ty\n", "1:1: 'a\\u202e' is not a name for a file"),
+    ("from-tempeval2", "base-segmentation.tab", "\x9b31m\t0\t0\ty\n", "1:1: '\\x9b31m' is not a name for a file"),
     ("from-tempeval2", "base-segmentation.tab", "a\t0\t0\tx\x1b[31m\n", "1:8: the character U+001B is none of XML"),
     ("from-tempeval2", "base-segmentation.tab", "a\x01\t0\t0\tx\n", "1:2: the character U+0001 is none of XML"),
     ("from-tempeval2", "base-segmentation.tab", "É\t0\t0\tx\né\t0\t0\ty\n", "2:1: 'é' and 'É' are one name where the case of letters does not count"),
     ("from-tempeval2", "base-segmentation.tab", "a\t0\t0\tx\na\t0\t1\t" + "y" * 70_000, "2:1: the line has more than 65,536 bytes"),
     ("from-tempeval2", "timex-attributes.tab", "a\t0\t0\ttimex3\tt1\t1\ttype\t\uffff\n", "1:24: the character U+FFFF is none of XML"),
-    ("from-tempeval2", "event-extents.tab", "b\t0\t0\tevent\te1\t1\n", "1:1: 'b' is no document of base-segmentation.tab"),
+    ("from-tempeval2", "event-extents.tab", "b\t0\t0\tevent\te1\t1\n", "1:1: 'b' is not a document of base-segmentation.tab"),
     ("from-tempeval2", "event-extents.tab", "a\t0\t7\tevent\te1\t1\n", "1:5: e1 stands at a token that is not there"),
     ("from-tempeval2", "event-attributes.tab", "a\t0\t0\tevent\te1\t1\tclass\tSTATE\n", "1:13: e1 has attributes and no extent"),
     ("from-tempeval2", "tlinks-x.tab", "a\te1\n", "1:5: 2 of 4 columns"),
-    ("tml-edit", "table", "good a a b\ngood a c b\n", "2:8: c is no event and no time of the document"),
+    ("tml-edit", "table", "good a a b\ngood a c b\n", "2:8: c is not an event or a time of the document"),
     ("tml-edit", "table", "good a a\n", "1:8: the line is not a name, two intervals and a relation"),
     ("tml-edit", "table", b"good a a b\n\xc3\xa9 \xe9\n", "2:3: the byte E9 is not UTF-8"),
     ("tml-edit", "table", "good a a b\n" + "x" * 70_000, "2:1: the line has more than 65,536 bytes"),
@@ -685,7 +685,7 @@ class Tables(AttackTest):
         self.write("in/timex-attributes.tab", 'a\t0\t0\ttimex3\tt1\t1\tx="1"><P\ty\n')
         ended = self.ended(self.of("from-tempeval2"))
         self.assertEqual(ended.status, 1)
-        self.assertIn("timex-attributes.tab:1:19: 'x=\"1\"><P' is no name of an attribute", ended.error)
+        self.assertIn("timex-attributes.tab:1:19: 'x=\"1\"><P' is not a name of an attribute", ended.error)
 
 
 class WhereItLies(AttackTest):

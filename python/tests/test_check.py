@@ -13,7 +13,7 @@ from corpus import EVENT, TML, TOP, CorpusTest, document
 
 GOOD = document(EVENT)
 BAD = document("<EVENT/>")
-NO_TEXT = "this EVENT has no text: take it out, or add eid and class if it is meant"
+NO_TEXT = "this EVENT has no text: delete it, or add eid and class if it is meant"
 
 
 class Sentences(unittest.TestCase):

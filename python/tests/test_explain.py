@@ -32,7 +32,7 @@ class Explanations(CorpusTest):
     def test_attributes(self):
         self.check(
             [
-                ('<EVENT eid="e1" class="STATE" eid="e2"/>', '2:31 eid stands twice, as eid="e1" and as eid="e2": take the wrong one of the two out'),
+                ('<EVENT eid="e1" class="STATE" eid="e2"/>', '2:31 eid appears twice, as eid="e1" and as eid="e2": delete the wrong one'),
                 ("<SIGNAL/>", "2:1 sid is missing: an identifier that no other tag has, such as s2"),
                 (
                     '<TLINK timeID="t" relType="ENDS"/>',
@@ -42,15 +42,15 @@ class Explanations(CorpusTest):
                     '<EVENT eid="" class="STATE">x</EVENT>',
                     "2:8 eid is empty: an identifier that no other tag has, such as e2",
                 ),
-                ('<EVENT eid="" class="STATE"/>', "2:1 this EVENT has no text: take it out, or add eid if it is meant"),
+                ('<EVENT eid="" class="STATE"/>', "2:1 this EVENT has no text: delete it, or add eid if it is meant"),
                 (
                     '<TLINK eventID="e1" relatedToEvent="e2" relType="ENDS"/>',
-                    "2:8 eventInstanceID is missing, and eventID is no attribute of TLINK; did you mean eventInstanceID? (tml-edit --instances does it)"
-                    "; and relatedToEventInstance is missing, and relatedToEvent is no attribute of TLINK; did you mean relatedToEventInstance?"
+                    "2:8 eventInstanceID is missing, and eventID is not a known attribute of TLINK; did you mean eventInstanceID? (tml-edit --instances does it)"
+                    "; and relatedToEventInstance is missing, and relatedToEvent is not a known attribute of TLINK; did you mean relatedToEventInstance?"
                     " (tml-edit --instances does it)",
                 ),
                 ('<MAKEINSTANCE eiid="i1"/>', "2:1 eventID is missing: the eid of an EVENT"),
-                ('<TIMEX3 tid="t" Type="DATE"/>', "2:17 type is missing, and Type is no attribute of TIMEX3; did you mean type?"),
+                ('<TIMEX3 tid="t" Type="DATE"/>', "2:17 type is missing, and Type is not a known attribute of TIMEX3; did you mean type?"),
                 (
                     '<TLINK timeID="t" relatedToTime="t" relType="MODAL"/>',
                     '2:37 relType="MODAL" is not a relation of TLINK but a relation of SLINK: BEFORE, AFTER, INCLUDES, IS_INCLUDED, DURING, '
@@ -83,7 +83,7 @@ class Explanations(CorpusTest):
                 ),
                 (
                     '<TIMEX3 tid="t" type="SET"/><TLINK timeID="t" eventInstanceID="i" relatedToTime="t" relType="ENDS"/>',
-                    '2:47 eventInstanceID="i" and timeID="t" both name the first end of the link: take eventInstanceID out, since no tag has this identifier',
+                    '2:47 eventInstanceID="i" and timeID="t" both name the first end of the link: delete eventInstanceID, since no tag has this identifier',
                 ),
             ]
         )
@@ -119,7 +119,7 @@ class Explanations(CorpusTest):
         second = '<EVENT eid="e2" class="STATE">y</EVENT>'
         self.check(
             [
-                (EVENT + '<SIGNAL sid="e1"/>', '2:48 sid="e1" is the eid of the EVENT at 2:1 too: take it out if it was pasted, and if not write another one here, such as s2'),
+                (EVENT + '<SIGNAL sid="e1"/>', '2:48 sid="e1" is the eid of the EVENT at 2:1 too: delete it if it was pasted, and if not write another one here, such as s2'),
                 ("<MAKEINSTANCE eiid='i1' eventID = 'e1' tense='PAST'/>", '2:25 no EVENT has eid="e1", and the document has no EVENT: add one'),
                 (
                     EVENT + INSTANCE + '<TLINK eventInstanceID="e1" relatedToTime="t" relType="ENDS"/>',
@@ -154,7 +154,7 @@ class Explanations(CorpusTest):
     def test_nesting(self):
         self.check(
             [
-                ("<TimeML>\n<P>\n<EVENT>x</P></TimeML>", "3:1 <EVENT> opened here has no end tag: write </EVENT> right after its words"),
+                ("<TimeML>\n<P>\n<EVENT>x</P></TimeML>", "3:1 <EVENT> is never closed: write </EVENT> right after its words"),
                 ("<TimeML><P><S>x</P></S></TimeML>", "1:12 <S> opened here crosses </P> at 1:16: exchange </P> and the </S> after it"),
                 ("<TimeML><P>x</p></TimeML>", "1:13 </p> does not close <P>, opened at 1:9: write </P>"),
                 ("<TimeML><P>x</S></TimeML>", "1:13 </S> does not close <P>, opened at 1:9: write </P>"),
@@ -168,12 +168,12 @@ class Explanations(CorpusTest):
                 ("<TimeML><HL/></TimeML>", "1:10 <HL> is not known: `tml-edit --unwrap HL` takes such tags out and leaves what they hold"),
                 ("<TimeML><TLINK>x</TLINK></TimeML>", "1:9 <TLINK> holds text (x), and may hold nothing: move it before this tag"),
                 ("<TimeML><TLINK>\n<TLINK/></TimeML>", "1:9 <TLINK> opened here is not closed before <TLINK/> at 2:1: write /> for its >"),
-                ("x<TimeML/>", "1:1 text stands before <TimeML>: is it part of the document? If so, move it behind that, and else take it out"),
+                ("x<TimeML/>", "1:1 there is text before <TimeML>: delete it or move it inside"),
                 ("x\ty\n", "1:1 the document has no <TimeML>: write <TimeML> before its text and </TimeML> after it"),
                 ("<TEXT/>", "1:1 the root has to be <TimeML>: write <TimeML> before <TEXT> and </TimeML> at the end"),
-                ("<TimeML><P><TimeML/></P></TimeML>", "1:12 <TimeML> stands inside of <TimeML>, opened at 1:1: does a second document begin here? If so, split it off, and else take the tag out"),
-                (" <?xml version='1.0'?><TimeML/>", "1:2 <?xml ..?> has to come first: take out what stands before it (1 byte)"),
-                ("<TimeML/><!DOCTYPE x>", "1:10 a doctype stands once, and before all tags: take this one out"),
+                ("<TimeML><P><TimeML/></P></TimeML>", "1:12 <TimeML> is inside <TimeML>, opened at 1:1: does a second document begin here? If so, split it off; otherwise delete the tag"),
+                (" <?xml version='1.0'?><TimeML/>", "1:2 <?xml ..?> has to come first: delete what is before it (1 byte)"),
+                ("<TimeML/><!DOCTYPE x>", "1:10 a doctype may appear only once, before all tags: delete this one"),
                 (
                     "<TimeML>" + "<P>" * 32 + "</TimeML>",
                     "1:9 <P> opened here is one of 31 that are open at 1:102, and tml takes 32 open tags: write the end tags",
@@ -185,34 +185,34 @@ class Explanations(CorpusTest):
     def test_markup(self):
         rows = [
             ("&", "1:9 write &amp; for the sign &"),
-            ("&eacute;", "1:9 &eacute; is an entity of HTML that XML has not: write é"),
-            ("&nbsp;", "1:9 &nbsp; is an entity of HTML that XML has not: write &#160;"),
+            ("&eacute;", "1:9 &eacute; is an HTML entity, undefined in XML: write é"),
+            ("&nbsp;", "1:9 &nbsp; is an HTML entity, undefined in XML: write &#160;"),
             ("&bank;", "1:9 &bank; is an entity that nothing declares: write what it stands for, or &amp;bank; for the sign &"),
             ("&lt ", "1:9 &lt lacks its ;: write &lt;"),
-            ("&#x;", "1:9 &#x; is no number of a character: write &# and 1 to 7 digits and ;, or &#x and 1 to 6 digits and ;"),
+            ("&#x;", "1:9 &#x; is not the number of a character: write &# and 1 to 7 digits and ;, or &#x and 1 to 6 digits and ;"),
             ("< 3", "1:9 no tag begins with this <: write &lt; for the sign <"),
-            ("< EVENT>", "1:9 no space may stand after <: write <EVENT"),
+            ("< EVENT>", "1:9 no space is allowed after <: write <EVENT"),
             ("<P", "1:10 <P> has no >: write it after P"),
-            ("<P a>", '1:12 a has no value: write a="..", or take it out'),
-            ("<P a b='1'>", '1:12 a has no value: write a="..", or take it out'),
+            ("<P a>", '1:12 a has no value: write a="..", or delete it'),
+            ("<P a b='1'>", '1:12 a has no value: write a="..", or delete it'),
             ("<P a=>", '1:12 a has no value: write a=".."'),
             ("<P a=1/>", '1:12 the value of a has no quotes: write a="1"'),
             ("<P a=1'>", '1:12 the value of a has no opening quote: write a="1"'),
             ("<P a='1>", "1:12 the value of a has no closing quote: write a='1'"),
             ("<P a='1 b='2'>", "1:12 the value of a has no closing quote: write a='1'"),
             ("<P a='1'b='2'>", "1:17 a space is missing before b"),
-            ("<P a='1', b='2'>", "1:17 no , may stand between attributes: take it out"),
-            ("<P a='1''>", "1:17 one quote too many after a='1': take it out"),
+            ("<P a='1', b='2'>", "1:17 no , is allowed between attributes: delete it"),
+            ("<P a='1''>", "1:17 one quote too many after a='1': delete it"),
             ("<P a='1' / >", "1:18 this / is not followed by >: write /> at the end of <P>"),
             ("<P a=\u2018t1\u2019>", '1:14 the value of a begins with a curly quote \u2018: write "'),
             ("</P a>", "1:9 an end tag has its name alone: write </P>"),
-            ("</ P>", "1:9 no space may stand after </: write </P>"),
+            ("</ P>", "1:9 no space is allowed after </: write </P>"),
             ("<![CDATA[x]]>", "1:9 a CDATA section is not read: write its text, with &lt; and &amp; for each < and & in it"),
             ("<!--", "1:9 this comment has no end: write --> after it"),
-            ("<?a b?>", "1:9 a processing instruction is not read: take out <?a .. ?>"),
+            ("<?a b?>", "1:9 a processing instruction is not read: delete <?a .. ?>"),
             ("<!doctype x>", "1:9 write <!DOCTYPE for <!doctype"),
-            ("<!DOCTYPE x [<!ENTITY a 'b'>]>", "1:21 a doctype with a subset of its own is not read: take out all from [ to ]"),
-            ("<!ENTITY a>", "1:9 <!ENTITY is not read: take it out, up to its >"),
+            ("<!DOCTYPE x [<!ENTITY a 'b'>]>", "1:21 a doctype with a subset of its own is not read: delete all from [ to ]"),
+            ("<!ENTITY a>", "1:9 <!ENTITY is not read: delete it, up to its >"),
         ]
         self.check(rows, lambda inner: f"<TimeML>{inner}</TimeML>")
 
@@ -251,7 +251,7 @@ class Explanations(CorpusTest):
     def test_a_tag_with_very_many_attributes(self):
         many = "".join(f' a{number}=""' for number in range(5000))
         [first] = self.firsts([document(f'<P{many} a1=""/>')])
-        self.assertTrue(first.endswith(' a1 stands twice, as a1="" and as a1="": take one of the two out'))
+        self.assertTrue(first.endswith(' a1 appears twice, as a1="" and as a1="": delete one of the two'))
 
     def test_other_places(self):
         self.assertEqual(self.notes(document(EVENT + '<SIGNAL sid="e1"/>')), ["2:1: an EVENT has it here"])
@@ -325,7 +325,7 @@ class Tags(CorpusTest):
                 "        1       1  é  unknown, first at ./b.xml:1:35",
                 "        2       2  TimeML",
                 "        1       1  P",
-                "2 files: 4 names of tags, 2 unknown to tml; 0 not counted",
+                "2 files: 4 names of tags, 2 unknown to tml; 0 skipped",
             ],
         )
 

@@ -42,14 +42,14 @@ class Fixes(CorpusTest):
             self.write(f"{number}.xml", document(inner))
         before = [self.read(f"{number}.xml") for number in range(len(rows))]
         status, lines, _ = self.run_it("fix", ".")
-        self.assertEqual((status, lines[-1]), (1, f"{len(rows)} files: {len(rows)} can be mended (--write does it), 0 with a fault that is left, 0 not looked at"))
+        self.assertEqual((status, lines[-1]), (1, f"{len(rows)} files: {len(rows)} can be mended (--write does it), 0 still faulty, 0 skipped"))
         self.assertEqual([self.read(f"{number}.xml") for number in range(len(rows))], before)
         status, lines, _ = self.run_it("fix", "--write", ".")
-        self.assertEqual((status, lines[-1]), (0, f"{len(rows)} files: {len(rows)} mended, 0 with a fault that is left, 0 not looked at"))
+        self.assertEqual((status, lines[-1]), (0, f"{len(rows)} files: {len(rows)} mended, 0 still faulty, 0 skipped"))
         for number, (inner, mended) in enumerate(rows):
             with self.subTest(inner):
                 self.assertEqual(self.read(f"{number}.xml").decode(), document(mended))
-        self.assertEqual(self.run_it("fix", ".")[:2], (0, [f"{len(rows)} files: 0 can be mended (--write does it), 0 with a fault that is left, 0 not looked at"]))
+        self.assertEqual(self.run_it("fix", ".")[:2], (0, [f"{len(rows)} files: 0 can be mended (--write does it), 0 still faulty, 0 skipped"]))
 
     def test_latin(self):
         self.write("d.xml", b'<?xml version="1.0" encoding="ISO-8859-1"?>\r\n<TimeML>caf\xe9 &\r\n</TimeML>\r\n')
@@ -93,7 +93,7 @@ class Fixes(CorpusTest):
         self.write("d.xml", document("& <SIGNAL/>"))
         status, lines, _ = self.run_it("fix", "--write", "d.xml")
         self.assertEqual(status, 1)
-        self.assertEqual(lines[:2], ["d.xml: mended: & that begin no reference (1 change)", "d.xml:2:7: left to mend: 10 MissingAttribute at byte 15; see `tml-corpus check`"])
+        self.assertEqual(lines[:2], ["d.xml: mended: unescaped & (1 change)", "d.xml:2:7: left to mend: 10 MissingAttribute at byte 15; see `tml-corpus check`"])
 
     def test_modes_and_symbolic_links(self):
         self.write("d.xml", document("&"))
@@ -116,7 +116,7 @@ class Fixes(CorpusTest):
                 "./long.xml: not mended: the file has more than 4,194,304 bytes",
                 "./pipe.xml: not mended: is not a regular file",
                 "gone.xml: not mended: no such file or directory",
-                "3 files: 0 can be mended (--write does it), 0 with a fault that is left, 3 not looked at",
+                "3 files: 0 can be mended (--write does it), 0 still faulty, 3 skipped",
             ],
         )
 

@@ -109,7 +109,7 @@ class Both(InquiryTest):
         words = ("check", "--clashes", "--lint", "--ignore", "no-creation-time", "--ignore", "empty-tag")
         status, lines, _ = self.run_it(*words, "a.xml", "b.xml", "w.xml")
         self.assertEqual((status, lines[:6]), (1, said("b.xml")))
-        self.assertTrue(lines[6].startswith('w.xml:2:29: warning: value="1998-1-7" has no form') and lines[6].endswith(" [value-form]"), lines)
+        self.assertTrue(lines[6].startswith('w.xml:2:29: warning: value="1998-1-7" is not a TIMEX3 value') and lines[6].endswith(" [value-form]"), lines)
         self.assertEqual(lines[-3:], ["3 files: 2 accepted, 1 with a clash, 0 with a fault, 0 not judged", "1 probable mistake in 1 file", "      1  value-form"])
         for strict, form, status in (([], "text", 0), (["--strict"], "text", 1), (["--strict"], "junit", 1), ([], "jsonl", 0)):
             with self.subTest(strict=strict, form=form):

@@ -42,18 +42,18 @@ class Warnings(CorpusTest):
         self.check(
             [
                 ('<SIGNAL sid="s1" Sid="x">x</SIGNAL>', []),
-                ('<MAKEINSTANCE eiid="i2" eventID="e1" tens="PAST"/>' + link("DURING", "i2"), ["3:38 misspelled-attribute: tens is no attribute of MAKEINSTANCE that means something; did you mean tense?"]),
-                ('<MAKEINSTANCE eiid="i2" eventID="e1" Tense="PAST"/>' + link("DURING", "i2"), ["3:38 misspelled-attribute: Tense is no attribute of MAKEINSTANCE that means something; did you mean tense?"]),
-                (link("ENDS").replace("/>", ' id="l1"/>'), ["3:63 misspelled-attribute: id is no attribute of TLINK that means something; did you mean lid?"]),
+                ('<MAKEINSTANCE eiid="i2" eventID="e1" tens="PAST"/>' + link("DURING", "i2"), ["3:38 misspelled-attribute: tens is not a known attribute of MAKEINSTANCE; did you mean tense?"]),
+                ('<MAKEINSTANCE eiid="i2" eventID="e1" Tense="PAST"/>' + link("DURING", "i2"), ["3:38 misspelled-attribute: Tense is not a known attribute of MAKEINSTANCE; did you mean tense?"]),
+                (link("ENDS").replace("/>", ' id="l1"/>'), ["3:63 misspelled-attribute: id is not a known attribute of TLINK; did you mean lid?"]),
                 (link("ENDS").replace("/>", ' origin="USER" note="x"/>'), []),
             ]
         )
 
     def test_unknown_attributes_on_demand(self):
-        self.check([(link("ENDS").replace("/>", ' origin="USER" note="x"/>'), ["3:77 unknown-attribute: note is no attribute of TLINK that means something"])], "--warn", "unknown-attribute")
+        self.check([(link("ENDS").replace("/>", ' origin="USER" note="x"/>'), ["3:77 unknown-attribute: note is not a known attribute of TLINK"])], "--warn", "unknown-attribute")
 
     def test_values(self):
-        no_form = 'has no form of a value, so this time has no date'
+        no_form = 'is not a TIMEX3 value, so the calendar cannot place it'
         looks = "looks like a date, and the calendar does not place it"
         rows = [
             ("1999-3-11", "value-form", f"{no_form}; did you mean 1999-03-11?"),
@@ -73,8 +73,8 @@ class Warnings(CorpusTest):
             ("1998-01-08T18:30:00.5", "free-date", f"{looks}: write it without the parts of a second"),
             ("1998-0X", "free-date", f"{looks}: a field is all digits or all X"),
             ("P3D", "free-date", 'is a duration, so this DATE has no date; did you mean type="DURATION"?'),
-            ("FY1998", "fiscal-value", "is a fiscal year or a part of one, which the calendar does not place: nothing says when it is but links"),
-            ("FY1998-H1", "fiscal-value", "is a fiscal year or a part of one, which the calendar does not place: nothing says when it is but links"),
+            ("FY1998", "fiscal-value", "is a fiscal year or a part of one, which the calendar does not place: only links can order it"),
+            ("FY1998-H1", "fiscal-value", "is a fiscal year or a part of one, which the calendar does not place: only links can order it"),
             ("Q4-1998", "value-form", f"{no_form}; did you mean 1998-Q4?"),
             ("W12-1998", "value-form", f"{no_form}; did you mean 1998-W12?"),
             ("1998-01-08T9:30", "value-form", f"{no_form}; did you mean 1998-01-08T09:30?"),
@@ -84,7 +84,7 @@ class Warnings(CorpusTest):
             ("1998-O1-l1", "value-form", f"{no_form}; did you mean 1998-01-11?"),
             ("1998-01-08\u200b", "value-form", f"{no_form}, since it has a zero-width space (U+200B) in it, which nobody sees; did you mean 1998-01-08?"),
             ("1998-01-08/1998-01-10", "value-form", f"{no_form}: it is a range; write the date that is meant, or a DURATION with beginPoint and endPoint"),
-            ("1998-01-08TEV", "part-of-day", "is a part of a day, which the calendar does not place: nothing says when it is but links"),
+            ("1998-01-08TEV", "part-of-day", "is a part of a day, which the calendar does not place: only links can order it"),
         ]
         known = ["1998", "1998-03", "199X", "1998-XX-XX", "1998-W02-3", "1998-Q1", "1998-SU", "1998-W02-WE", "PRESENT_REF", "XXXX-12-25", "199", "19", "1998-H1", "1998-HX"]
         self.check(
@@ -106,7 +106,7 @@ class Warnings(CorpusTest):
         self.check(
             [
                 (second, ['3:1 event-without-instance: e2 has no instance, so no link can name it: add <MAKEINSTANCE eiid="ei2" eventID="e2"/>']),
-                (second + '<MAKEINSTANCE eiid="i2" eventID="e2"/>', ["3:40 unlinked-instance: no link names i2, so nothing says when it is: add a TLINK"]),
+                (second + '<MAKEINSTANCE eiid="i2" eventID="e2"/>', ["3:40 unlinked-instance: i2 is in no link, so nothing orders it: add a TLINK"]),
                 ('<MAKEINSTANCE eiid="i2" eventID="e1"/><SLINK subordinatedEventInstance="i2" relType="MODAL"/>', []),
                 ('<SIGNAL sid="s1"/>', [f"3:1 empty-tag: this SIGNAL {empty}"]),
                 ('<SIGNAL sid="s1"> </SIGNAL>', [f"3:1 empty-tag: this SIGNAL {empty}"]),
@@ -123,13 +123,13 @@ class Warnings(CorpusTest):
         )
 
     def test_links(self):
-        given = "given at 2:171 already: see whether another pair is meant, or take one of the two out"
+        given = "given at 2:171 already: see whether another pair is meant, or delete one of the two"
         self.check(
             [
                 (link("ENDS", "i1", "i1"), ["3:1 self-link: this link is from i1 to i1: one of the two is meant to be another one"]),
                 (link("DURING"), [f"3:1 repeated-link: i1 DURING t0 is {given}"]),
                 (link("DURING_INV", "t0", "i1"), [f"3:1 repeated-link: t0 DURING_INV i1 is {given}"]),
-                (link("OVERLAPS") + link("OVERLAPPED_BY", "t0", "i1"), ["3:68 repeated-link: t0 OVERLAPPED_BY i1 is given at 3:1 already: see whether another pair is meant, or take one of the two out"]),
+                (link("OVERLAPS") + link("OVERLAPPED_BY", "t0", "i1"), ["3:68 repeated-link: t0 OVERLAPPED_BY i1 is given at 3:1 already: see whether another pair is meant, or delete one of the two"]),
                 (link("OVERLAPS") + link("OVERLAPPED_BY"), []),
                 (link("DURING", "t0", "i1"), []),
                 (link("ENDS"), []),
@@ -154,7 +154,7 @@ class Warnings(CorpusTest):
         )
 
     def part_of_day(self, value):
-        return [f'3:30 part-of-day: value="{value}" is a part of a day, which the calendar does not place: nothing says when it is but links']
+        return [f'3:30 part-of-day: value="{value}" is a part of a day, which the calendar does not place: only links can order it']
 
     def test_years(self):
         far = 'is far from the creation time in 1998 and from all other dates, and the text does not name'
@@ -180,8 +180,8 @@ class Warnings(CorpusTest):
         where = "see which words each is around, and whether one is too many"
         self.check(
             [
-                (time('type="DATE" value="1998"', second) + linked, [f"3:43 nested-tag: this EVENT stands inside of the TIMEX3 at 3:1: {where}"]),
-                (second.replace("y", "<P>" + time('type="DATE" value="1998"') + "</P>") + linked, [f"3:34 nested-tag: this TIMEX3 stands inside of the EVENT at 3:1: {where}"]),
+                (time('type="DATE" value="1998"', second) + linked, [f"3:43 nested-tag: this EVENT is inside the TIMEX3 at 3:1: {where}"]),
+                (second.replace("y", "<P>" + time('type="DATE" value="1998"') + "</P>") + linked, [f"3:34 nested-tag: this TIMEX3 is inside the EVENT at 3:1: {where}"]),
                 (second.replace("y", '<SIGNAL sid="s1">y</SIGNAL>') + linked, []),
             ]
         )
@@ -367,7 +367,7 @@ class Baselines(CorpusTest):
         self.write("known", document(""))
         status, error = self.write_baseline("--lint", "d.xml")
         self.assertEqual((status, self.read("known")), (2, document("")))
-        self.assertIn("known:1:1: this is no baseline; --write-baseline writes one where there is no file, or over another one", error)
+        self.assertIn("known:1:1: this is not a baseline; --write-baseline creates one, or overwrites another", error)
         self.write("known", "")
         self.assertEqual(self.write_baseline("--lint", "d.xml"), (0, ""))
 

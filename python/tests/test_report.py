@@ -175,7 +175,7 @@ class Pages(ReportTest):
         self.write("other/index.html", "mine")
         status, lines, error = self.run_it("report", "corpus", "-o", "other")
         self.assertEqual((status, lines, os.listdir(self.path("other"))), (2, [], ["index.html"]))
-        self.assertIn("other has files that are no report", error)
+        self.assertIn("other has files that are not part of a report", error)
         for target in ("corpus/a.xml", "corpus/a.xml/x"):
             self.assertEqual(self.run_it("report", "corpus", "-o", target)[0], 2)
 

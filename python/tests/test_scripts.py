@@ -105,7 +105,7 @@ class RedundantLinks(ScriptTest):
         self.write("d.xml", document(f"<s>{EVENT} {A}</s>{INSTANCE}" + 2 * '<TLINK eventInstanceID="i1" relatedToTime="a" relType="ENDS"/>'))
         _, out, _ = self.run_script("redundant-links", "d.xml")
         self.assertEqual(out.splitlines()[0], "d.xml:2:114: follows: x ENDS a (link 0: i1 ENDS a)")
-        self.assertEqual(out.splitlines()[1:], ["1 file, 0 not asked about; links that follow from those that are kept: 1 of 2"])
+        self.assertEqual(out.splitlines()[1:], ["1 file, 0 skipped; links that follow from those that are kept: 1 of 2"])
 
     def test_what_is_named_follows_from_the_rest(self):
         names = [f"t{number}" for number in range(5)]
@@ -128,10 +128,10 @@ class RedundantLinks(ScriptTest):
         self.assertEqual(
             out.splitlines(),
             [
-                "./a.xml: not asked: fault 10 MissingAttribute at 2:1",
-                "./b.xml: not asked: no timeline fits it: see tml-corpus clashes",
-                "gone.xml: not asked: no such file or directory",
-                "4 files, 3 not asked about; links that follow from those that are kept: 0 of 1",
+                "./a.xml: skipped: fault 10 MissingAttribute at 2:1",
+                "./b.xml: skipped: its links contradict each other: see tml-corpus clashes",
+                "gone.xml: skipped: no such file or directory",
+                "4 files, 3 skipped; links that follow from those that are kept: 0 of 1",
             ],
         )
 
@@ -211,7 +211,7 @@ class Edits(ScriptTest):
     def test_what_cannot_be_changed(self):
         rows = [
             (1, document("&"), ["--unwrap", "P"], "tml-edit: d.xml: not changed: fault 2 BadReference at 2:1: mend it first\n"),
-            (1, document("<TLINK relType='NONE'>"), ["--drop-links", "NONE"], "tml-edit: d.xml: not changed: <TLINK> at 2:1 has no end tag\n"),
+            (1, document("<TLINK relType='NONE'>"), ["--drop-links", "NONE"], "tml-edit: d.xml: not changed: <TLINK> at 2:1 is never closed\n"),
             (1, document("<TLINK relType='OVERLAP'/>"), ["--overlaps"], "tml-edit: d.xml: not changed: <TLINK> at 2:1 lacks eventInstanceID or timeID\n"),
             (1, "<P>" + EVENT + "</P>", ["--instances"], "tml-edit: d.xml: not changed: there is no </TimeML>\n"),
             (1, document("<P a='1'/>"), ["--value", "P", "a", "1", "'"], "tml-edit: d.xml: not changed: fault 3 BadMarkup at 2:1: mend it first\n"),
@@ -272,7 +272,7 @@ class Tables(ScriptTest):
         rows = [
             ({"base_segmentation": "a 0 0\n"}, "base-segmentation.tab:1:6: 3 of 4 columns: document, sentence, token number, token"),
             ({"base_segmentation": "a x 0 0\n"}, "base-segmentation.tab:1:3: 'x' is not a number of at most 9 digits"),
-            ({"base_segmentation": "../a 0 0 x\n"}, "is no name for a file"),
+            ({"base_segmentation": "../a 0 0 x\n"}, "is not a name for a file"),
             ({"base_segmentation": base, "event_extents": "a 0 7 event e1 1\n"}, "e1 stands at a token that is not there"),
             ({"base_segmentation": base, "event_extents": "a 0 0 event e1 1\na 0 2 event e1 1\n"}, "the tokens of e1 do not follow each other"),
             (

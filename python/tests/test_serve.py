@@ -302,7 +302,7 @@ class Actions(ServeTest):
     def test_a_cure_is_applied_and_the_fault_is_gone(self):
         client = self.client()
         rows = [
-            (EVENT + INSTANCE + "a & b", "&", "Mend & that begin no reference (1 change)"),
+            (EVENT + INSTANCE + "a & b", "&", "Mend unescaped & (1 change)"),
             (EVENT.replace("STATE", "State"), "State", "Mend values (1 change)"),
             (EVENT.replace("EVENT", "event"), "<event", "Mend names of tags (2 changes)"),
             (EVENT.replace('"e1"', "\u201ce1\u201d"), "<EVENT", "Mend curly quotes (2 changes)"),

@@ -54,7 +54,7 @@ def draw_agreeing(random: Random, document: bytes) -> Case:
 
 
 def further(case: Case, outcome: Outcome) -> list[Case]:
-    """The questions whose answers are to agree with an answer to `possible`; none where it is no list of base relations."""
+    """The questions whose answers are to agree with an answer to `possible`; none where it is not a list of base relations."""
     found = Possible.read(outcome.text) if outcome.status == DONE else None
     if found is None:
         return []

@@ -125,7 +125,7 @@ class Drawn:
         return self.style.element("TLINK", [*attributes, ("signalID", self.some(self.signals, 0.2))], self.inside_link())
 
     def others(self) -> list[str]:
-        """Events, signals, and links that are no links of the net."""
+        """Events, signals, and links that are not links of the net."""
         random, element = self.random, self.style.element
         made = [element("EVENT", [("eid", name), ("class", random.choice(CLASSES))], self.text()) for name in self.events]
         made += [element("SIGNAL", [("sid", name)], self.text()) for name in self.signals]

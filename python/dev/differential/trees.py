@@ -53,7 +53,7 @@ class Reading:
         self.nodes.append(("text", text, ()))
 
     def comment(self, text: str) -> None:
-        """Takes a comment; one outside the root is no part of the tree."""
+        """Takes a comment; one outside the root is not part of the tree."""
         if self.depth:
             self.nodes.append(("comment", text, ()))
 

@@ -1,6 +1,6 @@
 """Which replies of `tml` are believed: those whose status and text fit each other and the question.
 
-So what another program answers, or a `tml` that does not work, is no judgement. What a reply says is not judged here.
+So what another program answers, or a `tml` that does not work, is not a judgement. What a reply says is not judged here.
 """
 
 from __future__ import annotations

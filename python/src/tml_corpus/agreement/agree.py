@@ -27,7 +27,7 @@ if TYPE_CHECKING:
 
 NO_PARTNER, WITH_FAULT, WITH_CLASH, NOT_JUDGED = "without a partner", "with a fault", "with a clash", "not judged"
 REASONS = (NO_PARTNER, WITH_FAULT, WITH_CLASH, NOT_JUDGED)
-"""Why a file is not counted."""
+"""Why a file is skipped."""
 
 
 @dataclass(frozen=True)
@@ -97,7 +97,7 @@ class PairReport:
 
 @dataclass(frozen=True)
 class Pairs:
-    """The files of both sides: those of the documents that have a partner, and what is not counted before anything is read."""
+    """The files of both sides: those of the documents that have a partner, and what is skipped before anything is read."""
 
     found: list[Found]
     not_counted: list[NotCounted]

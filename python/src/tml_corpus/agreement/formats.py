@@ -48,7 +48,7 @@ class Summary:
         """How much was counted, in a line."""
         reasons = ", ".join(f"{self.reasons[reason]} {reason}" for reason in REASONS)
         end = "interrupted: not all files were looked at\n" if interrupted else ""
-        return f"{counted(self.corpus.pairs, 'pair')} counted; not counted: {reasons}\n{end}"
+        return f"{counted(self.corpus.pairs, 'pair')} counted; skipped: {reasons}\n{end}"
 
 
 def share(value: Fraction | None) -> str:
@@ -108,7 +108,7 @@ class Text:
 
     def not_counted(self, one: NotCounted) -> str:
         """What is printed of a file that is not counted."""
-        return f"{shown(one.path)}: not counted: {shown(one.text)}\n"
+        return f"{shown(one.path)}: skipped: {shown(one.text)}\n"
 
     def sums(self, corpus: Corpus) -> str:
         """What comes after all pairs."""

@@ -58,7 +58,7 @@ def library_in(package: str, digest: str) -> Library | None:
 def archive(folder: str, library: AtPath | None) -> tuple[str, str, Loadable | None]:
     """A zip file with the tools, the name that this package has there, and the library as the workers load it.
 
-    A library that is no file here is left to the loaders of the workers.
+    A library that is not a file here is left to the loaders of the workers.
     """
     content = content_of(library)
     sources = sources_of(FAMILY, Path(__file__).parents[1]) | sources_of(SHARED, Path(running.__file__).parent)

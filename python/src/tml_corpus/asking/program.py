@@ -54,7 +54,7 @@ class Reply(NamedTuple):
             yield line.rstrip(b"\n").decode("utf-8", "surrogateescape").split(" ")
 
     def problem(self) -> str:
-        """Why a reply that is no judgement is none."""
+        """Why a reply is not a judgement."""
         known = MEANINGS.get(self.status)  # type: ignore[call-overload]
         return known or f"tml answered status {self.status}, which `{self.command}` should not"
 

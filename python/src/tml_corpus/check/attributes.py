@@ -1,4 +1,4 @@
-"""Attributes that are missing, stand twice or have a wrong value: which one, and what it was probably meant to be."""
+"""Attributes that are missing, repeated or have a wrong value: which one, and what it was probably meant to be."""
 
 from __future__ import annotations
 
@@ -69,20 +69,20 @@ def repeated(source: Source, tag: Unit, found: Explanation) -> None:
 
 
 def of_two(source: Source, tag: Unit, first: Attribute, second: Attribute, found: Explanation) -> None:
-    """Two attributes of one name: which of them to take out."""
+    """Two attributes of one name: which of them to delete."""
     about(found, second)
     texts = text_of(source, first), text_of(source, second)
-    said = f"{cut(first.name)} stands twice, as {first.written(source.document)} and as {second.written(source.document)}"
+    said = f"{cut(first.name)} appears twice, as {first.written(source.document)} and as {second.written(source.document)}"
     row = TABLE.get(tag.name, {}).get(first.name)
     right = texts[0] if texts[0] == texts[1] else None if row is None else fitting_one(source, tag, row, texts)
     if right is None:
-        found.text = f"{said}: take the wrong one of the two out"
+        found.text = f"{said}: delete the wrong one"
     elif texts[0] == texts[1]:
-        found.text = f"{said}: take one of the two out"
+        found.text = f"{said}: delete one of the two"
         found.edits.append(with_spaces_before(source.document, second))
     else:
         wrong = first if right == texts[1] else second
-        found.text = f"{said}: take {wrong.written(source.document)} out, since {why_right(row, right)}"
+        found.text = f"{said}: delete {wrong.written(source.document)}, since {why_right(row, right)}"
         found.edits.append(with_spaces_before(source.document, wrong))
 
 
@@ -114,7 +114,7 @@ def missing(source: Source, tag: Unit, found: Explanation) -> None:
     lacking = list(lacking_in(source, tag))
     if tag.name == "EVENT" and tag.start not in source.with_text and (tag.kind == "empty" or next(tag.attributes, None) is None):
         names = " and ".join(row.name for row in lacking)
-        found.text = f"this EVENT has no text: take it out, or add {names} if it is meant"
+        found.text = f"this EVENT has no text: delete it, or add {names} if it is meant"
         return
     sentences = [lack(source, tag, row, found) for row in lacking]
     found.text = "; and ".join(sentences)
@@ -138,7 +138,7 @@ def lack(source: Source, tag: Unit, row: Row, found: Explanation) -> str:
             about(found, attribute)
             found.edits.append(Edit(attribute.start, attribute.start + len(encoded(attribute.name)), meant.encode()))
             hint = " (tml-edit --instances does it)" if attribute.name in OF_EVENTS else ""
-            return f"{meant} is missing, and {cut(attribute.name)} is no attribute of {tag.name}; did you mean {meant}?{hint}"
+            return f"{meant} is missing, and {cut(attribute.name)} is not a known attribute of {tag.name}; did you mean {meant}?{hint}"
     said, meant = wanted(source, tag, row)
     if empty is not None:
         about(found, empty)
@@ -282,14 +282,14 @@ def conflict(source: Source, tag: Unit, found: Explanation) -> None:
         out = unknown[0] if len(unknown) == 1 else None
         about(found, out or both[1])
         first, second = (one.written(source.document) for one in both[:2])
-        cure = f"take {out.name} out, since no tag has this identifier" if out else "take the wrong one of the two out"
+        cure = f"delete {out.name}, since no tag has this identifier" if out else "delete the wrong one"
         found.edits += [with_spaces_before(source.document, out)] if out else []
         found.text = f"{first} and {second} both name the {end} end of the link: {cure}"
         return
 
 
 def bad_date(source: Source, tag: Unit, found: Explanation) -> None:
-    """Fault 13: a value that is no date."""
+    """Fault 13: a value that is not a date."""
     attribute = attribute_of(tag, "value")
     why = no_date(text_of(source, attribute)) if attribute is not None else None
     if attribute is not None and why is not None:

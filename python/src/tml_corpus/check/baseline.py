@@ -93,7 +93,7 @@ def read_baseline(path: str) -> Baseline:
     try:
         lines = lines_of(path)
         if next(lines, b"").rstrip() != FIRST.rstrip():
-            raise CannotRun(f"{path}:1:1: this is no baseline; --write-baseline writes one where there is no file, or over another one")
+            raise CannotRun(f"{path}:1:1: this is not a baseline; --write-baseline creates one, or overwrites another")
         for number, line in enumerate(lines, 2):
             counts.update(read_line(path, number, line))
     except CannotRead as problem:

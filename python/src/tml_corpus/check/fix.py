@@ -41,14 +41,14 @@ FOUND_LINK = "is a symbolic link that was found in a folder: name it to have wha
 Edits = Callable[[Source], Iterator[Edit]]
 FIXERS: dict[int, list[tuple[str, Edits]]] = {
     faults.NOT_UTF8: [("the encoding", lambda source: converted(source.document))],
-    faults.BAD_REFERENCE: [("& that begin no reference", lambda source: reference_edits(source.document))],
+    faults.BAD_REFERENCE: [("unescaped &", lambda source: reference_edits(source.document))],
     faults.BAD_MARKUP: [
         ("CDATA sections", lambda source: cdata_edits(source.document)),
         ("curly quotes", lambda source: quote_edits(source.document)),
     ],
     faults.UNKNOWN_TAG: [("names of tags", name_edits)],
     faults.UNBALANCED: [("names of tags", end_edits)],
-    faults.REPEATED: [("attributes that stand twice", lambda source: cures_of_tags(source, faults.REPEATED))],
+    faults.REPEATED: [("repeated attributes", lambda source: cures_of_tags(source, faults.REPEATED))],
     faults.MISSING: [("names of attributes, and identifiers", lambda source: cures_of_tags(source, faults.MISSING))],
     faults.BAD_VALUE: [("values", lambda source: cures_of_tags(source, faults.BAD_VALUE))],
     faults.CONFLICT: [("ends of links", lambda source: cures_of_tags(source, faults.CONFLICT))],
@@ -77,7 +77,7 @@ class Step:
 
 @dataclass
 class Fixed:
-    """A document that was mended as far as there is one cure only, what was changed, and the fault that is left."""
+    """A document that was mended as far as there is one cure only, what was changed, and the fault that remains."""
 
     before: bytes
     after: bytes

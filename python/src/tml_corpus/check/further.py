@@ -127,7 +127,7 @@ def padded(edit: Edit, opening: bool) -> Edit:
 
 
 def blanked(program: Program, document: bytes, fault: Fault, found: Explanation, whole: bool) -> list[Edit]:
-    """The edits that take out what is at fault; none where it cannot be taken out.
+    """The edits that delete what is at fault; none where it cannot be deleted.
 
     Of a tag with a bad attribute the attribute goes, or the whole tag where `whole` asks for it or no attribute was found.
     """

@@ -65,5 +65,5 @@ class Judgement:
 
 
 def problem_of(reply: Reply) -> str | None:
-    """Why an answer is no judgement, or None where the document is accepted."""
+    """Why an answer is not a judgement, or None where the document is accepted."""
     return None if reply.status == ACCEPTED else reply.problem()

@@ -48,11 +48,11 @@ def bad_reference(source: Source, offset: int) -> Explanation:
     entity, ended = found[1].decode(), found[0].endswith(b";")
     where = Explanation(start=offset, end=found.end())
     if entity.startswith("#"):
-        where.text = f"{words(found[0])} is no number of a character: write &# and 1 to 7 digits and ;, or &#x and 1 to 6 digits and ;"
+        where.text = f"{words(found[0])} is not the number of a character: write &# and 1 to 7 digits and ;, or &#x and 1 to 6 digits and ;"
     elif not ended and (half := HALF_A_REFERENCE.match(document, offset)):
         half_a_reference(half, where)
     elif ended and entity + ";" in html5:
-        where.text = f"&{entity}; is an entity of HTML that XML has not: write {character_of(entity)}"
+        where.text = f"&{entity}; is an HTML entity, undefined in XML: write {character_of(entity)}"
     elif ended and entity:
         where.text = f"&{entity}; is an entity that nothing declares: write what it stands for, or &amp;{entity}; for the sign &"
     else:
@@ -65,20 +65,20 @@ def half_a_reference(half: re.Match[bytes], found: Explanation) -> None:
     """A reference without its semicolon, unless letters follow: then it may as well be the sign `&` before a word."""
     name, rest = half[1].decode(), half[2].decode()
     if rest:
-        found.text = f"&{name} lacks its ;, or the sign & stands before {name}{rest}: write &{name};{rest} or &amp;{name}{rest}"
+        found.text = f"&{name} lacks its ;, or the sign & comes before {name}{rest}: write &{name};{rest} or &amp;{name}{rest}"
     else:
         found.text = f"&{name} lacks its ;: write &{name};"
         found.edits.append(Edit(half.end(), half.end(), b";"))
 
 
 def character_of(entity: str) -> str:
-    """The character of an entity of HTML, as it may be written: where it cannot be seen by its number."""
+    """The character of an HTML entity, as it may be written: where it cannot be seen by its number."""
     letters = html5[entity + ";"]
     return escape(letters) if letters.isprintable() and not letters.isspace() else "".join(f"&#{ord(letter)};" for letter in letters)
 
 
 def reference_edits(document: bytes) -> Iterator[Edit]:
-    """The edits for every `&` that begins no reference: the character of an entity of HTML, and else `&amp;`."""
+    """The edits for every unescaped `&`: the character of an HTML entity, and else `&amp;`."""
     passed = deque(passed_over(document))
     for found in re.finditer(rb"&(?:([A-Za-z0-9]{1,40});)?", document):
         while passed and passed[0][1] <= found.start():
@@ -198,12 +198,12 @@ def declaration(source: Source, at: int, found: Explanation) -> None:
     called = words(name[0]) if name else ""
     subset = SUBSET.match(document, found.end)
     if called.upper() != "DOCTYPE":
-        found.text = f"<!{called} is not read: take it out, up to its >"
+        found.text = f"<!{called} is not read: delete it, up to its >"
     elif called != "DOCTYPE":
         found.text = f"write <!DOCTYPE for <!{called}"
     elif subset is not None:
         found.start, found.end = subset.end() - 1, subset.end()
-        found.text = "a doctype with a subset of its own is not read: take out all from [ to ]"
+        found.text = "a doctype with a subset of its own is not read: delete all from [ to ]"
     else:
         found.text = "this doctype has no >"
 
@@ -219,7 +219,7 @@ def instruction(source: Source, at: int, found: Explanation) -> None:
     elif called.lower() == "xml":
         found.text = "write <?xml, a space and what is declared"
     else:
-        found.text = f"a processing instruction is not read: take out <?{called} .. ?>"
+        found.text = f"a processing instruction is not read: delete <?{called} .. ?>"
 
 
 def end_tag(source: Source, at: int, found: Explanation) -> None:
@@ -229,7 +229,7 @@ def end_tag(source: Source, at: int, found: Explanation) -> None:
     if name is None:
         spaced = NAME.match(document, past_spaces(document, at + 2))
         found.end = spaced.end() if spaced else at + 2
-        found.text = f"no space may stand after </: write </{words(spaced[0])}>" if spaced else "this end tag has no name"
+        found.text = f"no space is allowed after </: write </{words(spaced[0])}>" if spaced else "this end tag has no name"
         found.edits += [Edit(at + 2, spaced.start(), b"")] if spaced else []
         return
     called, rest = words(name[0]), past_spaces(document, name.end())
@@ -284,7 +284,7 @@ def not_seen(source: Source, name: re.Match[bytes], found: Explanation) -> bool:
         if hidden:
             found.start = begin + len(text[: hidden.start()].encode())
             found.end = found.start + len(hidden[0].encode())
-            found.text = f"{named(hidden[0])} stands here, which nobody sees: write a space for it"
+            found.text = f"{named(hidden[0])}, which nobody sees, is here: write a space for it"
             found.edits.append(Edit(found.start, found.end, b" "))
             return True
     return False
@@ -297,11 +297,11 @@ def less_than(source: Source, at: int, found: Explanation) -> None:
     if at + 1 >= len(document):
         found.text = "the file ends with a <: write &lt;, or see whether its end was lost"
     elif document[at + 1 : at + 2] == b"<" and NAME.match(document, at + 2):
-        found.text = "< stands twice: take one of the two out"
+        found.text = "< appears twice: delete one of the two"
         found.edits.append(Edit(at, at + 1, b""))
     elif spaced and (words(spaced[0]) in TAGS):
         found.end = spaced.end()
-        found.text = f"no space may stand after <: write <{words(spaced[0])}"
+        found.text = f"no space is allowed after <: write <{words(spaced[0])}"
         found.edits.append(Edit(at + 1, spaced.start(), b""))
     elif ATTRIBUTE.match(document, at + 1) or document[at + 1 : at + 2] == b">" or (spaced and EQUALS.match(document, spaced.end())):
         found.text = "the name of this tag is missing: write it after <"
@@ -311,7 +311,7 @@ def less_than(source: Source, at: int, found: Explanation) -> None:
 
 
 def stray(source: Source, found: Explanation, tag: str, here: int, last: tuple[int, int]) -> None:
-    """What is no attribute and not the end of the tag."""
+    """What is neither an attribute nor the end of the tag."""
     document = source.document
     sign = words(document[here : here + 4])[:1]
     after = words(document[last[0] : last[1]])
@@ -325,10 +325,10 @@ def stray(source: Source, found: Explanation, tag: str, here: int, last: tuple[i
         found.text = f"this / is not followed by >: write /> at the end of <{tag}>"
         found.edits += [Edit(here + 1, here + 1, b">")] if tag in LINK_TAGS else []
     elif sign in ",;":
-        found.text = f"no {sign} may stand between attributes: take it out"
+        found.text = f"no {sign} is allowed between attributes: delete it"
         found.edits.append(Edit(found.start, found.end, b""))
     elif sign in "\"'" or sign in CURLY:
-        found.text = f"one quote too many after {after}: take it out"
+        found.text = f"one quote too many after {after}: delete it"
         found.edits.append(Edit(found.start, found.end, b""))
     else:
         found.text = f"no attribute begins with {sign}: after {after} a name, > or /> may come"
@@ -367,7 +367,7 @@ def no_value(source: Source, found: Explanation, tag: str, attribute: tuple[int,
     following = re.compile(rb"[ \t\r\n]*(?:/?>|[A-Za-z_:\x80-\xff][A-Za-z0-9_:.\-\x80-\xff]*[ \t\r\n]*=)").match(document, attribute[1])
     if following or same_but_for_case(name, TABLE.get(tag, {})):
         found.start, found.end = attribute
-        found.text = f'{name} has no value: write {name}="..", or take it out'
+        found.text = f'{name} has no value: write {name}="..", or delete it'
     else:
         no_end(found, tag, words(document[last[0] : last[1]]), last)
 

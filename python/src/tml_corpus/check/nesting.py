@@ -101,7 +101,7 @@ def unbalanced(source: Source, unit: Unit | None, found: Explanation) -> None:
 
 
 def closes_nothing(source: Source, unit: Unit, inner: Unit | None, found: Explanation) -> None:
-    """An end tag of a name that is not open; it is taken out only where it stands twice, since else its start tag was lost."""
+    """An end tag of a name that is not open; it is deleted only where it appears twice, since else its start tag was lost."""
     name = cut(unit.name)
     before = source.units.last_tag_before(unit.start)
     opened = f"<{cut(inner.name)}>, opened at {source.at(inner.start)}" if inner is not None else ""
@@ -115,10 +115,10 @@ def closes_nothing(source: Source, unit: Unit, inner: Unit | None, found: Explan
         and before.end == unit.start
         and not (unit.name in TABLE and source.dangling(unit.name))
     ):
-        found.text = f"</{name}> stands twice: take one of the two out"
+        found.text = f"</{name}> appears twice: delete one of the two"
         found.edits.append(Edit(unit.start, unit.end, b""))
     elif inner is None and unit.name == ROOT and source.units.opening(ROOT):
-        found.text = f"</{name}> stands twice: the root is closed already, so take one of the two out"
+        found.text = f"</{name}> appears twice: the root is already closed, so delete one of the two"
         found.edits += [Edit(unit.start, unit.end, b"")] if before is not None and before.name == ROOT else []
     else:
         found.text = (
@@ -149,12 +149,12 @@ def no_end_tag(source: Source, inner: Unit, tags: list[Unit], found: Explanation
     """A start tag that is open where another one is closed. How far it was to go is known of wrappers alone."""
     name, outer = cut(inner.name), tags[-2] if len(tags) > 1 else None
     if outer is not None and outer.name == inner.name and inner.name in TABLE and next(inner.attributes, None) is None:
-        found.text = f"<{name}> here is no start tag, since it has no attributes: write </{name}> for it"
+        found.text = f"<{name}> here is not a start tag, since it has no attributes: write </{name}> for it"
         found.edits.append(Edit(inner.start + 1, inner.start + 1, b"/"))
     elif inner.name in TABLE:
-        found.text = f"<{name}> opened here has no end tag: write </{name}> right after its words"
+        found.text = f"<{name}> is never closed: write </{name}> right after its words"
     else:
-        found.text = f"<{name}> opened here has no end tag: write </{name}> after what it holds{before_what(source, inner)}"
+        found.text = f"<{name}> is never closed: write </{name}> after what it holds{before_what(source, inner)}"
 
 
 def before_what(source: Source, inner: Unit) -> str:
@@ -173,7 +173,7 @@ def unclosed(source: Source, unit: Unit | None, found: Explanation) -> None:
     else:
         inner = tags[-1]
         found.start, found.end = inner.start, inner.end
-        found.text = f"<{cut(inner.name)}> opened here has no end tag: see whether the end of the file was lost"
+        found.text = f"<{cut(inner.name)}> is never closed: see whether the end of the file was lost"
 
 
 def misplaced(source: Source, unit: Unit | None, found: Explanation) -> None:
@@ -186,7 +186,7 @@ def misplaced(source: Source, unit: Unit | None, found: Explanation) -> None:
     elif unit.kind == "declaration":
         late_declaration(source, unit, found)
     elif unit.kind == "doctype":
-        found.text = "a doctype stands once, and before all tags: take this one out"
+        found.text = "a doctype may appear only once, before all tags: delete this one"
     elif unit.kind == "text":
         misplaced_text(source, unit, found)
     else:
@@ -217,18 +217,18 @@ def second_document(source: Source, unit: Unit, found: Explanation) -> None:
 
 
 def late_declaration(source: Source, unit: Unit, found: Explanation) -> None:
-    """A declaration before which something stands that is no document."""
+    """A declaration with something before it that is not a document."""
     before = source.document[: unit.start]
     if not without_invisible(before.decode("utf-8", "replace")).strip():
-        found.text = f"<?xml ..?> has to come first: take out what stands before it ({counted(unit.start, 'byte')})"
+        found.text = f"<?xml ..?> has to come first: delete what is before it ({counted(unit.start, 'byte')})"
         found.edits.append(Edit(0, unit.start, b""))
     elif all(one.kind == "comment" or not source.document[one.start : one.end].strip() for one in source.units if one.start < unit.start):
         found.text = "<?xml ..?> has to come first: move it to the beginning, before the comment"
         found.edits += [Edit(0, 0, source.document[unit.start : unit.end]), Edit(unit.start, unit.end, b"")]
     elif has_tag_before(source, unit):
-        found.text = "<?xml ..?> has to come first: take this one out here"
+        found.text = "<?xml ..?> has to come first: delete this one"
     else:
-        found.text = f"<?xml ..?> has to come first: take out what stands before it ({counted(unit.start, 'byte')})"
+        found.text = f"<?xml ..?> has to come first: delete what is before it ({counted(unit.start, 'byte')})"
 
 
 def misplaced_text(source: Source, unit: Unit, found: Explanation) -> None:
@@ -242,12 +242,12 @@ def misplaced_text(source: Source, unit: Unit, found: Explanation) -> None:
     if link is not None:
         left_open(source, link, f"text ({text})", unit, found)
     elif hidden:
-        found.text = f"{hidden} stands here, which nobody sees, and nothing may stand outside of <{ROOT}>: take it out"
+        found.text = f"{hidden}, which is invisible, is outside <{ROOT}>, where nothing may be: delete it"
         found.edits.append(Edit(found.start, unit.start + len(raw.rstrip()), b""))
     elif has_tag_before(source, unit):
-        found.text = f"text stands after </{ROOT}>: is it part of the document? If so, move </{ROOT}> behind it, and else take it out"
+        found.text = f"there is text after </{ROOT}>: delete it or move </{ROOT}> after it"
     elif source.units.opening(ROOT):
-        found.text = f"text stands before <{ROOT}>: is it part of the document? If so, move it behind that, and else take it out"
+        found.text = f"there is text before <{ROOT}>: delete it or move it inside"
     else:
         found.text = f"the document has no <{ROOT}>: write <{ROOT}> before its text and </{ROOT}> after it"
 
@@ -263,7 +263,7 @@ def misplaced_tag(source: Source, unit: Unit, found: Explanation) -> None:
     elif open_tags(source.units, unit.start):
         root_inside(source, unit, first, last, found)
     else:
-        found.text = f"<{cut(unit.name)}> stands after </{ROOT}> at {source.at(last.start)}: move </{ROOT}> to the end of the document"
+        found.text = f"<{cut(unit.name)}> comes after </{ROOT}> at {source.at(last.start)}: move </{ROOT}> to the end of the document"
         if last.name == ROOT and last.kind == "end" and not any(one.name == ROOT for one in source.units.after(last.start)):
             end = source.document[last.start : last.end]
             found.edits += [Edit(last.start, last.end, b""), Edit(len(source.document), len(source.document), end + b"\n")]
@@ -271,12 +271,12 @@ def misplaced_tag(source: Source, unit: Unit, found: Explanation) -> None:
 
 def root_inside(source: Source, unit: Unit, first: Unit, last: Unit, found: Explanation) -> None:
     """A root inside of a root: pasted twice, or the beginning of another document."""
-    said = f"<{ROOT}> stands inside of <{ROOT}>, opened at {source.at(first.start)}"
+    said = f"<{ROOT}> is inside <{ROOT}>, opened at {source.at(first.start)}"
     if last != first:
-        found.text = f"{said}: does a second document begin here? If so, split it off, and else take the tag out"
+        found.text = f"{said}: does a second document begin here? If so, split it off; otherwise delete the tag"
         return
     ends = [one for one in source.units.named(ROOT) if one.kind == "end"]
-    found.text = f"{said}, which stands twice: take one of the two out" + (", and one of the end tags" if len(ends) > 1 else "")
+    found.text = f"{said}, so it appears twice: delete one of the two" + (", and one of the end tags" if len(ends) > 1 else "")
     found.edits += [Edit(one.start, one.end, b"") for one in (unit, *ends[1:2])]
 
 

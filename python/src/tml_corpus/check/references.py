@@ -1,4 +1,4 @@
-"""Identifiers that stand twice, references that find no tag, and tags beyond the limits.
+"""Repeated identifiers, references that find no tag, and tags beyond the limits.
 
 No cure is taken for the only one that would let a reference find another tag than before the slip: where two tags have one
 identifier, nothing but their order may tell which of them has it by a slip.
@@ -55,12 +55,12 @@ def cure_of_two(source: Source, first: Unit, tag: Unit, attribute: Attribute, fo
     name, names = text_of(source, attribute), source.dangling(tag.name)
     if first.kind == "start" and is_inside(source, tag, first):
         found.edits += without_copy(source, first, tag)
-        return "it stands inside of that one, so take one of the two out, and leave the words"
+        return "it is inside that one, so delete one of the two, and leave the words"
     if names:
         return cure_by_lost_name(source, first, tag, attribute, names, found)
     if is_copy(source, first, tag):
         found.edits.append(Edit(tag.start, whole_end(source, tag), b""))
-        return "it stands there word for word, so take it out here"
+        return "it is there word for word, so delete it here"
     number = number_by_order(source, first, tag, name)
     if number is not None:
         found.edits.append(with_value(attribute, source.document, encoded(number)))
@@ -68,13 +68,13 @@ def cure_of_two(source: Source, first: Unit, tag: Unit, attribute: Attribute, fo
     if name in source.referred[tag.name]:
         other = source.referred[tag.name][name]
         return (
-            f"take one of the two out if it was pasted; if not, the {other.name} at {source.at(other.start)} means one of "
+            f"delete one of the two if it was pasted; if not, the {other.name} at {source.at(other.start)} means one of "
             f"them, and the other "
             f"one is to have another identifier, such as {source.fresh(tag.name)}"
         )
     if tag.name in LINK_TAGS:
         return f"write another one here, such as {source.fresh(tag.name)}"
-    return f"take it out if it was pasted, and if not write another one here, such as {source.fresh(tag.name)}"
+    return f"delete it if it was pasted, and if not write another one here, such as {source.fresh(tag.name)}"
 
 
 def is_copy(source: Source, first: Unit, tag: Unit) -> bool:

@@ -73,7 +73,7 @@ def of_conflict(mark: re.Match[bytes]) -> Explanation:
     """Two versions of some lines."""
     found = Explanation(*mark.span())
     found.text = (
-        "a mark of version control: two versions of these lines were not merged; keep what is right of them, and take out the lines that "
+        "a mark of version control: two versions of these lines were not merged; keep what is right of them, and delete the lines that "
         "begin with <<<<<<<, ======= and >>>>>>>"
     )
     return found

@@ -16,7 +16,7 @@ FORMS = ("text", "json", "jsonl", "junit", "github")
 MATRIX_FORMS = ("text", "csv", "html")
 AGREE_FORMS = ("text", "json", "jsonl", "csv")
 SECONDS_FORMS = ("text", "json", "csv", "ics")
-TOUCHING = "read links between dates that touch as the relation that holds, as IBEFORE for BEFORE, and list them"
+TOUCHING = "read links between dates that touch as the relation that holds, such as IBEFORE for BEFORE, and list them"
 
 
 def parser(chosen: str | None = None) -> Parser:
@@ -34,15 +34,15 @@ def check_words(words: Parser) -> None:
     words.epilog, words.formatter_class = EXAMPLES.format("check"), RawFormatter
     explain = "say what is at fault and how to mend it, and mark it (the default)"
     words.add_argument("--explain", action=argparse.BooleanOptionalAction, default=True, help=explain)
-    words.add_argument("--clashes", action="store_true", help="show the links that contradict each other too")
+    words.add_argument("--clashes", action="store_true", help="also show the links that contradict each other")
     names = f"one of {', '.join(NAMES)}"
-    words.add_argument("--lint", action="store_true", help="warn of what tml accepts and an annotator probably did not mean")
-    words.add_argument("--ignore", action="append", choices=NAMES, default=[], metavar="NAME", help=f"no warnings of this kind: {names}")
-    too = "warnings of this kind too, as unknown-attribute"
+    words.add_argument("--lint", action="store_true", help="warn of what tml accepts but an annotator probably did not mean")
+    words.add_argument("--ignore", action="append", choices=NAMES, default=[], metavar="NAME", help=f"omit warnings of this kind: {names}")
+    too = "also give warnings of this kind, such as unknown-attribute"
     words.add_argument("--warn", action="append", choices=NAMES, default=[], metavar="NAME", help=too)
-    words.add_argument("--strict", action="store_true", help="status 1 where there is a warning")
-    words.add_argument("--baseline", metavar="FILE", help="no warnings that this file has, which were there before")
-    words.add_argument("--write-baseline", action="store_true", help="write the warnings that there are to the file of --baseline")
+    words.add_argument("--strict", action="store_true", help="end with status 1 if there is a warning")
+    words.add_argument("--baseline", metavar="FILE", help="omit the warnings that this file lists")
+    words.add_argument("--write-baseline", action="store_true", help="write the present warnings to the file of --baseline")
     report_words_of(words, "faults or clashes")
     path_words(words)
     pool_words(words, cluster=True)
@@ -70,16 +70,14 @@ def tags_words(words: Parser) -> None:
 def fix_words(words: Parser) -> None:
     """The words of `fix`."""
     words.description = (
-        "Mends what has one cure only, of faults and of warnings: as & that begin no reference, lost quotes, CDATA, "
-        "Latin-1, mistyped names, "
-        "values and dates, and references to an event that has one instance. It prints the changes, and writes them "
-        "where --write is given. "
-        "The status is 0 where tml accepts each file as it is then."
+        "Mends each fault and warning that has only one cure, such as an unescaped &, lost quotes, CDATA, Latin-1, mistyped names, "
+        "values and dates, and references to an event that has one instance. It prints the changes, and writes them with --write. "
+        "The status is 0 if tml then accepts each file."
     )
     words.epilog = "Example: tools/tml-corpus fix samples"
     what = words.add_mutually_exclusive_group()
     what.add_argument("--diff", action="store_true", help="print the changes and write nothing (the default)")
-    what.add_argument("--write", action="store_true", help="write the mended documents in the place of the files")
+    what.add_argument("--write", action="store_true", help="overwrite the files with the mended documents")
     path_words(words)
     pool_words(words)
     shared_words(words)
@@ -88,8 +86,8 @@ def fix_words(words: Parser) -> None:
 def timeline_words(words: Parser) -> None:
     """The words of `timeline`, which is about one document."""
     words.description = (
-        "Draws the least timeline of a document, once tml verify accepted it. Where links clash it says which ones, and where the document "
-        "has a fault it names that; the status is 1 then, and no file is written."
+        "Draws the least timeline of a document, once tml verify has accepted it. If links clash it names them, and if the document "
+        "has a fault it names that; the status is then 1, and no file is written."
     )
     words.epilog = "Example: tools/tml-corpus timeline samples/rates.xml -o rates.html"
     words.add_argument("document", metavar="DOC", help="a file")
@@ -98,16 +96,15 @@ def timeline_words(words: Parser) -> None:
     words.add_argument("--touching", action="store_true", help=TOUCHING)
     words.add_argument("--seconds", action="store_true", help="draw a placing in whole seconds, true to scale, as tml seconds has it")
     words.add_argument("--asserted", action="store_true", help="leave out the events that the document does not assert, and their links")
-    words.add_argument("--text-order", action="store_true", help="put the rows in the order of the text")
+    words.add_argument("--text-order", action="store_true", help="order the rows as in the text")
     shared_words(words)
 
 
 def matrix_words(words: Parser) -> None:
     """The words of `matrix`, which is about one document too."""
     words.description = (
-        "Prints of each two intervals of a document the relations of Allen that its links and dates leave open, in the words of the text, "
-        "as tml matrix has them. Where links clash it says which ones, and where the document has a fault it names that; the status is 1 "
-        "then."
+        "Prints, for each two intervals of a document, the Allen relations that its links and dates leave open, in the words of the text, "
+        "as tml matrix has them. If links clash it names them, and if the document has a fault it names that; the status is then 1."
     )
     words.epilog = "Example: tools/tml-corpus matrix --format html samples/rates.xml > rates.html"
     words.add_argument("document", metavar="DOC", help="a file")
@@ -120,8 +117,8 @@ def seconds_words(words: Parser) -> None:
     """The words of `seconds`, which is about one document too."""
     words.description = (
         "Prints for each interval of a document a second for its start and one for its end, in which all links, dates and lengths of "
-        "durations are met, as tml seconds has them and tml confirm confirmed; and how far they can move. Where they cannot all be met it "
-        "says which ones, and where the document has a fault it names that; the status is 1 then."
+        "durations are met, as placed by tml seconds and confirmed by tml confirm; and how far they can move. If they cannot all be met it "
+        "says which ones, and if the document has a fault it names that; the status is then 1."
     )
     words.epilog = "Example: tools/tml-corpus seconds --format ics samples/bridge.xml > bridge.ics"
     words.add_argument("document", metavar="DOC", help="a file")
@@ -133,10 +130,10 @@ def seconds_words(words: Parser) -> None:
 def open_words(words: Parser) -> None:
     """The words of `open`, which is about one document too."""
     words.description = (
-        "Prints the pairs of intervals between which more than one relation of Allen is possible. Before each stands how many such pairs "
-        "one more link between the two decides, from the least number to the greatest, and after it how many each relation does; pairs of "
-        "which the least number is greatest come first. The numbers that are printed are those of tml matrix, asked of the document with "
-        "each such link. Of a folder each document is looked at, and its name stands before each line."
+        "Lists the pairs of intervals between which more than one Allen relation is possible. Each is preceded by how many such pairs "
+        "one more link between the two decides, from the least number to the greatest, and followed by the number for each relation; the "
+        "pairs with the greatest least number come first. The numbers are those of tml matrix, asked about the document with "
+        "each such link. In a folder each document is examined, and each line begins with its name."
     )
     words.epilog = "Example: tools/tml-corpus open --limit 3 samples/rates.xml"
     words.add_argument("document", metavar="DOC", help="a file, or a folder to search")
@@ -151,14 +148,14 @@ def open_words(words: Parser) -> None:
 def agree_words(words: Parser) -> None:
     """The words of `agree`, which is about two annotations of the same texts."""
     words.description = (
-        "Compares the links of documents with those of the key, file by file of the same name: precision, recall and F1 over links without "
-        "redundancy, as tml score counts them, then their sums and means over the corpus. What has no partner, a fault or a clash is "
-        "listed and not counted."
+        "Compares the links of documents with those of the key, pairing files by name: precision, recall and F1 over links without "
+        "redundancy, as tml score counts them, then their sums and means over the corpus. A file without a partner, or with a fault or a "
+        "clash, is listed and skipped."
     )
     words.epilog = "Example: tools/tml-corpus agree --links first second"
     words.add_argument("document", metavar="DIR", help="a folder, or a file")
     words.add_argument("key", metavar="KEYDIR", help="the folder with the key, or the file")
-    words.add_argument("--links", action="store_true", help="name the links of the one that do not follow in the other, with their places")
+    words.add_argument("--links", action="store_true", help="name the links of each side that do not follow in the other, with places")
     words.add_argument("--format", choices=AGREE_FORMS, default="text", help="the form of the output")
     words.add_argument("--touching", action="store_true", help=TOUCHING)
     glob_words(words)
@@ -169,8 +166,8 @@ def agree_words(words: Parser) -> None:
 def report_words(words: Parser) -> None:
     """The words of `report`, which writes pages."""
     words.description = (
-        "Writes a folder of pages that open from the disk: an index of all documents, and of each one its text beside its timeline, its "
-        "links, its clashes step by step, its faults and warnings. The status is 0 where a timeline fits each document."
+        "Writes a folder of pages that open from disk: an index of all documents, and for each one its text beside its timeline, its "
+        "links, its clashes step by step, and its faults and warnings. The status is 0 if a timeline fits each document."
     )
     words.epilog = "Example: tools/tml-corpus report samples -o pages"
     folder = "the folder of the pages: a new one, or that of an earlier report"
@@ -184,9 +181,9 @@ def report_words(words: Parser) -> None:
 def serve_words(words: Parser) -> None:
     """The words of `serve`, which an editor starts."""
     words.description = (
-        "Speaks the Language Server Protocol over standard input and output: while a document is written it says which faults, clashes and "
-        "warnings it has, what a time, a link or an event is, where an identifier stands, what may be written, and mends what has one "
-        "cure. An editor starts it; docs/EDITORS.md says how."
+        "Speaks the Language Server Protocol over standard input and output: while a document is being written it reports its faults, "
+        "clashes and warnings, says what a time, a link or an event is and where an identifier occurs, suggests what may be written, and "
+        "mends what has only one cure. An editor starts it; docs/EDITORS.md says how."
     )
     shared_words(words)
 
@@ -196,10 +193,10 @@ def report_words_of(words: Parser, things: str) -> None:
     words.add_argument("--format", choices=FORMS, default="text", help="the form of the output")
     more_words(words, things)
     words.add_argument("--touching", action="store_true", help=TOUCHING)
-    name = "the name in the reports of the document of standard input, which is the path -"
+    name = "the name under which standard input, the path -, is reported"
     words.add_argument("--stdin-name", metavar="NAME", help=name)
-    words.add_argument("--quiet", action="store_true", help="print no summary, and no list of links that are read as touching")
-    words.add_argument("--watch", action="store_true", help="go on, and look again at files that change, until interrupted")
+    words.add_argument("--quiet", action="store_true", help="print no summary, and no list of links read as touching")
+    words.add_argument("--watch", action="store_true", help="keep running, and check files again when they change, until interrupted")
     words.set_defaults(reads_input=True)
 
 
@@ -224,9 +221,9 @@ def pool_words(words: Parser, cluster: bool = False) -> None:
     """The words of a command that works on files on all processors, and perhaps on a cluster."""
     jobs_words(words, "files")
     if cluster:
-        address = "work on a Dask cluster, whose workers see the files and tml by the same paths; --jobs says nothing then"
+        address = "work on a Dask cluster whose workers see the files and tml under the same paths; --jobs is then ignored"
         words.add_argument("--cluster", metavar="ADDRESS", help=address)
-    library = "the library of tml to ask (default: without --tml that of this repository or of the system, if it is there)"
+    library = "the tml library to ask (default, without --tml: that of this repository or of the system, if there is one)"
     which = words.add_mutually_exclusive_group()
     which.add_argument("--library", metavar="FILE", help=library)
     which.add_argument("--no-library", action="store_const", const="", dest="library", help="start tml for each question")
@@ -234,7 +231,7 @@ def pool_words(words: Parser, cluster: bool = False) -> None:
 
 def jobs_words(words: Parser, things: str) -> None:
     """The words of a command that works on all processors."""
-    words.add_argument("--jobs", type=int, metavar="N", help=f"how many {things} at once (default: one a processor)")
+    words.add_argument("--jobs", type=int, metavar="N", help=f"how many {things} at once (default: one per processor)")
 
 
 def shared_words(words: Parser) -> None:
@@ -264,16 +261,16 @@ def picture_name(text: str) -> str:
 
 
 COMMANDS: Mapping[str, tuple[str, Callable[[Parser], None]]] = {
-    "check": ("say of each document whether tml accepts it, or where its first fault is", check_words),
-    "tags": ("count the names of tags, and say which of them tml does not know", tags_words),
+    "check": ("say whether tml accepts each document, or where its first fault is", check_words),
+    "tags": ("count the names of tags, and say which ones tml does not know", tags_words),
     "clashes": ("show the links of each document that contradict each other", clashes_words),
-    "fix": ("mend what has one cure only", fix_words),
-    "open": ("print the pairs of intervals that are open, those first of which one more link settles most", open_words),
+    "fix": ("mend what has only one cure", fix_words),
+    "open": ("list undecided pairs, most informative first", open_words),
     "agree": ("say how far the links of two annotations of the same texts agree", agree_words),
     "report": ("write pages about all documents, to be opened in a browser", report_words),
     "timeline": ("draw the least timeline of a document", timeline_words),
-    "matrix": ("print what the intervals of a document can be to each other", matrix_words),
+    "matrix": ("print the relations that are possible between the intervals of a document", matrix_words),
     "seconds": ("print a placing of a document in whole seconds", seconds_words),
-    "serve": ("serve an editor, by the Language Server Protocol", serve_words),
+    "serve": ("serve an editor by the Language Server Protocol", serve_words),
 }
 """The commands: what each does, and what makes its words."""

@@ -34,7 +34,7 @@ def command(run: Run, options: Options) -> int:
     print_each(found, run.each(work, found, lambda one: not_mended(one, ENDED)), reported)
     changed, left, problems = reports["changed"], reports["left"], reports["problem"]
     done = "mended" if options.write else "can be mended (--write does it)"
-    sys.stdout.write(f"{counted(len(found), 'file')}: {changed} {done}, {left} with a fault that is left, {problems} not looked at\n")
+    sys.stdout.write(f"{counted(len(found), 'file')}: {changed} {done}, {left} still faulty, {problems} skipped\n")
     if run.is_interrupted():
         sys.stdout.write("interrupted: not all files were looked at\n")
     return Status.TROUBLE if problems else Status.FINDING if left or (changed and not options.write) else Status.SUCCESS

@@ -25,7 +25,7 @@ def command(run: Run, options: Options) -> int:
         nonlocal problems
         table.add(names)
         problems += names.problem is not None
-        remark = f"not counted: {names.problem}" if names.problem else names.remark
+        remark = f"skipped: {names.problem}" if names.problem else names.remark
         return f"{shown(names.path)}: {shown(remark)}\n" if remark else ""
 
     print_each(found, run.each(partial(names_in, run.program), found, lambda one: Names(one.path, problem=ENDED)), reported)
@@ -35,7 +35,7 @@ def command(run: Run, options: Options) -> int:
     sys.stdout.write(table.text(known))
     unknown = list(known.values()).count(False)
     sys.stdout.write(f"{counted(len(found), 'file')}: {counted(len(table.counts), 'name')} of tags, {unknown} unknown to tml; ")
-    sys.stdout.write(f"{problems} not counted\n")
+    sys.stdout.write(f"{problems} skipped\n")
     if run.is_interrupted():
         sys.stdout.write("interrupted: not all files were looked at\n")
     return Status.TROUBLE if problems else Status.FINDING if unknown else Status.SUCCESS

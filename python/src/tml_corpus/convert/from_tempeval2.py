@@ -179,7 +179,7 @@ def check_name(name: Word, names: dict[str, str]) -> None:
     """Sees that a document can have a file of its name, and that no system takes it for the name of another document."""
     text = name.text
     if os.path.basename(text) != text or text in ("", ".", "..") or not text.isprintable() or len(text.encode()) > LONGEST_NAME:
-        raise name.wrong(f"{text[:40]!r} is no name for a file")
+        raise name.wrong(f"{text[:40]!r} is not a name for a file")
     other = names.setdefault(unicodedata.normalize("NFC", text.casefold()), text)
     if other != text:
         raise name.wrong(f"{text[:40]!r} and {other[:40]!r} are one name where the case of letters does not count")
@@ -188,7 +188,7 @@ def check_name(name: Word, names: dict[str, str]) -> None:
 def source_of(sources: dict[str, Source], name: Word) -> Source:
     """The document of a name, which has to have tokens."""
     if name.text not in sources:
-        raise name.wrong(f"{name.text[:40]!r} is no document of base-segmentation.tab")
+        raise name.wrong(f"{name.text[:40]!r} is not a document of base-segmentation.tab")
     return sources[name.text]
 
 
@@ -209,7 +209,7 @@ def read_attributes(sources: dict[str, Source], folder: str, kind: str) -> None:
         if tag.text not in source.tags:
             raise tag.wrong(f"{tag.text} has attributes and no extent")
         if not NAME.fullmatch(attribute.text):
-            raise attribute.wrong(f"{attribute.text[:40]!r} is no name of an attribute")
+            raise attribute.wrong(f"{attribute.text[:40]!r} is not a name of an attribute")
         source.tags[tag.text].attributes[attribute.text] = value.text
 
 

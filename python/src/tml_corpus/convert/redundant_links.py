@@ -5,8 +5,8 @@ are looked at from the first to the last, so of two that say the same the first 
 
 Example: tools/redundant-links samples
 
-Status 0 says that no link follows, 1 that some link does, 2 that some document could not be asked about, as where it has a
-fault or where no timeline fits it, and 130 that the run was interrupted.
+Status 0 says that no link follows, 1 that some link does, 2 that some document was skipped, as where it has a
+fault or its links contradict each other, and 130 that the run was interrupted.
 """
 
 from __future__ import annotations
@@ -39,7 +39,7 @@ class Report:
 
     def text(self) -> str:
         """The report in lines."""
-        lines = [f"{shown(self.path)}: not asked: {shown(self.problem)}"] if self.problem else self.follows
+        lines = [f"{shown(self.path)}: skipped: {shown(self.problem)}"] if self.problem else self.follows
         return "".join(line + "\n" for line in lines)
 
 
@@ -55,7 +55,7 @@ def ask_of_all(words: list[str]) -> int:
         for report in in_order(work, found, jobs, stop, lambda one: Report(one.path, problem=ENDED), program.load):
             sys.stdout.write(report.text())
             links, follows, problems = links + report.links, follows + len(report.follows), problems + (report.problem is not None)
-        files = f"{counted(len(found), 'file')}, {problems} not asked about"
+        files = f"{counted(len(found), 'file')}, {problems} skipped"
         print(f"{files}; links that follow from those that are kept: {follows} of {links}")
         if stop.happened.is_set():
             print("interrupted: not all files were looked at")
@@ -69,7 +69,7 @@ def parser() -> ProgramParser:
     words.add_argument("paths", nargs="+", metavar="PATH", help="a file, or a folder to search")
     words.add_argument("--glob", action="append", metavar="PATTERN", help=f"names to look for in folders (default {' '.join(PATTERNS)})")
     words.add_argument("--tml", metavar="PROGRAM", help="the program tml (default: that of this repository, else that on PATH)")
-    words.add_argument("--jobs", type=int, default=processors(), metavar="N", help="how many files at once (default: one a processor)")
+    words.add_argument("--jobs", type=int, default=processors(), metavar="N", help="how many files at once (default: one per processor)")
     return words
 
 

@@ -151,7 +151,7 @@ class Document:
         self.ends = self.units.end_tags() if self.ends is None else self.ends
         if unit.kind == "start" and unit.start not in self.ends:
             place = Places(self.text).place(unit.start)
-            raise CannotEdit(f"<{unit.name}> at {place.line}:{place.column} has no end tag")
+            raise CannotEdit(f"<{unit.name}> at {place.line}:{place.column} is never closed")
         end = self.units[self.ends[unit.start]] if unit.kind == "start" else unit
         return Edit(unit.start, end.end, text.encode("utf-8", "surrogateescape"))
 
@@ -277,7 +277,7 @@ def interval_of(word: Word, instances: dict[str, str], events: set[str], interva
     """The instance or time that a word of a table names: of an event the first instance."""
     name = word.text if word.text in events else instances.get(word.text, word.text)
     if name not in intervals or not IDENTIFIER.fullmatch(name):
-        raise word.wrong(f"{word.text} is no event and no time of the document")
+        raise word.wrong(f"{word.text} is not an event or a time of the document")
     return name
 
 

@@ -56,7 +56,7 @@ def kind_of_tag(tag: bytes) -> int:
 
 
 def kind_of_markup(piece: bytes) -> int:
-    """The kind of what begins with `<` and is no tag."""
+    """The kind of what begins with `<` and is not a tag."""
     return DECLARATION if piece.startswith(b"<?") else COMMENT if piece.startswith(b"<!-") else DOCTYPE
 
 

@@ -11,7 +11,7 @@ from ..check.faults import read_fault
 from .words import Link, Wording
 
 APART = "the answers of tml to `check` and `reduce` do not belong together"
-CLASHING = "no timeline fits it: see tml-corpus clashes"
+CLASHING = "its links contradict each other: see tml-corpus clashes"
 
 
 @dataclass(frozen=True)

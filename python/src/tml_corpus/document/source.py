@@ -183,7 +183,7 @@ class Source:
 
     @cached_property
     def by_name(self) -> dict[str, list[Unit]]:
-        """The start and empty tags of the profile that are no wrappers, by their names."""
+        """The start and empty tags of the profile that are not wrappers, by their names."""
         found: dict[str, list[Unit]] = {}
         for unit in self.units.opening(ROOT, *TABLE):
             found.setdefault(unit.name, []).append(unit)
@@ -269,7 +269,7 @@ class Source:
 
     @cached_property
     def odd_times(self) -> list[tuple[Unit, str, str]]:
-        """The times with a value, of which that is no date of a DATE or TIME, with their types and values."""
+        """The times with a value, of which that is not a date of a DATE or TIME, with their types and values."""
         times = ((tag, values.get("type", ""), values.get("value", "")) for tag, values in self.valued("TIMEX3"))
         return [(tag, kind, value) for tag, kind, value in times if value and not (kind in ("DATE", "TIME") and CALENDAR.fullmatch(value))]
 

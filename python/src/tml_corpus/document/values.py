@@ -1,4 +1,4 @@
-"""The values of TIMEX3: which form one has, and why it is no date. `tml` judges them; the words are found here."""
+"""The values of TIMEX3: which form one has, and why it is not a date. `tml` judges them; the words are found here."""
 
 from __future__ import annotations
 
@@ -117,7 +117,7 @@ def real(value: str) -> list[str]:
 
 
 def no_date(value: str) -> str | None:
-    """Why a value of a calendar shape is no date; None where it is one, or has no such shape."""
+    """Why a value of a calendar shape is not a date; None where it is one, or has no such shape."""
     found = CALENDAR.fullmatch(value)
     if found is None:
         return None
@@ -139,7 +139,7 @@ def no_date(value: str) -> str | None:
 
 
 def is_number(field: str | None) -> bool:
-    """Whether a field is there and is no X."""
+    """Whether a field is there and is not X."""
     return field is not None and "X" not in field
 
 

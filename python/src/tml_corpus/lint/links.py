@@ -1,4 +1,4 @@
-"""What is suspect in links and instances: links that say nothing or the same twice, and what no link names."""
+"""What is suspect in links and instances: links that say nothing or the same twice, and what is in no link."""
 
 from __future__ import annotations
 
@@ -42,7 +42,7 @@ def repeated_link(source: Source) -> Iterator[Suspect]:
         elif left != right:
             where = source.at(first.start)
             yield Suspect(
-                tag, f"{left} {relation} {right} is given at {where} already: see whether another pair is meant, or take one of the two out"
+                tag, f"{left} {relation} {right} is given at {where} already: see whether another pair is meant, or delete one of the two"
             )
 
 
@@ -84,7 +84,7 @@ def event_without_instance(source: Source) -> Iterator[Suspect]:
 
 
 def unlinked_instance(source: Source) -> Iterator[Suspect]:
-    """An instance that no link names."""
+    """An instance that is in no link."""
     names = ("eventInstanceID", "relatedToEventInstance", "subordinatedEventInstance")
     linked = {values.get(name, "") for kind in ("ALINK", "SLINK") for _, values in source.valued(kind) for name in names}
     linked.update(values.get(names[2], "") for _, values in source.valued("TLINK"))
@@ -92,4 +92,4 @@ def unlinked_instance(source: Source) -> Iterator[Suspect]:
         linked.update((left, right))
     for name, tag in source.identified("MAKEINSTANCE").items():
         if name not in linked:
-            yield Suspect(tag, f"no link names {name}, so nothing says when it is: add a TLINK")
+            yield Suspect(tag, f"{name} is in no link, so nothing orders it: add a TLINK")

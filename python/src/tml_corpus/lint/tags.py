@@ -26,7 +26,7 @@ def misspelled_attribute(source: Source) -> Iterator[Suspect]:
             at, missing = tag.start, set(TABLE.get(tag.name, ())).difference(one.name for one in tag.attributes)
         near = sorted(name for name in missing if one_letter_apart(attribute.name, name))
         if near:
-            text = f"{cut(attribute.name)} is no attribute of {tag.name} that means something; did you mean {' or '.join(near)}?"
+            text = f"{cut(attribute.name)} is not a known attribute of {tag.name}; did you mean {' or '.join(near)}?"
             edit = Edit(attribute.start, attribute.start + len(attribute.name.encode("utf-8", "surrogateescape")), near[0].encode())
             yield Suspect.of_attribute(tag, attribute, text, edit if len(near) == 1 else None)
 
@@ -34,7 +34,7 @@ def misspelled_attribute(source: Source) -> Iterator[Suspect]:
 def unknown_attribute(source: Source) -> Iterator[Suspect]:
     """An attribute that neither the profile nor TimeML knows."""
     for tag, attribute in unknown_attributes(source):
-        yield Suspect.of_attribute(tag, attribute, f"{cut(attribute.name)} is no attribute of {tag.name} that means something")
+        yield Suspect.of_attribute(tag, attribute, f"{cut(attribute.name)} is not a known attribute of {tag.name}")
 
 
 def unknown_attributes(source: Source) -> Iterator[tuple[Unit, Attribute]]:
@@ -84,7 +84,7 @@ def nested_tag(source: Source) -> Iterator[Suspect]:
             where = source.at(outer.start)
             yield Suspect(
                 tag,
-                f"this {tag.name} stands inside of the {outer.name} at {where}: see which words each is around, and "
+                f"this {tag.name} is inside the {outer.name} at {where}: see which words each is around, and "
                 f"whether one is too many",
             )
         if units.kinds[row] == START:
@@ -96,7 +96,7 @@ def version_mark(source: Source) -> Iterator[Suspect]:
     root = source.units.first_tag()
     if root is not None and first_conflict(source.document) is not None:
         for start, end in version_marks(source.document):
-            yield Suspect(root, "a mark of version control: see which version of these lines is right, and take the mark out", (start, end))
+            yield Suspect(root, "a mark of version control: see which version of these lines is right, and delete the mark", (start, end))
 
 
 def tag_as_text(source: Source) -> Iterator[Suspect]:

@@ -17,7 +17,7 @@ DATED = ("DATE", "TIME")
 NEAR, FAR = 2, 5
 """Within so many years of its creation time a document mostly speaks, and from the second number on a date is far from it."""
 
-PLACED_BY_LINKS = "which the calendar does not place: nothing says when it is but links"
+PLACED_BY_LINKS = "which the calendar does not place: only links can order it"
 
 
 def value_form(source: Source) -> Iterator[Suspect]:
@@ -25,7 +25,7 @@ def value_form(source: Source) -> Iterator[Suspect]:
     for tag, _, value in source.odd_times:
         if not has_form(value) and not LOOKS_LIKE_DATE.fullmatch(value):
             hint, edit = meant_value(source, tag, value)
-            yield of_value(tag, f'value="{cut(value)}" has no form of a value, so this time has no date{hint}', edit)
+            yield of_value(tag, f'value="{cut(value)}" is not a TIMEX3 value, so the calendar cannot place it{hint}', edit)
 
 
 def of_value(tag: Unit, text: str, edit: Edit | None = None) -> Suspect:

@@ -81,9 +81,9 @@ KINDS: dict[str, WarningKind] = {
     "version-mark": WarningKind("a mark that version control left in the text", tags.version_mark),
     "tag-as-text": WarningKind("a tag without its <, which is a text", tags.tag_as_text),
     "nested-tag": WarningKind("an EVENT or TIMEX3 inside of an EVENT or TIMEX3", tags.nested_tag),
-    "misspelled-attribute": WarningKind("an attribute that is one letter from one that means something", tags.misspelled_attribute),
+    "misspelled-attribute": WarningKind("an attribute whose name is one letter from a known one", tags.misspelled_attribute),
     "unknown-attribute": WarningKind("an attribute that neither tml nor TimeML knows; only with --warn", tags.unknown_attribute),
-    "value-form": WarningKind("a value of a TIMEX3 that has no form", times.value_form, of_free_times=True),
+    "value-form": WarningKind("a value that is not a TIMEX3 value", times.value_form, of_free_times=True),
     "free-date": WarningKind("a value that looks like a date, of a time that has none", times.free_date, of_free_times=True),
     "contradicting-word": WarningKind("a weekday or month of the text that is not that of the value", times.contradicting_word),
     "far-date": WarningKind("a year far from the creation time, which the text does not name", times.far_date),
@@ -98,7 +98,7 @@ KINDS: dict[str, WarningKind] = {
         "a fiscal year or a part of one, which the calendar does not place", times.fiscal_value, of_free_times=True
     ),
     "event-without-instance": WarningKind("an EVENT that no MAKEINSTANCE names", links.event_without_instance),
-    "unlinked-instance": WarningKind("an instance that no link names", links.unlinked_instance),
+    "unlinked-instance": WarningKind("an instance that is in no link", links.unlinked_instance),
     "no-creation-time": WarningKind("a document without a creation time", times.no_creation_time),
 }
 """The kinds of warnings by their names."""

@@ -39,7 +39,7 @@ def worded_matrix(program: Program, path: str, undone: str, touching: bool) -> W
 
 
 def show_matrix(program: Program, path: str, form: str, touching: bool, stop: Interruption) -> int:
-    """Prints it, and answers the status. What is no part of a table goes to standard error."""
+    """Prints it, and answers the status. What is not part of a table goes to standard error."""
     found = worded_matrix(program, path, "shown", touching)
     (sys.stdout if form == "text" else sys.stderr).write(found.text)
     if isinstance(found, Unfit):

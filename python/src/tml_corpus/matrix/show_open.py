@@ -1,4 +1,4 @@
-"""`tml-corpus open`: the open pairs of a document, those first of which one more link settles most."""
+"""`tml-corpus open`: the undecided pairs of a document, most informative first."""
 
 from __future__ import annotations
 

@@ -103,7 +103,7 @@ def with_counts(report: ClashReport, wording: Wording) -> Examined:
 
 
 def with_timeline(examined: Examined, timeline: Timeline) -> Examined:
-    """The same with a timeline that fits, and the pairs that are decided."""
+    """The same with a timeline that fits, and the decided pairs."""
     matrix, counts = timeline.matrix, examined.counts
     if matrix is None or counts is None:
         return examined

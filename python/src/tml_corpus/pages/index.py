@@ -9,6 +9,8 @@ from ..files.finding import counted
 from .documents import Entry
 from .page import END, head, isolated, said
 
+WITHOUT_PLACE = "dates without a calendar place"
+
 COLUMNS = (
     ("document", "text"),
     ("verdict", "text"),
@@ -16,7 +18,7 @@ COLUMNS = (
     ("clashes", "number"),
     ("dates that touch", "number"),
     ("warnings", "number"),
-    ("free dates", "number"),
+    (WITHOUT_PLACE, "number"),
     ("intervals", "number"),
     ("links", "number"),
     ("pairs", "number"),
@@ -26,10 +28,8 @@ COLUMNS = (
 """The columns, and how they are sorted."""
 
 EXPLAINED = (
-    "Each verdict is one of tml. A clash is links that cannot all be true. Dates that touch leave no gap where a link "
-    "between them asks for one. "
-    "A free date is a date or time of a day that the calendar does not place. Of a pair of intervals that is decided one "
-    "relation is possible."
+    "Each verdict is one of tml. A clash is a set of links that cannot all be true. Dates that touch leave no gap where a link "
+    "between them asks for one. Dates include times of day. A pair is decided when only one relation is possible."
 )
 
 
@@ -59,8 +59,8 @@ def totals(entries: Sequence[Entry]) -> str:
     sums = Counter(
         {"clashes": sum(entry.clashes for entry in entries), "links between dates that touch": sum(entry.touching for entry in entries)}
     )
-    sums["free dates"] = sum(one.free_dates for one in counts)
-    sums["pairs of intervals"], sums["pairs that are decided"] = pairs, decided
+    sums[WITHOUT_PLACE] = sum(one.free_dates for one in counts)
+    sums["pairs of intervals"], sums["decided pairs"] = pairs, decided
     faults = Counter(entry.said for entry in entries if entry.verdict == "fault")
     warnings: Counter[str] = Counter()
     for entry in entries:

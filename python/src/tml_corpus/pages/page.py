@@ -71,7 +71,8 @@ def summary(entry: Entry) -> str:
     words = [f"<strong>{said(entry.verdict)}</strong>" + (f": {isolated(entry.said)}" if entry.said else "")]
     counts = entry.counts
     if counts is not None:
-        words += [counted(counts.intervals, "interval"), counted(counts.links, "link"), counted(counts.free_dates, "free date")]
+        words += [counted(counts.intervals, "interval"), counted(counts.links, "link")]
+        words.append(f"{counted(counts.free_dates, 'date')} without a calendar place")
     if counts is not None and counts.pairs is not None:
         words.append(f"{counts.decided} of {counted(counts.pairs, 'pair')} decided")
     words.append(counted(entry.warnings.total(), "warning"))
@@ -90,7 +91,7 @@ def sections(examined: Examined) -> Iterator[str]:
         yield reading(examined, wording, words)
         yield section("links", "Links", links_part(wording, words, notes_on_links(examined)))
         free = "".join(f"<li>{isolated(f'{wording.text_of(name)} ({name})')}</li>\n" for name in free_dates(wording))
-        yield section("free", "Free dates", free and f"<p>The calendar does not place these dates:</p>\n<ul>\n{free}</ul>\n")
+        yield section("free", "Dates without a calendar place", free and f"<ul>\n{free}</ul>\n")
     yield section("warnings", "Warnings", "".join(map(warning_part, report.judgement.warnings)))
 
 

@@ -55,7 +55,7 @@ class Folder:
             os.makedirs(self.path, exist_ok=True)
             names = os.listdir(self.path)
             if names and not set(SHARED) <= set(names):
-                raise CannotRun(f"{self.path} has files that are no report: name a new folder, or one that has an earlier report")
+                raise CannotRun(f"{self.path} has files that are not part of a report: name a new folder, or that of an earlier report")
             for name, text in SHARED.items():
                 write_page(os.path.join(self.path, name), text)
             os.makedirs(os.path.join(self.path, DOCUMENTS), exist_ok=True)

@@ -14,7 +14,7 @@ from .placed import Placed, Unplaced, placed_document
 
 
 def show_seconds(program: Program, path: str, form: str, touching: bool) -> int:
-    """Prints it, and answers the status. Where the output is for programs, what is no part of it goes to standard error."""
+    """Prints it, and answers the status. Where the output is for programs, what is not part of it goes to standard error."""
     found = placed_document(program, path, touching)
     apart = sys.stdout if form == "text" else sys.stderr
     if isinstance(found, Unfit):

@@ -34,7 +34,7 @@ class Message:
 
 @dataclass(frozen=True)
 class Unreadable:
-    """A body that is no message: the number of the error, and what is wrong."""
+    """A body that is not a message: the number of the error, and what is wrong."""
 
     code: int
     text: str

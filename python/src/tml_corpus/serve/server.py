@@ -123,7 +123,7 @@ class Server:
             self.client.shut_down = True
             return None
         if message.method not in REQUESTS:
-            raise Refused(UNKNOWN, f"{message.method[:80]} is no method of this server")
+            raise Refused(UNKNOWN, f"{message.method[:80]} is not a method of this server")
         if not self.is_wanted(message):
             raise Overtaken
         opened = self.opened.get(message.uri)

@@ -75,7 +75,7 @@ def length_in(head: bytes) -> int:
 
 
 def send(output: IO[bytes], message: dict[str, Json]) -> None:
-    """Writes a message. What is no character becomes a question mark."""
+    """Writes a message. What is not a character becomes a question mark."""
     body = json.dumps({"jsonrpc": "2.0", **message}, ensure_ascii=False, separators=(",", ":")).encode("utf-8", "replace")
     output.write(b"Content-Length: %d\r\n\r\n%s" % (len(body), body))
     output.flush()
