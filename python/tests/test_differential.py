@@ -527,7 +527,7 @@ class Runs(unittest.TestCase):
             ("confirm", "s/^seconds Length/seconds Bound/", "confirming"),
         ):
             program = self.lying(f'if [ "$1" = {command} ]; then "$T" "$@" > out; S=$?; sed "{lie}" out; exit $S; fi')
-            status, said = self.differential("--processes", "--placings", "--count", "200", "--small", "0", "2", "1", tml=program)
+            status, said = self.differential("--processes", "--placings", "--count", "600", "--small", "0", "2", "1", tml=program)
             self.assertEqual(status, 1, said)
             self.assertIn(f"difference ({subject})", said)
 
