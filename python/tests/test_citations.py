@@ -75,17 +75,18 @@ def items_of(file, text):
 
 @cache
 def public_items(crate):
-    """The public items of a crate, by their names: those that its `lib.rt` has, or takes from its modules."""
+    """The public items of a crate, by their names: those that its `lib.rt` has, or takes from its modules, and of a program all."""
     sources = CRATES / crate / "src"
-    if not (sources / "lib.rt").is_file():
+    is_program = (sources / "main.rt").is_file()
+    if not (is_program or (sources / "lib.rt").is_file()):
         raise NotThere(f"no crate `{crate}`")
-    top = (sources / "lib.rt").read_text(encoding="utf-8")
+    top = "" if is_program else (sources / "lib.rt").read_text(encoding="utf-8")
     taken = re.findall(r"pub use (\w+)::(?:\w+::)*(\{[^}]*\}|\w+);", top)
     module_of = {name: module for module, names in taken for name in re.findall(r"\w+", names)}
     public = {}
     for path in sources.rglob("*.rt"):
         module = path.relative_to(sources).parts[0].removesuffix(".rt")
-        is_open = module == "lib" or f"pub mod {module};" in top
+        is_open = is_program or module == "lib" or f"pub mod {module};" in top
         for name, item in items_of(path.relative_to(sources).as_posix(), path.read_text(encoding="utf-8")).items():
             owner, _, member = name.partition("::")
             if is_open or module_of.get(owner) == module or member and owner in module_of:

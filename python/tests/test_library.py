@@ -198,8 +198,10 @@ class Library(unittest.TestCase):
 
     @unittest.skipUnless(shutil.which("prlimit"), "no prlimit")
     def test_the_stack_that_is_stated(self):
+        page = " ".join(Path(TOP, "docs", "LIBRARY.md").read_text(encoding="utf-8").split())
+        most, others = map(int, re.search(r"`verify` and `drill` took about (\d+) KiB of it, and all other commands about (\d+) KiB", page).groups())
         for case in self.cases(2):
-            stated = 400 if case.words[:1] in ((b"verify",), (b"drill",)) else 72
+            stated = most if case.words[:1] in ((b"verify",), (b"drill",)) else others
             with self.subTest(case.subject, words=case.words[:1]):
                 # beside it, the program that calls has its words, its variables and the loader on the stack
                 self.assertEqual(self.call(case, before=("prlimit", f"--stack={(stated + 96) * 1024}")), self.call(case))
