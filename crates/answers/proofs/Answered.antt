@@ -12,10 +12,10 @@ use Rattle.tml_run.specs.OneFile.{IsAnswered, of_its_bytes}
 use Rattle.tml_run.proofs.OneFile.{answered, freer}
 use Rattle.tml_run.specs.OneReply.{is_broken_off}
 use Rattle.tml_run.specs.Rows.{File}
-use Rattle.tml_run.specs.TwoFiles.{IsJudged}
+use Rattle.tml_run.specs.TwoFiles.{IsDecisive}
 use Rattle.tml_run.proofs.TwoFiles.{both_answered, both_answered_once, refused_first}
 use Rattle.answers.specs.Documents.{AreAnswered, Contents, doc_file, document_rows, of_contents, of_its_contents}
-use Rattle.answers.specs.Judged.{AreJudged, Judgements, JudgesFirst, documents, judged_rows, of_judged}
+use Rattle.answers.specs.Judged.{IsAnsweredByDocument, Judgements, JudgesFirst, documents, judged_rows, of_judged}
 use Rattle.answers.specs.Lines.{fault_line}
 use Rattle.answers.proofs.Refusals.{one_refusal}
 
@@ -67,7 +67,7 @@ document_answered Of are name = freer (document_rows Of name) (of_its_bytes Neve
 -- ---- a document and another file
 
 -- a document is accepted, or has one refusal
-documents_judged : IsJudged max_document documents
+documents_judged : IsDecisive max_document documents
 documents_judged = record {
   some = λ doc short. elim (every_document doc) [
     | inl accepted ↦ inl accepted
@@ -81,11 +81,11 @@ documents_judged = record {
 }
 
 -- the rows of a command that is asked of a document and another file
-pub judged_answered : (name : List ℕ) (file : File) (Of : Judgements) (IsFree : PlainDocument → List ℕ → Status → Type 0) → AreJudged file.limit Of IsFree → RowsAreAnswered (judged_rows name file Of) (of_judged IsFree)
+pub judged_answered : (name : List ℕ) (file : File) (Of : Judgements) (IsFree : PlainDocument → List ℕ → Status → Type 0) → IsAnsweredByDocument file.limit Of IsFree → RowsAreAnswered (judged_rows name file Of) (of_judged IsFree)
 judged_answered name file Of IsFree are = both_answered documents (doc_file name) file Of IsFree documents_judged are
 
 -- and of one of which every text is determined
-pub judged_answered_once : (name : List ℕ) (file : File) (Of : Judgements) → AreJudged file.limit Of (λ contents other status. ⊥) → RowsAreAnswered (judged_rows name file Of) NeverFree
+pub judged_answered_once : (name : List ℕ) (file : File) (Of : Judgements) → IsAnsweredByDocument file.limit Of (λ contents other status. ⊥) → RowsAreAnswered (judged_rows name file Of) NeverFree
 judged_answered_once name file Of are = both_answered_once documents (doc_file name) file Of documents_judged are
 
 -- such rows judge the document first

@@ -15,8 +15,8 @@ abbrev pub doc_file : List ℕ → File
 doc_file name = record { name = name; word = codes "DOC"; limit = max_document }
 
 -- the document is refused by the line of its first fault
-abbrev pub IsRefused : List ℕ → Status → List ℕ → Type 0
-IsRefused doc status text = (status ≡ DocFault) × HasFaultLine (FirstFault doc) text
+abbrev pub IsDocumentRefused : List ℕ → Status → List ℕ → Type 0
+IsDocumentRefused doc status text = (status ≡ DocFault) × HasFaultLine (FirstFault doc) text
 
 -- the answers to what an accepted document says
 abbrev pub Contents : Type 1
@@ -24,7 +24,7 @@ Contents = PlainDocument → Status → List ℕ → Type 0
 
 -- the document is refused, or its contents are answered
 abbrev pub of_contents : Contents → Answers
-of_contents Of doc status text = IsRefused doc status text ⊎ ((contents : PlainDocument) × Says doc contents × Of contents status text)
+of_contents Of doc status text = IsDocumentRefused doc status text ⊎ ((contents : PlainDocument) × Says doc contents × Of contents status text)
 
 -- the rows of a command that is asked of the document of this name
 abbrev pub document_rows : Contents → List ℕ → Rows

@@ -10,7 +10,7 @@ mod minimal;
 mod orders;
 mod raising;
 mod rings;
-mod round;
+mod closed_walk;
 mod sequence;
 mod settling;
 mod spares;

@@ -36,7 +36,7 @@ abbrev pub CannotJudge : {C : Type 0} → Judging C → List ℕ → Status → 
 CannotJudge judging one status text = judging.IsRefused one status text ⊎ ((status ≡ NoMemory) × (text ≡ []))
 
 -- A first file within its limit says something or is refused, and not both. It says one thing, or is refused with one status, which is none that is broken off, and one text.
-pub record IsJudged {C : Type 0} (limit : ℕ) (judging : Judging C) : Type 0 where
+pub record IsDecisive {C : Type 0} (limit : ℕ) (judging : Judging C) : Type 0 where
   pub some : (one : List ℕ) → length one ≤ limit → IsPassed judging one ⊎ ((status : Status) × (text : List ℕ) × judging.IsRefused one status text)
   pub not_both : (one : List ℕ) (status : Status) (text : List ℕ) → IsPassed judging one → judging.IsRefused one status text → ⊥
   pub one_said : (one : List ℕ) (c d : C) → judging.Says one c → judging.Says one d → c ≡ d

@@ -47,12 +47,12 @@ elements_in nodes = filter is_element (map node_of nodes)
 
 -- ---- what a builder has open
 
-abbrev pub name_of : Frame → List ℕ
-name_of f = text_of f.name
+abbrev pub frame_name : Frame → List ℕ
+frame_name f = text_of f.name
 
 -- the open names, the innermost first
 abbrev pub names_of : List Frame → List (List ℕ)
-names_of frames = map name_of (reverse frames)
+names_of frames = map frame_name (reverse frames)
 
 abbrev pub tag_of : Frame → OpenTag
 tag_of f = record { start = f.span.start; end = f.span.end; name = text_of f.name; attrs = map attribute_of f.attrs; before = map node_of f.before.items }
