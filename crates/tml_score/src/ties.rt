@@ -93,7 +93,11 @@ fn ties_of(alloc: Global, kept: &KeptLinks<'_>) -> Result<Vec<Order>, Memory>
 }
 
 /// For each point the first one at its place: the first from which ties lead to it.
-fn roots_of(alloc: Global, kept: &KeptLinks<'_>, onward: &Index<Order, End>) -> Result<Vec<u32>, Memory>
+fn roots_of(
+    alloc: Global,
+    kept: &KeptLinks<'_>,
+    onward: &Index<Order, End>,
+) -> Result<Vec<u32>, Memory>
     requires ready { IsReady (basis_of kept.now) }
     requires onward { AreOrdersBy (basis_of kept.now) onward.now }
     ensures { IfOk result (λ roots. length roots.items ≡ points kept.now.net.now) }

@@ -188,7 +188,13 @@ impl Tree {
     }
 
     /// Takes the orders that lead on from a point.
-    fn spread(&mut self, kept: &KeptLinks<'_>, ties: &Ties, open: Open, point: u32) -> Result<(), Memory>
+    fn spread(
+        &mut self,
+        kept: &KeptLinks<'_>,
+        ties: &Ties,
+        open: Open,
+        point: u32,
+    ) -> Result<(), Memory>
         requires ready { IsReady (basis_of kept.now) }
         requires ties { AreTies (basis_of kept.now) ties.now }
         requires point { point < points kept.now.net.now }
