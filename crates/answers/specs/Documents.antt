@@ -1,12 +1,11 @@
 -- Commands that read one document: its first fault is answered, or what it says decides.
-use Rattle.std.specs.Prelude.{◌≡◌, ◌⊎◌, false, ℕ, List, codes}
+use Rattle.std.specs.Prelude.{◌≡◌, ◌⊎◌, ℕ, List, codes}
 use Rattle.net_core.specs.Limits.{max_document}
 use Rattle.tml_accept.specs.Acceptance.{FirstFault, Says}
 use Rattle.tml_refs.specs.Documents.{PlainDocument}
 use Rattle.tml_run.specs.declared.status.Status.{Status}
 use Rattle.tml_run.specs.declared.status.Status.TheVariants.{DocFault}
 use Rattle.tml_run.specs.OneFile.{Answers, of_one_file}
-use Rattle.tml_run.specs.OneReply.{is_broken_off}
 use Rattle.tml_run.specs.Rows.{File, Rows}
 use Rattle.answers.specs.Lines.{HasFaultLine}
 
@@ -33,10 +32,3 @@ document_rows Of name = of_one_file (doc_file name) (of_contents Of)
 -- of which document the text of an answer is not determined, by its contents
 abbrev pub of_its_contents : (PlainDocument → Status → Type 0) → List ℕ → Status → Type 0
 of_its_contents IsFree doc status = (contents : PlainDocument) × Says doc contents × IsFree contents status
-
--- What an accepted document says has an answer, with one status, which is none that is broken off; and with one text, where that is not free.
-pub record AreAnswered (Of : Contents) (IsFree : PlainDocument → Status → Type 0) : Type 0 where
-  pub some : (doc : List ℕ) (contents : PlainDocument) → Says doc contents → (status : Status) × (text : List ℕ) × Of contents status text
-  pub one_status : (doc : List ℕ) (contents : PlainDocument) → Says doc contents → (status other : Status) (text line : List ℕ) → Of contents status text → Of contents other line → status ≡ other
-  pub whole : (contents : PlainDocument) (status : Status) (text : List ℕ) → Of contents status text → is_broken_off status ≡ false
-  pub one_text : (doc : List ℕ) (contents : PlainDocument) → Says doc contents → (status : Status) (text line : List ℕ) → (IsFree contents status → ⊥) → Of contents status text → Of contents status line → text ≡ line

@@ -1,6 +1,6 @@
 -- A text of seconds has one answer, by its document: one status, and one line.
 use Rattle.std.proofs.Common.{◌≡◌, ◌⊎◌, ℕ, List, codes, false, refl, sym, ap, subst, ◌∙◌, inl, inr}
-use Rattle.answers.specs.Judged.{IsAnsweredByDocument}
+use Rattle.answers.proofs.Answering.{IsAnsweredByDocument}
 use Rattle.answers.specs.Lines.{numbered}
 use Rattle.answers.proofs.Answered.{judged_answered_once}
 use Rattle.answers.proofs.Contents.{its_document}

@@ -8,7 +8,7 @@ use Rattle.evidence_format.proofs.EveryText.{bundle_or_bad_line}
 use Rattle.net_core.specs.Limits.{max_evidence}
 use Rattle.tml_run.specs.Answered.{AreAnswered, NeverFree}
 use Rattle.tml_run.specs.OneReply.{is_broken_off}
-use Rattle.tml_run.specs.TwoFiles.{IsAnsweredAfter, IsDecisive}
+use Rattle.tml_run.proofs.Answering.{IsAnsweredAfter, IsDecisive}
 use Rattle.tml_run.specs.declared.status.Status.{Status}
 use Rattle.tml_run.specs.declared.status.Status.TheVariants.{Done, EvidenceFault}
 use Rattle.tml_run.proofs.TwoFiles.{both_answered_once}

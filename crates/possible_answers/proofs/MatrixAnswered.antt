@@ -2,7 +2,8 @@
 use Rattle.std.proofs.Common.{◌≡◌, ◌↔◌, ℕ, List, false, refl, sym, ◌∙◌, arith}
 use Rattle.clash.specs.Closures.{IsClosureOf}
 use Rattle.clash.proofs.Answered.{closed_net}
-use Rattle.net_answers.specs.Nets.{ClashIsFree, NetsAreAnswered}
+use Rattle.net_answers.specs.Nets.{ClashIsFree}
+use Rattle.net_answers.proofs.Answering.{NetsAreAnswered}
 use Rattle.net_answers.proofs.Nets.{net_rows_answered}
 use Rattle.net_core.specs.Entailment.{HasTimeline}
 use Rattle.net_core.specs.Fits.{Fits}

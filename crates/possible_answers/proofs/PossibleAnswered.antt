@@ -1,6 +1,7 @@
 -- Which base relations two intervals can have has one answer.
 use Rattle.std.proofs.Common.{◌≡◌, inl, inr, ℕ, List, [], ◌∷◌, codes, false, refl, sym, ap, subst, ◌∙◌, arith}
-use Rattle.answers.specs.Documents.{AreAnswered as ContentsAreAnswered, doc_file, of_contents, of_its_contents}
+use Rattle.answers.specs.Documents.{doc_file, of_contents, of_its_contents}
+use Rattle.answers.proofs.Answering.{ContentsAreAnswered}
 use Rattle.answers.specs.Names.{NamesOne}
 use Rattle.answers.proofs.Answered.{contents_answered}
 use Rattle.answers.proofs.Contents.{its_document}

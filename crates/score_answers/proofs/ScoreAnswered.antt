@@ -1,6 +1,6 @@
 -- A document and a key have one answer: one status, and one text, but for which clash of the document is printed.
 use Rattle.std.proofs.Common.{◌≡◌, ℕ, List, ◌++◌, codes, false, refl, sym, ap, subst, ◌∙◌, inl, inr}
-use Rattle.answers.specs.Judged.{IsAnsweredByDocument}
+use Rattle.answers.proofs.Answering.{IsAnsweredByDocument}
 use Rattle.answers.specs.Lines.{fault_line}
 use Rattle.answers.proofs.Answered.{judged_answered}
 use Rattle.answers.proofs.Contents.{its_document}

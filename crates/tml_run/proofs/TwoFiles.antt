@@ -10,7 +10,8 @@ use Rattle.tml_run.specs.OneReply.{Agree, HasOneText, is_broken_off}
 use Rattle.tml_run.specs.Reading.{ReadsWhole, Reached, Reading, total}
 use Rattle.tml_run.specs.Replies.{Replies}
 use Rattle.tml_run.specs.Rows.{File, Next, Rows, answers, reads}
-use Rattle.tml_run.specs.TwoFiles.{CannotJudge, IsAnsweredAfter, IsDecisive, IsPassed, IsRefusedFirst, Judging, after_first, of_both, of_two_files}
+use Rattle.tml_run.specs.TwoFiles.{CannotJudge, IsPassed, IsRefusedFirst, Judging, after_first, of_both, of_two_files}
+use Rattle.tml_run.proofs.Answering.{IsAnsweredAfter, IsDecisive}
 use Rattle.tml_run.proofs.HowItEnds.{answered}
 use Rattle.tml_run.proofs.OneFile.{freer, the_one}
 use Rattle.tml_run.proofs.OneReply.{EndsWhole, ends_whole, not_both}

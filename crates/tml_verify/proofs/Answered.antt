@@ -1,7 +1,7 @@
 -- What the rows of all words have.
 use Rattle.std.proofs.Common.{◌≡◌, ◌≤◌, ℕ, Bool, true, false, List, length, Option, None, Some}
 use Rattle.std.specs.Prelude.{MatchBool}
-use Rattle.answers.specs.Judged.{IsAnsweredByDocument}
+use Rattle.answers.proofs.Answering.{IsAnsweredByDocument}
 use Rattle.answers.proofs.Answered.{judged_answered_once}
 use Rattle.evidence_answers.specs.Confirmed.{OfConfirm}
 use Rattle.evidence_answers.specs.Files.{evidence_file}
