@@ -13,9 +13,9 @@ use Rattle.net_core.specs.declared.step.Step.{Step}
 use Rattle.net_core.specs.declared.step.Step.TheVariants.{Link, Span, Calendar}
 use Rattle.net_core.specs.Walks.{Kept}
 use Rattle.net_core.proofs.StepLaws.{step_kept}
-use Rattle.clash.specs.Minimal.{IsRound}
+use Rattle.clash.specs.Minimal.{IsMarkedWalk}
 use Rattle.clash.specs.Orders.{AreFixed, FitsBut, HoldsBut}
-use Rattle.clash.specs.declared.round.Round.{Round}
+use Rattle.clash.specs.declared.closed_walk.ClosedWalk.{ClosedWalk}
 
 -- what is read past the end of a list of steps
 abbrev pub no_step : Step
@@ -35,7 +35,7 @@ over_order net but (Link j i) a none is t = absurd cc
 over_order net but (Span i) a none is t = (λ holds. λ b e. subst (Satisfies t) (let same : a ≡ b = cc in same) holds, λ holds. holds a (sym is))
 over_order net but (Calendar p q) a none is t = (λ holds. λ b e. subst (Satisfies t) (let same : a ≡ b = cc in same) holds, λ holds. holds a (sym is))
 
-module _ (net : PlainNet) (round : Round) (fixed : List Atom) (but : ℕ) (is : IsRound net round) (are : AreFixed net fixed) where
+module _ (net : PlainNet) (round : ClosedWalk) (fixed : List Atom) (but : ℕ) (is : IsMarkedWalk net round) (are : AreFixed net fixed) where
   -- what a step of the walk is over holds where the other links do
   held : (t : Timeline) (step : Step) → FitsWith net (Others (Kept round.over.items) but) t → Contains round.walk step → HoldsBut net but step t
   held t (Link k i) fits has = λ other within. fits.links k within ((is.over k within).1 (Link k i, has, refl), other)

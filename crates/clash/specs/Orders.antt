@@ -46,7 +46,7 @@ pub record Appends (n : ℕ) (Says : ℕ → Timeline → Type 0) (old new : Lis
   pub exact : (but : ℕ) (t : Timeline) → AllAreTrueBut but new t ↔ (AllAreTrueBut but old t × Says but t)
 
 -- whatever link is left out, the orders say what the steps are over
-pub record AreOrdersOf (net : PlainNet) (steps : List Step) (orders : List Order) : Type 0 where
+pub record AreStepOrders (net : PlainNet) (steps : List Step) (orders : List Order) : Type 0 where
   pub in_range : AreBelow (points net) orders
   pub exact : (but : ℕ) (t : Timeline) → AllAreTrueBut but orders t ↔ AllHoldBut net but steps t
 

@@ -2,6 +2,7 @@
 #![tactic(auto)]
 
 mod calendar;
+mod closed_walk;
 mod closure;
 mod insert;
 mod laws;
@@ -10,7 +11,6 @@ mod minimal;
 mod orders;
 mod raising;
 mod rings;
-mod round;
 mod sequence;
 mod settling;
 mod spares;

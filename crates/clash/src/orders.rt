@@ -1,6 +1,6 @@
 //! The orders of points that the steps of a walk are over.
 ghost use Rattle.clash.specs.Orders as spec;
-ghost use Rattle.clash.specs.Orders.{AreFixed, AreOrdersOf, HoldsBut, Appends};
+ghost use Rattle.clash.specs.Orders.{AreFixed, AreStepOrders, HoldsBut, Appends};
 ghost use Rattle.net_core.specs.Atoms.{atoms_in};
 ghost use Rattle.net_core.specs.Fits.{Fits, KeepsLink};
 ghost use Rattle.net_core.specs.Nets.{points};
@@ -39,7 +39,7 @@ impl Order {
 ///
 /// Out of memory.
 pub fn orders_of(alloc: Global, net: &Net, steps: &[Step]) -> Result<List<Order>, Memory>
-    ensures { IfOk result (AreOrdersOf net.now steps.now) }
+    ensures { IfOk result (AreStepOrders net.now steps.now) }
 {
     let mut orders = List::new(alloc);
     for step in steps {

@@ -3,7 +3,7 @@ use Rattle.std.proofs.Common.{ℕ, List, inl, inr, Option, Some, None, IfSome}
 use Rattle.faults.specs.declared.kind.FaultKind.{FaultKind}
 use Rattle.tml_span.specs.declared.fault.Cut as cuts
 use Rattle.tml_span.specs.declared.fault.Cut.TheVariants as cut
-use Rattle.tml_span.specs.Faults.{HasFault as HasCutFault, cut_kind_and_place}
+use Rattle.tml_span.specs.Faults.{HasCutFault, cut_kind_and_place}
 use Rattle.tml_tree.specs.Plain.{PlainNode}
 use Rattle.tml_tree.specs.Walking.{elements}
 use Rattle.tml_tree.specs.Whole.{IsTreeOf, UnitsFaultAt, kind_and_place as tree_kind_and_place}

@@ -19,7 +19,7 @@ use Rattle.tml_score.specs.Graph.{IsGraphOf, counts}
 use Rattle.tml_score.specs.Reducing.{AreGoneOver}
 use Rattle.tml_score.specs.Search.{Basis, IsAsked, IsLed, IsReady, Rest, is_other}
 use Rattle.tml_score.specs.Ties.{AreTies}
-use Rattle.tml_score.specs.Tree.{HoldBefore, IsBefore, IsBeyond, IsBranch, IsCovered, IsJoined, IsTree, LeadsOn, is_used, no_order, order_at, with_link, without}
+use Rattle.tml_score.specs.Tree.{HoldBefore, IsBefore, IsBeyond, IsBranch, IsCovered, IsBeyondRoot, IsTree, LeadsOn, is_used, no_order, order_at, with_link, without}
 use Rattle.tml_score.specs.Trees.{IsKnown}
 use Rattle.tml_score.specs.Meeting.{IsLedTo}
 use Rattle.tml_score.specs.declared.ends.End.{End}
@@ -48,7 +48,7 @@ covered_by_all roots tree n point covered = elim covered [ inl root ↦ inl root
 
 module _ (basis : Basis) (roots : List ℕ) (near : End) (tree : Tree) (is : IsTree basis roots near tree) where
   -- what the first orders of a tree cover is joined by these
-  pub covered_joined : (n point : ℕ) → IsCovered roots tree n point → IsJoined near roots tree.orders.items n point
+  pub covered_joined : (n point : ℕ) → IsCovered roots tree n point → IsBeyondRoot near roots tree.orders.items n point
   covered_joined n point covered = elim covered [
     | inl root ↦ λ t hold. beyond_self near t (slice_index roots point) point root
     | inr at ↦

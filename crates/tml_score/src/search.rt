@@ -14,7 +14,7 @@ use order_closure::{Cell, Closed};
 
 /// The links of a net that are kept, which say the same as all, with the closure of the net and all its orders.
 #[derive(Clone, Copy)]
-pub struct Kept<'a> {
+pub struct KeptLinks<'a> {
     pub net: &'a Net,
     pub table: &'a Closed,
     pub graph: &'a Graph,
@@ -28,7 +28,7 @@ pub struct Asked {
     pub order: Atom,
 }
 
-impl Kept<'_> {
+impl KeptLinks<'_> {
     /// Whether an order of a link follows from the other links that are kept.
     ///
     /// # Errors
