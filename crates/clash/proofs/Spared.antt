@@ -18,12 +18,12 @@ use Rattle.net_core.specs.declared.atom.Atom.{Atom}
 use Rattle.net_core.proofs.StepLaws.{fits_fewer}
 use Rattle.order_closure.specs.Tables.{AreInRange}
 use Rattle.clash.specs.Minimal.{IsMarkedWalk, IsSpared}
-use Rattle.clash.specs.Orders.{AreBelow, AreFixed, FitsBut}
-use Rattle.clash.specs.Raising.{AreLow, AreUnder, AreWithin, Rises}
-use Rattle.clash.specs.declared.orders.Order.{Order}
+use Rattle.net_orders.specs.Orders.{AreBelow, AreFixed, FitsBut}
+use Rattle.net_orders.specs.Raising.{AreLow, AreUnder, AreWithin, Rises}
+use Rattle.net_orders.specs.declared.orders.Order.{Order}
 use Rattle.clash.specs.declared.closed_walk.ClosedWalk.{ClosedWalk}
 use Rattle.clash.proofs.Complete.{small_timeline}
-use Rattle.clash.proofs.StepsBut.{fits_but}
+use Rattle.clash.proofs.WalkBut.{fits_but}
 
 -- whether a link is one of those that are marked, and another one
 is_other : List Bool → ℕ → ℕ → Bool

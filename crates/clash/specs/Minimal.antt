@@ -9,7 +9,7 @@ use Rattle.net_core.specs.Least.{AreLeast, AreSpares}
 use Rattle.net_core.specs.Nets.{PlainNet, points}
 use Rattle.net_core.specs.Walks.{GoesOver, IsClosedWalk, Kept}
 use Rattle.clash.specs.declared.minimal.Clash.{Clash}
-use Rattle.clash.specs.Orders.{AreStepOrders}
+use Rattle.net_orders.specs.Orders.{AreStepOrders}
 use Rattle.clash.specs.declared.closed_walk.ClosedWalk.{ClosedWalk}
 
 -- the links before link k, and those up to it

@@ -1,6 +1,6 @@
 //! Closed walks, and the links that they go over.
 ghost use Rattle.clash.specs.Minimal.{IsMarkedWalk, IsSpared};
-ghost use Rattle.clash.specs.Orders.{AreFixed};
+ghost use Rattle.net_orders.specs.Orders.{AreFixed};
 ghost use Rattle.net_core.specs.Fits.{EveryLink};
 ghost use Rattle.net_core.specs.Least.{IsSpare};
 ghost use Rattle.net_core.specs.Nets.{points};
@@ -8,10 +8,8 @@ ghost use Rattle.net_core.specs.Walks.{GoesOver, IsClosedWalk, Kept};
 ghost use Rattle.net_core.specs.declared.step.Step.{Step as StepOf};
 ghost use Rattle.std.specs.Prelude.{IfNone, IfOk, IfSome, List as ListOf, OnOk, false, length, ℕ, ◌*◌, ◌<◌, ◌≡◌, ◌≢◌, ◌≤◌};
 
-use crate::links::{atoms_of_link, nth_order};
-use crate::orders::{Order, orders_of};
-use crate::settling::settle;
 use net_core::{Atom, List, Memory, Net, Ranks, Walk, mark_steps};
+use net_orders::{Order, atoms_of_link, nth_order, orders_of, settle};
 use std::alloc::Global;
 use walks::walk;
 

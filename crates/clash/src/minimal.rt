@@ -1,6 +1,6 @@
 //! Minimal clashes.
 ghost use Rattle.clash.specs.Minimal.{IsFirstClash, IsProvedClash, IsMarkedWalk, IsSpared, UpTo};
-ghost use Rattle.clash.specs.Orders.{AreFixed};
+ghost use Rattle.net_orders.specs.Orders.{AreFixed};
 ghost use Rattle.net_core.specs.Walks.{Kept};
 ghost use Rattle.std.specs.List.{Contains};
 ghost use Rattle.std.specs.List.Sorted.{IsStrictlyIncreasing};

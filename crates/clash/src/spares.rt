@@ -1,7 +1,7 @@
 //! The least timelines that fit with all links of a clash but one.
 ghost use Rattle.net_core.specs.Least.{AreSpares, IsSpare};
 ghost use Rattle.clash.specs.Minimal.{IsMarkedWalk, IsSpared};
-ghost use Rattle.clash.specs.Orders.{AreFixed};
+ghost use Rattle.net_orders.specs.Orders.{AreFixed};
 ghost use Rattle.net_core.specs.Walks.{Kept};
 ghost use Rattle.std.specs.List.{All};
 ghost use Rattle.std.specs.Prelude.{IfOk, IfSome};

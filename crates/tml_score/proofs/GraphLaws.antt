@@ -6,8 +6,8 @@ use Rattle.std.proofs.lemmas.Bool.{cases_lt}
 use Rattle.std.proofs.lemmas.List.Elements.{All-contains, All-from_recursion, All-get_or, Contains-append_left, Contains-get_or, Contains-push, Contains-push_cases}
 use Rattle.std.proofs.lemmas.List.{get_or_default}
 use Rattle.std.proofs.lemmas.List.Sorted.{Contains-permutation, IsPermutation-sym}
-use Rattle.clash.specs.declared.orders.Order.{Order}
-use Rattle.clash.proofs.LinkAtoms.{link_said}
+use Rattle.net_orders.specs.declared.orders.Order.{Order}
+use Rattle.net_orders.proofs.LinkAtoms.{link_said}
 use Rattle.net_core.specs.Atoms.{IsInRange, Satisfies}
 use Rattle.net_core.specs.Fits.{FitsWith}
 use Rattle.net_core.specs.Nets.{IsNet, PlainNet, link_at, points}

@@ -3,9 +3,9 @@ use Rattle.std.proofs.Common.{◌≡◌, ◌≢◌, ◌↔◌, ◌⊎◌, inl, i
 use Rattle.std.specs.List.{All, Contains, filter}
 use Rattle.std.proofs.lemmas.Bool.{cases_eq, eq-eqb, ne_eqb}
 use Rattle.std.proofs.lemmas.List.Elements.{All-contains, All-get_or}
-use Rattle.clash.specs.declared.orders.Order.{Order}
+use Rattle.net_orders.specs.declared.orders.Order.{Order}
 use Rattle.clash.proofs.Entailing.{given_holds, held_given}
-use Rattle.clash.proofs.LinkAtoms.{link_said}
+use Rattle.net_orders.proofs.LinkAtoms.{link_said}
 use Rattle.clash.proofs.Paths.{AllTrue, Leads, any_strict, leads_kept, path_kept, path_or_counter}
 use Rattle.net_core.specs.Atoms.{IsInOrder, IsInRange, Satisfies}
 use Rattle.net_core.specs.Clashes.{Others}

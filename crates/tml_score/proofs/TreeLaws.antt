@@ -5,8 +5,8 @@ use Rattle.std.proofs.lemmas.Bool.{OnTrue_at, cases_eq, cases_lt, eq-eqb, eqb-fa
 use Rattle.std.proofs.lemmas.List.{get_or-take, get_or_append_left, get_or_default, get_or_push, length-set, length_push}
 use Rattle.std.proofs.lemmas.List.Elements.{All-get_or, All-push, All-weaker}
 use Rattle.clash.specs.Closures.{IsClosureOf}
-use Rattle.clash.specs.Orders.{is_link, is_of}
-use Rattle.clash.specs.declared.orders.Order.{Order}
+use Rattle.net_orders.specs.Orders.{is_link, is_of}
+use Rattle.net_orders.specs.declared.orders.Order.{Order}
 use Rattle.clash.proofs.Rounds.{others_set}
 use Rattle.net_core.specs.Atoms.{Satisfies}
 use Rattle.net_core.specs.Entailment.{HasTimeline}

@@ -2,8 +2,8 @@
 use Rattle.std.specs.Prelude.{◌≡◌, ◌↔◌, ◌⊎◌, ℕ, ◌<◌, Bool, true, List, length, Option, Some, None}
 use Rattle.std.specs.List.{Contains}
 use Rattle.std.specs.List.Sorted.{IsPermutation}
-use Rattle.clash.specs.Orders.{AreFixed}
-use Rattle.clash.specs.declared.orders.Order.{Order}
+use Rattle.net_orders.specs.Orders.{AreFixed}
+use Rattle.net_orders.specs.declared.orders.Order.{Order}
 use Rattle.net_core.specs.Atoms.{atoms_of}
 use Rattle.net_core.specs.Nets.{PlainNet, link_at, points}
 use Rattle.net_core.specs.declared.atom.Atom.{Atom}

@@ -3,7 +3,7 @@ use Rattle.std.specs.Prelude.{◌≡◌, ◌≢◌, ◌⊎◌, ℕ, ◌<◌, ◌
 use Rattle.std.specs.List.{All, Contains}
 use Rattle.clash.specs.Closures.{IsClosureOf}
 use Rattle.clash.specs.Walks.{AlwaysWith}
-use Rattle.clash.specs.declared.orders.Order.{Order}
+use Rattle.net_orders.specs.declared.orders.Order.{Order}
 use Rattle.net_core.specs.Atoms.{Satisfies}
 use Rattle.net_core.specs.Clashes.{Others}
 use Rattle.net_core.specs.Entailment.{HasTimeline}

@@ -1,8 +1,8 @@
 -- A tree: orders that lead from the root of each place to its points, or from these back to it.
 use Rattle.std.specs.Prelude.{◌≡◌, ◌⊎◌, ℕ, ◌+◌, ◌<◌, ◌≤◌, Bool, true, false, List, length, Option, Some, None, slice_index, slice_index_or, slice_set}
 use Rattle.std.specs.List.{All, Contains}
-use Rattle.clash.specs.Orders.{is_of}
-use Rattle.clash.specs.declared.orders.Order.{Order}
+use Rattle.net_orders.specs.Orders.{is_of}
+use Rattle.net_orders.specs.declared.orders.Order.{Order}
 use Rattle.net_core.specs.Atoms.{Satisfies}
 use Rattle.net_core.specs.Nets.{points}
 use Rattle.net_core.specs.Relations.{Timeline}

@@ -3,8 +3,8 @@ ghost use Rattle.std.specs.Prelude.{IfOk, OnOk, length, ◌<◌, ◌≡◌};
 ghost use Rattle.tml_score.specs.Graph.{Adds, AreOfPoint, AreAllOrders, IsFixed, IsGraphOf, IsOfLink, IsOfSome, by_end};
 
 use crate::ends::{End, by_point};
-use clash::{Order, atoms_of_link, fixed_orders, nth_order};
 use net_core::{Atom, Memory, Net};
+use net_orders::{Order, atoms_of_link, fixed_orders, nth_order};
 use point_index::Index;
 use std::alloc::Global;
 

@@ -13,8 +13,9 @@ use crate::graph::Graph;
 use crate::reached::{Reached, Sides};
 use crate::search::{Asked, KeptLinks};
 use crate::trees::Trees;
-use clash::{CloseFault, atoms_of_link, close, marked, nth_order};
+use clash::{CloseFault, close, marked};
 use net_core::{List, Memory, Net};
+use net_orders::{atoms_of_link, nth_order};
 use order_closure::Closed;
 use std::alloc::Global;
 

@@ -8,8 +8,8 @@ ghost use Rattle.tml_score.specs.Trees.{IsKnown};
 use crate::graph::Graph;
 use crate::reached::{Reached, Sides};
 use crate::trees::Known;
-use clash::Order;
 use net_core::{Atom, Memory, Net};
+use net_orders::Order;
 use order_closure::{Cell, Closed};
 
 /// The links of a net that are kept, which say the same as all, with the closure of the net and all its orders.

@@ -6,8 +6,8 @@ ghost use Rattle.tml_score.specs.Ties.{AreOrders, AreOrdersBy, ArePoints, AreTie
 
 use crate::ends::{End, by_point};
 use crate::search::KeptLinks;
-use clash::Order;
 use net_core::Memory;
+use net_orders::Order;
 use order_closure::Cell;
 use point_index::Index;
 use std::alloc::Global;

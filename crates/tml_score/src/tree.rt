@@ -1,5 +1,5 @@
 //! Orders that lead from the root of each place to its points, or from these back to it.
-ghost use Rattle.clash.specs.Orders as orders;
+ghost use Rattle.net_orders.specs.Orders as orders;
 ghost use Rattle.net_core.specs.Nets.{points};
 ghost use Rattle.std.specs.Bool.{OnTrue};
 ghost use Rattle.std.specs.List.{Contains};
@@ -12,8 +12,8 @@ ghost use Rattle.tml_score.specs.Tree.{IsBefore, IsCovered, IsCut, IsTree, Leads
 use crate::ends::End;
 use crate::search::KeptLinks;
 use crate::ties::Ties;
-use clash::Order;
 use net_core::Memory;
+use net_orders::Order;
 use point_index::PointOf;
 use std::alloc::Global;
 

@@ -3,7 +3,7 @@ use Rattle.std.specs.Vec.{with_items}
 use Rattle.std.proofs.lemmas.List.{get_or-replicate, length-replicate, with_items_is}
 use Rattle.net_core.specs.Walks.{GoesOver, IsClosedWalk, Kept}
 use Rattle.net_core.specs.declared.step.Step.{Step}
-use Rattle.clash.specs.Orders.{AreStepOrders}
+use Rattle.net_orders.specs.Orders.{AreStepOrders}
 use Rattle.clash.proofs.Rounds.{goes_from_marks}
 use Rattle.clash.proofs.closed_walk.ClosedWalk.new.Goals as goal
 use Rattle.clash.proofs.closed_walk.ClosedWalk.new.Goals.{After-mark_steps}

@@ -4,10 +4,10 @@ use Rattle.net_core.specs.Least.{IsSpare}
 use Rattle.net_core.specs.Nets.{points}
 use Rattle.net_core.specs.Ranks.{timeline_of}
 use Rattle.net_core.specs.Walks.{Kept}
-use Rattle.clash.specs.Orders.{FitsBut}
-use Rattle.clash.specs.Raising.{Rises}
-use Rattle.clash.specs.declared.orders.Order.{Order}
-use Rattle.clash.proofs.RankSums.{sum_bounded}
+use Rattle.net_orders.specs.Orders.{FitsBut}
+use Rattle.net_orders.specs.Raising.{Rises}
+use Rattle.net_orders.specs.declared.orders.Order.{Order}
+use Rattle.net_orders.proofs.RankSums.{sum_bounded}
 use Rattle.clash.proofs.Spared.{low_from_zeros, spare_from_zeros, zeros_ready}
 use Rattle.clash.proofs.closed_walk.ClosedWalk.spare.Goals as goal
 use Rattle.clash.proofs.closed_walk.ClosedWalk.spare.Goals.{After-deref_mut, After-settle}

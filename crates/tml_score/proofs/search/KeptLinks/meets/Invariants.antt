@@ -1,6 +1,6 @@
 use Rattle.std.proofs.Common.{◌≡◌, ℕ, ◌-◌, ◌<◌, ◌≤◌, length, slice_index}
 use Rattle.std.specs.List.{Contains}
-use Rattle.clash.specs.declared.orders.Order.{Order}
+use Rattle.net_orders.specs.declared.orders.Order.{Order}
 use Rattle.tml_score.specs.Meeting.{AreApart, IsLedTo, IsPassedAt, IsSide}
 use Rattle.tml_score.specs.Search.{IsLed, IsWay, basis_of}
 use Rattle.tml_score.proofs.search.KeptLinks.meets.Given as goal

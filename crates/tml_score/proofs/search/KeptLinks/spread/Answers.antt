@@ -1,7 +1,7 @@
 use Rattle.std.proofs.Common.{◌≡◌, ◌+◌, ◌<◌, Ok, ℕ, Bool, true, false, get_or, slice_index, sym, subst, ◌∙◌, arith}
 use Rattle.std.specs.List.{Contains}
 use Rattle.std.proofs.lemmas.List.Elements.{All-get_or, Contains-get_or}
-use Rattle.clash.specs.declared.orders.Order.{Order}
+use Rattle.net_orders.specs.declared.orders.Order.{Order}
 use Rattle.tml_score.specs.Reached.{PlainReached}
 use Rattle.tml_score.specs.Search.{Extends, GoesOn, IsLed, IsPassed, IsSearch, IsThrough, IsWay, basis_of, remains}
 use Rattle.tml_score.specs.Tree.{no_order}

@@ -1,5 +1,5 @@
 use Rattle.std.proofs.Common.{ℕ, ◌<◌, get_or}
-use Rattle.clash.specs.declared.orders.Order.{Order}
+use Rattle.net_orders.specs.declared.orders.Order.{Order}
 use Rattle.tml_score.specs.Ends.{far_end_of}
 use Rattle.tml_score.specs.Meeting.{AreApart, IsOn, IsPassedAt, IsSide}
 use Rattle.tml_score.specs.Search.{Extends, IsWay, basis_of}
