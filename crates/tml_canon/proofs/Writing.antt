@@ -14,19 +14,19 @@ use Rattle.tml_tree.specs.Plain.{PlainNode, none, element, text_node, comment_no
 use Rattle.tml_tree.specs.Stage.{Stage}
 use Rattle.tml_tree.specs.Written.{node_text}
 use Rattle.tml_canon.specs.Canonical.{canonical, canonical_attributes, canonical_nodes, opening}
-use Rattle.tml_canon.specs.Writing.{Closes, HasWritten, IsReady, Writes, all_text, ends_bare, open_text, text_so_far}
+use Rattle.tml_canon.specs.Writing.{Closes, HasWritten, HasClosedStart, Writes, canonical_nodes_text, ends_bare, open_text, text_so_far}
 use Rattle.tml_canon.specs.declared.writer.Writer.{Writer}
 use Rattle.tml_canon.proofs.Pushing.{empty_text, full_text, nodes_text-more}
 
 -- ---- one more node
 
 -- the text of one more node is put last
-all_text_more : (nodes : List PlainNode) (n : PlainNode) → all_text (nodes ++ n ∷ []) ≡ all_text nodes ++ node_text (canonical n)
-all_text_more [] n = nodes_text-more (canonical n) none ∙ append-nil (node_text (canonical n))
-all_text_more (m ∷ nodes) n =
+nodes_text_more : (nodes : List PlainNode) (n : PlainNode) → canonical_nodes_text (nodes ++ n ∷ []) ≡ canonical_nodes_text nodes ++ node_text (canonical n)
+nodes_text_more [] n = nodes_text-more (canonical n) none ∙ append-nil (node_text (canonical n))
+nodes_text_more (m ∷ nodes) n =
     nodes_text-more (canonical m) (canonical_nodes (nodes_of (nodes ++ n ∷ [])))
-    ∙ ap (λ (s : List ℕ). node_text (canonical m) ++ s) (all_text_more nodes n)
-    ∙ sym (append_assoc (node_text (canonical m)) (all_text nodes) (node_text (canonical n)))
+    ∙ ap (λ (s : List ℕ). node_text (canonical m) ++ s) (nodes_text_more nodes n)
+    ∙ sym (append_assoc (node_text (canonical m)) (canonical_nodes_text nodes) (node_text (canonical n)))
     ∙ ap (λ (s : List ℕ). s ++ node_text (canonical n)) (sym (nodes_text-more (canonical m) (canonical_nodes (nodes_of nodes))))
 
 -- one more element outside all tags
@@ -41,11 +41,11 @@ outer_leaf nodes n e = filter-append is_element nodes (n ∷ []) ∙ ap (λ (b :
 inner_more : (t : OpenTag) (tags : List OpenTag) (nodes : List PlainNode) (n : PlainNode) → open_text (t ∷ tags) (nodes ++ n ∷ []) ≡ open_text (t ∷ tags) nodes ++ node_text (canonical n)
 inner_more t tags nodes n =
     let start = open_text tags t.before ++ kind_text (start_tag t.name (canonical_attributes t.attrs)) in
-    ap (λ (s : List ℕ). start ++ s) (all_text_more nodes n) ∙ sym (append_assoc start (all_text nodes) (node_text (canonical n)))
+    ap (λ (s : List ℕ). start ++ s) (nodes_text_more nodes n) ∙ sym (append_assoc start (canonical_nodes_text nodes) (node_text (canonical n)))
 
 -- one more element
 element_more : (tags : List OpenTag) (nodes : List PlainNode) (n : PlainNode) → is_element n ≡ true → open_text tags (nodes ++ n ∷ []) ≡ open_text tags nodes ++ node_text (canonical n)
-element_more [] nodes n e = ap all_text (outer_element nodes n e) ∙ all_text_more (filter is_element nodes) n
+element_more [] nodes n e = ap canonical_nodes_text (outer_element nodes n e) ∙ nodes_text_more (filter is_element nodes) n
 element_more (t ∷ tags) nodes n e = inner_more t tags nodes n
 
 -- where there is a node the innermost start tag has its `>`
@@ -88,11 +88,11 @@ closes old new b e d c = λ tags nodes h. record {
 
 -- a text or a comment outside all tags is left out
 leaf_left : (tags : List OpenTag) (nodes : List PlainNode) (n : PlainNode) (w : Writer) → is_element n ≡ false → w.depth ≡ 0 → HasWritten tags nodes w → HasWritten tags (nodes ++ n ∷ []) w
-leaf_left [] nodes n w e d h = record { text = h.text ∙ sym (ap all_text (outer_leaf nodes n e)); depth = h.depth; is_bare = h.is_bare }
+leaf_left [] nodes n w e d h = record { text = h.text ∙ sym (ap canonical_nodes_text (outer_leaf nodes n e)); depth = h.depth; is_bare = h.is_bare }
 leaf_left (t ∷ tags) nodes n w e d h = absurd (omega (arith, d, h.depth))
 
 -- and inside the root it stays
-leaf_put : (tags : List OpenTag) (nodes : List PlainNode) (n : PlainNode) (ready new : Writer) → (length tags ≡ 0 → ⊥) → IsReady tags nodes ready → new.text.items ≡ ready.text.items ++ node_text (canonical n) → new.depth ≡ ready.depth → new.is_bare ≡ ready.is_bare
+leaf_put : (tags : List OpenTag) (nodes : List PlainNode) (n : PlainNode) (ready new : Writer) → (length tags ≡ 0 → ⊥) → HasClosedStart tags nodes ready → new.text.items ≡ ready.text.items ++ node_text (canonical n) → new.depth ≡ ready.depth → new.is_bare ≡ ready.is_bare
     → HasWritten tags (nodes ++ n ∷ []) new
 leaf_put [] nodes n ready new some h e d b = absurd (some refl)
 leaf_put (t ∷ tags) nodes n ready new some h e d b = record {
@@ -171,7 +171,7 @@ full_element : (t : OpenTag) (tags : List OpenTag) (n : PlainNode) (nodes : List
     → out ++ kind_text (end_tag t.name) ≡ open_text tags t.before ++ node_text (canonical (element t.start end t.name t.attrs (nodes_of (n ∷ nodes))))
 full_element t tags n nodes end out e =
     let start = kind_text (start_tag t.name (canonical_attributes t.attrs)) in
-    let inner = all_text (n ∷ nodes) in
+    let inner = canonical_nodes_text (n ∷ nodes) in
     let close = kind_text (end_tag t.name) in
     ap (λ (s : List ℕ). s ++ close) e
     ∙ append_assoc (open_text tags t.before ++ start) inner close

@@ -30,7 +30,7 @@ use Rattle.tml_tree.proofs.Passed.{passed_not}
 use Rattle.tml_tree.proofs.Passing.{passes_on}
 use Rattle.tml_tree.proofs.Running.{nests_before, one_nesting}
 use Rattle.tml_canon.specs.Canonical.{IsCanonicalText, canonical, canonical_text}
-use Rattle.tml_canon.specs.Writing.{Finishes, HasWrittenUnits, Writes, all_text, text_so_far}
+use Rattle.tml_canon.specs.Writing.{GivesText, HasWrittenUnits, Writes, canonical_nodes_text, text_so_far}
 use Rattle.tml_canon.specs.declared.writer.Writer.{Writer}
 use Rattle.tml_canon.proofs.Pushing.{nodes_text-more}
 
@@ -90,21 +90,21 @@ no_fault us left u root tags nodes h p d = elim (first_fault h u.kind) as (λ o.
 -- ---- the end
 
 -- the text of one element alone
-alone : (root : PlainNode) → all_text (root ∷ []) ++ codes "\n" ≡ canonical_text root
+alone : (root : PlainNode) → canonical_nodes_text (root ∷ []) ++ codes "\n" ≡ canonical_text root
 alone root =
-    let one : all_text (root ∷ []) ≡ node_text (canonical root) = nodes_text-more (canonical root) none ∙ append-nil (node_text (canonical root)) in
+    let one : canonical_nodes_text (root ∷ []) ≡ node_text (canonical root) = nodes_text-more (canonical root) none ∙ append-nil (node_text (canonical root)) in
     ap (λ (s : List ℕ). s ++ codes "\n") one ∙ sym (flat_map-append kind_text (kinds_of (canonical root)) (text (codes "\n") ∷ []))
 
 pub finished : (us : List PlainUnit) (h : History) (root : PlainNode) (w : Writer) → HasWrittenUnits us h w → Document root us → w.text.items ++ codes "\n" ≡ canonical_text root
 finished us h root w all d =
     let same = one_nesting us all.tags [] all.nodes d.1.0 all.passed.opens d.1.1 in
-    let text : w.text.items ≡ all_text (root ∷ []) = all.written.text ∙ (λ i. text_so_far (same.0 i) (same.1 i)) ∙ ap all_text d.1.2 in
+    let text : w.text.items ≡ canonical_nodes_text (root ∷ []) = all.written.text ∙ (λ i. text_so_far (same.0 i) (same.1 i)) ∙ ap canonical_nodes_text d.1.2 in
     ap (λ (s : List ℕ). s ++ codes "\n") text ∙ alone root
 
 -- ---- the units of a source
 
 -- of this source these units were read, and they are written
-pub record HasRead (source : List ℕ) (r : Reading) (w : Writer) : Type 0 where
+pub record HasWrittenSource (source : List ℕ) (r : Reading) (w : Writer) : Type 0 where
   pub source_is : r.source ≡ source
   pub us : List PlainUnit
   pub h : History
@@ -112,7 +112,7 @@ pub record HasRead (source : List ℕ) (r : Reading) (w : Writer) : Type 0 where
   pub written : HasWrittenUnits us h w
 
 -- before the first unit
-pub none_read : (source : List ℕ) (r : Reading) (w : Writer) → BeginsCut source r → HasWrittenUnits [] no_history w → HasRead source r w
+pub none_read : (source : List ℕ) (r : Reading) (w : Writer) → BeginsCut source r → HasWrittenUnits [] no_history w → HasWrittenSource source r w
 none_read source r w begins h = record { source_is = ap (λ (q : Reading). q.source) begins.0; us = []; h = no_history; cut = begins.1; written = h }
 
 -- the units of its tree are those of its cut
@@ -120,7 +120,7 @@ units_of_tree : (source : List ℕ) (root : PlainNode) (us : List PlainUnit) →
 units_of_tree source root us tree cuts = subst (λ (vs : List PlainUnit). Document root vs) (one_cut_from 0 source tree.0 us [] [] tree.1.1 cuts).0 tree.2
 
 -- where it has a tree, one more unit is read and written
-pub one_more : (source : List ℕ) (root : PlainNode) (old new : Reading) (u : Unit) (w v : Writer) → IsTreeOf source root → HasRead source old w → CutsOn old new (Ok (Some u)) → Writes w (unit_of u).kind v → HasRead source new v
+pub one_more : (source : List ℕ) (root : PlainNode) (old new : Reading) (u : Unit) (w v : Writer) → IsTreeOf source root → HasWrittenSource source old w → CutsOn old new (Ok (Some u)) → Writes w (unit_of u).kind v → HasWrittenSource source new v
 one_more source root old new u w v tree h gives writes =
     let same : new.source ≡ source = gives.0 ∙ h.source_is in
     let cut = gives.4 h.us h.cut in
@@ -138,7 +138,7 @@ one_more source root old new u w v tree h gives writes =
     }
 
 -- where no unit is left, the text is that of its tree
-pub all_read : (source : List ℕ) (root : PlainNode) (old new : Reading) (w : Writer) (out : List ℕ) → IsTreeOf source root → HasRead source old w → CutsOn old new (Ok None) → Finishes w out → IsCanonicalText source out
+pub all_read : (source : List ℕ) (root : PlainNode) (old new : Reading) (w : Writer) (out : List ℕ) → IsTreeOf source root → HasWrittenSource source old w → CutsOn old new (Ok None) → GivesText w out → IsCanonicalText source out
 all_read source root old new w out tree h gives finishes =
     let cuts : Cuts source h.us [] = subst (λ (s : List ℕ). Cuts s h.us []) h.source_is (gives.2 h.us h.cut).1 in
     (root, tree, finishes h.us h.h root h.written (units_of_tree source root h.us tree cuts))

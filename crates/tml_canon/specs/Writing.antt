@@ -14,13 +14,13 @@ use Rattle.tml_canon.specs.declared.writer.Writer.{Writer}
 use Rattle.tml_canon.specs.Canonical.{canonical_attributes, canonical_nodes, canonical_text, opening}
 
 -- the canonical text of nodes that follow each other
-abbrev pub all_text : List PlainNode → List ℕ
-all_text nodes = written (all_kinds (canonical_nodes (nodes_of nodes)))
+abbrev pub canonical_nodes_text : List PlainNode → List ℕ
+canonical_nodes_text nodes = written (all_kinds (canonical_nodes (nodes_of nodes)))
 
 -- What is open, as far as it is written when something follows: the elements outside all tags, and for each open tag its start tag and the nodes after it.
 abbrev pub open_text : List OpenTag → List PlainNode → List ℕ
-open_text [] nodes = all_text (filter is_element nodes)
-open_text (t ∷ tags) nodes = open_text tags t.before ++ kind_text (start_tag t.name (canonical_attributes t.attrs)) ++ all_text nodes
+open_text [] nodes = canonical_nodes_text (filter is_element nodes)
+open_text (t ∷ tags) nodes = open_text tags t.before ++ kind_text (start_tag t.name (canonical_attributes t.attrs)) ++ canonical_nodes_text nodes
 
 -- nothing follows the innermost open tag
 abbrev pub ends_bare : List OpenTag → List PlainNode → Bool
@@ -41,14 +41,14 @@ pub record HasWritten (tags : List OpenTag) (nodes : List PlainNode) (w : Writer
   pub is_bare : w.is_bare ≡ ends_bare tags nodes
 
 -- the same where something follows
-pub record IsReady (tags : List OpenTag) (nodes : List PlainNode) (w : Writer) : Type 0 where
+pub record HasClosedStart (tags : List OpenTag) (nodes : List PlainNode) (w : Writer) : Type 0 where
   pub text : w.text.items ≡ open_text tags nodes
   pub depth : w.depth ≡ length tags
   pub is_bare : w.is_bare ≡ false
 
 -- where open tags and nodes are written, something may follow
 abbrev pub Closes : Writer → Writer → Type 0
-Closes old new = (tags : List OpenTag) (nodes : List PlainNode) → HasWritten tags nodes old → IsReady tags nodes new
+Closes old new = (tags : List OpenTag) (nodes : List PlainNode) → HasWritten tags nodes old → HasClosedStart tags nodes new
 
 -- where open tags and nodes are written, those after one more unit are
 abbrev pub Writes : Writer → Kind → Writer → Type 0
@@ -63,5 +63,5 @@ pub record HasWrittenUnits (us : List PlainUnit) (h : History) (w : Writer) : Ty
   pub written : HasWritten tags nodes w
 
 -- where the units of a document are written, this is its canonical text
-abbrev pub Finishes : Writer → List ℕ → Type 0
-Finishes w text = (us : List PlainUnit) (h : History) (root : PlainNode) → HasWrittenUnits us h w → Document root us → text ≡ canonical_text root
+abbrev pub GivesText : Writer → List ℕ → Type 0
+GivesText w text = (us : List PlainUnit) (h : History) (root : PlainNode) → HasWrittenUnits us h w → Document root us → text ≡ canonical_text root

@@ -3,7 +3,7 @@ ghost use Rattle.std.specs.Prelude.{[], OnOk, IfOk, map};
 ghost use Rattle.tml_span.specs.Units as units;
 ghost use Rattle.tml_span.specs.View.{attribute_of, unit_of};
 ghost use Rattle.tml_tree.specs.Judging.{no_history};
-ghost use Rattle.tml_canon.specs.Writing.{Closes, Finishes, HasWrittenUnits, Writes};
+ghost use Rattle.tml_canon.specs.Writing.{Closes, GivesText, HasWrittenUnits, Writes};
 
 use crate::canonical::{push_end_tag, push_opening};
 use std::alloc::{AllocError, Global};
@@ -50,7 +50,7 @@ impl<'s> Writer<'s> {
 
     /// The text of all units, and a line feed.
     pub fn finish(self) -> Result<Vec<u8>, AllocError>
-        ensures { IfOk result (λ text. Finishes self.entry text.items) }
+        ensures { IfOk result (λ text. GivesText self.entry text.items) }
     {
         let mut text = self.text;
         text.extend_from_slice(b"\n")?;
