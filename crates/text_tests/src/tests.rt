@@ -5,6 +5,7 @@ mod drills;
 mod files;
 mod lists;
 mod readers;
+mod references;
 mod tags;
 mod trees;
 mod values;

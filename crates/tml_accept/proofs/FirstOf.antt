@@ -23,7 +23,7 @@ of_cut doc (cut.BadMarkup place) h = inl (inl h)
 of_cut doc cut.Memory h = tt
 
 -- the fault of its units
-pub of_units : (doc : List ℕ) (o : Option (FaultKind × ℕ)) → IfSome o (λ f. UnitsFaultAt doc f.1 f.0) → IfSome o (λ f. FirstFault doc f.0 f.1)
+of_units : (doc : List ℕ) (o : Option (FaultKind × ℕ)) → IfSome o (λ f. UnitsFaultAt doc f.1 f.0) → IfSome o (λ f. FirstFault doc f.0 f.1)
 of_units doc None h = tt
 of_units doc (Some f) h = inl (inr h)
 

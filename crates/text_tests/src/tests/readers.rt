@@ -1,12 +1,24 @@
 //! A reader of units: where it stands, and what it gives after its end and after a fault.
-use tml_span::reader;
+ghost use Rattle.std.specs.Prelude.{◌<◌, ◌^◌, ◌≡◌, length};
+
+use std::process::Abort;
+use tml_span::{UnitReader, reader};
 use tml_tree::{TreeFault, tree_from};
+
+/// A reader of a source without a fault of the cut.
+fn reader_of<'s>(rt: &impl Abort, source: &'s [u8]) -> UnitReader<'s>
+    requires { length source.now < 2 ^ 32 }
+    ensures { result.place ≡ 0 }
+{
+    let Ok(units) = reader(source) else {
+        panic!(rt; "a fault of the cut");
+    };
+    units
+}
 
 #[test]
 fn nothing_has_no_unit(rt: HostRuntime) {
-    let Ok(mut units) = reader(b"") else {
-        panic!(&rt; "a fault");
-    };
+    let mut units = reader_of(&rt, b"");
     for _ in 0..2 {
         assert!(&rt; matches!(units.pull(rt.alloc()), Ok(None)));
         assert!(&rt; units.place() == 0);
@@ -15,9 +27,7 @@ fn nothing_has_no_unit(rt: HostRuntime) {
 
 #[test]
 fn nothing_has_no_tree(rt: HostRuntime) {
-    let Ok(mut units) = reader(b"") else {
-        panic!(&rt; "a fault");
-    };
+    let mut units = reader_of(&rt, b"");
     assert!(&rt;
         matches!(
             tree_from(rt.alloc(), &mut units),
@@ -28,9 +38,7 @@ fn nothing_has_no_tree(rt: HostRuntime) {
 
 #[test]
 fn a_reader_stands_after_the_unit_at_fault(rt: HostRuntime) {
-    let Ok(mut units) = reader(b"<TimeML></P><P/></TimeML>") else {
-        panic!(&rt; "a fault of the cut");
-    };
+    let mut units = reader_of(&rt, b"<TimeML></P><P/></TimeML>");
     assert!(&rt;
         matches!(
             tree_from(rt.alloc(), &mut units),
