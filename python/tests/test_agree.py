@@ -146,7 +146,7 @@ class Pairs(AgreeTest):
 
     def test_words_that_are_refused(self):
         for words, said in (
-            (["a", "b/chain.xml"], "a and b/chain.xml are to be two folders, or two files"),
+            (["a", "b/chain.xml"], "a and b/chain.xml have to be two folders, or two files"),
             (["--links", "--format", "csv", "a", "b"], "--links goes with --format text, json or jsonl"),
         ):
             status, lines, error = self.run_it("agree", *words)

@@ -232,7 +232,7 @@ class Formats(CorpusTest):
         [fault] = two["faults"]
         self.assertEqual([fault[key] for key in ("number", "name", "offset", "line", "column", "perhapsConsequence")], [10, "MissingAttribute", 9, 2, 1, False])
         self.assertEqual((fault["message"], fault["notes"]), (NO_TEXT, []))
-        self.assertEqual(fault["meaning"], "A tag lacks an attribute that it has to have, or has it with an empty value.")
+        self.assertEqual(fault["meaning"], "A tag lacks a required attribute, or has it with an empty value.")
         self.assertEqual((fault["start"], fault["end"]), ({"offset": 9, "line": 2, "column": 1}, {"offset": 17, "line": 2, "column": 9}))
         self.assertTrue(error.startswith("3 files: "))
 

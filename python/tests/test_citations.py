@@ -347,7 +347,7 @@ class WrongCitations(unittest.TestCase):
 
     def test_functions_that_are_not_public(self):
         self.assert_wrong("`reply_to`: `reply` in `tml_tool/src/top.rt`", "no public item `reply_to` in `tml_tool`")
-        self.assert_wrong("`has_strict_cycle` in `clash/src/rings.rt`", "no public item `has_strict_cycle` in `clash`")
+        self.assert_wrong("`components_of` in `net_orders/src/rings.rt`", "no public item `components_of` in `net_orders`")
         self.assert_wrong("`BaseSet::none` in `tml_possible/src/base_set.rt`", "no public item `BaseSet::none` in `tml_possible`")
 
     def test_columns_that_name_a_function_or_a_file(self):

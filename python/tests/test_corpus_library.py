@@ -265,7 +265,7 @@ class WrongLibrary(LibraryTest):
                     status, out, error = self.run_bytes(command, "--jobs", jobs, "--library", self.library, "d")
                     lines = out.decode().splitlines()
                     self.assertEqual((status, error), (2, b""))
-                    ended = [line.split(":")[0] for line in lines if "a process of this program that looked at it was ended" in line]
+                    ended = [line.split(":")[0] for line in lines if "the process that examined it was ended" in line]
                     self.assertEqual(ended, [f"d/{number:04}.xml" for number in (5, 100, 101, 998)])
                     self.assertIn("d/0640.xml: not judged: tml ran out of memory", lines)
                     self.assertRegex(lines[-1], r"^1000 files: (995 accepted|0 with a clash, 995 without), 0 with a fault, 5 not judged$")

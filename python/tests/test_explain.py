@@ -58,9 +58,9 @@ class Explanations(CorpusTest):
                 ),
                 (
                     '<TLINK timeID="t" relatedToTime="t" relType="OVERLAP"/>',
-                    '2:37 relType="OVERLAP" is not a relation of TLINK, and none of the sixteen says only that some time is shared: write OVERLAPS where '
-                    "the first one begins first and ends inside the second, OVERLAPPED_BY the other way round, or another one that is meant; `tml-edit "
-                    "--overlaps` says it by more intervals, or leave the link out; `tml possible` shows what is left open then",
+                    '2:37 relType="OVERLAP" is not a relation of TLINK, and none of the sixteen relations says only that some time is shared: write OVERLAPS if '
+                    "the first begins first and ends inside the second, OVERLAPPED_BY the other way round, or whichever relation is meant; `tml-edit "
+                    "--overlaps` expresses it by additional intervals, or delete the link; `tml possible` shows what is then left open",
                 ),
                 (
                     '<TLINK timeID="t" relatedToTime="t" relType="overlap"/>',
@@ -166,7 +166,7 @@ class Explanations(CorpusTest):
                 ("<timeml/>", "1:2 <timeml> is not known; did you mean TimeML? (names are compared letter by letter, upper and lower case differ)"),
                 ("<isoTimeML/>", "1:2 <isoTimeML> is not known, and the root has to be TimeML: `tml-edit --rename isoTimeML=TimeML` renames it"),
                 ("<TimeML><HL/></TimeML>", "1:10 <HL> is not known: `tml-edit --unwrap HL` takes such tags out and leaves what they hold"),
-                ("<TimeML><TLINK>x</TLINK></TimeML>", "1:9 <TLINK> holds text (x), and may hold nothing: move it before this tag"),
+                ("<TimeML><TLINK>x</TLINK></TimeML>", "1:9 <TLINK> holds text (x), and has to be empty: move it before this tag"),
                 ("<TimeML><TLINK>\n<TLINK/></TimeML>", "1:9 <TLINK> opened here is not closed before <TLINK/> at 2:1: write /> for its >"),
                 ("x<TimeML/>", "1:1 there is text before <TimeML>: delete it or move it inside"),
                 ("x\ty\n", "1:1 the document has no <TimeML>: write <TimeML> before its text and </TimeML> after it"),
@@ -205,7 +205,7 @@ class Explanations(CorpusTest):
             ("<P a='1''>", "1:17 one quote too many after a='1': delete it"),
             ("<P a='1' / >", "1:18 this / is not followed by >: write /> at the end of <P>"),
             ("<P a=\u2018t1\u2019>", '1:14 the value of a begins with a curly quote \u2018: write "'),
-            ("</P a>", "1:9 an end tag has its name alone: write </P>"),
+            ("</P a>", "1:9 an end tag has only its name: write </P>"),
             ("</ P>", "1:9 no space is allowed after </: write </P>"),
             ("<![CDATA[x]]>", "1:9 a CDATA section is not read: write its text, with &lt; and &amp; for each < and & in it"),
             ("<!--", "1:9 this comment has no end: write --> after it"),
@@ -230,7 +230,7 @@ class Explanations(CorpusTest):
                 b'<?xml version="1.0" encoding="iso-8859-15"?><TimeML>\xa4</TimeML>',
                 "1:53 the byte A4 (\u20ac in iso8859-15) is not UTF-8: the file looks like iso8859-15; `tml-corpus fix` turns it into UTF-8",
             ),
-            ("<TimeML>é".encode() + b"\xe9</TimeML>", "1:10 the byte E9 is not UTF-8, and other characters of the file are: write é anew"),
+            ("<TimeML>é".encode() + b"\xe9</TimeML>", "1:10 the byte E9 is not UTF-8, and other characters of the file are: type é again"),
             ("<TimeML>x</TimeML>".encode("utf-16"), "1:1 the byte FF is not UTF-8: the file looks like UTF-16; `tml-corpus fix` turns it into UTF-8"),
             ("<TimeML>x</TimeML>".encode("utf-16-le"), "1:1 the file looks like UTF-16: `iconv -f utf-16 -t utf-8` turns it into UTF-8; change the name of the encoding in its first line too"),
             (b"<TimeML>caf\xc3", "1:12 the file ends within a character, so its end was lost: restore it from a copy, or if nothing else is missing write </TimeML> at the end"),
@@ -241,7 +241,7 @@ class Explanations(CorpusTest):
         self.write("d.xml", document("<SIGNAL/>"))
         self.assertEqual(
             self.run_it("check", "--no-explain", "d.xml")[1][:2],
-            ["d.xml:2:1: error: 10 MissingAttribute: A tag lacks an attribute that it has to have, or has it with an empty value. [byte 9]", "1 file: 0 accepted, 1 with a fault, 0 not judged"],
+            ["d.xml:2:1: error: 10 MissingAttribute: A tag lacks a required attribute, or has it with an empty value. [byte 9]", "1 file: 0 accepted, 1 with a fault, 0 not judged"],
         )
 
     def test_what_it_is_about_is_marked(self):

@@ -117,7 +117,7 @@ class Warnings(CorpusTest):
                 (time('type="DATE" value="1998"', "") + '<TIMEX3 tid="t2" type="DURATION" value="P1D" beginPoint="t1">x</TIMEX3>', []),
                 (time('type="DURATION"', ""), []),
                 ('<EVENT eid="e2" class="STATE" target="#x"/><MAKEINSTANCE eiid="i2" eventID="e2"/>' + link("ENDS", "i2"), []),
-                (time('type="DATE" value="1998" beginPoint="t0"'), ["3:43 date-with-points: beginPoint of a DATE says nothing of its time: only its value and links do"]),
+                (time('type="DATE" value="1998" beginPoint="t0"'), ["3:43 date-with-points: beginPoint of a DATE says nothing about its time: only its value and links do"]),
                 (time('type="DURATION" value="P1D" beginPoint="t0"'), []),
             ]
         )
@@ -126,7 +126,7 @@ class Warnings(CorpusTest):
         given = "given at 2:171 already: see whether another pair is meant, or delete one of the two"
         self.check(
             [
-                (link("ENDS", "i1", "i1"), ["3:1 self-link: this link is from i1 to i1: one of the two is meant to be another one"]),
+                (link("ENDS", "i1", "i1"), ["3:1 self-link: this link is from i1 to i1: probably one of the two should be another one"]),
                 (link("DURING"), [f"3:1 repeated-link: i1 DURING t0 is {given}"]),
                 (link("DURING_INV", "t0", "i1"), [f"3:1 repeated-link: t0 DURING_INV i1 is {given}"]),
                 (link("OVERLAPS") + link("OVERLAPPED_BY", "t0", "i1"), ["3:68 repeated-link: t0 OVERLAPPED_BY i1 is given at 3:1 already: see whether another pair is meant, or delete one of the two"]),
@@ -172,12 +172,12 @@ class Warnings(CorpusTest):
 
     def test_creation_times(self):
         twice = time('type="DATE" value="1998" functionInDocument="CREATION_TIME"')
-        self.check([(twice, ["3:43 two-creation-times: the TIMEX3 at 2:1 is the creation time already: see which of the two is, and take this attribute from the other one"])])
+        self.check([(twice, ["3:43 two-creation-times: the TIMEX3 at 2:1 is the creation time already: see which of the two is, and remove this attribute from the other"])])
 
     def test_tags_inside_of_each_other(self):
         second = '<EVENT eid="e2" class="STATE">y</EVENT>'
         linked = '<MAKEINSTANCE eiid="i2" eventID="e2"/>' + link("DURING", "i2")
-        where = "see which words each is around, and whether one is too many"
+        where = "see which words each belongs to, and whether one is too many"
         self.check(
             [
                 (time('type="DATE" value="1998"', second) + linked, [f"3:43 nested-tag: this EVENT is inside the TIMEX3 at 3:1: {where}"]),
@@ -188,7 +188,7 @@ class Warnings(CorpusTest):
 
     def test_links_to_themselves_and_instances_that_are_opposed(self):
         second = '<MAKEINSTANCE eiid="i2" eventID="e1"/>'
-        meant = "one of the two is meant to be another one"
+        meant = "probably one of the two should be another one"
         event = '<EVENT eid="e3" class="STATE">z</EVENT><MAKEINSTANCE eiid="i3" eventID="e3"/>'
         self.check(
             [
@@ -250,16 +250,16 @@ class Settings(CorpusTest):
     def test_files_that_say_something_else(self):
         rows = [
             ("ignore = [", ":1:11: Invalid value"),
-            ("x = 1", ": nothing is called x: wrappers, ignore, warn, patterns and jobs are"),
-            ('ignore = "a"', ': ignore is a list of texts, as ignore = ["a", "b"]'),
-            ('ignore = ["a"]', ": no warning is called a: "),
+            ("x = 1", ": there is no setting x: there are wrappers, ignore, warn, patterns and jobs"),
+            ('ignore = "a"', ': ignore has to be a list of texts, as ignore = ["a", "b"]'),
+            ('ignore = ["a"]', ": there is no warning a: "),
             ('wrappers = ["EVENT"]', ": EVENT is a tag that tml knows"),
             ('wrappers = ["a b"]', ": a b is not the name of a tag"),
-            ("jobs = 0", ": jobs is a number from 1 on"),
-            ("jobs = true", ": jobs is a number from 1 on"),
+            ("jobs = 0", ": jobs has to be a number from 1 on"),
+            ("jobs = true", ": jobs has to be a number from 1 on"),
             ("jobs = " + "9" * 5000, " cannot be read: a number has too many digits"),
-            ("a.b = 1", ":1:2: a dot stands outside of texts, and no setting has one there"),
-            ("# a.b\npatterns = ['*.a', \"\"\"\nb.c\"\"\"\"]\n[d.e]", ":4:3: a dot stands outside of texts"),
+            ("a.b = 1", ":1:2: there is a dot outside of a text, and no setting has one"),
+            ("# a.b\npatterns = ['*.a', \"\"\"\nb.c\"\"\"\"]\n[d.e]", ":4:3: there is a dot outside of a text"),
             (" " * 16385, " cannot be read: it has more than 16,384 bytes"),
             (b"\xff", " cannot be read: "),
         ]
@@ -341,7 +341,7 @@ class Baselines(CorpusTest):
         before = self.read("known")
         for words, said in (
             (("d.xml",), "--write-baseline needs --lint, without which there are no warnings"),
-            (("--lint", "--watch", "d.xml"), "--watch goes not with --write-baseline, which would have the last files alone"),
+            (("--lint", "--watch", "d.xml"), "--watch does not go with --write-baseline, which would keep only the last files"),
         ):
             with self.subTest(words):
                 self.assertEqual(self.write_baseline(*words), (2, f"tml-corpus: {said}\n"))

@@ -167,7 +167,7 @@ class Package(unittest.TestCase):
         other = "/bin/true" if os.path.exists("/bin/true") else "/usr/bin/true"
         rows = [
             ("/no/such/tml", "no program /no/such/tml: build it as README.md says"),
-            (os.path.join(TOP, "README.md"), "README.md is no program for amd64"),
+            (os.path.join(TOP, "README.md"), "README.md is not a program for amd64"),
             (other, f"{other} does not answer `drill 1` as tml does"),
         ]
         for program, said in rows:

@@ -132,7 +132,7 @@ class Repairs(CorpusTest):
 
         self.write("d.xml", written(RING + PAIR))
         rows = [
-            (1, "no set of links was found without which a timeline fits, in as many questions as are asked about one document; fewer than 1 will not do"),
+            (1, "no set of links without which a timeline fits was found within the limit of questions about one document; fewer than 1 will not do"),
             (6, "leave out or mend these 2 links, and a timeline fits; fewer will not do"),
         ]
         for questions, said in rows:
@@ -145,7 +145,7 @@ class Repairs(CorpusTest):
         from tml_corpus.clash.report import PlacedRepair
 
         repair = PlacedRepair([[], [], []], False, False, 2, 0)
-        best = "this is the best set that was found in as many questions as are asked about one document, and fewer than 2 will not do"
+        best = "this is the best set found within the limit of questions about one document, and fewer than 2 will not do"
         self.assertEqual(repair.text(), f"leave out or mend these 3 links, and a timeline fits; {best}")
 
     def test_with_dates_that_touch(self):

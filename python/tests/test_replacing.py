@@ -207,7 +207,7 @@ class Links(ReplacingTest):
         os.symlink("../out/d.xml", self.path("c/l.xml"))
         os.symlink("../out/settings", self.path("c/s.xml"))
         os.symlink("../out", self.path("c/f"))
-        said = "not mended: is a symbolic link that was found in a folder: name it to have what it leads to mended"
+        said = "not mended: is a symbolic link found in a folder: name it to mend what it leads to"
         for words in (("--write", "c"), ("--diff", "c"), ("--write", "c", "c/e")):
             status, lines, _ = self.run_it("fix", *words)
             self.assertEqual((status, lines[:2]), (2, [f"c/l.xml: {said}", f"c/s.xml: {said}"]))

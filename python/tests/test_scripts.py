@@ -72,7 +72,7 @@ class ScriptTest(CorpusTest):
         self.assertEqual((status, out), (1, "c/a.xml: changed\nc/d/e.tml: changed\n4 files: 2 changed, 1 that cannot be\n"))
         self.assertEqual(read(), {**contents, "c/a.xml": new, "c/d/e.tml": new})
         self.assertEqual(self.run_script("tml-edit", "--unwrap", "HL", "--write", "c/a.xml")[:2], (0, "1 file: 0 changed, 0 that cannot be\n"))
-        self.assertEqual(self.run_script("tml-edit", "--write", "-"), (2, "", "tml-edit: - goes alone, and without --write\n"))
+        self.assertEqual(self.run_script("tml-edit", "--write", "-"), (2, "", "tml-edit: - has to be the only path, and goes without --write\n"))
 
     def test_help_has_an_example(self):
         for name in ("redundant-links", "tml-edit", "from-tempeval2", "html-entities"):
@@ -273,7 +273,7 @@ class Tables(ScriptTest):
             ({"base_segmentation": "a 0 0\n"}, "base-segmentation.tab:1:6: 3 of 4 columns: document, sentence, token number, token"),
             ({"base_segmentation": "a x 0 0\n"}, "base-segmentation.tab:1:3: 'x' is not a number of at most 9 digits"),
             ({"base_segmentation": "../a 0 0 x\n"}, "is not a name for a file"),
-            ({"base_segmentation": base, "event_extents": "a 0 7 event e1 1\n"}, "e1 stands at a token that is not there"),
+            ({"base_segmentation": base, "event_extents": "a 0 7 event e1 1\n"}, "e1 is at a token that is not there"),
             ({"base_segmentation": base, "event_extents": "a 0 0 event e1 1\na 0 2 event e1 1\n"}, "the tokens of e1 do not follow each other"),
             (
                 {"base_segmentation": base, "event_extents": "", "timex_extents": "a 0 0 timex3 t1 1\na 0 1 timex3 t1 1\na 0 1 timex3 t2 1\na 0 2 timex3 t2 1\n"},

@@ -115,7 +115,7 @@ def complaint(case: Case, outcome: Outcome) -> str | None:
     if outcome.status == CLASH:
         return of_clash(reals, outcome.text)
     if not reals.can_be(reals.links):
-        return "By real numbers nothing fits, and the answer is no clash."
+        return "By real numbers nothing fits, and the answer is not a clash."
     if case.words[0] == b"relations":
         return of_relations(reals, outcome.text)
     if case.words[0] == b"matrix":

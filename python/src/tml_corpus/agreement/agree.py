@@ -60,7 +60,7 @@ def sides_of(documents: str, keys: str) -> Sides:
     """The two annotations at two paths."""
     are_folders = [os.path.isdir(place) for place in (documents, keys)]
     if any(are_folders) and not all(are_folders):
-        raise CannotRun(f"{documents} and {keys} are to be two folders, or two files")
+        raise CannotRun(f"{documents} and {keys} have to be two folders, or two files")
     return Sides(documents, keys, all(are_folders))
 
 

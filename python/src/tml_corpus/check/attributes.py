@@ -17,17 +17,17 @@ from ..document.units import Attribute, Unit
 from ..document.values import exchanged, no_date
 from .faults import BAD_DATE, BAD_VALUE, CONFLICT, MISSING, REPEATED
 
-MORE_INTERVALS = "`tml-edit --overlaps` says it by more intervals, or leave the link out"
+MORE_INTERVALS = "`tml-edit --overlaps` expresses it by additional intervals, or delete the link"
 OTHER_RELATIONS = {
-    "OVERLAP": "none of the sixteen says only that some time is shared: write OVERLAPS where the first one begins first "
+    "OVERLAP": "none of the sixteen relations says only that some time is shared: write OVERLAPS if the first begins first "
     "and ends inside the "
-    f"second, OVERLAPPED_BY the other way round, or another one that is meant; {MORE_INTERVALS}; `tml possible` shows what is left open "
-    "then",
+    f"second, OVERLAPPED_BY the other way round, or whichever relation is meant; {MORE_INTERVALS}; `tml possible` shows what is then "
+    "left open",
     "BEFORE-OR-OVERLAP": f"none of the sixteen relations says it: {MORE_INTERVALS}",
     "OVERLAP-OR-AFTER": f"none of the sixteen relations says it: {MORE_INTERVALS}",
-    "VAGUE": "it says nothing of the order: `tml-edit --drop-links VAGUE` leaves such links out",
-    "NONE": "it says nothing of the order: `tml-edit --drop-links NONE` leaves such links out",
-    "UNKNOWN": "it says nothing of the order: `tml-edit --drop-links UNKNOWN` leaves such links out",
+    "VAGUE": "it says nothing about the order: `tml-edit --drop-links VAGUE` deletes such links",
+    "NONE": "it says nothing about the order: `tml-edit --drop-links NONE` deletes such links",
+    "UNKNOWN": "it says nothing about the order: `tml-edit --drop-links UNKNOWN` deletes such links",
 }
 """Relations of other schemes, and what to do."""
 
@@ -100,7 +100,7 @@ def fitting_one(source: Source, tag: Unit, row: Row, values: Iterable[str]) -> s
 def why_right(row: Row | None, value: str) -> str:
     """Why one of two values is the right one."""
     if row is None or row.form.kind is Kind.LISTED:
-        return f"only {value} is a value that it may have"
+        return f"only {value} is an allowed value"
     return (
         f"only {value} is referred to"
         if row.form.kind is Kind.IDENTIFIER

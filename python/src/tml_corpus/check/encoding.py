@@ -42,7 +42,7 @@ def not_utf8(source: Source, offset: int) -> Explanation:
         found.text = "the file ends within a character, so its end was lost"
     else:
         letter = bytes([byte]).decode("cp1252", "replace")
-        hint = f" write {letter} anew" if letter.isprintable() and letter != "\ufffd" else " write the character anew"
+        hint = f" type {letter} again" if letter.isprintable() and letter != "\ufffd" else " type the character again"
         found.text = f"the byte {byte:02X} is not UTF-8, and other characters of the file are:{hint}"
     return found
 

@@ -35,7 +35,7 @@ MOST_EDITS = 100_000
 CONTEXT = 3
 """So many lines around a change are shown."""
 
-FOUND_LINK = "is a symbolic link that was found in a folder: name it to have what it leads to mended"
+FOUND_LINK = "is a symbolic link found in a folder: name it to mend what it leads to"
 
 
 Edits = Callable[[Source], Iterator[Edit]]

@@ -245,7 +245,7 @@ def end_tag(source: Source, at: int, found: Explanation) -> None:
     if document[rest : rest + 1] in (b"<", b""):
         found.text = f"this end tag has no >: write </{called}>"
     else:
-        found.text = f"an end tag has its name alone: write </{called}>"
+        found.text = f"an end tag has only its name: write </{called}>"
 
 
 def start_tag(source: Source, at: int, found: Explanation) -> None:

@@ -95,7 +95,7 @@ def unbalanced(source: Source, unit: Unit | None, found: Explanation) -> None:
         found.edits += [renamed(unit, inner.name), renamed(following, unit.name)]
         found.text = f"<{name}> opened here crosses </{other}> at {where}: exchange </{other}> and the </{name}> after it"
     elif crosses:
-        found.text = f"<{name}> opened here crosses </{other}> at {where}: one has to end inside of the other"
+        found.text = f"<{name}> opened here crosses </{other}> at {where}: one has to end inside the other"
     else:
         no_end_tag(source, inner, tags, found)
 
@@ -209,7 +209,7 @@ def begins_document(source: Source, unit: Unit) -> bool:
 
 def second_document(source: Source, unit: Unit, found: Explanation) -> None:
     """A second document after the first one, or inside of it where the first has lost its end."""
-    inside = f", inside of <{ROOT}>, of which the end was lost" if open_tags(source.units, unit.start) else ""
+    inside = f", inside <{ROOT}>, whose end was lost" if open_tags(source.units, unit.start) else ""
     size = unit.start - (len(BYTE_ORDER_MARK) if source.document[: unit.start].endswith(BYTE_ORDER_MARK) else 0)
     found.text = (
         f"a second document begins here{inside}: split it off; `head -c {size} FILE > FIRST` and `tail -c +{size + 1} FILE > SECOND` do it"
@@ -298,7 +298,7 @@ def left_open(source: Source, link: Unit, what: str, unit: Unit, found: Explanat
     ended = next((one for one in source.units.after(unit.start) if one.name in LINK_TAGS), None)
     found.start, found.end = link.start, link.end
     if ended is not None and ended.kind == "end" and ended.name == link.name:
-        found.text = f"<{link.name}> holds {what}, and may hold nothing: move it before this tag"
+        found.text = f"<{link.name}> holds {what}, and has to be empty: move it before this tag"
     else:
         unclosed_link(source, link, what, unit, found)
 

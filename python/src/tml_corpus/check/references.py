@@ -64,13 +64,13 @@ def cure_of_two(source: Source, first: Unit, tag: Unit, attribute: Attribute, fo
     number = number_by_order(source, first, tag, name)
     if number is not None:
         found.edits.append(with_value(attribute, source.document, encoded(number)))
-        return f"write {number}, which comes next, here"
+        return f"write {number}, the next one, here"
     if name in source.referred[tag.name]:
         other = source.referred[tag.name][name]
         return (
             f"delete one of the two if it was pasted; if not, the {other.name} at {source.at(other.start)} means one of "
             f"them, and the other "
-            f"one is to have another identifier, such as {source.fresh(tag.name)}"
+            f"one needs another identifier, such as {source.fresh(tag.name)}"
         )
     if tag.name in LINK_TAGS:
         return f"write another one here, such as {source.fresh(tag.name)}"

@@ -94,7 +94,7 @@ class PlacedRepair(NamedTuple):
         besides = [f"mend the {links} between dates that touch as said above"] if self.changes else []
         if not self.choices and self.at_least:
             return (
-                f"no set of links was found without which a timeline fits, in as many questions as are asked about one "
+                f"no set of links without which a timeline fits was found within the limit of questions about one "
                 f"document; {self.known()}"
             )
         if self.choices:
@@ -112,7 +112,7 @@ class PlacedRepair(NamedTuple):
         """What is known of the number of links."""
         if self.smallest:
             return "fewer will not do"
-        best = "this is the best set that was found in as many questions as are asked about one document, and " if self.choices else ""
+        best = "this is the best set found within the limit of questions about one document, and " if self.choices else ""
         return f"{best}fewer than {self.at_least} will not do"
 
 

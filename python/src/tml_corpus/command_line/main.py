@@ -140,7 +140,7 @@ def files_of(words: Words, settings: Settings) -> Files:
     if words.watch and (words.format in ("junit", "json") or words.cluster is not None or STANDARD_INPUT in words.paths):
         raise CannotRun("--watch goes neither with --format junit or json, nor with --cluster, nor with -")
     if words.watch and words.write_baseline:
-        raise CannotRun("--watch goes not with --write-baseline, which would have the last files alone")
+        raise CannotRun("--watch does not go with --write-baseline, which would keep only the last files")
     return Files(words.paths, words.glob or settings.patterns or PATTERNS, standard_input_of(words) if words.reads_input else None)
 
 

@@ -102,7 +102,7 @@ class ProgramParser(Parser):
 
     def __init__(self, **options: Any) -> None:
         super().__init__(**options)
-        self.add_argument("--version", action="version", version=f"%(prog)s {VERSION}", help="print the version, and end")
+        self.add_argument("--version", action="version", version=f"%(prog)s {VERSION}", help="print the version and exit")
 
 
 def run(work: Callable[[list[str]], int], words: Sequence[str] | None = None) -> int:

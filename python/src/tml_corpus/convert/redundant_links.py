@@ -1,4 +1,4 @@
-"""Says of each document of a corpus which of its TLINKs `tml reduce` leaves out, in the words of the text.
+"""Names the TLINKs of each document of a corpus that `tml reduce` leaves out, in the words of the text.
 
 Each of them follows from the links that are kept and the dates of the document, so that all of them can be left out together. Links
 are looked at from the first to the last, so of two that say the same the first one is named.

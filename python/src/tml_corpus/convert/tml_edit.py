@@ -330,7 +330,7 @@ def parser() -> ProgramParser:
     """The words that are understood."""
     words = ProgramParser(description=__doc__, formatter_class=RawFormatter)
     words.add_argument("documents", nargs="+", metavar="DOC", help="the document, or a folder to search; - is standard input")
-    words.add_argument("--write", action="store_true", help="write the changed documents in the place of the files")
+    words.add_argument("--write", action="store_true", help="overwrite the files with the changed documents")
     words.add_argument("--glob", action="append", metavar="PATTERN", help=f"names to look for in folders (default {' '.join(PATTERNS)})")
     words.add_argument("--rename", type=renaming, action="append", default=[], metavar="OLD=NEW", help="give tags another name")
     words.add_argument(
@@ -395,7 +395,7 @@ def edit(words: list[str]) -> int:
     options = parser().parse_args(words)
     first, *others = options.documents
     if STANDARD_INPUT in options.documents and (others or options.write):
-        raise CannotRun("- goes alone, and without --write")
+        raise CannotRun("- has to be the only path, and goes without --write")
     program = Program(find_program(options.tml))
     if others or options.write or os.path.isdir(first):
         return edit_files(program, options)

@@ -29,7 +29,7 @@ def self_link(source: Source) -> Iterator[Suspect]:
 
 def to_itself(tag: Unit, name: str) -> Suspect:
     """The warning on one link."""
-    return Suspect(tag, f"this link is from {name} to {name}: one of the two is meant to be another one")
+    return Suspect(tag, f"this link is from {name} to {name}: probably one of the two should be another one")
 
 
 def repeated_link(source: Source) -> Iterator[Suspect]:

@@ -84,7 +84,7 @@ def nested_tag(source: Source) -> Iterator[Suspect]:
             where = source.at(outer.start)
             yield Suspect(
                 tag,
-                f"this {tag.name} is inside the {outer.name} at {where}: see which words each is around, and "
+                f"this {tag.name} is inside the {outer.name} at {where}: see which words each belongs to, and "
                 f"whether one is too many",
             )
         if units.kinds[row] == START:
@@ -107,4 +107,4 @@ def tag_as_text(source: Source) -> Iterator[Suspect]:
         return
     for found in WITHOUT_BEGIN.finditer(source.document):
         edit = Edit(found.start(), found.start(), b"<")
-        yield Suspect(root, f"this is a text, since it has no <: write <{name_of_bare(found)}", found.span(), (edit,))
+        yield Suspect(root, f"this is text, since it has no <: write <{name_of_bare(found)}", found.span(), (edit,))

@@ -50,8 +50,8 @@ def meant_value(source: Source, tag: Unit, value: str) -> tuple[str, Edit | None
         chosen, speaker, is_word = spoken
         other = next(reading for reading in readings if reading != chosen)
         if not is_word:
-            return f"{seen}; did you mean {chosen} or {other}? ({speaker} speaks for the first one)", None
-        hint = f"{seen}; did you mean {chosen}? ({speaker} speaks for it, and not for {other})"
+            return f"{seen}; did you mean {chosen} or {other}? ({speaker} suggests the first)", None
+        hint = f"{seen}; did you mean {chosen}? ({speaker} suggests it rather than {other})"
     return hint, with_value(attribute, source.document, encoded(chosen))
 
 
@@ -136,7 +136,7 @@ def two_creation_times(source: Source) -> Iterator[Suspect]:
         if attribute is not None:
             text = (
                 f"the TIMEX3 at {source.at(first.start)} is the creation time already: see which of the two is, and "
-                f"take this attribute from the other one"
+                f"remove this attribute from the other"
             )
             yield Suspect.of_attribute(tag, attribute, text)
 
@@ -149,7 +149,7 @@ def date_with_points(source: Source) -> Iterator[Suspect]:
         attribute = attribute_of(tag, names[0]) if names and kind in DATED else None
         if attribute is not None:
             text = (
-                f"{' and '.join(names)} of a {kind} {'say' if len(names) > 1 else 'says'} nothing of its time: only its value and links do"
+                f"{' and '.join(names)} of a {kind} {'say' if len(names) > 1 else 'says'} nothing about its time: only its value and links do"
             )
             yield Suspect.of_attribute(tag, attribute, text)
 

@@ -103,7 +103,7 @@ def what_follows(document: OpenDocument, name: str) -> Iterator[str]:
     """What follows about an interval, a line for each other one; and why nothing does."""
     if not document.fits():
         if document.reply.status == CLASH:
-            yield "No timeline fits the document, so nothing is said of what follows."
+            yield "No timeline fits the document, so nothing is said about what follows."
         return
     found = relations_of(document.relations, name)
     if not found:

@@ -190,8 +190,8 @@ FIRST = 0x100
 """The character of the first set of relations; that of a further one comes after it. There are 82 sets at most that `tml` prints."""
 
 WITHOUT = (
-    "Without scripts a title beside the pointer has the links of a row and how far it can move. What it can be to the others "
-    "<code>tml-corpus matrix</code> prints."
+    "Without scripts a title beside the pointer has the links of a row and how far it can move; "
+    "<code>tml-corpus matrix</code> prints what it can be to the others."
 )
 
 
@@ -224,8 +224,8 @@ def page(timeline: Timeline, draw: Callable[[Timeline], str] = drawing) -> str:
         f'<meta http-equiv="Content-Security-Policy" content="{policy}"/>\n'
         f"<title>Timeline of {escaped(plain(timeline.title))}</title>\n<style>{STYLE}</style>\n</head>\n<body>\n"
         f"{TOOLS}<main>\n{draw(timeline)}</main>\n"
-        '<div id="links" role="status" tabindex="0">Point at a row, or go to it with the tabulator and the arrow keys, to see its links '
-        "and what it can be to the others; a click, or the enter key, keeps them here.</div>\n"
+        '<div id="links" role="status" tabindex="0">Point at a row, or go to it with the Tab and arrow keys, to see its links '
+        "and what it can be to the others; a click, or Enter, keeps them here.</div>\n"
         f"<noscript><p>{WITHOUT}</p></noscript>\n"
         f'<script type="application/json" id="partners">{partners}</script>\n'
         f'<script type="application/json" id="ends">{compact(timeline.ends)}</script>\n'
