@@ -388,12 +388,12 @@ class WrongCitations(unittest.TestCase):
         )
 
     def test_names_that_are_not_clear(self):
-        text = "`answers/specs/Documents`: `IsRefused`\n`IsRefused` `Claim` `ShowsTruth`\n`Claim` of `evidence_check`, `Claim::Fitz`\n"
+        text = "`net_core/specs/Fits`: `KeepsLink`\n`KeepsLink` `Claim` `ShowsTruth`\n`Claim` of `evidence_check`, `Claim::Fitz`\n"
         self.assertEqual(
             list(Citations(text).unclear()), [(2, "`ShowsTruth` is cited in 0 places"), (3, "no `Claim::Fitz` in any crate")]
         )
-        again = f"{text}`seconds_check/specs/Refusals`: `IsRefused`\n"
-        self.assertIn((2, "`IsRefused` is cited in 2 places"), Citations(again).unclear())
+        again = f"{text}`seconds_core/specs/Placed`: `KeepsLink`\n"
+        self.assertIn((2, "`KeepsLink` is cited in 2 places"), Citations(again).unclear())
 
     def test_each_name_in_a_citation_counts(self):
         """Whichever name in a citation on the pages is another one, that is found."""

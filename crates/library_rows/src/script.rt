@@ -189,6 +189,7 @@ fn answer_of_markup(
         "source" => return markup::print_source(page, alloc, text),
         "canon" => return markup::print_canon(page, alloc, text),
         "typed" => return tags::print_typed(page, alloc, text),
+        "intervals" => return tags::print_intervals(page, alloc, text, words),
         "pull" => return readers::print_pulls(page, alloc, text),
         "nest" => return readers::print_nesting(page, alloc, text),
         _ => return None,

@@ -4,9 +4,11 @@ ghost use Rattle.std.specs.Prelude.{◌≤◌, length};
 
 use crate::markup::tree_of;
 use crate::values::print_said;
+use crate::words::Words;
 use named::Named;
 use rows::Page;
 use std::alloc::Global;
+use tml_refs::resolve;
 use tml_types::{LinkEnd, TypedTag, type_tags};
 
 /// Prints the typed tags of a text, each on a line with its place and what it carries.
@@ -175,5 +177,28 @@ fn print_temporal(page: &mut Page, temporal: Option<bool>) {
         Some(true) => page.text(" temporalFunction=true"),
         Some(false) => page.text(" temporalFunction=false"),
         None => {}
+    }
+}
+
+/// Prints how many intervals a text has, and the number of the interval that each of some identifiers names.
+pub fn print_intervals(page: &mut Page, alloc: Global, text: &[u8], words: Words<'_>) -> Option<()>
+    requires { length text.now ≤ max_evidence }
+{
+    let tree = tree_of(alloc, text)?;
+    let typed = type_tags(alloc, &tree).ok()?;
+    let document = resolve(alloc, &typed).ok()?;
+    page.named("intervals", document.intervals());
+    page.text(":");
+    for name in words.rest.split(' ') {
+        print_number(page, document.index_of(name.as_bytes()));
+    }
+    page.text("\n");
+    Some(())
+}
+
+fn print_number(page: &mut Page, number: Option<u32>) {
+    match number {
+        Some(number) => page.named("", number),
+        None => page.text(" none"),
     }
 }
