@@ -160,8 +160,8 @@ class Script:
             case "walks":
                 pairs = [*product(range(2 * self.net.intervals), repeat=2)]
                 blocks = [answer[k : k + 3] for k in range(0, len(answer), 3)]
-                right = [block[0] == f"{i} {j}" and not self.wrong_walks(i, j, block[1:]) for (i, j), block in zip(pairs, blocks, strict=True)]
-                return not all(right)
+                named = zip(pairs, blocks, strict=True)
+                return not all(block[0] == f"{i} {j}" and not self.wrong_walks(i, j, block[1:]) for (i, j), block in named)
             case "reduce":
                 return self.wrong_links([int(one) for one in answer[0].split()[1:]])
             case "possible":
@@ -183,7 +183,8 @@ class Script:
             case "cells":
                 return ["".join(SIGNS[cell] for cell in row) for row in self.table]
             case "rows":
-                return [f"{name}: {' '.join(map(str, self.row(numbers[0], least)))}" for name, least in (("before or with", WEAK), ("before", STRICT))]
+                rows = [" ".join(map(str, self.row(numbers[0], least))) for least in (WEAK, STRICT)]
+                return [f"before or with: {rows[0]}", f"before: {rows[1]}"]
             case "least":
                 return ["ranks " + " ".join(map(str, self.ranks()))]
         return []
@@ -275,7 +276,8 @@ class Wanted(unittest.TestCase):
             self.assertTrue(script.wrong("walk", ["0", "2"], [f"walk:{steps}", "strict: span 0 via 0 0"]), steps)
         self.assertTrue(script.wrong("walk", ["2", "0"], ["walk: via 1 0", "strict: via 1 0"]))
         script.net.links = [(0, "BEFORE", 1), (0, "BEFORE", 1)]
-        self.assertEqual([script.wrong_links(kept) for kept in ([0], [1], [], [0, 1])], [False, False, True, True])
+        kept: list[list[int]] = [[0], [1], [], [0, 1]]
+        self.assertEqual([script.wrong_links(links) for links in kept], [False, False, True, True])
 
 
 if __name__ == "__main__":
