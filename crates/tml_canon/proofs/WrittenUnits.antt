@@ -1,5 +1,5 @@
 -- The units of a document are written one after another.
-use Rattle.std.proofs.Common.{◌≡◌, ℕ, ◌-◌, ◌≤◌, ◌<◌, Bool, true, false, cond, nat_le, List, [], ◌∷◌, ◌++◌, length, map, refl, sym, ap, subst, ◌∙◌, append_assoc, arith, Some, None, Ok}
+use Rattle.std.proofs.Common.{◌≡◌, ℕ, ◌≤◌, ◌<◌, Bool, true, false, cond, nat_le, List, [], ◌∷◌, ◌++◌, length, map, refl, sym, ap, subst, ◌∙◌, append_assoc, arith, Some, None, Ok}
 use Rattle.std.specs.Prelude.{codes}
 use Rattle.std.specs.Str.{bytes_eq}
 use Rattle.std.proofs.lemmas.Bool.Decides.{nat_tests}
@@ -17,7 +17,7 @@ use Rattle.tml_span.specs.declared.unit.Unit.{Unit}
 use Rattle.tml_span.proofs.OneCut.{one_cut_from}
 use Rattle.tml_span.proofs.Pulling.{left_units}
 use Rattle.tml_tree.specs.Judging.{HavePassed, Passes, after, first_fault, no_history}
-use Rattle.tml_tree.specs.Nesting.{OpenTag, name_of}
+use Rattle.tml_tree.specs.Nesting.{OpenTag, open_name}
 use Rattle.tml_tree.specs.Plain.{PlainNode, element, none, nodes_of, unit}
 use Rattle.tml_tree.specs.Rules.{History, is_unknown, is_misplaced}
 use Rattle.tml_tree.specs.Stage.{Stage, step}
@@ -47,9 +47,9 @@ few_names : (names tags : ℕ) → names ≡ tags → nat_le 32 names ≡ false 
 few_names names tags e f = grind (arith, nat_tests)
 
 -- where a start tag has no fault there is room for one more
-room : (name : List ℕ) (h : History) (tags : List OpenTag) → h.names ≡ map name_of tags → first_fault h (start_tag name []) ≡ None → length tags < 32
+room : (name : List ℕ) (h : History) (tags : List OpenTag) → h.names ≡ map open_name tags → first_fault h (start_tag name []) ≡ None → length tags < 32
 room name h tags n f =
-    let same : length (map name_of tags) ≡ length tags = simp length-map in
+    let same : length (map open_name tags) ≡ length tags = simp length-map in
     few_names (length h.names) (length tags) (ap length n ∙ same) (flat (is_unknown (start_tag name [])) false (is_misplaced h (start_tag name [])) (nat_le 32 (length h.names)) f)
 
 few_closed : (t : OpenTag) (tags : List OpenTag) (nodes : List PlainNode) (end : ℕ) (s : Stage) (b : Bool) → length (t ∷ tags) ≤ 32
@@ -57,7 +57,7 @@ few_closed : (t : OpenTag) (tags : List OpenTag) (nodes : List PlainNode) (end :
 few_closed t tags nodes end s false few e = absurd cc
 few_closed t tags nodes end s true few e = subst (λ (r : Stage). length r.tags ≤ 32) (same_Some _ _ e) (omega (arith, few))
 
-few_open : (start end : ℕ) (k : Kind) (h : History) (tags : List OpenTag) (nodes : List PlainNode) (s : Stage) → h.names ≡ map name_of tags → first_fault h k ≡ None → length tags ≤ 32 → step tags nodes (unit start end k) ≡ Some s → length s.tags ≤ 32
+few_open : (start end : ℕ) (k : Kind) (h : History) (tags : List OpenTag) (nodes : List PlainNode) (s : Stage) → h.names ≡ map open_name tags → first_fault h k ≡ None → length tags ≤ 32 → step tags nodes (unit start end k) ≡ Some s → length s.tags ≤ 32
 few_open start end bom h tags nodes s n f few e = subst (λ (r : Stage). length r.tags ≤ 32) (same_Some _ _ e) few
 few_open start end (declaration b) h tags nodes s n f few e = subst (λ (r : Stage). length r.tags ≤ 32) (same_Some _ _ e) few
 few_open start end (doctype b) h tags nodes s n f few e = subst (λ (r : Stage). length r.tags ≤ 32) (same_Some _ _ e) few
@@ -142,7 +142,3 @@ pub all_read : (source : List ℕ) (root : PlainNode) (old new : Reading) (w : W
 all_read source root old new w out tree h gives finishes =
     let cuts : Cuts source h.us [] = subst (λ (s : List ℕ). Cuts s h.us []) h.source_is (gives.2 h.us h.cut).1 in
     (root, tree, finishes h.us h.h root h.written (units_of_tree source root h.us tree cuts))
-
--- where a unit is read fewer bytes are left
-pub fewer_left : (old new : Reading) (u : Unit) → CutsOn old new (Ok (Some u)) → length new.source - new.place < length old.source - old.place
-fewer_left old new u gives = let e : length new.source ≡ length old.source = ap length gives.0 in omega (arith, e, gives.1, gives.2)
