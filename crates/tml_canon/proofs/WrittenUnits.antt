@@ -1,5 +1,5 @@
 -- The units of a document are written one after another.
-use Rattle.std.proofs.Common.{◌≡◌, ℕ, ◌-◌, ◌≤◌, ◌<◌, Bool, true, false, cond, nat_le, List, [], ◌∷◌, ◌++◌, length, map, refl, sym, ap, subst, ◌∙◌, append_assoc, arith, Some, None, Ok}
+use Rattle.std.proofs.Common.{◌≡◌, ℕ, ◌≤◌, ◌<◌, Bool, true, false, cond, nat_le, List, [], ◌∷◌, ◌++◌, length, map, refl, sym, ap, subst, ◌∙◌, append_assoc, arith, Some, None, Ok}
 use Rattle.std.specs.Prelude.{codes}
 use Rattle.std.specs.Str.{bytes_eq}
 use Rattle.std.proofs.lemmas.Bool.Decides.{nat_tests}
@@ -142,7 +142,3 @@ pub all_read : (source : List ℕ) (root : PlainNode) (old new : Reading) (w : W
 all_read source root old new w out tree h gives finishes =
     let cuts : Cuts source h.us [] = subst (λ (s : List ℕ). Cuts s h.us []) h.source_is (gives.2 h.us h.cut).1 in
     (root, tree, finishes h.us h.h root h.written (units_of_tree source root h.us tree cuts))
-
--- where a unit is read fewer bytes are left
-pub fewer_left : (old new : Reading) (u : Unit) → CutsOn old new (Ok (Some u)) → length new.source - new.place < length old.source - old.place
-fewer_left old new u gives = let e : length new.source ≡ length old.source = ap length gives.0 in omega (arith, e, gives.1, gives.2)

@@ -1,4 +1,4 @@
-use Rattle.tml_canon.proofs.WrittenUnits.{all_read, fewer_left, none_read, one_more}
+use Rattle.tml_canon.proofs.WrittenUnits.{all_read, none_read, one_more}
 use Rattle.tml_canon.proofs.document.text_of.Goals as goal
 
 pub loop-unit-init : goal.loop-unit-init
