@@ -132,7 +132,7 @@ class Statuses(CorpusTest):
         os.chmod(self.path("fake"), 0o700)
         status, lines, _ = self.run_it("check", "--jobs", "3", ".", tml=self.path("fake"))
         self.assertEqual(status, 2)
-        self.assertTrue(lines[0].startswith("./05.xml: not judged: a process of this program"), lines)
+        self.assertTrue(lines[0].startswith("./05.xml: not judged: the process that examined it"), lines)
         self.assertEqual(lines[1], "12 files: 11 accepted, 0 with a fault, 1 not judged")
 
     def test_interrupted(self):

@@ -209,7 +209,7 @@ class OnACluster(CorpusTest):
         status, out, _ = self.bytes_of("check", "--cluster", self.address, ".", tml=program)
         lines = out.decode().splitlines()
         self.assertEqual(status, 2)
-        self.assertTrue(lines[0].startswith("./20.xml: not judged: a process of this program"), lines)
+        self.assertTrue(lines[0].startswith("./20.xml: not judged: the process that examined it"), lines)
         self.assertEqual(lines[1], "40 files: 39 accepted, 0 with a fault, 1 not judged")
 
     def test_interrupted(self):

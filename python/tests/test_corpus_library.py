@@ -443,7 +443,7 @@ class OnACluster(LibraryTest):
         status, out, _ = self.run_bytes("check", "--library", self.stand_in(), "--cluster", self.address, "d", python=PYTHON)
         lines = out.decode().splitlines()
         self.assertEqual(status, 2)
-        self.assertTrue(lines[0].startswith("d/20.xml: not judged: a process of this program"), lines)
+        self.assertTrue(lines[0].startswith("d/20.xml: not judged: the process that examined it"), lines)
         self.assertEqual(lines[1], "40 files: 39 accepted, 0 with a fault, 1 not judged")
 
 

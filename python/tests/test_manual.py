@@ -11,7 +11,7 @@ import test_recipes
 from corpus import TML, TOP
 from test_scripts import RELATIONS
 
-PAGES = ("tml.1", "tml-corpus.1", "tml-tools.1")
+PAGES = ("tml.1", "tml-corpus.1", "tml-tools.1", "tml-verify.1")
 LIMITS = ("4,194,304", "67,108,864", "1,024", "4,096")
 
 
