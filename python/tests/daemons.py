@@ -5,24 +5,14 @@ They need the module `distributed` (of Debian: python3-distributed), here or at 
 
 import os
 import subprocess
-import sys
 import tempfile
 import unittest
 
 from corpus import TML, CorpusTest, needed, text_at
-from processes import until
+from processes import interpreter, until
 
 
-def python_with_distributed() -> str | None:
-    """An interpreter that has the module, or None."""
-    for python in (sys.executable, "/usr/bin/python3"):
-        words = [python, "-c", "import sys, distributed; sys.exit(sys.version_info < (3, 11))"]
-        if os.access(python, os.X_OK) and subprocess.run(words, stderr=subprocess.DEVNULL, check=False).returncode == 0:
-            return python
-    return None
-
-
-PYTHON = python_with_distributed()
+PYTHON = interpreter("import sys, distributed; sys.exit(sys.version_info < (3, 11))")
 
 
 class Daemons:

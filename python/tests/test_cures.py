@@ -4,7 +4,6 @@ import unittest
 from collections import Counter
 from random import Random
 
-import corpus  # noqa: F401 (it puts the tools on the path)
 from advice import Outcome, Reference, judged, tally
 from slips import SLIPS
 from stories import Story

@@ -7,7 +7,6 @@ import tempfile
 import unittest
 from collections.abc import Sequence
 
-import corpus  # noqa: F401
 from tml.running import PART
 from tml.statuses import DOCUMENT_LIMIT
 from tml_corpus.files.finding import CannotRead, Found, find_files, read_document, reason, search_folder

@@ -397,30 +397,6 @@ class Project(unittest.TestCase):
         done = subprocess.run([sys.executable, "-c", script], cwd=SOURCES, capture_output=True, text=True, check=False, timeout=60)
         self.assertEqual((done.returncode, done.stderr), (0, ""))
 
-    def test_is_installed_by_pip(self) -> None:
-        import shutil
-
-        tried = subprocess.run([sys.executable, "-c", "import wheel, setuptools, pip"], capture_output=True, check=False)
-        if tried.returncode != 0:
-            self.skipTest("no modules pip, setuptools and wheel")
-        with tempfile.TemporaryDirectory() as folder:
-            source, target = os.path.join(folder, "source"), os.path.join(folder, "target")
-            os.mkdir(source)
-            for name in ("pyproject.toml", "README.md"):
-                shutil.copy(os.path.join(TOP, name), source)
-            shutil.copytree(SOURCES, os.path.join(source, "python", "src"), ignore=shutil.ignore_patterns("__pycache__"))
-            words = ["install", "--quiet", "--no-deps", "--no-index", "--no-build-isolation", "--no-compile", "--target", target, source]
-            done = subprocess.run([sys.executable, "-m", "pip", *words], capture_output=True, text=True, check=False, timeout=300)
-            self.assertEqual(done.returncode, 0, done.stderr)
-            for name in self.project()["project"]["scripts"]:
-                with self.subTest(name):
-                    run = [sys.executable, os.path.join(target, "bin", name), "--help"]
-                    done = subprocess.run(
-                        run, env={**os.environ, "PYTHONPATH": target}, capture_output=True, text=True, check=False, timeout=60
-                    )
-                    self.assertEqual((done.returncode, done.stdout.split()[:2]), (0, ["usage:", name]))
-            self.assertTrue(os.path.isfile(os.path.join(target, "tml", "py.typed")))
-
 
 if __name__ == "__main__":
     unittest.main()
