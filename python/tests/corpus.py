@@ -11,6 +11,8 @@ import unittest
 from pathlib import Path
 from typing import TypeVar
 
+from tml.statuses import DOCUMENT_LIMIT
+
 Value = TypeVar("Value")
 
 TOP = os.path.dirname(os.path.dirname(os.path.dirname(os.path.abspath(__file__))))
@@ -25,6 +27,9 @@ signal.signal(signal.SIGHUP, signal.SIG_DFL)
 COMPANION = os.path.join(TOOLS, "tml-corpus")
 TML = os.environ.get("TML") or os.path.join(TOP, "crates", "tml", "out", "tml")
 EVENT = '<EVENT eid="e1" class="STATE">x</EVENT>'
+TOO_LONG = b" " * (DOCUMENT_LIMIT + 1)
+"""A document with one byte more than `tml` takes."""
+
 INSTANCE = '<MAKEINSTANCE eiid="i1" eventID="e1"/>'
 
 

@@ -11,7 +11,7 @@ import unittest
 from fractions import Fraction
 from functools import partial
 
-from corpus import TML, CorpusTest, document, needed, needs_score
+from corpus import TML, TOO_LONG, CorpusTest, document, needed, needs_score
 from test_timeline import event, link
 from tml.results import Score
 from tml_corpus.agreement.agree import Wanted, compare, sides_of
@@ -98,7 +98,7 @@ class Pairs(AgreeTest):
             self.write(f"a/{name}.xml", of_first)
             self.write(f"b/{name}.xml", of_second)
         self.write("a/long.xml", three())
-        self.write("b/long.xml", b" " * 4_194_305)
+        self.write("b/long.xml", TOO_LONG)
         os.mkfifo(self.path("a/pipe.xml"))
         self.write("b/pipe.xml", three())
         status, lines, _ = self.run_it("agree", "a", "b")

@@ -44,6 +44,7 @@ import tomllib  # noqa: F401
 from corpus import TML, TOOLS, TOP, CorpusTest, document
 from processes import is_running, until
 from tml.process import Process
+from tml.statuses import DOCUMENT_LIMIT
 from tml_corpus.asking.pool import Interruption, processors
 from tml_corpus.command_line import main as command_line
 from tml_corpus.command_line.parser import parser
@@ -430,7 +431,6 @@ class Programs(AttackTest):
         self.assertEqual((child.communicate(timeout=60), child.returncode), ((b"", b""), 130))
 
 
-LIMIT = 4_194_304
 INSTANCES = b"".join(b'<MAKEINSTANCE eiid="i%d" eventID="e%d"/>' % (number, number % 30) for number in range(1024))
 LINK = b'<TLINK eventInstanceID="i%d" relatedToEventInstance="i%d" relType="%s"/>'
 LINKS = b"".join(LINK % (number % 1024, number * 7 % 1024, b"SIMULTANEOUS") for number in range(4096))
@@ -445,7 +445,7 @@ NESTED = b"".join(b'<EVENT eid="e%d" class="STATE">' % number for number in rang
 
 def filled(before: bytes, part: bytes, after: bytes) -> bytes:
     """As much of a part as a document may have between what stands before and after it."""
-    return before + part * ((LIMIT - len(before) - len(after)) // len(part)) + after
+    return before + part * ((DOCUMENT_LIMIT - len(before) - len(after)) // len(part)) + after
 
 
 def one_event(links: bytes) -> bytes:
@@ -462,7 +462,7 @@ def nested(part: bytes) -> bytes:
 def numbered(before: bytes, part: bytes, after: bytes) -> bytes:
     """The same where each part has its number."""
     parts: list[bytes] = []
-    room = LIMIT - len(before) - len(after)
+    room = DOCUMENT_LIMIT - len(before) - len(after)
     while room >= len(part) + 8:
         parts.append(part % len(parts))
         room -= len(parts[-1])
@@ -670,6 +670,11 @@ TABLES: tuple[tuple[str, str, str | bytes, str], ...] = (
 
 
 class Tables(AttackTest):
+    def begin_anew(self) -> None:
+        """Leaves nothing but a table of one word."""
+        shutil.rmtree(self.path("in"), ignore_errors=True)
+        self.write("in/base-segmentation.tab", "a\t0\t0\tx\n")
+
     def of(self, script: str) -> str:
         """The command that reads tables."""
         return "from-tempeval2 in made" if script == "from-tempeval2" else "tml-edit --tml TML --links in/table good.xml"
@@ -677,8 +682,7 @@ class Tables(AttackTest):
     def test_what_is_wrong_is_said_with_its_place(self) -> None:
         for script, table, content, said in TABLES:
             with self.subTest(said):
-                shutil.rmtree(self.path("in"), ignore_errors=True)
-                self.write("in/base-segmentation.tab", "a\t0\t0\tx\n")
+                self.begin_anew()
                 self.write(f"in/{table}", content)
                 ended = self.ended(self.of(script))
                 self.assertEqual((ended.status, ended.out, ended.error.count("\n")), (1, "", 1), ended)
@@ -687,8 +691,7 @@ class Tables(AttackTest):
     def test_a_pipe_is_not_waited_for(self) -> None:
         for script, table in (("from-tempeval2", "base-segmentation.tab"), ("from-tempeval2", "dct.txt"), ("tml-edit", "table")):
             with self.subTest(table):
-                shutil.rmtree(self.path("in"), ignore_errors=True)
-                self.write("in/base-segmentation.tab", "a\t0\t0\tx\n")
+                self.begin_anew()
                 if os.path.exists(self.path(f"in/{table}")):
                     os.unlink(self.path(f"in/{table}"))
                 os.mkfifo(self.path(f"in/{table}"))

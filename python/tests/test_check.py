@@ -8,7 +8,8 @@ import time
 import unittest
 import xml.etree.ElementTree as ElementTree
 
-from corpus import EVENT, TML, CorpusTest, document, match_in, needed, text_at
+from corpus import EVENT, TML, TOO_LONG, CorpusTest, document, match_in, needed, text_at
+from tml.statuses import DOCUMENT_LIMIT
 
 GOOD = document(EVENT)
 BAD = document("<EVENT/>")
@@ -59,8 +60,8 @@ class Statuses(CorpusTest):
         self.assertEqual(places, [f"a/{number:02}.tml" for number in range(0, 60, 2)])
 
     def test_files_that_cannot_be_judged_are_named_and_end_nothing(self) -> None:
-        self.write("a.xml", b" " * 4_194_305)
-        self.write("b.xml", b" " * 4_194_304)
+        self.write("a.xml", TOO_LONG)
+        self.write("b.xml", b" " * DOCUMENT_LIMIT)
         os.symlink("nowhere", self.path("c.xml"))
         os.mkfifo(self.path("d.xml"))
         os.symlink(".", self.path("loop"))

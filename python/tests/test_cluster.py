@@ -12,7 +12,7 @@ import sys
 import time
 import unittest
 
-from corpus import EVENT, INSTANCE, TML, TOP, CorpusTest, document, needed, text_at
+from corpus import EVENT, INSTANCE, TML, TOO_LONG, TOP, CorpusTest, document, needed, text_at
 from daemons import PYTHON, ClusterTest, needs_distributed
 from processes import until
 
@@ -57,7 +57,7 @@ class OnACluster(ClusterTest):
         os.symlink("nowhere", self.path("d/3/link.xml"))
         os.mkfifo(self.path("d/4/pipe.xml"))
         self.write("d/5/caf\udce9\n.xml", b"\xff")
-        self.write("d/6/long.xml", b" " * 4_194_305)
+        self.write("d/6/long.xml", TOO_LONG)
 
     def script(self, body: str) -> str:
         """A program that does something and then is `tml`."""

@@ -6,7 +6,8 @@ import subprocess
 import unittest
 
 from corpus import TML, TOOLS, CorpusTest, document
-from test_scripts import RELATIONS, A, B
+from test_scripts import A, B
+from tml.statuses import RELATIONS
 
 SOURCE = os.path.join(TOOLS, "completion", "tml.bash")
 CALL = """
@@ -77,7 +78,7 @@ class Completion(CorpusTest):
             self.assertEqual(self.offered(TML, command, *["gone"] * len(names), ""), ([], False))
 
     def test_relations(self) -> None:
-        self.assertEqual(self.offered("tml", "ask", "gone.xml", "a", ""), (RELATIONS, False))
+        self.assertEqual(self.offered("tml", "ask", "gone.xml", "a", ""), (list(RELATIONS), False))
         self.assertEqual(self.offered("tml", "ask", "gone.xml", "a", "BEG"), (["BEGINS", "BEGUN_BY"], False))
 
     def test_intervals(self) -> None:

@@ -16,7 +16,7 @@ import zipfile
 from collections.abc import Mapping
 from pathlib import Path
 
-from corpus import EVENT, INSTANCE, SOURCES, TESTS, TML, TOOLS, TOP, CorpusTest, document, match_in
+from corpus import EVENT, INSTANCE, SOURCES, TESTS, TML, TOOLS, TOO_LONG, TOP, CorpusTest, document, match_in
 from daemons import PYTHON, ClusterTest
 from processes import is_running, until
 from tml import finding
@@ -99,7 +99,7 @@ class LibraryTest(CorpusTest):
         self.write(f"{folder}/wrapped.xml", document(f"<TXT>{CLASH}</TXT>"))
         self.write(f"{folder}/latin.xml", "<TimeML>é</TimeML>".encode("latin-1"))
         self.write(f"{folder}/empty.xml", "")
-        self.write(f"{folder}/long.xml", b" " * 4_194_305)
+        self.write(f"{folder}/long.xml", TOO_LONG)
         self.write(f"{folder}/caf\udce9\n.xml", b"\xff")
         os.symlink("nowhere", self.path(f"{folder}/link.xml"))
         os.symlink(".", self.path(f"{folder}/loop"))

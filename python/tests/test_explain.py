@@ -7,7 +7,7 @@ import unittest
 from collections.abc import Sequence
 
 from corpus import EVENT, INSTANCE, CorpusTest, document, needed
-from test_scripts import RELATIONS
+from tml.statuses import RELATIONS
 
 TIME = '<TIMEX3 tid="t1" type="DATE"/>'
 

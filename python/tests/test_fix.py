@@ -5,6 +5,7 @@ import stat
 import unittest
 
 from corpus import EVENT, INSTANCE, CorpusTest, document
+from tml.statuses import DOCUMENT_LIMIT
 
 TIME = '<TIMEX3 tid="t1" type="DATE" value="1998">x</TIMEX3>'
 LINK = '<TLINK eventInstanceID="i1" relatedToTime="t1" relType="BEFORE"/>'
@@ -118,7 +119,7 @@ class Fixes(CorpusTest):
         self.assertEqual(sorted(os.listdir(self.folder)), ["d.xml", "l.xml"])
 
     def test_files_that_cannot_be_looked_at(self) -> None:
-        self.write("long.xml", b"&" * 4_194_305)
+        self.write("long.xml", b"&" * (DOCUMENT_LIMIT + 1))
         os.mkfifo(self.path("pipe.xml"))
         status, lines, _ = self.run_it("fix", ".", "gone.xml")
         self.assertEqual(status, 2)

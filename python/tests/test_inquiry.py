@@ -9,7 +9,7 @@ import unittest
 import xml.etree.ElementTree as ElementTree
 from typing import IO
 
-from corpus import COMPANION, TML, CorpusTest, document, needed
+from corpus import COMPANION, TML, TOO_LONG, CorpusTest, document, needed
 from test_scripts import A, B, link
 
 GOOD = document(A + B + "\n" + link("a", "BEFORE", "b"))
@@ -241,7 +241,7 @@ class StandardInput(InquiryTest):
 
     def test_what_cannot_be(self) -> None:
         self.assertEqual(
-            self.given(b"x" * 4_194_305, "check", "-")[:2],
+            self.given(TOO_LONG, "check", "-")[:2],
             (2, ["-: not judged: the file has more than 4,194,304 bytes", "1 file: 0 accepted, 0 with a fault, 1 not judged"]),
         )
         rows = [

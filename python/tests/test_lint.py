@@ -10,6 +10,7 @@ from unittest import mock
 
 from corpus import EVENT, INSTANCE, CorpusTest, document, needed, text_at
 from tml.running import CannotRun
+from tml.statuses import DOCUMENT_LIMIT
 from tml_corpus.asking.pool import processors
 from tml_corpus.command_line.settings import read_settings
 
@@ -497,7 +498,7 @@ class Baselines(CorpusTest):
         first, *own = self.read_text("known").splitlines(True)
         others = (json.dumps([f"{number:05}.xml", "empty-tag", "x" * 80, 1]) + "\n" for number in range(40_000))
         self.write("known", "".join([first, *others, *own]))
-        self.assertGreater(os.path.getsize(self.path("known")), 4_194_304)
+        self.assertGreater(os.path.getsize(self.path("known")), DOCUMENT_LIMIT)
         self.assertEqual(self.run_it("check", "--lint", "--baseline", "known", "d.xml")[1][1:], ["1 warning of the baseline not shown"])
 
     def test_a_long_baseline_is_read_whole(self) -> None:
@@ -506,7 +507,7 @@ class Baselines(CorpusTest):
         baseline = NewBaseline(self.path("known"))
         baseline.counts.update((f"{number:05}.xml", "empty-tag", "é" * 77 + "...") for number in range(20_000))
         baseline.finish(False)
-        self.assertGreater(os.path.getsize(self.path("known")), 2 * 4_194_304)
+        self.assertGreater(os.path.getsize(self.path("known")), 2 * DOCUMENT_LIMIT)
         self.assertEqual(read_baseline(self.path("known")).counts, baseline.counts)
 
     def test_files_that_are_none(self) -> None:

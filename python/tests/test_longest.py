@@ -14,7 +14,7 @@ from reference import answers, evidence
 from reference.relations import ORDERS
 from tml.longest import LONGEST, Limits, longest
 from tml.process import Process
-from tml.statuses import BASE_RELATIONS, RELATIONS
+from tml.statuses import BASE_RELATIONS, DOCUMENT_LIMIT, EVIDENCE_LIMIT, RELATIONS
 
 HEAD = '<TimeML><EVENT eid="e" class="STATE"/>'
 NAMES = ("a", "b", "c", "d")
@@ -160,8 +160,8 @@ class Computed(unittest.TestCase):
         links = [b"tlink %d %s OVERLAPPED_BY %s" % (number, self.name, self.name) for number in range(4096)]
         intervals = [b"interval %d %s" % (number, self.name) for number in range(1024)]
         self.within("check", len(answers.lines(b"accepted", b"tlinks 4096", b"instances 1024", *intervals, *links)), 0.99)
-        self.within("canon", 6 * (4_194_304 - 100), 0.99)
-        self.within("verify", len(b"verified entails %s DURING %s\n" % (self.name, self.name)) * (67_108_864 // 33 - 1), 0.6)
+        self.within("canon", 6 * (DOCUMENT_LIMIT - 100), 0.99)
+        self.within("verify", len(b"verified entails %s DURING %s\n" % (self.name, self.name)) * (EVIDENCE_LIMIT // 33 - 1), 0.6)
 
     @unittest.skipUnless(os.environ.get("TML_SLOW") and os.access(TML, os.X_OK), "takes a minute: TML_SLOW=1 has it tried, with a program")
     def test_the_longest_answer_is_believed(self) -> None:

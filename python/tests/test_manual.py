@@ -9,7 +9,7 @@ import unittest
 
 import test_recipes
 from corpus import TML, TOP, match_in, text_at
-from test_scripts import RELATIONS
+from tml.statuses import RELATIONS
 
 PAGES = ("tml.1", "tml-corpus.1", "tml-tools.1")
 LIMITS = ("4,194,304", "67,108,864", "1,024", "4,096")
@@ -42,7 +42,7 @@ class OfTheProgram(unittest.TestCase):
         self.assertEqual(re.findall(r"^\.It (\d+)$", section("tml.1", "EXIT STATUS"), re.MULTILINE), wanted)
 
     def test_relations_and_limits(self) -> None:
-        self.assertEqual(re.findall(r"^\.Ql ([A-Z_]{4,})", section("tml.1", "DESCRIPTION"), re.MULTILINE), RELATIONS)
+        self.assertEqual(re.findall(r"^\.Ql ([A-Z_]{4,})", section("tml.1", "DESCRIPTION"), re.MULTILINE), list(RELATIONS))
         for number in LIMITS:
             self.assertRegex(section("tml.1", "LIMITS"), rf"\b{number}\b")
 

@@ -3,21 +3,17 @@
 import itertools
 import os
 import subprocess
-import tempfile
 import unittest
 
-from corpus import TML
+from corpus import TML, CorpusTest
 from tml.asking import Answerer
 from tml.finding import BUILT_LIBRARY
 from tml.library import Library
 from tml.process import Process
+from tml.statuses import RELATIONS, TmlStatus
 
-RELATIONS = (
-    "BEFORE AFTER INCLUDES IS_INCLUDED DURING DURING_INV SIMULTANEOUS IDENTITY IBEFORE IAFTER BEGINS BEGUN_BY ENDS ENDED_BY OVERLAPS "
-    "OVERLAPPED_BY"
-).split()
 EVENT = "<EVENT eid='e' class='STATE'/>"
-DONE, CLASH, READ_FAULT = 0, 2, 4
+DONE, CLASH, READ_FAULT = TmlStatus.DONE, TmlStatus.CLASH, TmlStatus.READ_FAULT
 
 
 def instances(names: str, *links: tuple[str, str, str]) -> bytes:
@@ -116,26 +112,19 @@ class PrintedEvidence(unittest.TestCase):
                 self.assertIn(verdict.decode(), [f"verified clash {links}\n" for links in cited])
 
 
-@unittest.skipUnless(os.access(TML, os.X_OK), f"no program {TML}")
-class RealFiles(unittest.TestCase):
+class RealFiles(CorpusTest):
     def setUp(self) -> None:
-        folder = tempfile.TemporaryDirectory()
-        self.addCleanup(folder.cleanup)
-        self.folder = folder.name
+        super().setUp()
         self.write("document", RATES)
 
-    def write(self, name: str, content: bytes) -> None:
-        with open(os.path.join(self.folder, name), "wb") as out:
-            out.write(content)
-
-    def run_it(self, *words: str) -> tuple[int, bytes]:
+    def answered(self, *words: str) -> tuple[int, bytes]:
         """The status and the text of a run of the program."""
         done = subprocess.run([TML, *words], cwd=self.folder, stdin=subprocess.DEVNULL, stdout=subprocess.PIPE, check=False)
         return done.returncode, done.stdout
 
     def printed_to(self, name: str, *words: str) -> None:
         """Runs a command that is done, with its output in a file."""
-        status, text = self.run_it(*words)
+        status, text = self.answered(*words)
         self.assertEqual(status, DONE, words)
         self.write(name, text)
 
@@ -146,7 +135,7 @@ class RealFiles(unittest.TestCase):
             (["ask", "document", "t0", "INCLUDES", "ei1"], b"verified counter t0 INCLUDES ei1\n"),
         ):
             self.printed_to("evidence", *words)
-            self.assertEqual(self.run_it("verify", "document", "evidence"), (DONE, verdict))
+            self.assertEqual(self.answered("verify", "document", "evidence"), (DONE, verdict))
 
     def test_what_is_joined_and_renewed_is_verified(self) -> None:
         self.printed_to("timeline", "solve", "document")
@@ -154,18 +143,18 @@ class RealFiles(unittest.TestCase):
         self.printed_to("joined", "join", "timeline", "proof")
         self.printed_to("renewed", "renew", "joined")
         verdicts = b"verified timeline\nverified entails ei1 BEFORE ei2\n"
-        self.assertEqual(self.run_it("verify", "document", "renewed"), (DONE, verdicts))
+        self.assertEqual(self.answered("verify", "document", "renewed"), (DONE, verdicts))
 
     def test_what_is_no_file_that_can_be_read_is_a_read_fault(self) -> None:
         for name in ("none", "", "."):
             with self.subTest(name):
-                self.assertEqual(self.run_it("check", name), (READ_FAULT, b"read fault\n"))
-                self.assertEqual(self.run_it("verify", "document", name), (READ_FAULT, b"read fault\n"))
+                self.assertEqual(self.answered("check", name), (READ_FAULT, b"read fault\n"))
+                self.assertEqual(self.answered("verify", "document", name), (READ_FAULT, b"read fault\n"))
 
     def test_a_file_that_is_named_twice_is_read_twice(self) -> None:
         self.printed_to("timeline", "solve", "document")
         self.printed_to("joined", "join", "timeline", "timeline")
-        self.assertEqual(self.run_it("verify", "document", "joined"), (DONE, 2 * b"verified timeline\n"))
+        self.assertEqual(self.answered("verify", "document", "joined"), (DONE, 2 * b"verified timeline\n"))
 
 
 if __name__ == "__main__":

@@ -6,7 +6,7 @@ import unittest
 from collections import Counter
 from collections.abc import Iterable, Iterator
 
-from corpus import EVENT, document
+from corpus import EVENT, TOO_LONG, document
 from reference import Outcome, expected
 from reference.dates import Bounds
 from reference.nets import Link, Net
@@ -128,8 +128,8 @@ class ReducedLinks(unittest.TestCase):
             ("score d k", {"d": ring}, 4, "read fault\n"),
             ("score d k", {"d": b"<TimeML>"}, 1, "fault 6 Unclosed 8\n"),
             ("score d k", {"d": ring, "k": b"<TimeML>"}, 1, "key fault 6 Unclosed 8\n"),
-            ("score d k", {"d": ring, "k": b" " * 4_194_305}, 9, "too long KEY\n"),
-            ("score d k", {"d": b" " * 4_194_305}, 9, "too long DOC\n"),
+            ("score d k", {"d": ring, "k": TOO_LONG}, 9, "too long KEY\n"),
+            ("score d k", {"d": TOO_LONG}, 9, "too long DOC\n"),
             ("score - -", {"-": chain}, 1, "key fault 6 Unclosed 0\n"),
         ]
         for line, files, status, printed in rows:

@@ -19,6 +19,7 @@ from reference.nets import Calendar, Link, Net, Ranks, Span, Step, Via, fits, in
 from reference.possible import Row, least_of_each, possible_by_closure, possible_rows, possible_tried
 from reference.relations import BASE_RELATIONS, RELATIONS, Order, holds, orders_of
 from reference.timelines import all_timelines, closure, least_raised, least_tried, orders_that_fit, rows_of_closure, rows_tried
+from tml.statuses import EVIDENCE_LIMIT
 
 LeastOfPairs = dict[tuple[int, int], dict[bytes, Ranks]]
 """Of each pair of intervals the relations that are possible, each with its least timeline."""
@@ -555,7 +556,7 @@ class SeveralClaims(unittest.TestCase):
         self.assertEqual(expected([b"join", b"-", b"-"], standard), Outcome(7, b"second line 1\n"))
 
     def test_limits(self) -> None:
-        long, least = b" " * 67_108_865, b" " * 67_108_864
+        long, least = b" " * (EVIDENCE_LIMIT + 1), b" " * EVIDENCE_LIMIT
         self.is_answered("renew e", 9, b"too long EVIDENCE\n", e=long)
         self.is_answered("renew e", 7, b"evidence line 1\n", e=least)
         self.is_answered("join e f", 9, b"too long EVIDENCE\n", e=long, f=long)

@@ -6,13 +6,9 @@ import sys
 import unittest
 
 from corpus import EVENT, INSTANCE, TML, TOOLS, CorpusTest, document, needs_score
+from tml.statuses import RELATIONS
 
 A, B = '<TIMEX3 tid="a" type="SET"/>', '<TIMEX3 tid="b" type="SET"/>'
-RELATIONS = [
-    *"BEFORE AFTER INCLUDES IS_INCLUDED DURING DURING_INV SIMULTANEOUS IDENTITY IBEFORE IAFTER BEGINS BEGUN_BY ENDS ENDED_BY".split(),
-    "OVERLAPS",
-    "OVERLAPPED_BY",
-]
 
 
 def link(a: str, relation: str, b: str, rest: str = "/>") -> str:

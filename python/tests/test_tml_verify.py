@@ -9,6 +9,7 @@ from pathlib import Path
 
 from building.crates import libraries_below, listed
 from corpus import TML, TOP, needs_seconds
+from tml.statuses import DOCUMENT_LIMIT, EVIDENCE_LIMIT, TmlStatus
 
 TML_VERIFY = os.path.abspath(os.environ.get("TML_VERIFY") or os.path.join(TOP, "crates", "tml_verify", "out", "tml_verify"))
 SAMPLES = Path(TOP, "samples")
@@ -21,8 +22,6 @@ SOLVER = (
 
 FIRST_LINE = b"tml-seconds 1\n"
 USAGE = b"usage:\ntml-verify DOC EVIDENCE\ntml-verify DOC SECONDS\n"
-MOST_OF_DOCUMENT, MOST_OF_EVIDENCE = 4_194_304, 67_108_864
-USAGE_STATUS, TOO_LONG = 3, 9
 
 CLASHING = b"""<TimeML><EVENT eid="e1" class="STATE">x</EVENT>
 <MAKEINSTANCE eiid="a" eventID="e1"/><MAKEINSTANCE eiid="b" eventID="e1"/>
@@ -152,12 +151,12 @@ class Beside(unittest.TestCase):
 
     def test_files_that_are_too_long(self) -> None:
         doc, long = self.documents()[0], self.written("long", b"<")
-        os.truncate(self.folder / long, MOST_OF_DOCUMENT + 1)
-        self.assertEqual(self.assert_alike(long, "missing"), (TOO_LONG, b"too long DOC\n"))
+        os.truncate(self.folder / long, DOCUMENT_LIMIT + 1)
+        self.assertEqual(self.assert_alike(long, "missing"), (TmlStatus.TOO_LONG, b"too long DOC\n"))
         # Of a file that is too long the first line is not judged.
         for line in (FIRST_LINE, b"tml-evidence 2\n"):
-            os.truncate(self.folder / self.written("long", line), MOST_OF_EVIDENCE + 1)
-            self.assertEqual(self.run_program(TML_VERIFY, doc, "long"), (TOO_LONG, b"too long EVIDENCE\n"))
+            os.truncate(self.folder / self.written("long", line), EVIDENCE_LIMIT + 1)
+            self.assertEqual(self.run_program(TML_VERIFY, doc, "long"), (TmlStatus.TOO_LONG, b"too long EVIDENCE\n"))
 
     def test_words_of_no_form(self) -> None:
         doc = self.documents()[0]
@@ -165,7 +164,7 @@ class Beside(unittest.TestCase):
             (), (doc,), ("",), ("verify", doc, doc), ("--help",), (b"\xff",), (doc, b"\xff"), (doc, doc, ""),
         )  # fmt: skip
         for words in rows:
-            self.assertEqual(self.run_program(TML_VERIFY, *words), (USAGE_STATUS, USAGE))
+            self.assertEqual(self.run_program(TML_VERIFY, *words), (TmlStatus.USAGE, USAGE))
 
 
 if __name__ == "__main__":

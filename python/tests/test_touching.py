@@ -7,7 +7,8 @@ import unittest
 
 import ordinary
 from corpus import EVENT, INSTANCE, TML, CorpusTest, document, text_at
-from test_scripts import RELATIONS, ScriptTest, link
+from test_scripts import ScriptTest, link
+from tml.statuses import DOCUMENT_LIMIT, RELATIONS
 
 VALUES = ("1998", "1998-H1", "199", "1998-Q1", "1998-01", "1998-12", "1998-01-01", "1998-01-02", "1998-12-31", "1999-01-01")
 SISTERS = {
@@ -224,9 +225,9 @@ class Edits(ScriptTest):
     def test_a_document_that_would_be_too_long(self) -> None:
         whole = document(DAYS + link("a", "BEFORE", "b"))
         for left in (0, 1):
-            self.write("d.xml", whole + " " * (4_194_304 - left - len(whole)))
+            self.write("d.xml", whole + " " * (DOCUMENT_LIMIT - left - len(whole)))
             status, out, error = self.run_script("tml-edit", "--touching-dates", "d.xml")
-            self.assertEqual((status, len(out)), (0, 4_194_304) if left else (1, 0))
+            self.assertEqual((status, len(out)), (0, DOCUMENT_LIMIT) if left else (1, 0))
             self.assertEqual("the file has more than 4,194,304 bytes" in error, not left)
 
     def test_faults_are_to_be_mended_first(self) -> None:
