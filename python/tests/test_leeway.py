@@ -36,25 +36,26 @@ def lines_of(net: Net) -> list[bytes]:
     return [b"i%d i%d %s\n" % (left, right, b" ".join(relations)) for left, right, relations in possible_rows(net)]
 
 
-class Nets(unittest.TestCase):
-    """Each of the nets that some timeline fits, with its timelines."""
+def fitting_nets(numbers: int = 400) -> Iterator[tuple[Net, list[Ranks], Matrix]]:
+    """Nets that have a timeline, with all of theirs and their matrix."""
+    for number in range(numbers):
+        net = random_net(random.Random(f"leeway {number}"), random.Random(number).randint(1, 3))
+        timelines = [ranks for ranks in all_timelines(net.intervals()) if fits(net, ranks, range(len(net.links)))]
+        if timelines:
+            yield net, timelines, read_matrix(lines_of(net), [f"i{place}" for place in range(net.intervals())])
 
-    def fitting(self, numbers: int = 400) -> Iterator[tuple[Net, list[Ranks], Matrix]]:
-        """Nets that have a timeline, with all of theirs and their matrix."""
-        for number in range(numbers):
-            net = random_net(random.Random(f"leeway {number}"), random.Random(number).randint(1, 3))
-            timelines = [ranks for ranks in all_timelines(net.intervals()) if fits(net, ranks, range(len(net.links)))]
-            if timelines:
-                yield net, timelines, read_matrix(lines_of(net), [f"i{place}" for place in range(net.intervals())])
+
+class Nets(unittest.TestCase):
+    """How far ends can move in each of the nets that some timeline fits."""
 
     def test_greatest_ranks(self) -> None:
-        for net, timelines, matrix in self.fitting():
+        for net, timelines, matrix in fitting_nets():
             wanted = [max(ranks) for ranks in zip(*timelines, strict=True)]
             self.assertEqual([one.most for one in leeways(matrix, dates_of(net))], wanted, net)
 
     def test_dates(self) -> None:
         dated = 0
-        for net, _, matrix in self.fitting():
+        for net, _, matrix in fitting_nets():
             after = closure(net)
             points = range(net.points())
             for point, found in enumerate(leeways(matrix, dates_of(net))):
@@ -66,7 +67,7 @@ class Nets(unittest.TestCase):
         self.assertGreater(dated, 100)
 
     def test_both_ways_round(self) -> None:
-        for net, timelines, matrix in self.fitting(100):
+        for net, timelines, matrix in fitting_nets(100):
             for first in range(net.intervals()):
                 for second in range(net.intervals()):
                     relations = matrix.between(first, second)
