@@ -13,6 +13,9 @@ from tml.running import CannotRun
 MANY_BYTES = 256 * 1024
 """A document with more bytes than this is a long one."""
 
+NO_MEMORY = "no memory to take the document apart"
+"""What is said of a document for which there is too little memory."""
+
 
 class SharedLock:
     """A lock that forked processes share. The system takes it from a process that ends with it."""
