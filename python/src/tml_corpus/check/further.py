@@ -10,18 +10,18 @@ import re
 from collections.abc import Iterator
 from dataclasses import dataclass, field
 
+from tml.explaining import faults
+from tml.explaining.encoding import ESCAPED
+from tml.explaining.explain import explain
+from tml.explaining.faults import Fault, read_fault
+from tml.explaining.markup import NAME, quotes_of_tag
+from tml.explaining.nesting import open_link
 from tml.places import Places
+from tml.tags.edits import Edit, applied, blank
+from tml.tags.source import Explanation, Source
+from tml.tags.units import Unit, Units, end_of, open_tags, unit_at
 
 from ..asking.program import FAULT, Program
-from ..document.edits import Edit, applied, blank
-from ..document.source import Explanation, Source
-from ..document.units import Unit, Units, end_of, open_tags, unit_at
-from . import faults
-from .encoding import ESCAPED
-from .explain import explain
-from .faults import Fault, read_fault
-from .markup import NAME, quotes_of_tag
-from .nesting import open_link
 
 TAGS_LOST = frozenset({faults.UNBALANCED, faults.UNCLOSED, faults.MISPLACED, faults.UNKNOWN_REFERENCE})
 IDENTIFIER_LOST = frozenset({faults.UNKNOWN_REFERENCE})

@@ -5,14 +5,14 @@ from __future__ import annotations
 import re
 from dataclasses import dataclass, field
 
+from tml.explaining.faults import BAD_MARKUP, UNKNOWN_TAG, read_fault
 from tml.places import Place, Places
+from tml.tags.source import cut as shortened
+from tml.tags.units import read_units
 
 from ..asking.program import FAULT, CannotRun, Program, Reply
 from ..asking.room import room_for
-from ..document.source import cut as shortened
-from ..document.units import read_units
 from ..files.finding import CannotRead, Found, read_document, shown
-from .faults import BAD_MARKUP, UNKNOWN_TAG, read_fault
 
 MOST_BLANKS = 100
 MOST_BYTES = 32 * 1024 * 1024

@@ -7,15 +7,15 @@ from dataclasses import dataclass
 from functools import cached_property
 
 from tml.places import Place
+from tml.statuses import MANY_BYTES
+from tml.tags.cutting import units_of_whole
+from tml.tags.profile import IDENTIFIERS
+from tml.tags.source import Source, attribute_of
+from tml.tags.units import Unit, Units
 
 from ..asking.program import CannotRun, Program
-from ..asking.room import MANY_BYTES
-from .cutting import units_of_whole
 from .dates import dates_of
-from .profile import IDENTIFIERS
-from .source import Source, attribute_of
 from .texts import cut, texts_of
-from .units import Unit, Units
 
 LONGEST = 40
 """So many characters of a text stand in a sentence."""

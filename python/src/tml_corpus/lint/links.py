@@ -5,12 +5,11 @@ from __future__ import annotations
 from collections.abc import Iterator
 from itertools import combinations
 
+from tml.explaining.references import new_instance
 from tml.statuses import INVERSES
-
-from ..check.references import new_instance
-from ..document.profile import TABLE
-from ..document.source import Source, Suspect
-from ..document.units import Unit
+from tml.tags.profile import TABLE
+from tml.tags.source import Source, Suspect
+from tml.tags.units import Unit
 
 ENDS = {"SLINK": ("eventInstanceID", "subordinatedEventInstance"), "ALINK": ("eventInstanceID", "relatedToEventInstance")}
 OF_INSTANCE = tuple(name for name in TABLE["MAKEINSTANCE"] if name != "eiid")
