@@ -32,6 +32,11 @@ class Link:
     left: str
     relation: str
     right: str
+    lid: str = ""
+
+    def called(self) -> str:
+        """How it is called: by its lid, or where it has none by its number."""
+        return self.lid or f"link {self.number}"
 
 
 class Wording:
@@ -62,7 +67,8 @@ class Wording:
         if not 0 <= number < len(self.link_tags):
             raise CannotRun("the answers of tml to `solve` and `check` do not belong together")
         left, relation, right = self.source.links[number]
-        return Link(number, self.places.place(self.link_tags[number].start), left, relation, right)
+        tag = self.link_tags[number]
+        return Link(number, self.places.place(tag.start), left, relation, right, self.source.value(tag, "lid"))
 
     def relation(self, number: int) -> str:
         """The relation of a link."""
@@ -109,8 +115,7 @@ class Wording:
 
     def name_of(self, link: Link, numbered: bool) -> str:
         """How a link is called: by its lid, or where it has none or that is wanted by the number that it has in evidence."""
-        lid, number = self.source.value(self.link_tags[link.number], "lid"), f"link {link.number}"
-        return number if not lid else f"{lid}, {number}" if numbered else lid
+        return f"{link.lid}, link {link.number}" if link.lid and numbered else link.called()
 
     def dated(self, point: int) -> tuple[Place, str] | None:
         """The date of the time of which a point is the start or the end: where its value stands, and what that is."""

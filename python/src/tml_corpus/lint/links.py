@@ -39,9 +39,10 @@ def repeated_link(source: Source) -> Iterator[Suspect]:
         if first is None:
             seen[left, relation, right] = tag
         elif left != right:
-            where = source.at(first.start)
+            lid = source.value(first, "lid")
+            where = f"by {lid} at {source.at(first.start)}" if lid else f"at {source.at(first.start)}"
             yield Suspect(
-                tag, f"{left} {relation} {right} is given at {where} already: see whether another pair is meant, or delete one of the two"
+                tag, f"{left} {relation} {right} is given {where} already: see whether another pair is meant, or delete one of the two"
             )
 
 
