@@ -28,7 +28,8 @@ SCRIPT = '"use strict"'
 SCRIPT_TEXT = re.compile(r"\"((?:[^\"\\\n]|\\.)*)\"|`((?:[^`\\]|\\.)*)`")
 STYLE = re.compile(r"\{[^{}]*:[^{}]*[;}]")
 NO_MESSAGES = re.compile(
-    r"\\[dws(]|^[A-Z_\s]+$|^<[A-Z0-9]+ [^>]*/?>(?:</[A-Z0-9]+>)?$|-src '|class=\"|^use strict$|^(?:bar|event|small) (?:core|moving|number|unasserted)$"
+    r"\\[dws(]|^[A-Z_\s]+$|^<[A-Z0-9]+ [^>]*/?>(?:</[A-Z0-9]+>)?$|-src '|class=\"|^use strict$|^(?:bar|event|small) "
+    r"(?:core|moving|number|unasserted)$"
 )
 FORMATS = ("python/src/tml/longest.py",)
 """Sources without messages, but with lines as `tml` prints them."""

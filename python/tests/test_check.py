@@ -18,7 +18,7 @@ NO_TEXT = "this EVENT has no text: delete it, or add eid and class if it is mean
 
 class Sentences(unittest.TestCase):
     def test_are_the_first_ones_of_the_page(self) -> None:
-        from tml_corpus.check.faults import SENTENCES
+        from tml.explaining.faults import SENTENCES
 
         page = text_at("docs/FAULTS.md")
         for number, sentence in SENTENCES.items():

@@ -6,10 +6,10 @@ import unittest
 
 from corpus import TML, CorpusTest, document, needed
 from ordinary import Item
+from tml.tags.cutting import cut
+from tml.tags.source import Source
+from tml.tags.units import read_units
 from tml_corpus.asking.program import ACCEPTED, Program
-from tml_corpus.document.cutting import cut
-from tml_corpus.document.source import Source
-from tml_corpus.document.units import read_units
 from tml_corpus.document.words import Wording
 
 PIECES = (

@@ -6,11 +6,11 @@ from itertools import product
 
 from corpus import TML, CorpusTest, document
 from ordinary import Item
+from tml.tags.cutting import units_of_whole
+from tml.tags.source import Source
 from tml_corpus.asking.program import CannotRun, File, Program, Reply
 from tml_corpus.document import dates
-from tml_corpus.document.cutting import units_of_whole
 from tml_corpus.document.dates import dates_of
-from tml_corpus.document.source import Source
 
 VALUES = (
     "1998", "1998-Q1", "1998-01-08T18:30", "199X", "1998-XX", "XXXX-12-25", "P3D", "1998-SU", "", " ", "1998-01-08 ", "&#49;998", "a'b",

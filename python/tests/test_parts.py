@@ -18,12 +18,12 @@ from tml import places, running
 from tml import statuses as tml_statuses
 from tml.places import Places, caret_lines
 from tml.replies import refusal
+from tml.tags import profile
+from tml.tags.units import Units, end_of, read_units, unit_at
 from tml_corpus.asking.program import CannotRun, Reply
 from tml_corpus.command_line import statuses
 from tml_corpus.convert.tables import BadTable, rows
-from tml_corpus.document import profile
 from tml_corpus.document.texts import texts_of
-from tml_corpus.document.units import Units, end_of, read_units, unit_at
 from tml_corpus.files.finding import shown
 
 TOKEN = re.compile(rb"(<!--.*?-->)|</(\w+)>|<(\w+)(/?)>|([^<]+)", re.DOTALL)

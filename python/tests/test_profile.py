@@ -7,13 +7,13 @@ from itertools import product
 
 from corpus import TML, CorpusTest, needed
 from tml import statuses
+from tml.explaining import faults
+from tml.explaining.faults import read_fault
 from tml.statuses import INVERSES
+from tml.tags import profile
+from tml.tags.profile import CARRIED, IDENTIFIERS, LEFT, LINK_TAGS, RIGHT, ROOT, TABLE, TAGS, WRAPPERS, Form, Kind, Row
+from tml.tags.values import CALENDAR, DURATION, no_date
 from tml_corpus.asking.program import Program
-from tml_corpus.check import faults
-from tml_corpus.check.faults import read_fault
-from tml_corpus.document import profile
-from tml_corpus.document.profile import CARRIED, IDENTIFIERS, LEFT, LINK_TAGS, RIGHT, ROOT, TABLE, TAGS, WRAPPERS, Form, Kind, Row
-from tml_corpus.document.values import CALENDAR, DURATION, no_date
 
 TARGETS = (
     '<EVENT eid="E" class="STATE"/><MAKEINSTANCE eiid="I" eventID="E"/><TIMEX3 tid="T" type="DATE"/><SIGNAL sid="S"/>'

@@ -9,6 +9,9 @@ __all__ = ["BASE_RELATIONS", "FAULT_NAMES", "RELATIONS"]
 DOCUMENT_LIMIT = 4_194_304
 """So many bytes `tml` takes of a document."""
 
+MANY_BYTES = 256 * 1024
+"""A document with more bytes than this is a long one, of which nothing is kept that can be looked for again."""
+
 EVIDENCE_LIMIT = 67_108_864
 """So many bytes `tml` takes of evidence."""
 

@@ -156,7 +156,8 @@ def number(value: Fraction | None) -> float | None:
 
 def disagreement_object(one: Disagreement) -> dict[str, object]:
     """A link that does not follow as JSON has it."""
-    link = {"number": one.link.number, "left": one.link.left, "relation": one.link.relation, "right": one.link.right}
+    link: dict[str, object] = {"number": one.link.number, "lid": one.link.lid or None}
+    link |= {"left": one.link.left, "relation": one.link.relation, "right": one.link.right}
     there = {"other": one.other, "missing": one.missing, "possible": one.possible}
     return {"path": one.path, **place_object(one.place), **link, "words": one.words, **there}
 

@@ -9,9 +9,7 @@ from collections.abc import Iterator
 from contextlib import AbstractContextManager, contextmanager
 
 from tml.running import CannotRun
-
-MANY_BYTES = 256 * 1024
-"""A document with more bytes than this is a long one."""
+from tml.statuses import MANY_BYTES
 
 NO_MEMORY = "no memory to take the document apart"
 """What is said of a document for which there is too little memory."""

@@ -7,25 +7,25 @@ from dataclasses import dataclass, field
 from functools import partial
 from itertools import chain, islice
 
+from tml.explaining import faults
+from tml.explaining.encoding import converted
+from tml.explaining.explain import OF_TAGS, explain
+from tml.explaining.faults import Fault, read_fault
+from tml.explaining.markup import cdata_edits, quote_edits, reference_edits
+from tml.explaining.nesting import end_edits, name_edits
 from tml.places import Places, characters
+from tml.tags.cutting import units_of_whole
+from tml.tags.edits import Edit, applied
+from tml.tags.source import Explanation, Source
 
 from ..asking.looking import looked_at
 from ..asking.program import FAULT, CannotRun, Program
-from ..document.cutting import units_of_whole
-from ..document.edits import Edit, applied
-from ..document.source import Explanation, Source
 from ..files.finding import Found, counted, shown
 from ..files.replacing import replace_file
 from ..lint.kinds import Lint
 from ..lint.warnings import warnings_of
-from . import faults
-from .encoding import converted
-from .explain import OF_TAGS, explain
-from .faults import Fault, read_fault
 from .formats import located
 from .judgement import problem_of
-from .markup import cdata_edits, quote_edits, reference_edits
-from .nesting import end_edits, name_edits
 
 ROUNDS = 64
 """So many kinds of slips are mended in one document at most, one after another."""

@@ -6,14 +6,14 @@ import re
 from dataclasses import dataclass, field
 from functools import partial
 
+from tml.explaining.faults import BAD_MARKUP, UNKNOWN_TAG, read_fault
 from tml.places import Place, Places
+from tml.tags.source import cut as shortened
+from tml.tags.units import read_units
 
 from ..asking.looking import looked_at
 from ..asking.program import FAULT, Program, Reply
-from ..document.source import cut as shortened
-from ..document.units import read_units
 from ..files.finding import Found, shown
-from .faults import BAD_MARKUP, UNKNOWN_TAG, read_fault
 
 MOST_BLANKS = 100
 MOST_BYTES = 32 * 1024 * 1024

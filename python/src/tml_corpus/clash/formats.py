@@ -153,7 +153,7 @@ class Json:
 
 def link_object(link: PlacedLink) -> dict[str, object]:
     """A link as JSON has it."""
-    names = {"number": link.link.number, "left": link.link.left, "relation": link.link.relation, "right": link.link.right}
+    names = {"number": link.link.number, "lid": link.link.lid or None, "left": link.link.left, "relation": link.link.relation, "right": link.link.right}
     return {**names, **formats.place_object(link.place()), "message": link.text}
 
 

@@ -44,8 +44,8 @@ class PlacedLink(NamedTuple):
         return self.link.place
 
     def named(self) -> str:
-        """The link by its number and the names of its intervals."""
-        return f"link {self.link.number}: {self.link.left} {self.link.relation} {self.link.right}"
+        """The link by its lid, or by its number where it has none, and the names of its intervals."""
+        return f"{self.link.called()}: {self.link.left} {self.link.relation} {self.link.right}"
 
 
 class PlacedClash(NamedTuple):

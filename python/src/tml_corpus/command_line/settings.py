@@ -157,7 +157,7 @@ def line_and_column(text: str, offset: int) -> tuple[int, int]:
 
 def settings_of(path: str, table: dict[str, object]) -> Settings:
     """The settings of a table."""
-    from ..document.profile import TAGS
+    from tml.tags.profile import TAGS
 
     unknown = sorted(set(table) - {"wrappers", "ignore", "warn", "patterns", "jobs"})
     if unknown:

@@ -5,7 +5,7 @@ from __future__ import annotations
 import html
 from dataclasses import dataclass
 
-from .units import EMPTY, END, START, TEXT, Units
+from tml.tags.units import EMPTY, END, START, TEXT, Units
 
 LONGEST = 80
 """So many characters of a text are shown."""

@@ -5,10 +5,11 @@ from __future__ import annotations
 from collections.abc import Callable, Iterator
 from dataclasses import dataclass
 
+from tml.tags.edits import Edit
+from tml.tags.source import Source, Suspect, cut
+
 from ..asking.program import Program
 from ..document.dates import dates_of
-from ..document.edits import Edit
-from ..document.source import Source, Suspect, cut
 from . import links, tags, times
 from .kinds import Lint, is_mistake
 

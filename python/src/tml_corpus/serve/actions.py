@@ -4,9 +4,10 @@ from __future__ import annotations
 
 from collections.abc import Iterable, Iterator
 
+from tml.tags.edits import Edit, disjoint
+
 from ..check.fix import mended, steps
 from ..clash.touching import asks
-from ..document.edits import Edit, disjoint
 from .document import OpenDocument
 from .wire import Json
 

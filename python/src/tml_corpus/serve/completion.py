@@ -9,9 +9,9 @@ import re
 from collections.abc import Iterator
 from dataclasses import dataclass
 
-from ..check.markup import EQUALS, NAME, past_attributes, past_spaces
-from ..document.edits import Edit
-from ..document.profile import TABLE, Kind, Row
+from tml.explaining.markup import EQUALS, NAME, past_attributes, past_spaces
+from tml.tags.edits import Edit
+from tml.tags.profile import TABLE, Kind, Row
 from .document import OpenDocument
 from .names import detail_of
 from .wire import Json

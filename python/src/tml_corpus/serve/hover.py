@@ -5,11 +5,11 @@ from __future__ import annotations
 import re
 from collections.abc import Callable, Iterator
 
+from tml.explaining.references import MOST_NAMED, some
 from tml.statuses import INVERSES
+from tml.tags.units import Unit
 
 from ..asking.program import CLASH
-from ..check.references import MOST_NAMED, some
-from ..document.units import Unit
 from ..timeline.rows import KINDS, Row
 from .document import OpenDocument
 from .wire import Json

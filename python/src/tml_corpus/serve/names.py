@@ -5,9 +5,9 @@ from __future__ import annotations
 from collections.abc import Iterator
 from heapq import nsmallest
 
-from ..document.profile import IDENTIFIERS, LEFT, RIGHT, TABLE, Kind, Row
-from ..document.source import attribute_of
-from ..document.units import Unit
+from tml.tags.profile import IDENTIFIERS, LEFT, RIGHT, TABLE, Kind, Row
+from tml.tags.source import attribute_of
+from tml.tags.units import Unit
 from .document import OF_TEXT, Named, OpenDocument
 from .hover import OTHER_ENDS
 from .wire import Json

@@ -8,11 +8,11 @@ from collections.abc import Iterator
 from html import escape
 from html.entities import html5
 
-from ..document.edits import Edit
-from ..document.invisible import INVISIBLE, named
-from ..document.profile import LINK_TAGS, ROOT, TABLE, TAGS
-from ..document.similar import nearest, same_but_for_case
-from ..document.source import Explanation, Source, cut
+from ..tags.edits import Edit
+from ..tags.invisible import INVISIBLE, named
+from ..tags.profile import LINK_TAGS, ROOT, TABLE, TAGS
+from ..tags.similar import nearest, same_but_for_case
+from ..tags.source import Explanation, Source, cut
 
 NAME = re.compile(rb"[A-Za-z_:\x80-\xff][A-Za-z0-9_:.\-\x80-\xff]*")
 SPACES = re.compile(rb"[ \t\r\n]*")

@@ -7,9 +7,8 @@ from collections.abc import Callable, Iterable, Iterator
 from functools import cached_property
 from typing import Any, NamedTuple, Protocol, TypeVar
 
-from tml.places import Places
-
-from ..asking.room import MANY_BYTES
+from ..places import Places
+from ..statuses import MANY_BYTES
 from .edits import Edit
 from .profile import IDENTIFIERS, LEFT, RIGHT, ROOT, TABLE, Kind
 from .units import END, START, TEXT, Attribute, Unit, Units
