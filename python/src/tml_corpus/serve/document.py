@@ -9,7 +9,7 @@ from dataclasses import dataclass
 from functools import cached_property
 from urllib.parse import unquote, urlsplit
 
-from ..asking.program import ACCEPTED, CLASH, FAULT, CannotRun, File, Program, Reply
+from ..asking.program import ACCEPTED, CLASH, FAULT, CannotRun, File, Program, Reply, find_program
 from ..check.faults import BAD_MARKUP, Fault, read_fault
 from ..check.judgement import Judgement
 from ..check.judging import judge_document, placed_warnings
@@ -37,14 +37,16 @@ class Overtaken(Exception):
 
 
 class Asked(Program):
-    """`tml`, which looks before each question whether its answer is still wanted."""
+    """`tml`, which looks before each question whether its answer is still wanted. The program is looked for until it is there."""
 
+    chosen: str | None = None
     wanted: Callable[[], bool] = staticmethod(lambda: True)
 
     def ask(self, words: list[str], document: File, other: File | None = None) -> Reply:
         """Asks, where the answer is still wanted."""
         if not self.wanted():
             raise Overtaken
+        self.path = self.path or find_program(self.chosen)
         return super().ask(words, document, other)
 
 
