@@ -15,7 +15,7 @@ from tml.tags.profile import IDENTIFIERS, TABLE, Kind
 from tml.tags.source import Source
 from tml.tags.units import Attribute, Unit, Units, end_of, open_tags, read_units
 
-from ..asking.program import ACCEPTED, CLASH, FAULT, CannotRun, File, Program, Reply
+from ..asking.program import ACCEPTED, CLASH, FAULT, CannotRun, File, Program, Reply, find_program
 from ..check.judgement import Judgement
 from ..check.judging import judge_document, placed_warnings
 from ..check.tags import cut
@@ -38,14 +38,16 @@ class Overtaken(Exception):
 
 
 class Asked(Program):
-    """`tml`, which looks before each question whether its answer is still wanted."""
+    """`tml`, which looks before each question whether its answer is still wanted. The program is looked for until it is there."""
 
+    chosen: str | None = None
     wanted: Callable[[], bool] = staticmethod(lambda: True)
 
     def ask(self, words: list[str], document: File, other: File | None = None) -> Reply:
         """Asks, where the answer is still wanted."""
         if not self.wanted():
             raise Overtaken
+        self.path = self.path or find_program(self.chosen)
         return super().ask(words, document, other)
 
 

@@ -39,7 +39,7 @@ def has_further(document: OpenDocument) -> bool:
 
 def problem_finding(problem: str) -> Json:
     """Why a document was not judged."""
-    return remark_finding(f"not judged: {problem}")
+    return remark_finding(f"not judged: {problem}") | {"severity": WARNING, "code": "not-judged"}
 
 
 def remark_finding(remark: str) -> Json:
