@@ -21,23 +21,24 @@ class Consequences(CorpusTest):
         return [line.removeprefix("d.xml:") for line in lines if ": error: " in line]
 
     def test_one_slip_of_an_event_is_one_fault(self) -> None:
-        for slip in ('class="OCCURENCE"', 'class="OCCURRENCES"', 'class="Occurrence"', 'class="STATES"', 'class="X"', 'class=""',
-            'clas="STATE"', ""):
+        values = ("OCCURENCE", "OCCURRENCES", "Occurrence", "STATES", "X", "")
+        for slip in (*(f'class="{value}"' for value in values), 'clas="STATE"', ""):
             with self.subTest(slip):
                 self.assertEqual(len(self.faults("<TimeML>\n" + EVENT.format(slip) + REST.format("BEFORE"))), 1)
 
     def test_a_slip_of_a_reference_or_of_an_identifier_is_one_fault(self) -> None:
         right = "<TimeML>\n" + EVENT.format('class="STATE"') + REST.format("BEFORE")
-        for meant, slip in (('eventID="e1"', 'eventID="#e1"'), ('eventID="e1"', 'eventID="e:1"'), ("ei1", "ei 1"), ('eiid="ei1"', 'eiid=""'), (
-            "e1", "é1")):
+        event = 'eventID="e1"'
+        slips = ((event, 'eventID="#e1"'), (event, 'eventID="e:1"'), ("ei1", "ei 1"), ('eiid="ei1"', 'eiid=""'), ("e1", "é1"))
+        for meant, slip in slips:
             with self.subTest(slip):
                 said = self.faults(right.replace(meant, slip))
                 self.assertEqual({line.split("error: ")[1].split(" ")[0] for line in said} - {"11", "10"}, set())
 
     def test_what_is_wrong_besides_is_said(self) -> None:
         said = self.faults("<TimeML>\n" + EVENT.format('class="OCCURENCE"') + REST.format("before").replace('"ei2" rel', '"ei9" rel'))
-        self.assertEqual([line.split(" ")[0] + line.split("error:")[1].split(":")[0] for line in said], ["2:17: 11 BadValue",
-            "6:68: 11 BadValue", "6:39: 15 UnknownReference"])
+        heads = [line.split(" ")[0] + line.split("error:")[1].split(":")[0] for line in said]
+        self.assertEqual(heads, ["2:17: 11 BadValue", "6:68: 11 BadValue", "6:39: 15 UnknownReference"])
         self.assertIn('no MAKEINSTANCE has eiid="ei9"', said[2])
         self.assertNotIn("consequence", "".join(said))
 

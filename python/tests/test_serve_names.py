@@ -7,8 +7,10 @@ import unittest
 from corpus import EVENT, INSTANCE, document
 from serving import Client, Json, ServeTest
 
-TIMES = '<TIMEX3 tid="t1" type="DATE" value="1998">year</TIMEX3> <TIMEX3 tid="t2" type="DATE" value="2001" '
-    'anchorTimeID="t1">next</TIMEX3>\n'
+TIMES = (
+    '<TIMEX3 tid="t1" type="DATE" value="1998">year</TIMEX3> '
+    '<TIMEX3 tid="t2" type="DATE" value="2001" anchorTimeID="t1">next</TIMEX3>\n'
+)
 LINKS = (
     '<TLINK lid="l1" eventInstanceID="i1" relatedToTime="t1" relType="BEFORE"/>\n'
     '<TLINK lid="l2" timeID="t1" relatedToTime="t2" relType="BEFORE"/>\n'

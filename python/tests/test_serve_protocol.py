@@ -55,7 +55,8 @@ class Shutdown(ServeTest):
 
     def hanging(self) -> tuple[Client, str]:
         """An editor with a document open of which a `tml` is asked that never answers, and the file with the number of its process."""
-        self.write("hang", '#!/bin/sh\nif [ ! -e "$TML_HANGS" ]; then echo $$ > "$TML_HANGS.new"; mv "$TML_HANGS.new" "$TML_HANGS"; fi\nexec sleep 1000\n')
+        once = 'if [ ! -e "$TML_HANGS" ]; then echo $$ > "$TML_HANGS.new"; mv "$TML_HANGS.new" "$TML_HANGS"; fi'
+        self.write("hang", f"#!/bin/sh\n{once}\nexec sleep 1000\n")
         os.chmod(self.path("hang"), 0o755)
         client = self.started(tml=self.path("hang"), TML_HANGS=self.path("number"))
         self.greet(client)

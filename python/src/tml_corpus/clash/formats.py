@@ -153,7 +153,8 @@ class Json:
 
 def link_object(link: PlacedLink) -> dict[str, object]:
     """A link as JSON has it."""
-    names = {"number": link.link.number, "lid": link.link.lid or None, "left": link.link.left, "relation": link.link.relation, "right": link.link.right}
+    of = link.link
+    names = {"number": of.number, "lid": of.lid or None, "left": of.left, "relation": of.relation, "right": of.right}
     return {**names, **formats.place_object(link.place()), "message": link.text}
 
 

@@ -1,4 +1,4 @@
-"""Another name for an identifier, at its tag and at all that refers to it. What cannot be is refused in words, and what can `tml` is asked."""
+"""Another name for an identifier, at its tag and at all that refers to it. What cannot be is refused in words; of what can, `tml` is asked."""
 
 from __future__ import annotations
 
@@ -75,7 +75,9 @@ def why_not(document: OpenDocument, named: Named, name: str) -> str | None:
 
 def bearers(document: OpenDocument, name: str) -> list[Unit]:
     """The tags that have an identifier, of whatever kind, in their order."""
-    found = [tag for kind, attribute in IDENTIFIERS.items() for tag, values in document.source.valued(kind) if values.get(attribute, "") == name]
+    found = [
+        tag for kind, attribute in IDENTIFIERS.items() for tag, values in document.source.valued(kind) if values.get(attribute, "") == name
+    ]
     return sorted(found, key=lambda tag: tag.start)
 
 
