@@ -1,4 +1,4 @@
-"""Another name for an identifier, at its tag and at all that refers to it. What cannot be is refused in words; of what can, `tml` is asked."""
+"""Another name for an identifier, at its tag and at all that refers to it. What cannot be is refused in words."""
 
 from __future__ import annotations
 
