@@ -1,4 +1,3 @@
 pub mod Words
 pub mod Given
 pub mod Answers
-pub mod View
