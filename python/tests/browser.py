@@ -15,7 +15,7 @@ needs_browser = unittest.skipUnless(CHROMIUM, "no program chromium")
 
 WORDS = ("--headless", "--no-sandbox", "--disable-gpu", "--disable-dev-shm-usage", "--no-first-run", "--disable-extensions", "--hide-scrollbars")
 PATIENCE = 60
-"""So many seconds the browser may say nothing where it is waited for."""
+"""How many seconds the browser may say nothing where it is waited for."""
 
 IN_PIPES = 'exec "$@" 3<&0 4>&1 </dev/null >/dev/null 2>&1'
 

@@ -242,7 +242,7 @@ class SmallNets:
     """The answers about nets of two and three intervals."""
 
     most = None
-    """So many nets of a kind are tried, or all of them."""
+    """How many nets of a kind are tried, or all of them."""
 
     def try_all(self, nets):
         """Asks about each of these nets, or about a sample of them."""

@@ -11,7 +11,7 @@ from .profile import WRAPPERS
 from .units import EMPTY, END, START, TEXT, Units
 
 MOST_WORDS, REACH = 5, 200
-"""So many words on each side are shown, of so many characters."""
+"""How many words on each side are shown, and how many characters of them."""
 
 PARAGRAPH = "\n\n"
 SENTENCE_ENDS = (".", "!", "?")

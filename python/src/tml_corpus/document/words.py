@@ -18,7 +18,7 @@ from .texts import cut, texts_of
 from .units import Unit, Units
 
 LONGEST = 40
-"""So many characters of a text stand in a sentence."""
+"""How many characters of a text stand in a sentence."""
 
 MOST_OF_VALUE = 1000
 

@@ -10,7 +10,7 @@ from threading import Condition
 from .wire import BrokenWire, Incoming, Json, member
 
 MOST_WAITING = 4096
-"""So many messages wait at most; the rest waits in the pipe."""
+"""How many messages wait at most; the rest waits in the pipe."""
 
 CHANGES = ("textDocument/didOpen", "textDocument/didChange", "textDocument/didClose")
 CANCEL = "$/cancelRequest"
