@@ -30,7 +30,7 @@ from tml_corpus.lint.kinds import chosen
 
 LINT = chosen((), ())
 MOST_STEPS, MOST_STORIES = 4, 20
-"""So many steps are done at most, and so many stories are looked at for a place for a slip."""
+"""How many steps are done at most, and how many stories are looked at for a place for a slip."""
 
 
 class Outcome(Enum):

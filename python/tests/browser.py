@@ -26,7 +26,7 @@ WORDS = (
     "--hide-scrollbars",
 )  # fmt: skip
 PATIENCE = 60
-"""So many seconds the browser may say nothing where it is waited for."""
+"""How many seconds the browser may say nothing where it is waited for."""
 
 IN_PIPES = 'exec "$@" 3<&0 4>&1 </dev/null >/dev/null 2>&1'
 

@@ -259,7 +259,7 @@ class WrongLibrary(LibraryTest):
         self.library = self.stand_in()
 
     def marked(self, count: int, marks: Mapping[int, str]) -> None:
-        """So many files, of which some have a word for the stand-in."""
+        """This number of files, some of which have a word for the stand-in."""
         for number in range(count):
             self.write(f"d/{number:04}.xml", f"<TimeML/>\n<!--{marks[number]}-->\n" if number in marks else "<TimeML/>\n")
 

@@ -9,7 +9,7 @@ from slips import SLIPS
 from stories import Story
 
 OF_EACH = 4
-"""So many slips of each kind are made; `python3 python/tests/advice.py 5000` makes more."""
+"""How many slips of each kind are made; `python3 python/tests/advice.py 5000` makes more."""
 
 NOT_SEEN = {
     "attribute lost", "attribute emptied", "link lost", "month and day exchanged", "invisible letter between links", "another month"

@@ -257,7 +257,7 @@ class AllNetsByTheLibrary(unittest.TestCase):
     """The answers about nets of two and three intervals."""
 
     most: int | None = None
-    """So many nets of a kind are tried, or all of them."""
+    """How many nets of a kind are tried, or all of them."""
 
     def setUp(self) -> None:
         if not os.path.exists(BUILT_LIBRARY):

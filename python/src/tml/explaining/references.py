@@ -21,10 +21,10 @@ from .attributes import about, article, number_of, text_of
 from .faults import DUPLICATE, MANY_INTERVALS, MANY_LINKS, UNKNOWN_REFERENCE
 
 MOST_NAMED = 8
-"""So many identifiers are named at most."""
+"""How many identifiers are named at most."""
 
 IN_ORDER = 6
-"""So many identifiers beside the two have to stand in the order of their numbers, for this order to say which tag has a wrong one."""
+"""How many identifiers beside the two have to stand in the order of their numbers, for this order to say which tag has a wrong one."""
 
 NUMBERED = re.compile(r"([^0-9]*)([0-9]{1,9})")
 """An identifier that ends with a number."""

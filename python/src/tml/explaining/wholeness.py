@@ -13,7 +13,7 @@ from ..tags.source import Explanation
 from .faults import BAD_MARKUP, MISPLACED, NOT_UTF8, UNCLOSED, Fault
 
 LONGEST_CHARACTER = 4
-"""So many bytes has a character in UTF-8 at most."""
+"""How many bytes a character has in UTF-8 at most."""
 
 MARKS = re.compile(rb"^(?:<{7}|>{7}|\|{7}|={7})(?:[ \t][^\r\n]*)?$", re.MULTILINE)
 CONFLICT = re.compile(rb"^(?:<{7}|>{7}|\|{7})(?:[ \t][^\r\n]*)?$", re.MULTILINE)

@@ -23,7 +23,7 @@ VALUE = re.compile(r"""([^ \t\r\n=]++)[ \t\r\n]*+=[ \t\r\n]*+(?:"([^"]*+)"|'([^'
 """An attribute of a tag: its name, and its value between quotes of either kind."""
 
 MOST_REMEMBERED, LONGEST_REMEMBERED = 4096, 256
-"""So many tags are remembered as they are written, of at most so many bytes: many of them come again in other documents."""
+"""How many tags are remembered as they are written, and of how many bytes at most: many of them come again in other documents."""
 
 MANNERS = {"EVENT": "e", "MAKEINSTANCE": "ei", "TIMEX3": "t", "SIGNAL": "s"}
 """How identifiers mostly begin."""

@@ -28,13 +28,13 @@ from .formats import located
 from .judgement import problem_of
 
 ROUNDS = 64
-"""So many kinds of slips are mended in one document at most, one after another."""
+"""How many kinds of slips are mended in one document at most, one after another."""
 
 MOST_EDITS = 100_000
 """A kind of slip that is there more often is left."""
 
 CONTEXT = 3
-"""So many lines around a change are shown."""
+"""How many lines around a change are shown."""
 
 FOUND_LINK = "is a symbolic link found in a folder: name it to mend what it leads to"
 

@@ -48,7 +48,7 @@ CONSEQUENCES = {
 """Of each fault those that may come from what is blanked out for it. An unknown reference does so only where its identifier is gone."""
 
 MOST_BYTES = 4 * 1024 * 1024
-"""So many bytes of changed documents `tml` is asked about at most."""
+"""How many bytes of changed documents `tml` is asked about at most."""
 
 WORD = re.compile(rb"[A-Za-z0-9_.-]+")
 BAD_LETTER = re.compile(rb"[^A-Za-z0-9_.-]")

@@ -20,7 +20,7 @@ MOST_BYTES = 32 * 1024 * 1024
 """So much is asked about one document at most: about the longest ones eight times."""
 
 MOST_NAMES = 2000
-"""So many names are asked about, the frequent ones first; a corpus has some dozens."""
+"""How many names are asked about, the frequent ones first; a corpus has some dozens."""
 
 
 @dataclass

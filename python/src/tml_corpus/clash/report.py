@@ -84,7 +84,7 @@ class PlacedRepair(NamedTuple):
     all_choices: bool
     at_least: int
     changes: int
-    """So many links between dates that touch are to be mended besides."""
+    """How many links between dates that touch are to be mended besides."""
     is_of_dates: bool = False
     """Whether the clash rests on dates, of which one may be wrong in the place of a link."""
 

@@ -15,10 +15,10 @@ from ..lint.kinds import NAMES
 
 NAME = "tml-corpus.toml"
 LIMIT = 16 * 1024
-"""So many bytes the file may have."""
+"""How many bytes the file may have."""
 
 MOST_JOBS = 4
-"""So many jobs for each processor the file may ask for; more of them are taken for so many."""
+"""How many jobs for each processor the file may ask for; more count as this many."""
 
 TEXT = r""""{3}(?:\\.|[^\\])*?(?:"{3,5}|\Z)|'{3}.*?(?:'{3,5}|\Z)|"(?:\\.|[^"\\\n])*+"?|'[^'\n]*+'?"""
 TEXT_OR_DOT = re.compile(rf"{TEXT}|#[^\n]*|(\.)", re.DOTALL)

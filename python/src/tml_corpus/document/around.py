@@ -12,7 +12,7 @@ from tml.tags.units import EMPTY, END, START, TEXT, Units
 from ..timeline.lettering import measured, plain
 
 MOST_WORDS, REACH = 5, 200
-"""So many words on each side are shown, of so many characters."""
+"""How many words on each side are shown, and how many characters of them."""
 
 PARAGRAPH = "\n\n"
 SENTENCE_ENDS = (".", "!", "?")

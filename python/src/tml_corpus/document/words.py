@@ -18,7 +18,7 @@ from .dates import dates_of
 from .texts import cut, texts_of
 
 LONGEST = 40
-"""So many characters of a text stand in a sentence."""
+"""How many characters of a text stand in a sentence."""
 
 MOST_OF_VALUE = 1000
 

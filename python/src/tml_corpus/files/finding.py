@@ -17,7 +17,7 @@ from tml.statuses import DOCUMENT_LIMIT
 PATTERNS = ("*.tml", "*.xml")
 
 LONGEST_LINE = 65536
-"""So many bytes a line of a table or of a baseline has at most. One of a baseline has a path and a tag of 80 characters, in ASCII."""
+"""How many bytes a line of a table or of a baseline has at most. One of a baseline has a path and a tag of 80 characters, in ASCII."""
 
 
 class CannotRead(Exception):

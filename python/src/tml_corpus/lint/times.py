@@ -148,10 +148,8 @@ def date_with_points(source: Source) -> Iterator[Suspect]:
         kind = values.get("type", "")
         attribute = attribute_of(tag, names[0]) if names and kind in DATED else None
         if attribute is not None:
-            text = (
-                f"{' and '.join(names)} of a {kind} {'say' if len(names) > 1 else 'says'} nothing about its time: only its value and "
-                f"links do"
-            )
+            say = "say" if len(names) > 1 else "says"
+            text = f"{' and '.join(names)} of a {kind} {say} nothing about its time: only its value and links do"
             yield Suspect.of_attribute(tag, attribute, text)
 
 

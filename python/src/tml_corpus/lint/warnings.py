@@ -14,7 +14,7 @@ from . import links, tags, times
 from .kinds import Lint, is_mistake
 
 MOST_WARNINGS = 1000
-"""So many warnings on one document are reported, the first ones of its text."""
+"""How many warnings on one document are reported, the first ones of its text."""
 
 
 @dataclass(frozen=True)

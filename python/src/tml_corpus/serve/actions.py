@@ -13,7 +13,7 @@ from .wire import Json
 
 QUICK_FIX, REWRITE, FIX_ALL = "quickfix", "refactor.rewrite", "source.fixAll"
 MOST_EDITS = 1000
-"""So many edits go one by one; of more one edit is made."""
+"""How many edits go one by one; of more one edit is made."""
 
 ACTION_KINDS = (QUICK_FIX, REWRITE, FIX_ALL)
 

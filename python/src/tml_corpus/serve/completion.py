@@ -20,7 +20,7 @@ REFERENCE, VALUE, FIELD = 18, 20, 5
 """The kinds of items in the protocol: a reference, a member of a list, and a field."""
 
 FARTHEST = 16 * 1024
-"""So many bytes before the cursor the tag begins at most."""
+"""How many bytes before the cursor the tag begins at most."""
 
 REST = re.compile(rb"[A-Za-z0-9_.:-]*")
 

@@ -13,10 +13,10 @@ from .wire import Json
 
 ERROR, WARNING, INFORMATION = 1, 2, 3
 FURTHER = 10
-"""So many further faults are looked for, and a third as many further clashes."""
+"""How many further faults are looked for, and a third as many further clashes."""
 
 MOST_RELATED = 16
-"""So many other links of a clash stand beside each: those that come next in it."""
+"""How many other links of a clash stand beside each: those that come next in it."""
 
 SOURCE = "tml"
 

@@ -15,7 +15,7 @@ from .document import OpenDocument
 from .wire import Json
 
 MOST_LINES = 12
-"""So many lines on what follows are shown."""
+"""How many lines on what follows are shown."""
 
 OTHER_ENDS = {"ALINK": "relatedToEventInstance", "SLINK": "subordinatedEventInstance"}
 LETTERS = re.compile(r"([\\`*_{}\[\]<>#|~&!])")

@@ -11,7 +11,7 @@ from .ending import Ending
 from .wire import INVALID, PARSE, BrokenWire, Incoming, Json, member
 
 MOST_WAITING = 4096
-"""So many messages wait at most; the rest waits in the pipe."""
+"""How many messages wait at most; the rest waits in the pipe."""
 
 CHANGES = ("textDocument/didOpen", "textDocument/didChange", "textDocument/didClose")
 CANCEL = "$/cancelRequest"

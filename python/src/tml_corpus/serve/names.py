@@ -20,7 +20,7 @@ SYMBOLS = {"EVENT": 24, "MAKEINSTANCE": 19, "TIMEX3": 14, "SIGNAL": 20, "TLINK":
 
 
 MOST_SYMBOLS = 10_000
-"""So many tags are listed at most, the first ones."""
+"""How many tags are listed at most, the first ones."""
 
 
 def location(document: OpenDocument, start: int, end: int) -> Json:

@@ -14,7 +14,7 @@ Json = Any
 END_OF_HEAD = b"\r\n\r\n"
 LONGEST_HEAD = 4096
 LONGEST_BODY = 64 * 1024 * 1024
-"""So many bytes a message may have: a document of 4 MiB takes six times as many where each byte of it is escaped."""
+"""How many bytes a message may have: a document of 4 MiB takes six times as many where each byte of it is escaped."""
 
 
 class BrokenWire(Exception):
