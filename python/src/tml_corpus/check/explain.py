@@ -26,6 +26,7 @@ def explain(program: Program, document: bytes, fault: Fault, places: Places | No
     found = of_whole(document, fault) if first else None
     if found is None:
         found = of_units(source, fault) if has_units else of_bytes(source, fault)
+    found.document = document
     if has_units:
         found.units = source.units
     if not found.text:

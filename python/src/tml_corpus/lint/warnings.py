@@ -7,7 +7,7 @@ from dataclasses import dataclass
 
 from ..asking.program import Program
 from ..document.dates import dates_of
-from ..document.edits import Edit
+from ..document.edits import Edit, Ways
 from ..document.source import Source, Suspect, cut
 from . import links, tags, times
 from .kinds import Lint, is_mistake
@@ -18,8 +18,8 @@ MOST_WARNINGS = 1000
 
 @dataclass(frozen=True)
 class Finding:
-    """Something suspect: the name of its kind, the sentence on it, the stretch that it speaks of, the tag as it is written, and its
-    one cure."""
+    """Something suspect: the name of its kind, the sentence on it, the stretch that it speaks of, the tag as it is written, its one
+    cure, and what the sentence offers else."""
 
     name: str
     text: str
@@ -27,6 +27,7 @@ class Finding:
     end: int
     tag: str
     edits: tuple[Edit, ...] = ()
+    choices: Ways = tuple
 
     def order(self) -> tuple[bool, int]:
         """What is probably a mistake comes before what is missing, and in the order of the text."""
@@ -69,7 +70,7 @@ def finding(source: Source, name: str, suspect: Suspect) -> Finding:
     tag = suspect.tag
     written = source.document[tag.start : min(tag.end, tag.start + 400)].decode("utf-8", "surrogateescape")
     start, end = suspect.stretch or (tag.start, tag.end)
-    return Finding(name, suspect.text, start, end, cut(written), suspect.edits)
+    return Finding(name, suspect.text, start, end, cut(written), suspect.edits, suspect.choices)
 
 
 def free_times(program: Program, source: Source) -> set[str]:

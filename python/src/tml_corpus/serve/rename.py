@@ -1,4 +1,6 @@
-"""Another name for an identifier, at its tag and at all that refers to it. What cannot be is refused in words, and what can `tml` is asked."""
+"""Another name for an identifier, at its tag and at all that refers to it. What cannot be is refused in words, and of the rest `tml`
+is asked.
+"""
 
 from __future__ import annotations
 
@@ -75,8 +77,8 @@ def why_not(document: OpenDocument, named: Named, name: str) -> str | None:
 
 def bearers(document: OpenDocument, name: str) -> list[Unit]:
     """The tags that have an identifier, of whatever kind, in their order."""
-    found = [tag for kind, attribute in IDENTIFIERS.items() for tag, values in document.source.valued(kind) if values.get(attribute, "") == name]
-    return sorted(found, key=lambda tag: tag.start)
+    rows = ((tag, values.get(IDENTIFIERS[kind], "")) for kind in IDENTIFIERS for tag, values in document.source.valued(kind))
+    return sorted((tag for tag, own in rows if own == name), key=lambda tag: tag.start)
 
 
 def written(document: OpenDocument, named: Named) -> list[Named]:
