@@ -16,7 +16,7 @@ from .possible import possible
 from .wire import Json
 
 QUICK_FIX = "quickfix"
-MOST_LINKS = 8
+MOST_LINKS = 4
 """So many links of clashes in the lines that are asked for are looked at."""
 
 

@@ -26,8 +26,9 @@ QUICK_FIX = "quickfix"
 MOST_EDITS = 1000
 """So many edits go one by one; of more one edit is made."""
 
-MOST_OFFERED = 64
-"""So many edits are offered for the lines that are asked for."""
+MOST_OFFERED, LEAST_OFFERED = 64, 4
+MOST_BYTES = 64 * 1024 * 1024
+"""So many edits are offered for the lines that are asked for; of a long document fewer, since `tml` is asked about each."""
 
 
 def cures(document: OpenDocument, lines: tuple[int, int]) -> Iterator[Json]:
@@ -35,7 +36,7 @@ def cures(document: OpenDocument, lines: tuple[int, int]) -> Iterator[Json]:
     seen: set[tuple[Edit, ...]] = set()
     titles: set[str] = set()
     found = chain(of_first_fault(document, lines, seen), of_faults(document, lines, seen), of_warnings(document, lines, seen))
-    for one in islice(found, MOST_OFFERED):
+    for one in islice(found, max(min(MOST_OFFERED, MOST_BYTES // max(len(document.text), 1)), LEAST_OFFERED)):
         if one["title"] not in titles:
             titles.add(one["title"])
             yield one

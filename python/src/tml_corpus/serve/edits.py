@@ -19,6 +19,9 @@ LONGEST = 60
 LAST, FIRST = re.compile(rb"(?:<[^<>]{0,400}>|[^\s<>]{1,400})\Z"), re.compile(rb"\s*(<[^<>]{0,400}>|[^\s<>]{1,400})")
 """The last tag or word before a place, and the first one after it."""
 
+NEAR = 1000
+"""So many bytes before a place are looked at for these."""
+
 BEYOND, AS_FAR = 0, 1
 """How far `tml` comes after some edits: to acceptance or a later fault, or as far as before."""
 
@@ -60,7 +63,7 @@ def in_words(text: bytes, edit: Edit) -> str:
         return f"Delete {old or 'white space'}"
     if b"\n" in edit.text:
         return f"Add {new}"
-    before, after = LAST.search(text[: edit.start].rstrip()), FIRST.match(text, edit.start)
+    before, after = LAST.search(text[max(edit.start - NEAR, 0) : edit.start].rstrip()), FIRST.match(text, edit.start)
     begins_word = text[max(edit.start - 1, 0) : edit.start].isspace() and not text[edit.start : edit.start + 1].isspace()
     if after is not None and (begins_word or before is None):
         return f"Write {new} before {said(after[1])}"

@@ -85,4 +85,4 @@ def written(document: OpenDocument, named: Named) -> list[Named]:
     """Where an identifier is written: at the tag that has it, and where tags refer to it."""
     tag = document.tag_named(named)
     own = (document.named_by(tag, one) for one in tag.attributes if one.name == IDENTIFIERS[tag.name]) if tag is not None else ()
-    return [one for one in (*own, *references_to(document, named)) if one is not None and one.name == named.name]
+    return [one for one in (*own, *references_to(document, [named])) if one is not None and one.name == named.name]
