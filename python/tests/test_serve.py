@@ -388,6 +388,7 @@ class Editors(CorpusTest):
             r'said: tml \[11 BadValue\]: class="State" is not a class: .*did you mean STATE',
             r"then: tml \[no-creation-time\]: the document has no creation time",
             r"hover: \*\*x \(e1, STATE\)",
+            'renamed: <EVENT eid="e7" class="STATE">x</EVENT>',
             "stopped",
         )
 
