@@ -20,6 +20,7 @@ from tml.statuses import RELATIONS
 from tml_corpus.asking.program import File, Reply
 from tml_corpus.check.fix import steps
 from tml_corpus.check.judgement import Judgement, PlacedFault, PlacedWarning
+from tml_corpus.document.profile import CLASS
 from tml_corpus.serve.actions import actions
 from tml_corpus.serve.document import Asked, OpenDocument
 
@@ -171,6 +172,28 @@ class Choices(CorpusTest):
                 offered = [done(self.state, one).decode() for one in self.found]
                 for one in wanted:
                     self.assertIn(document(one), offered)
+
+    def test_attributes_with_several_cures(self) -> None:
+        time = '<TIMEX3 tid="t1" type="TIME" value="1998-02-28T24:30">x</TIMEX3>'
+        for inner, needle, wanted in (
+            (EVENT.replace("eid", 'eid="e2" eid'), "<EVENT", ['Delete eid="e1"', 'Delete eid="e2"']),
+            (time, "<TIMEX3", ["Write 1998-03-01T00:30 for 1998-02-28T24:30"]),
+            (EVENT.replace("STATE", "XYZ"), "<EVENT", [f"Write {one} for XYZ" for one in CLASS.values]),
+            (EVENT.replace("e1", ""), "<EVENT", ['Write e2 after eid="']),
+            (EVENT + INSTANCE.replace("e1", "x"), "<MAKEINSTANCE", ["Write e1 for x"]),
+            (EVENT + EVENT.replace("e1", "e5") + INSTANCE.replace("e1", "x"), "<MAKEINSTANCE", ["Write e1 for x", "Write e5 for x"]),
+            ("<XYZ>a</XYZ>", "<XYZ", ["Delete <XYZ> and delete </XYZ>"]),
+        ):
+            with self.subTest(inner):
+                self.assertEqual(self.titles(document(inner), needle), wanted)
+
+    def test_names_to_which_tags_refer_in_vain(self) -> None:
+        inner = EVENT + EVENT.replace(">x<", ">y<") + INSTANCE.replace("e1", "e8") + INSTANCE.replace('"i1" eventID="e1"', '"i2" eventID="e9"')
+        self.titles(document(inner), ">y<")
+        offered = [done(self.state, one).decode() for one in self.found]
+        for event in (EVENT, EVENT.replace(">x<", ">y<")):
+            for name in ("e8", "e9"):
+                self.assertIn(document(inner.replace(event, event.replace("e1", name))), offered)
 
     def test_what_two_attributes_lack_is_offered_together(self) -> None:
         text = document("<EVENT>x</EVENT>")

@@ -109,8 +109,7 @@ def without_copy(source: Source, first: Unit, tag: Unit) -> list[Edit]:
 def cure_by_lost_name(source: Source, first: Unit, tag: Unit, attribute: Attribute, names: dict[str, Unit], found: Explanation) -> str:
     """What to do about two tags with one identifier where tags refer to others that no tag has."""
     [(name, other), *more] = names.items()
-    both = [one for one in (attribute, attribute_of(first, IDENTIFIERS[first.name])) if one is not None and first.name == tag.name]
-    found.offered.append(lambda: (way for lost in islice(names, MOST_NAMED) for one in both for way in with_values(source, one, [lost])))
+    found.offered.append(lambda: () if found.edits else lost_names(source, first, tag, attribute, names))
     if more:
         return f"one of the two is meant to be one of {some(names)}, to which tags refer and which no tag has"
     said = f'{IDENTIFIERS[tag.name]}="{name}", to which the {other.name} at {source.at(other.start)} refers and which no tag has'
@@ -118,6 +117,13 @@ def cure_by_lost_name(source: Source, first: Unit, tag: Unit, attribute: Attribu
         found.edits.append(with_value(attribute, source.document, encoded(name)))
         return f"write {said}"
     return f"in one of the two write {said}"
+
+
+def lost_names(source: Source, first: Unit, tag: Unit, attribute: Attribute, names: Iterable[str]) -> Iterator[tuple[Edit, ...]]:
+    """The edits that give one of two tags a name to which tags refer in vain: to the second one, and to the first of the same kind."""
+    own = attribute_of(first, IDENTIFIERS[first.name]) if first.name == tag.name else None
+    for name in islice(names, MOST_NAMED):
+        yield from (way for one in (attribute, own) if one is not None for way in with_values(source, one, [name]))
 
 
 def written(source: Source, tag: Unit) -> bytes:

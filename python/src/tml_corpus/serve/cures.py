@@ -37,6 +37,9 @@ def cures(document: OpenDocument, lines: tuple[int, int]) -> Iterator[Json]:
     titles: set[str] = set()
     found = chain(of_first_fault(document, lines, seen), of_faults(document, lines, seen), of_warnings(document, lines, seen))
     for one in islice(found, max(min(MOST_OFFERED, MOST_BYTES // max(len(document.text), 1)), LEAST_OFFERED)):
+        if one["title"] in titles:
+            start = one["edit"]["changes"][document.uri][0]["range"]["start"]
+            one["title"] += f", at {start['line'] + 1}:{start['character'] + 1}"
         if one["title"] not in titles:
             titles.add(one["title"])
             yield one
