@@ -1,10 +1,7 @@
--- What Neovim makes of `tml-corpus serve`: a line for each step. TML_SERVE has the words of the server, between spaces.
-
-local id = vim.lsp.start_client({ name = "tml", cmd = vim.split(vim.env.TML_SERVE, " "), root_dir = vim.fn.getcwd() })
-vim.lsp.buf_attach_client(0, id)
+-- What Neovim makes of the set-up of docs/EDITORS.md, over two documents: a line for each step.
 
 local function wait(ready)
-  return vim.wait(20000, ready, 20)
+  return vim.wait(60000, ready, 20)
 end
 
 local function worst()
@@ -13,19 +10,37 @@ local function worst()
   return found[1]
 end
 
-wait(function() return worst() ~= nil end)
+local first = vim.api.nvim_get_current_buf()
+vim.cmd("edit e.tml")
+wait(function() return #vim.diagnostic.get(first) > 0 and worst() ~= nil end)
+print("types: " .. vim.bo[first].filetype .. " " .. vim.bo.filetype)
+print("clients: " .. #vim.lsp.get_active_clients())
+local id = vim.lsp.get_active_clients()[1].id
+print("attached: " .. tostring(vim.lsp.buf_is_attached(first, id)) .. " " .. tostring(vim.lsp.buf_is_attached(0, id)))
+vim.cmd("buffer " .. first)
+
+local function ask(method, more)
+  local asked = vim.tbl_extend("force", vim.lsp.util.make_position_params(), more or {})
+  return vim.lsp.buf_request_sync(0, method, asked, 60000)[id]
+end
+
+local function apply(edit)
+  vim.lsp.util.apply_workspace_edit(edit, vim.lsp.get_client_by_id(id).offset_encoding)
+end
+
 print("said: " .. worst().message)
-local asked = vim.lsp.util.make_range_params()
-asked.range = { start = { line = 1, character = 0 }, ["end"] = { line = 1, character = 0 } }
-asked.context = { diagnostics = {} }
-local action = vim.lsp.buf_request_sync(0, "textDocument/codeAction", asked, 20000)[id].result[1]
+local line = { start = { line = 1, character = 0 }, ["end"] = { line = 1, character = 0 } }
+local action = ask("textDocument/codeAction", { range = line, context = { diagnostics = {} } }).result[1]
 print("offered: " .. action.title)
-vim.lsp.util.apply_workspace_edit(action.edit, vim.lsp.get_client_by_id(id).offset_encoding)
+apply(action.edit)
 print("line: " .. vim.fn.getline(2))
 wait(function() return worst() ~= nil and worst().severity == vim.diagnostic.severity.WARN end)
 print("then: " .. worst().message)
 vim.api.nvim_win_set_cursor(0, { 2, 3 })
-local hover = vim.lsp.buf_request_sync(0, "textDocument/hover", vim.lsp.util.make_position_params(), 20000)[id].result
-print("hover: " .. hover.contents.value)
+print("hover: " .. ask("textDocument/hover").result.contents.value)
+vim.api.nvim_win_set_cursor(0, { 2, 12 })
+print("refused: " .. ask("textDocument/rename", { newName = "a b" }).error.message)
+apply(ask("textDocument/rename", { newName = "e7" }).result)
+print("renamed: " .. vim.fn.getline(2))
 vim.lsp.stop_client(id)
 print("stopped: " .. tostring(wait(function() return vim.lsp.client_is_stopped(id) end)))

@@ -10,11 +10,30 @@ from typing import Any
 
 from corpus import COMPANION, TML, TOP, CorpusTest
 
-from tml_corpus.serve.places import UTF_16, ClientPlaces
+from tml.tags.edits import Edit, applied
+from tml_corpus.lint.kinds import chosen
+from tml_corpus.serve.document import Asked, OpenDocument
+from tml_corpus.serve.places import UTF_8, UTF_16, ClientPlaces
 from tml_corpus.serve.wire import Incoming
 
 Json = Any
 Position = dict[str, int]
+
+
+def state_of(text: str | bytes, program: Asked | None = None) -> OpenDocument:
+    """A document as the server has it for an editor that counts bytes."""
+    if program is None:
+        program = Asked("")
+        program.chosen = TML
+    found = OpenDocument(program, "file:///d.xml", "", chosen((), ()), UTF_8)
+    found.text = text if isinstance(text, bytes) else text.encode()
+    return found
+
+
+def done(state: OpenDocument, action: Json) -> bytes:
+    """The document after an action."""
+    [edits] = action["edit"]["changes"].values()
+    return applied(state.text, [Edit(*state.places.stretch(one["range"]), one["newText"].encode()) for one in edits])
 
 
 class Client:

@@ -4,6 +4,7 @@ import io
 import json
 import os
 import random
+import re
 import shutil
 import subprocess
 import sys
@@ -12,7 +13,7 @@ import tomllib
 import unittest
 from unittest import mock
 
-from corpus import COMPANION, EVENT, INSTANCE, TML, CorpusTest, document
+from corpus import COMPANION, EVENT, INSTANCE, TML, TOP, CorpusTest, document
 from serving import ServeTest
 
 from tml_corpus.serve.server import Server
@@ -316,24 +317,28 @@ class Protocol(ServeTest):
 class Editors(CorpusTest):
     """Clients that others wrote."""
 
-    def run_editor(self, *words):
-        """What an editor prints that is started with a document with one fault."""
-        self.write("d.xml", document('<EVENT eid="e1" class="State">x</EVENT>\n'))
+    def run_editor(self, *words, path=os.environ["PATH"]):
+        """What an editor prints that is started with a document with one fault; `tml-corpus` is on its path."""
+        for name in ("d.xml", "d.tml", "e.tml"):
+            self.write(name, document('<EVENT eid="e1" class="State">x</EVENT>\n'))
+        self.write("bin/tml-corpus", f'#!/bin/sh\nexec {sys.executable} {COMPANION} "$@" --tml {TML}\n')
+        os.chmod(self.path("bin/tml-corpus"), 0o755)
         done = subprocess.run(
             words,
             cwd=self.folder,
             env={
                 **os.environ,
+                "PATH": path,
                 "HOME": self.folder,
                 "XDG_STATE_HOME": self.folder,
-                "TML_SERVE": " ".join((sys.executable, COMPANION, "serve", "--tml", TML)),
+                "TML_SERVE": self.path("bin/tml-corpus") + " serve",
                 "TML_DOCUMENT": self.path("d.xml"),
             },
             stdin=subprocess.DEVNULL,
             stdout=subprocess.PIPE,
             stderr=subprocess.STDOUT,
             check=False,
-            timeout=120,
+            timeout=240,
         )
         return done.stdout.decode("utf-8", "replace").replace("\r", "")
 
@@ -341,19 +346,37 @@ class Editors(CorpusTest):
         for line in wanted:
             self.assertRegex(printed, rf"(?m)^{line}", printed)
 
+    def run_neovim(self, path, *commands):
+        """What Neovim prints that is set up as docs/EDITORS.md says, with a document without a prolog."""
+        with open(os.path.join(TOP, "docs", "EDITORS.md"), encoding="utf-8") as file:
+            self.write("init.lua", re.search(r"```lua\n(.*?)```", file.read(), re.DOTALL)[1])
+        after = [word for command in (*commands, "qa!") for word in ("-c", command)]
+        return self.run_editor(shutil.which("nvim"), "--headless", "-u", self.path("init.lua"), "-n", "d.tml", *after, path=path)
+
     @unittest.skipUnless(shutil.which("nvim"), "no program nvim")
     def test_neovim(self):
-        script = os.path.join(HERE, "serve.lua")
-        printed = self.run_editor("nvim", "--headless", "--clean", "-n", "d.xml", "-c", f"luafile {script}", "-c", "qa!")
+        printed = self.run_neovim(f"{self.path('bin')}:{os.environ['PATH']}", f"luafile {os.path.join(HERE, 'serve.lua')}")
         self.check_printed(
             printed,
+            "types: xml xml",
+            "clients: 1$",
+            "attached: true true",
             'said: class="State" is not a class: .*did you mean STATE',
             r"offered: Mend values \(1 change\)",
             'line: <EVENT eid="e1" class="STATE">x</EVENT>',
             "then: the document has no creation time",
             r"hover: \*\*x \(e1, STATE\)",
+            "refused: .*is not an identifier",
+            'renamed: <EVENT eid="e7" class="STATE">x</EVENT>',
             "stopped: true",
         )
+        self.assertNotRegex(printed, "Error|traceback")
+
+    @unittest.skipUnless(shutil.which("nvim"), "no program nvim")
+    def test_neovim_without_the_program(self):
+        printed = self.run_neovim(self.folder, "edit e.tml", "lua print('clients: ' .. #vim.lsp.get_active_clients())")
+        self.check_printed(printed, ".*clients: 0$")
+        self.assertNotRegex(printed, "Error|traceback")
 
     @unittest.skipUnless(shutil.which("emacs"), "no program emacs")
     def test_emacs(self):
@@ -365,6 +388,7 @@ class Editors(CorpusTest):
             r'said: tml \[11 BadValue\]: class="State" is not a class: .*did you mean STATE',
             r"then: tml \[no-creation-time\]: the document has no creation time",
             r"hover: \*\*x \(e1, STATE\)",
+            'renamed: <EVENT eid="e7" class="STATE">x</EVENT>',
             "stopped",
         )
 

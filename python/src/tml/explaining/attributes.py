@@ -3,17 +3,18 @@
 from __future__ import annotations
 
 import re
-from collections.abc import Iterable, Iterator
+from collections.abc import Iterable, Iterator, Sequence
+from functools import partial
 from itertools import islice
 
 from ..statuses import IDENTIFIER_LIMIT
-from ..tags.edits import Edit, encoded, with_spaces_before, with_value
+from ..tags.edits import Edit, Ways, combined, encoded, with_spaces_before, with_value
 from ..tags.invisible import first_invisible, without_invisible
 from ..tags.profile import IDENTIFIERS, LEFT, RIGHT, TABLE, Kind, Row, is_identifier
 from ..tags.similar import MOST_CHOICES, near, nearest, one_letter_apart, plain, same_but_for_case
 from ..tags.source import Explanation, Source, attribute_of, attributes_of, cut
 from ..tags.units import Attribute, Unit
-from ..tags.values import exchanged, no_date
+from ..tags.values import exchanged, next_day, no_date
 from .faults import BAD_DATE, BAD_VALUE, CONFLICT, MISSING, REPEATED
 
 MORE_INTERVALS = "`tml-edit --overlaps` expresses it by additional intervals, or delete the link"
@@ -38,11 +39,23 @@ SAME_RELATIONS = {
 }  # fmt: skip
 """Relations of other schemes that one of TimeML says."""
 
-UNCLEAR_RELATIONS = {"INCLUDED": ["IS_INCLUDED", "INCLUDES"], "ENDED": ["ENDED_BY", "ENDS"], "BEGUN": ["BEGUN_BY", "BEGINS"]}
+UNCLEAR_RELATIONS = {
+    "INCLUDED": ["IS_INCLUDED", "INCLUDES"], "ENDED": ["ENDED_BY", "ENDS"], "BEGUN": ["BEGUN_BY", "BEGINS"],
+    "OVERLAP": ["OVERLAPS", "OVERLAPPED_BY"],
+}  # fmt: skip
 """Words that are near to two relations which say the opposite of each other."""
+
+Cures = tuple[str, Ways]
+"""A sentence, and what finds the ways that it names to mend what it is about."""
 
 OF_EVENTS = {"eventID": "eventInstanceID", "relatedToEvent": "relatedToEventInstance", "subordinatedEvent": "subordinatedEventInstance"}
 """Attributes of other versions of TimeML, in which links refer to events."""
+
+
+def tell_all(cures: Sequence[Cures], found: Explanation) -> None:
+    """The explanation has some sentences, and offers what mends all that they are about."""
+    found.text = "; and ".join(said for said, _ in cures)
+    found.offered.append(lambda: combined([ways for _, ways in cures]))
 
 
 def about(found: Explanation, attribute: Attribute) -> None:
@@ -76,6 +89,7 @@ def of_two(source: Source, tag: Unit, first: Attribute, second: Attribute, found
     right = texts[0] if texts[0] == texts[1] else None if row is None else fitting_one(source, tag, row, texts)
     if right is None:
         found.text = f"{said}: delete the wrong one"
+        found.offered.append(lambda: [(with_spaces_before(source.document, one),) for one in (second, first)])
     elif texts[0] == texts[1]:
         found.text = f"{said}: delete one of the two"
         found.edits.append(with_spaces_before(source.document, second))
@@ -114,9 +128,9 @@ def missing(source: Source, tag: Unit, found: Explanation) -> None:
     if tag.name == "EVENT" and tag.start not in source.with_text and (tag.kind == "empty" or next(tag.attributes, None) is None):
         names = " and ".join(row.name for row in lacking)
         found.text = f"this EVENT has no text: delete it, or add {names} if it is meant"
+        found.offered.append(lambda: [source.without(tag), *combined([lack(source, tag, row, Explanation())[1] for row in lacking])])
         return
-    sentences = [lack(source, tag, row, found) for row in lacking]
-    found.text = "; and ".join(sentences)
+    tell_all([lack(source, tag, row, found) for row in lacking], found)
 
 
 def lacking_in(source: Source, tag: Unit) -> Iterator[Row]:
@@ -126,7 +140,7 @@ def lacking_in(source: Source, tag: Unit) -> Iterator[Row]:
             yield row
 
 
-def lack(source: Source, tag: Unit, row: Row, found: Explanation) -> str:
+def lack(source: Source, tag: Unit, row: Row, found: Explanation) -> Cures:
     """What is to be done about an attribute that the tag lacks."""
     empty = next((one for name in row.needs for one in attributes_of(tag, name)), None)
     absent = [name for name in row.needs if attribute_of(tag, name) is None]
@@ -135,18 +149,23 @@ def lack(source: Source, tag: Unit, row: Row, found: Explanation) -> str:
         meant = OF_EVENTS.get(attribute.name) or meant_name(attribute.name, absent)
         if meant in row.needs:
             about(found, attribute)
-            found.edits.append(Edit(attribute.start, attribute.start + len(encoded(attribute.name)), meant.encode()))
+            edit = Edit(attribute.start, attribute.start + len(encoded(attribute.name)), meant.encode())
+            found.edits.append(edit)
             hint = " (tml-edit --instances does it)" if attribute.name in OF_EVENTS else ""
-            return f"{meant} is missing, and {cut(attribute.name)} is not a known attribute of {tag.name}; did you mean {meant}?{hint}"
+            said = f"{meant} is missing, and {cut(attribute.name)} is not a known attribute of {tag.name}; did you mean {meant}?{hint}"
+            return said, lambda: [(edit,)]
     said, meant = wanted(source, tag, row)
     if empty is not None:
         about(found, empty)
-        found.edits += [with_value(empty, source.document, encoded(meant))] if meant else []
-        return f"{empty.name} is empty: {said}"
-    if meant:
-        at = tag.start + 1 + len(tag.name)
-        found.edits.append(Edit(at, at, encoded(f' {row.name}="{meant}"')))
-    return f"{' or '.join(row.needs)} is missing: {said}"
+    found.edits += [given(source, tag, row, empty, meant)] if meant else []
+    said = f"{empty.name} is empty: {said}" if empty is not None else f"{' or '.join(row.needs)} is missing: {said}"
+    return said, lambda: [(given(source, tag, row, empty, value),) for value in ([meant] if meant else wanted_values(source, tag, row))]
+
+
+def given(source: Source, tag: Unit, row: Row, empty: Attribute | None, value: str) -> Edit:
+    """The edit that gives a value to an attribute that is empty, or not there."""
+    at = tag.start + 1 + len(tag.name)
+    return Edit(at, at, encoded(f' {row.name}="{value}"')) if empty is None else with_value(empty, source.document, encoded(value))
 
 
 def meant_name(name: str, choices: list[str]) -> str | None:
@@ -169,6 +188,13 @@ def wanted(source: Source, tag: Unit, row: Row) -> tuple[str, str | None]:
     if row.name == "eventID" and len(bare) == 1 and number_of(bare[0]) == number_of(source.value(tag, "eiid")):
         return f"{said}; did you mean {bare[0]}, the only one without an instance?", bare[0]
     return said, None
+
+
+def wanted_values(source: Source, tag: Unit, row: Row) -> list[str]:
+    """The values that are named where it is not clear which one is meant."""
+    if row.form.kind is Kind.LISTED:
+        return list(row.form.values)
+    return list(islice(source.dangling(tag.name), MOST_CHOICES)) or [source.fresh(tag.name)] if row.form.kind is Kind.IDENTIFIER else []
 
 
 def number_of(name: str) -> str:
@@ -197,8 +223,7 @@ def article(noun: str) -> str:
 
 def bad_value(source: Source, tag: Unit, found: Explanation) -> None:
     """Fault 11: values that are not of their form."""
-    sentences = [misfit(source, tag, attribute, row, found) for attribute, row in bad_values(source, tag)]
-    found.text = "; and ".join(sentences)
+    tell_all([misfit(source, tag, attribute, row, found) for attribute, row in bad_values(source, tag)], found)
 
 
 def bad_values(source: Source, tag: Unit) -> Iterator[tuple[Attribute, Row]]:
@@ -214,25 +239,33 @@ def text_of(source: Source, attribute: Attribute) -> str:
     return attribute.value(source.document).decode("utf-8", "surrogateescape")
 
 
-def misfit(source: Source, tag: Unit, attribute: Attribute, row: Row, found: Explanation) -> str:
+def misfit(source: Source, tag: Unit, attribute: Attribute, row: Row, found: Explanation) -> Cures:
     """Why a value is not of its form, and what it was probably meant to be."""
     value, written = text_of(source, attribute), attribute.written(source.document)
     about(found, attribute)
     if row.form.kind is not Kind.LISTED:
         why, meant = not_identifier(source, tag, row, value)
         found.edits += [with_value(attribute, source.document, encoded(meant))] if meant else []
-        return f"{written} {why}"
+        return f"{written} {why}", partial(with_values, source, attribute, [meant] if meant else [])
     if row.tag == "TLINK" and value in OTHER_RELATIONS:
-        return f"{written} is not {row.form.noun}, and {OTHER_RELATIONS[value]}"
+        relations = dict.fromkeys([*UNCLEAR_RELATIONS[value], *row.form.values]) if value in UNCLEAR_RELATIONS else ()
+        said = f"{written} is not {row.form.noun}, and {OTHER_RELATIONS[value]}"
+        return said, lambda: [*with_values(source, attribute, relations), source.without(tag)]
     choices = listed_near(row, value)
+    ways = partial(with_values, source, attribute, choices or row.form.values)
     if len(choices) == 1:
         found.edits.append(with_value(attribute, source.document, choices[0].encode()))
     if choices:
         hidden = first_invisible(value)
         seen = f", since it has {hidden} in it, which nobody sees" if hidden else ""
-        return f"{written} is not {row.form.noun}{seen}: {listing(row)}; did you mean {' or '.join(choices)}?"
+        return f"{written} is not {row.form.noun}{seen}: {listing(row)}; did you mean {' or '.join(choices)}?", ways
     other = next((one.form.noun for rows in (TABLE[row.tag], *TABLE.values()) for one in rows.values() if value in one.form.values), None)
-    return f"{written} is not {row.form.noun}{f' but {other}' if other else ''}: {listing(row)}"
+    return f"{written} is not {row.form.noun}{f' but {other}' if other else ''}: {listing(row)}", ways
+
+
+def with_values(source: Source, attribute: Attribute, values: Iterable[str]) -> list[tuple[Edit, ...]]:
+    """The edits that give an attribute one of some values."""
+    return [(with_value(attribute, source.document, encoded(value)),) for value in values]
 
 
 def listed_near(row: Row, value: str) -> list[str]:
@@ -283,6 +316,7 @@ def conflict(source: Source, tag: Unit, found: Explanation) -> None:
         first, second = (one.written(source.document) for one in both[:2])
         cure = f"delete {out.name}, since no tag has this identifier" if out else "delete the wrong one"
         found.edits += [with_spaces_before(source.document, out)] if out else []
+        found.offered.append(lambda: [] if out else [(with_spaces_before(source.document, one),) for one in both])
         found.text = f"{first} and {second} both name the {end} end of the link: {cure}"
         return
 
@@ -294,8 +328,9 @@ def bad_date(source: Source, tag: Unit, found: Explanation) -> None:
     if attribute is not None and why is not None:
         about(found, attribute)
         found.text = f"{attribute.written(source.document)}: {why}"
-        meant = exchanged(text_of(source, attribute))
+        meant, later = exchanged(text_of(source, attribute)), next_day(text_of(source, attribute))
         found.edits += [with_value(attribute, source.document, meant.encode())] if meant else []
+        found.offered.append(partial(with_values, source, attribute, [later] if later else []))
 
 
 EXPLAINERS = {REPEATED: repeated, MISSING: missing, BAD_VALUE: bad_value, CONFLICT: conflict, BAD_DATE: bad_date}

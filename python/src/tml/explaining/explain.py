@@ -24,6 +24,7 @@ def explain(program: Cutter, document: bytes, fault: Fault, places: Places | Non
     found = of_whole(document, fault) if first else None
     if found is None:
         found = of_units(source, fault) if has_units else of_bytes(source, fault)
+    found.document = document
     if has_units:
         found.units = source.units
     if not found.text:

@@ -16,6 +16,7 @@ from ..tags.source import Explanation, Source, cut
 
 NAME = re.compile(rb"[A-Za-z_:\x80-\xff][A-Za-z0-9_:.\-\x80-\xff]*")
 SPACES = re.compile(rb"[ \t\r\n]*")
+LINE_END = re.compile(rb"[\r\n]|\Z")
 SUBSET = re.compile(rb"[^\[<>]*\[")
 EQUALS = re.compile(rb"[ \t\r\n]*=[ \t\r\n]*")
 VALUES = (b'"', b"'")
@@ -53,11 +54,14 @@ def bad_reference(source: Source, offset: int) -> Explanation:
         half_a_reference(half, where)
     elif ended and entity + ";" in html5:
         where.text = f"&{entity}; is an HTML entity, undefined in XML: write {character_of(entity)}"
+        where.offer(Edit(offset, found.end(), character_of(entity).encode()))
     elif ended and entity:
         where.text = f"&{entity}; is an entity that nothing declares: write what it stands for, or &amp;{entity}; for the sign &"
+        where.offer(Edit(offset, offset + 1, b"&amp;"))
     else:
         where.end = offset + 1
         where.text = "write &amp; for the sign &"
+        where.offer(Edit(offset, offset + 1, b"&amp;"))
     return where
 
 
@@ -66,6 +70,8 @@ def half_a_reference(half: re.Match[bytes], found: Explanation) -> None:
     name, rest = half[1].decode(), half[2].decode()
     if rest:
         found.text = f"&{name} lacks its ;, or the sign & comes before {name}{rest}: write &{name};{rest} or &amp;{name}{rest}"
+        found.offer(Edit(half.end(1), half.end(1), b";"))
+        found.offer(Edit(half.start(), half.start() + 1, b"&amp;"))
     else:
         found.text = f"&{name} lacks its ;: write &{name};"
         found.edits.append(Edit(half.end(), half.end(), b";"))
@@ -188,6 +194,9 @@ def comment(source: Source, at: int, found: Explanation) -> None:
     """A comment without an end."""
     found.end = at + 4
     found.text = "this comment has no end: write --> after it"
+    line_end = LINE_END.search(source.document, at)
+    end = line_end.start() if line_end else len(source.document)
+    found.offer(Edit(end, end, b"-->"))
 
 
 def called_after(source: Source, at: int, found: Explanation) -> str:
@@ -203,11 +212,14 @@ def declaration(source: Source, at: int, found: Explanation) -> None:
     subset = SUBSET.match(document, found.end)
     if called.upper() != "DOCTYPE":
         found.text = f"<!{called} is not read: delete it, up to its >"
+        delete_to(source, at, b">", found)
     elif called != "DOCTYPE":
         found.text = f"write <!DOCTYPE for <!{called}"
+        found.offer(Edit(at + 2, found.end, b"DOCTYPE"))
     elif subset is not None:
         found.start, found.end = subset.end() - 1, subset.end()
         found.text = "a doctype with a subset of its own is not read: delete all from [ to ]"
+        delete_to(source, subset.end() - 1, b"]", found)
     else:
         found.text = "this doctype has no >"
 
@@ -221,6 +233,14 @@ def instruction(source: Source, at: int, found: Explanation) -> None:
         found.text = "write <?xml, a space and what is declared"
     else:
         found.text = f"a processing instruction is not read: delete <?{called} .. ?>"
+        delete_to(source, at, b"?>", found)
+
+
+def delete_to(source: Source, start: int, sign: bytes, found: Explanation) -> None:
+    """Offers to delete all from a place to the next sign, where there is one."""
+    end = source.document.find(sign, start)
+    if end >= 0:
+        found.offer(Edit(start, end + len(sign), b""))
 
 
 def end_tag(source: Source, at: int, found: Explanation) -> None:
@@ -245,8 +265,12 @@ def end_tag(source: Source, at: int, found: Explanation) -> None:
     found.end = name.end()
     if document[rest : rest + 1] in (b"<", b""):
         found.text = f"this end tag has no >: write </{called}>"
+        found.offer(Edit(name.end(), name.end(), b">"))
     else:
         found.text = f"an end tag has only its name: write </{called}>"
+        end = document.find(b">", rest)
+        if end >= 0 and document.find(b"<", rest, end) < 0:
+            found.offer(Edit(name.end(), end, b""))
 
 
 def start_tag(source: Source, at: int, found: Explanation) -> None:
@@ -297,6 +321,7 @@ def less_than(source: Source, at: int, found: Explanation) -> None:
     spaced = NAME.match(document, past_spaces(document, at + 1))
     if at + 1 >= len(document):
         found.text = "the file ends with a <: write &lt;, or see whether its end was lost"
+        found.offer(Edit(at, at + 1, b"&lt;"))
     elif document[at + 1 : at + 2] == b"<" and NAME.match(document, at + 2):
         found.text = "< appears twice: delete one of the two"
         found.edits.append(Edit(at, at + 1, b""))
@@ -369,6 +394,7 @@ def no_value(source: Source, found: Explanation, tag: str, attribute: tuple[int,
     if following or same_but_for_case(name, TABLE.get(tag, {})):
         found.start, found.end = attribute
         found.text = f'{name} has no value: write {name}="..", or delete it'
+        found.offer(Edit(last[1], attribute[1], b""))
     else:
         no_end(found, tag, words(document[last[0] : last[1]]), last)
 
@@ -381,6 +407,9 @@ def no_quote(source: Source, found: Explanation, attribute: tuple[int, int], beg
     if curly:
         found.start, found.end = begin, curly.end()
         found.text = f'the value of {name} begins with a curly quote {words(curly[0])}: write "'
+        tag_name = NAME.match(document, document.rfind(b"<", 0, attribute[0]) + 1)
+        quotes = quotes_of_tag(document, tag_name.end()) if tag_name is not None else iter(())
+        found.offer(*quotes)
         return
     word = WORD.match(document, begin)
     found.start, found.end = attribute[0], word.end() if word else begin

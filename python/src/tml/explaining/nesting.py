@@ -26,8 +26,11 @@ def unknown_tag(source: Source, unit: Unit | None, found: Explanation) -> None:
     name = cut(unit.name)
     found.start, found.end = unit.start + 1, unit.start + 1 + len(encoded(unit.name))
     choices = meant_tags(source, unit)
+    both = [tag for tag in (unit, partner(source, unit)) if tag is not None]
     if len(choices) == 1:
-        found.edits += [renamed(tag, choices[0]) for tag in (unit, partner(source, unit)) if tag is not None]
+        found.edits += [renamed(tag, choices[0]) for tag in both]
+    else:
+        found.offered.append(lambda: [tuple(renamed(tag, choice) for tag in both) for choice in choices])
     hidden, same = first_invisible(unit.name), same_but_for_case(unit.name, TAGS)
     if hidden and same:
         found.text = f"<{name}> has {hidden} in its name, which nobody sees: write {same}"
@@ -37,10 +40,12 @@ def unknown_tag(source: Source, unit: Unit | None, found: Explanation) -> None:
     elif not has_tag_before(source, unit) and choices != [ROOT]:
         found.text = f"<{name}> is not known, and the root has to be {ROOT}: `tml-edit --rename {name}={ROOT}` renames it"
         found.edits.clear()
+        found.offered = [lambda: [tuple(renamed(tag, ROOT) for tag in both)]]
     elif choices:
         found.text = f"<{name}> is not known; did you mean {' or '.join(choices)}?"
     else:
         found.text = f"<{name}> is not known: `tml-edit --unwrap {name}` takes such tags out and leaves what they hold"
+        found.offer(*(Edit(tag.start, tag.end, b"") for tag in both))
 
 
 def meant_tags(source: Source, unit: Unit) -> list[str]:
@@ -93,8 +98,11 @@ def unbalanced(source: Source, unit: Unit | None, found: Explanation) -> None:
     elif crosses and following is not None and following.start == unit.end:
         found.edits += [renamed(unit, inner.name), renamed(following, unit.name)]
         found.text = f"<{name}> opened here crosses </{other}> at {where}: exchange </{other}> and the </{name}> after it"
-    elif crosses:
+    elif crosses and following is not None:
         found.text = f"<{name}> opened here crosses </{other}> at {where}: one has to end inside the other"
+        end, following_end = (source.document[one.start : one.end] for one in (unit, following))
+        found.offer(Edit(unit.start, unit.start, following_end), Edit(following.start, following.end, b""))
+        found.offer(Edit(unit.start, unit.end, b""), Edit(following.end, following.end, end))
     else:
         no_end_tag(source, inner, tags, found)
 
@@ -123,6 +131,9 @@ def closes_nothing(source: Source, unit: Unit, inner: Unit | None, found: Explan
         found.text = (
             f"</{name}> closes nothing{f', since the tag that is open is {opened}' if opened else ''}: {lost_start(source, unit.name)}"
         )
+        words = words_before(source, unit)
+        if words is not None:
+            found.offer(Edit(words, words, encoded(start_of(source, unit.name, filled=True))))
 
 
 def is_wrong_name(source: Source, unit: Unit, inner: Unit) -> bool:
@@ -135,13 +146,28 @@ def is_wrong_name(source: Source, unit: Unit, inner: Unit) -> bool:
 
 def lost_start(source: Source, name: str) -> str:
     """What to write where a start tag was lost: its identifier is that to which tags refer in vain."""
-    rows = [row for row in TABLE.get(name, {}).values() if row.needs]
-    if not rows:
-        return f"its start tag was lost: write <{cut(name)}> before what it holds"
-    names = list(source.dangling(name))
-    values = {row.name: names[0] if len(names) == 1 and row.form.kind is Kind.IDENTIFIER else ".." for row in rows}
-    tag = f"<{name}{''.join(f' {attribute}={chr(34)}{value}{chr(34)}' for attribute, value in values.items())}>"
-    return f"its start tag was lost: write {tag} before its words"
+    what = "its words" if name in TABLE else "what it holds"
+    return f"its start tag was lost: write {start_of(source, name)} before {what}"
+
+
+def start_of(source: Source, name: str, *, filled: bool = False) -> str:
+    """A start tag that was lost, with what is not known to be filled in, or filled with a new identifier and the first value of a list."""
+    if name not in TABLE:
+        return f"<{name if filled else cut(name)}>"
+    names, values = list(source.dangling(name)), dict[str, str]()
+    for row in TABLE[name].values():
+        if row.needs:
+            new = source.fresh(name) if row.form.kind is Kind.IDENTIFIER else next(iter(row.form.values), "")
+            is_known = len(names) == 1 and row.form.kind is Kind.IDENTIFIER
+            values[row.name] = names[0] if is_known else new if filled else ".."
+    return f"<{name}{''.join(f' {attribute}={chr(34)}{value}{chr(34)}' for attribute, value in values.items())}>"
+
+
+def words_before(source: Source, unit: Unit) -> int | None:
+    """Where the last word begins of the text right before a tag; None where no text is there."""
+    before = source.document[: unit.start].rstrip()
+    begin = max(before.rfind(sign) for sign in (b" ", b"\n", b"\t", b"\r", b">")) + 1
+    return begin if begin < len(before) else None
 
 
 def no_end_tag(source: Source, inner: Unit, tags: list[Unit], found: Explanation) -> None:
@@ -152,14 +178,31 @@ def no_end_tag(source: Source, inner: Unit, tags: list[Unit], found: Explanation
         found.edits.append(Edit(inner.start + 1, inner.start + 1, b"/"))
     elif inner.name in TABLE:
         found.text = f"<{name}> is never closed: write </{name}> right after its words"
+        found.offered.append(lambda: [(end_tag_at(inner, place),) for place in words_after(source, inner)])
     else:
-        found.text = f"<{name}> is never closed: write </{name}> after what it holds{before_what(source, inner)}"
+        following = latest_end(source, inner)
+        before = f", before {described(following)} at {source.at(following.start)}" if following is not None else ""
+        found.text = f"<{name}> is never closed: write </{name}> after what it holds{before}"
+        if following is not None:
+            found.offer(end_tag_at(inner, following.start))
 
 
-def before_what(source: Source, inner: Unit) -> str:
-    """Where a wrapper ends at the latest: before the next one of its kind, or before the instances and links."""
-    following = next((one for one in source.units.after(inner.start) if one.kind != "end" and one.name in (inner.name, *LINK_TAGS)), None)
-    return f", before {described(following)} at {source.at(following.start)}" if following is not None else ""
+def end_tag_at(tag: Unit, place: int) -> Edit:
+    """The edit that closes a tag at a place."""
+    return Edit(place, place, encoded(f"</{tag.name}>"))
+
+
+def words_after(source: Source, tag: Unit) -> list[int]:
+    """Where the words of a tag may end that is never closed: after the first word, and before the next tag."""
+    text = source.document[tag.end : source.document.find(b"<", tag.end)]
+    lines = text.split(b"\n")
+    first = len(text) - len(text.lstrip()) + len((text.split() or [b""])[0])
+    return list(dict.fromkeys(tag.end + size for size in (first, len(lines[0].rstrip()), len(text.rstrip())) if size))
+
+
+def latest_end(source: Source, inner: Unit) -> Unit | None:
+    """Before what a wrapper ends at the latest: before the next one of its kind, or before the instances and links."""
+    return next((one for one in source.units.after(inner.start) if one.kind != "end" and one.name in (inner.name, *LINK_TAGS)), None)
 
 
 def unclosed(source: Source, unit: Unit | None, found: Explanation) -> None:
@@ -167,12 +210,20 @@ def unclosed(source: Source, unit: Unit | None, found: Explanation) -> None:
     tags = open_tags(source.units, len(source.document) + 1)
     if not source.document.strip():
         found.text = f"the document is empty: write <{ROOT}> .. </{ROOT}>"
+        enclose(source, 0, found)
     elif not tags:
         found.text = f"the document has no tag: write <{ROOT}> before its text and </{ROOT}> after it"
+        enclose(source, 0, found)
     else:
         inner = tags[-1]
         found.start, found.end = inner.start, inner.end
         found.text = f"<{cut(inner.name)}> is never closed: see whether the end of the file was lost"
+
+
+def enclose(source: Source, start: int, found: Explanation) -> None:
+    """Offers the root around all from a place on."""
+    end = len(source.document)
+    found.offer(Edit(start, start, encoded(f"<{ROOT}>\n")), Edit(end, end, encoded(f"</{ROOT}>\n")))
 
 
 def misplaced(source: Source, unit: Unit | None, found: Explanation) -> None:
@@ -186,6 +237,7 @@ def misplaced(source: Source, unit: Unit | None, found: Explanation) -> None:
         late_declaration(source, unit, found)
     elif unit.kind == "doctype":
         found.text = "a doctype may appear only once, before all tags: delete this one"
+        found.offer(Edit(unit.start, unit.end, b""))
     elif unit.kind == "text":
         misplaced_text(source, unit, found)
     else:
@@ -226,8 +278,10 @@ def late_declaration(source: Source, unit: Unit, found: Explanation) -> None:
         found.edits += [Edit(0, 0, source.document[unit.start : unit.end]), Edit(unit.start, unit.end, b"")]
     elif has_tag_before(source, unit):
         found.text = "<?xml ..?> has to come first: delete this one"
+        found.offer(Edit(unit.start, unit.end, b""))
     else:
         found.text = f"<?xml ..?> has to come first: delete what is before it ({counted(unit.start, 'byte')})"
+        found.offer(Edit(0, unit.start, b""))
 
 
 def misplaced_text(source: Source, unit: Unit, found: Explanation) -> None:
@@ -245,10 +299,22 @@ def misplaced_text(source: Source, unit: Unit, found: Explanation) -> None:
         found.edits.append(Edit(found.start, unit.start + len(raw.rstrip()), b""))
     elif has_tag_before(source, unit):
         found.text = f"there is text after </{ROOT}>: delete it or move </{ROOT}> after it"
-    elif source.units.opening(ROOT):
+        last = source.units.last_tag_before(unit.start)
+        delete_or_move(source, unit, last if last is not None and last.kind == "end" else None, found)
+    elif roots := source.units.opening(ROOT):
         found.text = f"there is text before <{ROOT}>: delete it or move it inside"
+        delete_or_move(source, unit, roots[0], found)
     else:
         found.text = f"the document has no <{ROOT}>: write <{ROOT}> before its text and </{ROOT}> after it"
+        enclose(source, unit.start, found)
+
+
+def delete_or_move(source: Source, text: Unit, root: Unit | None, found: Explanation) -> None:
+    """Offers to delete a text that is outside of the root, or to move the tag of the root to its other side."""
+    found.offer(Edit(text.start, text.end, b"\n" if text.end == len(source.document) else b""))
+    if root is not None:
+        at = text.end if root.start < text.start else text.start
+        found.offer(Edit(root.start, root.end, b""), Edit(at, at, source.document[root.start : root.end]))
 
 
 def misplaced_tag(source: Source, unit: Unit, found: Explanation) -> None:
@@ -259,6 +325,7 @@ def misplaced_tag(source: Source, unit: Unit, found: Explanation) -> None:
         left_open(source, link, described(unit), unit, found)
     elif first is None or last is None:
         found.text = f"the root has to be <{ROOT}>: write <{ROOT}> before <{cut(unit.name)}> and </{ROOT}> at the end"
+        enclose(source, unit.start, found)
     elif open_tags(source.units, unit.start):
         root_inside(source, unit, first, last, found)
     else:
@@ -273,6 +340,8 @@ def root_inside(source: Source, unit: Unit, first: Unit, last: Unit, found: Expl
     said = f"<{ROOT}> is inside <{ROOT}>, opened at {source.at(first.start)}"
     if last != first:
         found.text = f"{said}: does a second document begin here? If so, split it off; otherwise delete the tag"
+        found.offer(*source.without(unit))
+        found.offer(Edit(unit.start, unit.end, b""))
         return
     ends = [one for one in source.units.named(ROOT) if one.kind == "end"]
     found.text = f"{said}, so it appears twice: delete one of the two" + (", and one of the end tags" if len(ends) > 1 else "")
@@ -298,6 +367,8 @@ def left_open(source: Source, link: Unit, what: str, unit: Unit, found: Explanat
     found.start, found.end = link.start, link.end
     if ended is not None and ended.kind == "end" and ended.name == link.name:
         found.text = f"<{link.name}> holds {what}, and has to be empty: move it before this tag"
+        whole = (source.end_of(unit) or unit).end
+        found.offer(Edit(link.start, link.start, source.document[unit.start : whole]), Edit(unit.start, whole, b""))
     else:
         unclosed_link(source, link, what, unit, found)
 

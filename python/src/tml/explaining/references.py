@@ -12,12 +12,12 @@ from functools import partial
 from itertools import islice, pairwise
 
 from ..statuses import INTERVAL_LIMIT, LINK_LIMIT
-from ..tags.edits import Edit, encoded, with_value
-from ..tags.profile import IDENTIFIERS, LEFT, LINK_TAGS, RIGHT, TABLE, Kind, Row
+from ..tags.edits import Edit, Ways, encoded, known, with_value
+from ..tags.profile import IDENTIFIERS, LEFT, LINK_TAGS, RIGHT, ROOT, TABLE, Kind, Row
 from ..tags.similar import LOOKALIKES, MOST_CHOICES, one_letter_apart, plain
 from ..tags.source import Explanation, Note, Source, attribute_of
 from ..tags.units import Attribute, Unit
-from .attributes import about, article, number_of, text_of
+from .attributes import Cures, about, article, number_of, tell_all, text_of, with_values
 from .faults import DUPLICATE, MANY_INTERVALS, MANY_LINKS, UNKNOWN_REFERENCE
 
 MOST_NAMED = 8
@@ -25,6 +25,9 @@ MOST_NAMED = 8
 
 IN_ORDER = 6
 """How many identifiers beside the two have to stand in the order of their numbers, for this order to say which tag has a wrong one."""
+
+UNKNOWN = {"tense": "NONE", "aspect": "NONE", "pos": "UNKNOWN", "polarity": "POS"}
+"""What an instance has of whose event nothing is known but that it is said."""
 
 NUMBERED = re.compile(r"([^0-9]*)([0-9]{1,9})")
 """An identifier that ends with a number."""
@@ -54,6 +57,7 @@ def cure_of_two(source: Source, first: Unit, tag: Unit, attribute: Attribute, fo
     name, names = text_of(source, attribute), source.dangling(tag.name)
     if first.kind == "start" and is_inside(source, tag, first):
         found.edits += without_copy(source, first, tag)
+        found.offered.append(lambda: [source.without(one) for one in (tag, first)])
         return "it is inside that one, so delete one of the two, and leave the words"
     if names:
         return cure_by_lost_name(source, first, tag, attribute, names, found)
@@ -64,6 +68,9 @@ def cure_of_two(source: Source, first: Unit, tag: Unit, attribute: Attribute, fo
     if number is not None:
         found.edits.append(with_value(attribute, source.document, encoded(number)))
         return f"write {number}, the next one, here"
+    if tag.name not in LINK_TAGS or name in source.referred[tag.name]:
+        found.offered.append(lambda: [(Edit(tag.start, whole_end(source, tag), b""),)])
+    found.offered.append(lambda: with_values(source, attribute, [source.fresh(tag.name)]))
     if name in source.referred[tag.name]:
         other = source.referred[tag.name][name]
         return (
@@ -101,6 +108,7 @@ def without_copy(source: Source, first: Unit, tag: Unit) -> list[Edit]:
 def cure_by_lost_name(source: Source, first: Unit, tag: Unit, attribute: Attribute, names: dict[str, Unit], found: Explanation) -> str:
     """What to do about two tags with one identifier where tags refer to others that no tag has."""
     [(name, other), *more] = names.items()
+    found.offered.append(lambda: () if found.edits else lost_names(source, first, tag, attribute, names))
     if more:
         return f"one of the two is meant to be one of {some(names)}, to which tags refer and which no tag has"
     said = f'{IDENTIFIERS[tag.name]}="{name}", to which the {other.name} at {source.at(other.start)} refers and which no tag has'
@@ -108,6 +116,13 @@ def cure_by_lost_name(source: Source, first: Unit, tag: Unit, attribute: Attribu
         found.edits.append(with_value(attribute, source.document, encoded(name)))
         return f"write {said}"
     return f"in one of the two write {said}"
+
+
+def lost_names(source: Source, first: Unit, tag: Unit, attribute: Attribute, names: Iterable[str]) -> Iterator[tuple[Edit, ...]]:
+    """The edits that give one of two tags a name to which tags refer in vain: to the second one, and to the first of the same kind."""
+    own = attribute_of(first, IDENTIFIERS[first.name]) if first.name == tag.name else None
+    for name in islice(names, MOST_NAMED):
+        yield from (way for one in (attribute, own) if one is not None for way in with_values(source, one, [name]))
 
 
 def written(source: Source, tag: Unit) -> bytes:
@@ -164,13 +179,15 @@ def number_by_order(source: Source, first: Unit, tag: Unit, name: str) -> str | 
 
 def unknown_reference(source: Source, tag: Unit, found: Explanation) -> None:
     """Fault 15: references that find no tag."""
-    sentences = []
+    cures: list[Cures] = []
     for attribute, row in unknown_references(source, tag):
         about(found, attribute)
         said, meant = lost(source, tag, attribute, row)
-        sentences.append(said)
-        found.edits += [Edit(attribute.start, attribute.end, encoded(meant))] if meant else []
-    found.text = "; and ".join(sentences)
+        edits = [Edit(attribute.start, attribute.end, encoded(meant))] if meant else []
+        found.edits += edits
+        ways: Ways = partial(ways_of_lost, source, tag, attribute, row)
+        cures.append((said, known(tuple(edits)) if edits else ways))
+    tell_all(cures, found)
 
 
 def unknown_references(source: Source, tag: Unit) -> Iterator[tuple[Attribute, Row]]:
@@ -206,6 +223,44 @@ def lost(source: Source, tag: Unit, attribute: Attribute, row: Row) -> tuple[str
     if not names:
         return f"{sentence}, and the document has no {target}: add one", None
     return f"{sentence}; there {'is' if len(names) == 1 else 'are'} {some(names)}", None
+
+
+def ways_of_lost(source: Source, tag: Unit, attribute: Attribute, row: Row) -> Iterator[tuple[Edit, ...]]:
+    """What `lost` names where it is not clear what was meant: a tag that is to be added or to have the identifier, or other identifiers."""
+    name, target = text_of(source, attribute), row.form.target
+    other, twice = source.bearer(name), source.once("twice", target, lambda: stands_twice(source, target))
+    if other is None and twice is not None:
+        for one in filter(None, (attribute_of(tag, IDENTIFIERS[target]) for tag in reversed(twice))):
+            yield (with_value(one, source.document, encoded(name)),)
+    elif target == "MAKEINSTANCE" and other is not None and other.name == "EVENT" and not source.instances.get(name):
+        fresh = source.fresh("MAKEINSTANCE")
+        yield added(source, new_instance(source, fresh, name, filled=True)), with_value(attribute, source.document, encoded(fresh))
+    elif target == "MAKEINSTANCE" and other is None and source.without_instance():
+        events = events_of_lost(source, name)
+        yield from ((added(source, new_instance(source, name, event, filled=True)),) for event in islice(events, MOST_NAMED))
+    else:
+        yield from with_values(source, attribute, islice(others_than(source, name, other, target), MOST_NAMED))
+
+
+def others_than(source: Source, name: str, other: Unit | None, target: str) -> Iterable[str]:
+    """The identifiers of a kind that are named in the place of one that no such tag has."""
+    if other is not None and other.name == "EVENT" and target == "MAKEINSTANCE":
+        return source.instances.get(name, [])
+    event = source.value(other, "eventID") if other is not None and target == "EVENT" else ""
+    return [event] if event in source.identifiers["EVENT"] else source.identifiers[target]
+
+
+def added(source: Source, written: str) -> Edit:
+    """The edit that adds an instance on a line of its own: after the last one that there is, else before the links, else at the end."""
+    line_end = "\r\n" if b"\r\n" in source.document else "\n"
+    same = source.tags("MAKEINSTANCE")
+    if same:
+        end = whole_end(source, same[-1])
+        return Edit(end, end, encoded(line_end + written))
+    links = [tag.start for one in LINK_TAGS for tag in source.tags(one)[:1]]
+    ends = [unit.start for unit in source.units.named(ROOT) if unit.kind == "end"]
+    at = min(links) if links else ends[-1] if ends else len(source.document)
+    return Edit(at, at, encoded(written + line_end))
 
 
 def stands_twice(source: Source, kind: str) -> tuple[Unit, Unit] | None:
@@ -255,15 +310,19 @@ def beginnings(source: Source) -> set[str]:
 
 def lost_instance(source: Source, name: str) -> str:
     """What to add where an instance was lost: the whole tag where it is known of which event."""
-    events = source.without_instance()
-    same = bare_of_number(source, number_of(name))
-    event = same[0] if len(same) == 1 else events[0] if len(events) == 1 else None
-    if event is None:
+    events = events_of_lost(source, name)
+    if len(events) > 1:
         return (
             f'it was probably lost: add <MAKEINSTANCE eiid="{name}" eventID=".."/> for one of the events without an '
             f'instance, {some(events)}'
         )
-    return f"it was probably lost: add {new_instance(source, name, event)}"
+    return f"it was probably lost: add {new_instance(source, name, events[0])}"
+
+
+def events_of_lost(source: Source, name: str) -> list[str]:
+    """The events without an instance of which one was probably that of an instance that was lost."""
+    same = bare_of_number(source, number_of(name))
+    return same if len(same) == 1 else source.without_instance()
 
 
 def bare_of_number(source: Source, number: str) -> list[str]:
@@ -271,9 +330,10 @@ def bare_of_number(source: Source, number: str) -> list[str]:
     return source.once("bare", "number", lambda: grouped(source.without_instance(), number_of)).get(number, [])
 
 
-def new_instance(source: Source, name: str, event: str) -> str:
-    """A new instance of an event; what all others say of theirs is to be filled in."""
-    more = "".join(f' {attribute}=".."' for attribute in source.once("usual", "MAKEINSTANCE", lambda: usual_of_instances(source)))
+def new_instance(source: Source, name: str, event: str, *, filled: bool = False) -> str:
+    """A new instance of an event; what all others say of theirs is to be filled in, or is as if nothing were known of it."""
+    usual = source.once("usual", "MAKEINSTANCE", lambda: usual_of_instances(source))
+    more = "".join(f' {attribute}="{UNKNOWN[attribute] if filled else ".."}"' for attribute in usual)
     return f'<MAKEINSTANCE eiid="{name}" eventID="{event}"{more}/>'
 
 

@@ -6,7 +6,7 @@ import re
 from collections.abc import Iterable
 
 from ..saying import counted
-from ..tags.edits import Edit
+from ..tags.edits import Edit, known
 from ..tags.profile import ROOT
 from ..tags.similar import nearest
 from ..tags.source import Explanation
@@ -18,6 +18,10 @@ LONGEST_CHARACTER = 4
 MARKS = re.compile(rb"^(?:<{7}|>{7}|\|{7}|={7})(?:[ \t][^\r\n]*)?$", re.MULTILINE)
 CONFLICT = re.compile(rb"^(?:<{7}|>{7}|\|{7})(?:[ \t][^\r\n]*)?$", re.MULTILINE)
 """A line that version control leaves where two versions were not merged; the line between them may be part of a text."""
+
+LINES = rb"(?:(?![<=>|]{7})[^\n]*\n)*"
+VERSIONS = re.compile(rb"<{7}[^\n]*\n(%b)(?:\|{7}[^\n]*\n%b)?={7}[^\n]*\n(%b)>{7}[^\n]*(?:\n|\Z)" % (LINES, LINES, LINES))
+"""All lines of both versions, with their marks."""
 
 WITHOUT_BEGIN = re.compile(
     rb"(?<![<\w/])(?:(EVENT|TIMEX3|SIGNAL|MAKEINSTANCE|TLINK|ALINK|SLINK)"
@@ -38,7 +42,7 @@ def of_whole(document: bytes, fault: Fault) -> Explanation | None:
     """What a fault is about where it comes of something that is wrong with the file as a whole."""
     mark = first_conflict(document)
     if mark is not None:
-        return of_conflict(mark)
+        return of_conflict(document, mark)
     if fault.number <= MISPLACED and is_cut_off(document, fault):
         return of_lost_end(document, fault)
     bare = WITHOUT_BEGIN.search(document) if fault.number > BAD_MARKUP else None
@@ -69,9 +73,14 @@ def first_conflict(document: bytes) -> re.Match[bytes] | None:
     return CONFLICT.search(document) if any(sign in document for sign in SIGNS) else None
 
 
-def of_conflict(mark: re.Match[bytes]) -> Explanation:
-    """Two versions of some lines."""
+def of_conflict(document: bytes, mark: re.Match[bytes]) -> Explanation:
+    """Two versions of some lines: offered is to keep the one or the other one."""
     found = Explanation(*mark.span())
+    block = VERSIONS.match(document, mark.start())
+    if block is None:
+        found.offer(Edit(mark.start(), min(mark.end() + 1, len(document)), b""))
+    else:
+        found.offered.append(known(*((Edit(block.start(), block.end(), version),) for version in block.groups())))
     found.text = (
         "a mark of version control: two versions of these lines were not merged; keep what is right of them, and delete the lines that "
         "begin with <<<<<<<, ======= and >>>>>>>"
@@ -103,6 +112,7 @@ def of_lost_end(document: bytes, fault: Fault) -> Explanation:
     found.text = (
         f"the file {where}{lacking}, so its end was lost: restore it from a copy, or if nothing else is missing write </{ROOT}> at the end"
     )
+    found.offer(Edit(last, len(document), f"\n</{ROOT}>\n".encode()))
     return found
 
 

@@ -2,10 +2,15 @@
 
 from __future__ import annotations
 
-from collections.abc import Iterable, Iterator
+from collections.abc import Callable, Iterable, Iterator, Sequence
+from itertools import chain, islice, product
 from typing import NamedTuple
 
 from .units import Attribute, Unit
+
+
+MOST_COMBINED = 24
+"""So many ways to mend several slips at once are looked at."""
 
 
 class Edit(NamedTuple):
@@ -30,6 +35,20 @@ def applied_in_order(document: bytes, edits: Iterable[Edit]) -> bytes:
         at = edit.end
     changed += whole[at:]
     return bytes(changed)
+
+
+Ways = Callable[[], Iterable[tuple[Edit, ...]]]
+"""Finds the ways in which something can be mended, where they are asked for: of most slips they are not."""
+
+
+def known(*ways: tuple[Edit, ...]) -> Ways:
+    """The same of ways that are known."""
+    return lambda: ways
+
+
+def combined(ways: Sequence[Ways]) -> Iterator[tuple[Edit, ...]]:
+    """Of several slips, each of which can be mended in some ways, the ways to mend all of them."""
+    return islice((tuple(chain(*one)) for one in product(*(find() for find in ways))), MOST_COMBINED)
 
 
 def disjoint(edits: Iterable[Edit]) -> Iterator[Edit]:

@@ -9,7 +9,7 @@ from typing import Any, NamedTuple, Protocol, TypeVar
 
 from ..places import Places
 from ..statuses import MANY_BYTES
-from .edits import Edit
+from .edits import Edit, Ways
 from .profile import IDENTIFIERS, LEFT, RIGHT, ROOT, TABLE, Kind
 from .units import END, START, TEXT, Attribute, Unit, Units
 from .values import CALENDAR
@@ -44,11 +44,13 @@ class Suspect(NamedTuple):
     stretch: tuple[int, int] | None = None
     edits: tuple[Edit, ...] = ()
     """What mends it, where there is one cure only."""
+    choices: Ways = tuple
+    """What the sentence offers, of which a person has to choose."""
 
     @classmethod
-    def of_attribute(cls, tag: Unit, attribute: Attribute, text: str, edit: Edit | None = None) -> Suspect:
+    def of_attribute(cls, tag: Unit, attribute: Attribute, text: str, edit: Edit | None = None, choices: Ways = tuple) -> Suspect:
         """What is suspect in an attribute of a tag."""
-        return cls(tag, text, (attribute.start, attribute.end), () if edit is None else (edit,))
+        return cls(tag, text, (attribute.start, attribute.end), () if edit is None else (edit,), choices)
 
 
 class Explanation:
@@ -63,7 +65,18 @@ class Explanation:
         self.attributes: list[Attribute] = []
         self.edits: list[Edit] = []
         """What mends it, where there is one cure only."""
+        self.offered: list[Ways] = []
         self.units: Units | None = None
+        self.document = b""
+        """The document in which it was found; of a further fault a copy, in which those before it are mended or blanked out."""
+
+    def offer(self, *edits: Edit) -> None:
+        """Adds some edits that the sentence offers."""
+        self.offered.append(lambda: [edits])
+
+    def choices(self) -> Iterator[tuple[Edit, ...]]:
+        """What the sentence offers, of which a person has to choose."""
+        return (way for find in self.offered for way in find())
 
 
 class Names(dict[tuple[str, ...], tuple[str, ...] | None]):
@@ -253,6 +266,10 @@ class Source:
         """The end tag of a start tag."""
         number = self.once("ends", "", self.units.end_tags).get(tag.start) if tag.kind == "start" else None
         return None if number is None else self.units[number]
+
+    def without(self, tag: Unit) -> tuple[Edit, ...]:
+        """The edits that take a tag out, and its end tag, and leave what it holds."""
+        return tuple(Edit(one.start, one.end, b"") for one in (tag, self.end_of(tag)) if one is not None)
 
     def bearer(self, name: str) -> Unit | None:
         """The first tag of whatever kind that has this identifier."""

@@ -18,6 +18,9 @@ CALENDAR = re.compile(
 )
 """The shapes that the calendar places. Two digits are a century, and three a decade."""
 
+SHORTEST_DATE = 4
+"""So many digits has a value at least that is rather a date than a length."""
+
 NUMBER = r"(?:\d{1,9}|X)"
 DURATION = re.compile(
     rf"P(?=[\dXT])(?:{NUMBER}Y)?(?:{NUMBER}M)?(?:{NUMBER}W)?(?:{NUMBER}D)?(?:T(?=[\dX])(?:{NUMBER}H)?(?:{NUMBER}M)?(?:{NUMBER}S)?)?",
@@ -149,6 +152,17 @@ def exchanged(value: str) -> str | None:
     if found is None or not is_number(found["month"]) or not is_number(found["day"]) or int(found["month"]) <= 12 or int(found["day"]) > 12:
         return None
     return next(iter(real(f"{found['year']}-{found['day']}-{found['month']}{value[len('YYYY-MM-DD') :]}")), None)
+
+
+def next_day(value: str) -> str | None:
+    """The time that was meant where the day is over by hours, as 24:30, and the next day is known."""
+    found = CALENDAR.fullmatch(value)
+    if found is None or found["hour"] != "24" or not real(value[: len("YYYY-MM-DD")]) or "X" in value[: len("YYYY-MM-DD")]:
+        return None
+    from datetime import date, timedelta
+
+    day = date.fromisoformat(value[: len("YYYY-MM-DD")])
+    return next(iter(real(f"{day + timedelta(days=1)}T00{value[len('YYYY-MM-DDT24') :]}")), None) if day < date.max else None
 
 
 def years_of(found: re.Match[str]) -> list[int]:

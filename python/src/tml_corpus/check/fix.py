@@ -2,7 +2,7 @@
 
 from __future__ import annotations
 
-from collections.abc import Callable, Iterator
+from collections.abc import Callable, Iterable, Iterator
 from dataclasses import dataclass, field
 from functools import partial
 from itertools import chain, islice
@@ -164,11 +164,15 @@ def helping(program: Program, document: bytes, fault: Fault, words: str, edits: 
     if changed == document:
         return None
     following = first_fault(program, changed)
-    shift = sum(len(edit.text) - (edit.end - edit.start) for edit in edits if edit.end <= fault.offset)
-    moved = Fault(fault.number, fault.name, fault.offset + shift)
-    if following is not None and following.order() <= moved.order():
+    if following is not None and following.order() <= moved(fault, edits).order():
         return None
     return Step(f"{words} ({counted(len(edits), 'change')})", edits, changed, following)
+
+
+def moved(fault: Fault, edits: Iterable[Edit]) -> Fault:
+    """A fault at the place where it is after some edits before it."""
+    shift = sum(len(edit.text) - (edit.end - edit.start) for edit in edits if edit.end <= fault.offset)
+    return Fault(fault.number, fault.name, fault.offset + shift)
 
 
 def cures_of_tags(source: Source, number: int) -> Iterator[Edit]:

@@ -172,8 +172,8 @@ def serve_words(words: Parser) -> None:
     """The words of `serve`, which an editor starts."""
     words.description = (
         "Speaks the Language Server Protocol over standard input and output: while a document is being written it reports its faults, "
-        "clashes and warnings, says what a time, a link or an event is and where an identifier occurs, suggests what may be written, and "
-        "mends what has only one cure. An editor starts it; docs/EDITORS.md says how."
+        "clashes and warnings, says what a time, a link or an event is and where an identifier occurs, suggests what may be written, "
+        "renames identifiers, mends what is at fault, and annotates a selection. An editor starts it; docs/EDITORS.md says how."
     )
     shared_words(words)
 

@@ -3,10 +3,12 @@
 from __future__ import annotations
 
 from collections.abc import Iterator
+from functools import partial
 from itertools import combinations
 
-from tml.explaining.references import new_instance
+from tml.explaining.references import added, new_instance, whole_end
 from tml.statuses import INVERSES
+from tml.tags.edits import Edit
 from tml.tags.profile import TABLE
 from tml.tags.source import Source, Suspect
 from tml.tags.units import Unit
@@ -41,9 +43,13 @@ def repeated_link(source: Source) -> Iterator[Suspect]:
         elif left != right:
             lid = source.value(first, "lid")
             where = f"by {lid} at {source.at(first.start)}" if lid else f"at {source.at(first.start)}"
-            yield Suspect(
-                tag, f"{left} {relation} {right} is given {where} already: see whether another pair is meant, or delete one of the two"
-            )
+            text = f"{left} {relation} {right} is given {where} already: see whether another pair is meant, or delete one of the two"
+            yield Suspect(tag, text, choices=partial(one_of_two, source, tag, first))
+
+
+def one_of_two(source: Source, *tags: Unit) -> list[tuple[Edit, ...]]:
+    """The edits that delete one of some tags."""
+    return [(Edit(tag.start, whole_end(source, tag), b""),) for tag in tags]
 
 
 def opposed_instances(source: Source) -> Iterator[Suspect]:
@@ -80,7 +86,13 @@ def event_without_instance(source: Source) -> Iterator[Suspect]:
     """An event that no MAKEINSTANCE names, so that no link can."""
     for name in source.without_instance():
         tag, fresh = source.identified("EVENT")[name], source.fresh("MAKEINSTANCE")
-        yield Suspect(tag, f"{name} has no instance, so no link can name it: add {new_instance(source, fresh, name)}")
+        text = f"{name} has no instance, so no link can name it: add {new_instance(source, fresh, name)}"
+        yield Suspect(tag, text, choices=partial(with_instance, source, fresh, name))
+
+
+def with_instance(source: Source, fresh: str, event: str) -> list[tuple[Edit, ...]]:
+    """The edits that add an instance of an event."""
+    return [(added(source, new_instance(source, fresh, event, filled=True)),)]
 
 
 def unlinked_instance(source: Source) -> Iterator[Suspect]:

@@ -7,11 +7,12 @@ from itertools import chain
 
 from tml.explaining.wholeness import WITHOUT_BEGIN, first_conflict, name_of_bare, version_marks
 from tml.statuses import MANY_BYTES
-from tml.tags.edits import Edit
+from tml.tags.edits import Edit, known
 from tml.tags.profile import CARRIED, ROOT, TABLE
 from tml.tags.similar import one_letter_apart
 from tml.tags.source import Source, Suspect, attribute_of, cut
 from tml.tags.units import END, START, TEXT, Attribute, Unit
+
 
 KNOWN = {name: frozenset((*TABLE.get(name, ()), *CARRIED.get(name, ()))) for name in (ROOT, *TABLE)}
 AROUND_WORDS = ("EVENT", "TIMEX3")
@@ -27,8 +28,9 @@ def misspelled_attribute(source: Source) -> Iterator[Suspect]:
         near = sorted(name for name in missing if one_letter_apart(attribute.name, name))
         if near:
             text = f"{cut(attribute.name)} is not a known attribute of {tag.name}; did you mean {' or '.join(near)}?"
-            edit = Edit(attribute.start, attribute.start + len(attribute.name.encode("utf-8", "surrogateescape")), near[0].encode())
-            yield Suspect.of_attribute(tag, attribute, text, edit if len(near) == 1 else None)
+            end = attribute.start + len(attribute.name.encode("utf-8", "surrogateescape"))
+            edits = [Edit(attribute.start, end, name.encode()) for name in near]
+            yield Suspect.of_attribute(tag, attribute, text, edits[0] if len(near) == 1 else None, known(*zip(edits)))
 
 
 def unknown_attribute(source: Source) -> Iterator[Suspect]:
@@ -96,7 +98,8 @@ def version_mark(source: Source) -> Iterator[Suspect]:
     root = source.units.first_tag()
     if root is not None and first_conflict(source.document) is not None:
         for start, end in version_marks(source.document):
-            yield Suspect(root, "a mark of version control: see which version of these lines is right, and delete the mark", (start, end))
+            text = "a mark of version control: see which version of these lines is right, and delete the mark"
+            yield Suspect(root, text, (start, end), choices=known((Edit(start, end, b""),)))
 
 
 def tag_as_text(source: Source) -> Iterator[Suspect]:

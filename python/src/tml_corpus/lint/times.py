@@ -2,20 +2,29 @@
 
 from __future__ import annotations
 
-from collections.abc import Iterator
+import re
+from collections.abc import Iterable, Iterator
+from functools import partial
 
-from tml.tags.edits import Edit, encoded, with_value
+from tml.tags.edits import Edit, Ways, encoded, with_spaces_before, with_value
 from tml.tags.invisible import first_invisible
 from tml.tags.source import Source, Suspect, attribute_of, cut
 from tml.tags.units import Unit
-from tml.tags.values import CALENDAR, DURATION, FISCAL, LOOKS_LIKE_DATE, PART_OF_DAY, RANGE, better, has_form
+from tml.tags.values import CALENDAR, DURATION, FISCAL, LOOKS_LIKE_DATE, PART_OF_DAY, RANGE, SHORTEST_DATE, better, has_form
+
 from .said_dates import YEAR, contradiction, spoken_for, year_of
 
 DATED = ("DATE", "TIME")
 """The types of which the value is a date."""
 
+MOST_CREATION_TIMES = 3
+"""So many times, the first ones, are offered to be the creation time."""
+
 NEAR, FAR = 2, 5
 """Within so many years of its creation time a document mostly speaks, and from the second number on a date is far from it."""
+
+TOO_FINE = re.compile(r"(?<=T\d\d)((?::\d\d){0,2})(?:[.,]\d+)?(?:Z|[+-]\d\d(?::?\d\d)?)?$", re.ASCII)
+"""The minutes and seconds of a time, and then parts of a second and a zone, which the calendar does not know."""
 
 PLACED_BY_LINKS = "which the calendar does not place: only links can order it"
 
@@ -25,13 +34,20 @@ def value_form(source: Source) -> Iterator[Suspect]:
     for tag, _, value in source.odd_times:
         if not has_form(value) and not LOOKS_LIKE_DATE.fullmatch(value):
             hint, edit = meant_value(source, tag, value)
-            yield of_value(tag, f'value="{cut(value)}" is not a TIMEX3 value, so the calendar cannot place it{hint}', edit)
+            said = f'value="{cut(value)}" is not a TIMEX3 value, so the calendar cannot place it{hint}'
+            yield of_value(tag, said, edit, partial(others, source, tag, "value", better(value)))
 
 
-def of_value(tag: Unit, text: str, edit: Edit | None = None) -> Suspect:
+def of_value(tag: Unit, text: str, edit: Edit | None = None, choices: Ways = tuple) -> Suspect:
     """A warning on the value of a time."""
     attribute = attribute_of(tag, "value")
-    return Suspect(tag, text) if attribute is None else Suspect.of_attribute(tag, attribute, text, edit)
+    return Suspect(tag, text) if attribute is None else Suspect.of_attribute(tag, attribute, text, edit, choices)
+
+
+def others(source: Source, tag: Unit, name: str, values: Iterable[str]) -> list[tuple[Edit, ...]]:
+    """The edits that give an attribute one of some values."""
+    attribute = attribute_of(tag, name)
+    return [(with_value(attribute, source.document, encoded(value)),) for value in values] if attribute is not None else []
 
 
 def meant_value(source: Source, tag: Unit, value: str) -> tuple[str, Edit | None]:
@@ -59,11 +75,17 @@ def free_date(source: Source) -> Iterator[Suspect]:
     """A value that looks like a date, of a time that has none."""
     for tag, kind, value in source.odd_times:
         if kind == "DURATION" and CALENDAR.fullmatch(value):
-            yield of_value(tag, f'value="{value}" is {a_date(value)}, and a DURATION has none; did you mean {not_a_date(value)}?')
+            text = f'value="{value}" is {a_date(value)}, and a DURATION has none; did you mean {not_a_date(value)}?'
+            is_length = len(value) < SHORTEST_DATE
+            name, meant = ("value", length_of(value)) if is_length else ("type", "DATE")
+            yield of_value(tag, text, choices=partial(others, source, tag, name, [meant]))
         elif kind in DATED and DURATION.fullmatch(value):
-            yield of_value(tag, f'value="{value}" is a duration, so this {kind} has no date; did you mean type="DURATION"?')
+            text = f'value="{value}" is a duration, so this {kind} has no date; did you mean type="DURATION"?'
+            yield of_value(tag, text, choices=partial(others, source, tag, "type", ["DURATION"]))
         elif not CALENDAR.fullmatch(value) and LOOKS_LIKE_DATE.fullmatch(value):
-            yield of_value(tag, f'value="{cut(value)}" looks like a date, and the calendar does not place it: {why_free(value)}')
+            text = f'value="{cut(value)}" looks like a date, and the calendar does not place it: {why_free(value)}'
+            shorter = TOO_FINE.sub(r"\1", value)
+            yield of_value(tag, text, choices=partial(others, source, tag, "value", [shorter] if CALENDAR.fullmatch(shorter) else []))
 
 
 def a_date(value: str) -> str:
@@ -73,7 +95,12 @@ def a_date(value: str) -> str:
 
 def not_a_date(value: str) -> str:
     """What was probably meant by such a value of a DURATION: a few digits are rather a length than a decade."""
-    return f"a length, as P{int(value)}D" if len(value) < 4 else 'type="DATE"'
+    return f"a length, as {length_of(value)}" if len(value) < SHORTEST_DATE else 'type="DATE"'
+
+
+def length_of(digits: str) -> str:
+    """The length of so many days."""
+    return f"P{int(digits)}D"
 
 
 def why_free(value: str) -> str:
@@ -138,7 +165,12 @@ def two_creation_times(source: Source) -> Iterator[Suspect]:
                 f"the TIMEX3 at {source.at(first.start)} is the creation time already: see which of the two is, and "
                 f"remove this attribute from the other"
             )
-            yield Suspect.of_attribute(tag, attribute, text)
+            yield Suspect.of_attribute(tag, attribute, text, choices=partial(without_attribute, source, (tag, first), attribute.name))
+
+
+def without_attribute(source: Source, tags: Iterable[Unit], name: str) -> list[tuple[Edit, ...]]:
+    """The edits that take an attribute from one of some tags."""
+    return [(with_spaces_before(source.document, found),) for tag in tags if (found := attribute_of(tag, name)) is not None]
 
 
 def date_with_points(source: Source) -> Iterator[Suspect]:
@@ -157,6 +189,14 @@ def no_creation_time(source: Source) -> Iterator[Suspect]:
     """A document of which no time says when it was made."""
     root = source.units.first_tag() if not source.creation_times else None
     if root is not None:
-        yield Suspect(
-            root, 'the document has no creation time: add functionInDocument="CREATION_TIME" to the TIMEX3 that says when it was made'
-        )
+        text = 'the document has no creation time: add functionInDocument="CREATION_TIME" to the TIMEX3 that says when it was made'
+        yield Suspect(root, text, choices=lambda: [(says_when_made(source, tag),) for tag in source.tags("TIMEX3")[:MOST_CREATION_TIMES]])
+
+
+def says_when_made(source: Source, tag: Unit) -> Edit:
+    """The edit that makes a time the creation time."""
+    attribute = attribute_of(tag, "functionInDocument")
+    if attribute is not None:
+        return with_value(attribute, source.document, b"CREATION_TIME")
+    at = tag.start + 1 + len(tag.name)
+    return Edit(at, at, b' functionInDocument="CREATION_TIME"')

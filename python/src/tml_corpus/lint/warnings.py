@@ -5,7 +5,7 @@ from __future__ import annotations
 from collections.abc import Callable, Iterator
 from dataclasses import dataclass
 
-from tml.tags.edits import Edit
+from tml.tags.edits import Edit, Ways
 from tml.tags.source import Source, Suspect, cut
 
 from ..asking.program import Program
@@ -19,8 +19,8 @@ MOST_WARNINGS = 1000
 
 @dataclass(frozen=True)
 class Finding:
-    """Something suspect: the name of its kind, the sentence on it, the stretch that it speaks of, the tag as it is written, and its
-    one cure."""
+    """Something suspect: the name of its kind, the sentence on it, the stretch that it speaks of, the tag as it is written, its one
+    cure, and what the sentence offers else."""
 
     name: str
     text: str
@@ -28,6 +28,7 @@ class Finding:
     end: int
     tag: str
     edits: tuple[Edit, ...] = ()
+    choices: Ways = tuple
 
     def order(self) -> tuple[bool, int]:
         """What is probably a mistake comes before what is missing, and in the order of the text."""
@@ -70,7 +71,7 @@ def finding(source: Source, name: str, suspect: Suspect) -> Finding:
     tag = suspect.tag
     written = source.document[tag.start : min(tag.end, tag.start + 400)].decode("utf-8", "surrogateescape")
     start, end = suspect.stretch or (tag.start, tag.end)
-    return Finding(name, suspect.text, start, end, cut(written), suspect.edits)
+    return Finding(name, suspect.text, start, end, cut(written), suspect.edits, suspect.choices)
 
 
 def free_times(program: Program, source: Source) -> set[str]:

@@ -9,15 +9,19 @@ from dataclasses import dataclass
 from functools import cached_property
 from urllib.parse import unquote, urlsplit
 
+from tml.explaining.explain import explain
 from tml.explaining.faults import BAD_MARKUP, Fault, read_fault
+from tml.places import Places
 from tml.tags.cutting import units_of_whole
 from tml.tags.profile import IDENTIFIERS, TABLE, Kind
-from tml.tags.source import Source
+from tml.tags.source import Explanation, Source
 from tml.tags.units import Attribute, Unit, Units, end_of, open_tags, read_units
 
 from ..asking.program import ACCEPTED, CLASH, FAULT, CannotRun, File, Program, Reply, find_program
+from ..check.fix import Step, steps
+from ..check.further import further_faults
 from ..check.judgement import Judgement
-from ..check.judging import judge_document, placed_warnings
+from ..check.judging import judge_document, placed, placed_warnings
 from ..check.tags import cut
 from ..clash.clashes import is_timeline, read_clash
 from ..clash.report import ClashReport, Wanted
@@ -30,6 +34,7 @@ from ..document.words import LONGEST, Link, Wording
 from ..document.wrappers import Unwrapping
 from ..files.finding import Found
 from ..lint.kinds import Lint
+from ..lint.warnings import Finding, warnings_of
 from .places import ClientPlaces
 
 
@@ -54,6 +59,9 @@ class Asked(Program):
 class AskedUnwrapping(Asked, Unwrapping):
     """The same without the tags of the corpus's own wrappers."""
 
+
+FURTHER = 10
+"""So many further faults are looked for, and a third as many further clashes."""
 
 OF_TEXT = ("EVENT", "TIMEX3", "SIGNAL")
 """The tags that stand around words of the text."""
@@ -85,6 +93,7 @@ class OpenDocument:
         self.program, self.uri, self.lint, self.encoding = program, uri, lint, encoding
         self.path = path_of(uri) or uri
         self.text = text.encode("utf-8", "surrogatepass")
+        self.reports: dict[bool, ClashReport] = {}
 
     @cached_property
     def places(self) -> ClientPlaces:
@@ -128,16 +137,51 @@ class OpenDocument:
         """It beside its units."""
         return self.wording.source
 
-    def judgement(self, more: int) -> Judgement:
-        """Its fault with at most so many further ones, or what is suspect in it."""
+    @cached_property
+    def line_places(self) -> Places:
+        """Its places as messages have them."""
+        return Places(self.text)
+
+    @cached_property
+    def explained(self) -> list[tuple[Fault, Explanation, bool]]:
+        """Its first fault, and what that is about."""
+        fault = self.fault
+        return [] if fault is None else [(fault, explain(self.program, self.text, fault, self.line_places), False)]
+
+    @cached_property
+    def further(self) -> list[tuple[Fault, Explanation, bool]]:
+        """The further faults, each with whether it may be only a consequence of those before it."""
+        found: list[tuple[Fault, Explanation, bool]] = []
+        for fault, about, _ in self.explained:
+            found += further_faults(self.program, self.text, self.line_places, fault, about, FURTHER)
+        return found
+
+    @cached_property
+    def steps(self) -> list[Step]:
+        """What mends all slips of the kind of its first fault."""
+        return [] if self.fault is None else list(steps(self.program, self.text, self.fault))
+
+    def judgement(self, *, further: bool) -> Judgement:
+        """Its fault, with further ones where they are wanted, or what is suspect in it."""
         if self.fits():
             return Judgement(self.path, warnings=placed_warnings(self.program, self.source, self.lint))
-        return judge_document(self.program, self.path, self.text, True, more, reply=self.reply if self.fault else None)
+        if self.fault is None:
+            return judge_document(self.program, self.path, self.text, True, 0)
+        faults = self.explained + (self.further if further else [])
+        return Judgement(self.path, [placed(self.line_places, fault, found, True, perhaps) for fault, found, perhaps in faults])
 
-    def clashes(self, more: int) -> ClashReport:
-        """The clash of a document that no timeline fits, with at most so many further ones, and what is suspect."""
-        wanted = Wanted(more=more, lint=self.lint, every_clash=False)
-        return ClashSearch(self.program, Found(self.path), self.text, wanted, self.wording).report(read_clash(self.reply))
+    @cached_property
+    def suspects(self) -> list[Finding]:
+        """What is suspect in it, with what mends that; nothing where it has a fault."""
+        return list(warnings_of(self.program, self.source, self.lint)) if self.is_accepted() else []
+
+    def clashes(self, *, further: bool) -> ClashReport:
+        """The clash of a document that no timeline fits, with further ones where they are wanted, and what is suspect."""
+        if further not in self.reports:
+            wanted = Wanted(more=FURTHER // 3 if further else 0, lint=self.lint, every_clash=False)
+            search = ClashSearch(self.program, Found(self.path), self.text, wanted, self.wording)
+            self.reports[further] = search.report(read_clash(self.reply))
+        return self.reports[further]
 
     @cached_property
     def touching(self) -> list[Change]:

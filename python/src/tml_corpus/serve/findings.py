@@ -12,9 +12,6 @@ from .document import OpenDocument
 from .wire import Json
 
 ERROR, WARNING, INFORMATION = 1, 2, 3
-FURTHER = 10
-"""How many further faults are looked for, and a third as many further clashes."""
-
 MOST_RELATED = 16
 """How many other links of a clash stand beside each: those that come next in it."""
 
@@ -24,8 +21,8 @@ SOURCE = "tml"
 def findings(document: OpenDocument, *, further: bool) -> list[Json]:
     """What is said of a document: at first the first fault or clash, and then the further ones too."""
     if document.reply.status == CLASH:
-        return list(of_clashes(document, document.clashes(FURTHER // 3 if further else 0)))
-    judgement = document.judgement(FURTHER if further else 0)
+        return list(of_clashes(document, document.clashes(further=further)))
+    judgement = document.judgement(further=further)
     if judgement.problem is not None:
         return [problem_finding(judgement.problem)]
     faults = [of_fault(document, fault) for fault in judgement.faults]

@@ -5,12 +5,13 @@ From a word of the text the way to its links leads over its instances, so these 
 
 from __future__ import annotations
 
-from collections.abc import Iterator
+from collections.abc import Iterable, Iterator
 from heapq import nsmallest
 
-from tml.tags.profile import IDENTIFIERS, LEFT, RIGHT, TABLE, Kind, Row
+from tml.tags.profile import IDENTIFIERS, LEFT, RIGHT, TABLE, Kind
 from tml.tags.source import attribute_of
 from tml.tags.units import Unit
+
 from .document import OF_TEXT, Named, OpenDocument
 from .hover import OTHER_ENDS
 from .wire import Json
@@ -48,7 +49,7 @@ def references(document: OpenDocument, offset: int, *, with_definition: bool) ->
     if named is None:
         return []
     asked = [named] if document.attribute_around(offset) is not None else [named, *instances_of(document, named)]
-    found = [reference for one in asked for reference in references_to(document, one)]
+    found = list(references_to(document, asked))
     if with_definition:
         found += [own for one in asked if (own := defined(document, one)) is not None]
     return [location(document, one.start, one.end) for one in sorted(found, key=lambda one: one.start)]
@@ -62,19 +63,16 @@ def instances_of(document: OpenDocument, named: Named) -> Iterator[Named]:
             yield own
 
 
-def references_to(document: OpenDocument, named: Named) -> Iterator[Named]:
-    """The references to an identifier."""
-    for kind, rows in TABLE.items():
-        names = [row.name for row in rows.values() if refers_to(row, named.kind)]
-        for tag, values in document.source.valued(kind) if names else ():
-            if any(values.get(name, "") == named.name for name in names):
-                found = (document.named_by(tag, one) for one in tag.attributes if one.name in names)
-                yield from (one for one in found if one is not None and one.name == named.name)
-
-
-def refers_to(row: Row, kind: str) -> bool:
-    """Whether an attribute is a reference to tags of a kind."""
-    return row.form.kind is Kind.REFERENCE and row.form.target == kind
+def references_to(document: OpenDocument, named: Iterable[Named]) -> Iterator[Named]:
+    """The references to some identifiers, found in one pass."""
+    wanted = {(one.kind, one.name) for one in named}
+    kinds = {kind for kind, _ in wanted}
+    for tag_name, rows in TABLE.items():
+        targets = {row.name: row.form.target for row in rows.values() if row.form.kind is Kind.REFERENCE and row.form.target in kinds}
+        for tag, values in document.source.valued(tag_name) if targets else ():
+            if any((target, values.get(name, "")) in wanted for name, target in targets.items()):
+                found = (document.named_by(tag, one) for one in tag.attributes if one.name in targets)
+                yield from (one for one in found if one is not None and (one.kind, one.name) in wanted)
 
 
 def symbols(document: OpenDocument, *, as_tree: bool) -> list[Json]:

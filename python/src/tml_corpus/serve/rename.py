@@ -2,15 +2,15 @@
 
 from __future__ import annotations
 
-from tml.statuses import IDENTIFIER_LIMIT
-
 from tml.explaining.attributes import article
 from tml.explaining.faults import BAD_MARKUP
-from ..check.fix import first_fault
+from tml.statuses import IDENTIFIER_LIMIT
 from tml.tags.edits import Edit, applied
 from tml.tags.profile import IDENTIFIERS, is_identifier
 from tml.tags.source import cut
 from tml.tags.units import Unit
+
+from ..check.fix import first_fault
 from .document import Named, OpenDocument
 from .names import references_to
 from .wire import FAILED, Json, Refused
@@ -75,14 +75,12 @@ def why_not(document: OpenDocument, named: Named, name: str) -> str | None:
 
 def bearers(document: OpenDocument, name: str) -> list[Unit]:
     """The tags that have an identifier, of whatever kind, in their order."""
-    found = [
-        tag for kind, attribute in IDENTIFIERS.items() for tag, values in document.source.valued(kind) if values.get(attribute, "") == name
-    ]
-    return sorted(found, key=lambda tag: tag.start)
+    rows = ((tag, values.get(IDENTIFIERS[kind], "")) for kind in IDENTIFIERS for tag, values in document.source.valued(kind))
+    return sorted((tag for tag, own in rows if own == name), key=lambda tag: tag.start)
 
 
 def written(document: OpenDocument, named: Named) -> list[Named]:
     """Where an identifier is written: at the tag that has it, and where tags refer to it."""
     tag = document.tag_named(named)
     own = (document.named_by(tag, one) for one in tag.attributes if one.name == IDENTIFIERS[tag.name]) if tag is not None else ()
-    return [one for one in (*own, *references_to(document, named)) if one is not None and one.name == named.name]
+    return [one for one in (*own, *references_to(document, [named])) if one is not None and one.name == named.name]

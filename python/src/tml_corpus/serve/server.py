@@ -169,7 +169,7 @@ class Server:
             "referencesProvider": True,
             "renameProvider": {"prepareProvider": True},
             "documentSymbolProvider": True,
-            "completionProvider": {"triggerCharacters": ['"', "'", " "]},
+            "completionProvider": {"triggerCharacters": ['"', "'", " ", "<", "/"]},
             "codeActionProvider": {"codeActionKinds": list(ACTION_KINDS)},
         }
         return {"capabilities": capabilities, "serverInfo": {"name": "tml-corpus serve"}}

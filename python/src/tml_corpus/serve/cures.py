@@ -1,0 +1,122 @@
+"""What mends what is said of a document: for each fault and each warning the edits that its sentence names.
+
+`tml` is asked about each of them: what is preferred lets it come further, and what a person has to choose lets it come as far at least.
+What may be only a consequence of another fault is left until that is mended.
+"""
+
+from __future__ import annotations
+
+from collections.abc import Iterator
+from itertools import chain, islice
+
+from tml.explaining.faults import Fault
+from tml.statuses import RELATIONS
+from tml.tags.edits import Edit
+from tml.tags.profile import LEFT, RIGHT
+from tml.tags.source import Explanation, Source
+from tml.tags.units import unit_at
+
+from ..check.fix import ONE_CURE
+from .document import OpenDocument
+from .edits import BEYOND, action, how_far, titled
+from .possible import blanked, possible
+from .wire import Json
+
+QUICK_FIX = "quickfix"
+MOST_EDITS = 1000
+"""So many edits go one by one; of more one edit is made."""
+
+MOST_OFFERED, LEAST_OFFERED = 64, 4
+MOST_BYTES = 64 * 1024 * 1024
+"""So many edits are offered for the lines that are asked for; of a long document fewer, since `tml` is asked about each."""
+
+
+def cures(document: OpenDocument, lines: tuple[int, int]) -> Iterator[Json]:
+    """What mends the faults and the warnings in some lines."""
+    seen: set[tuple[Edit, ...]] = set()
+    titles: set[str] = set()
+    found = chain(of_first_fault(document, lines, seen), of_faults(document, lines, seen), of_warnings(document, lines, seen))
+    for one in islice(found, max(min(MOST_OFFERED, MOST_BYTES // max(len(document.text), 1)), LEAST_OFFERED)):
+        if one["title"] in titles:
+            start = one["edit"]["changes"][document.uri][0]["range"]["start"]
+            one["title"] += f", at {start['line'] + 1}:{start['character'] + 1}"
+        if one["title"] not in titles:
+            titles.add(one["title"])
+            yield one
+
+
+def of_first_fault(document: OpenDocument, lines: tuple[int, int], seen: set[tuple[Edit, ...]]) -> Iterator[Json]:
+    """All slips of the kind of the first fault, mended at once."""
+    fault = document.fault
+    for step in document.steps:
+        if fault is not None and is_near(lines, fault.offset, *(edit.start for edit in step.edits)):
+            seen.add(tuple(step.edits))
+            edits = step.edits if len(step.edits) <= MOST_EDITS else [difference(document.text, step.after)]
+            title = titled(document, document.text, edits, lines) if step.words.startswith(ONE_CURE) else f"Mend {step.words}"
+            yield action(document, title, QUICK_FIX, edits, preferred=True)
+
+
+def of_faults(document: OpenDocument, lines: tuple[int, int], seen: set[tuple[Edit, ...]]) -> Iterator[Json]:
+    """What the sentences on the faults name."""
+    for fault, found, perhaps in document.explained + document.further:
+        if not perhaps and is_near(lines, fault.offset, found.start, *(edit.start for edit in found.edits)):
+            yield from of_fault(document, fault, found, lines, seen)
+
+
+def is_near(lines: tuple[int, int], *places: int) -> bool:
+    """Whether one of some places is in some lines."""
+    return any(lines[0] <= place <= lines[1] for place in places)
+
+
+def of_fault(
+    document: OpenDocument, fault: Fault, found: Explanation, lines: tuple[int, int], seen: set[tuple[Edit, ...]]
+) -> Iterator[Json]:
+    """What the sentence on a fault names: its one cure, or what a person has to choose, in the order in which it is likely to help."""
+    sure = tuple(found.edits)
+    ways = [way for way in dict.fromkeys([sure, *found.choices()]) if way and way not in seen]
+    seen.update(ways)
+    reached = {way: how_far(document.program, found.document, fault, way) for way in ways}
+    helping = [way for way in ways if reached[way] is not None and (way != sure or reached[way] == BEYOND)]
+    left = left_by_others(document, fault, found) if any(relation_in(way) for way in helping) else None
+    for way in sorted(helping, key=lambda way: (reached[way], left is not None and relation_in(way) not in left)):
+        clashes = left is not None and relation_in(way) not in ("", *left)
+        title = titled(document, found.document, way, lines) + (", which clashes with the other links" if clashes else "")
+        yield action(document, title, QUICK_FIX, way, preferred=way == sure)
+
+
+def relation_in(way: tuple[Edit, ...]) -> str:
+    """The relation that some edits write; nothing where they write none."""
+    words = [edit.text.decode("utf-8", "replace").strip().removeprefix("relType=").strip('"') for edit in way]
+    return next((word for word in words if word in RELATIONS), "")
+
+
+def left_by_others(document: OpenDocument, fault: Fault, found: Explanation) -> list[str] | None:
+    """The relations that the rest of the document leaves for the link at fault; None where that is not known, or it is no TLINK."""
+    tag = unit_at(found.units, fault.offset) if found.units is not None else None
+    if tag is None or tag.name != "TLINK":
+        return None
+    source = Source(found.document, found.units)
+    left, right = (next(filter(None, (source.value(tag, name) for name in pair)), "") for pair in (LEFT, RIGHT))
+    end = source.end_of(tag) or tag
+    return possible(document.program, blanked(found.document, (tag.start, end.end)), left, right)
+
+
+def of_warnings(document: OpenDocument, lines: tuple[int, int], seen: set[tuple[Edit, ...]]) -> Iterator[Json]:
+    """What the sentences of warnings name; after it the document is accepted still."""
+    for warning in document.suspects:
+        ways = [warning.edits, *warning.choices()] if warning.start < lines[1] and lines[0] <= warning.end else []
+        for way in filter(None, ways):
+            if way not in seen and how_far(document.program, document.text, None, way) == BEYOND:
+                seen.add(way)
+                yield action(document, titled(document, document.text, way, lines), QUICK_FIX, way, preferred=way == warning.edits)
+
+
+def difference(before: bytes, after: bytes) -> Edit:
+    """The stretch in which two texts differ. It begins and ends with whole lines, so that no character is cut."""
+    old, new = before.splitlines(keepends=True), after.splitlines(keepends=True)
+    first = next((number for number, (one, other) in enumerate(zip(old, new, strict=False)) if one != other), min(len(old), len(new)))
+    rest = zip(reversed(old[first:]), reversed(new[first:]), strict=False)
+    same = next((number for number, (one, other) in enumerate(rest) if one != other), min(len(old), len(new)) - first)
+    last, new_last = len(old) - same, len(new) - same
+    start = sum(map(len, old[:first]))
+    return Edit(start, start + sum(map(len, old[first:last])), b"".join(new[first:new_last]))
