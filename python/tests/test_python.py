@@ -51,7 +51,7 @@ class Questions:
         found = tml.check(RATES, by=self.by)
         self.assertEqual((found.events, found.instances, found.times, found.signals, found.tlinks, found.alinks, found.slinks), (2, 2, 2, 1, 2, 0, 0))
         self.assertEqual(found.intervals, ("t0", "t1", "ei1", "ei2"))
-        self.assertEqual(found.links, (tml.Link(0, "ei1", "BEFORE", "ei2"), tml.Link(1, "ei2", "IS_INCLUDED", "t1")))
+        self.assertEqual(found.links, (tml.Link(0, "ei1", "BEFORE", "ei2", "l1"), tml.Link(1, "ei2", "IS_INCLUDED", "t1", "l2")))
         self.assertEqual(found.links[1].says(), ("ei2", "IS_INCLUDED", "t1"))
         self.assertEqual(tml.check(document(), by=self.by), tml.Accepted(0, 0, 0, 0, 0, 0, 0, (), ()))
 
@@ -73,7 +73,7 @@ class Questions:
         for ask in (tml.check, tml.dates, tml.solve, tml.clash, tml.relations, tml.matrix, tml.reduce, tml.seconds, tml.canon):
             found = ask(FAULTY, by=self.by)
             self.assertEqual(found, tml.Fault(10, "MissingAttribute", 11, 2, 2))
-        self.assertEqual(str(found), "2:2: 10 MissingAttribute")
+        self.assertEqual(str(found), "2:2: 10 MissingAttribute: this EVENT has no text: delete it, or add eid and class if it is meant")
         self.assertEqual(tml.spans(b"<TimeML>&", by=self.by).name, "BadReference")
         for ask in (tml.verify, tml.confirm):
             self.assertEqual(ask(FAULTY, b"", by=self.by), found)

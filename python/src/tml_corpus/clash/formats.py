@@ -165,7 +165,8 @@ class Json:
 
 def link_object(link: PlacedLink) -> dict[str, object]:
     """A link as JSON has it."""
-    names = {"number": link.link.number, "lid": link.link.lid or None, "left": link.link.left, "relation": link.link.relation, "right": link.link.right}
+    one = link.link
+    names = {"number": one.number, "lid": one.lid or None, "left": one.left, "relation": one.relation, "right": one.right}
     return {**names, **formats.place_object(link.place()), "message": link.text}
 
 
