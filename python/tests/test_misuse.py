@@ -123,7 +123,7 @@ class FoundByPeople(unittest.TestCase):
         for name in ("read", "check", "expect", "folder", "consistent", "Timeline", "__version__"):
             self.assertIn(name, names)
         self.assertNotIn("import_module", names)
-        text = pydoc.render_doc(tml, renderer=pydoc.plaintext)
+        text = pydoc.plain(pydoc.render_doc(tml))
         for part in ("check(document", "class Clash", "read(document"):
             self.assertIn(part, text)
 

@@ -6,12 +6,12 @@ import math
 from collections.abc import Iterable, Sequence
 
 from .asking import Answerer, File, answer_to, content
-from .questions import check, dates
+from .questions import check, spans
 from .reading import cited
 from .results import Consistent, Fault, Relation, TooLong
 from .skeletons import Skeleton
 from .statuses import DOCUMENT_LIMIT, LINK_LIMIT, TmlStatus
-from .writing import Ends, Linkable, relation_of, with_links
+from .writing import Linkable, ends_in, relation_of, with_tags
 
 __all__ = ["consistent"]
 
@@ -22,31 +22,31 @@ def consistent(
     """The relations that are kept where the least confident one of each clash is dropped, until nothing clashes.
 
     The document gives the intervals and dates, and its own links do not count. A weight says how confident a relation is; of two with the
-    same weight the one that was given later goes first. Each clash that is met is a minimal one, and one question is asked for each
-    relation that is dropped, and one more. A relation that was dropped may have gone for a clash of which another one goes later.
+    same weight the one that was given later goes first. Each clash that is met is a minimal one. One question is asked for each relation
+    that is dropped, and three for the document. A relation may be dropped for a clash of which another one is dropped later.
 
     `ValueError` where there is not one weight for each relation, or one is not a number, or there are more relations than a document may
     have links; `UnknownName` where one names no interval or is no relation.
     """
-    relations, given = [relation_of(one) for one in links], content(document, DOCUMENT_LIMIT)
+    wanted, given = list(links), content(document, DOCUMENT_LIMIT)
+    relations = [relation_of(one) for one in wanted]
     expect_weights(relations, weights)
-    accepted, times = check(given, by), dates(given, by)
+    accepted, units = check(given, by), spans(given, by)
     if isinstance(accepted, (Fault, TooLong)):
         return accepted
-    assert isinstance(times, dict)
-    ends = Ends(accepted.intervals, times)
-    tags, skeleton = [ends.tag(one).encode() for one in relations], Skeleton(given)
+    assert isinstance(units, list)
+    ends = ends_in(given, accepted, units)
+    tags, skeleton = [ends.tag(one) for one in wanted], Skeleton(given)
     kept, dropped = list(range(len(relations))), list[int]()
     while True:
-        answer = answer_to(by, "solve", skeleton.with_links(tags[number] for number in kept))
+        answer = answer_to(by, "solve", skeleton.with_links(tags[number].encode() for number in kept))
         if answer.status != TmlStatus.CLASH:
             break
         clash = [kept[number] for number in cited(answer.text)]
         least = min(clash, key=lambda number: (weights[number], -number))
         kept.remove(least)
         dropped.append(least)
-    made = with_links(given, [relations[number] for number in kept], by)
-    assert isinstance(made, bytes)
+    made = with_tags(given, units, [tags[number] for number in kept])
     return Consistent(tuple(relations[number] for number in kept), tuple(relations[number] for number in dropped), made)
 
 

@@ -38,9 +38,9 @@ TOO_LONG = {"DOC": "document", "KEY": "key", "EVIDENCE": "evidence", "SECOND": "
 
 
 TAGS = re.compile(
-    rb"<!--(?s:.*?)-->|<\?(?s:.*?)\?>|<(TLINK|MAKEINSTANCE)(?=[ \t\r\n/>])([^<>\"']*+(?:(?:\"[^\"]*+\"|'[^']*+')[^<>\"']*+)*+)>"
+    rb"<!--(?s:.*?)-->|<\?(?s:.*?)\?>|<(TLINK|MAKEINSTANCE|TIMEX3)(?=[ \t\r\n/>])([^<>\"']*+(?:(?:\"[^\"]*+\"|'[^']*+')[^<>\"']*+)*+)>"
 )
-"""The links and instances of an accepted document, and what may hold something like them."""
+"""The links, instances and times of an accepted document, and what may hold something like them."""
 
 ATTRIBUTES = re.compile(rb"([^ \t\r\n=<>/]++)[ \t\r\n]*+=[ \t\r\n]*+(?:\"([^\"]*+)\"|'([^']*+)')")
 
@@ -62,6 +62,11 @@ def tags_of(document: bytes, name: bytes) -> Iterator[dict[bytes, str]]:
 def lids_of(document: bytes) -> list[str | None]:
     """The lid of each TLINK of an accepted document, in their order; None where it has none."""
     return [values.get(b"lid") for values in tags_of(document, b"TLINK")]
+
+
+def times_of(document: bytes) -> set[str]:
+    """The names of the times of an accepted document."""
+    return {values.get(b"tid", "") for values in tags_of(document, b"TIMEX3")}
 
 
 def events_of(document: bytes) -> dict[str, list[str]]:

@@ -8,12 +8,12 @@ from collections.abc import Collection, Iterable, Mapping, Sequence
 from itertools import count
 from typing import Any
 
+from . import reading
 from .asking import Answerer, File, content
 from .documents import Time, TLink
 from .misuse import unknown_interval, unknown_relation
-from .questions import check, dates, spans
-from .reading import events_of
-from .results import Fault, Link, Relation, TooLong, Unit
+from .questions import check, spans
+from .results import Accepted, Fault, Link, Relation, TooLong, Unit
 from .statuses import DOCUMENT_LIMIT, IDENTIFIER_LIMIT, RELATIONS
 
 __all__ = ["Linkable", "document_of", "with_links"]
@@ -41,21 +41,25 @@ def with_links(document: File, relations: Iterable[Linkable], by: Answerer | Non
     are those of the intervals of the document; another one is an `UnknownName`, and so is a relation that TLINK does not have.
     """
     given = content(document, DOCUMENT_LIMIT)
-    accepted, times, units = check(given, by), dates(given, by), spans(given, by)
+    accepted, units = check(given, by), spans(given, by)
     if isinstance(accepted, (Fault, TooLong)):
         return accepted
-    assert isinstance(times, dict)
     assert isinstance(units, list)
-    ends = Ends(accepted.intervals, times, events_of(given), identifiers_of(given, units))
-    links = "".join(f"{ends.tag(one)}\n" for one in relations).encode()
+    ends = ends_in(given, accepted, units)
+    return with_tags(given, units, [ends.tag(one) for one in relations])
+
+
+def with_tags(document: bytes, units: Sequence[Unit], tags: Iterable[str]) -> bytes:
+    """A document that was cut into units with other tags as its links."""
+    links = "".join(f"{tag}\n" for tag in tags).encode()
     kept, place = [], 0
     for start, end in of_links(units):
-        kept.append(given[place:start])
+        kept.append(document[place:start])
         place = end
     root = next(unit for unit in reversed(units) if unit.name == "TimeML")
     if root.kind == "empty":
-        return given[: root.end - 2] + b">" + links + b"</TimeML>" + given[root.end :]
-    return b"".join((*kept, given[place : root.start], links, given[root.start :]))
+        return document[: root.end - 2] + b">" + links + b"</TimeML>" + document[root.end :]
+    return b"".join((*kept, document[place : root.start], links, document[root.start :]))
 
 
 def of_links(units: Iterable[Unit]) -> Iterable[tuple[int, int]]:
@@ -78,6 +82,11 @@ def identifiers_of(document: bytes, units: Iterable[Unit]) -> set[str]:
         if one.name in ("eid", "eiid", "tid", "sid", "lid")
     )
     return {text[text.index(text[-1:]) + 1 : -1].decode() for text in written}
+
+
+def ends_in(document: bytes, accepted: Accepted, units: Iterable[Unit]) -> Ends:
+    """What the links of an accepted document may have at their ends."""
+    return Ends(accepted.intervals, reading.times_of(document), reading.events_of(document), identifiers_of(document, units))
 
 
 def document_of(relations: Iterable[Linkable], times: Mapping[str, str] | Sequence[Time] | None = None) -> bytes:
