@@ -48,7 +48,7 @@ class Folders(unittest.TestCase):
     def test_models_of_a_folder(self) -> None:
         wanted = sorted(str(path) for path in Path(SAMPLES).rglob("*") if path.suffix in (".tml", ".xml"))
         for jobs in (1, 3):
-            found: list[tml.Answered[Any]] = list(tml.folder(SAMPLES, jobs=jobs))
+            found = list(tml.folder(SAMPLES, jobs=jobs))
             self.assertEqual(sorted(path for path, _ in found), wanted)
             for path, document in found:
                 self.assertEqual(document, tml.read(path))
@@ -72,6 +72,15 @@ class Folders(unittest.TestCase):
         found = list(tml.folder(self.folder, own("ends_its_process"), jobs=2))
         answers = [one.answer for one in found]
         self.assertEqual(answers, [str(self.folder / "a.xml"), tml.NotAnswered("the process that was asked about it ended"), str(self.folder / "c.xml"), str(self.folder / "d.tml")])
+
+    def test_what_is_no_document_of_a_folder(self) -> None:
+        (self.folder / "a.xml").write_text("<TimeML/>")
+        os.mkfifo(self.folder / "b.xml")
+        (self.folder / "c.xml").symlink_to("gone")
+        (self.folder / "d.xml").mkdir()
+        (self.folder / "e").symlink_to(self.folder)
+        found = [(os.path.basename(path), type(answer)) for path, answer in tml.folder(self.folder, tml.check, jobs=1)]
+        self.assertEqual(found, [("a.xml", tml.Accepted), ("c.xml", tml.NotAnswered)])
 
     def test_what_is_raised(self) -> None:
         for jobs in (1, 2):

@@ -5,14 +5,17 @@ from __future__ import annotations
 import os
 from collections import deque
 from collections.abc import Callable, Iterable, Iterator
-from concurrent.futures import Future, ThreadPoolExecutor
 from dataclasses import dataclass
 from functools import partial
-from typing import Any, Generic, NamedTuple, TypeVar
+from typing import TYPE_CHECKING, Any, Generic, NamedTuple, TypeVar, overload
 
+from .documents import Document
 from .questions import read
-from .results import Result
+from .results import Fault, Result, TooLong
 from .workers import Lost, Workers, sendable
+
+if TYPE_CHECKING:
+    from concurrent.futures import Future
 
 __all__ = ["Answered", "NotAnswered", "folder"]
 
@@ -21,6 +24,9 @@ PATTERNS = (".tml", ".xml")
 
 AHEAD = 4
 """So many documents for each process are asked about before their answers are taken."""
+
+Paths = str | os.PathLike[str] | Iterable[str | os.PathLike[str]]
+"""A file or a folder, or several of them."""
 
 Given = TypeVar("Given")
 
@@ -42,11 +48,17 @@ class Answered(NamedTuple, Generic[Given]):
     answer: Given | NotAnswered
 
 
-def folder(
-    paths: str | os.PathLike[str] | Iterable[str | os.PathLike[str]],
-    question: Callable[[str], Given] = read,  # type: ignore[assignment]
-    jobs: int | None = None,
-) -> Iterator[Answered[Given]]:
+@overload
+def folder(paths: Paths, *, jobs: int | None = None) -> Iterator[Answered[Document | Fault | TooLong]]:
+    ...
+
+
+@overload
+def folder(paths: Paths, question: Callable[[str], Given], jobs: int | None = None) -> Iterator[Answered[Given]]:
+    ...
+
+
+def folder(paths: Paths, question: Callable[[str], Any] = read, jobs: int | None = None) -> Iterator[Answered[Any]]:
     """The answers to a question about each of many documents, one after another, in the order of the paths.
 
     A path is a file, or a folder that is searched for names that end in `.tml` or `.xml`, in the order of the names. The question takes a
@@ -66,7 +78,7 @@ def folder(
     return asked_of_workers(found, sendable(question), count)
 
 
-def files_of(paths: str | os.PathLike[str] | Iterable[str | os.PathLike[str]]) -> Iterator[str]:
+def files_of(paths: Paths) -> Iterator[str]:
     """The files that paths stand for."""
     if isinstance(paths, (bytes, bytearray)):
         raise TypeError("the paths of documents are text or pathlib.Path, and not bytes")
@@ -79,10 +91,14 @@ def files_of(paths: str | os.PathLike[str] | Iterable[str | os.PathLike[str]]) -
 
 
 def files_in(top: str) -> Iterator[str]:
-    """The documents below a folder. Folders that are symbolic links are not entered."""
-    for place, folders, names in os.walk(top):
+    """The documents below a folder, and the folders in it that cannot be read. Folders that are symbolic links are not entered, and what
+    is neither a file nor missing, as a pipe, is passed over."""
+    unread: list[OSError] = []
+    for place, folders, names in os.walk(top, onerror=unread.append):
         folders.sort()
-        yield from (os.path.join(place, name) for name in sorted(names) if name.endswith(PATTERNS))
+        found = (os.path.join(place, name) for name in sorted(names) if name.endswith(PATTERNS))
+        yield from (path for path in found if os.path.isfile(path) or not os.path.exists(path))
+    yield from (str(error.filename) for error in unread)
 
 
 def asked_here(question: Callable[[str], Given], path: str) -> Given | NotAnswered:
@@ -95,6 +111,8 @@ def asked_here(question: Callable[[str], Given], path: str) -> Given | NotAnswer
 
 def asked_of_workers(paths: Iterable[str], question: Callable[[str], Any], count: int) -> Iterator[Answered[Any]]:
     """The answers of some processes, in the order of the paths. Where nobody takes them, no more is asked."""
+    from concurrent.futures import ThreadPoolExecutor
+
     waiting: deque[tuple[str, Future[Any]]] = deque()
     with Workers(question) as workers, ThreadPoolExecutor(count) as threads:
         try:

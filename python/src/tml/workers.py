@@ -4,13 +4,15 @@ from __future__ import annotations
 
 import os
 import pickle
-import subprocess
 import sys
 import threading
 from collections.abc import Callable
 from contextlib import suppress
 from types import TracebackType
-from typing import IO, Any, NamedTuple
+from typing import IO, TYPE_CHECKING, Any, NamedTuple
+
+if TYPE_CHECKING:
+    import subprocess
 
 BEGIN = f"import sys; sys.path[:] = sys.argv[1:]; from {__name__} import answer_all; answer_all()"
 ENDED = "the process that was asked about it ended"
@@ -58,6 +60,8 @@ class Workers:
 
     def started(self) -> subprocess.Popen[bytes]:
         """A new process, which is told the question, and where modules are."""
+        import subprocess
+
         words = [sys.executable, "-c", BEGIN, *sys.path]
         child = subprocess.Popen(words, stdin=subprocess.PIPE, stdout=subprocess.PIPE, start_new_session=True)
         self.running.append(child)
@@ -118,16 +122,18 @@ def answer_all() -> None:
     question = pickle.load(given)
     with suppress(EOFError, BrokenPipeError):
         while True:
-            send(taken, answer_of(question, pickle.load(given)))
+            taken.write(answer_of(question, pickle.load(given)))
+            taken.flush()
 
 
-def answer_of(question: Callable[[str], Any], path: str) -> Any:
-    """The answer about one file, or why there is none."""
+def answer_of(question: Callable[[str], Any], path: str) -> bytes:
+    """The answer about one file, or why there is none, as it is sent."""
     try:
-        answer = question(path)
-        pickle.dumps(answer)
-        return answer
+        return pickle.dumps(question(path))
     except OSError as error:
-        return Lost((error.strerror or str(error)).lower())
+        return pickle.dumps(Lost((error.strerror or str(error)).lower()))
     except Exception as error:
-        return Raised(error)
+        try:
+            return pickle.dumps(Raised(error))
+        except Exception:
+            return pickle.dumps(Raised(RuntimeError(repr(error))))
