@@ -3,12 +3,14 @@
 from __future__ import annotations
 
 import os
+import tempfile
 import unittest
 from collections.abc import Sequence
 from pathlib import Path
 from random import Random
 
 import tml
+import tml_corpus
 from corpus import TML, TOP
 from tml.statuses import INVERSES, ORDERS
 
@@ -65,6 +67,17 @@ class Clashes(unittest.TestCase):
             self.assertEqual(len(cited), len(set(cited)))
             rest = [triple for number, triple in enumerate(triples) if number not in cited]
             self.assertIsNone(tml.clash(tml.document_of(rest), by=self.by))
+
+    def test_they_are_those_of_the_companion(self) -> None:
+        random = Random(11)
+        with tempfile.TemporaryDirectory() as folder:
+            for number in range(6):
+                triples = [(f"e{random.randrange(9)}", random.choice(list(ORDERS)), f"e{random.randrange(9)}") for _ in range(24)]
+                Path(folder, f"{number}.xml").write_bytes(tml.document_of(triples))
+            Path(folder, "port.xml").write_bytes(PORT.read_bytes())
+            for report in tml_corpus.clashes(folder, more=99, asked=tml_corpus.Asked(program=TML)):
+                wanted = [[link.link.number for link in clash.links] for clash in report.clashes]
+                self.assertEqual([[link.number for link in one.links] for one in self.clashes(Path(report.judgement.path))], wanted)
 
     def test_links_in_comments_are_none(self) -> None:
         document = tml.document_of(cycle("a", "b")).replace(b"<TLINK", b"<!-- <TLINK/> --><TLINK")
