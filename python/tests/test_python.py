@@ -54,7 +54,7 @@ class Questions(unittest.TestCase):
         counts = (found.events, found.instances, found.times, found.signals, found.tlinks, found.alinks, found.slinks)
         self.assertEqual(counts, (2, 2, 2, 1, 2, 0, 0))
         self.assertEqual(found.intervals, ("t0", "t1", "ei1", "ei2"))
-        self.assertEqual(found.links, (tml.Link(0, "ei1", "BEFORE", "ei2"), tml.Link(1, "ei2", "IS_INCLUDED", "t1")))
+        self.assertEqual(found.links, (tml.Link(0, "ei1", "BEFORE", "ei2", "l1"), tml.Link(1, "ei2", "IS_INCLUDED", "t1", "l2")))
         self.assertEqual(found.links[1].says(), ("ei2", "IS_INCLUDED", "t1"))
         self.assertEqual(tml.check(document(), by=self.by), tml.Accepted(0, 0, 0, 0, 0, 0, 0, (), ()))
 
@@ -83,7 +83,7 @@ class Questions(unittest.TestCase):
         )  # fmt: skip
         for ask in asks:
             self.assertEqual(ask(FAULTY, self.by), fault)
-        self.assertEqual(str(fault), "2:2: 10 MissingAttribute")
+        self.assertEqual(str(fault), "2:2: 10 MissingAttribute: this EVENT has no text: delete it, or add eid and class if it is meant")
         self.assertEqual(of_type(tml.Fault, tml.spans(b"<TimeML>&", by=self.by)).name, "BadReference")
         self.assertEqual(tml.verify(FAULTY, b"", by=self.by), fault)
         self.assertEqual(tml.confirm(FAULTY, b"", by=self.by), fault)
@@ -341,10 +341,12 @@ class Finding(unittest.TestCase):
             tml.Library("libc.so.6")
 
     def test_what_is_exported_is_there(self) -> None:
-        for name in tml.__all__:
+        names: list[str] = getattr(tml, "__all__")
+        self.assertGreater(len(names), 50)
+        for name in names:
             self.assertIsNotNone(getattr(tml, name))
         with self.assertRaises(AttributeError):
-            tml.nothing
+            getattr(tml, "nothing")
 
 
 @unittest.skipUnless(os.path.isfile(library_path()) or os.access(TML, os.X_OK), "neither the library nor the program is there")

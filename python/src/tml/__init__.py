@@ -13,14 +13,20 @@ docs/PYTHON.md describes the package.
 
 from __future__ import annotations
 
+import sys
 from importlib import import_module
 from typing import TYPE_CHECKING, Any
 
 if TYPE_CHECKING:
     from .asking import *
+    from .confidence import *
+    from .documents import *
+    from .expecting import *
+    from .folders import *
     from .library import *
     from .lines import *
     from .matrices import *
+    from .misuse import *
     from .process import *
     from .questions import *
     from .results import *
@@ -28,18 +34,37 @@ if TYPE_CHECKING:
     from .statuses import *
     from .writing import *
 
-MODULES = ("asking", "library", "lines", "matrices", "process", "questions", "results", "running", "statuses", "writing")
+__version__ = "0.4.0"
+"""The version of this package and of the companions: that of pyproject.toml and of the newest heading of CHANGELOG.md, as a test sees."""
+
+MODULES = (
+    "asking", "confidence", "documents", "expecting", "folders", "library", "lines", "matrices", "misuse", "process", "questions",
+    "results", "running", "statuses", "writing",
+)  # fmt: skip
 """The modules whose `__all__` together are the names of this package."""
 
 
-def __getattr__(name: str) -> Any:
-    """Loads the package once a name of it is asked for, so that programs which need one module of it begin fast."""
-    if name.startswith("__") and name != "__all__":
-        raise AttributeError(f"module {__name__!r} has no attribute {name!r}")
+def load() -> None:
+    """Loads the modules of the package, once."""
     if "__all__" not in globals():
         loaded = [import_module(f".{module}", __name__) for module in MODULES]
         globals().update({known: getattr(module, known) for module in loaded for known in module.__all__})
         globals()["__all__"] = sorted(known for module in loaded for known in module.__all__)
-    if name not in globals():
-        raise AttributeError(f"module {__name__!r} has no attribute {name!r}")
-    return globals()[name]
+
+
+if not TYPE_CHECKING:
+
+    def __getattr__(name: str) -> Any:
+        """Loads the package once a name of it is asked for, so that programs which need one module of it begin fast."""
+        if not name.startswith("__") or name == "__all__":
+            load()
+        if name not in globals():
+            # Python asks `dir` for a name that is near.
+            raise AttributeError(f"module {__name__!r} has no attribute {name!r}", name=name, obj=sys.modules[__name__])
+        return globals()[name]
+
+
+def __dir__() -> list[str]:
+    """The names of the package, and those that each module has."""
+    load()
+    return sorted({*globals()["__all__"], *(name for name in globals() if name.startswith("__"))})

@@ -9,19 +9,28 @@ from functools import cache
 from pathlib import Path
 from typing import Any, Protocol
 
+from .documents import Document
 from .finding import LIBRARY_VARIABLE, PROGRAM_VARIABLE, find_program, library_for, present_program
 from .library import Library
+from .misuse import UnknownName, is_a_document, not_a_file, not_an_answerer, unknown_interval, unknown_relation
 from .process import Process
-from .reading import TOO_LONG, read_fault, read_malformed, read_refused
+from .reading import TOO_LONG, events_of, read_accepted, read_fault, read_malformed, read_refused
 from .replies import OF_KEY
 from .results import Fault, Malformed, Refused, TooLong
 from .running import CannotRun
 from .statuses import DOCUMENT_LIMIT, EVIDENCE_LIMIT, TmlStatus
 
-__all__ = ["Answerer", "File", "UnknownName"]
+__all__ = ["Answerer", "File"]
 
-File = bytes | bytearray | memoryview | str | os.PathLike[str]
-"""A document or another file: its bytes, or the path at which it lies."""
+File = bytes | bytearray | memoryview | str | os.PathLike[str] | Document
+"""A document or another file: its bytes, the path at which it lies, or the model of a document."""
+
+NOTHING_FOUND = (
+    "neither the library libtml nor the program tml was found, so nothing can be asked. Install a package that has them; or say where one "
+    "of them lies before the first question: os.environ['TML'] = '/path/to/tml', or os.environ['TML_LIBRARY'] = '/path/to/libtml.so'; or "
+    "give each question by=tml.Process('/path/to/tml')"
+)
+"""What who asks from Python is told where there is nobody to answer."""
 
 LIMITS = {
     "verify": (DOCUMENT_LIMIT, EVIDENCE_LIMIT), "confirm": (DOCUMENT_LIMIT, EVIDENCE_LIMIT), "score": (DOCUMENT_LIMIT, DOCUMENT_LIMIT),
@@ -31,10 +40,6 @@ LIMITS = {
 
 WORDS = {"X": 0, "REL": 1, "Y": -1}
 """Which argument of a question is meant by the word that names nothing."""
-
-
-class UnknownName(LookupError):
-    """A word of a question names no interval of the document, or no relation."""
 
 
 class Answerer(Protocol):
@@ -55,7 +60,10 @@ def default_answerer() -> Answerer:
         except CannotRun:
             if LIBRARY_VARIABLE in os.environ:
                 raise
-    return Process(find_program(named or None))
+    program = present_program()
+    if not named and program is None:
+        raise CannotRun(NOTHING_FOUND)
+    return Process(find_program(named or program))
 
 
 def content(file: File, limit: int) -> bytes:
@@ -63,12 +71,25 @@ def content(file: File, limit: int) -> bytes:
 
     What is neither bytes nor a path is a `TypeError`, also where `bytes` would make some of it, as of a number.
     """
+    if isinstance(file, Document):
+        return file.content
     if isinstance(file, (str, os.PathLike)):
-        with Path(file).open("rb") as opened:
-            return opened.read(limit + 1)
+        return content_at(file, limit)
     if not isinstance(file, (bytes, bytearray, memoryview)):
-        raise TypeError(f"a file is bytes or a path, and not {type(file).__name__}")
+        raise not_a_file(file)
     return file if isinstance(file, bytes) else bytes(file)
+
+
+def content_at(path: str | os.PathLike[str], limit: int) -> bytes:
+    """The bytes of the file at a path."""
+    try:
+        with Path(path).open("rb") as opened:
+            return opened.read(limit + 1)
+    except (OSError, ValueError):
+        # A text that begins with a tag is nowhere a file: somebody gave a document as text.
+        if isinstance(path, str) and path.lstrip("\ufeff \t\r\n").startswith("<"):
+            raise is_a_document(path) from None
+        raise
 
 
 @dataclass(frozen=True)
@@ -117,14 +138,26 @@ def answer_to(by: Answerer | None, command: str, *files: File, arguments: Sequen
     """Asks a question. Out of memory, and what can only be a wrong call, is raised."""
     if b"\0" in "".join(arguments).encode():
         raise ValueError("a word has a zero byte")
-    answerer = by or default_answerer()
+    if by is not None and not callable(getattr(by, "answer", None)):
+        raise not_an_answerer(by)
+    answerer = default_answerer() if by is None else by
     given = tuple(content(file, limit) for file, limit in zip(files, LIMITS.get(command, (DOCUMENT_LIMIT,)), strict=False))
     number, text = answerer.answer(command, given, arguments)
     status = TmlStatus(number)
     if status == TmlStatus.NO_MEMORY:
         raise MemoryError(f"tml {command} was out of memory")
     if status == TmlStatus.UNKNOWN_NAME:
-        raise UnknownName(arguments[WORDS[text.decode("ascii").split()[1]]])
+        raise unknown_name(answerer, given[0], arguments, text.decode("ascii").split()[1])
     if status in (TmlStatus.USAGE, TmlStatus.READ_FAULT, TmlStatus.WRITE_FAULT):
         raise ValueError(f"tml has no answer to `{' '.join((command, *arguments))}`")
     return Answer(command, given, answerer, status, text)
+
+
+def unknown_name(answerer: Answerer, document: bytes, arguments: Sequence[str], word: str) -> UnknownName:
+    """The exception for the word of a question that names nothing, with what may have been meant. The names are a second question."""
+    name = arguments[WORDS[word]]
+    if word == "REL":
+        return unknown_relation(name)
+    status, text = answerer.answer("check", (document,))
+    intervals = read_accepted(text, document).intervals if status == TmlStatus.DONE else ()
+    return unknown_interval(name, intervals, events_of(document).get(name, ()))

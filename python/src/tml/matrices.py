@@ -7,9 +7,14 @@ from array import array
 from collections.abc import Iterable, Iterator, Sequence
 from dataclasses import dataclass, field
 from functools import cached_property
+from typing import TYPE_CHECKING, Any
 
+from .misuse import unknown_interval
 from .running import CannotRun
 from .statuses import BASE_RELATIONS, INVERSES
+
+if TYPE_CHECKING:
+    import pandas
 
 __all__ = ["Matrix"]
 
@@ -50,8 +55,35 @@ class Matrix:
         return found if left == first else turned(found)
 
     def possible(self, first: str, second: str) -> Relations:
-        """The base relations that are possible between two intervals, by their names."""
+        """The base relations that are possible between two intervals, by their names; `UnknownName` where one is none."""
+        for name in (first, second):
+            if name not in self.numbers:
+                raise unknown_interval(name, self.intervals)
         return self.between(self.numbers[first], self.numbers[second])
+
+    def to_frame(self) -> pandas.DataFrame:
+        """The matrix as a frame of pandas: in a row and a column the relations that the one can have to the other, with a space between.
+
+        pandas is loaded only here; an `ImportError` says that it is not installed.
+        """
+        import pandas
+
+        count = range(len(self.intervals))
+        cells = [[" ".join(self.between(row, column)) for column in count] for row in count]
+        return pandas.DataFrame(cells, index=list(self.intervals), columns=list(self.intervals))
+
+    def to_dict(self) -> dict[str, Any]:
+        """The matrix as a dictionary: the intervals, and of each two the relations that are possible."""
+        pairs = [
+            {"first": self.intervals[left], "second": self.intervals[right], "possible": list(self.sets[number])}
+            for left, right, number in self.pairs()
+        ]
+        return {"result": "Matrix", "intervals": list(self.intervals), "pairs": pairs}
+
+    def _repr_html_(self) -> str:
+        from .notebooks import html_of_matrix
+
+        return html_of_matrix(self)
 
     @cached_property
     def numbers(self) -> dict[str, int]:

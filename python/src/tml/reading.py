@@ -3,7 +3,7 @@
 from __future__ import annotations
 
 import re
-from collections.abc import Sequence
+from collections.abc import Iterator, Sequence
 from itertools import islice
 from typing import Any
 
@@ -37,24 +37,58 @@ TOO_LONG = {"DOC": "document", "KEY": "key", "EVIDENCE": "evidence", "SECOND": "
 """The files as the text names them that says which one is too long."""
 
 
+TAGS = re.compile(
+    rb"<!--(?s:.*?)-->|<\?(?s:.*?)\?>|<(TLINK|MAKEINSTANCE|TIMEX3)(?=[ \t\r\n/>])([^<>\"']*+(?:(?:\"[^\"]*+\"|'[^']*+')[^<>\"']*+)*+)>"
+)
+"""The links, instances and times of an accepted document, and what may hold something like them."""
+
+ATTRIBUTES = re.compile(rb"([^ \t\r\n=<>/]++)[ \t\r\n]*+=[ \t\r\n]*+(?:\"([^\"]*+)\"|'([^']*+)')")
+
+
 def read_fault(text: bytes, document: bytes, file: Any) -> Fault:
     """The fault of a document, by the line that names it."""
     _, number, name, offset = text.decode("ascii").split()
     place = Places(document).place(int(offset))
-    return Fault(int(number), name, place.offset, place.line, place.column, file)
+    return Fault(int(number), name, place.offset, place.line, place.column, file, document)
 
 
-def read_accepted(text: bytes) -> Accepted:
+def tags_of(document: bytes, name: bytes) -> Iterator[dict[bytes, str]]:
+    """The attributes of the tags of a name in an accepted document, as they are written."""
+    for found in TAGS.finditer(document):
+        if found[1] == name:
+            yield {key: (first or second).decode("utf-8", "replace") for key, first, second in ATTRIBUTES.findall(found[2])}
+
+
+def lids_of(document: bytes) -> list[str | None]:
+    """The lid of each TLINK of an accepted document, in their order; None where it has none."""
+    return [values.get(b"lid") for values in tags_of(document, b"TLINK")]
+
+
+def times_of(document: bytes) -> set[str]:
+    """The names of the times of an accepted document."""
+    return {values.get(b"tid", "") for values in tags_of(document, b"TIMEX3")}
+
+
+def events_of(document: bytes) -> dict[str, list[str]]:
+    """The instances of each event of an accepted document that has one."""
+    found: dict[str, list[str]] = {}
+    for values in tags_of(document, b"MAKEINSTANCE"):
+        found.setdefault(values.get(b"eventID", ""), []).append(values.get(b"eiid", ""))
+    return found
+
+
+def read_accepted(text: bytes, document: bytes) -> Accepted:
     """An accepted document, by what `check` says of it."""
     _, *lines = lines_of(text)
     counts = [int(count) for _, count in lines[:7]]
     intervals = tuple(words[2] for words in lines[7:] if words[0] == "interval")
-    return Accepted(*counts, intervals, links_of(lines[7 + len(intervals) :]))  # type: ignore[call-arg,arg-type]
+    return Accepted(*counts, intervals, links_of(lines[7 + len(intervals) :], document))  # type: ignore[call-arg,arg-type]
 
 
-def links_of(lines: Sequence[Sequence[str]]) -> tuple[Link, ...]:
-    """Links, by the lines of `check` and `reduce`."""
-    return tuple(Link(int(number), first, relation, second) for _, number, first, relation, second in lines)
+def links_of(lines: Sequence[Sequence[str]], document: bytes) -> tuple[Link, ...]:
+    """Links, by the lines of `check` and `reduce`, with what the document has for their lids."""
+    lids = dict(enumerate(lids_of(document))) if lines and b"lid" in document else {}
+    return tuple(Link(int(number), first, relation, second, lids.get(int(number))) for _, number, first, relation, second in lines)
 
 
 def read_dates(text: bytes) -> dict[str, Date]:
@@ -107,11 +141,16 @@ def read_timeline(text: bytes, of: Accepted) -> Timeline:
     return Timeline(Evidence(text).ranks(of.intervals), text)
 
 
-def read_clash(text: bytes, of: Accepted) -> Clash:
+def cited(text: bytes) -> list[int]:
+    """The numbers of the links of a clash that was printed as evidence."""
+    return [int(number) for _, number in Evidence(text).counted()]
+
+
+def read_clash(text: bytes, of: Accepted, document: bytes) -> Clash:
     """A clash that was printed as evidence."""
     lines = Evidence(text)
     links = tuple(of.links[int(number)] for _, number in lines.counted())
-    return Clash(links, lines.walk(), of.intervals, text)
+    return Clash(links, lines.walk(), of.intervals, text, document)
 
 
 def read_proof(text: bytes, relation: Relation, of: Accepted) -> Proof | Counterexample:
@@ -132,10 +171,10 @@ def read_possible(text: bytes, names: Sequence[str]) -> Possible:
     return Possible({next(lines.rest)[1]: lines.ranks(names) for _ in range(count)})
 
 
-def read_reduced(text: bytes) -> Reduced:
+def read_reduced(text: bytes, document: bytes) -> Reduced:
     """The links that stay."""
     (_, _, _, total), *lines = lines_of(text)
-    return Reduced(links_of(lines), int(total))
+    return Reduced(links_of(lines, document), int(total))
 
 
 def read_score(text: bytes) -> Score:

@@ -1,4 +1,7 @@
-"""What is answered: a class for each kind of answer. Intervals and links go by the names and numbers that `check` has for them."""
+"""What is answered: a class for each kind of answer. Intervals and links go by the names and numbers that `check` has for them.
+
+Each has itself as a dictionary that `json` takes, by `to_dict()`; and those that are drawn in notebooks have `_repr_html_` or `_repr_svg_`.
+"""
 
 from __future__ import annotations
 
@@ -6,15 +9,33 @@ from collections.abc import Mapping
 from dataclasses import astuple, dataclass, field
 from fractions import Fraction
 from functools import cached_property
-from typing import Literal, NamedTuple
+from typing import TYPE_CHECKING, Any, Literal, NamedTuple
 
 from .lines import Evidence, Ranks, Step
+from .saying import counted
+from .statuses import DOCUMENT_LIMIT, EVIDENCE_LIMIT
+
+if TYPE_CHECKING:
+    from .explaining.telling import Told
 
 __all__ = [
-    "Accepted", "Attribute", "Claim", "Clash", "Confirmed", "Counterexample", "Cycle", "Date", "Drill", "Fault", "KeyClash", "Link",
-    "Malformed", "Placing", "Possible", "Proof", "Reduced", "Refused", "Relation", "Score", "Seconds", "Timeline", "TooLong", "Unit",
-    "Verified",
+    "Accepted", "Attribute", "Claim", "Clash", "Confirmed", "Consistent", "Counterexample", "Cycle", "Date", "Drill", "Fault", "KeyClash",
+    "Link", "Malformed", "Placing", "Possible", "Proof", "Reduced", "Refused", "Relation", "Result", "Row", "Score", "Seconds", "Timeline",
+    "TooLong", "Unit", "Verified",
 ]  # fmt: skip
+
+NOT_SHOWN = {"not shown": True}
+"""What is noted of a field that is for later questions, and no part of an answer."""
+
+
+class Result:
+    """What every answer has."""
+
+    def to_dict(self) -> dict[str, Any]:
+        """The answer as a dictionary of what `json` takes: with its fields by their names, and the name of its class as `result`."""
+        from .dictionaries import dictionary_of
+
+        return dictionary_of(self)
 
 
 class Relation(NamedTuple):
@@ -27,18 +48,34 @@ class Relation(NamedTuple):
     def __str__(self) -> str:
         return " ".join(self)
 
+    def to_dict(self) -> dict[str, Any]:
+        """The relation as a dictionary."""
+        return self._asdict()
+
 
 class Link(NamedTuple):
-    """A TLINK of a document: its number, counted from 0, and what it says."""
+    """A TLINK of a document: its number, counted from 0, what it says, and its `lid` where it has one."""
 
     number: int
     first: str
     relation: str
     second: str
+    lid: str | None = None
 
     def says(self) -> Relation:
         """What it says, without its number."""
-        return Relation(*self[1:])
+        return Relation(self.first, self.relation, self.second)
+
+    def called(self) -> str:
+        """How it is called: by its lid, or by its number where it has none."""
+        return self.lid or f"link {self.number}"
+
+    def __str__(self) -> str:
+        return f"{self.called()}: {self.says()}"
+
+    def to_dict(self) -> dict[str, Any]:
+        """The link as a dictionary."""
+        return self._asdict()
 
 
 class Seconds(NamedTuple):
@@ -49,8 +86,11 @@ class Seconds(NamedTuple):
 
 
 @dataclass(frozen=True)
-class Fault:
-    """The first fault of a document, or of a key: its number and name, the byte where it is, from 0, and the line and column, from 1."""
+class Fault(Result):
+    """The first fault of a document, or of a key: its number and name, the byte where it is, from 0, and the line and column, from 1.
+
+    What is wrong and how it is mended is found once it is asked for, by `message`, `mark` or `str`.
+    """
 
     number: int
     name: str
@@ -58,20 +98,48 @@ class Fault:
     line: int
     column: int
     file: Literal["document", "key"] = "document"
+    content: bytes = field(default=b"", repr=False, compare=False, metadata=NOT_SHOWN)
+    """The bytes of the file."""
+
+    @cached_property
+    def told(self) -> Told:
+        """The fault in words, with the stretch of the file that they speak of."""
+        from .explaining.telling import told
+
+        return told(self.content, self.number, self.name, self.byte)
+
+    @property
+    def message(self) -> str:
+        """What is wrong: the attribute and its value, and the cure where one is known."""
+        return self.told.message
+
+    @property
+    def mark(self) -> tuple[str, ...]:
+        """The line of the file that the message speaks of, and below it a line with a mark under the words."""
+        return self.told.mark
 
     def __str__(self) -> str:
-        return f"{self.line}:{self.column}: {self.number} {self.name}"
+        return f"{self.line}:{self.column}: {self.number} {self.name}: {self.message}"
+
+    def _repr_html_(self) -> str:
+        from .notebooks import html_of_fault
+
+        return html_of_fault(self)
 
 
 @dataclass(frozen=True)
-class TooLong:
+class TooLong(Result):
     """A file has more bytes than it may."""
 
     file: Literal["document", "key", "evidence", "second", "seconds"]
 
+    def __str__(self) -> str:
+        limit = DOCUMENT_LIMIT if self.file in ("document", "key") else EVIDENCE_LIMIT
+        return f"the {self.file} has more than {limit:,} bytes"
+
 
 @dataclass(frozen=True)
-class Accepted:
+class Accepted(Result):
     """A document that keeps the rules: how many tags it has of each kind, and its intervals and links in their order."""
 
     events: int
@@ -86,7 +154,7 @@ class Accepted:
 
 
 @dataclass(frozen=True)
-class Date:
+class Date(Result):
     """What the calendar says of a time.
 
     It is `exact`, with the second at which it starts and the first one after it; or `within` two such seconds; or `free`, with none.
@@ -101,7 +169,7 @@ class Date:
 
 
 @dataclass(frozen=True)
-class Attribute:
+class Attribute(Result):
     """An attribute of a tag: from the first byte of its name to the one after its closing quote."""
 
     start: int
@@ -110,7 +178,7 @@ class Attribute:
 
 
 @dataclass(frozen=True)
-class Unit:
+class Unit(Result):
     """A unit of a document: its first byte, the one after it, its kind, and of a tag the name and the attributes."""
 
     start: int
@@ -120,22 +188,58 @@ class Unit:
     attributes: tuple[Attribute, ...] = ()
 
 
+class Row(NamedTuple):
+    """An interval of a timeline: its name, its words, its kind, its ranks, and of a time what the calendar says of it."""
+
+    name: str
+    text: str
+    kind: Literal["event", "time"]
+    start: int
+    end: int
+    date: Date | None = None
+
+    def to_dict(self) -> dict[str, Any]:
+        """The row as a dictionary."""
+        return {**self._asdict(), "date": None if self.date is None else self.date.to_dict()}
+
+
 @dataclass(frozen=True)
-class Timeline:
-    """The least timeline that fits a document, by the names of its intervals."""
+class Timeline(Result):
+    """The least timeline that fits a document, by the names of its intervals: each start and end has a rank, and only their order counts.
+
+    From `tml.timeline` it has rows too, in the order of the ranks, with the words and the dates of the document.
+    """
 
     ranks: Mapping[str, Ranks]
     evidence: bytes = field(repr=False)
+    rows: tuple[Row, ...] = field(default=(), repr=False, compare=False)
+
+    def _repr_svg_(self) -> str:
+        from .notebooks import svg_of_timeline
+
+        return svg_of_timeline(self)
 
 
 @dataclass(frozen=True)
-class Clash:
+class Clash(Result):
     """Links that cannot all be true, as the walk shows, though any one of them left out, the others can."""
 
     links: tuple[Link, ...]
     walk: tuple[Step, ...]
     intervals: tuple[str, ...] = field(repr=False)
     evidence: bytes = field(repr=False)
+    content: bytes = field(default=b"", repr=False, compare=False, metadata=NOT_SHOWN)
+    """The bytes of the document."""
+
+    def __str__(self) -> str:
+        if len(self.links) == 1:
+            return f"clash of one link with the dates: {self.links[0]}"
+        return f"clash of {counted(len(self.links), 'link')}, which cannot all be true: {'; '.join(map(str, self.links))}"
+
+    def _repr_html_(self) -> str:
+        from .notebooks import html_of_clash
+
+        return html_of_clash(self)
 
     @cached_property
     def spares(self) -> tuple[Mapping[str, Ranks], ...]:
@@ -148,7 +252,7 @@ class Clash:
 
 
 @dataclass(frozen=True)
-class Proof:
+class Proof(Result):
     """A relation holds in every timeline that fits: a walk for each of its orders."""
 
     relation: Relation
@@ -157,7 +261,7 @@ class Proof:
 
 
 @dataclass(frozen=True)
-class Counterexample:
+class Counterexample(Result):
     """A relation need not hold: a timeline that fits, in which it is false."""
 
     relation: Relation
@@ -166,14 +270,14 @@ class Counterexample:
 
 
 @dataclass(frozen=True)
-class Possible:
+class Possible(Result):
     """The base relations of Allen that are possible between two intervals, each with a timeline that fits and has it."""
 
     timelines: Mapping[str, Mapping[str, Ranks]]
 
 
 @dataclass(frozen=True)
-class Reduced:
+class Reduced(Result):
     """The links that stay where those that follow from others are left out, and how many links there are in all."""
 
     links: tuple[Link, ...]
@@ -181,7 +285,17 @@ class Reduced:
 
 
 @dataclass(frozen=True)
-class Score:
+class Consistent(Result):
+    """Relations without the least confident one of each clash: those that are kept, in the order in which they were given, those that were
+    dropped, in the order in which they were, and the document with the ones that are kept."""
+
+    kept: tuple[Relation, ...]
+    dropped: tuple[Relation, ...]
+    document: bytes = field(repr=False)
+
+
+@dataclass(frozen=True)
+class Score(Result):
     """How many links of a document without redundancy follow in the key, of how many; and the same the other way round."""
 
     matched: int = 0
@@ -192,6 +306,10 @@ class Score:
     def __add__(self, other: Score) -> Score:
         """The score of two pairs of documents together."""
         return Score(*(one + another for one, another in zip(astuple(self), astuple(other), strict=True)))
+
+    def __radd__(self, other: Literal[0]) -> Score:
+        """The score itself, where `sum` begins with 0."""
+        return self if other == 0 else NotImplemented
 
     @property
     def precision(self) -> Fraction | None:
@@ -213,12 +331,15 @@ class Score:
 
 
 @dataclass(frozen=True)
-class KeyClash:
+class KeyClash(Result):
     """No timeline fits the key."""
+
+    def __str__(self) -> str:
+        return "the links of the key cannot all be true"
 
 
 @dataclass(frozen=True)
-class Placing:
+class Placing(Result):
     """Seconds for the intervals of a document that meet its links, its dates and its durations; with the text for `confirm`."""
 
     seconds: Mapping[str, Seconds]
@@ -226,7 +347,7 @@ class Placing:
 
 
 @dataclass(frozen=True)
-class Cycle:
+class Cycle(Result):
     """Constraints on seconds that cannot all be met; with the text for `confirm`."""
 
     steps: tuple[Step, ...]
@@ -234,7 +355,7 @@ class Cycle:
 
 
 @dataclass(frozen=True)
-class Claim:
+class Claim(Result):
     """What a claim of evidence shows: of an entailment or a counterexample the relation, of a clash the numbers of its links."""
 
     kind: Literal["timeline", "entails", "counter", "clash"]
@@ -243,21 +364,21 @@ class Claim:
 
 
 @dataclass(frozen=True)
-class Verified:
+class Verified(Result):
     """Evidence that is right, and what each of its claims shows."""
 
     claims: tuple[Claim, ...]
 
 
 @dataclass(frozen=True)
-class Confirmed:
+class Confirmed(Result):
     """A placing or a cycle that is right."""
 
     kind: Literal["placing", "cycle"]
 
 
 @dataclass(frozen=True)
-class Malformed:
+class Malformed(Result):
     """A text of evidence or of seconds is malformed: its first bad line, from 1."""
 
     file: Literal["evidence", "second", "seconds"]
@@ -265,7 +386,7 @@ class Malformed:
 
 
 @dataclass(frozen=True)
-class Refused:
+class Refused(Result):
     """Evidence, a placing or a cycle is wrong: the first reason. Of evidence also the claim, from 0, and the part of it."""
 
     reason: str
@@ -274,7 +395,7 @@ class Refused:
 
 
 @dataclass(frozen=True)
-class Drill:
+class Drill(Result):
     """What the program found of the document of a drill, once the timeline was written as evidence, read again and verified."""
 
     number: int

@@ -4,44 +4,62 @@ from __future__ import annotations
 
 import html
 import re
-from collections.abc import Iterable, Mapping
+from collections.abc import Collection, Iterable, Mapping, Sequence
 from itertools import count
+from typing import Any
 
-from .asking import Answerer, File, UnknownName, content
-from .questions import check, dates, spans
-from .results import Fault, TooLong, Unit
+from . import reading
+from .asking import Answerer, File, content
+from .documents import Time, TLink
+from .misuse import unknown_interval, unknown_relation
+from .questions import check, spans
+from .results import Accepted, Fault, Link, Relation, TooLong, Unit
 from .statuses import DOCUMENT_LIMIT, IDENTIFIER_LIMIT, RELATIONS
 
-__all__ = ["document_of", "with_links"]
+__all__ = ["Linkable", "document_of", "with_links"]
 
-Triple = tuple[str, str, str]
-"""Two intervals and a relation between them, as `Relation` has them."""
+Linkable = tuple[str, str, str] | Relation | Link | TLink
+"""What says a relation between two intervals: a triple, or a relation or link as it was answered."""
 
 NAME = re.compile(rf"[A-Za-z0-9_.-]{{1,{IDENTIFIER_LIMIT}}}")
 ENDS = {"eventInstanceID": "timeID", "relatedToEventInstance": "relatedToTime"}
 """The attributes that name the two ends of a link: an instance, or else a time."""
 
+KEPT = ("type", "mod", "value")
+"""The attributes of a time by which the calendar goes."""
 
-def with_links(document: File, relations: Iterable[Triple], by: Answerer | None = None) -> bytes | Fault | TooLong:
+DURATION = re.compile(r"P[\dX.T]")
+SET = re.compile(r"XXXX-")
+TIME = re.compile(r"(?:[\dX-]+T|T[\dX]).*", re.DOTALL)
+"""How the values of durations, of times that come again each year, and of times of the day begin."""
+
+
+def with_links(document: File, relations: Iterable[Linkable], by: Answerer | None = None) -> bytes | Fault | TooLong:
     """A document with other links: without its own TLINK tags, and with one for each relation at the end of its root.
 
-    The names are those of its intervals; another one is an `UnknownName`, and so is a relation that TLINK does not have.
+    Relations are triples of names, or links that `check` or `read` answered. A link keeps its `lid` where no other tag has it. The names
+    are those of the intervals of the document; another one is an `UnknownName`, and so is a relation that TLINK does not have.
     """
     given = content(document, DOCUMENT_LIMIT)
-    accepted, times, units = check(given, by), dates(given, by), spans(given, by)
+    accepted, units = check(given, by), spans(given, by)
     if isinstance(accepted, (Fault, TooLong)):
         return accepted
-    assert isinstance(times, dict)
     assert isinstance(units, list)
-    links = "".join(f"{tlink(one, set(accepted.intervals), set(times))}\n" for one in relations).encode()
+    ends = ends_in(given, accepted, units)
+    return with_tags(given, units, [ends.tag(one) for one in relations])
+
+
+def with_tags(document: bytes, units: Sequence[Unit], tags: Iterable[str]) -> bytes:
+    """A document that was cut into units with other tags as its links."""
+    links = "".join(f"{tag}\n" for tag in tags).encode()
     kept, place = [], 0
     for start, end in of_links(units):
-        kept.append(given[place:start])
+        kept.append(document[place:start])
         place = end
     root = next(unit for unit in reversed(units) if unit.name == "TimeML")
     if root.kind == "empty":
-        return given[: root.end - 2] + b">" + links + b"</TimeML>" + given[root.end :]
-    return b"".join((*kept, given[place : root.start], links, given[root.start :]))
+        return document[: root.end - 2] + b">" + links + b"</TimeML>" + document[root.end :]
+    return b"".join((*kept, document[place : root.start], links, document[root.start :]))
 
 
 def of_links(units: Iterable[Unit]) -> Iterable[tuple[int, int]]:
@@ -54,38 +72,107 @@ def of_links(units: Iterable[Unit]) -> Iterable[tuple[int, int]]:
                 yield start, unit.end
 
 
-def document_of(relations: Iterable[Triple], times: Mapping[str, str] | None = None) -> bytes:
+def identifiers_of(document: bytes, units: Iterable[Unit]) -> set[str]:
+    """The identifiers of the tags of a document that are no TLINK."""
+    written = (
+        document[one.start : one.end]
+        for unit in units
+        if unit.name != "TLINK"
+        for one in unit.attributes
+        if one.name in ("eid", "eiid", "tid", "sid", "lid")
+    )
+    return {text[text.index(text[-1:]) + 1 : -1].decode() for text in written}
+
+
+def ends_in(document: bytes, accepted: Accepted, units: Iterable[Unit]) -> Ends:
+    """What the links of an accepted document may have at their ends."""
+    return Ends(accepted.intervals, reading.times_of(document), reading.events_of(document), identifiers_of(document, units))
+
+
+def document_of(relations: Iterable[Linkable], times: Mapping[str, str] | Sequence[Time] | None = None) -> bytes:
     """A document that says these relations and nothing else. A name for which `times` has a value is a time, and all others are events.
+
+    Times are values by their names, or those of a document as `read` answered them, which keep their type, modifier and value. A value
+    alone is one of a DURATION where it begins as `P1D` or `PT5M` do, of a SET where it comes again each year, as `XXXX-WXX-1`, of a TIME
+    where it has an hour or a part of the day, and else of a DATE.
 
     Names are of the form of identifiers: letters, digits, `_`, `-` and `.`, 64 at most; a `ValueError` tells one that is not.
     """
-    triples, values = list(relations), times or {}
-    names = dict.fromkeys([*values, *(name for first, _, second in triples for name in (first, second))])
+    triples, tags = [relation_of(one) for one in relations], times_of(times)
+    names = dict.fromkeys([*tags, *(name for first, _, second in triples for name in (first, second))])
     bad = next((name for name in names if not NAME.fullmatch(name)), None)
     if bad is not None:
-        raise ValueError(f"{bad!r} is not of the form of an identifier")
+        raise ValueError(f"{bad!r} is not of the form of an identifier: letters, digits, `_`, `-` and `.`, {IDENTIFIER_LIMIT} at most")
     event = next(name for name in map("event{}".format, count()) if name not in names)
-    tags = [f'<EVENT eid="{event}" class="OCCURRENCE"></EVENT>']
-    for name in names:
-        value = values.get(name)
-        tags.append(f'<MAKEINSTANCE eiid="{name}" eventID="{event}"/>' if value is None else timex(name, value))
-    tags += [tlink(one, set(names), set(values)) for one in triples]
-    return "\n".join(["<TimeML>", *tags, "</TimeML>", ""]).encode()
+    lines = [f'<EVENT eid="{event}" class="OCCURRENCE"></EVENT>']
+    lines += [tags.get(name, f'<MAKEINSTANCE eiid="{name}" eventID="{event}"/>') for name in names]
+    ends = Ends(list(names), tags)
+    lines += [ends.tag(one) for one in triples]
+    return "\n".join(["<TimeML>", *lines, "</TimeML>", ""]).encode()
 
 
-def timex(name: str, value: str) -> str:
-    """The tag of a time. Its type is that of its value, as far as that can be seen."""
-    kind = "DURATION" if value.startswith("P") and value[1:2].isdigit() else "TIME" if "T" in value else "DATE"
-    return f'<TIMEX3 tid="{name}" type="{kind}" value="{html.escape(value)}"></TIMEX3>'
+def times_of(times: Mapping[str, str] | Sequence[Time] | None) -> dict[str, str]:
+    """The tags of times by their names."""
+    if times is None:
+        return {}
+    if not isinstance(times, Mapping):
+        return {str(one.id): timex(str(one.id), {name: one.attributes[name] for name in KEPT if name in one.attributes}) for one in times}
+    return {name: timex(name, {"type": type_of(value), "value": value}) for name, value in times.items()}
 
 
-def tlink(relation: Triple, names: set[str], times: set[str]) -> str:
-    """The tag of a link between intervals with these names, of which some are times."""
-    first, between, second = relation
-    for name in (first, second):
-        if name not in names:
-            raise UnknownName(name)
-    if between not in RELATIONS:
-        raise UnknownName(between)
-    ends = [f'{time if name in times else instance}="{name}"' for (instance, time), name in zip(ENDS.items(), (first, second), strict=True)]
-    return f'<TLINK {ends[0]} {ends[1]} relType="{between}"/>'
+def type_of(value: str) -> str:
+    """The type of a time with this value, as far as that can be seen."""
+    if DURATION.match(value) and not value.startswith("PAST"):
+        return "DURATION"
+    return "SET" if SET.match(value) else "TIME" if TIME.fullmatch(value) else "DATE"
+
+
+def timex(name: str, attributes: Mapping[str, str]) -> str:
+    """The tag of a time."""
+    written = "".join(f' {key}="{html.escape(value)}"' for key, value in attributes.items())
+    return f'<TIMEX3 tid="{name}"{written}></TIMEX3>'
+
+
+def relation_of(one: Linkable) -> Relation:
+    """The relation that a triple or a link says; a `TypeError` where it is none."""
+    if isinstance(one, (Link, TLink)):
+        return one.says()
+    given: Any = one
+    if not isinstance(given, (tuple, list)) or len(given) != 3 or not all(isinstance(word, str) for word in given):
+        raise TypeError(f"a relation is a triple of a name, a relation and a name, or a link, and not {one!r}")
+    return Relation(*given)
+
+
+class Ends:
+    """The names that links may have at their ends, of which some are times, and the identifiers that are taken."""
+
+    def __init__(
+        self,
+        names: Sequence[str],
+        times: Collection[str],
+        events: Mapping[str, Sequence[str]] | None = None,
+        taken: set[str] | None = None,
+    ) -> None:
+        self.names, self.known, self.times, self.events, self.taken = names, set(names), times, events or {}, taken or set()
+
+    def tag(self, one: Linkable) -> str:
+        """The tag of a link."""
+        first, between, second = relation_of(one)
+        for name in (first, second):
+            if name not in self.known:
+                raise unknown_interval(name, self.names, self.events.get(name, ()))
+        if between not in RELATIONS:
+            raise unknown_relation(between)
+        ends = [
+            f'{time if name in self.times else instance}="{name}"'
+            for (instance, time), name in zip(ENDS.items(), (first, second), strict=True)
+        ]
+        return f'<TLINK {self.identifier(one)}{ends[0]} {ends[1]} relType="{between}"/>'
+
+    def identifier(self, one: Linkable) -> str:
+        """The lid of a link as it is written, where it has one that no other tag has."""
+        lid = one.lid if isinstance(one, (Link, TLink)) else None
+        if lid is None or lid in self.taken or not NAME.fullmatch(lid):
+            return ""
+        self.taken.add(lid)
+        return f'lid="{lid}" '

@@ -11,11 +11,13 @@ from __future__ import annotations
 from importlib import import_module
 from typing import TYPE_CHECKING, Any
 
+from tml import __version__
+
 if TYPE_CHECKING:
     from .functions import *
 
-VERSION = "0.4.0"
-"""The version of the companions: that of pyproject.toml and of the newest heading of CHANGELOG.md, as a test sees."""
+VERSION = __version__
+"""The version of the companions."""
 
 
 def __getattr__(name: str) -> Any:

@@ -9,9 +9,9 @@ from contextlib import contextmanager
 from itertools import chain
 from typing import IO, NamedTuple
 
-from tml.logs import COMMAND
 from tml.running import PART
 from tml.saying import counted as counted  # noqa: F401 (which many take from here)
+from tml.saying import shown as shown  # noqa: F401
 from tml.statuses import DOCUMENT_LIMIT
 
 PATTERNS = ("*.tml", "*.xml")
@@ -186,23 +186,3 @@ def read_to(file: IO[bytes], most: int) -> bytes:
 def reason(error: Exception) -> str:
     """Why a file cannot be read, in a few words."""
     return (getattr(error, "strerror", None) or str(error)).lower()
-
-
-def shown(text: str) -> str:
-    """A name or a text as it may be printed: what is not printable is escaped, so that a line stays a line.
-
-    So is a colon at the beginning, and what build servers take for a command elsewhere in a line of a log.
-    """
-    if not text.isprintable():
-        text = "".join(character if character.isprintable() else escaped(character) for character in text)
-    return re.sub(COMMAND, r"\\x23", re.sub(r"^( *):", r"\1\\x3a", text))
-
-
-def escaped(character: str) -> str:
-    """An escape for one character; a byte that is not UTF-8 is printed as this byte."""
-    code = ord(character)
-    if 0xDC80 <= code <= 0xDCFF:
-        return f"\\x{code - 0xDC00:02x}"
-    if code < 0x100:
-        return f"\\x{code:02x}"
-    return f"\\u{code:04x}" if code < 0x10000 else f"\\U{code:08x}"

@@ -1,0 +1,69 @@
+"""`python -m tml`: one question to the library or the program that the package finds, in the words of `tml`: `python -m tml check FILE`.
+
+Without words it says which version of the package this is, and who answers. A file is named by its path, or is `-` for standard input.
+"""
+
+from __future__ import annotations
+
+import sys
+from collections.abc import Sequence
+
+from . import __version__
+from .asking import LIMITS, content, default_answerer
+from .library import Library
+from .process import Process
+from .replies import DONE
+from .running import CannotRun
+from .statuses import DOCUMENT_LIMIT, TmlStatus
+
+COMMANDS = ("check", "spans", *DONE)
+
+
+def main(words: Sequence[str]) -> int:
+    """Answers the status."""
+    if words in (["--version"], ["-V"]):
+        print(f"tml {__version__}")
+        return TmlStatus.DONE
+    try:
+        if not words:
+            print(f"tml {__version__}, the package for Python; {answerer_in_words()}")
+            return TmlStatus.DONE
+        return asked(*words)
+    except CannotRun as problem:
+        print(f"tml: {problem}", file=sys.stderr)
+        return TmlStatus.USAGE
+
+
+def answerer_in_words() -> str:
+    """Who answers."""
+    found = default_answerer()
+    if isinstance(found, Library):
+        return f"answered by the library {found.path}"
+    return f"answered by the program {found.path}" if isinstance(found, Process) else "answered by something else"
+
+
+def asked(command: str, *words: str) -> int:
+    """The status of one question, whose answer is printed."""
+    count = 0 if command == "drill" else len(LIMITS.get(command, (DOCUMENT_LIMIT,)))
+    if command not in COMMANDS or len(words) < count:
+        print(f"usage: python -m tml COMMAND FILE.. WORD..\ncommands: {' '.join(COMMANDS)}", file=sys.stderr)
+        return TmlStatus.USAGE
+    try:
+        limits = LIMITS.get(command, (DOCUMENT_LIMIT,))
+        files = [file_of(word, limit) for word, limit in zip(words[:count], limits, strict=False)]
+    except OSError as error:
+        print(f"tml: {error}", file=sys.stderr)
+        return TmlStatus.READ_FAULT
+    status, text = default_answerer().answer(command, files, words[count:])
+    sys.stdout.buffer.write(text)
+    sys.stdout.flush()
+    return status
+
+
+def file_of(word: str, limit: int) -> bytes:
+    """The bytes of a file, or of standard input; of a longer one a byte more than it may have."""
+    return sys.stdin.buffer.read(limit + 1) if word == "-" else content(word, limit)
+
+
+if __name__ == "__main__":
+    sys.exit(main(sys.argv[1:]))

@@ -1,0 +1,265 @@
+"""The model of an accepted document: its events, instances, times, signals and links, with their attributes, texts and places.
+
+It is made from what `check` and `spans` say of the document: the one has the names and numbers, and the other one the tags.
+"""
+
+from __future__ import annotations
+
+import re
+from collections.abc import Iterator, Mapping, Sequence
+from dataclasses import dataclass, field
+from functools import cached_property
+from typing import Any, NamedTuple
+
+from .results import Accepted, Link, Relation, Result, Unit
+from .running import CannotRun
+
+__all__ = ["Document", "Event", "Instance", "Signal", "Stretch", "Tag", "Time", "TLink"]
+
+IDENTIFIERS = {"EVENT": "eid", "MAKEINSTANCE": "eiid", "TIMEX3": "tid", "SIGNAL": "sid", "TLINK": "lid", "ALINK": "lid", "SLINK": "lid"}
+"""The attribute with the identifier of each kind of tag."""
+
+REFERENCE = re.compile(r"&(?:(lt|gt|amp|quot|apos)|#(\d{1,7})|#x([0-9A-Fa-f]{1,6}));")
+SIGNS = {"lt": "<", "gt": ">", "amp": "&", "quot": '"', "apos": "'"}
+APART = "the answers of tml to `check` and `spans` do not belong together"
+
+
+class Stretch(NamedTuple):
+    """A part of something: its first byte or character, counted from 0, and the one after its last."""
+
+    start: int
+    end: int
+
+
+@dataclass(frozen=True)
+class Tag(Result):
+    """A tag of a document, with what it holds.
+
+    `bytes` and `characters` say where it stands in `content` and in `source` of its document, from the beginning of its start tag to the
+    end of its end tag; and `stretch` where its words stand in `text`, which has no tags.
+    """
+
+    name: str
+    id: str | None
+    """Its `eid`, `eiid`, `tid`, `sid` or `lid`; only links may have none."""
+    attributes: Mapping[str, str] = field(hash=False)
+    text: str
+    bytes: Stretch
+    characters: Stretch
+    stretch: Stretch
+
+
+@dataclass(frozen=True)
+class Event(Tag):
+    """An EVENT."""
+
+    @property
+    def kind(self) -> str:
+        """Its class, as OCCURRENCE or STATE."""
+        return self.attributes["class"]
+
+
+@dataclass(frozen=True)
+class Instance(Tag):
+    """A MAKEINSTANCE, which is an interval. Its text is that of its event."""
+
+    event: Event
+
+
+@dataclass(frozen=True)
+class Time(Tag):
+    """A TIMEX3, which is an interval."""
+
+    @property
+    def kind(self) -> str:
+        """Its type, as DATE or DURATION."""
+        return self.attributes["type"]
+
+    @property
+    def value(self) -> str:
+        """Its value; nothing where it has none."""
+        return self.attributes.get("value", "")
+
+
+@dataclass(frozen=True)
+class Signal(Tag):
+    """A SIGNAL."""
+
+
+@dataclass(frozen=True)
+class TLink(Tag):
+    """A TLINK: its number among these, counted from 0, and its relation between the names of two intervals."""
+
+    number: int
+    first: str
+    relation: str
+    second: str
+
+    @property
+    def lid(self) -> str | None:
+        """Its identifier, where it has one."""
+        return self.id
+
+    def says(self) -> Relation:
+        """What it says."""
+        return Relation(self.first, self.relation, self.second)
+
+    def called(self) -> str:
+        """How it is called: by its lid, or by its number where it has none."""
+        return self.id or f"link {self.number}"
+
+    def __str__(self) -> str:
+        return f"{self.called()}: {self.says()}"
+
+
+@dataclass(frozen=True)
+class Document(Result):
+    """An accepted document. Each question takes it in the place of bytes or a path."""
+
+    content: bytes = field(repr=False)
+    """Its bytes."""
+    path: str | None
+    """Where it lay, if that is known."""
+    events: tuple[Event, ...]
+    instances: tuple[Instance, ...]
+    times: tuple[Time, ...]
+    signals: tuple[Signal, ...]
+    links: tuple[TLink, ...]
+    """The TLINK tags, by their numbers."""
+    other_links: tuple[Tag, ...]
+    """The ALINK and SLINK tags."""
+    text: str = field(repr=False)
+    """What can be read in it: the texts between its tags, with references decoded."""
+
+    @cached_property
+    def source(self) -> str:
+        """Its bytes as characters."""
+        return self.content.decode()
+
+    @cached_property
+    def intervals(self) -> Mapping[str, Instance | Time]:
+        """Its instances and times by their names, in the order of their tags, which is that of their numbers."""
+        found: list[Instance | Time] = sorted([*self.instances, *self.times], key=lambda one: one.bytes.start)
+        return {str(one.id): one for one in found}
+
+    @cached_property
+    def by_identifier(self) -> Mapping[str, Tag]:
+        """Its tags by their identifiers."""
+        tags: tuple[Tag, ...] = (*self.events, *self.instances, *self.times, *self.signals, *self.links, *self.other_links)
+        return {one.id: one for one in tags if one.id is not None}
+
+    def __getitem__(self, identifier: str) -> Tag:
+        """The tag with an identifier; `UnknownName` where there is none."""
+        from .misuse import unknown_identifier
+
+        if identifier not in self.by_identifier:
+            raise unknown_identifier(identifier, list(self.by_identifier))
+        return self.by_identifier[identifier]
+
+    @property
+    def creation_time(self) -> Time | None:
+        """The time at which it was made, where it says one."""
+        return next((one for one in self.times if one.attributes.get("functionInDocument") == "CREATION_TIME"), None)
+
+
+def document_from(content: bytes, path: str | None, accepted: Accepted, units: Sequence[Unit]) -> Document:
+    """The model of a document, by what `check` and `spans` said of it."""
+    reader = Reader(content, units)
+    events = tuple(Event(**one) for one in reader.tags("EVENT"))
+    by_name = {one.id: one for one in events}
+    instances = tuple(instance_of(one, by_name) for one in reader.tags("MAKEINSTANCE"))
+    times = tuple(Time(**one) for one in reader.tags("TIMEX3"))
+    signals = tuple(Signal(**one) for one in reader.tags("SIGNAL"))
+    given = list(reader.tags("TLINK"))
+    if len(given) != len(accepted.links):
+        raise CannotRun(APART)
+    links = tuple(link_of(one, link) for one, link in zip(given, accepted.links, strict=True))
+    other_links = tuple(Tag(**one) for one in reader.tags("ALINK", "SLINK"))
+    made = Document(content, path, events, instances, times, signals, links, other_links, reader.text)
+    if tuple(made.intervals) != accepted.intervals:
+        raise CannotRun(APART)
+    return made
+
+
+def instance_of(tag: dict[str, Any], events: Mapping[str | None, Event]) -> Instance:
+    """An instance with its event, of which it has the text."""
+    event = events.get(tag["attributes"].get("eventID"))
+    if event is None:
+        raise CannotRun(APART)
+    tag |= {"text": event.text, "stretch": event.stretch, "event": event}
+    return Instance(**tag)
+
+
+def link_of(tag: dict[str, Any], link: Link) -> TLink:
+    """A TLINK with its number and what it says."""
+    return TLink(**tag, number=link.number, first=link.first, relation=link.relation, second=link.second)
+
+
+def decoded(text: str) -> str:
+    """A text or a value with its references decoded."""
+    return REFERENCE.sub(lambda found: SIGNS[found[1]] if found[1] else chr(int(found[2]) if found[2] else int(found[3], 16)), text)
+
+
+class Reader:
+    """The tags of a document as the model has them."""
+
+    def __init__(self, content: bytes, units: Sequence[Unit]) -> None:
+        self.content, self.units = content, units
+        self.texts: list[str] = []
+        self.before: list[int] = []
+        """Of each unit how many characters of the text stand before it."""
+        length = 0
+        for unit in units:
+            self.before.append(length)
+            if unit.kind == "text":
+                self.texts.append(decoded(content[unit.start : unit.end].decode()))
+                length += len(self.texts[-1])
+        self.text = "".join(self.texts)
+        self.before.append(length)
+        self.ends = dict(self.elements())
+        self.characters = dict(self.counted())
+
+    def elements(self) -> Iterator[tuple[int, int]]:
+        """Of each start and empty tag the number of the unit at which it ends."""
+        open_tags: list[int] = []
+        for number, unit in enumerate(self.units):
+            if unit.kind == "empty":
+                yield number, number
+            elif unit.kind == "start":
+                open_tags.append(number)
+            elif unit.kind == "end" and open_tags:
+                yield open_tags.pop(), number
+
+    def counted(self) -> Iterator[tuple[int, int]]:
+        """Of the bounds of the units how many characters stand before them."""
+        place, count = 0, 0
+        yield place, count
+        for unit in self.units:
+            count += len(self.content[place : unit.end].decode())
+            place = unit.end
+            yield place, count
+
+    def tags(self, *names: str) -> Iterator[dict[str, Any]]:
+        """The tags of some kinds in their order, by the fields of `Tag`."""
+        for number, unit in enumerate(self.units):
+            if unit.name in names and number in self.ends:
+                yield self.tag(number, unit, self.ends[number])
+
+    def tag(self, number: int, unit: Unit, end: int) -> dict[str, Any]:
+        """A tag by the fields of `Tag`."""
+        attributes = {one.name: self.value(one.start, one.end) for one in unit.attributes}
+        place, words = Stretch(unit.start, self.units[end].end), Stretch(self.before[number], self.before[end])
+        return {
+            "name": unit.name,
+            "id": attributes.get(IDENTIFIERS[str(unit.name)]),
+            "attributes": attributes,
+            "text": self.text[words.start : words.end],
+            "bytes": place,
+            "characters": Stretch(*(self.characters[one] for one in place)),
+            "stretch": words,
+        }
+
+    def value(self, start: int, end: int) -> str:
+        """The value of an attribute, by its bounds."""
+        written = self.content[start:end]
+        return decoded(written[written.index(written[-1:]) + 1 : -1].decode())

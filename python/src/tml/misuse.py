@@ -1,0 +1,70 @@
+"""What a wrong question is told: what was given, and what was probably meant."""
+
+from __future__ import annotations
+
+from collections.abc import Sequence
+
+from .saying import listed, meant, shown
+from .statuses import RELATIONS
+
+__all__ = ["UnknownName"]
+
+
+class UnknownName(KeyError):
+    """A word of a question names no interval of the document, or no relation. `args` has the word alone."""
+
+    def __init__(self, name: str, said: str = "") -> None:
+        super().__init__(name)
+        self.said = said
+
+    def __str__(self) -> str:
+        return self.said or super().__str__()
+
+    def __reduce__(self) -> tuple[type[UnknownName], tuple[str, str]]:
+        return UnknownName, (self.args[0], self.said)
+
+
+def unknown_relation(name: str) -> UnknownName:
+    """The exception where a word is no relation of TLINK."""
+    return UnknownName(name, f"{shown(name)!r} is no relation of TLINK: {meant(name, RELATIONS) or listed(RELATIONS)}")
+
+
+def unknown_interval(name: str, intervals: Sequence[str], instances: Sequence[str] = ()) -> UnknownName:
+    """The exception where a word is no interval of a document. Where it is an event, its instances are meant."""
+    said = f"{shown(name)!r} is no interval of the document"
+    if instances:
+        return UnknownName(name, f"{said}, but an EVENT: links and questions name its instance, {listed(instances)}")
+    near = meant(name, intervals)
+    choices = f"its intervals are {listed(intervals)}" if intervals else "it has none"
+    return UnknownName(name, f"{said}: {near or choices}")
+
+
+def unknown_identifier(name: str, identifiers: Sequence[str]) -> UnknownName:
+    """The exception where no tag of a document has an identifier."""
+    said = f"no tag of the document has the identifier {shown(str(name))!r}"
+    return UnknownName(name, f"{said}: {meant(str(name), identifiers) or listed(identifiers)}")
+
+
+def not_a_file(given: object) -> TypeError:
+    """The exception where a document or another file is neither bytes nor a path."""
+    said = f"a file is bytes or a path, and not {type(given).__name__}"
+    if hasattr(given, "read"):
+        return TypeError(f"{said}: give what it has, by .read(), and of one that is opened as text by .read().encode()")
+    if isinstance(given, (list, tuple, set)):
+        return TypeError(f"{said}: ask about each file by itself, or about many by tml.folder")
+    if hasattr(given, "to_dict"):
+        return TypeError(f"{said}: {given}; tml.expect tells an answer that is not the wished one")
+    return TypeError(f"{said}: give a str, a pathlib.Path, bytes, or what tml.read answered")
+
+
+def is_a_document(text: str) -> TypeError:
+    """The exception where the text of a document was given, and text is a path."""
+    return TypeError(f"text is the path of a file, and this text is a document: give its bytes, by .encode() ({shown(text[:40])!r})")
+
+
+def not_an_answerer(given: object) -> TypeError:
+    """The exception where `by` is neither a library nor a program."""
+    if isinstance(given, str) or hasattr(given, "__fspath__"):
+        kind = "Library" if ".so" in str(given) else "Process"
+        return TypeError(f"by is a tml.Library or a tml.Process, and not a path: write by=tml.{kind}({str(given)!r})")
+    return TypeError(f"by is a tml.Library or a tml.Process, and not {type(given).__name__}")

@@ -1,0 +1,127 @@
+"""Many documents: `tml.folder` asks about them by processes, in order, and goes on where one of them cannot be asked about."""
+
+from __future__ import annotations
+
+import importlib
+import os
+import subprocess
+import sys
+import tempfile
+import unittest
+from functools import partial
+from pathlib import Path
+from typing import Any
+from unittest import mock
+
+import tml
+from corpus import SOURCES, TML, TOP
+
+SAMPLES = os.path.join(TOP, "samples")
+FOUND = {"TML": TML, "TML_LIBRARY": ""}
+
+
+def ends_its_process(path: str) -> str:
+    """A question at which a process ends, where a file is so called."""
+    if path.endswith("bad.xml"):
+        os._exit(3)
+    return path
+
+
+def raises(path: str) -> str:
+    """A question that cannot be asked."""
+    raise tml.UnknownName("x")
+
+
+def own(name: str) -> Any:
+    """A function of this file as other processes can import it."""
+    return getattr(importlib.import_module("test_folders"), name)
+
+
+@unittest.skipUnless(os.access(TML, os.X_OK), f"no program {TML}: build it as README.md says, or name one by TML=PROGRAM")
+class Folders(unittest.TestCase):
+    def setUp(self) -> None:
+        held = tempfile.TemporaryDirectory()
+        self.addCleanup(held.cleanup)
+        self.folder = Path(held.name)
+        self.enterContext(mock.patch.dict(os.environ, FOUND))
+
+    def test_models_of_a_folder(self) -> None:
+        wanted = sorted(str(path) for path in Path(SAMPLES).rglob("*") if path.suffix in (".tml", ".xml"))
+        for jobs in (1, 3):
+            found = list(tml.folder(SAMPLES, jobs=jobs))
+            self.assertEqual(sorted(path for path, _ in found), wanted)
+            for path, document in found:
+                self.assertEqual(document, tml.read(path))
+
+    def test_other_questions_in_the_order_of_the_paths(self) -> None:
+        paths = [os.path.join(SAMPLES, name) for name in ("rates.xml", "port.xml", "rates.xml", "bridge.xml")]
+        found = list(tml.folder(paths, tml.solve, jobs=2))
+        self.assertEqual([(one.path, one.answer) for one in found], [(path, tml.solve(path)) for path in paths])
+        [one] = tml.folder(Path(paths[0]), partial(tml.ask, first="ei1", relation="BEFORE", second="ei2"), jobs=2)
+        self.assertIsInstance(one.answer, tml.Proof)
+
+    def test_what_cannot_be_read(self) -> None:
+        for jobs in (1, 2):
+            found = list(tml.folder(["no such", os.path.join(SAMPLES, "rates.xml")], tml.check, jobs=jobs))
+            self.assertEqual(found[0].answer, tml.NotAnswered("no such file or directory"))
+            self.assertIsInstance(found[1].answer, tml.Accepted)
+
+    def test_a_process_that_ends_takes_one_file_along(self) -> None:
+        for name in ("a.xml", "bad.xml", "c.xml", "d.tml", "e.txt"):
+            (self.folder / name).write_text("x")
+        found = list(tml.folder(self.folder, own("ends_its_process"), jobs=2))
+        answers = [one.answer for one in found]
+        self.assertEqual(
+            answers,
+            [
+                str(self.folder / "a.xml"),
+                tml.NotAnswered("the process that was asked about it ended"),
+                str(self.folder / "c.xml"),
+                str(self.folder / "d.tml"),
+            ],
+        )
+
+    def test_what_is_no_document_of_a_folder(self) -> None:
+        (self.folder / "a.xml").write_text("<TimeML/>")
+        os.mkfifo(self.folder / "b.xml")
+        (self.folder / "c.xml").symlink_to("gone")
+        (self.folder / "d.xml").mkdir()
+        (self.folder / "e").symlink_to(self.folder)
+        found = [(os.path.basename(path), type(answer)) for path, answer in tml.folder(self.folder, tml.check, jobs=1)]
+        self.assertEqual(found, [("a.xml", tml.Accepted), ("c.xml", tml.NotAnswered)])
+
+    def test_what_is_raised(self) -> None:
+        for jobs in (1, 2):
+            with self.assertRaises(tml.UnknownName):
+                list(tml.folder(SAMPLES, own("raises"), jobs=jobs))
+
+    def test_what_cannot_be_sent(self) -> None:
+        with self.assertRaisesRegex(TypeError, "^another process can only be asked a function of a module"):
+            tml.folder(SAMPLES, lambda path: path, jobs=2)
+        self.assertEqual(len(list(tml.folder([SAMPLES], lambda path: path, jobs=1))), len(list(tml.folder(SAMPLES, tml.check, jobs=1))))
+        wrong: Any = b"samples"
+        for given, kind in ((0, ValueError), (-1, ValueError)):
+            with self.assertRaises(kind):
+                tml.folder(SAMPLES, jobs=given)
+        with self.assertRaises(TypeError):
+            list(tml.folder(wrong))
+
+    def test_whoever_stops_early_leaves_no_process(self) -> None:
+        asked = tml.folder([os.path.join(SAMPLES, "rates.xml")] * 500, tml.check, jobs=2)
+        self.assertIsInstance(next(asked).answer, tml.Accepted)
+        del asked
+        child = subprocess.run(["ps", "--ppid", str(os.getpid()), "-o", "args="], capture_output=True, text=True, check=False)
+        self.assertNotIn("answer_all", child.stdout)
+
+    def test_a_program_without_a_guard(self) -> None:
+        program = self.folder / "program.py"
+        program.write_text(f"import tml\nprint([type(one.answer).__name__ for one in tml.folder({SAMPLES!r}, tml.check, jobs=2)])\n")
+        done = subprocess.run(
+            [sys.executable, str(program)], env={**os.environ, "PYTHONPATH": SOURCES}, capture_output=True, text=True, check=False
+        )
+        self.assertEqual((done.returncode, done.stderr), (0, ""))
+        self.assertIn("Accepted", done.stdout)
+
+
+if __name__ == "__main__":
+    unittest.main()
