@@ -347,12 +347,12 @@ class Parts(unittest.TestCase):
         self.assertIn("Report on 0 documents", index_of([], 0))
 
     def test_readable_texts(self):
-        from tml_corpus.pages.text import readable
+        from tml.markup import harmless
 
         rows = [("a\r\nb\rc\td", "a\nb\nc d"), ("\u202ea\u2066", "a"), ("\x1b[0m\x00", "\ufffd[0m\ufffd"), ("\u200cx\u200d", "\u200cx\u200d"), ("\ud800", "\ufffd")]
         for text, shown in rows:
             with self.subTest(text):
-                self.assertEqual(readable(text), shown)
+                self.assertEqual(harmless(text), shown)
 
 
 class Walks(unittest.TestCase):

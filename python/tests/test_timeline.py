@@ -215,7 +215,7 @@ class Strangers(TimelineTest):
         page = self.drawn(document(event(1) + event(2) + event(3) + links), "d.html")
         [partners] = re.findall(r'<script type="application/json" id="partners">(.*?)</script>', page)
         rows = [title.split(" ")[1] for title in self.titles(page)]
-        self.assertEqual((rows, partners), (["(i3):", "(i1):", "(i2):"], "[[1], [0, 2], [1]]"))
+        self.assertEqual((rows, partners), (["(i3):", "(i1):", "(i2):"], "[[1],[0,2],[1]]"))
 
     def test_long_texts_are_cut(self):
         for text in ("word " * 50, "W" * 300, "日" * 300, "e\u0301" * 300):

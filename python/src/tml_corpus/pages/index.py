@@ -5,9 +5,12 @@ from __future__ import annotations
 from collections import Counter
 from collections.abc import Iterable, Sequence
 
+from tml.markup import NOTHING, Markup, element, lined
+
 from ..files.finding import counted
+from ..timeline.lettering import plain
 from .documents import Entry
-from .page import END, head, isolated, said
+from .frame import framed, isolated
 
 WITHOUT_PLACE = "dates without a calendar place"
 
@@ -34,25 +37,29 @@ EXPLAINED = (
 
 
 def index_of(entries: Sequence[Entry], expected: int) -> str:
-    """The whole page. Where not all documents were looked at it says so."""
+    """The whole page, as a file. Where not all documents were looked at it says so."""
     title = f"Report on {counted(len(entries), 'document')}"
-    missing = (
-        f"<p><strong>Interrupted: {len(entries)} of {counted(expected, 'document')} were looked at.</strong></p>\n"
-        if len(entries) < expected
-        else ""
+    missing = f"Interrupted: {len(entries):,} of {counted(expected, 'document')} were looked at."
+    heads = element("tr", *(element("th", name, scope="col", data_kind=kind) for name, kind in COLUMNS))
+    table = element(
+        "table",
+        "\n",
+        lined(element("thead", "\n", lined(heads)), element("tbody", "\n", lined(*map(row_of, entries)))),
+        id="documents",
     )
-    rows = "".join(map(row_of, entries))
-    heads = "".join(f'<th scope="col" data-kind="{kind}">{name}</th>' for name, kind in COLUMNS)
-    return (
-        f"{head(title, 'index.js')}<h1>{title}</h1>\n{missing}{totals(entries)}<p class=\"explained\">{EXPLAINED}</p>\n"
-        '<div id="search"></div>\n'
-        f'<div class="wide" tabindex="0" role="region" aria-label="Documents">\n<table '
-        f'id="documents">\n<thead>\n<tr>{heads}</tr>\n</thead>\n'
-        f"<tbody>\n{rows}</tbody>\n</table>\n</div>\n{END}"
+    return framed(
+        title,
+        "index.js",
+        element("h1", title),
+        element("p", element("strong", missing)) if len(entries) < expected else NOTHING,
+        totals(entries),
+        element("p", EXPLAINED, class_="explained"),
+        element("div", id="search"),
+        element("div", "\n", lined(table), class_="wide", tabindex="0", role="region", aria_label="Documents"),
     )
 
 
-def totals(entries: Sequence[Entry]) -> str:
+def totals(entries: Sequence[Entry]) -> Markup:
     """What became of the documents, the kinds of faults and warnings, and the sums."""
     counts = [entry.counts for entry in entries if entry.counts is not None]
     pairs, decided = (sum(getattr(one, name) or 0 for one in counts) for name in ("pairs", "decided"))
@@ -71,24 +78,24 @@ def totals(entries: Sequence[Entry]) -> str:
         listed("Warnings", warnings.most_common()),
         listed("Sums", list(sums.items())),
     ]
-    return f'<div class="totals">\n{"".join(tables)}</div>\n'
+    return element("div", "\n", lined(*tables), class_="totals")
 
 
-def listed(title: str, counts: Iterable[tuple[str, int]]) -> str:
+def listed(title: str, counts: Iterable[tuple[str, int]]) -> Markup:
     """A small table of counts; nothing where there are none."""
-    rows = "".join(
-        f'<tr><th scope="row" data-search="{said(name)}">{said(name)}</th><td class="number">{count}</td></tr>\n' for name, count in counts
-    )
-    return f"<table>\n<caption>{title}</caption>\n<tbody>\n{rows}</tbody>\n</table>\n" if rows else ""
+    rows = [
+        element("tr", element("th", plain(name), scope="row", data_search=plain(name)), element("td", count, class_="number"))
+        for name, count in counts
+    ]
+    return element("table", "\n", lined(element("caption", title), element("tbody", "\n", lined(*rows)))) if rows else NOTHING
 
 
-def row_of(entry: Entry) -> str:
+def row_of(entry: Entry) -> Markup:
     """The line of a document. It can be searched for the kinds of its warnings too."""
-    name = f'<a href="documents/{said(entry.page)}">{isolated(entry.path)}</a>' if entry.page else isolated(entry.path)
-    cells = [f"<td>{said(entry.verdict)}</td>", f"<td>{isolated(entry.said)}</td>" if entry.said else "<td></td>"]
-    cells += [number_cell(count) for count in numbers_of(entry)]
-    kinds = said(" ".join(sorted(entry.warnings)))
-    return f'<tr data-kinds="{kinds}"><th scope="row">{name}</th>{"".join(cells)}</tr>\n'
+    name = element("a", isolated(entry.path), href=f"documents/{entry.page}") if entry.page else isolated(entry.path)
+    cells = [element("td", plain(entry.verdict)), element("td", isolated(entry.said) if entry.said else None)]
+    cells += map(number_cell, numbers_of(entry))
+    return element("tr", element("th", name, scope="row"), *cells, data_kinds=" ".join(sorted(entry.warnings)))
 
 
 def numbers_of(entry: Entry) -> list[int | None]:
@@ -102,6 +109,6 @@ def numbers_of(entry: Entry) -> list[int | None]:
     return [*shared, counts.pairs, counts.decided, 100 * counts.decided // counts.pairs if counts.pairs else None]
 
 
-def number_cell(number: int | None) -> str:
+def number_cell(number: int | None) -> Markup:
     """A cell with a number, or an empty one."""
-    return f'<td class="number">{"" if number is None else number}</td>'
+    return element("td", number, class_="number")

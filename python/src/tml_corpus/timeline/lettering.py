@@ -2,11 +2,9 @@
 
 from __future__ import annotations
 
-import html
 import unicodedata
 
-JOINERS = "\u200c\u200d"
-"""Format characters that some scripts need; the others are left out, since they could turn the texts around."""
+from tml.markup import JOINERS, printed
 
 NARROW = set(" .,:;'|!()[]/\\-ijlftrI")
 
@@ -14,18 +12,6 @@ NARROW = set(" .,:;'|!()[]/\\-ijlftrI")
 def plain(text: str) -> str:
     """The text with single spaces and without format characters; what cannot be printed is the replacement character."""
     return "".join(character for character in map(printed, " ".join(text.split())))
-
-
-def printed(character: str) -> str:
-    """A character as it may stand in a picture, and in XML."""
-    if character.isprintable() or character in JOINERS:
-        return character
-    return "" if unicodedata.category(character) == "Cf" else "\ufffd"
-
-
-def escaped(text: str) -> str:
-    """A text as it stands in XML and HTML, between tags and in values."""
-    return html.escape(text, quote=True)
 
 
 def measured(text: str, size: float) -> float:

@@ -7,13 +7,13 @@ from __future__ import annotations
 
 import base64
 import hashlib
-import json
 from collections.abc import Callable
 
+from tml.markup import Markup, data, element, html_file, lined, raw
 from tml.matrices import Matrix
 from tml.statuses import BASE_RELATIONS, INVERSES
 
-from .lettering import escaped, plain
+from .lettering import plain
 from .picture import drawing
 from .rows import Timeline
 
@@ -180,23 +180,33 @@ document.getElementById("tools").hidden = false;
 """
 """Words go in by `textContent` alone. Without the script a browser shows them beside the pointer, as any title of SVG."""
 
-TOOLS = (
-    '<div id="tools" hidden=""><label>Search <input id="search" type="search" autocomplete="off"/></label>'
-    '<button id="order" type="button" aria-pressed="false">Order of the text</button><output id="count" for="search"></output></div>\n'
+TOOLS = element(
+    "div",
+    element("label", "Search ", element("input", id="search", type="search", autocomplete="off")),
+    element("button", "Order of the text", id="order", type="button", aria_pressed="false"),
+    element("output", id="count", for_="search"),
+    id="tools",
+    hidden="",
 )
 """What is above the picture. It is shown where there are scripts."""
 
 FIRST = 0x100
 """The character of the first set of relations; that of a further one comes after it. There are 82 sets at most that `tml` prints."""
 
-WITHOUT = (
-    "Without scripts a title beside the pointer has the links of a row and how far it can move. What it can be to the others "
-    "<code>tml-corpus matrix</code> prints."
+POINT = (
+    "Point at a row, or go to it with the tabulator and the arrow keys, to see its links and what it can be to the others; a click, or "
+    "the enter key, keeps them here."
+)
+WITHOUT = element(
+    "p",
+    "Without scripts a title beside the pointer has the links of a row and how far it can move. What it can be to the others ",
+    element("code", "tml-corpus matrix"),
+    " prints.",
 )
 
 
-def possible(matrix: Matrix, order: tuple[int, ...]) -> str:
-    """What rows can be to the rows below them, as JSON: a character for each two of them, which stands for a set of relations."""
+def possible(matrix: Matrix, order: tuple[int, ...]) -> dict[str, object]:
+    """What rows can be to the rows below them, for the script: a character for each two of them, which stands for a set of relations."""
     numbers = {relations: number for number, relations in enumerate(matrix.sets)}
     rows = []
     for place, first in enumerate(order):
@@ -205,31 +215,41 @@ def possible(matrix: Matrix, order: tuple[int, ...]) -> str:
     places = {relation: place for place, relation in enumerate(BASE_RELATIONS)}
     sets = [[places[relation] for relation in relations] for relations in numbers]
     inverses = [places[INVERSES[relation]] for relation in BASE_RELATIONS]
-    return compact({"names": BASE_RELATIONS, "inverses": inverses, "first": FIRST, "sets": sets, "rows": rows})
+    return {"names": BASE_RELATIONS, "inverses": inverses, "first": FIRST, "sets": sets, "rows": rows}
 
 
-def compact(value: object) -> str:
-    """A value as JSON without spaces."""
-    return json.dumps(value, ensure_ascii=False, separators=(",", ":"))
-
-
-def page(timeline: Timeline, draw: Callable[[Timeline], str] = drawing) -> str:
-    """The page, with the picture that is drawn. It is XML too, so that whoever likes can read it with such a reader."""
+def page(timeline: Timeline, draw: Callable[[Timeline], Markup] = drawing) -> str:
+    """The page as a file, with the picture that is drawn. It is XML too, so that whoever likes can read it with such a reader."""
     digest = base64.b64encode(hashlib.sha256(SCRIPT.encode()).digest()).decode()
-    policy = f"default-src 'none'; style-src 'unsafe-inline'; script-src 'sha256-{digest}'"
+    head = lined(
+        element("meta", charset="utf-8"),
+        element(
+            "meta",
+            http_equiv="Content-Security-Policy",
+            content=f"default-src 'none'; style-src 'unsafe-inline'; script-src 'sha256-{digest}'",
+        ),
+        element("title", f"Timeline of {plain(timeline.title)}"),
+        raw("style", STYLE),
+    )
+    body = lined(
+        TOOLS,
+        element("main", "\n", lined(draw(timeline))),
+        element("div", POINT, id="links", role="status", tabindex="0"),
+        element("noscript", WITHOUT),
+        *values(timeline),
+        raw("script", SCRIPT),
+    )
+    content = lined(element("head", "\n", head), element("body", "\n", body))
+    return html_file(element("html", "\n", content, xmlns="http://www.w3.org/1999/xhtml", lang="en"))
+
+
+def values(timeline: Timeline) -> list[Markup]:
+    """What the script knows of a timeline."""
     assert timeline.matrix is not None
     partners = [sorted({*row.partners} - {place}) for place, row in enumerate(timeline.rows)]
-    return (
-        '<!DOCTYPE html>\n<html xmlns="http://www.w3.org/1999/xhtml" lang="en">\n<head>\n<meta charset="utf-8"/>\n'
-        f'<meta http-equiv="Content-Security-Policy" content="{policy}"/>\n'
-        f"<title>Timeline of {escaped(plain(timeline.title))}</title>\n<style>{STYLE}</style>\n</head>\n<body>\n"
-        f"{TOOLS}<main>\n{draw(timeline)}</main>\n"
-        '<div id="links" role="status" tabindex="0">Point at a row, or go to it with the tabulator and the arrow keys, to see its links '
-        "and what it can be to the others; a click, or the enter key, keeps them here.</div>\n"
-        f"<noscript><p>{WITHOUT}</p></noscript>\n"
-        f'<script type="application/json" id="partners">{partners}</script>\n'
-        f'<script type="application/json" id="ends">{compact(timeline.ends)}</script>\n'
-        f'<script type="application/json" id="intext">{compact(timeline.in_text_order())}</script>\n'
-        f'<script type="application/json" id="possible">{possible(timeline.matrix, timeline.order)}</script>\n'
-        f"<script>{SCRIPT}</script>\n</body>\n</html>\n"
-    )
+    return [
+        data("partners", partners),
+        data("ends", timeline.ends),
+        data("intext", timeline.in_text_order()),
+        data("possible", possible(timeline.matrix, timeline.order)),
+    ]

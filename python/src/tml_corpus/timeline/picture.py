@@ -9,7 +9,9 @@ from __future__ import annotations
 from collections.abc import Callable
 from dataclasses import dataclass
 
-from .lettering import escaped, fitted, in_lines, measured, plain
+from tml.markup import NOTHING, Markup, element, lined, number, raw, svg_file, together
+
+from .lettering import fitted, in_lines, measured, plain
 from .rows import KINDS, NOT_ASSERTED, Row, Timeline
 
 ROW, BAR, THIN, MARGIN, GAP = 22, 12, 5, 16, 16
@@ -42,9 +44,18 @@ STYLE = (
     ".unasserted text{font-style:italic}.unasserted .bar{stroke:#777;fill:#ddd}"
 )
 
-HATCH = (
-    '<defs><pattern id="hatch" width="5" height="5" patternUnits="userSpaceOnUse" patternTransform="rotate(45)">'
-    '<rect width="5" height="5" fill="#fff"/><rect width="2" height="5" fill="#16324f"/></pattern></defs>'
+HATCH = element(
+    "defs",
+    element(
+        "pattern",
+        element("rect", width=5, height=5, fill="#fff"),
+        element("rect", width=2, height=5, fill="#16324f"),
+        id="hatch",
+        width=5,
+        height=5,
+        patternUnits="userSpaceOnUse",
+        patternTransform="rotate(45)",
+    ),
 )
 
 
@@ -72,14 +83,14 @@ class Lines:
         """Where all rows end."""
         return self.top + ROW * max(self.rows + self.apart(), 1)
 
-    def striped(self, width: float) -> str:
+    def striped(self, width: float) -> Markup:
         """Every other row darker."""
         odd = "".join(f"M0 {number(self.y(place))}h{number(width)}v{ROW}H0z" for place in range(1, self.rows, 2))
-        return f'<path class="odd" d="{odd}"/>\n' if odd else ""
+        return element("path", class_="odd", d=odd) if odd else NOTHING
 
-    def heading(self) -> str:
+    def heading(self) -> Markup:
         """What stands above the rows that nothing ties."""
-        return words(MARGIN, self.y(self.tied) - 7, APART, "apart") + "\n" if self.apart() else ""
+        return words(MARGIN, self.y(self.tied) - 7, APART, "apart") if self.apart() else NOTHING
 
 
 @dataclass(frozen=True)
@@ -144,35 +155,35 @@ def label(row: Row) -> tuple[str, str]:
 
 def svg(timeline: Timeline) -> str:
     """The picture as a file of its own."""
-    return '<?xml version="1.0" encoding="UTF-8"?>\n' + drawing(timeline)
+    return svg_file(drawing(timeline))
 
 
-def alone(place: int, row: str) -> str:
+def alone(place: int, row: Markup) -> Markup:
     """A row as it is drawn."""
     del place
     return row
 
 
-def drawing(timeline: Timeline, wrapped: Callable[[int, str], str] = alone, style: str = f"<style>{STYLE}</style>\n") -> str:
+def drawing(timeline: Timeline, wrapped: Callable[[int, Markup], Markup] = alone, style: Markup | None = None) -> Markup:
     """The picture as an element. Each row may stand in something else, and the style elsewhere."""
     layout = layout_of(timeline)
     head, y = heading(timeline, layout.width())
     lines = Lines(len(timeline.rows), timeline.tied(), y + 2 * GAP)
-    rows = "".join(wrapped(place, drawn_row(row, layout, lines.y(place))) for place, row in enumerate(timeline.rows))
-    behind = axis(layout, lines) if lines.tied else ""
-    return framed(layout.width(), lines, f"{style}{HATCH}\n", head, behind, rows)
+    rows = lined(*(wrapped(place, drawn_row(row, layout, lines.y(place))) for place, row in enumerate(timeline.rows)))
+    behind = axis(layout, lines) if lines.tied else NOTHING
+    return framed(layout.width(), lines, lined(raw("style", STYLE) if style is None else style, HATCH), head, behind, rows)
 
 
-def framed(width: float, lines: Lines, style: str, head: str, behind: str, rows: str) -> str:
+def framed(width: float, lines: Lines, style: Markup, head: Markup, behind: Markup, rows: Markup) -> Markup:
     """The element of a picture: its style, its heading, what lies behind the rows, and these."""
-    inside = rows or words(MARGIN, lines.top + BAR, NO_INTERVAL) + "\n"
-    size = number(width), number(lines.end() + 2 * GAP)
-    opening = f'<svg xmlns="http://www.w3.org/2000/svg" width="{size[0]}" height="{size[1]}" viewBox="0 0 {size[0]} {size[1]}">\n'
-    paper = f'<rect width="{size[0]}" height="{size[1]}" fill="#fff"/>\n'
-    return f"{opening}{style}{paper}{head}\n{lines.striped(width)}{behind}{lines.heading()}{inside}</svg>\n"
+    inside = rows or lined(words(MARGIN, lines.top + BAR, NO_INTERVAL))
+    broad, high = number(width), number(lines.end() + 2 * GAP)
+    paper = element("rect", width=broad, height=high, fill="#fff")
+    content = together(style, lined(paper), head, lined(lines.striped(width)), behind, lined(lines.heading()), inside)
+    return element("svg", "\n", content, xmlns="http://www.w3.org/2000/svg", width=broad, height=high, viewBox=f"0 0 {broad} {high}")
 
 
-def heading(timeline: Timeline, width: float, title: str = "Timeline of ", caption: str = CAPTION) -> tuple[str, float]:
+def heading(timeline: Timeline, width: float, title: str = "Timeline of ", caption: str = CAPTION) -> tuple[Markup, float]:
     """The title, what the axis means, and the kinds of bars that there are; and how far down they reach."""
     room, y = width - 2 * MARGIN, float(MARGIN + HEAD)
     parts = [words(MARGIN, y, fitted(title + plain(timeline.title), room, HEAD * 1.1), "head")]
@@ -180,10 +191,10 @@ def heading(timeline: Timeline, width: float, title: str = "Timeline of ", capti
         y += 18 if len(parts) > 1 else 24
         parts.append(words(MARGIN, y, line, "small"))
     signs, y = legend(timeline, width, y + 26)
-    return "\n".join(parts + signs), y
+    return lined(*parts, *signs), y
 
 
-def legend(timeline: Timeline, width: float, y: float) -> tuple[list[str], float]:
+def legend(timeline: Timeline, width: float, y: float) -> tuple[list[Markup], float]:
     """The kinds of bars that there are, in lines from a height on; and how far down they reach."""
     kinds = [(kind, KINDS[kind]) for kind in KINDS if any(row.kind == kind for row in timeline.rows)]
     kinds += [("event unasserted", NOT_ASSERTED)] if any(row.unasserted for row in timeline.rows) else []
@@ -193,43 +204,44 @@ def legend(timeline: Timeline, width: float, y: float) -> tuple[list[str], float
         broad = 36 + measured(said, SMALL) + GAP
         if x + broad > width and x > MARGIN:
             x, y = float(MARGIN), y + 20
-        parts.append(f'<g class="{kind}">{sign(kind, x, y - 4)}{words(x + 36, y, said, "small")}</g>')
+        parts.append(element("g", sign(kind, x, y - 4), words(x + 36, y, said, "small"), class_=kind))
         x += broad
     return parts, y
 
 
-def sign(kind: str, x: float, middle: float) -> str:
+def sign(kind: str, x: float, middle: float) -> Markup:
     """The sign of a kind of bars."""
     height = THIN if kind.endswith("unasserted") else BAR
     if not kind.endswith("moving"):
         return bar(kind.split(" ", 1)[0], x, middle - height / 2, 28, height)
-    lines = span(x, x + 12, middle - 8) + span(x + 20, x + 28, middle + 8)
-    return bar("event", x, middle - height / 2, 20) + bar("event", x + 12, middle - height / 2, 8, called="bar core") + lines
+    lines = span(x, x + 12, middle - 8), span(x + 20, x + 28, middle + 8)
+    return together(bar("event", x, middle - height / 2, 20), bar("event", x + 12, middle - height / 2, 8, called="bar core"), lines)
 
 
-def axis(layout: Layout, lines: Lines) -> str:
+def axis(layout: Layout, lines: Lines) -> Markup:
     """What lies behind the rows: a line at the ranks that have a number, which stands above and below."""
     left, right, top, bottom = layout.x(0), layout.x(layout.ranks), lines.top, lines.axis_end()
     upright = "".join(f"M{number(layout.x(rank))} {number(top)}V{number(bottom)}" for rank in layout.numbered())
     ends = f"M{number(left)} {number(top)}H{number(right)}M{number(left)} {number(bottom)}H{number(right)}"
-    parts = [f'<path class="grid" d="{upright}"/>\n<path class="axis" d="{ends}"/>\n']
+    parts = [element("path", class_="grid", d=upright), element("path", class_="axis", d=ends)]
     for y in (top - 6, bottom + 15):
-        numbers = "".join(words(layout.x(rank), y, str(rank), "small number") for rank in layout.numbered())
-        parts.append(f'{numbers}<text class="small" x="{number(left - GAP)}" y="{number(y)}" text-anchor="end">ranks</text>\n')
-    return "".join(parts)
+        numbers = [words(layout.x(rank), y, str(rank), "small number") for rank in layout.numbered()]
+        parts.append(together(numbers, element("text", "ranks", class_="small", x=left - GAP, y=float(y), text_anchor="end")))
+    return lined(*parts)
 
 
-def drawn_row(row: Row, layout: Layout, y: float) -> str:
+def drawn_row(row: Row, layout: Layout, y: float) -> Markup:
     """One interval: its text and name, its dates, its bar, and what is shown where it is pointed at."""
-    parts = [opened(row, y, layout.width(), layout.labels)]
+    parts = opened(row, y, layout.width(), layout.labels)
     if not row.is_tied:
-        return "".join([*parts, anywhere(layout.x(0), layout.x(layout.ranks), y)]) + "</g>\n"
+        parts.append(anywhere(layout.x(0), layout.x(layout.ranks), y))
+        return grouped(row, parts)
     parts.append(bar_of(row, layout.x(row.start), y, layout.x(row.finish) - layout.x(row.start)))
     if is_moving(row):
         parts += moving(row, layout, y)
     if layout.ranks * layout.step > FAR:
         parts.append(beside(row, layout, y + 15))
-    return "".join(parts) + "</g>\n"
+    return grouped(row, parts)
 
 
 def is_moving(row: Row) -> bool:
@@ -237,33 +249,36 @@ def is_moving(row: Row) -> bool:
     return row.is_tied and row.latest not in (None, (row.start, row.finish))
 
 
-def opened(row: Row, y: float, width: float, labels: float) -> str:
+def grouped(row: Row, parts: list[Markup]) -> Markup:
+    """A row of some parts."""
+    states = {"unasserted": bool(row.unasserted), "moving": is_moving(row), "untied": not row.is_tied}
+    return element("g", *parts, class_=" ".join(["row", row.kind, *(name for name, is_so in states.items() if is_so)]))
+
+
+def opened(row: Row, y: float, width: float, labels: float) -> list[Markup]:
     """The beginning of a row: what is shown where it is pointed at, its label, and its dates or the words around it."""
     text, name = label(row)
-    called = f' <tspan class="name">{escaped(name)}</tspan>' if name else ""
-    states = {"unasserted": bool(row.unasserted), "moving": is_moving(row), "untied": not row.is_tied}
-    kinds = " ".join([row.kind, *(name for name, is_so in states.items() if is_so)])
+    called = (" ", element("tspan", name, class_="name")) if name else None
     parts = [
-        f'<g class="row {kinds}"><title>{escaped(row.description())}</title>',
-        f'<rect class="back" y="{number(y)}" width="{number(width)}" height="{ROW}"/>',
-        f'<text x="{MARGIN}" y="{number(y + 15)}">{escaped(text)}{called}</text>',
+        element("title", row.description()),
+        element("rect", class_="back", y=float(y), width=float(width), height=ROW),
+        element("text", text, called, x=MARGIN, y=float(y + 15)),
     ]
     before, word, after = beside_label(row)
     x = MARGIN + labels + GAP
     if word:
-        words_around = f"{escaped(before)}<tspan>{escaped(word)}</tspan>{escaped(after)}"
-        parts.append(f'<text class="small around" x="{number(x)}" y="{number(y + 15)}">{words_around}</text>')
+        parts.append(element("text", before, element("tspan", word), after, class_="small around", x=float(x), y=float(y + 15)))
     elif before:
         parts.append(words(x, y + 15, before, "small"))
-    return "".join(parts)
+    return parts
 
 
-def anywhere(left: float, right: float, y: float) -> str:
+def anywhere(left: float, right: float, y: float) -> Markup:
     """The line of an interval that may be anywhere."""
-    return f'<path class="anywhere" d="M{number(left)} {number(y + ROW / 2)}H{number(right)}"/>'
+    return element("path", class_="anywhere", d=f"M{number(left)} {number(y + ROW / 2)}H{number(right)}")
 
 
-def moving(row: Row, layout: Layout, y: float) -> list[str]:
+def moving(row: Row, layout: Layout, y: float) -> list[Markup]:
     """How far the ends of an interval can move, above its bar and below it; and what is solid, where it reaches in any case."""
     latest = row.latest or (row.start, row.finish)
     parts = []
@@ -275,13 +290,13 @@ def moving(row: Row, layout: Layout, y: float) -> list[str]:
     return parts
 
 
-def span(left: float, right: float, y: float) -> str:
+def span(left: float, right: float, y: float) -> Markup:
     """The line of a span within which an end can move."""
     begin, end, caps = number(left), number(right), number(y - 2)
-    return f'<path class="span" d="M{begin} {number(y)}H{end}M{begin} {caps}v4M{end} {caps}v4"/>'
+    return element("path", class_="span", d=f"M{begin} {number(y)}H{end}M{begin} {caps}v4M{end} {caps}v4")
 
 
-def beside(row: Row, layout: Layout, y: float) -> str:
+def beside(row: Row, layout: Layout, y: float) -> Markup:
     """The text and name of a row after its bar, or before it where there is no room; nothing where there is none at all."""
     text = " ".join(label(row)).strip()
     room = measured(text, SMALL) + 8
@@ -289,28 +304,22 @@ def beside(row: Row, layout: Layout, y: float) -> str:
     if right + room <= layout.width():
         return words(right + 8, y, text, "small")
     if layout.x(row.start) - room >= layout.x(0):
-        return f'<text class="small" x="{number(layout.x(row.start) - 8)}" y="{number(y)}" text-anchor="end">{escaped(text)}</text>'
-    return ""
+        return element("text", text, class_="small", x=float(layout.x(row.start) - 8), y=float(y), text_anchor="end")
+    return NOTHING
 
 
-def bar_of(row: Row, x: float, y: float, width: float, called: str = "bar") -> str:
+def bar_of(row: Row, x: float, y: float, width: float, called: str = "bar") -> Markup:
     """The bar of a row that begins at a height; that of an event which is not asserted is thin."""
     height = THIN if row.unasserted else BAR
     return bar(row.kind, x, y + (ROW - height) / 2, width, height, called)
 
 
-def bar(kind: str, x: float, y: float, width: float, height: float = BAR, called: str = "bar") -> str:
+def bar(kind: str, x: float, y: float, width: float, height: float = BAR, called: str = "bar") -> Markup:
     """A bar: events have round ends."""
-    round_ends = f' rx="{number(min(height / 2, width / 2))}"' if kind == "event" else ""
-    return f'<rect class="{called}" x="{number(x)}" y="{number(y)}" width="{number(width)}" height="{number(height)}"{round_ends}/>'
+    round_ends = number(min(height / 2, width / 2)) if kind == "event" else None
+    return element("rect", class_=called, x=float(x), y=float(y), width=float(width), height=float(height), rx=round_ends)
 
 
-def words(x: float, y: float, text: str, kind: str = "") -> str:
+def words(x: float, y: float, text: str, kind: str | None = None) -> Markup:
     """A text at a place."""
-    kind = f' class="{kind}"' if kind else ""
-    return f'<text{kind} x="{number(x)}" y="{number(y)}">{escaped(text)}</text>'
-
-
-def number(value: float) -> str:
-    """A number as SVG has it, with one decimal at most."""
-    return f"{value:.1f}".removesuffix(".0")
+    return element("text", text, class_=kind, x=float(x), y=float(y))

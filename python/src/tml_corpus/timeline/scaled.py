@@ -4,6 +4,8 @@ from __future__ import annotations
 
 from dataclasses import dataclass, fields, replace
 
+from tml.markup import NOTHING, Markup, element, lined, number, raw, svg_file, together
+
 from ..seconds.civil import civil, length
 from ..seconds.formats import span
 from ..seconds.placed import Placed, PlacedInterval
@@ -24,8 +26,8 @@ from .picture import (
     bar_of,
     columns_of,
     framed,
+    grouped,
     heading,
-    number,
     opened,
     words,
 )
@@ -39,10 +41,16 @@ CAPTION = (
     "limit or it is farther."
 )
 
-FADES = (
-    '<defs><linearGradient id="before"><stop offset="0" stop-color="#16324f" stop-opacity="0"/><stop offset="1" stop-color="#16324f" '
-    'stop-opacity=".35"/></linearGradient><linearGradient id="after"><stop offset="0" stop-color="#16324f" stop-opacity=".35"/>'
-    '<stop offset="1" stop-color="#16324f" stop-opacity="0"/></linearGradient></defs>'
+FADES = element(
+    "defs",
+    *(
+        element(
+            "linearGradient",
+            *(element("stop", offset=offset, stop_color="#16324f", stop_opacity=opacity) for offset, opacity in enumerate(opacities)),
+            id=name,
+        )
+        for name, opacities in (("before", ("0", ".35")), ("after", (".35", "0")))
+    ),
 )
 
 
@@ -111,7 +119,7 @@ def with_ranges(timeline: Timeline, found: Placed) -> Timeline:
 
 def scaled_svg(timeline: Timeline) -> str:
     """The picture as a file of its own."""
-    return '<?xml version="1.0" encoding="UTF-8"?>\n' + scaled_drawing(timeline)
+    return svg_file(scaled_drawing(timeline))
 
 
 def scaled_page(timeline: Timeline) -> str:
@@ -119,48 +127,49 @@ def scaled_page(timeline: Timeline) -> str:
     return page(timeline, scaled_drawing)
 
 
-def scaled_drawing(timeline: Timeline) -> str:
+def scaled_drawing(timeline: Timeline) -> Markup:
     """The picture as an element."""
     scale = scale_of(timeline)
     head, y = heading(timeline, scale.width(), "Placing of ", CAPTION)
     lines = Lines(len(timeline.rows), timeline.tied(), y + 2 * GAP)
-    rows = "".join(drawn_row(row, scale, lines.y(place)) for place, row in enumerate(timeline.rows))
-    behind = axis(scale, lines) if lines.tied else ""
-    return framed(scale.width(), lines, f"<style>{STYLE}</style>\n{HATCH}{FADES}\n", head, behind, rows)
+    rows = lined(*(drawn_row(row, scale, lines.y(place)) for place, row in enumerate(timeline.rows)))
+    behind = axis(scale, lines) if lines.tied else NOTHING
+    return framed(scale.width(), lines, lined(raw("style", STYLE), together(HATCH, FADES)), head, behind, rows)
 
 
-def axis(scale: Scale, lines: Lines) -> str:
+def axis(scale: Scale, lines: Lines) -> Markup:
     """What lies behind the rows: a line at each mark, which is written above and below."""
     left, right, top, bottom = number(scale.plot()), number(scale.plot() + PLOT), lines.top, lines.axis_end()
     found = scale.marks()
     upright = "".join(f"M{number(scale.x(mark.second))} {number(top)}V{number(bottom)}" for mark in found)
     ends = f"M{left} {number(top)}H{right}M{left} {number(bottom)}H{right}"
-    parts = [f'<path class="grid" d="{upright}"/>\n<path class="axis" d="{ends}"/>\n']
+    parts = [element("path", class_="grid", d=upright), element("path", class_="axis", d=ends)]
     for y in (top - 6, bottom + 15):
-        parts.append("".join(words(scale.x(mark.second), y, mark.text, "small number") for mark in found) + "\n")
-    return "".join(parts)
+        parts.append(together(words(scale.x(mark.second), y, mark.text, "small number") for mark in found))
+    return lined(*parts)
 
 
-def drawn_row(row: Row, scale: Scale, y: float) -> str:
+def drawn_row(row: Row, scale: Scale, y: float) -> Markup:
     """One interval: its text and name, its dates, its bar with the ends that can move, and what is shown where it is pointed at."""
-    parts = [opened(row, y, scale.width(), scale.labels)]
+    parts = opened(row, y, scale.width(), scale.labels)
     if not row.is_tied:
-        return "".join([*parts, anywhere(scale.plot(), scale.plot() + PLOT, y)]) + "</g>\n"
+        parts.append(anywhere(scale.plot(), scale.plot() + PLOT, y))
+        return grouped(row, parts)
     if isinstance(row, ScaledRow):
         parts += faded(row, scale, y + (ROW - BAR) / 2)
     start, finish = scale.x(row.start), scale.x(row.finish)
     parts.append(bar_of(row, start, y, max(finish - start, NARROWEST_BAR)))
-    return "".join(parts) + "</g>\n"
+    return grouped(row, parts)
 
 
-def faded(row: ScaledRow, scale: Scale, y: float) -> list[str]:
+def faded(row: ScaledRow, scale: Scale, y: float) -> list[Markup]:
     """What fades before a bar that can start earlier, and after one that can end later."""
     earliest, latest = row.starts[0], row.ends[1]
     left = scale.x(scale.first if earliest is None else earliest)
     right = scale.x(scale.last if latest is None else latest)
     parts = [("before", left, scale.x(row.start)), ("after", scale.x(row.finish), right)]
     return [
-        f'<rect class="{name}" fill="url(#{name})" x="{number(begin)}" y="{number(y)}" width="{number(end - begin)}" height="{BAR}"/>'
+        element("rect", class_=name, fill=f"url(#{name})", x=float(begin), y=float(y), width=float(end - begin), height=BAR)
         for name, begin, end in parts
         if end - begin >= 1
     ]
