@@ -2,15 +2,17 @@
 
 from __future__ import annotations
 
+import re
 from collections import Counter
-from collections.abc import Iterable, Sequence
+from collections.abc import Callable, Sequence
 
 from tml.markup import NOTHING, Markup, element, lined
 
+from ..clash.report import TOUCHING
 from ..files.finding import counted
 from ..timeline.lettering import plain
 from .documents import Entry
-from .frame import framed, isolated
+from .frame import coded, framed, isolated
 
 WITHOUT_PLACE = "dates without a calendar place"
 
@@ -29,6 +31,14 @@ COLUMNS = (
     ("decided, in %", "number"),
 )
 """The columns, and how they are sorted."""
+
+LONGEST = 120
+"""So long is the bar of the greatest of some counts."""
+
+SHAPES = {"accepted": "good", "clash": "clash", "fault": "fault", TOUCHING: "touch"}
+"""The verdicts with a shape of their own; the others share one."""
+
+FOLDERS = re.compile("(?<=[/_-])")
 
 EXPLAINED = (
     "Each verdict is one of tml. A clash is a set of links that cannot all be true. Dates that touch leave no gap where a link "
@@ -69,33 +79,61 @@ def totals(entries: Sequence[Entry]) -> Markup:
     sums[WITHOUT_PLACE] = sum(one.free_dates for one in counts)
     sums["pairs of intervals"], sums["decided pairs"] = pairs, decided
     faults = Counter(entry.said for entry in entries if entry.verdict == "fault")
-    warnings: Counter[str] = Counter()
+    warnings, relations = Counter[str](), Counter[str]()
     for entry in entries:
         warnings.update(entry.warnings)
+        relations.update(entry.counts.relations if entry.counts is not None else ())
     tables = [
-        listed("Verdicts", Counter(entry.verdict for entry in entries).most_common()),
+        listed("Verdicts", Counter(entry.verdict for entry in entries).most_common(), verdict),
         listed("Faults, by the first one of each document", sorted(faults.items(), key=lambda item: int(item[0].split(" ")[0]))),
+        listed("Relations of links", relations.most_common(), is_searched=False),
         listed("Warnings", warnings.most_common()),
-        listed("Sums", list(sums.items())),
+        listed("Sums", list(sums.items()), is_searched=False, is_drawn=False),
     ]
     return element("div", "\n", lined(*tables), class_="totals")
 
 
-def listed(title: str, counts: Iterable[tuple[str, int]]) -> Markup:
-    """A small table of counts; nothing where there are none."""
-    rows = [
-        element("tr", element("th", plain(name), scope="row", data_search=plain(name)), element("td", count, class_="number"))
-        for name, count in counts
-    ]
+def listed(
+    title: str,
+    counts: Sequence[tuple[str, int]],
+    shown: Callable[[str], Markup] = isolated,
+    *,
+    is_searched: bool = True,
+    is_drawn: bool = True,
+) -> Markup:
+    """A small table of counts, with a bar for each as long as it is great; nothing where there are none."""
+    most = max((count for _, count in counts), default=0)
+    rows = []
+    for name, count in counts:
+        heading = element("th", shown(name), scope="row", data_search=plain(name) if is_searched else None)
+        bar = element("td", drawn(count, most), class_="drawn") if is_drawn else NOTHING
+        rows.append(element("tr", heading, number_cell(count), bar))
     return element("table", "\n", lined(element("caption", title), element("tbody", "\n", lined(*rows)))) if rows else NOTHING
+
+
+def drawn(count: int, most: int) -> Markup:
+    """The bar of a count: of something there is always something to be seen."""
+    bar = element("rect", width=float(max(LONGEST * count / most, 1)), height=10) if count else NOTHING
+    return element("svg", bar, width=LONGEST, height=10, aria_hidden="true")
+
+
+def verdict(name: str) -> Markup:
+    """A verdict, which has a shape and a colour of its own."""
+    return element("span", plain(name), class_=f"verdict {SHAPES.get(name, 'unknown')}")
 
 
 def row_of(entry: Entry) -> Markup:
     """The line of a document. It can be searched for the kinds of its warnings too."""
-    name = element("a", isolated(entry.path), href=f"documents/{entry.page}") if entry.page else isolated(entry.path)
-    cells = [element("td", plain(entry.verdict)), element("td", isolated(entry.said) if entry.said else None)]
+    path = breakable(entry.path)
+    name = element("a", path, href=f"documents/{entry.page}") if entry.page else path
+    cells = [element("td", verdict(entry.verdict)), element("td", coded(entry.said) if entry.said else None)]
     cells += map(number_cell, numbers_of(entry))
     return element("tr", element("th", name, scope="row"), *cells, data_kinds=" ".join(sorted(entry.warnings)))
+
+
+def breakable(path: str) -> Markup:
+    """A path, in which a line may end after each folder."""
+    return element("bdi", [(element("wbr"), part) if place else part for place, part in enumerate(FOLDERS.split(plain(path)))])
 
 
 def numbers_of(entry: Entry) -> list[int | None]:
@@ -111,4 +149,4 @@ def numbers_of(entry: Entry) -> list[int | None]:
 
 def number_cell(number: int | None) -> Markup:
     """A cell with a number, or an empty one."""
-    return element("td", number, class_="number")
+    return element("td", None if number is None else f"{number:,}", class_="number")

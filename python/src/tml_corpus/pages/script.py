@@ -13,7 +13,7 @@ const words = new Map(rows.map((row) => [row, [...row.cells].slice(0, 3).map((ce
 const collator = new Intl.Collator(undefined, { numeric: true });
 const valueOf = (row, column, kind) => {
   const text = row.cells[column].textContent;
-  return kind === "number" ? (text === "" ? null : Number(text)) : text;
+  return kind === "number" ? (text === "" ? null : Number(text.replaceAll(",", ""))) : text;
 };
 const compared = (first, second) => {
   if (first === second) return 0;
@@ -53,7 +53,7 @@ const look = () => {
     row.hidden = !wanted.every((word) => text.includes(word));
     count += !row.hidden;
   });
-  found.textContent = ` ${count} of ${rows.length}`;
+  found.textContent = ` ${count.toLocaleString("en")} of ${rows.length.toLocaleString("en")}`;
 };
 field.type = "search";
 field.placeholder = "Search names, verdicts, faults, warnings";
@@ -62,10 +62,9 @@ field.addEventListener("input", look);
 found.setAttribute("role", "status");
 document.getElementById("search").append(field, found);
 document.querySelectorAll("[data-search]").forEach((head) => {
-  if (head.closest("table").caption.textContent === "Sums") return;
   const button = document.createElement("button");
   button.type = "button";
-  button.textContent = head.textContent;
+  button.append(...head.childNodes);
   button.addEventListener("click", () => {
     field.value = head.dataset.search;
     look();

@@ -3,28 +3,36 @@
 from __future__ import annotations
 
 from ..timeline import picture
+from .colours import variables
 
 PLAIN = """
-:root{color-scheme:light dark;--paper:#fff;--ink:#111;--soft:#555;--line:#c3cad1;--odd:#eef1f4;--strong:#16324f;--mark:#f6b800;--near:#fdeebf;
---wrong:#a40000}
-@media (prefers-color-scheme: dark){:root{--paper:#15181c;--ink:#e8e8e8;--soft:#a8b0b8;--line:#4a525a;--odd:#1f242a;--strong:#a9cdf0;--mark:#8a6500;
---near:#453a17;--wrong:#ff9c8f}}
 body{margin:16px;background:var(--paper);color:var(--ink);font:15px/1.5 "DejaVu Sans",Verdana,Helvetica,Arial,sans-serif}
 h1{font-size:1.4em;margin:.3em 0;overflow-wrap:anywhere}h2{font-size:1.15em;margin:1.2em 0 .4em}h3{font-size:1em;margin:.8em 0 .3em}
 a{color:var(--strong)}a:focus-visible,[tabindex]:focus-visible,button:focus-visible{outline:3px solid var(--strong);outline-offset:1px}
-p,li,td,th,.text{overflow-wrap:anywhere}th button{overflow-wrap:normal}caption{white-space:nowrap}.path,.place,.meaning,.explained,.back,.legend{color:var(--soft);font-size:.9em}.path{margin:0}
+p,li,.text{overflow-wrap:anywhere}caption{white-space:nowrap}.path,.place,.meaning,.explained,.back,.legend{color:var(--soft);font-size:.9em}.path{margin:0}
 pre{margin:.2em 0 .6em;padding:4px 8px;overflow-x:auto;background:var(--odd);border-left:3px solid var(--line);font-size:.85em}
+code{background:var(--odd);padding:0 .25em;border-radius:3px;font-size:.93em}
 .fault strong,.noted,.clash h3{color:var(--wrong)}section{margin-bottom:1em}button,input{font:inherit}
 """
 
 INDEX = """
 .totals{display:flex;flex-wrap:wrap;gap:8px 32px;align-items:flex-start}caption{text-align:left;font-weight:bold;padding:4px 0}
 table{border-collapse:collapse}td,th{padding:2px 8px;border-bottom:1px solid var(--line);text-align:left;font-weight:normal;vertical-align:top}
-.number{text-align:right;font-variant-numeric:tabular-nums}.wide{overflow:auto}#documents thead th{font-weight:bold;vertical-align:bottom;overflow-wrap:normal}
-#documents tbody th{min-width:14em}#documents tbody tr:hover{background:var(--odd)}
-th button{background:none;border:0;padding:0;color:inherit;font-weight:bold;text-align:left;cursor:pointer;text-decoration:underline dotted}
+.number{text-align:right;white-space:nowrap;font-variant-numeric:tabular-nums}.drawn svg{vertical-align:middle}.drawn rect{fill:var(--known)}
+.wide{overflow:auto}#documents thead th{font-weight:bold;vertical-align:bottom}
+#documents tbody th{min-width:14em;overflow-wrap:anywhere}#documents tbody tr:hover{background:var(--odd)}
+th button{background:none;border:0;padding:0;color:inherit;text-align:left;cursor:pointer;text-decoration:underline dotted}
+thead th button{font-weight:bold}
 th[aria-sort=ascending] button::after{content:" \\2191"}th[aria-sort=descending] button::after{content:" \\2193"}
-#search{margin:.6em 0;position:sticky;top:0;background:var(--paper);padding:6px 0}#search input{width:min(32em,90%);padding:4px}
+#search{margin:.6em 0;position:sticky;top:0;background:var(--paper);padding:6px 0}#search input{width:min(32em,70%);padding:4px}#search output{white-space:nowrap}
+.verdict{display:inline-block;padding-left:1.2em;position:relative}
+.verdict::before{content:"";position:absolute;left:0;top:.28em;width:.8em;height:.8em;background:currentColor;print-color-adjust:exact}
+.verdict.good{color:var(--good)}.verdict.good::before{border-radius:50%}
+.verdict.clash{color:var(--wrong)}.verdict.clash::before{clip-path:polygon(20% 0,50% 30%,80% 0,100% 20%,70% 50%,100% 80%,80% 100%,50% 70%,20% 100%,0 80%,30% 50%,0 20%)}
+.verdict.fault{color:var(--wrong)}.verdict.fault::before{clip-path:polygon(50% 0,100% 100%,0 100%)}
+.verdict.touch{color:var(--touch)}.verdict.touch::before{clip-path:polygon(0 0,45% 0,45% 100%,0 100%,0 0,55% 0,100% 0,100% 100%,55% 100%,55% 0)}
+.verdict.unknown{color:var(--soft)}.verdict.unknown::before{background:none;box-sizing:border-box;border:2px solid}
+@media (max-width:40em){body{margin:8px;font-size:13px}td,th{padding:2px 4px}#documents tbody th{min-width:8em;max-width:10em}}
 """
 
 MARKS = """
@@ -58,5 +66,5 @@ PRINTED = """
 .reading{display:block}svg{max-width:100%;height:auto}}
 """
 
-STYLE = picture.STYLE + PLAIN + INDEX + MARKS + PICTURE + PRINTED
+STYLE = variables() + picture.STYLE + PLAIN + INDEX + MARKS + PICTURE + PRINTED
 """The whole file; that of the picture of a timeline comes first, and gives way in the dark."""
