@@ -93,7 +93,8 @@ class Texts(unittest.TestCase):
 
     def test_files(self) -> None:
         self.assertTrue(html_file(element("html")).startswith("<!DOCTYPE html>\n<html>"))
-        ElementTree.fromstring(svg_file(element("svg")).encode())
+        ElementTree.fromstring(svg_file(element("svg", element("path", d="M0 0"))).encode())
+        self.assertEqual(element("svg").text, '<svg xmlns="http://www.w3.org/2000/svg"></svg>')
 
 
 class Sources(unittest.TestCase):

@@ -260,13 +260,15 @@ class InABrowser(ReportTest):
             browser.open(self.path("pages/" + self.page_name("a.xml")))
             browser.value("document.querySelector('#bar0').focus()")
             browser.press("ArrowDown", 40)
-            self.assertEqual(browser.value("document.activeElement.id + ' ' + document.activeElement.getAttribute('class')"), "bar1 leading on")
+            self.assertEqual(browser.value("document.activeElement.id + ' ' + document.activeElement.getAttribute('class')"), "bar1 leading row event on")
             reached = set()
             browser.value("document.activeElement.blur()")
             for _ in range(40):
                 browser.press("Tab", 9)
                 reached.add(browser.value("document.activeElement.id || document.activeElement.textContent"))
-            self.assertLessEqual({"bar0", "bar3", "word0", "word3", "Draw all links", "draw"}, reached)
+            self.assertLessEqual({"word0", "Draw all links", "draw"}, reached)
+            for group in ("bar", "word"):
+                self.assertEqual(len([one for one in reached if one.startswith(group)]), 1, "one of a group is a stop of the tabulator")
             self.assertEqual(browser.said, [])
 
     def test_a_clash_is_walked_through(self):

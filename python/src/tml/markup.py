@@ -51,11 +51,14 @@ Value: TypeAlias = str | int | float | None
 """The value of an attribute: None leaves it out."""
 
 NOTHING = Markup("")
+PICTURES = "http://www.w3.org/2000/svg"
 DOCTYPE = "<!DOCTYPE html>\n"
 
 
 def element(name: str, /, *children: Child, **attributes: Value) -> Markup:
-    """An element. Attributes are named as arguments: `class_` is class, and `data_row` is data-row."""
+    """An element. Attributes are named as arguments: `class_` is class, and `data_row` is data-row. Pictures get the name of SVG."""
+    if name == "svg":
+        attributes = {"xmlns": PICTURES, **attributes}
     written = [f" {attribute_name(key)}={quoted(value)}" for key, value in attributes.items() if value is not None]
     opening = checked(name) + "".join(written)
     if name in WITHOUT_CONTENT and not children:

@@ -5,7 +5,7 @@ from __future__ import annotations
 import os
 from collections.abc import Iterable, Iterator
 
-from tml.markup import NOTHING, Markup, element, lined, together
+from tml.markup import NOTHING, Markup, Value, element, lined, together
 from tml.places import Place
 
 from ..check.formats import CONSEQUENCE
@@ -14,9 +14,10 @@ from ..clash.report import PlacedClash, PlacedLink
 from ..clash.walk_words import WalkStep, steps_in_words
 from ..document.words import Wording
 from ..files.finding import counted
+from ..timeline.html_rows import LEFT, explained, in_rows
 from ..timeline.lettering import plain
-from ..timeline.picture import drawing
-from ..timeline.rows import Timeline
+from ..timeline.plot import Ranks
+from ..timeline.rows import Row, Timeline
 from .documents import Entry, Examined, entry_of, free_dates
 from .frame import coded, framed, isolated, listed, section
 from .text import Words, marked_text
@@ -155,16 +156,16 @@ def reading(examined: Examined, wording: Wording, words: Words) -> Markup:
 def timeline_part(timeline: Timeline, words: Words, touching: bool) -> Markup:
     """The timeline, of which each row leads to its word."""
     note = element("p", "Links between dates that touch are read here as the relation that holds.") if touching else NOTHING
-    picture = drawing(timeline, lambda place, row: barred(timeline, words, place, row), style=NOTHING)
-    return section("timeline", "Timeline", note, element("div", picture, class_="picture"))
+    axis = Ranks.of(timeline, LEFT)
+    rows = in_rows(timeline, axis, "a", lambda place, row: leading(words, place, row))
+    return section("timeline", "Timeline", note, explained(timeline, axis), element("div", rows, class_="picture"))
 
 
-def barred(timeline: Timeline, words: Words, place: int, row: Markup) -> Markup:
-    """A row of the timeline, which leads to its word in the text."""
-    one = timeline.rows[place]
-    label = plain(one.description().split("\n", 1)[0])
-    word = words.identifier(one.name)
-    return element("a", row, id=f"bar{place}", class_="leading", href=f"#{word}", data_word=word, aria_label=label)
+def leading(words: Words, place: int, row: Row) -> dict[str, Value]:
+    """What makes a row of the timeline lead to its word in the text."""
+    word = words.identifier(row.name)
+    leads = {"class_": "leading", "href": f"#{word}", "data_word": word}
+    return {"id": f"bar{place}", **leads, "data_links": len(row.linked()), "aria_label": plain(row.description().split("\n", 1)[0])}
 
 
 def notes_on_links(examined: Examined) -> dict[int, list[str]]:

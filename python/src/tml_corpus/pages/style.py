@@ -2,7 +2,7 @@
 
 from __future__ import annotations
 
-from ..timeline import picture
+from ..timeline import html_rows
 from .colours import variables
 
 PLAIN = """
@@ -37,34 +37,35 @@ th[aria-sort=ascending] button::after{content:" \\2191"}th[aria-sort=descending]
 
 MARKS = """
 .reading{display:grid;grid-template-columns:minmax(18em,2fr) minmax(0,3fr);gap:0 24px}.reading>*{min-width:0}
-.text{position:relative;white-space:pre-wrap;max-width:48em;line-height:2.5;padding-top:1em;unicode-bidi:plaintext}
-.picture{overflow:auto}.text,.picture{max-height:76vh;overflow:auto}
+.text{position:relative;white-space:pre-wrap;max-width:48em;line-height:calc(34px + var(--lanes,0)*18px);unicode-bidi:plaintext}
+.text{max-height:76vh;overflow:auto}
 @media (max-width: 60em){.reading{display:block}}
 .mark{color:inherit;text-decoration:none;unicode-bidi:isolate;padding:1px 2px;border-radius:2px}a.mark{cursor:pointer}
 .mark.event{border-bottom:2px solid var(--strong)}.mark.time{border:1px solid var(--strong)}.mark.time.free{border-style:dashed}
-.mark.signal{border-bottom:2px dotted var(--soft);font-style:italic}.mark .name{color:var(--soft);font-size:.62em;font-style:normal;margin-left:1px}
-.mark.on,.mark:target{background:var(--mark);outline:2px solid var(--ink)}.mark.near{background:var(--near);outline:1px dashed var(--ink)}
+.mark.signal{border-bottom:2px dotted var(--soft);font-style:italic}.mark .name{color:var(--soft);user-select:none;line-height:0;font-size:.62em;font-style:normal;margin-left:1px}
+.mark.on .name,.mark:target .name{color:var(--ink)}.mark.on,.mark:target{background:var(--mark);outline:2px solid var(--ink)}.mark.near{background:var(--near);outline:1px dashed var(--ink)}
 li:target{background:var(--near)}li.on{background:var(--near);outline:2px solid var(--ink)}
 #panel{position:sticky;bottom:0;max-height:24vh;overflow:auto;background:var(--paper);border-top:2px solid var(--strong);padding:6px 0;font-size:.88em;
 columns:26em}#panel div{break-inside:avoid;padding-left:1.4em;text-indent:-1.4em}#panel div:first-child{font-weight:bold}#panel:empty{display:none}
-.arcs{position:absolute;left:0;top:0;pointer-events:none;overflow:visible}.arcs path{fill:none;stroke:var(--wrong);stroke-width:1.6}
-.arcs path.head{fill:var(--wrong)}.arcs text{fill:var(--ink);font-size:11px;text-anchor:middle;paint-order:stroke;stroke:var(--paper);stroke-width:3px}
+.arcs{position:absolute;left:0;top:0;pointer-events:none;overflow:visible}.arcs path{fill:none;stroke:var(--link);stroke-width:1.5}
+.arcs path.head{fill:var(--link)}.arcs text{fill:var(--ink);font-size:11px;text-anchor:middle;paint-order:stroke;stroke:var(--paper);stroke-width:4px}
+.arcs path,.arcs text{pointer-events:visiblePainted}.arcs g{transition:opacity .1s}.arcs g.dim{opacity:.18}
 .links li,.walk li{margin:.15em 0}.links button,.walk button,.tools button{margin-left:.5em;padding:0 .5em;font-size:.85em}.tools label{margin-right:1em}
-.links{max-height:60vh;overflow:auto;padding-left:4em}
+.links{max-height:60vh;overflow:auto;padding-left:1em;list-style:none}.called{font-weight:bold}
 """
 
 PICTURE = """
-svg text{fill:var(--ink)}svg text.small{fill:var(--ink)}svg .name{fill:var(--soft)}svg>rect{fill:var(--paper)}.odd{fill:var(--odd)}
-.grid{stroke:var(--line)}.axis{stroke:var(--ink)}.bar{fill:var(--paper);stroke:var(--strong)}.exact .bar{fill:var(--strong)}
-#hatch rect:first-child{fill:var(--paper)}#hatch rect:last-child{fill:var(--strong)}.leading{text-decoration:none}
-.back{fill:var(--mark)}.leading:focus{outline:none}.leading:focus .back,.leading.on .back,.leading:target .back{fill-opacity:.55}
-.leading.near .back{fill-opacity:.22}.leading.on .bar,.leading.near .bar,.leading:focus .bar{stroke-width:3.5}
+.picture{overflow:auto;max-height:76vh}.picture .rows,.picture .head{grid-template-columns:minmax(6em,12em) 9em max-content}
+.picture .event .around{visibility:hidden}.leading:focus{outline:3px solid var(--strong);outline-offset:-3px}
+.leading.on,.leading:target,.leading:focus{background:var(--mark)}.leading.near{background:var(--near)}
+.leading.on .name,.leading.on .around,.leading:focus .name,.leading:focus .around,.leading:target .name{color:var(--ink)}
 """
 
 PRINTED = """
 @media print{body{margin:0}.text,.picture,.links,.wide{max-height:none;overflow:visible}#panel,#search,.tools,.back,button{display:none}
-.reading{display:block}svg{max-width:100%;height:auto}}
+.reading{display:block}h1,h2,h3,caption,.how summary{break-after:avoid}li,tr,.row,pre,.how{break-inside:avoid}thead{display:table-header-group}
+.fault,.warning,.legend{break-after:avoid}}
 """
 
-STYLE = variables() + picture.STYLE + PLAIN + INDEX + MARKS + PICTURE + PRINTED
-"""The whole file; that of the picture of a timeline comes first, and gives way in the dark."""
+STYLE = variables() + PLAIN + INDEX + MARKS + html_rows.STYLE + PICTURE + PRINTED
+"""The whole file."""

@@ -110,7 +110,7 @@ def mark(wording: Wording, word: Word | None, name: str, bars: Mapping[str, int]
     """How a tag is marked."""
     if word is None:
         return Mark("\n", "\n") if name in BLOCKS else Mark()
-    named = element("sup", plain(" ".join(word.intervals)), class_="name") if word.intervals else NOTHING
+    named = element("sup", plain(" ".join(word.intervals)), class_="name", aria_hidden="true") if word.intervals else NOTHING
     rows = [bars[one] for one in word.intervals if one in bars]
     date = wording.dates.get(word.intervals[0], []) if word.intervals else []
     is_leading = bool(rows) and not leading

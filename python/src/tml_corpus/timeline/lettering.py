@@ -6,6 +6,18 @@ import unicodedata
 
 from tml.markup import JOINERS, printed
 
+BROAD = (
+    (0x0E00, 0x0FFF, 0.85),
+    (0x1000, 0x1CFF, 1.5),
+    (0x0900, 0x0DFF, 1.45),
+    (0x1E00, 0x1FFF, 0.95),
+    (0x2000, 0x206F, 1.0),
+    (0xFDFA, 0xFDFD, 12.0),
+    (0x12000, 0x1254F, 2.5),
+    (0x1F000, 0x1FAFF, 1.4),
+)
+"""Of some stretches of characters how much room each takes at most; of others beyond Arabic it is about the size of the font."""
+
 NARROW = set(" .,:;'|!()[]/\\-ijlftrI")
 
 
@@ -23,8 +35,8 @@ def share(character: str) -> float:
     """The room of one character, in parts of the size of the font."""
     if unicodedata.combining(character) or character in JOINERS:
         return 0.0
-    if unicodedata.east_asian_width(character) in "WF":
-        return 1.05
+    if character > "\u08ff":
+        return next((room for first, last, room in BROAD if first <= ord(character) <= last), 1.05)
     if character in NARROW:
         return 0.4
     return 0.95 if character in "mwMW@%\u2026" else 0.75 if character.isupper() else 0.64
