@@ -169,6 +169,16 @@ class Clashes(FigureTest):
         self.assertEqual(os.listdir(self.folder), ["d.xml"])
 
 
+class Samples(FigureTest):
+    """That the pictures of the pages are those of the command."""
+
+    def test_they_are_what_is_drawn(self) -> None:
+        for name, picture in (("ferry.said", "ferry-bare.svg"), ("port.xml", "port-clash.svg")):
+            self.run_it("timeline", "--bare", os.path.join(TOP, "samples", name), "-o", "made.svg")
+            with open(self.path("made.svg"), "rb") as made, open(os.path.join(TOP, "samples", picture), "rb") as kept:
+                self.assertEqual(made.read(), kept.read(), name)
+
+
 class Forms(FigureTest):
     HOSTILE = r"\input{/etc/passwd} $x$ #1 %&_^~{}" + "\"<>|`"
 

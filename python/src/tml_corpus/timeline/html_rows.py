@@ -10,7 +10,7 @@ from . import bars, plot
 from .bars import HATCH, ROW, kinds_of, sign, states_of
 from .lettering import plain
 from .picture import APART, NO_INTERVAL
-from .plot import LANE, Band, Plot, drawn_bands, lanes_of, upright
+from .plot import LANE, Band, Plot, drawn_bands, lanes_of, right_of, upright
 from .rows import Row, Timeline
 
 LEFT, RIGHT = 10, 24
@@ -60,7 +60,7 @@ def in_rows(timeline: Timeline, axis: Plot, name: str, attributes_of: Callable[[
     """The axis and the rows, each of which is an element of a name with some attributes."""
     if not timeline.rows:
         return element("p", NO_INTERVAL)
-    dates, width = axis.bands(), axis.ends()[1] + RIGHT
+    dates, width = axis.bands(), right_of(axis) + RIGHT
     rows = [drawn_row(row, axis, width, name, attributes_of(place, row)) for place, row in enumerate(timeline.rows)]
     tied, others = rows[: timeline.tied()], rows[timeline.tied() :]
     parts = [

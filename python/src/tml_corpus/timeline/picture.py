@@ -11,7 +11,7 @@ from ..pages.colours import in_light
 from . import bars, plot
 from .bars import BAR, GAP, HATCH, ROW, kinds_of, sign, states_of
 from .lettering import fitted, in_lines, measured, plain
-from .plot import LANE, SMALL, Plot, Ranks, drawn_bands, lanes_of, upright
+from .plot import LANE, SMALL, Plot, Ranks, drawn_bands, lanes_of, right_of, upright
 from .rows import Row, Timeline
 
 MARGIN, TEXT, HEAD = 16, 13, 17
@@ -113,7 +113,7 @@ def picture(timeline: Timeline, plot_of: Callable[[Timeline, float], Plot]) -> s
     """The picture as a file of its own, over an axis of some kind."""
     columns = Columns.of(timeline)
     axis = plot_of(timeline, columns.plot())
-    width = max(LEAST_WIDTH, axis.ends()[1] + MARGIN + GAP)
+    width = max(LEAST_WIDTH, right_of(axis) + MARGIN + GAP)
     head, y = heading(timeline, axis, width)
     lines = Lines(len(timeline.rows), timeline.tied(), y + 2 * GAP + LANE * lanes_of(axis.bands()))
     rows = lined(*(drawn_row(row, columns, axis, lines.y(place), width) for place, row in enumerate(timeline.rows)))

@@ -132,6 +132,11 @@ def lanes_of(bands: Sequence[Band]) -> int:
     return max((band.lane + 1 for band in bands), default=0)
 
 
+def right_of(plot: Plot) -> float:
+    """Where an axis ends with the names of its dates."""
+    return max([plot.ends()[1], *(band.left + measured(band.text, SMALL) for band in plot.bands())])
+
+
 def drawn_bands(bands: Sequence[Band], bottom: float) -> list[Markup]:
     """Dates above a height: a thick line as long as each, and its name on it."""
     return [
