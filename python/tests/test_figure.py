@@ -173,7 +173,7 @@ class Samples(FigureTest):
     """That the pictures of the pages are those of the command."""
 
     def test_they_are_what_is_drawn(self) -> None:
-        for name, picture in (("ferry.said", "ferry-bare.svg"), ("port.xml", "port-clash.svg")):
+        for name, picture in (("ferry.xml", "ferry-bare.svg"), ("port.xml", "port-clash.svg")):
             self.run_it("timeline", "--bare", os.path.join(TOP, "samples", name), "-o", "made.svg")
             with open(self.path("made.svg"), "rb") as made, open(os.path.join(TOP, "samples", picture), "rb") as kept:
                 self.assertEqual(made.read(), kept.read(), name)

@@ -7,6 +7,7 @@ import random
 import re
 import subprocess
 import unittest
+from pathlib import Path
 
 from corpus import EVENT, INSTANCE, TML, TOP, CorpusTest, document, needs_matrix, needs_score
 from reference import Free, Outcome, expected, judge, judge_failing
@@ -30,7 +31,8 @@ def page(name):
 
 def samples():
     """The files that the pages speak of: the samples, and what the tour makes of one of them."""
-    files = {f"samples/{name}".encode(): page(f"samples/{name}").encode() for name in os.listdir(os.path.join(TOP, "samples"))}
+    paths = [path for path in Path(TOP, "samples").rglob("*") if path.is_file()]
+    files = {path.relative_to(TOP).as_posix().encode(): path.read_bytes() for path in paths}
     lines = page("samples/port.xml").splitlines(keepends=True)
     mended = "".join(line.replace("DURING", "AFTER") if 'lid="l6"' in line else line for line in lines)
     return {**files, b"mended.xml": mended.encode()}
