@@ -24,6 +24,29 @@ BROKEN_WORDS = """(() => {
 """The words of some elements that stand on several lines."""
 
 
+CONTRASTS = """(() => {
+  const hex = (colour) => "#" + colour.match(/[\\d.]+/g).slice(0, 3).map((one) => Math.round(one).toString(16).padStart(2, "0")).join("");
+  const isClear = (colour) => colour === "none" || /rgba\\(.*, 0\\)/.test(colour) || colour.startsWith("url");
+  const ground = (one) => {
+    for (let at = one; at; at = at.parentElement) {
+      const colour = getComputedStyle(at).backgroundColor;
+      if (!isClear(colour)) return hex(colour);
+    }
+    return "#ffffff";
+  };
+  const found = new Set();
+  document.querySelectorAll("body *").forEach((one) => {
+    const [style, isDrawn] = [getComputedStyle(one), one.closest("svg") !== null];
+    if (!one.getClientRects().length || one.closest("button, input, .grid, defs")) return;
+    const hasText = [...one.childNodes].some((part) => part.nodeType === 3 && part.textContent.trim() !== "");
+    if (hasText) found.add(`${hex(isDrawn ? style.fill : style.color)} ${ground(one)} ${one.className.baseVal ?? one.className}`);
+    if (one.matches(".bar, .span, .edge, .anywhere, .link, .band, .arcs path")) found.add(`${hex(style.stroke)} ${ground(one)} ${one.getAttribute("class")}`);
+  });
+  return [...found];
+})()"""
+"""The colours of all texts and of all lines that mean something, with what they stand on."""
+
+
 def opened(width: int = 1400, height: int = 900) -> Any:
     """A browser."""
     return cast(Any, Browser)(width, height)
@@ -55,3 +78,9 @@ def contrast(one: str, other: str) -> float:
     """The contrast of two colours, as WCAG 2 has it."""
     darker, brighter = sorted((luminance(one), luminance(other)))
     return (brighter + 0.05) / (darker + 0.05)
+
+
+def contrasts(browser: Any) -> tuple[int, list[str]]:
+    """How many pairs of colours a page has, and those with too little contrast."""
+    found = list(browser.value(CONTRASTS))
+    return len(found), [one for one in found if contrast(*one.split(" ")[:2]) < 4.5]

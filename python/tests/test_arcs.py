@@ -2,13 +2,17 @@
 
 from __future__ import annotations
 
+import base64
 import itertools
 import os
+import shutil
+import subprocess
+import unittest
 from typing import Any
 
 from browser import needs_browser
 from corpus import TOP, CorpusTest, needs_matrix
-from looking import opened, resized
+from looking import contrasts, darkened, opened, resized
 
 Stretch = tuple[float, float, float, float]
 """The left, top, right and bottom edge of something."""
@@ -93,6 +97,36 @@ class Arcs(CorpusTest):
             self.assertEqual(set(browser.value(dimmed)), {False})
             browser.value("document.querySelector('.mark[data-intervals=ei5]').dispatchEvent(new Event('pointerenter'))")
             self.assertEqual([place for place, is_dim in enumerate(browser.value(dimmed)) if not is_dim], [5, 6, 11])
+
+    def test_contrast(self) -> None:
+        with opened() as browser:
+            browser.open(self.page())
+            browser.click("#links .tools button")
+            browser.click(".mark[data-intervals=ei5]")
+            for is_dark in (False, True):
+                darkened(browser, is_dark)
+                found, weak = contrasts(browser)
+                self.assertGreater(found, 10)
+                self.assertEqual(weak, [], f"dark: {is_dark}")
+
+    @unittest.skipUnless(shutil.which("pdftotext"), "no program pdftotext")
+    def test_no_heading_is_stranded_on_paper(self) -> None:
+        with opened() as browser:
+            browser.open(self.page())
+            self.write("d.pdf", base64.b64decode(browser.ask("Page.printToPDF", paperHeight=6)["data"]))
+        text = subprocess.run(["pdftotext", "-layout", self.path("d.pdf"), "-"], capture_output=True, text=True, check=True).stdout
+        pages = [lines for one in text.split("\f") if (lines := [line.strip() for line in one.splitlines() if line.strip()])]
+        self.assertGreater(len(pages), 2)
+        for lines in pages:
+            self.assertNotRegex(lines[-1], "^(Text|Clashes|Clash 1|Links|Why: each|In the text)")
+
+    def test_the_ring_of_a_clash(self) -> None:
+        with opened() as browser:
+            browser.open(self.page())
+            shown = browser.value("[...document.querySelectorAll('.ring text')].map((one) => one.textContent)")
+            self.assertEqual(shown[:5], ["1", "2", "3", "4", "5"])
+            self.assertEqual(sorted(shown[5:]), ["end of Monday", "end of closed", "end of waited", "start of Wednesday", "start of reopened"])
+            self.assertEqual(browser.said, [])
 
     def test_identifiers_are_not_part_of_words_and_links_have_their_names(self) -> None:
         with opened() as browser:

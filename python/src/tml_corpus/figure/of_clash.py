@@ -15,8 +15,8 @@ MOST_NAMED = 16
 """So many points of a ring have words beside them; of more the lines below tell."""
 
 
-def figure_of(title: str, wording: Wording, steps: Sequence[WalkStep], width: float) -> Figure:
-    """The picture of the steps of a walk, which ends where it began."""
+def figure_of(title: str, wording: Wording, steps: Sequence[WalkStep], width: float, *, has_lines: bool = True) -> Figure:
+    """The picture of the steps of a walk, which ends where it began; perhaps without the lines of words."""
     figure = Figure(width, f"Clash of {plain(title)}")
     is_named = len(steps) <= MOST_NAMED
     radius = min(max(34.0, len(steps) * 15 / (2 * math.pi)), width / 2 - (60 if is_named else 12))
@@ -28,7 +28,9 @@ def figure_of(title: str, wording: Wording, steps: Sequence[WalkStep], width: fl
     if is_named:
         for step, point in zip(steps, points, strict=True):
             figure.shapes += named(point_in_words(wording, step.first), centre, point, width)
-    put_lines(figure, wording, steps, centre[1] + radius + (22 if is_named else 14))
+    figure.height = centre[1] + radius + (14 if is_named else 6)
+    if has_lines:
+        put_lines(figure, wording, steps, figure.height + 8)
     return figure
 
 

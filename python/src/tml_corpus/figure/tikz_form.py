@@ -6,6 +6,7 @@ from .shapes import FILLINGS, Box, Figure, Line, Shape, Text
 from .svg_form import two
 
 HEAD = r"""% Made by tml-corpus timeline --bare. Compile it alone, or take the tikzpicture into a document with the same packages.
+% LuaLaTeX has letters beyond those of Europe, where its font has them.
 \documentclass[border=0pt]{standalone}
 \usepackage{iftex}
 \ifPDFTeX\usepackage[utf8]{inputenc}\usepackage[T1]{fontenc}\else\usepackage{fontspec}\fi

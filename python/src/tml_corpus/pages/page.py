@@ -13,6 +13,8 @@ from ..check.judgement import Mark, PlacedFault, PlacedWarning
 from ..clash.report import PlacedClash, PlacedLink
 from ..clash.walk_words import WalkStep, steps_in_words
 from ..document.words import Wording
+from ..figure.of_clash import figure_of
+from ..figure.svg_form import drawing
 from ..files.finding import counted
 from ..timeline.html_rows import LEFT, explained, in_rows
 from ..timeline.lettering import plain
@@ -21,6 +23,10 @@ from ..timeline.rows import Row, Timeline
 from .documents import Entry, Examined, entry_of, free_dates
 from .frame import coded, framed, isolated, listed, section
 from .text import Words, marked_text
+
+
+RING = 240.0
+"""How broad the ring of a clash is, in points."""
 
 
 def page_of(examined: Examined) -> str:
@@ -104,7 +110,8 @@ def clash_part(wording: Wording, words: Words, clash: PlacedClash, number: int) 
         element("h3", f"Clash {number}: {title}"),
         listed(*(element("li", link_reference(link), source_part(link.source)) for link in clash.links), kind="cited"),
         listed(*notes),
-        element("p", "Why: each step leads to a point that cannot be earlier."),
+        element("p", "Why: each step leads to a point that cannot be earlier.", class_="why"),
+        element("div", drawing(figure_of(title, wording, steps, RING, has_lines=False)), class_="ring"),
         element("ol", "\n", lined(*(step_part(wording, words, step) for step in steps)), class_="walk"),
         element("p", "So ", first, f" would be before itself, which cannot be. {cure}, or a date that a step goes by is.", class_="end"),
     )

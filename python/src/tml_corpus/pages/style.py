@@ -50,6 +50,7 @@ columns:26em}#panel div{break-inside:avoid;padding-left:1.4em;text-indent:-1.4em
 .arcs{position:absolute;left:0;top:0;pointer-events:none;overflow:visible}.arcs path{fill:none;stroke:var(--link);stroke-width:1.5}
 .arcs path.head{fill:var(--link)}.arcs text{fill:var(--ink);font-size:11px;text-anchor:middle;paint-order:stroke;stroke:var(--paper);stroke-width:4px}
 .arcs path,.arcs text{pointer-events:visiblePainted}.arcs g{transition:opacity .1s}.arcs g.dim{opacity:.18}
+.ring{background:white;width:max-content;max-width:100%;border-radius:4px;padding:4px}.ring svg{display:block;width:30em;max-width:100%;height:auto}
 .links li,.walk li{margin:.15em 0}.links button,.walk button,.tools button{margin-left:.5em;padding:0 .5em;font-size:.85em}.tools label{margin-right:1em}
 .links{max-height:60vh;overflow:auto;padding-left:1em;list-style:none}.called{font-weight:bold}
 """
@@ -64,7 +65,7 @@ PICTURE = """
 PRINTED = """
 @media print{body{margin:0}.text,.picture,.links,.wide{max-height:none;overflow:visible}#panel,#search,.tools,.back,button{display:none}
 .reading{display:block}h1,h2,h3,caption,.how summary{break-after:avoid}li,tr,.row,pre,.how{break-inside:avoid}thead{display:table-header-group}
-.fault,.warning,.legend{break-after:avoid}}
+.fault,.warning,.legend,.why{break-after:avoid}.ring{break-inside:avoid}}
 """
 
 STYLE = variables() + PLAIN + INDEX + MARKS + html_rows.STYLE + PICTURE + PRINTED
