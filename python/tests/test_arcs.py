@@ -120,6 +120,18 @@ class Arcs(CorpusTest):
         for lines in pages:
             self.assertNotRegex(lines[-1], "^(Text|Clashes|Clash 1|Links|Why: each|In the text)")
 
+    def test_one_stop_of_the_tabulator_for_each_group(self) -> None:
+        with opened() as browser:
+            browser.open(self.page())
+            words = ".text .mark[data-intervals^=ei], .text .mark[data-intervals^=t]"
+            for group, count in ((words, 13), (".links a", 26), (".links button", 13)):
+                stops = f"[...document.querySelectorAll('{group}')].map((one) => one.tabIndex)"
+                self.assertEqual(browser.value(stops), [0] + [-1] * (count - 1))
+                browser.value(f"document.querySelector('{group}').focus()")
+                browser.press("ArrowRight", 39)
+                self.assertEqual(browser.value(stops), [-1, 0] + [-1] * (count - 2))
+            self.assertEqual(browser.said, [])
+
     def test_the_ring_of_a_clash(self) -> None:
         with opened() as browser:
             browser.open(self.page())

@@ -122,7 +122,10 @@ class Timelines(FigureTest):
         contents.append("".join(map(event, range(300))) + "".join(link(number, "BEFORE", number + 1) for number in range(299)))
         for content in contents:
             with self.subTest(content[:60]):
-                ElementTree.fromstring(self.made(document(content)).encode())
+                picture = self.made(document(content))
+                ElementTree.fromstring(picture.encode())
+                self.assertNotIn("<pattern", picture, "a browser prints patterns as dots")
+                self.assertEqual("clipPath" in picture, "TIMEX3" in content)
 
     def test_what_does_not_go_together(self) -> None:
         self.write("d.xml", mended())
@@ -213,6 +216,13 @@ class Forms(FigureTest):
             box = re.search(rb"/MediaBox\s*\[0 0 ([\d.]+) ([\d.]+)\]", file.read())
         assert box is not None
         self.assertAlmostEqual(float(box[1]), 84 * 72 / 25.4, delta=1)
+
+    def test_the_library_is_asked_first(self) -> None:
+        library = mock.Mock()
+        library.svg2pdf.return_value = b"%PDF"
+        with mock.patch("importlib.import_module", return_value=library), mock.patch("subprocess.run", side_effect=AssertionError):
+            self.assertEqual(pdf(Figure(100, "x")), b"%PDF")
+        ElementTree.fromstring(library.svg2pdf.call_args.kwargs["bytestring"])
 
     def test_where_nothing_makes_a_pdf(self) -> None:
         with mock.patch("shutil.which", return_value=None), mock.patch("importlib.import_module", side_effect=ImportError):

@@ -2,6 +2,8 @@
 
 from __future__ import annotations
 
+from collections.abc import Callable, Mapping
+
 from tml.markup import Markup, element, lined, svg_file
 
 from .shapes import FILLINGS, Box, Figure, Line, Shape
@@ -18,44 +20,62 @@ def svg(figure: Figure) -> str:
 def drawing(figure: Figure) -> Markup:
     """The picture as an element."""
     broad, high = two(figure.width), two(figure.height)
-    used = sorted({one.filling for one in figure.shapes if isinstance(one, Box) and FILLINGS[one.filling][1]})
-    content = lined(
-        element("title", figure.title),
-        element("defs", *(texture(name) for name in used)) if used else None,
-        *(drawn(shape) for shape in figure.shapes),
-    )
+    content = lined(element("title", figure.title), *(drawn(shape, number) for number, shape in enumerate(figure.shapes)))
     size = {"width": f"{figure.width / POINTS_OF_MILLIMETRE:.2f}mm", "height": f"{figure.height / POINTS_OF_MILLIMETRE:.2f}mm"}
     shared = {"viewBox": f"0 0 {broad} {high}", "role": "img", "font_family": FONT}
     return element("svg", "\n", content, **size, **shared)
 
 
-def texture(filling: str) -> Markup:
-    """The filling of a kind of boxes that has a texture: lines are dark on white, and white on a colour."""
-    colour, name = FILLINGS[filling]
-    ink = "#808080" if colour == "#FFFFFF" else "#FFFFFF"
-    marks = {
-        "lines": element("path", d="M0 1H3", stroke=ink, stroke_width="0.5"),
-        "strokes": element("path", d="M0 3L3 0M-1 1L1 -1M2 4L4 2", stroke=ink, stroke_width="0.6"),
-        "dots": element("circle", cx="1.5", cy="1.5", r="0.6", fill=ink),
-    }
-    ground = element("rect", width=3, height=3, fill=colour)
-    return element("pattern", ground, marks[name], id=f"fill-{filling}", width=3, height=3, patternUnits="userSpaceOnUse")
-
-
-def drawn(shape: Shape) -> Markup:
-    """A shape as an element."""
+def drawn(shape: Shape, number: int) -> Markup:
+    """A shape as an element. Its number tells it from others."""
     if isinstance(shape, Box):
-        colour, textured = FILLINGS[shape.filling]
-        places = {"x": two(shape.x), "y": two(shape.y), "width": two(shape.width), "height": two(shape.height)}
-        frame = {"stroke": "#000000", "stroke_width": "0.5", "stroke_dasharray": "2 1.2" if shape.dashed else None}
-        filled = f"url(#fill-{shape.filling})" if textured else colour
-        return element("rect", **places, rx=two(shape.round) if shape.round else None, fill=filled, **frame)
+        return drawn_box(shape, f"box{number}")
     if isinstance(shape, Line):
         return drawn_line(shape)
     halo = {"stroke": "#ffffff", "stroke_width": "2", "paint_order": "stroke", "stroke_linejoin": "round"} if shape.halo else {}
     style = {"font_size": two(shape.size), "font_weight": "bold" if shape.bold else None, "fill": shape.colour}
     anchor = None if shape.anchor == "start" else shape.anchor
     return element("text", shape.text, x=two(shape.x), y=two(shape.y), text_anchor=anchor, **style, **halo)
+
+
+def drawn_box(box: Box, name: str) -> Markup:
+    """A rectangle: its filling, its texture, and its frame."""
+    colour, texture = FILLINGS[box.filling]
+    places = {"x": two(box.x), "y": two(box.y), "width": two(box.width), "height": two(box.height)}
+    places |= {"rx": two(box.round)} if box.round else {}
+    frame = {"stroke": "#000000", "stroke_width": "0.5", "stroke_dasharray": "2 1.2" if box.dashed else None}
+    if not texture:
+        return element("rect", **places, fill=colour, **frame)
+    clip = element("clipPath", element("rect", **places), id=name)
+    ink = {"stroke": "#808080" if colour == "#FFFFFF" else "#FFFFFF", "stroke_width": "1.1" if texture == "dots" else "0.5"}
+    marks = element("path", d=TEXTURES[texture](box), clip_path=f"url(#{name})", fill="none", stroke_linecap="round", **ink)
+    return element("g", clip, element("rect", **places, fill=colour), marks, element("rect", **places, fill="none", **frame))
+
+
+def steps(first: float, last: float, by: float) -> list[float]:
+    """Numbers from one to another."""
+    return [first + by * number for number in range(1 + int((last - first) / by))]
+
+
+# Patterns of SVG would be made of dots where a browser prints, so textures are lines.
+def lines(box: Box) -> str:
+    """Lines that lie."""
+    return "".join(f"M{two(box.x)} {two(y)}h{two(box.width)}" for y in steps(box.y + 1.5, box.y + box.height, 3))
+
+
+def strokes(box: Box) -> str:
+    """Lines that lean."""
+    bottom, way = two(box.y + box.height), f"l{two(box.height)} {two(-box.height)}"
+    return "".join(f"M{two(x)} {bottom}{way}" for x in steps(box.x - box.height, box.x + box.width, 2.5))
+
+
+def dots(box: Box) -> str:
+    """Dots, which are lines without a length and with round ends."""
+    rows = steps(box.y + 1.5, box.y + box.height, 3)
+    return "".join(f"M{two(x)} {two(y)}h0" for y in rows for x in steps(box.x + 1.5, box.x + box.width, 3))
+
+
+TEXTURES: Mapping[str, Callable[[Box], str]] = {"lines": lines, "strokes": strokes, "dots": dots}
 
 
 def drawn_line(line: Line) -> Markup:

@@ -151,7 +151,7 @@ const reached = (group, one) => group.forEach((other) => other.setAttribute("tab
 const KEYS = { ArrowUp: -1, ArrowLeft: -1, ArrowDown: 1, ArrowRight: 1 };
 // One of a group is reached by the tabulator, and the others by the arrow keys.
 const together = (group) => {
-  reached(group, group[0]);
+  if (group.length) reached(group, group[0]);
   group.forEach((one, place) => {
     one.addEventListener("focus", () => reached(group, one));
     one.addEventListener("keydown", (event) => {
@@ -217,6 +217,7 @@ if (text) {
   links.forEach((link) => link.append(button("draw", () => { turn(link, !drawn.has(link)); draw(); })));
   if (links.length) document.querySelector(".links").before(tools());
   together(links.map((link) => link.querySelector("button")));
+  together(Array.from(document.querySelectorAll(".links a")));
 }
 const goTo = (walk, step) => {
   pinned = null;
