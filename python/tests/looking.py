@@ -40,7 +40,8 @@ CONTRASTS = """(() => {
     if (!one.getClientRects().length || one.closest("button, input, .grid, defs")) return;
     const hasText = [...one.childNodes].some((part) => part.nodeType === 3 && part.textContent.trim() !== "");
     if (hasText) found.add(`${hex(isDrawn ? style.fill : style.color)} ${ground(one)} ${one.className.baseVal ?? one.className}`);
-    if (one.matches(".bar, .span, .edge, .anywhere, .link, .band, .arcs path")) found.add(`${hex(style.stroke)} ${ground(one)} ${one.getAttribute("class")}`);
+    if (!one.matches(".bar, .span, .edge, .anywhere, .link, .band, .arcs path")) return;
+    found.add(`${hex(style.stroke)} ${ground(one)} ${one.getAttribute("class")}`);
   });
   return [...found];
 })()"""

@@ -137,7 +137,8 @@ class Arcs(CorpusTest):
             browser.open(self.page())
             shown = browser.value("[...document.querySelectorAll('.ring text')].map((one) => one.textContent)")
             self.assertEqual(shown[:5], ["1", "2", "3", "4", "5"])
-            self.assertEqual(sorted(shown[5:]), ["end of Monday", "end of closed", "end of waited", "start of Wednesday", "start of reopened"])
+            points = ["end of Monday", "end of closed", "end of waited", "start of Wednesday", "start of reopened"]
+            self.assertEqual(sorted(shown[5:]), points)
             self.assertEqual(browser.said, [])
 
     def test_identifiers_are_not_part_of_words_and_links_have_their_names(self) -> None:

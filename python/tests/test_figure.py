@@ -203,7 +203,8 @@ class Forms(FigureTest):
     def test_tex_can_be_compiled(self) -> None:
         for name, content, status in (("a", mended(), 0), ("b", mended().replace('relType="AFTER"', 'relType="BEFORE"'), 1)):
             self.made(content, f"{name}.tex", status=status)
-            done = subprocess.run(["pdflatex", "-interaction=batchmode", f"{name}.tex"], cwd=self.folder, stdin=subprocess.DEVNULL, check=False)
+            words = ["pdflatex", "-interaction=batchmode", f"{name}.tex"]
+            done = subprocess.run(words, cwd=self.folder, stdin=subprocess.DEVNULL, check=False)
             self.assertEqual(done.returncode, 0)
 
     @unittest.skipUnless(CHROMIUM and shutil.which("pdftotext"), "no program chromium, or no pdftotext")

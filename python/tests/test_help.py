@@ -13,8 +13,8 @@ from corpus import TOOLS
 class Help(unittest.TestCase):
     def said(self, program: str, *words: str) -> str:
         """What a program prints."""
-        command = [sys.executable, program, *words]
-        return subprocess.run(command, capture_output=True, text=True, check=True, env={**os.environ, "PYTHONDONTWRITEBYTECODE": "1"}).stdout
+        command, environment = [sys.executable, program, *words], {**os.environ, "PYTHONDONTWRITEBYTECODE": "1"}
+        return subprocess.run(command, capture_output=True, text=True, check=True, env=environment).stdout
 
     def test_the_installed_command_is_named(self) -> None:
         with tempfile.TemporaryDirectory() as folder:

@@ -13,12 +13,13 @@ from corpus import SOURCES
 from tml.markup import NOTHING, Markup, data, element, harmless, html_file, lined, raw, svg_file, tags, together
 
 TEXTS = (
-    "<script>window.hacked = 1</script>", "<img src=x onerror='x'>", '"><b onclick="x">', "'><i>", "]]><!--", "&amp;&lt;", "\u05d0\u05d1\u05d2",
-    "日本語", "a\nb", "{{7*7}}${7*7}", "`", "=1+1", "\u200cx\u200d", "",
+    "<script>window.hacked = 1</script>", "<img src=x onerror='x'>", '"><b onclick="x">', "'><i>", "]]><!--", "&amp;&lt;",
+    "\u05d0\u05d1\u05d2", "日本語", "a\nb", "{{7*7}}${7*7}", "`", "=1+1", "\u200cx\u200d", "",
 )  # fmt: skip
 NO_TEXTS = ("\u202egnihton\u2066", "\x1b[31mred\x1b[0m", "\x00", "\ufffe", "\ud800", "\u2028", "\xad\ufeff")
 
-ELEMENTS = "a|b|bdi|body|br|button|caption|code|dd|defs|div|dl|dt|em|g|h[1-6]|head|html|i|img|input|li|line|link|main|meta|noscript|ol|option"
+ELEMENTS = "a|b|bdi|body|br|button|caption|code|dd|defs|div|dl|dt|em|g|h[1-6]|head|html|i|img|input|li|line|link|main|meta|noscript|ol"
+ELEMENTS += "|option"
 ELEMENTS += "|output|path|pattern|pre|rect|script|section|span|stop|strong|style|sub|sup|svg|t[dhr]|table|tbody|text|thead|title|tspan|ul"
 LIKE_MARKUP = re.compile(rf"</?(?:{ELEMENTS})(?:[\s/>]|$)")
 
@@ -125,7 +126,8 @@ class Sources(unittest.TestCase):
             if isinstance(node, ast.Constant) and isinstance(node.value, str) and LIKE_MARKUP.search(node.value)
         ]
         self.assertEqual(found, [])
-        self.assertTrue(LIKE_MARKUP.search('<rect x="1"/>') and LIKE_MARKUP.search("</td>") and not LIKE_MARKUP.search("<TIMEX3>, <TLINK/>"))
+        self.assertTrue(LIKE_MARKUP.search('<rect x="1"/>') and LIKE_MARKUP.search("</td>"))
+        self.assertFalse(LIKE_MARKUP.search("<TIMEX3>, <TLINK/>"))
 
 
 if __name__ == "__main__":

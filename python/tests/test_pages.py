@@ -23,9 +23,10 @@ def entries() -> list[Entry]:
     """The lines of an index with a document of each verdict."""
     counts = Counts(1024, 12345, 0, Counter(BEFORE=12345, DURING=617), 523776, 52377)
     said = {"fault": "10 MissingAttribute", "not judged": "tml answered status 9 to `solve`"}
+    paths = [f"corpus/of_news/wsj_0{number}_interviews.xml" for number in range(len(VERDICTS))]
     return [
-        Entry(f"corpus/of_news/wsj_0{number}_interviews.xml", "a.html", verdict, said.get(verdict, ""), counts=None if said.get(verdict) else counts)
-        for number, verdict in enumerate(VERDICTS)
+        Entry(path, "a.html", verdict, said.get(verdict, ""), counts=None if said.get(verdict) else counts)
+        for path, verdict in zip(paths, VERDICTS, strict=True)
     ]
 
 
@@ -54,7 +55,8 @@ class InABrowser(IndexTest):
         with opened() as browser:
             resized(browser, 400)
             browser.open(self.index)
-            rights = browser.value("[...document.querySelectorAll('#documents tbody tr')[2].cells].map((one) => one.getBoundingClientRect().right)")
+            cells = "[...document.querySelectorAll('#documents tbody tr')[2].cells]"
+            rights = browser.value(f"{cells}.map((one) => one.getBoundingClientRect().right)")
             self.assertLessEqual(max(rights[:4]), 400)
             self.assertLessEqual(browser.value("document.documentElement.scrollWidth"), 400)
 
@@ -76,7 +78,8 @@ class InABrowser(IndexTest):
         with opened() as browser:
             browser.open(self.index)
             tables = "[...document.querySelectorAll('.totals table')]"
-            bars = f"[...{tables}.find((one) => one.caption.textContent.startsWith('NAME')).querySelectorAll('rect')].map((one) => one.width.baseVal.value)"
+            bars = f"[...{tables}.find((one) => one.caption.textContent.startsWith('NAME')).querySelectorAll('rect')]"
+            bars += ".map((one) => one.width.baseVal.value)"
             self.assertEqual(browser.value(bars.replace("NAME", "Verdicts")), [120] * 5)
             long, short = browser.value(bars.replace("NAME", "Relations"))
             self.assertEqual((long, round(short)), (120, 6))

@@ -57,8 +57,8 @@ class InABrowser(PageTest):
             label = browser.value(place.replace("SELECTOR", "'#row560 .label'"))
             self.assertEqual(label[0], main[0])
             self.assertTrue(browser.value("document.querySelector('main').scrollTop") > 9000)
-            name = "document.elementFromPoint(20, document.querySelector('#row560').getBoundingClientRect().top + 11).closest('.label').textContent"
-            self.assertIn("(i560)", browser.value(name))
+            there = "document.elementFromPoint(20, document.querySelector('#row560').getBoundingClientRect().top + 11)"
+            self.assertIn("(i560)", browser.value(f"{there}.closest('.label').textContent"))
             self.assertEqual(browser.said, [])
 
     def test_one_stop_of_the_tabulator_and_arrow_keys(self) -> None:
@@ -121,7 +121,8 @@ class InABrowser(PageTest):
             self.assertFalse(re.match("Order not known|Timeline of|How to read", lines[-1]), lines[-1])
 
     def test_what_is_measured_has_room(self) -> None:
-        texts = ["waited", "WWWWMMMM", "日本語日本語", "नमस्ते दुनिया", "สวัสดีชาวโลก", "မြန်မာဘာသာ", "தமிழ்மொழி", "മലയാളം", "\u0421\u043b\u043e\u0432\u043e", "السلام", "\ufdfd", "😀😀", "e\u0301"]
+        texts = ["waited", "WWWWMMMM", "日本語日本語", "नमस्ते दुनिया", "สวัสดีชาวโลก", "မြန်မာဘာသာ", "தமிழ்மொழி", "മലയാളം"]
+        texts += ["\u0421\u043b\u043e\u0432\u043e", "السلام", "\ufdfd", "😀😀", "e\u0301"]
         with opened() as browser:
             self.write("t.svg", f'<svg xmlns="http://www.w3.org/2000/svg" width="900" height="900">{"".join(map(placed, texts))}</svg>')
             browser.open(self.path("t.svg"))
@@ -149,7 +150,8 @@ class Pictures(PageTest):
         for name in ("d.svg", "d.html"):
             with open(self.made(mended(), name), encoding="utf-8") as file:
                 picture = file.read()
-            bands = re.findall(r'<path class="band" d="M([\d.]+) [\d.]+H([\d.]+)"/><text class="small" x="([\d.]+)" y="[\d.]+">([^<]*)<', picture)
+            line = r'<path class="band" d="M([\d.]+) [\d.]+H([\d.]+)"/>'
+            bands = re.findall(line + r'<text class="small" x="([\d.]+)" y="[\d.]+">([^<]*)<', picture)
             self.assertEqual([text for *_, text in bands], ["9 March 1998", "11 March 1998", "12 March 1998"])
             self.assertTrue(all(left == x and float(left) < float(right) for left, right, x, _ in bands))
 

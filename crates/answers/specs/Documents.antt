@@ -1,12 +1,11 @@
 -- Commands that read one document: its first fault is answered, or what it says decides.
-use Rattle.std.specs.Prelude.{◌≡◌, ◌⊎◌, false, ℕ, List, codes}
+use Rattle.std.specs.Prelude.{◌≡◌, ◌⊎◌, ℕ, List, codes}
 use Rattle.net_core.specs.Limits.{max_document}
 use Rattle.tml_accept.specs.Acceptance.{FirstFault, Says}
 use Rattle.tml_refs.specs.Documents.{PlainDocument}
 use Rattle.tml_run.specs.declared.status.Status.{Status}
 use Rattle.tml_run.specs.declared.status.Status.TheVariants.{DocFault}
 use Rattle.tml_run.specs.OneFile.{Answers, of_one_file}
-use Rattle.tml_run.specs.OneReply.{is_broken_off}
 use Rattle.tml_run.specs.Rows.{File, Rows}
 use Rattle.answers.specs.Lines.{HasFaultLine}
 
@@ -15,8 +14,8 @@ abbrev pub doc_file : List ℕ → File
 doc_file name = record { name = name; word = codes "DOC"; limit = max_document }
 
 -- the document is refused by the line of its first fault
-abbrev pub IsRefused : List ℕ → Status → List ℕ → Type 0
-IsRefused doc status text = (status ≡ DocFault) × HasFaultLine (FirstFault doc) text
+abbrev pub IsDocumentRefused : List ℕ → Status → List ℕ → Type 0
+IsDocumentRefused doc status text = (status ≡ DocFault) × HasFaultLine (FirstFault doc) text
 
 -- the answers to what an accepted document says
 abbrev pub Contents : Type 1
@@ -24,7 +23,7 @@ Contents = PlainDocument → Status → List ℕ → Type 0
 
 -- the document is refused, or its contents are answered
 abbrev pub of_contents : Contents → Answers
-of_contents Of doc status text = IsRefused doc status text ⊎ ((contents : PlainDocument) × Says doc contents × Of contents status text)
+of_contents Of doc status text = IsDocumentRefused doc status text ⊎ ((contents : PlainDocument) × Says doc contents × Of contents status text)
 
 -- the rows of a command that is asked of the document of this name
 abbrev pub document_rows : Contents → List ℕ → Rows
@@ -33,10 +32,3 @@ document_rows Of name = of_one_file (doc_file name) (of_contents Of)
 -- of which document the text of an answer is not determined, by its contents
 abbrev pub of_its_contents : (PlainDocument → Status → Type 0) → List ℕ → Status → Type 0
 of_its_contents IsFree doc status = (contents : PlainDocument) × Says doc contents × IsFree contents status
-
--- What an accepted document says has an answer, with one status, which is none that is broken off; and with one text, where that is not free.
-pub record AreAnswered (Of : Contents) (IsFree : PlainDocument → Status → Type 0) : Type 0 where
-  pub some : (doc : List ℕ) (contents : PlainDocument) → Says doc contents → (status : Status) × (text : List ℕ) × Of contents status text
-  pub one_status : (doc : List ℕ) (contents : PlainDocument) → Says doc contents → (status other : Status) (text line : List ℕ) → Of contents status text → Of contents other line → status ≡ other
-  pub whole : (contents : PlainDocument) (status : Status) (text : List ℕ) → Of contents status text → is_broken_off status ≡ false
-  pub one_text : (doc : List ℕ) (contents : PlainDocument) → Says doc contents → (status : Status) (text line : List ℕ) → (IsFree contents status → ⊥) → Of contents status text → Of contents status line → text ≡ line

@@ -8,9 +8,9 @@ use Rattle.tml_refs.specs.Documents.{PlainDocument}
 use Rattle.tml_run.specs.Answered.{Freedom}
 use Rattle.tml_run.specs.OneFile.{Answers}
 use Rattle.tml_run.specs.Rows.{File, Rows}
-use Rattle.tml_run.specs.TwoFiles.{IsAnsweredAfter, IsRefusedFirst, Judging, of_both, of_two_files}
+use Rattle.tml_run.specs.TwoFiles.{IsRefusedFirst, Judging, of_both, of_two_files}
 use Rattle.tml_run.specs.declared.status.Status.{Status}
-use Rattle.answers.specs.Documents.{IsRefused, doc_file}
+use Rattle.answers.specs.Documents.{IsDocumentRefused, doc_file}
 
 -- the answers to the contents of another file, by what the document says
 abbrev pub Judgements : Type 1
@@ -18,7 +18,7 @@ Judgements = PlainDocument → Answers
 
 -- a document is accepted and says something, or is refused by the line of its first fault
 abbrev pub documents : Judging PlainDocument
-documents = record { Says = Says; IsRefused = IsRefused }
+documents = record { Says = Says; IsRefused = IsDocumentRefused }
 
 -- the document is read and judged, and where it has no fault the other file is read
 abbrev pub judged_rows : List ℕ → File → Judgements → Rows
@@ -27,10 +27,6 @@ judged_rows name other Of = of_two_files documents (doc_file name) other Of
 -- of which other file the text of an answer is not determined, by what the document says
 abbrev pub of_judged : (PlainDocument → List ℕ → Status → Type 0) → Freedom
 of_judged IsFree = of_both documents IsFree
-
--- another file within its limit has one answer, by what an accepted document says, with one text where that is not free
-abbrev pub AreJudged : ℕ → Judgements → (PlainDocument → List ℕ → Status → Type 0) → Type 0
-AreJudged limit Of IsFree = IsAnsweredAfter documents max_document limit Of IsFree
 
 -- the law of rows that judge the document of a name first: where it is at fault, the reply is its fault, and the other file is not reached
 abbrev pub JudgesFirst : List ℕ → Rows → Type 0

@@ -1,11 +1,11 @@
 -- The lines that answers print.
 use Rattle.std.specs.Prelude.{◌≡◌, ℕ, List, [], ◌++◌, codes, decimal, None, Some}
 use Rattle.std.specs.List.{slice_get}
-use Rattle.faults.specs.Kinds.{name_of as kind_name, number_of}
+use Rattle.faults.specs.Kinds.{kind_name, number_of}
 use Rattle.faults.specs.declared.kind.FaultKind.{FaultKind}
 use Rattle.net_core.specs.Rels.{rel_text}
 use Rattle.net_core.specs.declared.rels.Rel.{Rel}
-use Rattle.tml_refs.specs.Documents.{PlainInterval, name_of}
+use Rattle.tml_refs.specs.Documents.{PlainInterval, interval_name}
 use Rattle.tml_refs.specs.declared.document.DocLink.{DocLink}
 
 -- a word and a number
@@ -26,7 +26,7 @@ HasFaultLine Fault text = (kind : FaultKind) × (place : ℕ) × Fault kind plac
 
 -- the name of the interval of this number
 abbrev pub name_at : List PlainInterval → ℕ → List ℕ
-name_at intervals i = elim (slice_get intervals i) [ None ↦ [] | Some interval ↦ name_of interval ]
+name_at intervals i = elim (slice_get intervals i) [ None ↦ [] | Some interval ↦ interval_name interval ]
 
 -- a relation between two names
 abbrev pub related : List ℕ → Rel → List ℕ → List ℕ

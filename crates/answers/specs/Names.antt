@@ -1,6 +1,6 @@
 -- Words that name intervals of a document.
 use Rattle.std.specs.Prelude.{◌≡◌, ℕ, ◌<◌, List, length, map}
-use Rattle.tml_refs.specs.Documents.{IsNamed, PlainDocument, PlainInterval, name_of}
+use Rattle.tml_refs.specs.Documents.{IsNamed, PlainDocument, PlainInterval, interval_name}
 
 -- no interval has this name
 abbrev pub NamesNone : PlainDocument → List ℕ → Type 0
@@ -16,4 +16,4 @@ AreOf contents a b = (a < length contents.intervals) × (b < length contents.int
 
 -- names are those of intervals, in their order
 abbrev pub AreNames : List PlainInterval → List (List ℕ) → Type 0
-AreNames intervals names = names ≡ map name_of intervals
+AreNames intervals names = names ≡ map interval_name intervals

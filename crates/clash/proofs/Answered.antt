@@ -12,7 +12,7 @@ use Rattle.net_core.proofs.StepLaws.{fits_fewer}
 use Rattle.net_core.proofs.WalkLaws.{joined_more, over_chosen, round_clashes}
 use Rattle.net_core.specs.Least.{AreSpares, IsSpare}
 use Rattle.net_core.specs.Relations.{Timeline}
-use Rattle.order_closure.specs.Tables.{AreClosed, AreKept}
+use Rattle.order_closure.specs.Tables.{AreClosed, AreCellsKept}
 use Rattle.order_closure.specs.declared.cell.Cell.{Cell}
 use Rattle.order_closure.proofs.LeastRanks.{same_ranks}
 use Rattle.clash.specs.Minimal.{IsAnswered, IsProvedClash, IsSpared}
@@ -171,7 +171,7 @@ orders_are_answered = λ net u atom is fits range.
     ]
 
 -- a net that some timeline fits has closed cells, which the timelines that fit keep and no others
-pub closed_net : (net : PlainNet) → IsNet net → (u : Timeline) → Fits net u → (cell : ℕ → ℕ → Cell) × AreClosed (points net) cell × ((t : Timeline) → AreKept (points net) cell t ↔ Fits net t)
+pub closed_net : (net : PlainNet) → IsNet net → (u : Timeline) → Fits net u → (cell : ℕ → ℕ → Cell) × AreClosed (points net) cell × ((t : Timeline) → AreCellsKept (points net) cell t ↔ Fits net t)
 closed_net net is u fits =
     let keep = all_kept net in
     let all = λ (t : Timeline) (h : Fits net t). fits_fewer net EveryLink (Kept keep) t (λ k below also. tt) h in

@@ -18,7 +18,7 @@ use Rattle.net_core.proofs.StepLaws.{fits_from_steps, step_in_range, step_kept}
 use Rattle.net_core.proofs.WalkLaws.{round_clashes, walk_kept}
 use Rattle.net_core.specs.Least.{AreLeast}
 use Rattle.order_closure.specs.Cells.{order, strength}
-use Rattle.order_closure.specs.Tables.{AreClosed, AreKept}
+use Rattle.order_closure.specs.Tables.{AreClosed, AreCellsKept}
 use Rattle.order_closure.specs.declared.cell.Cell.{Cell}
 use Rattle.order_closure.proofs.LeastRanks.{counter_ranks, least_ranks, same_ranks}
 use Rattle.clash.specs.Walks.{AlwaysWith, ClashesHaveClosedWalks, WalksSayAll}
@@ -126,7 +126,7 @@ module _ (net : PlainNet) (test : ℕ → Bool) (is : IsNet net) where
     | inr round ↦ let walk = walk_of round.0 round.0 true round.1 in inr (walk.0, (round.0, walk.1))
   ]
 
-  kept_fits : (table : Table) (t : Timeline) → AreKept (points net) table.0 t ↔ FitsWith net (Passed test) t
+  kept_fits : (table : Table) (t : Timeline) → AreCellsKept (points net) table.0 t ↔ FitsWith net (Passed test) t
   kept_fits table t = (λ kept. taken_fits t ((table.1.kept t).0 kept), λ fits. (table.1.kept t).1 (fits_taken t fits))
 
   -- least ranks fit, or some walk is closed
@@ -134,7 +134,7 @@ module _ (net : PlainNet) (test : ℕ → Bool) (is : IsNet net) where
   least_or_closed_walk = elim table_or_walk [
     | inl table ↦
         let found = least_ranks (points net) table.0 table.1.closed in
-        inl (found.0, same_ranks (points net) (AreKept (points net) table.0) (FitsWith net (Passed test)) found.0 (kept_fits table) found.1)
+        inl (found.0, same_ranks (points net) (AreCellsKept (points net) table.0) (FitsWith net (Passed test)) found.0 (kept_fits table) found.1)
     | inr round ↦ inr round
   ]
 
@@ -160,7 +160,7 @@ module _ (net : PlainNet) (test : ℕ → Bool) (is : IsNet net) where
   ]
 
   -- where some timeline fits, closed cells are kept by those that do and no others
-  pub closed_cells : (u : Timeline) → FitsWith net (Passed test) u → (cell : ℕ → ℕ → Cell) × AreClosed (points net) cell × ((t : Timeline) → AreKept (points net) cell t ↔ FitsWith net (Passed test) t)
+  pub closed_cells : (u : Timeline) → FitsWith net (Passed test) u → (cell : ℕ → ℕ → Cell) × AreClosed (points net) cell × ((t : Timeline) → AreCellsKept (points net) cell t ↔ FitsWith net (Passed test) t)
   closed_cells u fits = elim table_or_walk [
     | inl table ↦ (table.0, table.1.closed, kept_fits table)
     | inr round ↦ absurd (round_clashes net (Passed test) round.0 round.1 u fits)
@@ -175,7 +175,7 @@ module _ (net : PlainNet) (test : ℕ → Bool) (is : IsNet net) where
           let found = counter_ranks (points net) table.0 atom table.1.closed range.0 range.1 weaker in
           inr (
             found.0,
-            same_ranks (points net) (λ t. AreKept (points net) table.0 t × (Satisfies t atom → ⊥)) (λ t. FitsWith net (Passed test) t × (Satisfies t atom → ⊥)) found.0 (λ t. (
+            same_ranks (points net) (λ t. AreCellsKept (points net) table.0 t × (Satisfies t atom → ⊥)) (λ t. FitsWith net (Passed test) t × (Satisfies t atom → ⊥)) found.0 (λ t. (
               λ h. ((kept_fits table t).0 h.0, h.1),
               λ h. ((kept_fits table t).1 h.0, h.1),
             )) found.1,

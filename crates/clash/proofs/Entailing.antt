@@ -11,20 +11,20 @@ use Rattle.net_core.specs.declared.atom.Atom.{Atom}
 use Rattle.net_core.specs.declared.rels.Rel.{Rel}
 use Rattle.net_core.proofs.AtomLaws.{atoms_in_range, atoms_say_the_relation}
 use Rattle.order_closure.specs.Cells.{order, strength}
-use Rattle.order_closure.specs.Tables.{Gives, Table, cell_at}
+use Rattle.order_closure.specs.Tables.{GivesAtom, Table, cell_at}
 use Rattle.order_closure.specs.declared.cell.Cell.{Cell}
 use Rattle.order_closure.proofs.Central.{at_least_weak, order_says}
 use Rattle.clash.specs.Closures.{IsClosureOf}
 
 module _ (net : PlainNet) (table : Table) (closure : IsClosureOf net table) where
   -- what a cell says always holds
-  pub given_holds : (atom : Atom) → IsInRange (points net) atom → Gives table atom → AlwaysHolds net atom
+  pub given_holds : (atom : Atom) → IsInRange (points net) atom → GivesAtom table atom → AlwaysHolds net atom
   given_holds atom range gives t fits =
       order_says (cell_at table atom.from atom.to) atom.strict (t atom.from) (t atom.to) gives
       ((closure.keeps t).1 fits atom.from atom.to (omega (arith, range.0, closure.size)) (omega (arith, range.1, closure.size)))
 
   -- what always holds a cell says
-  pub held_given : (atom : Atom) → IsInRange (points net) atom → AlwaysHolds net atom → Gives table atom
+  pub held_given : (atom : Atom) → IsInRange (points net) atom → AlwaysHolds net atom → GivesAtom table atom
   held_given atom range always = by atom.strict always
     where
       by : (strict : Bool) → Always net strict atom.from atom.to → strength (order strict) ≤ strength (cell_at table atom.from atom.to)
@@ -32,19 +32,19 @@ module _ (net : PlainNet) (table : Table) (closure : IsClosureOf net table) wher
       by false holds = at_least_weak (cell_at table atom.from atom.to) (Always net true atom.from atom.to) (Always net false atom.from atom.to) (closure.strict atom.from atom.to range.0 range.1) (closure.weak atom.from atom.to range.0 range.1) holds
 
   -- orders that the table gives are kept by every timeline that fits
-  kept : (t : Timeline) → Fits net t → (atoms : List Atom) → AllByRecursion (IsInRange (points net)) atoms → AllByRecursion (Gives table) atoms → AllByRecursion (Satisfies t) atoms
+  kept : (t : Timeline) → Fits net t → (atoms : List Atom) → AllByRecursion (IsInRange (points net)) atoms → AllByRecursion (GivesAtom table) atoms → AllByRecursion (Satisfies t) atoms
   kept t fits [] range gives = tt
   kept t fits (atom ∷ atoms) range gives = (given_holds atom range.0 gives.0 t fits, kept t fits atoms range.1 gives.1)
 
   -- orders that every timeline that fits keeps the table gives
-  given : (atoms : List Atom) → AllByRecursion (IsInRange (points net)) atoms → ((t : Timeline) → Fits net t → AllByRecursion (Satisfies t) atoms) → AllByRecursion (Gives table) atoms
+  given : (atoms : List Atom) → AllByRecursion (IsInRange (points net)) atoms → ((t : Timeline) → Fits net t → AllByRecursion (Satisfies t) atoms) → AllByRecursion (GivesAtom table) atoms
   given [] range always = tt
   given (atom ∷ atoms) range always = (held_given atom range.0 (λ t fits. (always t fits).0), given atoms range.1 (λ t fits. (always t fits).1))
 
   -- the table gives all orders of a relation exactly where it follows
-  pub gives_what_follows : (a : ℕ) (r : Rel) (b : ℕ) → a < intervals net → b < intervals net → All (Gives table) (atoms_of r a b) ↔ Follows net a r b
+  pub gives_what_follows : (a : ℕ) (r : Rel) (b : ℕ) → a < intervals net → b < intervals net → All (GivesAtom table) (atoms_of r a b) ↔ Follows net a r b
   gives_what_follows a r b la lb =
       let range = atoms_in_range (intervals net) r a b la lb in (
-        λ gives t fits. (atoms_say_the_relation t r a b).1 (kept t fits (atoms_of r a b) range (recursion_from_All (Gives table) (atoms_of r a b) gives)),
-        λ follows. All-from_recursion (Gives table) (atoms_of r a b) (given (atoms_of r a b) range (λ t fits. (atoms_say_the_relation t r a b).0 (follows t fits))),
+        λ gives t fits. (atoms_say_the_relation t r a b).1 (kept t fits (atoms_of r a b) range (recursion_from_All (GivesAtom table) (atoms_of r a b) gives)),
+        λ follows. All-from_recursion (GivesAtom table) (atoms_of r a b) (given (atoms_of r a b) range (λ t fits. (atoms_say_the_relation t r a b).0 (follows t fits))),
       )

@@ -13,8 +13,8 @@ use Rattle.order_closure.proofs.Central.{always_stands, order_says, weak_is}
 use Rattle.order_closure.proofs.Ranking.{counts_kept, strict_from, strict_says}
 use Rattle.clash.specs.Closures.{IsClosureOf, NoLink}
 use Rattle.clash.specs.Minimal.{IsFirstClash, UpTo}
-use Rattle.clash.specs.Orders.{AreFixed}
-use Rattle.clash.specs.Steps.{Adds, IsFirstExcluded, KeepsLinks}
+use Rattle.net_orders.specs.Orders.{AreFixed}
+use Rattle.net_orders.specs.Steps.{Adds, IsFirstExcluded, KeepsLinks}
 
 module _ (net : PlainNet) (table : Table) (closed : IsClosed table) (size : table.points ≡ points net) (keeps : (t : Timeline) → Keeps table t ↔ Fits net t) where
   -- an order that every timeline has stands in the table

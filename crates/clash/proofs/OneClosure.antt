@@ -6,7 +6,7 @@ use Rattle.net_core.specs.Nets.{IsNet, PlainNet, points}
 use Rattle.net_core.specs.Relations.{Timeline}
 use Rattle.net_core.proofs.StepLaws.{fits_fewer}
 use Rattle.order_closure.specs.Cells.{Says}
-use Rattle.order_closure.specs.Tables.{AreKept, IsClosed, Keeps, Table, cell_at, table_of}
+use Rattle.order_closure.specs.Tables.{AreCellsKept, IsClosed, Keeps, Table, cell_at, table_of}
 use Rattle.order_closure.specs.declared.cell.Cell.{Cell}
 use Rattle.order_closure.specs.declared.cell.Cell.TheVariants.{Free, Strict, Weak}
 use Rattle.order_closure.proofs.Tables.{cell_at-table_of, table_of-closed}
@@ -24,7 +24,7 @@ known_cell Free Free strict weak = refl
 
 -- cells that are kept alike are those of a table that is
 module _ (n : ℕ) (cell : ℕ → ℕ → Cell) (t : Timeline) where
-  table_kept : Keeps (table_of n cell) t ↔ AreKept n cell t
+  table_kept : Keeps (table_of n cell) t ↔ AreCellsKept n cell t
   table_kept = (
     λ kept i j li lj. subst (λ c. Says c (t i) (t j)) (cell_at-table_of n cell i j li lj) (kept i j li lj),
     λ kept i j li lj. subst (λ c. Says c (t i) (t j)) (sym (cell_at-table_of n cell i j li lj)) (kept i j li lj),

@@ -11,7 +11,7 @@ use Rattle.net_core.specs.declared.atom.Atom.{Atom}
 use Rattle.net_core.proofs.WalkLaws.{in_order_then, in_order_weaker}
 use Rattle.order_closure.specs.Cells.{Says, joined, order, strength, stronger}
 use Rattle.order_closure.specs.Counting.{is_strict}
-use Rattle.order_closure.specs.Tables.{AreClosed, AreKept, Denies, new_cell, way}
+use Rattle.order_closure.specs.Tables.{AreClosed, AreCellsKept, Denies, new_cell, way}
 use Rattle.order_closure.specs.declared.cell.Cell.{Cell}
 use Rattle.order_closure.specs.declared.cell.Cell.TheVariants.{Free, Weak, Strict}
 use Rattle.order_closure.proofs.Adding.{new_closed}
@@ -207,7 +207,7 @@ module _ {E : Type 0} (atom : E → Atom) (edges : List E) where
     -- A closed table that is kept where all edges are true and nowhere else, and says nothing without a path.
     pub record SaysPaths (cell : ℕ → ℕ → Cell) : Type 0 where
       pub closed : AreClosed n cell
-      pub kept : (t : Timeline) → AreKept n cell t ↔ AllTrue t
+      pub kept : (t : Timeline) → AreCellsKept n cell t ↔ AllTrue t
       pub paths : (i j : ℕ) (strict : Bool) → i < n → j < n → strength (order strict) ≤ strength (cell i j) → HasPath i j strict
 
     says_paths : (cell : ℕ → ℕ → Cell) → HasCells edges cell → SaysPaths cell

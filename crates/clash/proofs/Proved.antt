@@ -12,8 +12,8 @@ use Rattle.net_core.proofs.StepLaws.{fits_fewer}
 use Rattle.net_core.proofs.WalkLaws.{over_links, round_clashes, round_more}
 use Rattle.net_core.specs.Least.{AreSpares, IsSpare}
 use Rattle.order_closure.proofs.LeastRanks.{same_ranks}
-use Rattle.clash.specs.Minimal.{IsProvedClash, IsRound, IsSpared}
-use Rattle.clash.specs.declared.round.Round.{Round}
+use Rattle.clash.specs.Minimal.{IsProvedClash, IsMarkedWalk, IsSpared}
+use Rattle.clash.specs.declared.closed_walk.ClosedWalk.{ClosedWalk}
 use Rattle.clash.proofs.Rounds.{goes_over, spared_fewer}
 
 module _ (net : PlainNet) (cites : List ℕ) (Over : ℕ → Type 0) (walk : List Step) (goes : IsClosedWalk net Over walk) (over : (k : ℕ) → k < length net.links → Over k ↔ GoesOver walk k) (short : length walk ≤ 2 * points net)
@@ -49,6 +49,6 @@ module _ (net : PlainNet) (cites : List ℕ) (Over : ℕ → Type 0) (walk : Lis
   }
 
 -- the same of a round and its marks
-pub proved_clash : (net : PlainNet) (cites : List ℕ) (round : Round) → IsRound net round → ((k : ℕ) → Contains cites k ↔ Kept round.over.items k) → ((k : ℕ) → Kept round.over.items k → IsSpared net (Kept round.over.items) k)
+pub proved_clash : (net : PlainNet) (cites : List ℕ) (round : ClosedWalk) → IsMarkedWalk net round → ((k : ℕ) → Contains cites k ↔ Kept round.over.items k) → ((k : ℕ) → Kept round.over.items k → IsSpared net (Kept round.over.items) k)
     → (spares : List (List ℕ)) → IsStrictlyIncreasing cites → AreSpares net (Kept round.over.items) cites spares → IsProvedClash net (record { cites = cites; walk = round.walk; spares = spares })
 proved_clash net cites round is exact needed = proved_links net cites (Kept round.over.items) round.walk is.goes is.over is.short exact needed

@@ -17,8 +17,8 @@ use Rattle.net_core.specs.declared.step.Step.TheVariants.{Link, Span, Calendar}
 use Rattle.net_core.proofs.StepLaws.{fits_fewer}
 use Rattle.net_core.proofs.WalkLaws.{over_chosen, over_links, over_or_not, round_clashes, round_from, round_over, step_goes}
 use Rattle.net_core.specs.Entailment.{HasTimelineWith}
-use Rattle.clash.specs.Minimal.{Before, IsFirstClash, IsRound, IsSpared, UpTo}
-use Rattle.clash.specs.declared.round.Round.{Round}
+use Rattle.clash.specs.Minimal.{Before, IsFirstClash, IsMarkedWalk, IsSpared, UpTo}
+use Rattle.clash.specs.declared.closed_walk.ClosedWalk.{ClosedWalk}
 use Rattle.clash.proofs.Complete.{fits_or_closed_walk}
 use Rattle.clash.proofs.MarkedLinks.{kept_within}
 
@@ -82,11 +82,11 @@ module _ (net : PlainNet) where
       round_over net EveryLink (Kept marks) walk (λ k gone. (over k (over_links net EveryLink walk goes.0 goes.0 k goes.1.0 gone)).1 gone) goes
 
   -- a mark is that of a link
-  pub kept_below : (round : Round) → IsRound net round → (k : ℕ) → Kept round.over.items k → k < length net.links
+  pub kept_below : (round : ClosedWalk) → IsMarkedWalk net round → (k : ℕ) → Kept round.over.items k → k < length net.links
   kept_below round whole k kept = omega (arith, kept_within round.over.items k kept, whole.size)
 
   -- a marked link is one that the walk goes over, and so one of any set that the walk goes over
-  pub marked_chosen : (Chosen : ℕ → Type 0) (round : Round) → IsRound net round → IsClosedWalk net Chosen round.walk → (k : ℕ) → Kept round.over.items k → Chosen k
+  pub marked_chosen : (Chosen : ℕ → Type 0) (round : ClosedWalk) → IsMarkedWalk net round → IsClosedWalk net Chosen round.walk → (k : ℕ) → Kept round.over.items k → Chosen k
   marked_chosen Chosen round whole goes k kept = over_chosen net Chosen round.walk goes.0 goes.0 k goes.1.0 ((whole.over k (kept_below round whole k kept)).0 kept)
 
 -- a mark that is taken away and set again is as it was

@@ -17,13 +17,13 @@ use Rattle.net_core.specs.Walks.{Kept}
 use Rattle.net_core.specs.declared.atom.Atom.{Atom}
 use Rattle.net_core.proofs.StepLaws.{fits_fewer}
 use Rattle.order_closure.specs.Tables.{AreInRange}
-use Rattle.clash.specs.Minimal.{IsRound, IsSpared}
-use Rattle.clash.specs.Orders.{AreBelow, AreFixed, FitsBut}
-use Rattle.clash.specs.Raising.{AreLow, AreUnder, AreWithin, Rises}
-use Rattle.clash.specs.declared.orders.Order.{Order}
-use Rattle.clash.specs.declared.round.Round.{Round}
+use Rattle.clash.specs.Minimal.{IsMarkedWalk, IsSpared}
+use Rattle.net_orders.specs.Orders.{AreBelow, AreFixed, FitsBut}
+use Rattle.net_orders.specs.Raising.{AreLow, AreUnder, AreWithin, Rises}
+use Rattle.net_orders.specs.declared.orders.Order.{Order}
+use Rattle.clash.specs.declared.closed_walk.ClosedWalk.{ClosedWalk}
 use Rattle.clash.proofs.Complete.{small_timeline}
-use Rattle.clash.proofs.StepsBut.{fits_but}
+use Rattle.clash.proofs.WalkBut.{fits_but}
 
 -- whether a link is one of those that are marked, and another one
 is_other : List Bool → ℕ → ℕ → Bool
@@ -56,7 +56,7 @@ zeros_under : (net : PlainNet) (zeros : List ℕ) (t : Timeline) → zeros ≡ r
 zeros_under net zeros t e p lt = omega (arith, zero_at net zeros e p)
 
 -- zeros can be raised by the orders of a round and by those that are fixed
-pub zeros_ready : (net : PlainNet) (round : Round) (fixed : List Atom) (orders : List Order) (zeros : List ℕ) → IsNet net → IsRound net round → AreFixed net fixed
+pub zeros_ready : (net : PlainNet) (round : ClosedWalk) (fixed : List Atom) (orders : List Order) (zeros : List ℕ) → IsNet net → IsMarkedWalk net round → AreFixed net fixed
     → orders ≡ round.orders → zeros ≡ replicate (points net) 0
     → AreBelow (length zeros) orders × AreInRange (length zeros) fixed × (length zeros ≤ max_points) × AreWithin zeros
 zeros_ready net round fixed orders zeros net_is is are same e =
@@ -68,7 +68,7 @@ zeros_ready net round fixed orders zeros net_is is are same e =
       zeros_within net zeros e,
     )
 
-module _ (net : PlainNet) (round : Round) (fixed : List Atom) (but : ℕ) (net_is : IsNet net) (is : IsRound net round) (are : AreFixed net fixed) (spared : IsSpared net (Kept round.over.items) but) where
+module _ (net : PlainNet) (round : ClosedWalk) (fixed : List Atom) (but : ℕ) (net_is : IsNet net) (is : IsMarkedWalk net round) (are : AreFixed net fixed) (spared : IsSpared net (Kept round.over.items) but) where
   abbrev Rest : ℕ → Type 0
   Rest = Others (Kept round.over.items) but
 
@@ -111,7 +111,7 @@ module _ (net : PlainNet) (round : Round) (fixed : List Atom) (but : ℕ) (net_i
       }
 
 -- zeros that rise until they fit are the least ranks, and so a timeline fits
-pub spare_from_zeros : (net : PlainNet) (round : Round) (fixed : List Atom) (but : ℕ) (zeros ranks : List ℕ) → IsNet net → IsRound net round → AreFixed net fixed
+pub spare_from_zeros : (net : PlainNet) (round : ClosedWalk) (fixed : List Atom) (but : ℕ) (zeros ranks : List ℕ) → IsNet net → IsMarkedWalk net round → AreFixed net fixed
     → zeros ≡ replicate (points net) 0 → Rises (FitsBut round.orders fixed but) zeros ranks → FitsBut round.orders fixed but (timeline_of ranks) → IsSpare net (Kept round.over.items) but ranks
 spare_from_zeros net round fixed but zeros ranks net_is is are e rises fits =
     spare_of_zeros net round fixed but net_is is are (timeline_of ranks, (fits_but net round fixed but is are (timeline_of ranks)).1 fits) zeros ranks e rises fits

@@ -9,8 +9,8 @@ use Rattle.net_core.specs.Least.{AreLeast, AreSpares}
 use Rattle.net_core.specs.Nets.{PlainNet, points}
 use Rattle.net_core.specs.Walks.{GoesOver, IsClosedWalk, Kept}
 use Rattle.clash.specs.declared.minimal.Clash.{Clash}
-use Rattle.clash.specs.Orders.{AreOrdersOf}
-use Rattle.clash.specs.declared.round.Round.{Round}
+use Rattle.net_orders.specs.Orders.{AreStepOrders}
+use Rattle.clash.specs.declared.closed_walk.ClosedWalk.{ClosedWalk}
 
 -- the links before link k, and those up to it
 abbrev pub Before : ℕ → ℕ → Type 0
@@ -26,12 +26,12 @@ pub record IsFirstClash (net : PlainNet) (k : ℕ) : Type 0 where
   pub clashes : Clashes net (UpTo k)
 
 -- A closed walk over exactly the links that are marked, in at most twice as many steps as there are points, and the orders that its steps are over.
-pub record IsRound (net : PlainNet) (round : Round) : Type 0 where
+pub record IsMarkedWalk (net : PlainNet) (round : ClosedWalk) : Type 0 where
   pub size : length round.over.items ≡ length net.links
   pub goes : IsClosedWalk net (Kept round.over.items) round.walk
   pub over : (k : ℕ) → k < length net.links → Kept round.over.items k ↔ GoesOver round.walk k
   pub short : length round.walk ≤ 2 * points net
-  pub orders : AreOrdersOf net round.walk round.orders
+  pub orders : AreStepOrders net round.walk round.orders
 
 -- a timeline fits with the links of a set but one
 abbrev pub IsSpared : PlainNet → (ℕ → Type 0) → ℕ → Type 0

@@ -1,6 +1,6 @@
 //! The closure of a net.
 ghost use Rattle.clash.specs.Closures.{IsClosureOf, IsTableOf, IsUnlinked, ReportsClash};
-ghost use Rattle.clash.specs.Orders.{AreFixed};
+ghost use Rattle.net_orders.specs.Orders.{AreFixed};
 ghost use Rattle.clash.specs.declared.closure.CloseFault.TheVariants as faults;
 ghost use Rattle.net_core.specs.Fits.{Fits};
 ghost use Rattle.net_core.specs.Limits.{max_points};
@@ -10,13 +10,11 @@ ghost use Rattle.order_closure.specs.Tables.{AreInRange, SatisfiesAll};
 ghost use Rattle.std.specs.List.{All};
 ghost use Rattle.std.specs.Prelude.{IfErr, IfOk, IfSome, length, ◌<◌, ◌≤◌, ◌≡◌};
 
-use crate::insert::{add_in_sequence, add_orders};
-use crate::links::add_links;
 use crate::minimal::{Clash, clash_up_to};
-use crate::orders::{all_orders, fixed_orders};
-use crate::rings::has_strict_cycle;
-use crate::sequence::sequence_of;
 use net_core::{Atom, Memory, Net};
+use net_orders::{
+    add_in_sequence, add_links, add_orders, all_orders, fixed_orders, has_strict_cycle, sequence_of,
+};
 use order_closure::Closed;
 use std::alloc::Global;
 

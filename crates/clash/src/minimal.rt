@@ -1,12 +1,12 @@
 //! Minimal clashes.
-ghost use Rattle.clash.specs.Minimal.{IsFirstClash, IsProvedClash, IsRound, IsSpared, UpTo};
-ghost use Rattle.clash.specs.Orders.{AreFixed};
+ghost use Rattle.clash.specs.Minimal.{IsFirstClash, IsProvedClash, IsMarkedWalk, IsSpared, UpTo};
+ghost use Rattle.net_orders.specs.Orders.{AreFixed};
 ghost use Rattle.net_core.specs.Walks.{Kept};
 ghost use Rattle.std.specs.List.{Contains};
 ghost use Rattle.std.specs.List.Sorted.{IsStrictlyIncreasing};
 ghost use Rattle.std.specs.Prelude.{IfOk, length, ℕ, ◌<◌, ◌≡◌, ◌↔◌};
 
-use crate::round::{Round, round_over, thin};
+use crate::closed_walk::{ClosedWalk, round_over, thin};
 use crate::spares::{spares_of, spares_soon};
 use net_core::{Atom, List, Memory, Net, Ranks, Walk};
 use std::alloc::Global;
@@ -51,11 +51,11 @@ fn thinned_clash(
     alloc: Global,
     net: &Net,
     fixed: &[Atom],
-    first: Round,
+    first: ClosedWalk,
     needed: u32,
 ) -> Result<Clash, Memory>
     requires fixed { AreFixed net.now fixed.now }
-    requires round { IsRound net.now first }
+    requires round { IsMarkedWalk net.now first }
     requires needed { needed < length net.now.links }
     requires spared { IsSpared net.now (Kept first.over.items) needed }
     ensures { IfOk result (IsProvedClash net.now) }
@@ -71,15 +71,15 @@ fn thinned_clash(
 }
 
 /// A closed walk over links up to this one.
-fn first_round(alloc: Global, net: &Net, link: u32) -> Result<Round, Memory>
+fn first_round(alloc: Global, net: &Net, link: u32) -> Result<ClosedWalk, Memory>
     requires { IsFirstClash net.now link }
-    ensures round { IfOk result (IsRound net.now) }
+    ensures round { IfOk result (IsMarkedWalk net.now) }
     ensures spared { IfOk result (λ round. IsSpared net.now (Kept round.over.items) link) }
 {
     prove!(link < net.links());
     let keep = up_to(alloc, net, link)?;
     match round_over(alloc, net, &keep, link)? {
-        Some(walk) => Round::new(alloc, net, walk),
+        Some(walk) => ClosedWalk::new(alloc, net, walk),
         None => unreachable!(),
     }
 }

@@ -1,12 +1,12 @@
 //! The least timelines that fit with all links of a clash but one.
 ghost use Rattle.net_core.specs.Least.{AreSpares, IsSpare};
-ghost use Rattle.clash.specs.Minimal.{IsRound, IsSpared};
-ghost use Rattle.clash.specs.Orders.{AreFixed};
+ghost use Rattle.clash.specs.Minimal.{IsMarkedWalk, IsSpared};
+ghost use Rattle.net_orders.specs.Orders.{AreFixed};
 ghost use Rattle.net_core.specs.Walks.{Kept};
 ghost use Rattle.std.specs.List.{All};
 ghost use Rattle.std.specs.Prelude.{IfOk, IfSome};
 
-use crate::round::{Round, TURNS};
+use crate::closed_walk::{ClosedWalk, TURNS};
 use net_core::{Atom, List, Memory, Net, Ranks};
 use std::alloc::Global;
 
@@ -19,11 +19,11 @@ pub fn spares_of(
     alloc: Global,
     net: &Net,
     fixed: &[Atom],
-    round: &Round,
+    round: &ClosedWalk,
     cites: &[u32],
 ) -> Result<List<Ranks>, Memory>
     requires fixed { AreFixed net.now fixed.now }
-    requires round { IsRound net.now round.now }
+    requires round { IsMarkedWalk net.now round.now }
     requires spared { All (IsSpared net.now (Kept round.now.over.items)) cites.now }
     ensures { IfOk result (AreSpares net.now (Kept round.now.over.items) cites.now) }
 {
@@ -44,11 +44,11 @@ pub fn spares_soon(
     alloc: Global,
     net: &Net,
     fixed: &[Atom],
-    round: &Round,
+    round: &ClosedWalk,
     cites: &[u32],
 ) -> Result<Option<List<Ranks>>, Memory>
     requires fixed { AreFixed net.now fixed.now }
-    requires round { IsRound net.now round.now }
+    requires round { IsMarkedWalk net.now round.now }
     ensures { IfOk result (λ found. IfSome found (AreSpares net.now (Kept round.now.over.items) cites.now)) }
 {
     let mut spares = List::new(alloc);
@@ -66,11 +66,11 @@ fn spare_of(
     alloc: Global,
     net: &Net,
     fixed: &[Atom],
-    round: &Round,
+    round: &ClosedWalk,
     but: u32,
 ) -> Result<Ranks, Memory>
     requires fixed { AreFixed net.now fixed.now }
-    requires round { IsRound net.now round.now }
+    requires round { IsMarkedWalk net.now round.now }
     requires spared { IsSpared net.now (Kept round.now.over.items) but }
     ensures { IfOk result (IsSpare net.now (Kept round.now.over.items) but) }
 {

@@ -9,7 +9,7 @@ use Rattle.net_core.specs.declared.atom.PairOrder.{PairOrder}
 use Rattle.net_core.specs.declared.rels.Rel.{Rel}
 use Rattle.net_core.proofs.AtomLaws.{all_mapped}
 use Rattle.order_closure.specs.Between.{AreGiven, mask_of}
-use Rattle.order_closure.specs.Tables.{Gives, Table}
+use Rattle.order_closure.specs.Tables.{GivesAtom, Table}
 use Rattle.order_closure.proofs.Masks.{HasBit, mask_in}
 use Rattle.derive_rel.specs.Entailed.{TableEntails}
 
@@ -19,8 +19,8 @@ mask_entails table a b set r given =
     let orders = orders_of r in
     let mask = mask_of orders in
     let between = atom_between (points_of a) (points_of b) in
-    let GivesOrder : PairOrder → Type 0 = λ order. Gives table (between order) in
-    let mapped = all_mapped (Gives table) between orders in (
-      λ e. All-from_recursion (Gives table) (atoms_of r a b) (mapped.0 (each_weaker (HasBit set) GivesOrder (λ order. (given order).0) orders ((mask_in set orders).0 (eqb-true (bit_and set mask) mask e)))),
-      λ h. eq-eqb (bit_and set mask) mask ((mask_in set orders).1 (each_weaker GivesOrder (HasBit set) (λ order. (given order).1) orders (mapped.1 (recursion_from_All (Gives table) (atoms_of r a b) h)))),
+    let GivesOrder : PairOrder → Type 0 = λ order. GivesAtom table (between order) in
+    let mapped = all_mapped (GivesAtom table) between orders in (
+      λ e. All-from_recursion (GivesAtom table) (atoms_of r a b) (mapped.0 (each_weaker (HasBit set) GivesOrder (λ order. (given order).0) orders ((mask_in set orders).0 (eqb-true (bit_and set mask) mask e)))),
+      λ h. eq-eqb (bit_and set mask) mask ((mask_in set orders).1 (each_weaker GivesOrder (HasBit set) (λ order. (given order).1) orders (mapped.1 (recursion_from_All (GivesAtom table) (atoms_of r a b) h)))),
     )

@@ -5,12 +5,12 @@ use Rattle.net_core.specs.Atoms.{atoms_of}
 use Rattle.net_core.specs.Rels.{all_rels}
 use Rattle.net_core.specs.declared.rels.Rel.{Rel}
 use Rattle.net_core.specs.declared.rels.Rel.TheVariants as rel
-use Rattle.order_closure.specs.Tables.{Gives, Table}
+use Rattle.order_closure.specs.Tables.{GivesAtom, Table}
 use Rattle.derive_rel.specs.declared.all_rows.Row.{Row}
 
 -- the table gives all orders that a relation is between two intervals
 abbrev pub TableEntails : Table → ℕ → Rel → ℕ → Type 0
-TableEntails table a r b = All (Gives table) (atoms_of r a b)
+TableEntails table a r b = All (GivesAtom table) (atoms_of r a b)
 
 -- a row has an interval, a relation and an interval after it, between which the table entails the relation
 abbrev pub IsRow : Table → Row → Type 0

@@ -1,6 +1,6 @@
 -- The command `canon`: the canonical text of a document.
 use Rattle.std.specs.Prelude.{◌≡◌, ◌⊎◌, ℕ, List}
-use Rattle.answers.specs.Documents.{IsRefused, doc_file}
+use Rattle.answers.specs.Documents.{IsDocumentRefused, doc_file}
 use Rattle.tml_accept.specs.Acceptance.{IsAccepted}
 use Rattle.tml_canon.specs.Canonical.{canonical_text}
 use Rattle.tml_refs.specs.Documents.{PlainDocument}
@@ -15,7 +15,7 @@ HasCanonicalText doc text = (root : PlainNode) × (contents : PlainDocument) × 
 
 -- `canon` prints the canonical text, or the first fault
 abbrev pub OfCanon : Answers
-OfCanon doc status text = IsRefused doc status text ⊎ ((status ≡ Done) × HasCanonicalText doc text)
+OfCanon doc status text = IsDocumentRefused doc status text ⊎ ((status ≡ Done) × HasCanonicalText doc text)
 
 -- the rows of `canon NAME`
 abbrev pub canon_rows : List ℕ → Rows

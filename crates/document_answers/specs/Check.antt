@@ -2,7 +2,7 @@
 use Rattle.std.specs.Prelude.{◌≡◌, ℕ, ◌+◌, List, [], ◌∷◌, ◌++◌, codes}
 use Rattle.answers.specs.Documents.{Contents, document_rows}
 use Rattle.answers.specs.Lines.{line_prefix, link_line, numbered}
-use Rattle.tml_refs.specs.Documents.{PlainDocument, PlainInterval, name_of}
+use Rattle.tml_refs.specs.Documents.{PlainDocument, PlainInterval, interval_name}
 use Rattle.tml_refs.specs.declared.document.Counts.{Counts}
 use Rattle.tml_refs.specs.declared.document.DocLink.{DocLink}
 use Rattle.tml_run.specs.Rows.{Rows}
@@ -19,7 +19,7 @@ count_lines counts = numbered (codes "events ") counts.events
     ++ numbered (codes "slinks ") counts.slinks
 
 abbrev pub interval_line : ℕ → PlainInterval → List ℕ
-interval_line i interval = line_prefix (codes "interval ") i ++ name_of interval ++ codes "\n"
+interval_line i interval = line_prefix (codes "interval ") i ++ interval_name interval ++ codes "\n"
 
 -- a line for each interval, numbered from the first number on
 abbrev pub interval_lines : ℕ → List PlainInterval → List ℕ

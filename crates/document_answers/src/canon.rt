@@ -1,8 +1,7 @@
 //! The command `canon`: the canonical text of a document.
 use answers::refusal;
 use std::alloc::{AllocError, Global};
-use tml_accept::accepted_tree;
-use tml_canon::canon;
+use tml_canon::canonical_text;
 use tml_run::{Answer, OfFile};
 
 /// The command `canon`.
@@ -19,13 +18,9 @@ impl OfFile for Canon {
 
     /// The canonical text of the document, or its first fault.
     fn answer(&self, alloc: Global, bytes: &[u8]) -> Result<Answer, AllocError> {
-        let tree = match accepted_tree(alloc, bytes) {
-            Ok(tree) => tree,
-            Err(fault) => return refusal(alloc, fault),
-        };
-        match canon(alloc, &tree) {
+        match canonical_text(alloc, bytes) {
             Ok(text) => Ok(Answer::done(text.into_vec())),
-            Err(_) => Err(AllocError),
+            Err(fault) => refusal(alloc, fault),
         }
     }
 }

@@ -3,7 +3,7 @@ ghost use Rattle.document_answers.specs.Spans as texts;
 ghost use Rattle.document_answers.specs.Spans.{HasTable, OfSpans};
 ghost use Rattle.std.specs.List.{flat_map};
 ghost use Rattle.std.specs.Prelude.{◌≡◌, ◌<◌, ◌++◌, ◌^◌, length, map, IfOk, IfErr, OnOk};
-ghost use Rattle.tml_span.specs.Faults.{HasFault};
+ghost use Rattle.tml_span.specs.Faults.{HasCutFault};
 ghost use Rattle.tml_span.specs.View.{attribute_of, unit_of};
 
 use answers::refusal;
@@ -37,7 +37,7 @@ impl OfFile for Spans {
 fn unit_table(alloc: Global, doc: &[u8]) -> Result<Vec<u8>, Cut>
     requires { length doc.now < 2 ^ 32 }
     ensures table { IfOk result (λ table. HasTable doc.now table.items) }
-    ensures fault { IfErr result (λ cut. HasFault doc.now cut) }
+    ensures fault { IfErr result (λ cut. HasCutFault doc.now cut) }
 {
     let mut cutter = match Cutter::new(doc) {
         Ok(cutter) => cutter,

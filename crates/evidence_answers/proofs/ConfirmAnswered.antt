@@ -1,6 +1,6 @@
 -- A text of seconds has one answer, by its document: one status, and one line.
 use Rattle.std.proofs.Common.{◌≡◌, ◌⊎◌, ℕ, List, codes, false, refl, sym, ap, subst, ◌∙◌, inl, inr}
-use Rattle.answers.specs.Judged.{AreJudged}
+use Rattle.answers.proofs.Answering.{IsAnsweredByDocument}
 use Rattle.answers.specs.Lines.{numbered}
 use Rattle.answers.proofs.Answered.{judged_answered_once}
 use Rattle.answers.proofs.Contents.{its_document}
@@ -8,10 +8,10 @@ use Rattle.net_core.specs.Limits.{max_evidence}
 use Rattle.seconds_build.specs.Built.{IsTimedOf}
 use Rattle.seconds_build.proofs.EveryTime.{every_timed}
 use Rattle.seconds_build.proofs.Nets.{one_timed}
-use Rattle.seconds_check.specs.Refusals.{IsPaired, IsRefused}
+use Rattle.seconds_check.specs.Refusals.{IsPaired, AreSecondsRefused}
 use Rattle.seconds_check.proofs.Judged.{confirmed_or_refused}
 use Rattle.seconds_check.proofs.Verdicts.{one_verdict}
-use Rattle.seconds_core.specs.Evidence.{PlainEvidence, Placed, Round}
+use Rattle.seconds_core.specs.Evidence.{PlainEvidence, Placed, Cycle}
 use Rattle.seconds_core.specs.Timed.{PlainTimed}
 use Rattle.seconds_format.specs.Texts.{IsText}
 use Rattle.seconds_format.proofs.Reading.{every_text, one_bad, one_value}
@@ -28,7 +28,7 @@ module _ (timed : PlainTimed) (bytes : List ℕ) where
   -- what is confirmed is not refused
   claim_or_refusal : (text line : List ℕ) → ReportsClaim timed bytes text → ReportsRefusal timed bytes line → ⊥
   claim_or_refusal text line h k =
-      (one_verdict timed h.0).not_both k.1 h.2 (subst (λ (e : PlainEvidence). IsRefused timed e k.1) (one_value k.0 h.0 bytes k.2 h.1) k.3)
+      (one_verdict timed h.0).not_both k.1 h.2 (subst (λ (e : PlainEvidence). AreSecondsRefused timed e k.1) (one_value k.0 h.0 bytes k.2 h.1) k.3)
 
   same_status : (status other : Status) (text line : List ℕ) → OfText timed bytes status text → OfText timed bytes other line → status ≡ other
   same_status Done Done text line h k = refl
@@ -47,7 +47,7 @@ module _ (timed : PlainTimed) (bytes : List ℕ) where
   same_fault text line (inr h) (inl k) = absurd (k.0 h.0 h.2)
   same_fault text line (inr h) (inr k) =
       let same = one_value h.0 k.0 bytes h.2 k.2 in
-      h.4 ∙ ap refusal_line ((one_verdict timed k.0).one_refusal h.1 k.1 (subst (λ (e : PlainEvidence). IsRefused timed e h.1) same h.3) k.3) ∙ sym k.4
+      h.4 ∙ ap refusal_line ((one_verdict timed k.0).one_refusal h.1 k.1 (subst (λ (e : PlainEvidence). AreSecondsRefused timed e h.1) same h.3) k.3) ∙ sym k.4
 
   same_text : (status : Status) (text line : List ℕ) → OfText timed bytes status text → OfText timed bytes status line → text ≡ line
   same_text Done text line h k = h.3 ∙ ap claim_line (one_value h.0 k.0 bytes h.1 k.1) ∙ sym k.3
@@ -66,7 +66,7 @@ along contents bytes status text timed other built too h = subst (λ (t : PlainT
 -- the seconds of a text are a start and an end of each interval
 paired : (e : PlainEvidence) (bytes : List ℕ) → IsText e bytes → IsPaired e
 paired (Placed seconds) bytes is = is.0.0.0
-paired (Round lines) bytes is = tt
+paired (Cycle lines) bytes is = tt
 
 some : (doc : List ℕ) (contents : PlainDocument) → Says doc contents → (bytes : List ℕ) → (status : Status) × (text : List ℕ) × OfConfirm contents bytes status text
 some doc contents says bytes =
@@ -79,7 +79,7 @@ some doc contents says bytes =
       ]
     ]
 
-pub confirm_judged : AreJudged max_evidence OfConfirm (λ contents bytes status. ⊥)
+pub confirm_judged : IsAnsweredByDocument max_evidence OfConfirm (λ contents bytes status. ⊥)
 confirm_judged = record {
   some = λ doc short contents says bytes few. some doc contents says bytes;
   one_status = λ doc contents says bytes status other text line h k. same_status k.0 bytes status other text line (along contents bytes status text h.0 k.0 h.1 k.1 h.2) k.2;

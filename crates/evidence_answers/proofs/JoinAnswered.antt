@@ -8,7 +8,7 @@ use Rattle.evidence_format.proofs.EveryText.{bundle_or_bad_line}
 use Rattle.net_core.specs.Limits.{max_evidence}
 use Rattle.tml_run.specs.Answered.{AreAnswered, NeverFree}
 use Rattle.tml_run.specs.OneReply.{is_broken_off}
-use Rattle.tml_run.specs.TwoFiles.{IsAnsweredAfter, IsJudged}
+use Rattle.tml_run.proofs.Answering.{IsAnsweredAfter, IsDecisive}
 use Rattle.tml_run.specs.declared.status.Status.{Status}
 use Rattle.tml_run.specs.declared.status.Status.TheVariants.{Done, EvidenceFault}
 use Rattle.tml_run.proofs.TwoFiles.{both_answered_once}
@@ -18,7 +18,7 @@ use Rattle.evidence_answers.specs.Join.{OfSecond, evidence, join_rows}
 use Rattle.evidence_answers.proofs.Files.{one_bundle, one_report}
 
 -- a first file is evidence, or has one bad line
-evidence_judged : IsJudged max_evidence evidence
+evidence_judged : IsDecisive max_evidence evidence
 evidence_judged = record {
   some = λ bytes short. elim (bundle_or_bad_line bytes) [
     | inl e ↦ inl e

@@ -1,3 +1,4 @@
+pub mod Accepting
 pub mod ConfirmAnswered
 pub mod Files
 pub mod JoinAnswered
@@ -7,3 +8,4 @@ pub mod Naming
 pub mod Refused
 pub mod RenewAnswered
 pub mod VerifyAnswered
+pub mod Truth

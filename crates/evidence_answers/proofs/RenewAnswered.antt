@@ -1,5 +1,5 @@
 -- Evidence has one text of version 2, or one bad line.
-use Rattle.std.proofs.Common.{◌≡◌, ℕ, List, false, refl, sym, ap, ◌∙◌, inl, inr}
+use Rattle.std.proofs.Common.{◌≡◌, ℕ, List, false, refl, sym, ap, ◌∙◌, inl, inr, codes}
 use Rattle.std.specs.List.{concat}
 use Rattle.evidence_format.specs.Bundles.{bundle_lines}
 use Rattle.evidence_format.specs.Evidence.{PlainEvidence}
@@ -7,13 +7,12 @@ use Rattle.evidence_format.proofs.Claims.{has_text}
 use Rattle.evidence_format.proofs.EveryText.{bundle_or_bad_line}
 use Rattle.net_core.specs.Limits.{max_evidence}
 use Rattle.tml_run.specs.Answered.{AreAnswered, NeverFree}
-use Rattle.tml_run.specs.OneFile.{IsAnswered}
+use Rattle.tml_run.proofs.Answering.{IsAnswered}
 use Rattle.tml_run.specs.OneReply.{is_broken_off}
 use Rattle.tml_run.specs.declared.status.Status.{Status}
 use Rattle.tml_run.specs.declared.status.Status.TheVariants.{Done, EvidenceFault}
 use Rattle.tml_run.proofs.OneFile.{answered_once}
 use Rattle.answers.specs.Lines.{numbered}
-use Rattle.std.proofs.Common.{codes}
 use Rattle.evidence_answers.specs.Files.{evidence_file}
 use Rattle.evidence_answers.specs.Renew.{OfRenew, renew_rows}
 use Rattle.evidence_answers.proofs.Files.{one_bundle, one_report}

@@ -1,6 +1,6 @@
 -- Evidence of a document has one answer: one status, and one text.
 use Rattle.std.proofs.Common.{◌≡◌, ◌⊎◌, ℕ, List, codes, false, refl, sym, ap, subst, ◌∙◌, inl, inr}
-use Rattle.answers.specs.Judged.{AreJudged}
+use Rattle.answers.proofs.Answering.{IsAnsweredByDocument}
 use Rattle.answers.specs.Lines.{numbered}
 use Rattle.answers.proofs.Answered.{judged_answered_once}
 use Rattle.answers.proofs.Contents.{its_document}
@@ -78,7 +78,7 @@ whole_of contents net evidence Done text h = refl
 whole_of contents net evidence EvidenceFault text h = refl
 whole_of contents net evidence status text h = absurd h
 
-pub verify_judged : AreJudged max_evidence OfVerify (λ contents bytes status. ⊥)
+pub verify_judged : IsAnsweredByDocument max_evidence OfVerify (λ contents bytes status. ⊥)
 verify_judged = record {
   some = λ doc short contents says bytes few. some doc contents says bytes;
   one_status = λ doc contents says evidence status other text line h k. same_status contents k.0 evidence status other text line (along contents evidence status text h.0 k.0 h.1 k.1 h.2) k.2;

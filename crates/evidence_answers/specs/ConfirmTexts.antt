@@ -3,12 +3,12 @@ use Rattle.std.specs.Prelude.{ℕ, List, ◌++◌, codes}
 use Rattle.answers.specs.Lines.{numbered}
 use Rattle.seconds_check.specs.declared.refusal.SecondsReason.{SecondsReason}
 use Rattle.seconds_check.specs.declared.refusal.SecondsReason.TheVariants.{Size, Order, Link, Bound, Length, Step, End, Sum}
-use Rattle.seconds_core.specs.Evidence.{PlainEvidence, Placed, Round}
+use Rattle.seconds_core.specs.Evidence.{PlainEvidence, Placed, Cycle}
 
 -- what is confirmed
 abbrev pub claim_line : PlainEvidence → List ℕ
 claim_line (Placed seconds) = codes "confirmed placing\n"
-claim_line (Round lines) = codes "confirmed cycle\n"
+claim_line (Cycle lines) = codes "confirmed cycle\n"
 
 -- why it is refused, with the number of the reason
 abbrev pub reason_text : SecondsReason → List ℕ

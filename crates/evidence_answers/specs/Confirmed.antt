@@ -5,7 +5,7 @@ use Rattle.answers.specs.Lines.{numbered}
 use Rattle.net_core.specs.Limits.{max_evidence}
 use Rattle.seconds_build.specs.Built.{IsTimedOf}
 use Rattle.seconds_check.specs.Confirmed.{IsConfirmed}
-use Rattle.seconds_check.specs.Refusals.{IsRefused}
+use Rattle.seconds_check.specs.Refusals.{AreSecondsRefused}
 use Rattle.seconds_check.specs.declared.refusal.SecondsReason.{SecondsReason}
 use Rattle.seconds_core.specs.Evidence.{PlainEvidence}
 use Rattle.seconds_core.specs.Timed.{PlainTimed}
@@ -30,7 +30,7 @@ ReportsBadLine bytes text = ((e : PlainEvidence) → IsText e bytes → ⊥) × 
 
 -- the bytes are the text of a placing or a cycle that is refused, and the first reason is reported
 abbrev pub ReportsRefusal : PlainTimed → List ℕ → List ℕ → Type 0
-ReportsRefusal timed bytes text = (e : PlainEvidence) × (reason : SecondsReason) × IsText e bytes × IsRefused timed e reason × (text ≡ refusal_line reason)
+ReportsRefusal timed bytes text = (e : PlainEvidence) × (reason : SecondsReason) × IsText e bytes × AreSecondsRefused timed e reason × (text ≡ refusal_line reason)
 
 abbrev pub OfText : PlainTimed → List ℕ → Status → List ℕ → Type 0
 OfText timed bytes Done text = ReportsClaim timed bytes text

@@ -17,12 +17,12 @@ abbrev pub evidence : Judging (List PlainEvidence)
 evidence = record { Says = λ bytes es. IsTextOfEither es bytes; IsRefused = IsMalformed }
 
 -- the second file is the text of some claims, in either version, and the text is that of version 2 of the claims of the first file and then of these
-abbrev pub IsJoined : List PlainEvidence → List ℕ → List ℕ → Type 0
-IsJoined es bytes text = (more : List PlainEvidence) × IsTextOfEither more bytes × IsBundleText (es ++ more) text
+abbrev pub IsJoinText : List PlainEvidence → List ℕ → List ℕ → Type 0
+IsJoinText es bytes text = (more : List PlainEvidence) × IsTextOfEither more bytes × IsBundleText (es ++ more) text
 
 -- the answer to the second file, by the claims of the first one: all claims in order, or its bad line
 abbrev pub OfSecond : List PlainEvidence → Answers
-OfSecond es bytes Done text = IsJoined es bytes text
+OfSecond es bytes Done text = IsJoinText es bytes text
 OfSecond es bytes EvidenceFault text = ReportsLine (codes "second line ") bytes text
 OfSecond es bytes other text = ⊥
 

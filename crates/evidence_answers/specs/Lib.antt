@@ -1,3 +1,4 @@
+pub mod Accepting
 pub mod ConfirmTexts
 pub mod Confirmed
 pub mod Files
@@ -6,4 +7,5 @@ pub mod Judging
 pub mod JudgesFirst
 pub mod Renew
 pub mod Texts
+pub mod Truth
 pub mod Verify

@@ -12,7 +12,7 @@ mod verify;
 
 pub use confirm::Confirm;
 pub use join::reply_of_join;
-pub use laws::{confirm_judges_first, verify_judges_first};
+pub use laws::{confirm_judges_first, confirmed_is_true, verify_judges_first};
 pub use malformed::malformed_answer;
 pub use renew::Renew;
 pub use role::{EVIDENCE, SECOND, SECONDS};

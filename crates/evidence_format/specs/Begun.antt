@@ -24,10 +24,10 @@ abbrev pub IsBadLine : List ℕ → ℕ → Type 0
 IsBadLine text line = IsBadLineBy IsBegun text line
 
 -- this evidence was read, unless out of memory
-abbrev pub Reads : PlainEvidence → Result Evidence ReadEvidence → Type 0
-Reads e (Ok evidence) = plain evidence ≡ e
-Reads e (Err Memory) = ⊤
-Reads e (Err (BadLine line)) = ⊥
+abbrev pub ReadsEvidence : PlainEvidence → Result Evidence ReadEvidence → Type 0
+ReadsEvidence e (Ok evidence) = plain evidence ≡ e
+ReadsEvidence e (Err Memory) = ⊤
+ReadsEvidence e (Err (BadLine line)) = ⊥
 
 -- the bad line is reported, unless out of memory
 abbrev pub TellsBadLine : List ℕ → ReadEvidence → Type 0

@@ -15,9 +15,9 @@ StopsAt Memory read = ⊤
 StopsAt (BadLine rest) read = read ≡ Err (lines_of rest.now)
 
 -- what a function answers, seen by a view, is what reading gives, unless out of memory
-abbrev pub Gives : {X Y : Type 0} → (X → Y) → Result X Stop → Result Y Lines → Type 0
-Gives view (Ok x) read = read ≡ Ok (view x)
-Gives view (Err e) read = StopsAt e read
+abbrev pub GivesOrStops : {X Y : Type 0} → (X → Y) → Result X Stop → Result Y Lines → Type 0
+GivesOrStops view (Ok x) read = read ≡ Ok (view x)
+GivesOrStops view (Err e) read = StopsAt e read
 
 -- the rest of a text is what follows some values, as reading gives them, unless out of memory
 abbrev pub Passes : {A : Type 0} → Result (Bor (List ℕ)) Stop → Read (List A) → Type 0

@@ -1,6 +1,6 @@
 //! Reading cites.
 ghost use Rattle.evidence_format.specs.Forms as forms;
-ghost use Rattle.evidence_format.specs.Given.{Gives};
+ghost use Rattle.evidence_format.specs.Given.{GivesOrStops};
 ghost use Rattle.evidence_format.specs.Lines.{lines_of};
 ghost use Rattle.evidence_format.specs.Readers as readers;
 ghost use Rattle.evidence_format.specs.Reading.{line_at};
@@ -18,7 +18,7 @@ pub fn cites_at<'t>(
     count: u32,
     text: &'t [u8],
 ) -> Result<(List<u32>, &'t [u8]), Stop<'t>>
-    ensures { Gives (λ x. (x.0, lines_of x.1.now)) result (readers.cites_at count 0 (lines_of text.now)) }
+    ensures { GivesOrStops (λ x. (x.0, lines_of x.1.now)) result (readers.cites_at count 0 (lines_of text.now)) }
 {
     let mut cites = List::new(alloc);
     let mut least = 0;
@@ -34,7 +34,7 @@ pub fn cites_at<'t>(
 
 /// A cite that is at least `least`, and leaves numbers for `left` more, and what follows its line.
 fn cite_at(left: u32, least: u64, text: &[u8]) -> Result<(u32, &[u8]), Stop<'_>>
-    ensures { Gives (λ x. (x.0, lines_of x.1.now)) result (line_at (forms.cite_of left least) (lines_of text.now)) }
+    ensures { GivesOrStops (λ x. (x.0, lines_of x.1.now)) result (line_at (forms.cite_of left least) (lines_of text.now)) }
 {
     let (line, rest) = next_line(text).ok_or(Stop::BadLine(text))?;
     let link = cite_of(left, least, line).ok_or(Stop::BadLine(text))?;

@@ -1,5 +1,5 @@
 //! The lines of a text.
-ghost use Rattle.evidence_format.specs.Given.{Gives};
+ghost use Rattle.evidence_format.specs.Given.{GivesOrStops};
 ghost use Rattle.evidence_format.specs.Lines.{lines_of};
 ghost use Rattle.evidence_format.specs.Readers as readers;
 ghost use Rattle.evidence_format.specs.Reading.{line_at};
@@ -22,7 +22,7 @@ pub fn next_line(text: &[u8]) -> Option<(&[u8], &[u8])>
 
 /// Passes a line that is this one.
 pub fn same_at<'t>(wanted: &[u8], text: &'t [u8]) -> Result<((), &'t [u8]), Stop<'t>>
-    ensures { Gives (λ x. (x.0, lines_of x.1.now)) result (line_at (words.same_of wanted.now) (lines_of text.now)) }
+    ensures { GivesOrStops (λ x. (x.0, lines_of x.1.now)) result (line_at (words.same_of wanted.now) (lines_of text.now)) }
 {
     let (line, rest) = next_line(text).ok_or(Stop::BadLine(text))?;
     if is_same(line, wanted) {
@@ -35,7 +35,7 @@ pub fn same_at<'t>(wanted: &[u8], text: &'t [u8]) -> Result<((), &'t [u8]), Stop
 /// Passes the last line, with nothing after it.
 #[tactic(auto, unfolding(crate::specs::Readers::end_at))]
 pub fn end_at(text: &[u8]) -> Result<(), Stop<'_>>
-    ensures { Gives (λ x. x) result (readers.end_at (lines_of text.now)) }
+    ensures { GivesOrStops (λ x. x) result (readers.end_at (lines_of text.now)) }
 {
     let (_, rest) = same_at(b"end\n", text)?;
     match next_line(rest) {
@@ -46,7 +46,7 @@ pub fn end_at(text: &[u8]) -> Result<(), Stop<'_>>
 
 /// The number of a line of a keyword and one number.
 pub fn one_at<'t>(keyword: &[u8], text: &'t [u8]) -> Result<(u32, &'t [u8]), Stop<'t>>
-    ensures { Gives (λ x. (x.0, lines_of x.1.now)) result (line_at (words.one_of keyword.now) (lines_of text.now)) }
+    ensures { GivesOrStops (λ x. (x.0, lines_of x.1.now)) result (line_at (words.one_of keyword.now) (lines_of text.now)) }
 {
     let (line, rest) = next_line(text).ok_or(Stop::BadLine(text))?;
     let n = one_of(keyword, line).ok_or(Stop::BadLine(text))?;

@@ -1,7 +1,7 @@
 //! Reading evidence.
-ghost use Rattle.evidence_format.specs.Begun.{Reads, TellsBadLine};
+ghost use Rattle.evidence_format.specs.Begun.{ReadsEvidence, TellsBadLine};
 ghost use Rattle.evidence_format.specs.Evidence.{IsText, PlainEvidence};
-ghost use Rattle.evidence_format.specs.Given.{Gives};
+ghost use Rattle.evidence_format.specs.Given.{GivesOrStops};
 ghost use Rattle.evidence_format.specs.Lines.{is_lf, lines_of};
 ghost use Rattle.evidence_format.specs.Readers as readers;
 ghost use Rattle.evidence_format.specs.View.{plain, plain_body};
@@ -36,7 +36,7 @@ pub enum ReadEvidence {
 pub fn read_evidence(alloc: Global, text: &[u8]) -> Result<Evidence, ReadEvidence>
     requires { length text.now ≤ max_evidence }
     ensures ok { IfOk result (λ evidence. IsText (plain evidence) text.now) }
-    ensures only { (e : PlainEvidence) → IsText e text.now → Reads e result }
+    ensures only { (e : PlainEvidence) → IsText e text.now → ReadsEvidence e result }
     ensures err { IfErr result (TellsBadLine text.now) }
 {
     match evidence_at(alloc, text) {
@@ -51,7 +51,7 @@ pub fn read_evidence(alloc: Global, text: &[u8]) -> Result<Evidence, ReadEvidenc
 /// Evidence with nothing after it.
 #[tactic(auto, unfolding(crate::specs::Readers::evidence_at))]
 fn evidence_at(alloc: Global, text: &[u8]) -> Result<Evidence, Stop<'_>>
-    ensures { Gives plain result (readers.evidence_at (lines_of text.now)) }
+    ensures { GivesOrStops plain result (readers.evidence_at (lines_of text.now)) }
 {
     let (_, rest) = same_at(b"tml-evidence 1\n", text)?;
     let (body, rest) = body_at(alloc, rest)?;
@@ -63,7 +63,7 @@ fn evidence_at(alloc: Global, text: &[u8]) -> Result<Evidence, Stop<'_>>
 /// What stands between the first line and the last one.
 #[tactic(auto, unfolding(crate::specs::Readers::body_at))]
 pub fn body_at<'t>(alloc: Global, text: &'t [u8]) -> Result<(Body, &'t [u8]), Stop<'t>>
-    ensures { Gives (λ x. (plain_body x.0, lines_of x.1.now)) result (readers.body_at (lines_of text.now)) }
+    ensures { GivesOrStops (λ x. (plain_body x.0, lines_of x.1.now)) result (readers.body_at (lines_of text.now)) }
 {
     let (head, rest) = head_at(text)?;
     rest_at(alloc, head, rest)
@@ -72,7 +72,7 @@ pub fn body_at<'t>(alloc: Global, text: &'t [u8]) -> Result<(Body, &'t [u8]), St
 /// What follows the line that names the kind.
 #[tactic(auto, unfolding(crate::specs::Readers::rest_at))]
 fn rest_at<'t>(alloc: Global, head: Head, text: &'t [u8]) -> Result<(Body, &'t [u8]), Stop<'t>>
-    ensures { Gives (λ x. (plain_body x.0, lines_of x.1.now)) result (readers.rest_at head (lines_of text.now)) }
+    ensures { GivesOrStops (λ x. (plain_body x.0, lines_of x.1.now)) result (readers.rest_at head (lines_of text.now)) }
 {
     match head {
         Head::Timeline { intervals } => {

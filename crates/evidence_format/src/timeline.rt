@@ -1,5 +1,5 @@
 //! Reading timelines.
-ghost use Rattle.evidence_format.specs.Given.{Appends, Gives};
+ghost use Rattle.evidence_format.specs.Given.{Appends, GivesOrStops};
 ghost use Rattle.evidence_format.specs.Lines.{lines_of};
 ghost use Rattle.evidence_format.specs.Readers as readers;
 ghost use Rattle.evidence_format.specs.Reading.{line_at};
@@ -20,7 +20,7 @@ pub fn timelines_at<'t>(
     count: u32,
     text: &'t [u8],
 ) -> Result<(Timelines, &'t [u8]), Stop<'t>>
-    ensures { Gives (λ x. (map pairs_of x.0, lines_of x.1.now)) result
+    ensures { GivesOrStops (λ x. (map pairs_of x.0, lines_of x.1.now)) result
         (readers.many_at readers.timeline_at count (lines_of text.now)) }
 {
     let mut ranks = Ranks::new(alloc);
@@ -45,7 +45,7 @@ fn push_timeline_at<'t>(ranks: &mut Ranks, text: &'t [u8]) -> Result<&'t [u8], S
 /// A timeline, and what follows it.
 #[tactic(auto, unfolding(crate::specs::Readers::timeline_at))]
 pub fn timeline_at<'t>(alloc: Global, text: &'t [u8]) -> Result<(Ranks, &'t [u8]), Stop<'t>>
-    ensures { Gives (λ x. (pairs_of x.0, lines_of x.1.now)) result (readers.timeline_at (lines_of text.now)) }
+    ensures { GivesOrStops (λ x. (pairs_of x.0, lines_of x.1.now)) result (readers.timeline_at (lines_of text.now)) }
 {
     let (count, rest) = one_at(b"timeline ", text)?;
     ranks_at(alloc, count, rest)
@@ -58,7 +58,7 @@ pub fn ranks_at<'t>(
     count: u32,
     text: &'t [u8],
 ) -> Result<(Ranks, &'t [u8]), Stop<'t>>
-    ensures { Gives (λ x. (pairs_of x.0, lines_of x.1.now)) result (readers.ranks_at count (lines_of text.now)) }
+    ensures { GivesOrStops (λ x. (pairs_of x.0, lines_of x.1.now)) result (readers.ranks_at count (lines_of text.now)) }
 {
     let mut ranks = Ranks::new(alloc);
     let rest = push_ranks_at(&mut ranks, count, text)?;
@@ -83,7 +83,7 @@ fn push_ranks_at<'t>(ranks: &mut Ranks, count: u32, text: &'t [u8]) -> Result<&'
 /// does.
 #[tactic(auto, using(crate::proofs::LineLaws::pair_at))]
 fn interval_at(text: &[u8]) -> Result<((u32, u32), &[u8]), Stop<'_>>
-    ensures { Gives (λ x. (x.0, lines_of x.1.now)) result (line_at (words.two_of (codes "at ")) (lines_of text.now)) }
+    ensures { GivesOrStops (λ x. (x.0, lines_of x.1.now)) result (line_at (words.two_of (codes "at ")) (lines_of text.now)) }
 {
     two_to(b"at ", text).ok_or(Stop::BadLine(text))
 }

@@ -1,6 +1,6 @@
 //! The lines before the bodies of claims, in either version.
 ghost use Rattle.evidence_format.specs.Forms as forms;
-ghost use Rattle.evidence_format.specs.Given.{Gives};
+ghost use Rattle.evidence_format.specs.Given.{GivesOrStops};
 ghost use Rattle.evidence_format.specs.Lines.{lines_of};
 ghost use Rattle.evidence_format.specs.Readers as readers;
 ghost use Rattle.evidence_format.specs.Reading.{line_at};
@@ -22,7 +22,7 @@ pub enum Version {
 /// How many bodies there are, by the lines before them, and what follows these.
 #[tactic(auto, unfolding(crate::specs::Readers::opening_at))]
 pub fn opening_at(text: &[u8]) -> Result<(u32, &[u8]), Stop<'_>>
-    ensures { Gives (λ x. (x.0, lines_of x.1.now)) result (readers.opening_at (lines_of text.now)) }
+    ensures { GivesOrStops (λ x. (x.0, lines_of x.1.now)) result (readers.opening_at (lines_of text.now)) }
 {
     let (version, rest) = version_at(text)?;
     count_at(version, rest)
@@ -31,7 +31,7 @@ pub fn opening_at(text: &[u8]) -> Result<(u32, &[u8]), Stop<'_>>
 /// How many bodies there are: in version 2 a line says it.
 #[tactic(auto, unfolding(crate::specs::Readers::count_at))]
 fn count_at(version: Version, text: &[u8]) -> Result<(u32, &[u8]), Stop<'_>>
-    ensures { Gives (λ x. (x.0, lines_of x.1.now)) result (readers.count_at version (lines_of text.now)) }
+    ensures { GivesOrStops (λ x. (x.0, lines_of x.1.now)) result (readers.count_at version (lines_of text.now)) }
 {
     match version {
         Version::One => Ok((1, text)),
@@ -41,7 +41,7 @@ fn count_at(version: Version, text: &[u8]) -> Result<(u32, &[u8]), Stop<'_>>
 
 /// How many claims there are, and what follows the line that says it.
 fn claims_at(text: &[u8]) -> Result<(u32, &[u8]), Stop<'_>>
-    ensures { Gives (λ x. (x.0, lines_of x.1.now)) result (line_at forms.claims_of (lines_of text.now)) }
+    ensures { GivesOrStops (λ x. (x.0, lines_of x.1.now)) result (line_at forms.claims_of (lines_of text.now)) }
 {
     let (line, rest) = next_line(text).ok_or(Stop::BadLine(text))?;
     let claims = claims_of(line).ok_or(Stop::BadLine(text))?;
@@ -59,7 +59,7 @@ fn claims_of(line: &[u8]) -> Option<u32>
 
 /// The version, and what follows the line that names it.
 fn version_at(text: &[u8]) -> Result<(Version, &[u8]), Stop<'_>>
-    ensures { Gives (λ x. (x.0, lines_of x.1.now)) result (line_at forms.version_of (lines_of text.now)) }
+    ensures { GivesOrStops (λ x. (x.0, lines_of x.1.now)) result (line_at forms.version_of (lines_of text.now)) }
 {
     let (line, rest) = next_line(text).ok_or(Stop::BadLine(text))?;
     let version = version_of(line).ok_or(Stop::BadLine(text))?;

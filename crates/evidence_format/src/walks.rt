@@ -1,6 +1,6 @@
 //! Reading walks.
 ghost use Rattle.evidence_format.specs.Forms as forms;
-ghost use Rattle.evidence_format.specs.Given.{Gives};
+ghost use Rattle.evidence_format.specs.Given.{GivesOrStops};
 ghost use Rattle.evidence_format.specs.Lines.{lines_of};
 ghost use Rattle.evidence_format.specs.Readers as readers;
 ghost use Rattle.evidence_format.specs.Reading.{line_at};
@@ -18,7 +18,7 @@ pub fn walks_at<'t>(
     count: u32,
     text: &'t [u8],
 ) -> Result<(List<Walk>, &'t [u8]), Stop<'t>>
-    ensures { Gives (λ x. (x.0, lines_of x.1.now)) result (readers.many_at readers.walk_at count (lines_of text.now)) }
+    ensures { GivesOrStops (λ x. (x.0, lines_of x.1.now)) result (readers.many_at readers.walk_at count (lines_of text.now)) }
 {
     let mut walks = List::new(alloc);
     let mut rest = text;
@@ -33,7 +33,7 @@ pub fn walks_at<'t>(
 /// A walk, and what follows it.
 #[tactic(auto, unfolding(crate::specs::Readers::walk_at))]
 pub fn walk_at<'t>(alloc: Global, text: &'t [u8]) -> Result<(Walk, &'t [u8]), Stop<'t>>
-    ensures { Gives (λ x. (x.0, lines_of x.1.now)) result (readers.walk_at (lines_of text.now)) }
+    ensures { GivesOrStops (λ x. (x.0, lines_of x.1.now)) result (readers.walk_at (lines_of text.now)) }
 {
     let (count, rest) = one_at(b"walk ", text)?;
     steps_at(alloc, count, rest)
@@ -41,7 +41,7 @@ pub fn walk_at<'t>(alloc: Global, text: &'t [u8]) -> Result<(Walk, &'t [u8]), St
 
 /// So many steps, and what follows them. Nothing is reserved by the count, which comes from a stranger.
 fn steps_at<'t>(alloc: Global, count: u32, text: &'t [u8]) -> Result<(Walk, &'t [u8]), Stop<'t>>
-    ensures { Gives (λ x. (x.0, lines_of x.1.now)) result (readers.steps_at count (lines_of text.now)) }
+    ensures { GivesOrStops (λ x. (x.0, lines_of x.1.now)) result (readers.steps_at count (lines_of text.now)) }
 {
     let mut walk = Walk::new(alloc);
     let mut rest = text;
@@ -55,7 +55,7 @@ fn steps_at<'t>(alloc: Global, count: u32, text: &'t [u8]) -> Result<(Walk, &'t 
 
 /// A step, and what follows its line.
 fn step_at(text: &[u8]) -> Result<(Step, &[u8]), Stop<'_>>
-    ensures { Gives (λ x. (x.0, lines_of x.1.now)) result (line_at forms.step_of (lines_of text.now)) }
+    ensures { GivesOrStops (λ x. (x.0, lines_of x.1.now)) result (line_at forms.step_of (lines_of text.now)) }
 {
     let (line, rest) = next_line(text).ok_or(Stop::BadLine(text))?;
     let step = step_of(line).ok_or(Stop::BadLine(text))?;

@@ -24,24 +24,24 @@ number_of fault.TooManyIntervals = 16
 number_of fault.TooManyLinks = 17
 
 -- the name as it is printed
-abbrev pub name_of : FaultKind → List ℕ
-name_of fault.NotUtf8 = codes "NotUtf8"
-name_of fault.BadReference = codes "BadReference"
-name_of fault.BadMarkup = codes "BadMarkup"
-name_of fault.UnknownTag = codes "UnknownTag"
-name_of fault.Unbalanced = codes "Unbalanced"
-name_of fault.Unclosed = codes "Unclosed"
-name_of fault.Misplaced = codes "Misplaced"
-name_of fault.TooDeep = codes "TooDeep"
-name_of fault.RepeatedAttribute = codes "RepeatedAttribute"
-name_of fault.MissingAttribute = codes "MissingAttribute"
-name_of fault.BadValue = codes "BadValue"
-name_of fault.Conflict = codes "Conflict"
-name_of fault.BadDate = codes "BadDate"
-name_of fault.DuplicateId = codes "DuplicateId"
-name_of fault.UnknownReference = codes "UnknownReference"
-name_of fault.TooManyIntervals = codes "TooManyIntervals"
-name_of fault.TooManyLinks = codes "TooManyLinks"
+abbrev pub kind_name : FaultKind → List ℕ
+kind_name fault.NotUtf8 = codes "NotUtf8"
+kind_name fault.BadReference = codes "BadReference"
+kind_name fault.BadMarkup = codes "BadMarkup"
+kind_name fault.UnknownTag = codes "UnknownTag"
+kind_name fault.Unbalanced = codes "Unbalanced"
+kind_name fault.Unclosed = codes "Unclosed"
+kind_name fault.Misplaced = codes "Misplaced"
+kind_name fault.TooDeep = codes "TooDeep"
+kind_name fault.RepeatedAttribute = codes "RepeatedAttribute"
+kind_name fault.MissingAttribute = codes "MissingAttribute"
+kind_name fault.BadValue = codes "BadValue"
+kind_name fault.Conflict = codes "Conflict"
+kind_name fault.BadDate = codes "BadDate"
+kind_name fault.DuplicateId = codes "DuplicateId"
+kind_name fault.UnknownReference = codes "UnknownReference"
+kind_name fault.TooManyIntervals = codes "TooManyIntervals"
+kind_name fault.TooManyLinks = codes "TooManyLinks"
 
 abbrev pub all_kinds : List FaultKind
 all_kinds =

@@ -55,7 +55,7 @@ impl FaultKind {
 
     /// The name of the kind, as it is printed.
     pub fn name(self) -> &'static [u8]
-        ensures { result.now ≡ kinds.name_of self }
+        ensures { result.now ≡ kinds.kind_name self }
     {
         match self {
             FaultKind::NotUtf8 => b"NotUtf8",
@@ -80,7 +80,7 @@ impl FaultKind {
 }
 
 impl Named for FaultKind {
-    ghost text_of = { kinds.name_of };
+    ghost text_of = { kinds.kind_name };
 
     ghost all_of = { kinds.all_kinds };
 

@@ -1,20 +1,32 @@
-//! `library_rows`: makes the public calls that no command of `tml` makes, line by line as a script says, and prints what they answer.
+//! `library_rows`: makes the public calls that no command of `tml` makes, line by line as a script says, and prints what
+//! they answer.
 #![tactic(auto)]
 
+mod dates;
+mod intervals;
 mod markup;
+mod nets;
 mod orders;
+mod possible;
+mod readers;
 mod script;
+mod shapes;
+mod tags;
 mod texts;
+mod values;
 mod verdicts;
+mod walking;
+mod words;
 
-use anyhow::Result;
 use script::Script;
-use std::io::{BufRead, BufReader};
+use std::io;
+use std::io::Write;
 
-fn main(rt: HostRuntime) -> Result<()> {
+fn main(rt: HostRuntime) -> io::Result<()> {
+    let text = io::read_to_string(rt.alloc(), rt.reader())?;
     let mut script = Script::new(rt.alloc());
-    for line in BufReader::new(rt.alloc(), rt.reader())?.lines(rt.alloc()) {
-        script.take(&rt, line?.as_str())?;
+    for line in text.as_str().lines() {
+        script.take(&rt, line);
     }
-    Ok(())
+    io::writer(&rt).write_all(script.page.whole()?)
 }

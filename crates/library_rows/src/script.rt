@@ -1,14 +1,13 @@
 //! A script, which is followed line by line.
 ghost use Rattle.net_core.specs.Limits.{max_evidence};
-ghost use Rattle.std.specs.Prelude.{◌≤◌, IfOk, length};
+ghost use Rattle.std.specs.Prelude.{◌≤◌, IfSome, length};
 
-use crate::markup::{print_tree, print_units};
-use crate::orders::{add_order, print_rows, table_of};
-use crate::texts::{print_again, print_bundle, print_claims, print_joined, print_one};
-use crate::verdicts::{link_of, net_of, print_verdict, print_verdicts};
-use anyhow::{Context, Result, bail};
-use net_core::{MAX_EVIDENCE, NetLink};
+use crate::nets::Drawn;
+use crate::words::Words;
+use crate::{dates, intervals, markup, orders, readers, tags, texts, values, verdicts, walking};
+use net_core::MAX_EVIDENCE;
 use order_closure::Closed;
+use rows::Page;
 use std::alloc::Global;
 
 /// A text that lines of the script may name.
@@ -18,15 +17,14 @@ struct Text {
     bytes: Vec<u8>,
 }
 
-/// What a script has said so far.
+/// What a script has said so far, and what was answered.
 #[derive(Drop)]
 pub struct Script {
     alloc: Global,
     texts: Vec<Text>,
-    /// How many intervals the net has, and its links.
-    intervals: u32,
-    links: Vec<NetLink>,
+    net: Drawn,
     table: Option<Closed>,
+    pub page: Page,
 }
 
 impl Script {
@@ -35,112 +33,183 @@ impl Script {
         Script {
             alloc,
             texts: Vec::new(alloc),
-            intervals: 0,
-            links: Vec::new(alloc),
+            net: Drawn::new(alloc),
             table: None,
+            page: Page::new(alloc),
         }
     }
 
     /// Follows the next line.
-    ///
-    /// # Errors
-    ///
-    /// A line of no known form, out of memory, or output that fails.
-    pub fn take(&mut self, rt: &impl Print, line: &str) -> Result<()> {
+    pub fn take(&mut self, rt: &HostRuntime, line: &str) {
         if line.is_empty() || line.starts_with('#') {
-            return Ok(());
+            return;
         }
         if let Some(text) = line.strip_prefix('|') {
             return self.append(text);
         }
-        let (word, rest) = line.split_once(' ').context("a line of one word")?;
-        match word {
-            "text" => self.begin_text(rest),
-            "net" => self.begin_net(rest),
-            "link" => self.links.push(link_of(rest)?).context("out of memory"),
-            _ => {
-                println!(rt; "{line}")?;
-                self.answer(rt, word, rest)
-            }
+        let mut words = Words { rest: line };
+        let is_known = match words.word() {
+            "text" => self.begin_text(words),
+            word => self.say_or_answer(rt, line, word, words),
+        };
+        if is_known.is_none() {
+            self.page.text("not a line of a script\n");
         }
     }
 
-    fn begin_text(&mut self, name: &str) -> Result<()> {
-        self.texts.push(Text {
-            name: String::from_str(self.alloc, name)?,
-            bytes: Vec::new(self.alloc),
-        })?;
-        Ok(())
+    /// Begins the text of the name that follows.
+    fn begin_text(&mut self, mut words: Words<'_>) -> Option<()> {
+        let name = words.word();
+        match String::from_str(self.alloc, name) {
+            Ok(name) => self.push_text(name),
+            Err(_) => self.page.out_of_memory(),
+        }
+        Some(())
+    }
+
+    fn push_text(&mut self, name: String) {
+        let bytes = Vec::new(self.alloc);
+        if self.texts.push(Text { name, bytes }).is_err() {
+            self.page.out_of_memory();
+        }
     }
 
     /// Appends a line, with its line feed, to the last text.
-    fn append(&mut self, line: &str) -> Result<()> {
-        let text = self.texts.last_mut().context("a line of no text")?;
-        text.bytes.extend_from_slice(line.as_bytes())?;
-        text.bytes.push(b'\n')?;
-        Ok(())
+    fn append(&mut self, line: &str) {
+        let Some(text) = self.texts.last_mut() else {
+            return self.page.text("a line of no text\n");
+        };
+        if text.bytes.extend_from_slice(line.as_bytes()).is_err()
+            || text.bytes.push(b'\n').is_err()
+        {
+            self.page.out_of_memory();
+        }
     }
 
-    /// The net of the lines below has so many intervals, of which the calendar says nothing, and no links so far.
-    fn begin_net(&mut self, intervals: &str) -> Result<()> {
-        self.intervals = intervals.parse()?;
-        self.links.clear();
-        Ok(())
-    }
-
-    /// Prints the answer to a line.
-    fn answer(&mut self, rt: &impl Print, word: &str, rest: &str) -> Result<()> {
+    /// Takes what a line says of the net, or prints the line and its answer.
+    fn say_or_answer(
+        &mut self,
+        rt: &HostRuntime,
+        line: &str,
+        word: &str,
+        words: Words<'_>,
+    ) -> Option<()> {
         match word {
-            "again" => print_again(rt, self.alloc, self.text(rest)?),
-            "one" => print_one(rt, self.alloc, self.text(rest)?),
-            "claims" => print_claims(rt, self.alloc, self.text(rest)?),
-            "bundle" => print_bundle(rt, self.alloc, self.text(rest)?),
-            "join" => {
-                let (first, second) = rest.split_once(' ').context("one text to be joined")?;
-                print_joined(rt, self.alloc, self.text(first)?, self.text(second)?)
+            "net" | "exact" | "within" | "link" | "without" => {
+                self.net.say(self.alloc, word, words)
             }
-            "verify" => {
-                let net = net_of(self.alloc, self.intervals, &self.links)?;
-                print_verdict(rt, self.alloc, &net, self.text(rest)?)
+            _ => {
+                self.page.text(line);
+                self.page.text("\n");
+                self.answer(rt, word, words)
             }
-            "verify-all" => {
-                let net = net_of(self.alloc, self.intervals, &self.links)?;
-                print_verdicts(rt, self.alloc, &net, self.text(rest)?)
-            }
-            "units" => print_units(rt, self.alloc, self.text(rest)?),
-            "tree" => print_tree(rt, self.alloc, self.text(rest)?),
-            "table" => {
-                self.table = Some(table_of(self.alloc, rest)?);
-                Ok(())
-            }
-            "weak" => self.add_order(rt, rest, false),
-            "strict" => self.add_order(rt, rest, true),
-            "rows" => {
-                let table = self.table.as_ref().context("no table")?;
-                print_rows(rt, table, rest)
-            }
-            _ => bail!("a line that begins with an unknown word"),
         }
     }
 
-    fn add_order(&mut self, rt: &impl Print, points: &str, strict: bool) -> Result<()> {
-        let table = self.table.as_mut().context("no table")?;
-        add_order(rt, table, points, strict)
+    /// Prints the answer to a line, by what it is about.
+    fn answer(&mut self, rt: &HostRuntime, word: &str, words: Words<'_>) -> Option<()> {
+        match word {
+            "table" | "copy" | "close" => self.set_table(word, words),
+            "weak" | "strict" | "rows" | "cells" | "least" => {
+                let table = self.table.as_mut()?;
+                orders::answer(&mut self.page, self.alloc, table, word, words)
+            }
+            "walk" | "walks" | "step" | "reduce" | "possible" => {
+                let net = self.net.net(self.alloc)?;
+                walking::answer(
+                    &mut self.page,
+                    self.alloc,
+                    &net,
+                    &self.net.keep,
+                    word,
+                    words,
+                )
+            }
+            "atoms" | "holding" => intervals::answer(&mut self.page, word, words),
+            "value" | "years" => values::answer(&mut self.page, word, words),
+            "civil" | "drill" | "list" => dates::answer(&mut self.page, self.alloc, word, words),
+            "files" => {
+                readers::print_files(&mut self.page, rt, words);
+                Some(())
+            }
+            _ => self.answer_of_text(word, words),
+        }
     }
 
-    /// The last text of that name.
-    fn text(&self, name: &str) -> Result<&[u8]>
-        ensures { IfOk result (λ text. length text.now ≤ max_evidence) }
-    {
-        for text in self.texts.iter().rev() {
-            if text.name.as_str() == name {
-                let bytes = text.bytes.as_slice();
-                if bytes.len() <= MAX_EVIDENCE as usize {
-                    return Ok(bytes);
-                }
-                bail!("the text {name} is too long");
-            }
-        }
-        bail!("no text {name}")
+    /// Makes another table.
+    fn set_table(&mut self, word: &str, mut words: Words<'_>) -> Option<()> {
+        let table = match word {
+            "table" => orders::table_of(self.alloc, words.number()?)?,
+            "copy" => orders::copy_of(self.alloc, self.table.as_ref()?)?,
+            _ => walking::closure_of(self.alloc, &self.net.net(self.alloc)?)?,
+        };
+        self.table = Some(table);
+        Some(())
     }
+
+    /// Prints the answer to a line about the text of the name that follows.
+    fn answer_of_text(&mut self, word: &str, mut words: Words<'_>) -> Option<()> {
+        let Script {
+            alloc,
+            texts,
+            net,
+            page,
+            ..
+        } = self;
+        let alloc = *alloc;
+        let text = text_of(texts, words.word())?;
+        match word {
+            "again" => texts::print_again(page, alloc, text),
+            "one" => texts::print_one(page, alloc, text),
+            "claims" => texts::print_claims(page, alloc, text),
+            "bundle" => texts::print_bundle(page, alloc, text),
+            "join" => texts::print_joined(page, alloc, text, text_of(texts, words.word())?),
+            "verify" => verdicts::print_verdict(page, alloc, &net.net(alloc)?, text),
+            "verify-all" => verdicts::print_verdicts(page, alloc, &net.net(alloc)?, text),
+            _ => return answer_of_markup(page, alloc, text, word, words),
+        }
+        Some(())
+    }
+}
+
+/// Prints the answer to a line about the markup of a text.
+fn answer_of_markup(
+    page: &mut Page,
+    alloc: Global,
+    text: &[u8],
+    word: &str,
+    words: Words<'_>,
+) -> Option<()>
+    requires { length text.now ≤ max_evidence }
+{
+    match word {
+        "units" => markup::print_units(page, alloc, text),
+        "tree" => markup::print_tree(page, alloc, text),
+        "tag" => return markup::print_tag(page, alloc, text, words),
+        "source" => return markup::print_source(page, alloc, text),
+        "canon" => return markup::print_canon(page, alloc, text),
+        "typed" => return tags::print_typed(page, alloc, text),
+        "intervals" => return tags::print_intervals(page, alloc, text, words),
+        "pull" => return readers::print_pulls(page, alloc, text),
+        "nest" => return readers::print_nesting(page, alloc, text),
+        _ => return None,
+    }
+    Some(())
+}
+
+/// The last text of that name.
+fn text_of<'t>(texts: &'t [Text], name: &str) -> Option<&'t [u8]>
+    ensures { IfSome result (λ text. length text.now ≤ max_evidence) }
+{
+    for text in texts.iter().rev() {
+        if text.name.as_str() == name {
+            let bytes = text.bytes.as_slice();
+            return if bytes.len() <= MAX_EVIDENCE as usize {
+                Some(bytes)
+            } else {
+                None
+            };
+        }
+    }
+    None
 }

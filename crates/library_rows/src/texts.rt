@@ -1,106 +1,114 @@
 //! Evidence that is read and written again.
+ghost use Rattle.evidence_format.specs.Evidence.{IsWellFormed};
+ghost use Rattle.evidence_format.specs.View.{plain_body};
 ghost use Rattle.net_core.specs.Limits.{max_evidence};
 ghost use Rattle.std.specs.Prelude.{◌≤◌, length};
 
-use anyhow::{Result, bail};
 use evidence_format::{
-    Bundle, ReadEvidence, Unread, read_bundle, read_evidence, write_bundle, write_claim,
+    Body, Bundle, ReadEvidence, Unread, read_bundle, read_evidence, write_bundle, write_claim,
     write_evidence,
 };
 use net_core::{List, Memory};
+use rows::Page;
 use std::alloc::Global;
-use std::io;
-use std::io::Write;
 
 /// Prints a text that was written.
-fn print_text(rt: &impl Print, text: Result<List<u8>, Memory>) -> Result<()> {
-    let Ok(text) = text else {
-        bail!("out of memory");
-    };
-    io::writer(rt).write_all(text.as_slice())?;
-    Ok(())
+pub fn print_text(page: &mut Page, text: Result<List<u8>, Memory>) {
+    match text {
+        Ok(text) => page.bytes(text.as_slice()),
+        Err(Memory) => page.out_of_memory(),
+    }
 }
 
 /// Prints why a text was not read.
-pub fn print_unread(rt: &impl Print, why: ReadEvidence) -> Result<()> {
+pub fn print_unread(page: &mut Page, why: ReadEvidence) {
     match why {
-        ReadEvidence::BadLine { line } => println!(rt; "bad line {line}")?,
-        ReadEvidence::Memory => bail!("out of memory"),
+        ReadEvidence::BadLine { line } => {
+            page.named("bad line", line);
+            page.text("\n");
+        }
+        ReadEvidence::Memory => page.out_of_memory(),
     }
-    Ok(())
 }
 
 /// Prints the text of version 1 of the evidence that a text is.
-pub fn print_again(rt: &impl Print, alloc: Global, text: &[u8]) -> Result<()>
+pub fn print_again(page: &mut Page, alloc: Global, text: &[u8])
     requires { length text.now ≤ max_evidence }
 {
     match read_evidence(alloc, text) {
-        Ok(evidence) => print_text(rt, write_evidence(alloc, &evidence)),
-        Err(why) => print_unread(rt, why),
+        Ok(evidence) => print_text(page, write_evidence(alloc, &evidence)),
+        Err(why) => print_unread(page, why),
     }
 }
 
 /// Prints the text of version 2 of the evidence that a text of version 1 is.
-pub fn print_one(rt: &impl Print, alloc: Global, text: &[u8]) -> Result<()>
+pub fn print_one(page: &mut Page, alloc: Global, text: &[u8])
     requires { length text.now ≤ max_evidence }
 {
-    match read_evidence(alloc, text) {
-        Ok(evidence) => match Bundle::one(alloc, evidence) {
-            Ok(bundle) => print_text(rt, write_bundle(alloc, &bundle)),
-            Err(Memory) => bail!("out of memory"),
-        },
-        Err(why) => print_unread(rt, why),
+    let evidence = match read_evidence(alloc, text) {
+        Ok(evidence) => evidence,
+        Err(why) => return print_unread(page, why),
+    };
+    match Bundle::one(alloc, evidence) {
+        Ok(bundle) => print_text(page, write_bundle(alloc, &bundle)),
+        Err(Memory) => page.out_of_memory(),
     }
 }
 
 /// Prints the text of version 2 of the claims that a text of either version has.
-pub fn print_bundle(rt: &impl Print, alloc: Global, text: &[u8]) -> Result<()>
+pub fn print_bundle(page: &mut Page, alloc: Global, text: &[u8])
     requires { length text.now ≤ max_evidence }
 {
     match read_bundle(alloc, text) {
-        Ok(bundle) => print_text(rt, write_bundle(alloc, &bundle)),
-        Err(why) => print_unread(rt, why),
+        Ok(bundle) => print_text(page, write_bundle(alloc, &bundle)),
+        Err(why) => print_unread(page, why),
     }
 }
 
 /// Prints the claims of a text of either version as they are read one after another, each as a text of version 2.
-pub fn print_claims(rt: &impl Print, alloc: Global, text: &[u8]) -> Result<()>
+pub fn print_claims(page: &mut Page, alloc: Global, text: &[u8])
     requires { length text.now ≤ max_evidence }
 {
     let mut unread = match Unread::of_text(text) {
         Ok(unread) => unread,
-        Err(why) => return print_unread(rt, why),
+        Err(why) => return print_unread(page, why),
     };
     for _ in 0..unread.left {
         match unread.next_claim(alloc) {
-            Ok(claim) => match claim.into_evidence(alloc) {
-                Ok(evidence) => print_text(rt, write_claim(alloc, &evidence))?,
-                Err(Memory) => bail!("out of memory"),
-            },
-            Err(why) => return print_unread(rt, why),
+            Ok(claim) => print_claim(page, alloc, claim),
+            Err(why) => return print_unread(page, why),
         }
     }
-    match unread.finish() {
-        Ok(()) => Ok(()),
-        Err(why) => print_unread(rt, why),
+    if let Err(why) = unread.finish() {
+        print_unread(page, why);
+    }
+}
+
+/// Prints a claim as a text of version 2.
+fn print_claim(page: &mut Page, alloc: Global, claim: Body)
+    requires { IsWellFormed (plain_body claim) }
+{
+    match claim.into_evidence(alloc) {
+        Ok(evidence) => print_text(page, write_claim(alloc, &evidence)),
+        Err(Memory) => page.out_of_memory(),
     }
 }
 
 /// Prints the text of version 2 of the claims of two texts.
-pub fn print_joined(rt: &impl Print, alloc: Global, first: &[u8], second: &[u8]) -> Result<()>
+pub fn print_joined(page: &mut Page, alloc: Global, first: &[u8], second: &[u8])
     requires first { length first.now ≤ max_evidence }
     requires second { length second.now ≤ max_evidence }
 {
     let mut bundle = match read_bundle(alloc, first) {
         Ok(bundle) => bundle,
-        Err(why) => return print_unread(rt, why),
+        Err(why) => return print_unread(page, why),
     };
     let more = match read_bundle(alloc, second) {
         Ok(more) => more,
-        Err(why) => return print_unread(rt, why),
+        Err(why) => return print_unread(page, why),
     };
     match bundle.append(more) {
-        Ok(()) => print_text(rt, write_bundle(alloc, &bundle)),
-        Err(Memory) => bail!("out of memory"),
+        Ok(()) => print_text(page, write_bundle(alloc, &bundle)),
+        Err(Memory) => page.out_of_memory(),
     }
 }

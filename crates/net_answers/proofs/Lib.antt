@@ -1,3 +1,4 @@
+pub mod Answering
 pub mod ClashProofs
 pub mod FewCites
 pub mod LineSizes

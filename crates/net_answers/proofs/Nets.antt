@@ -2,7 +2,8 @@
 use Rattle.std.proofs.Common.{◌≡◌, ◌⊎◌, ℕ, ◌<◌, List, [], ◌∷◌, map, false, refl, sym, ap, subst, ◌∙◌, inl, inr, arith}
 use Rattle.std.specs.List.{Contains}
 use Rattle.std.proofs.lemmas.Option.{slice_get_within}
-use Rattle.answers.specs.Documents.{AreAnswered, doc_file, document_rows, of_contents, of_its_contents}
+use Rattle.answers.specs.Documents.{doc_file, document_rows, of_contents, of_its_contents}
+use Rattle.answers.proofs.Answering.{ContentsAreAnswered}
 use Rattle.answers.proofs.Answered.{contents_answered}
 use Rattle.answers.proofs.Contents.{its_document}
 use Rattle.clash.specs.Minimal.{IsProvedClash}
@@ -22,13 +23,14 @@ use Rattle.net_core.proofs.StepLaws.{fits_fewer}
 use Rattle.tml_accept.specs.Acceptance.{Says}
 use Rattle.tml_accept.proofs.Phases.{one_document}
 use Rattle.tml_refs.specs.Documents.{IsNamed, PlainDocument}
-use Rattle.tml_run.specs.Answered.{AreAnswered as RowsAreAnswered}
+use Rattle.tml_run.specs.Answered.{AreAnswered}
 use Rattle.tml_run.specs.OneFile.{of_its_bytes}
 use Rattle.tml_run.specs.OneReply.{is_broken_off}
 use Rattle.tml_run.proofs.OneFile.{answered, freer}
 use Rattle.tml_run.specs.declared.status.Status.{Status}
 use Rattle.tml_run.specs.declared.status.Status.TheVariants.{Clash}
-use Rattle.net_answers.specs.Nets.{ClashIsFree, HasNet, NetAnswers, NetsAreAnswered, of_fitting, of_its_net, of_net}
+use Rattle.net_answers.specs.Nets.{ClashIsFree, HasNet, NetAnswers, of_fitting, of_its_net, of_net}
+use Rattle.net_answers.proofs.Answering.{NetsAreAnswered}
 use Rattle.net_answers.specs.Showing.{ShowsClash}
 use Rattle.net_answers.proofs.ClashProofs.{clash_well_formed, shows_clash}
 
@@ -113,7 +115,7 @@ module _ (Of : NetAnswers) (IsFree : PlainDocument → PlainNet → Status → T
       fitting_text (Of contents) k.0 status text line (λ clash. determined (inl clash))
       (are.one_text contents k.0 status text line (λ free. determined (inr (k.0, k.1, free)))) (along contents h.0 k.0 status text h.1 k.1 h.2) k.2
 
-  pub net_answered : AreAnswered (of_net Of) (of_its_net IsFree)
+  pub net_answered : ContentsAreAnswered (of_net Of) (of_its_net IsFree)
   net_answered = record {
     some = some;
     one_status = λ doc contents says. one_status contents;
@@ -122,7 +124,7 @@ module _ (Of : NetAnswers) (IsFree : PlainDocument → PlainNet → Status → T
   }
 
 -- the rows of a command that is asked of a net, of which all texts but that of a clash are determined
-pub net_rows_answered : (Of : NetAnswers) → NetsAreAnswered Of (λ contents net status. ⊥) → (name : List ℕ) → RowsAreAnswered (document_rows (of_net Of) name) ClashIsFree
+pub net_rows_answered : (Of : NetAnswers) → NetsAreAnswered Of (λ contents net status. ⊥) → (name : List ℕ) → AreAnswered (document_rows (of_net Of) name) ClashIsFree
 net_rows_answered Of are name = freer (document_rows (of_net Of) name) (of_its_bytes (of_its_contents OnlyClash)) ClashIsFree clash
     (answered (doc_file name) (of_contents (of_net Of)) (of_its_contents OnlyClash) (contents_answered (of_net Of) OnlyClash (net_answered Of (λ contents net status. ⊥) are)))
   where

@@ -1,14 +1,13 @@
 -- Commands that ask something of the net of a document.
-use Rattle.std.specs.Prelude.{◌≡◌, ◌⊎◌, false, ℕ, List}
+use Rattle.std.specs.Prelude.{◌≡◌, ◌⊎◌, ℕ, List}
 use Rattle.answers.specs.Documents.{Contents}
 use Rattle.evidence_format.specs.Evidence.{PlainEvidence}
 use Rattle.net_build.specs.Built.{IsNetOf}
 use Rattle.net_core.specs.Entailment.{HasTimeline}
-use Rattle.net_core.specs.Nets.{IsNet, PlainNet}
+use Rattle.net_core.specs.Nets.{PlainNet}
 use Rattle.tml_accept.specs.Acceptance.{Says}
 use Rattle.tml_refs.specs.Documents.{PlainDocument}
 use Rattle.tml_run.specs.Answered.{Freedom}
-use Rattle.tml_run.specs.OneReply.{is_broken_off}
 use Rattle.tml_run.specs.declared.status.Status.{Status}
 use Rattle.tml_run.specs.declared.status.Status.TheVariants.{Clash}
 use Rattle.net_answers.specs.Showing.{ShowsClash, ShowsEvidence}
@@ -40,13 +39,6 @@ of_its_net IsFree contents status = (status ≡ Clash) ⊎ ((net : PlainNet) × 
 -- the text of a clash is free, whatever was read
 abbrev pub ClashIsFree : Freedom
 ClashIsFree contents status = status ≡ Clash
-
--- A net that some timeline fits has an answer, with one status, which is none that is broken off; and with one text, where that is not free.
-pub record NetsAreAnswered (Of : NetAnswers) (IsFree : PlainDocument → PlainNet → Status → Type 0) : Type 0 where
-  pub some : (contents : PlainDocument) (net : PlainNet) → IsNetOf contents net → IsNet net → HasTimeline net → (status : Status) × (text : List ℕ) × Of contents net status text
-  pub one_status : (contents : PlainDocument) (net : PlainNet) (status other : Status) (text line : List ℕ) → Of contents net status text → Of contents net other line → status ≡ other
-  pub whole : (contents : PlainDocument) (net : PlainNet) (status : Status) (text : List ℕ) → Of contents net status text → is_broken_off status ≡ false
-  pub one_text : (contents : PlainDocument) (net : PlainNet) (status : Status) (text line : List ℕ) → (IsFree contents net status → ⊥) → Of contents net status text → Of contents net status line → text ≡ line
 
 -- the document is accepted, and the text is that of evidence that its net supports
 pub record HasEvidence (doc text : List ℕ) : Type 0 where

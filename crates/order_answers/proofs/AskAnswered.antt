@@ -3,7 +3,8 @@ use Rattle.std.proofs.Common.{◌≡◌, ◌⊎◌, ℕ, List, codes, false, ref
 use Rattle.answers.proofs.Answered.{contents_answered}
 use Rattle.answers.proofs.Contents.{its_document}
 use Rattle.tml_refs.proofs.NamedIntervals.{named_or_not}
-use Rattle.answers.specs.Documents.{AreAnswered as ContentsAreAnswered, doc_file, of_contents, of_its_contents}
+use Rattle.answers.specs.Documents.{doc_file, of_contents, of_its_contents}
+use Rattle.answers.proofs.Answering.{ContentsAreAnswered}
 use Rattle.named.specs.Texts.{NoneHas, named_of}
 use Rattle.named.proofs.Tables.{found_has, none_has, texts_tell}
 use Rattle.net_answers.specs.Nets.{of_fitting}

@@ -12,7 +12,7 @@ use Rattle.net_core.specs.declared.rels.Rel.{Rel}
 use Rattle.net_core.proofs.AtomLaws.{atoms_say_the_relation}
 use Rattle.net_core.proofs.RankLaws.{even_length, ranks_again}
 use Rattle.order_closure.specs.Cells.{order, strength}
-use Rattle.order_closure.specs.Tables.{AreInRange, Gives, Keeps, Table, cell_at}
+use Rattle.order_closure.specs.Tables.{AreInRange, GivesAtom, Keeps, Table, cell_at}
 use Rattle.net_core.specs.Least.{IsLeast}
 use Rattle.order_closure.specs.declared.cell.Cell.{Cell}
 use Rattle.order_closure.proofs.Central.{at_least_weak, order_says}
@@ -49,10 +49,10 @@ module _ (net : PlainNet) (table : Table) (closure : IsClosureOf net table) wher
     )
 
     -- and the table says less of it
-    pub not_given : (atom : Atom) → IsFirstNotGiven table atoms (Some atom) → IsInRange (points net) atom × (Gives table atom → ⊥)
+    pub not_given : (atom : Atom) → IsFirstNotGiven table atoms (Some atom) → IsInRange (points net) atom × (GivesAtom table atom → ⊥)
     not_given atom first = (
       subst (IsInRange (points net)) (sym first.2) (in_range first.0 first.1.0),
-      λ gives. first.1.1 (subst (Gives table) first.2 gives),
+      λ gives. first.1.1 (subst (GivesAtom table) first.2 gives),
     )
 
   -- the least timeline that keeps the table and makes an atom false is the least one that fits and does

@@ -9,7 +9,7 @@ use Rattle.net_core.specs.Relations.{Timeline}
 use Rattle.net_core.specs.declared.atom.Atom.{Atom}
 use Rattle.net_core.specs.declared.rels.Rel.{Rel}
 use Rattle.net_core.proofs.AtomLaws.{atoms_in_range, atoms_say_the_relation}
-use Rattle.order_closure.specs.Tables.{Gives, Table}
+use Rattle.order_closure.specs.Tables.{GivesAtom, Table}
 use Rattle.clash.specs.Closures.{IsClosureOf}
 use Rattle.derive_rel.specs.Entailed.{AreRows, TableEntails, IsRow}
 use Rattle.derive_rel.specs.declared.all_rows.Row.{Row}

@@ -3,7 +3,8 @@ use Rattle.std.proofs.Common.{◌≡◌, ℕ, List, false, refl, sym, ap, subst,
 use Rattle.std.specs.List.{flat_map}
 use Rattle.derive_rel.specs.declared.all_rows.Row.{Row}
 use Rattle.derive_rel.proofs.OneList.{one_list}
-use Rattle.net_answers.specs.Nets.{ClashIsFree, NetsAreAnswered}
+use Rattle.net_answers.specs.Nets.{ClashIsFree}
+use Rattle.net_answers.proofs.Answering.{NetsAreAnswered}
 use Rattle.net_answers.proofs.Nets.{net_rows_answered}
 use Rattle.net_core.specs.Nets.{PlainNet}
 use Rattle.tml_refs.specs.Documents.{PlainDocument}

@@ -22,7 +22,7 @@ use Rattle.net_core.specs.Rels.{rel_text}
 use Rattle.net_core.specs.declared.atom.Atom.{Atom}
 use Rattle.net_core.specs.declared.rels.Rel.{Rel}
 use Rattle.net_core.specs.declared.step.Step.{Step}
-use Rattle.order_closure.specs.Tables.{Gives, Keeps, Table}
+use Rattle.order_closure.specs.Tables.{GivesAtom, Keeps, Table}
 use Rattle.net_core.specs.Least.{IsLeast}
 use Rattle.tml_refs.specs.Documents.{PlainDocument, IsNamed}
 use Rattle.tml_run.specs.Answered.{Freedom}
@@ -113,8 +113,8 @@ IsCounterText table a r b atom text =
 
 -- the first of some atoms that a table does not give, if any
 abbrev pub IsFirstNotGiven : Table → List Atom → Option Atom → Type 0
-IsFirstNotGiven table atoms None = IsFirst (length atoms) (λ k. Gives table (atom_at atoms k)) None
-IsFirstNotGiven table atoms (Some atom) = (k : ℕ) × IsFirst (length atoms) (λ k. Gives table (atom_at atoms k)) (Some k) × (atom ≡ atom_at atoms k)
+IsFirstNotGiven table atoms None = IsFirst (length atoms) (λ k. GivesAtom table (atom_at atoms k)) None
+IsFirstNotGiven table atoms (Some atom) = (k : ℕ) × IsFirst (length atoms) (λ k. GivesAtom table (atom_at atoms k)) (Some k) × (atom ≡ atom_at atoms k)
 
 -- a walk for each atom, which proves it, of at most twice as many steps as there are points
 pub record AreWalks (net : PlainNet) (atoms : List Atom) (walks : List (List Step)) : Type 0 where

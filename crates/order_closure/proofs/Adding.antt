@@ -9,7 +9,7 @@ use Rattle.net_core.specs.declared.atom.Atom.{Atom}
 use Rattle.order_closure.specs.declared.cell.Cell.{Cell}
 use Rattle.order_closure.specs.declared.cell.Cell.TheVariants.{Free, Weak, Strict}
 use Rattle.order_closure.specs.Cells.{Says, order, stronger, joined}
-use Rattle.order_closure.specs.Tables.{Table, table_of, cell_at, new_cell, AreClosed, IsClosed, AreInRange, Stands, Denies, way, AreKept, Keeps}
+use Rattle.order_closure.specs.Tables.{Table, table_of, cell_at, new_cell, AreClosed, IsClosed, AreInRange, Stands, Denies, way, AreCellsKept, Keeps}
 use Rattle.order_closure.proofs.Raising.{raised_closed, raised_kept}
 use Rattle.order_closure.proofs.Tables.{cell_at-table_of, table_of-same, table_of-closed, new_same, new_other}
 use Rattle.order_closure.proofs.Central.{stands_from_matches, matches_from_stands, more_atoms}
@@ -62,7 +62,7 @@ pub new_closed : (n : ℕ) → AreClosed n new_cell
 new_closed n = record { itself = λ i li. new_same i; through = λ i j k li lj lk. grind (arith, nat_tests) }
 
 -- every timeline keeps its cells
-new_kept : (n : ℕ) (t : Timeline) → AreKept n new_cell t
+new_kept : (n : ℕ) (t : Timeline) → AreCellsKept n new_cell t
 new_kept n t i j li lj = elim (cases_eq i j) [
   | inl e ↦ subst (λ (m : ℕ). Says (new_cell i m) (t i) (t m)) e (rw new_same (omega arith))
   | inr h ↦ rw (new_other i j h) tt

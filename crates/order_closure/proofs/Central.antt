@@ -11,7 +11,7 @@ use Rattle.order_closure.specs.declared.cell.Cell.TheVariants.{Free, Weak, Stric
 use Rattle.net_core.specs.Atoms.{IsInOrder, Satisfies}
 use Rattle.net_core.specs.Relations.{Timeline}
 use Rattle.order_closure.specs.Cells.{strength, order, stronger, Says}
-use Rattle.order_closure.specs.Tables.{Table, cell_at, Denies, IsClosed, Keeps, SatisfiesAll, AreInRange, Entails, Stands, AreClosed, AreKept, way}
+use Rattle.order_closure.specs.Tables.{Table, cell_at, Denies, IsClosed, Keeps, SatisfiesAll, AreInRange, Entails, Stands, AreClosed, AreCellsKept, way}
 use Rattle.order_closure.specs.Counting.{before_count}
 use Rattle.order_closure.specs.Timelines.{ClosedTablesHaveTimelines, opposite, WeakerCellsCanFail}
 use Rattle.order_closure.proofs.Raising.{raised_closed, raised_kept}
@@ -19,7 +19,7 @@ use Rattle.order_closure.proofs.Ranking.{counts_kept, opposite_fits, not_both, s
 
 module _ (n : ℕ) (cell : ℕ → ℕ → Cell) (closed : AreClosed n cell) where
   -- a timeline that keeps every cell and makes an atom false
-  pub counter_time : (atom : Atom) → atom.from < n → atom.to < n → strength (cell atom.from atom.to) < strength (order atom.strict) → (t : Timeline) × AreKept n cell t × ¬ Satisfies t atom
+  pub counter_time : (atom : Atom) → atom.from < n → atom.to < n → strength (cell atom.from atom.to) < strength (order atom.strict) → (t : Timeline) × AreCellsKept n cell t × ¬ Satisfies t atom
   counter_time atom lf lt weak =
       let raised = λ (i j : ℕ). stronger (cell i j) (way cell (opposite atom) i j) in
       let fits = opposite_fits (cell atom.from atom.to) atom.strict weak in
@@ -29,7 +29,7 @@ module _ (n : ℕ) (cell : ℕ → ℕ → Cell) (closed : AreClosed n cell) whe
       (t, both.0, not_both atom.strict _ _ both.1)
 
   -- an order that every timeline has stands in the table
-  pub always_stands : (strict : Bool) (i j : ℕ) → i < n → j < n → ((t : Timeline) → AreKept n cell t → IsInOrder strict (t i) (t j)) → strength (order strict) ≤ strength (cell i j)
+  pub always_stands : (strict : Bool) (i j : ℕ) → i < n → j < n → ((t : Timeline) → AreCellsKept n cell t → IsInOrder strict (t i) (t j)) → strength (order strict) ≤ strength (cell i j)
   always_stands strict i j li lj always = elim (cases_lt (strength (cell i j)) (strength (order strict))) [
     | inl weak ↦ let c = counter_time (record { from = i; to = j; strict = strict }) li lj weak in absurd (c.2 (always c.0 c.1))
     | inr h ↦ h

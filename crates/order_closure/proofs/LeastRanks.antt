@@ -11,7 +11,7 @@ use Rattle.net_core.specs.Relations.{Timeline}
 use Rattle.net_core.specs.declared.atom.Atom.{Atom}
 use Rattle.order_closure.specs.Cells.{order, strength, stronger}
 use Rattle.order_closure.specs.Counting.{before_count, is_strict}
-use Rattle.order_closure.specs.Tables.{AreClosed, AreKept, way}
+use Rattle.order_closure.specs.Tables.{AreClosed, AreCellsKept, way}
 use Rattle.order_closure.specs.Timelines.{opposite}
 use Rattle.order_closure.specs.declared.cell.Cell.{Cell}
 use Rattle.order_closure.specs.declared.cell.Cell.TheVariants.{Strict}
@@ -51,7 +51,7 @@ not_passed test value (suc k) m below =
 -- ---- ranks
 
 -- the same as far as n points are seen
-kept_below : (n : ℕ) (cell : ℕ → ℕ → Cell) (t u : Timeline) → ((p : ℕ) → p < n → t p ≡ u p) → AreKept n cell t → AreKept n cell u
+kept_below : (n : ℕ) (cell : ℕ → ℕ → Cell) (t u : Timeline) → ((p : ℕ) → p < n → t p ≡ u p) → AreCellsKept n cell t → AreCellsKept n cell u
 kept_below n cell t u same kept i j li lj = rw (← same i li, ← same j lj) (kept i j li lj)
 
 -- the least timeline of two properties that say the same
@@ -106,7 +106,7 @@ module _ (n : ℕ) (cell : ℕ → ℕ → Cell) (closed : AreClosed n cell) whe
   least p m lp below = let top = not_passed (is_before p) (λ r. suc (rank n r)) n m (λ r lr e. below r lr (is_strict_at _ e)) in let e = at_end p lp in omega arith
 
   -- a closed table has least ranks
-  pub least_ranks : (ranks : List ℕ) × AreLeast n (AreKept n cell) ranks
+  pub least_ranks : (ranks : List ℕ) × AreLeast n (AreCellsKept n cell) ranks
   least_ranks =
       let ranks = map (rank n) (range_with_len 0 n) in
       let here = λ (p : ℕ) (lp : p < n). get_or-map-range_with_len (rank n) 0 n p p 0 lp (omega arith) in (
@@ -123,7 +123,7 @@ module _ (n : ℕ) (cell : ℕ → ℕ → Cell) (closed : AreClosed n cell) whe
 
 -- where a cell of a closed table is weaker than an atom, there are least ranks that keep the table and make the atom false
 pub counter_ranks : (n : ℕ) (cell : ℕ → ℕ → Cell) (atom : Atom) → AreClosed n cell → atom.from < n → atom.to < n → strength (cell atom.from atom.to) < strength (order atom.strict)
-    → (ranks : List ℕ) × AreLeast n (λ t. AreKept n cell t × (Satisfies t atom → ⊥)) ranks
+    → (ranks : List ℕ) × AreLeast n (λ t. AreCellsKept n cell t × (Satisfies t atom → ⊥)) ranks
 counter_ranks n cell atom closed lf lt weak =
     let raised = λ (i j : ℕ). stronger (cell i j) (way cell (opposite atom) i j) in
     let fits = opposite_fits (cell atom.from atom.to) atom.strict weak in
@@ -131,7 +131,7 @@ counter_ranks n cell atom closed lf lt weak =
     let kept = raised_kept n cell (opposite atom) closed lt lf fits raised (λ i j li lj. refl) in
     let found = least_ranks n raised still in (
       found.0,
-      same_ranks n (AreKept n raised) (λ t. AreKept n cell t × (Satisfies t atom → ⊥)) found.0 (λ t. (
+      same_ranks n (AreCellsKept n raised) (λ t. AreCellsKept n cell t × (Satisfies t atom → ⊥)) found.0 (λ t. (
         λ h. let both = (kept t).0 h in (both.0, (opposite_is atom t).0 both.1),
         λ h. (kept t).1 (h.0, (opposite_is atom t).1 h.1),
       )) found.1,

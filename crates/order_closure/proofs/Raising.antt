@@ -6,7 +6,7 @@ use Rattle.net_core.specs.declared.atom.Atom.{Atom}
 use Rattle.order_closure.specs.declared.cell.Cell.{Cell}
 use Rattle.order_closure.specs.declared.cell.Cell.TheVariants.{Free, Weak, Strict}
 use Rattle.order_closure.specs.Cells.{Says, strength, order, stronger, joined}
-use Rattle.order_closure.specs.Tables.{AreClosed, AreKept, way, Denies}
+use Rattle.order_closure.specs.Tables.{AreClosed, AreCellsKept, way, Denies}
 use Rattle.order_closure.proofs.Joining.{strength-stronger, joined_assoc, joined-mono, stronger_stays, back_is_weak}
 
 -- the stronger of two cells is one of them
@@ -148,7 +148,7 @@ module _ (n : ℕ) (cell : ℕ → ℕ → Cell) (atom : Atom) (closed : AreClos
           (trans (joined v u) w (stronger c w) (again i j k lj) (right_weaker c w)));
     }
 
-    pub raised_kept : (time : Timeline) → AreKept n raised time ↔ (AreKept n cell time × Satisfies time atom)
+    pub raised_kept : (time : Timeline) → AreCellsKept n raised time ↔ (AreCellsKept n cell time × Satisfies time atom)
     raised_kept time = (
       λ kept. (
         λ i j li lj. weaker_holds _ (raised i j) _ _ (rw (is i j li lj) (left_weaker _ _)) (kept i j li lj),

@@ -6,7 +6,7 @@ use Rattle.net_core.specs.Relations.{Timeline}
 use Rattle.order_closure.specs.declared.cell.Cell.{Cell}
 use Rattle.order_closure.specs.declared.cell.Cell.TheVariants.{Free, Weak, Strict}
 use Rattle.order_closure.specs.Cells.{strength, order, joined, Says}
-use Rattle.order_closure.specs.Tables.{AreClosed, AreKept, Denies}
+use Rattle.order_closure.specs.Tables.{AreClosed, AreCellsKept, Denies}
 use Rattle.order_closure.specs.Counting.{is_strict, before_count}
 use Rattle.order_closure.proofs.Counting.{count-le, count-mono, count-more}
 
@@ -60,7 +60,7 @@ module _ (n : ℕ) (cell : ℕ → ℕ → Cell) (closed : AreClosed n cell) whe
   count_below_n p lp = omega (arith, count-le (λ _. true) n, count-more (λ r. is_strict (cell r p)) (λ _. true) n p lp (ap is_strict (closed.itself p lp)) refl (λ _ _ _. refl))
 
   -- how many points are before each point is a timeline that keeps the cells
-  pub counts_kept : AreKept n cell (before_count n cell)
+  pub counts_kept : AreCellsKept n cell (before_count n cell)
   counts_kept i j li lj = says_from (cell i j) _ _
       (λ some. count-mono (λ r. is_strict (cell r i)) (λ r. is_strict (cell r j)) n (passed i j li lj some))
       (fewer_before i j li lj)
@@ -68,13 +68,13 @@ module _ (n : ℕ) (cell : ℕ → ℕ → Cell) (closed : AreClosed n cell) whe
   -- of a timeline in which each point has the least number above those before it
   module _ (t : Timeline) (above : (r p : ℕ) → r < n → p < n → cell r p ≡ Strict → t r < t p) (least : (p m : ℕ) → p < n → ((r : ℕ) → r < n → cell r p ≡ Strict → t r < m) → t p ≤ m) where
     -- it keeps the cells
-    pub ranks_kept : AreKept n cell t
+    pub ranks_kept : AreCellsKept n cell t
     ranks_kept i j li lj = says_from (cell i j) _ _
         (λ some. least i (t j) li (λ r lr s. above r j lr lj (passed_on i j r li lj lr some s)))
         (above i j li lj)
 
     -- it is at most every timeline that keeps them, point by point in the order of how many are before
-    below : (u : Timeline) → AreKept n cell u → (b p : ℕ) → p < n → before_count n cell p < b → t p ≤ u p
+    below : (u : Timeline) → AreCellsKept n cell u → (b p : ℕ) → p < n → before_count n cell p < b → t p ≤ u p
     below u kept zero p lp lt = absurd (omega arith)
     below u kept (suc b) p lp lt = least p (u p) lp (λ r lr s.
         let less = fewer_before r p lr lp s in
@@ -82,7 +82,7 @@ module _ (n : ℕ) (cell : ℕ → ℕ → Cell) (closed : AreClosed n cell) whe
         let second : u r < u p = strict_says (cell r p) _ _ s (kept r p lr lp) in
         omega arith)
 
-    pub ranks_least : (u : Timeline) → AreKept n cell u → (i : ℕ) → i < n → t i ≤ u i
+    pub ranks_least : (u : Timeline) → AreCellsKept n cell u → (i : ℕ) → i < n → t i ≤ u i
     ranks_least u kept i li = below u kept n i li (count_below_n i li)
 
     -- no place is above the number of points less one

@@ -6,7 +6,7 @@ use Rattle.net_core.specs.declared.atom.End.{End}
 use Rattle.net_core.specs.declared.atom.End.TheVariants.{Start, Finish}
 use Rattle.net_core.specs.declared.atom.PairOrder.{PairOrder}
 use Rattle.net_core.specs.declared.atom.PairOrder.TheVariants.{ABefore, ANoLater, BBefore, BNoLater}
-use Rattle.order_closure.specs.Tables.{Gives, Table}
+use Rattle.order_closure.specs.Tables.{GivesAtom, Table}
 
 -- the number of a point of an interval
 abbrev pub end_number : End → ℕ
@@ -27,4 +27,4 @@ mask_of (order ∷ orders) = bit_or (2 ^ bit_number order) (mask_of orders)
 
 -- the bits of the orders that a table gives between intervals a and b
 abbrev pub AreGiven : Table → ℕ → ℕ → ℕ → Type 0
-AreGiven table a b set = (order : PairOrder) → (bit_at set (bit_number order) ≡ 1) ↔ Gives table (atom_between (points_of a) (points_of b) order)
+AreGiven table a b set = (order : PairOrder) → (bit_at set (bit_number order) ≡ 1) ↔ GivesAtom table (atom_between (points_of a) (points_of b) order)

@@ -29,11 +29,11 @@ abbrev pub new_cell : ℕ → ℕ → Cell
 new_cell i j = if i == j then Weak else Free
 
 -- what each cell says is true of a timeline
-abbrev pub AreKept : ℕ → (ℕ → ℕ → Cell) → Timeline → Type 0
-AreKept n cell t = (i j : ℕ) → i < n → j < n → Says (cell i j) (t i) (t j)
+abbrev pub AreCellsKept : ℕ → (ℕ → ℕ → Cell) → Timeline → Type 0
+AreCellsKept n cell t = (i j : ℕ) → i < n → j < n → Says (cell i j) (t i) (t j)
 
 abbrev pub Keeps : Table → Timeline → Type 0
-Keeps table t = AreKept table.points (cell_at table) t
+Keeps table t = AreCellsKept table.points (cell_at table) t
 
 -- all atoms are true of a timeline
 abbrev pub SatisfiesAll : List Atom → Timeline → Type 0
@@ -72,5 +72,5 @@ Denies Weak false = ⊥
 Denies Free strict = ⊥
 
 -- the cell of an atom says at least its order
-abbrev pub Gives : Table → Atom → Type 0
-Gives table atom = strength (order atom.strict) ≤ strength (cell_at table atom.from atom.to)
+abbrev pub GivesAtom : Table → Atom → Type 0
+GivesAtom table atom = strength (order atom.strict) ≤ strength (cell_at table atom.from atom.to)

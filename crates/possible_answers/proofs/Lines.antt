@@ -12,7 +12,7 @@ use Rattle.tml_possible.specs.Possible.{CanHold, Tells}
 use Rattle.tml_possible.specs.Sets.{IsSetOf, has}
 use Rattle.tml_possible.specs.declared.base_set.BaseSet.{BaseSet}
 use Rattle.tml_possible.proofs.OneList.{one_filter}
-use Rattle.tml_refs.specs.Documents.{PlainInterval, name_of}
+use Rattle.tml_refs.specs.Documents.{PlainInterval, interval_name}
 
 -- ---- what is printed of some numbers
 
@@ -59,7 +59,7 @@ pub line_more : (intervals : List PlainInterval) (can : RelTest) (names : List (
     → n ≡ length names → AreNames intervals names → TellsTable table can → a < n → b < n → 2 * a + 1 < table.points → 2 * b + 1 < table.points → IsSetOf (λ r. CanHold table a r b) set
     → get_or names a [] ≡ x → get_or names b [] ≡ y → new ≡ text ++ (x ++ codes " " ++ y ++ words_of (has set)) → text ++ lines_from intervals n can a b ≡ all → new ++ lines_from intervals n can a (b + 1) ≡ all
 line_more intervals can names n table a b text x y new all set size are tells la lb fa fb is named_x named_y e before =
-    let many : length names ≡ length intervals = ap length are ∙ length-map intervals name_of in
+    let many : length names ≡ length intervals = ap length are ∙ length-map intervals interval_name in
     let first : name_at intervals a ≡ x = name_there intervals a (omega (arith, la, many, size)) ∙ ap (λ (ns : List (List ℕ)). get_or ns a []) (sym are) ∙ named_x in
     let second : name_at intervals b ≡ y = name_there intervals b (omega (arith, lb, many, size)) ∙ ap (λ (ns : List (List ℕ)). get_or ns b []) (sym are) ∙ named_y in
     let words = words_agree (λ r. CanHold table a r b) (has set) (λ r. can a r b) (set_tells (λ r. CanHold table a r b) set is) (tells a b fa fb) in

@@ -2,13 +2,14 @@
 use Rattle.std.proofs.Common.{◌≡◌, ◌↔◌, ℕ, List, false, refl, sym, ◌∙◌, arith}
 use Rattle.clash.specs.Closures.{IsClosureOf}
 use Rattle.clash.proofs.Answered.{closed_net}
-use Rattle.net_answers.specs.Nets.{ClashIsFree, NetsAreAnswered}
+use Rattle.net_answers.specs.Nets.{ClashIsFree}
+use Rattle.net_answers.proofs.Answering.{NetsAreAnswered}
 use Rattle.net_answers.proofs.Nets.{net_rows_answered}
 use Rattle.net_core.specs.Entailment.{HasTimeline}
 use Rattle.net_core.specs.Fits.{Fits}
 use Rattle.net_core.specs.Nets.{IsNet, PlainNet, intervals, points}
 use Rattle.net_core.specs.Relations.{Timeline}
-use Rattle.order_closure.specs.Tables.{AreClosed, AreKept, IsClosed, Table, cell_at}
+use Rattle.order_closure.specs.Tables.{AreClosed, AreCellsKept, IsClosed, Table, cell_at}
 use Rattle.order_closure.specs.declared.cell.Cell.{Cell}
 use Rattle.possible_answers.specs.Matrix.{OfMatrix, RelTest, TellsNet, TellsTable, matrix_lines, matrix_rows}
 use Rattle.possible_answers.proofs.Lines.{matrices_agree}
@@ -21,7 +22,7 @@ use Rattle.tml_run.specs.declared.status.Status.{Status}
 use Rattle.tml_run.specs.declared.status.Status.TheVariants.{Done}
 
 -- a test by closed cells which the timelines that fit a net keep tells what can be
-pub tells_net : (net : PlainNet) (n : ℕ) (cell : ℕ → ℕ → Cell) (closed : AreClosed n cell) → n ≡ points net → ((t : Timeline) → AreKept n cell t ↔ Fits net t) → TellsNet net (can_of n cell closed)
+pub tells_net : (net : PlainNet) (n : ℕ) (cell : ℕ → ℕ → Cell) (closed : AreClosed n cell) → n ≡ points net → ((t : Timeline) → AreCellsKept n cell t ↔ Fits net t) → TellsNet net (can_of n cell closed)
 tells_net net n cell closed size same a b both r base =
     let told = can_of_told n cell closed a r b (omega (arith, both.0, size)) (omega (arith, both.1, size)) in (
       λ h. let (t, kept, holds) = told.0 h in (t, (same t).0 kept, holds),

@@ -1,6 +1,7 @@
 -- Which base relations two intervals can have has one answer.
 use Rattle.std.proofs.Common.{◌≡◌, inl, inr, ℕ, List, [], ◌∷◌, codes, false, refl, sym, ap, subst, ◌∙◌, arith}
-use Rattle.answers.specs.Documents.{AreAnswered as ContentsAreAnswered, doc_file, of_contents, of_its_contents}
+use Rattle.answers.specs.Documents.{doc_file, of_contents, of_its_contents}
+use Rattle.answers.proofs.Answering.{ContentsAreAnswered}
 use Rattle.answers.specs.Names.{NamesOne}
 use Rattle.answers.proofs.Answered.{contents_answered}
 use Rattle.answers.proofs.Contents.{its_document}
@@ -14,7 +15,7 @@ use Rattle.net_build.proofs.OneNet.{one_net}
 use Rattle.net_core.specs.Entailment.{AreIntervals, HasTimeline}
 use Rattle.net_core.specs.Fits.{Fits}
 use Rattle.net_core.specs.Nets.{IsNet, PlainNet, points}
-use Rattle.order_closure.specs.Tables.{AreKept, Keeps, Table}
+use Rattle.order_closure.specs.Tables.{AreCellsKept, Keeps, Table}
 use Rattle.possible_answers.specs.Possible.{IsItemsText, OfPossible, ReportsUnknown, items_text, of_intervals, possible_rows}
 use Rattle.tml_accept.specs.Acceptance.{Says}
 use Rattle.tml_possible.specs.Possible.{AreShown}
@@ -55,7 +56,7 @@ some_items : (contents : PlainDocument) (net : PlainNet) → IsNet net → HasTi
 some_items contents net is fits a b both =
     let (cell, closed, same) = closed_net net is fits.0 fits.1 in
     let (items, shown) = every_item (points net) cell closed a b (omega (arith, both.0)) (omega (arith, both.1)) in
-    (items_text items, (items, shown_by (points net) (AreKept (points net) cell) a b (Fits net) same items shown, refl))
+    (items_text items, (items, shown_by (points net) (AreCellsKept (points net) cell) a b (Fits net) same items shown, refl))
 
 module _ (x y doc : List ℕ) (contents : PlainDocument) (says : Says doc contents) where
   known : (a : ℕ) → IsNamed contents.intervals x a → (b : ℕ) → IsNamed contents.intervals y b → (status : Status) × (text : List ℕ) × OfPossible x y contents status text

@@ -4,7 +4,7 @@ use Rattle.std.specs.List.{filter, flat_map}
 use Rattle.std.proofs.lemmas.Bool.{cases_eq}
 use Rattle.std.proofs.lemmas.List.{drop-append-le, get_or-replicate, get_or-set_other, get_or-set_same, length-replicate, length-set, length-drop, take-append-le, take_all}
 use Rattle.possible_answers.specs.Matrix.{rel_word, words_of}
-use Rattle.possible_answers.specs.SetTexts.{AreTexts, IsPlaced, part, place_at}
+use Rattle.possible_answers.specs.SetTexts.{AreTexts, HasSetText, part, place_at}
 use Rattle.possible_answers.specs.declared.set_texts.Place.{Place}
 use Rattle.tml_possible.specs.Sets.{has, number}
 use Rattle.tml_possible.specs.declared.base_set.BaseSet.{BaseSet}
@@ -21,7 +21,7 @@ no_texts bytes places e = record {
   size = ap length e ∙ length-replicate 8192 nowhere;
   placed = λ k lt.
       let at : place_at places k ≡ nowhere = ap (λ (ps : List Place). place_at ps k) e ∙ get_or-replicate 8192 k nowhere nowhere lt in
-      subst (λ (p : Place). IsPlaced bytes p k) (sym at) (record { order = omega arith; within = omega arith; words = λ less. absurd (omega arith) });
+      subst (λ (p : Place). HasSetText bytes p k) (sym at) (record { order = omega arith; within = omega arith; words = λ less. absurd (omega arith) });
 }
 
 -- words end in the end of a line, so there are some
@@ -56,7 +56,7 @@ made_texts bytes places s texts small = record {
   placed = λ j lt. elim (cases_eq j k) [
     | inl same ↦
         let at : place_at (set places k new) j ≡ new = ap (place_at (set places k new)) same ∙ get_or-set_same places k new nowhere (omega (arith, small, texts.size)) in
-        subst (λ (p : Place). IsPlaced (bytes ++ words) p j) (sym at) (subst (IsPlaced (bytes ++ words) new) (sym same) (record {
+        subst (λ (p : Place). HasSetText (bytes ++ words) p j) (sym at) (subst (HasSetText (bytes ++ words) new) (sym same) (record {
           order = omega (arith, length-append bytes words);
           within = omega arith;
           words = λ less. new_part bytes words ∙ words_by_number s;
@@ -64,7 +64,7 @@ made_texts bytes places s texts small = record {
     | inr other ↦
         let old = texts.placed j lt in
         let at : place_at (set places k new) j ≡ place_at places j = get_or-set_other places k j new nowhere other in
-        subst (λ (p : Place). IsPlaced (bytes ++ words) p j) (sym at) (record {
+        subst (λ (p : Place). HasSetText (bytes ++ words) p j) (sym at) (record {
           order = old.order;
           within = omega (arith, old.within, length-append bytes words);
           words = λ less. kept_part bytes words (place_at places j) old.order old.within ∙ old.words less;

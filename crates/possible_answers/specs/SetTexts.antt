@@ -12,7 +12,7 @@ abbrev pub part : List ℕ → Place → List ℕ
 part bytes place = take (place.end - place.start) (drop place.start bytes)
 
 -- a place is within the bytes, and where it is not empty the words of the set of this number stand there
-pub record IsPlaced (bytes : List ℕ) (place : Place) (k : ℕ) : Type 0 where
+pub record HasSetText (bytes : List ℕ) (place : Place) (k : ℕ) : Type 0 where
   pub order : place.start ≤ place.end
   pub within : place.end ≤ length bytes
   pub words : place.start < place.end → part bytes place ≡ words_of (has (record { bits = k }))
@@ -20,4 +20,4 @@ pub record IsPlaced (bytes : List ℕ) (place : Place) (k : ℕ) : Type 0 where
 -- there is a place for each set
 pub record AreTexts (bytes : List ℕ) (places : List Place) : Type 0 where
   pub size : length places ≡ 8192
-  pub placed : (k : ℕ) → k < 8192 → IsPlaced bytes (place_at places k) k
+  pub placed : (k : ℕ) → k < 8192 → HasSetText bytes (place_at places k) k

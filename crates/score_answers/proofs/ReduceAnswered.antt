@@ -1,6 +1,7 @@
 -- A net that some timeline fits has one text of the links that stay.
 use Rattle.std.proofs.Common.{◌≡◌, ℕ, List, false, refl, sym, ap, ◌∙◌}
-use Rattle.net_answers.specs.Nets.{ClashIsFree, NetsAreAnswered}
+use Rattle.net_answers.specs.Nets.{ClashIsFree}
+use Rattle.net_answers.proofs.Answering.{NetsAreAnswered}
 use Rattle.net_answers.proofs.Nets.{net_rows_answered}
 use Rattle.net_core.specs.Nets.{PlainNet}
 use Rattle.tml_refs.specs.Documents.{PlainDocument}

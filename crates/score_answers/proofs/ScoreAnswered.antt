@@ -1,6 +1,6 @@
 -- A document and a key have one answer: one status, and one text, but for which clash of the document is printed.
 use Rattle.std.proofs.Common.{◌≡◌, ℕ, List, ◌++◌, codes, false, refl, sym, ap, subst, ◌∙◌, inl, inr}
-use Rattle.answers.specs.Judged.{AreJudged}
+use Rattle.answers.proofs.Answering.{IsAnsweredByDocument}
 use Rattle.answers.specs.Lines.{fault_line}
 use Rattle.answers.proofs.Answered.{judged_answered}
 use Rattle.answers.proofs.Contents.{its_document}
@@ -130,7 +130,7 @@ whole : (contents : PlainDocument) (bytes : List ℕ) (status : Status) (text : 
 whole contents bytes status text (inl h) = ap is_broken_off h.0
 whole contents bytes status text (inr (key, is, (net, built, h))) = fitting_whole (OfKey key contents) net (key_whole key contents net) status text h
 
-scored : AreJudged max_document OfScore IsFreeScore
+scored : IsAnsweredByDocument max_document OfScore IsFreeScore
 scored = record {
   some = λ doc short contents says bytes few. some doc contents says bytes;
   one_status = λ doc contents says bytes. one_status doc contents says bytes;

@@ -1,3 +1,4 @@
 pub mod Whole
 pub mod SecondsAnswered
 pub mod SecondsConfirmed
+pub mod Sizes

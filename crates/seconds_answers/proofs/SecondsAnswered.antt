@@ -1,13 +1,14 @@
 -- A document has one answer in seconds: one status. Which placing or which cycle is printed is free.
 use Rattle.std.proofs.Common.{◌≡◌, ◌⊎◌, ℕ, List, [], ◌∷◌, false, refl, subst, inl, inr}
-use Rattle.answers.specs.Documents.{AreAnswered, doc_file, of_contents, of_its_contents}
+use Rattle.answers.specs.Documents.{doc_file, of_contents, of_its_contents}
+use Rattle.answers.proofs.Answering.{ContentsAreAnswered}
 use Rattle.answers.proofs.Answered.{contents_answered}
 use Rattle.answers.proofs.Contents.{its_document}
 use Rattle.seconds_build.proofs.EveryTime.{every_timed}
 use Rattle.seconds_build.proofs.Nets.{one_timed}
 use Rattle.seconds_core.specs.Timed.{PlainTimed}
 use Rattle.tml_refs.specs.Documents.{PlainDocument}
-use Rattle.tml_run.specs.Answered.{AreAnswered as RowsAreAnswered}
+use Rattle.tml_run.specs.Answered.{AreAnswered}
 use Rattle.tml_run.specs.OneFile.{of_its_bytes}
 use Rattle.tml_run.specs.OneReply.{is_broken_off}
 use Rattle.tml_run.specs.declared.status.Status.{Status}
@@ -39,7 +40,7 @@ no_other timed Done text line determined h = absurd (determined (inl refl))
 no_other timed Clash text line determined h = absurd (determined (inr refl))
 no_other timed status text line determined h = absurd h
 
-seconds : AreAnswered OfSeconds IsFree
+seconds : ContentsAreAnswered OfSeconds IsFree
 seconds = record {
   some = λ doc contents says. let (timed, built, is) = every_timed contents (its_document doc contents says) in let answer = timed_answered timed is in (answer.0, answer.1, (timed, built, answer.2));
   one_status = λ doc contents says status other text line h k.
@@ -52,6 +53,6 @@ free : (contents : List (List ℕ)) (status : Status) → of_its_bytes (of_its_c
 free (doc ∷ []) status is = is.2
 free contents status is = absurd is
 
-pub seconds_answered : (name : List ℕ) → RowsAreAnswered (seconds_rows name) SecondsAreFree
+pub seconds_answered : (name : List ℕ) → AreAnswered (seconds_rows name) SecondsAreFree
 seconds_answered name = freer (seconds_rows name) (of_its_bytes (of_its_contents IsFree)) SecondsAreFree free
     (answered (doc_file name) (of_contents OfSeconds) (of_its_contents IsFree) (contents_answered OfSeconds IsFree seconds))

@@ -12,8 +12,8 @@ use Rattle.net_core.specs.declared.net.NetLink.{NetLink}
 use Rattle.net_core.specs.declared.step.Step.TheVariants.{Link}
 use Rattle.net_core.proofs.AtomLaws.{atoms_counted, few_orders}
 use Rattle.seconds_core.specs.Constraints.{at_most, constraint_by, constraint_of}
-use Rattle.seconds_core.specs.Cycles.{IsJoined}
-use Rattle.seconds_core.specs.Evidence.{Placed, Round}
+use Rattle.seconds_core.specs.Cycles.{LeadFromTo}
+use Rattle.seconds_core.specs.Evidence.{Placed, Cycle}
 use Rattle.seconds_core.specs.Placed.{IsPlaced}
 use Rattle.seconds_core.specs.Timed.{IsTimed, PlainTimed, limits_at, lower_second, origin, upper_second}
 use Rattle.seconds_core.proofs.InRange.{limits_past, lower_past, upper_past}
@@ -58,7 +58,7 @@ named_numbers timed (Most i) c is e =
     let net = is.net in
     omega (arith, within (limits_at timed i).most n i (intervals timed.net) at (λ le. ap (λ l. l.most) (limits_past timed i is le)), net.few_intervals)
 
-joined_numbers : (timed : PlainTimed) → IsTimed timed → (lines : List Line) (x y : ℕ) → IsJoined timed lines x y → AllByRecursion HasNumbers lines
+joined_numbers : (timed : PlainTimed) → IsTimed timed → (lines : List Line) (x y : ℕ) → LeadFromTo timed lines x y → AllByRecursion HasNumbers lines
 joined_numbers timed is [] x y joined = tt
 joined_numbers timed is (line ∷ lines) x y (c, named, from, rest) = (named_numbers timed line c is named, joined_numbers timed is lines c.to y rest)
 
@@ -76,7 +76,7 @@ cycle_text : (timed : PlainTimed) (lines : List Line) → IsTimed timed → IsSh
 cycle_text timed lines is short =
     let net = is.net in
     let ((x, joined, below), few) = short in (
-      concat (text_lines (Round lines)),
+      concat (text_lines (Cycle lines)),
       (
         (λ has. negative_is_unplaced timed lines is (x, joined, below) has),
         lines,

@@ -2,7 +2,7 @@
 use Rattle.std.specs.Prelude.{◌≡◌, ◌⊎◌, ℕ, ℤ, List}
 use Rattle.answers.specs.Documents.{Contents, document_rows}
 use Rattle.seconds_build.specs.Built.{IsTimedOf}
-use Rattle.seconds_core.specs.Evidence.{Placed, Round}
+use Rattle.seconds_core.specs.Evidence.{Placed, Cycle}
 use Rattle.seconds_core.specs.Placed.{HasPlacing, IsPlaced}
 use Rattle.seconds_core.specs.Timed.{PlainTimed}
 use Rattle.seconds_core.specs.declared.line.Line.{Line}
@@ -19,7 +19,7 @@ ShowsPlacing timed text = (seconds : List ℤ) × IsPlaced timed seconds × IsTe
 
 -- there is no placing, and the text is that of a negative cycle
 abbrev pub ShowsCycle : PlainTimed → List ℕ → Type 0
-ShowsCycle timed text = (HasPlacing timed → ⊥) × (lines : List Line) × IsShortCycle timed lines × IsText (Round lines) text
+ShowsCycle timed text = (HasPlacing timed → ⊥) × (lines : List Line) × IsShortCycle timed lines × IsText (Cycle lines) text
 
 -- a placing is printed, or a cycle that shows that there is none
 abbrev pub OfTimed : PlainTimed → Status → List ℕ → Type 0

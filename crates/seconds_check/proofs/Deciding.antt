@@ -13,7 +13,7 @@ use Rattle.net_core.specs.declared.net.NetLink.{NetLink}
 use Rattle.seconds_core.specs.declared.line.Constraint.{Constraint}
 use Rattle.seconds_core.specs.declared.line.Line.{Line}
 use Rattle.seconds_core.specs.Constraints.{constraint_of}
-use Rattle.seconds_core.specs.Cycles.{IsJoined}
+use Rattle.seconds_core.specs.Cycles.{LeadFromTo}
 use Rattle.seconds_core.specs.Orders.{AreInOrder, KeepsOrder}
 use Rattle.seconds_core.specs.Placed.{IsBetween, KeepsLink, second_at}
 use Rattle.seconds_core.specs.Timed.{PlainTimed}
@@ -56,7 +56,7 @@ module _ (timed : PlainTimed) where
       back : GoFrom timed x (line ∷ rest) → (c.from ≡ x) × GoFrom timed c.to rest
       back goes =
           let same : goes.1.0 ≡ c = same_Some _ _ (sym goes.1.1 ∙ named) in
-          (start_is timed line rest x goes.0 c goes.1 named, (goes.0, subst (λ (d : Constraint). IsJoined timed rest d.to goes.0) same goes.1.3))
+          (start_is timed line rest x goes.0 c goes.1 named, (goes.0, subst (λ (d : Constraint). LeadFromTo timed rest d.to goes.0) same goes.1.3))
 
   -- whether lines go on from a point
   go_from : (x : ℕ) (lines : List Line) → Dec (GoFrom timed x lines)

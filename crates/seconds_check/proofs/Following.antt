@@ -6,7 +6,7 @@ use Rattle.seconds_core.specs.declared.line.Constraint.{Constraint}
 use Rattle.seconds_core.specs.declared.line.Line.{Line}
 use Rattle.seconds_core.specs.declared.line.Line.TheVariants as lines
 use Rattle.seconds_core.specs.Constraints.{IsWithin, constraint_of}
-use Rattle.seconds_core.specs.Cycles.{IsJoined, sum_of, weight_in}
+use Rattle.seconds_core.specs.Cycles.{LeadFromTo, sum_of, weight_in}
 use Rattle.seconds_core.specs.Timed.{PlainTimed, max_second}
 use Rattle.seconds_check.specs.Refusals.{GoFrom}
 use Rattle.seconds_check.proofs.Joined.{joined_push, joined_split, one_end, sum_push}
@@ -23,7 +23,7 @@ none_given (Some x) not given = absurd (not x refl)
 module _ (timed : PlainTimed) where
   -- How far lines were followed: where the first of them lead, and their sum, which is not too far from 0.
   pub record IsFollowed (all : List Line) (i x y : ℕ) (sum : ℤ) : Type 0 where
-    pub joined : IsJoined timed (take i all) x y
+    pub joined : LeadFromTo timed (take i all) x y
     pub sum_so_far : sum ≡ sum_of timed (take i all)
     pub low : neg_ℤ (pos (max_second * i)) ≤ℤ sum
     pub high : sum ≤ℤ pos (max_second * i)
@@ -38,7 +38,7 @@ module _ (timed : PlainTimed) where
       let pushed = sum_push timed (take i all) line in
       let whole : total ≡ sum_of timed (take i all ++ line ∷ []) = omega (arith, ints, is, so_far.sum_so_far, pushed, weight) in
       record {
-        joined = subst (λ (some : List Line). IsJoined timed some x next.to) (sym more) (joined_push timed (take i all) line next x y so_far.joined named from);
+        joined = subst (λ (some : List Line). LeadFromTo timed some x next.to) (sym more) (joined_push timed (take i all) line next x y so_far.joined named from);
         sum_so_far = subst (λ (some : List Line). total ≡ sum_of timed some) (sym more) whole;
         low = omega (arith, ints, is, so_far.low, within.low);
         high = omega (arith, ints, is, so_far.high, within.high);
@@ -49,6 +49,6 @@ module _ (timed : PlainTimed) where
       → ((next : Constraint) → constraint_of timed (get_or all i no_line) ≡ Some next → next.from ≡ y → ⊥) → GoFrom timed x (take (i + 1) all) → ⊥
   stops_here all i x y sum lt so_far none goes =
       let line = get_or all i no_line in
-      let parts = joined_split timed (take i all) line x goes.0 (subst (λ (some : List Line). IsJoined timed some x goes.0) (take_more all i no_line lt) goes.1) in
+      let parts = joined_split timed (take i all) line x goes.0 (subst (λ (some : List Line). LeadFromTo timed some x goes.0) (take_more all i no_line lt) goes.1) in
       let same = one_end timed (take i all) x parts.0 y parts.1 so_far.joined in
       none parts.2.0 parts.2.1 (parts.2.2 ∙ same)

@@ -6,8 +6,8 @@ use native.Mathlib.Decide.{ℕ_discrete}
 use Rattle.net_core.specs.Nets.{intervals, link_at, points}
 use Rattle.net_core.proofs.FirstLaws.{first_or_none}
 use Rattle.seconds_core.specs.declared.line.Line.{Line}
-use Rattle.seconds_core.specs.Cycles.{IsJoined, IsNegative, sum_of}
-use Rattle.seconds_core.specs.Evidence.{Placed, Round}
+use Rattle.seconds_core.specs.Cycles.{LeadFromTo, IsNegative, sum_of}
+use Rattle.seconds_core.specs.Evidence.{Placed, Cycle}
 use Rattle.seconds_core.specs.Placed.{IsPlaced, KeepsBounds, KeepsLimits, KeepsLink, StartsFirst, lasts, second_at}
 use Rattle.seconds_core.specs.Timed.{PlainTimed, limits_at, lower_second, upper_second}
 use Rattle.seconds_check.specs.declared.refusal.SecondsReason.{SecondsReason}
@@ -55,7 +55,7 @@ module _ (timed : PlainTimed) where
       stop (suc k) less never before = (k, (omega (arith, less), before k (omega arith), λ on. never (subst (λ (n : ℕ). GoOn timed (take n lines)) (add-one k) on)))
 
   -- lines that lead back
-  by_sum : (lines : List Line) (x : ℕ) → IsJoined timed lines x x → OrReason (IsNegative timed lines) (IsNoCycle timed lines)
+  by_sum : (lines : List Line) (x : ℕ) → LeadFromTo timed lines x x → OrReason (IsNegative timed lines) (IsNoCycle timed lines)
   by_sum lines x joined = elim (in_order true (sum_of timed lines) (pos 0)) [
     | yes below ↦ inl (x, joined, below)
     | no not_below ↦ inr (Sum, (x, joined, by_lt_z (sum_of timed lines) (pos 0) (λ below. absurd (not_below below)) (λ le. le)))
@@ -66,10 +66,10 @@ module _ (timed : PlainTimed) where
     | inr stop ↦ inr (Step stop.0, stop.1)
     | inl on ↦ elim (ℕ_discrete on.0 on.1.0) [
       | no other ↦ inr (End, (on.0, on.1.0, on.1.1, other))
-      | yes same ↦ by_sum lines on.0 (subst (λ (y : ℕ). IsJoined timed lines on.0 y) (sym same) on.1.1)
+      | yes same ↦ by_sum lines on.0 (subst (λ (y : ℕ). LeadFromTo timed lines on.0 y) (sym same) on.1.1)
     ]
   ]
 
 pub confirmed_or_refused : ConfirmedOrRefused
 confirmed_or_refused timed (Placed seconds) even = placed_or_not timed seconds even
-confirmed_or_refused timed (Round lines) pairs = negative_or_not timed lines
+confirmed_or_refused timed (Cycle lines) pairs = negative_or_not timed lines

@@ -6,7 +6,7 @@ use Rattle.net_core.specs.Nets.{intervals, link_at, points}
 use Rattle.net_core.proofs.FirstLaws.{one_first}
 use Rattle.seconds_core.specs.declared.line.Line.{Line}
 use Rattle.seconds_core.specs.Cycles.{IsNegative}
-use Rattle.seconds_core.specs.Evidence.{Placed, Round}
+use Rattle.seconds_core.specs.Evidence.{Placed, Cycle}
 use Rattle.seconds_core.specs.Placed.{IsPlaced, KeepsBounds, KeepsLimits, KeepsLink, StartsFirst}
 use Rattle.seconds_core.specs.Timed.{PlainTimed}
 use Rattle.seconds_check.specs.declared.refusal.SecondsReason.{SecondsReason}
@@ -123,4 +123,4 @@ module _ (timed : PlainTimed) (lines : List Line) where
 
 pub one_verdict : OneVerdict
 one_verdict timed (Placed seconds) = record { not_both = placed_not_both timed seconds; one_refusal = one_misplaced timed seconds }
-one_verdict timed (Round lines) = record { not_both = negative_not_both timed lines; one_refusal = one_no_cycle timed lines }
+one_verdict timed (Cycle lines) = record { not_both = negative_not_both timed lines; one_refusal = one_no_cycle timed lines }

@@ -3,8 +3,8 @@ use Rattle.std.specs.Prelude.{◌≡◌, ◌≢◌, ◌⊎◌, ℕ, ◌+◌, ◌
 use Rattle.net_core.specs.Firsts.{IsFirst}
 use Rattle.net_core.specs.Nets.{intervals, link_at, points}
 use Rattle.seconds_core.specs.declared.line.Line.{Line}
-use Rattle.seconds_core.specs.Cycles.{IsJoined, sum_of}
-use Rattle.seconds_core.specs.Evidence.{PlainEvidence, Placed, Round}
+use Rattle.seconds_core.specs.Cycles.{LeadFromTo, sum_of}
+use Rattle.seconds_core.specs.Evidence.{PlainEvidence, Placed, Cycle}
 use Rattle.seconds_core.specs.Placed.{KeepsBounds, KeepsLimits, KeepsLink, StartsFirst}
 use Rattle.seconds_core.specs.Timed.{PlainTimed}
 use Rattle.seconds_check.specs.Confirmed.{IsConfirmed}
@@ -43,7 +43,7 @@ IsMisplaced timed seconds other = ⊥
 
 -- the lines are joined from a point on
 abbrev pub GoFrom : PlainTimed → ℕ → List Line → Type 0
-GoFrom timed x lines = (y : ℕ) × IsJoined timed lines x y
+GoFrom timed x lines = (y : ℕ) × LeadFromTo timed lines x y
 
 -- the lines are joined from some point to some point
 abbrev pub GoOn : PlainTimed → List Line → Type 0
@@ -52,19 +52,19 @@ GoOn timed lines = (x : ℕ) × GoFrom timed x lines
 -- The lines are no negative cycle, for this reason and for none before it: line k is the first that names no constraint or does not begin where the one before it ended; they do not end where they begin; or their sum is not below 0.
 abbrev pub IsNoCycle : PlainTimed → List Line → SecondsReason → Type 0
 IsNoCycle timed lines (Step k) = (k < length lines) × GoOn timed (take k lines) × (GoOn timed (take (k + 1) lines) → ⊥)
-IsNoCycle timed lines End = (x : ℕ) × (y : ℕ) × IsJoined timed lines x y × (x ≢ y)
-IsNoCycle timed lines Sum = (x : ℕ) × IsJoined timed lines x x × (pos 0 ≤ℤ sum_of timed lines)
+IsNoCycle timed lines End = (x : ℕ) × (y : ℕ) × LeadFromTo timed lines x y × (x ≢ y)
+IsNoCycle timed lines Sum = (x : ℕ) × LeadFromTo timed lines x x × (pos 0 ≤ℤ sum_of timed lines)
 IsNoCycle timed lines other = ⊥
 
 -- why seconds are no placing, or lines no negative cycle
-abbrev pub IsRefused : PlainTimed → PlainEvidence → SecondsReason → Type 0
-IsRefused timed (Placed seconds) = IsMisplaced timed seconds
-IsRefused timed (Round lines) = IsNoCycle timed lines
+abbrev pub AreSecondsRefused : PlainTimed → PlainEvidence → SecondsReason → Type 0
+AreSecondsRefused timed (Placed seconds) = IsMisplaced timed seconds
+AreSecondsRefused timed (Cycle lines) = IsNoCycle timed lines
 
 -- the law: evidence is not both confirmed and refused, and is refused for one reason at most
 pub record Verdicts (timed : PlainTimed) (e : PlainEvidence) : Type 0 where
-  pub not_both : (reason : SecondsReason) → IsConfirmed timed e → IsRefused timed e reason → ⊥
-  pub one_refusal : (reason other : SecondsReason) → IsRefused timed e reason → IsRefused timed e other → reason ≡ other
+  pub not_both : (reason : SecondsReason) → IsConfirmed timed e → AreSecondsRefused timed e reason → ⊥
+  pub one_refusal : (reason other : SecondsReason) → AreSecondsRefused timed e reason → AreSecondsRefused timed e other → reason ≡ other
 
 abbrev pub OneVerdict : Type 0
 OneVerdict = (timed : PlainTimed) (e : PlainEvidence) → Verdicts timed e
@@ -72,8 +72,8 @@ OneVerdict = (timed : PlainTimed) (e : PlainEvidence) → Verdicts timed e
 -- seconds come in pairs, as those of every placing do; lines may be any
 abbrev pub IsPaired : PlainEvidence → Type 0
 IsPaired (Placed seconds) = length seconds % 2 ≡ 0
-IsPaired (Round lines) = ⊤
+IsPaired (Cycle lines) = ⊤
 
 -- the law: evidence is confirmed, or refused
 abbrev pub ConfirmedOrRefused : Type 0
-ConfirmedOrRefused = (timed : PlainTimed) (e : PlainEvidence) → IsPaired e → IsConfirmed timed e ⊎ ((reason : SecondsReason) × IsRefused timed e reason)
+ConfirmedOrRefused = (timed : PlainTimed) (e : PlainEvidence) → IsPaired e → IsConfirmed timed e ⊎ ((reason : SecondsReason) × AreSecondsRefused timed e reason)

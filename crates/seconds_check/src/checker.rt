@@ -1,6 +1,6 @@
 //! Checking evidence of seconds.
 ghost use Rattle.seconds_check.specs.Confirmed.{IsConfirmed};
-ghost use Rattle.seconds_check.specs.Refusals.{IsRefused};
+ghost use Rattle.seconds_check.specs.Refusals.{AreSecondsRefused};
 ghost use Rattle.seconds_core.specs.View.{evidence_of};
 ghost use Rattle.std.specs.Prelude.{IfErr, OnOk};
 
@@ -16,7 +16,7 @@ use seconds_core::{SecondsEvidence, Timed};
 /// The first reason why the evidence is refused. A refusal comes exactly where the evidence is not confirmed.
 pub fn confirm(timed: &Timed, evidence: &SecondsEvidence) -> Result<(), SecondsReason>
     ensures ok { OnOk result (IsConfirmed timed.now (evidence_of evidence.now)) }
-    ensures err { IfErr result (IsRefused timed.now (evidence_of evidence.now)) }
+    ensures err { IfErr result (AreSecondsRefused timed.now (evidence_of evidence.now)) }
 {
     match evidence {
         SecondsEvidence::Placing(placing) => check_placing(timed, placing.as_slice()),

@@ -2,7 +2,7 @@
 ghost use Rattle.net_core.specs.Atoms as atoms;
 ghost use Rattle.net_core.specs.Nets.{intervals, link_at, points};
 ghost use Rattle.seconds_check.specs.Refusals.{FirstBroken, FirstOutside, FirstUnordered, FirstWrongLength, IsMisplaced};
-ghost use Rattle.seconds_core.specs.Evidence.{IsPlacing};
+ghost use Rattle.seconds_core.specs.Evidence.{ArePairs};
 ghost use Rattle.seconds_core.specs.Placed as spec;
 ghost use Rattle.seconds_core.specs.Orders.{AreInOrder, KeepsOrder};
 ghost use Rattle.seconds_core.specs.Placed.{IsBetween, IsPlaced, KeepsBounds, KeepsLimits, KeepsLink, StartsFirst};
@@ -15,7 +15,7 @@ use seconds_core::{Limits, Timed};
 
 /// Ok where the seconds are a placing, else the first reason why they are none.
 pub fn check_placing(timed: &Timed, seconds: &[i64]) -> Result<(), SecondsReason>
-    requires { IsPlacing seconds.now }
+    requires { ArePairs seconds.now }
     ensures ok { OnOk result (IsPlaced timed.now seconds.now) }
     ensures err { IfErr result (IsMisplaced timed.now seconds.now) }
 {

@@ -6,9 +6,9 @@ use Rattle.seconds_core.specs.Constraints.{constraint_of}
 use Rattle.seconds_core.specs.Timed.{PlainTimed}
 
 -- Each line names a constraint. The first begins at x, each begins where the one before it ended, and the last ends at y.
-abbrev pub IsJoined : PlainTimed → List Line → ℕ → ℕ → Type 0
-IsJoined timed [] x y = x ≡ y
-IsJoined timed (line ∷ lines) x y = (c : Constraint) × (constraint_of timed line ≡ Some c) × (c.from ≡ x) × IsJoined timed lines c.to y
+abbrev pub LeadFromTo : PlainTimed → List Line → ℕ → ℕ → Type 0
+LeadFromTo timed [] x y = x ≡ y
+LeadFromTo timed (line ∷ lines) x y = (c : Constraint) × (constraint_of timed line ≡ Some c) × (c.from ≡ x) × LeadFromTo timed lines c.to y
 
 abbrev pub weight_in : Option Constraint → ℤ
 weight_in (Some c) = c.weight
@@ -21,4 +21,4 @@ sum_of timed (line ∷ lines) = weight_in (constraint_of timed line) +ℤ sum_of
 
 -- a negative cycle: lines that lead from a point back to it, whose sum is below 0
 abbrev pub IsNegative : PlainTimed → List Line → Type 0
-IsNegative timed lines = (x : ℕ) × IsJoined timed lines x x × (sum_of timed lines <ℤ pos 0)
+IsNegative timed lines = (x : ℕ) × LeadFromTo timed lines x x × (sum_of timed lines <ℤ pos 0)

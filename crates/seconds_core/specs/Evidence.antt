@@ -7,10 +7,10 @@ abbrev pub max_lines : ℕ
 max_lines = 2 ^ 32
 
 -- two seconds for each interval
-abbrev pub IsPlacing : List ℤ → Type 0
-IsPlacing seconds = (length seconds % 2 ≡ 0) × (length seconds < 2 * max_lines)
+abbrev pub ArePairs : List ℤ → Type 0
+ArePairs seconds = (length seconds % 2 ≡ 0) × (length seconds < 2 * max_lines)
 
 -- the seconds of a placing, or the lines of a cycle
 pub data PlainEvidence : Type 0 where
   Placed : List ℤ → PlainEvidence
-  Round : List Line → PlainEvidence
+  Cycle : List Line → PlainEvidence

@@ -1,5 +1,5 @@
 //! Placings, and cycles.
-ghost use Rattle.seconds_core.specs.Evidence.{IsPlacing, max_lines};
+ghost use Rattle.seconds_core.specs.Evidence.{ArePairs, max_lines};
 ghost use Rattle.std.specs.Prelude.{length, ◌<◌, ◌≡◌};
 
 use crate::Line;
@@ -13,20 +13,20 @@ pub struct Placing {
 }
 
 impl Model for Placing {
-    ghost use Rattle.seconds_core.specs.Evidence.{IsPlacing};
+    ghost use Rattle.seconds_core.specs.Evidence.{ArePairs};
     ghost use Rattle.std.specs.Prelude.{List as ListOf, ℤ};
 
     ghost Value = { ListOf ℤ };
 
     ghost view = { λ a. a.seconds.items };
 
-    ghost invariant = { λ a. IsPlacing a.seconds.items };
+    ghost invariant = { λ a. ArePairs a.seconds.items };
 }
 
 impl Placing {
     /// The placing of these seconds. It takes no memory.
     pub fn from_vec(seconds: Vec<i64>) -> Placing
-        requires { IsPlacing seconds.items }
+        requires { ArePairs seconds.items }
         ensures { result ≡ seconds.items }
     {
         Placing { seconds }
@@ -35,7 +35,7 @@ impl Placing {
     /// The seconds: of each interval its start and its end.
     pub fn as_slice(&self) -> &[i64]
         ensures seconds { result.now ≡ self.now }
-        ensures placing { IsPlacing self.now }
+        ensures placing { ArePairs self.now }
     {
         self.seconds.as_slice()
     }

@@ -10,11 +10,11 @@ use Rattle.evidence_format.specs.Words.{same_of}
 use Rattle.evidence_format.proofs.Exact.{Exact, all_of, exact_same, exact_then}
 use Rattle.evidence_format.proofs.ReaderLaws.{AreMany, Has, exact_form, exact_many, exact_map}
 use Rattle.evidence_format.proofs.TextLaws.{closed, ends_after, exact_between}
-use Rattle.seconds_core.specs.Evidence.{IsPlacing, PlainEvidence, Placed, Round}
+use Rattle.seconds_core.specs.Evidence.{ArePairs, PlainEvidence, Placed, Cycle}
 use Rattle.seconds_core.specs.declared.line.Line.{Line}
 use Rattle.seconds_core.specs.declared.line.Line.TheVariants.{Span}
 use Rattle.seconds_format.specs.declared.head.Head.{Head}
-use Rattle.seconds_format.specs.declared.head.Head.TheVariants.{Placing, Cycle}
+use Rattle.seconds_format.specs.declared.head.Head.TheVariants as head
 use Rattle.seconds_format.specs.Begun.{HasLines}
 use Rattle.seconds_format.specs.Forms.{cycle_line_of, head_of}
 use Rattle.seconds_format.specs.Readers.{body_at, cycle_at, pairs_at, rest_at, seconds_at, seconds_of}
@@ -26,13 +26,13 @@ use Rattle.seconds_format.proofs.SecondLaws.{pair_form}
 
 -- the kind of evidence
 abbrev head_for : PlainEvidence → Head
-head_for (Placed seconds) = Placing (length (pairs_of seconds))
-head_for (Round lines) = Cycle (length lines)
+head_for (Placed seconds) = head.Placing (length (pairs_of seconds))
+head_for (Cycle lines) = head.Cycle (length lines)
 
 -- the lines that follow the one that names the kind
 abbrev rest_lines : PlainEvidence → Lines
 rest_lines (Placed seconds) = map at_line (pairs_of seconds)
-rest_lines (Round lines) = map cycle_line lines
+rest_lines (Cycle lines) = map cycle_line lines
 
 -- evidence of a kind, by those lines
 abbrev HasRest : Head → PlainEvidence → Lines → Type 0
@@ -41,12 +41,12 @@ HasRest h e ls = IsWellFormed e × (head_for e ≡ h) × (ls ≡ rest_lines e)
 -- the body is the line that names the kind, and those that follow it
 body_is : (e : PlainEvidence) → body_lines e ≡ head_line (head_for e) ∷ rest_lines e
 body_is (Placed seconds) = refl
-body_is (Round lines) = refl
+body_is (Cycle lines) = refl
 
 -- the number of the kind of well-formed evidence can stand in a text
 head_is : (e : PlainEvidence) → IsWellFormed e → IsHead (head_for e)
 head_is (Placed seconds) h = omega (arith, pairs_length seconds h.0.0, h.0.1)
-head_is (Round lines) h = h.1
+head_is (Cycle lines) h = h.1
 
 -- ---- placings
 
@@ -59,22 +59,22 @@ exact_pair : Exact (Has IsPair (λ pair. at_line pair ∷ [])) (λ rest. line_at
 exact_pair = exact_form at_line IsPair pair_of (pos 0, pos 0) (record { sfits = omega arith }, record { sfits = omega arith }) pair_form
 
 -- the seconds of so many intervals are a placing
-exact_placing : (n : ℕ) → IsNumber n → Exact (HasRest (Placing n)) (rest_at (Placing n))
+exact_placing : (n : ℕ) → IsNumber n → Exact (HasRest (head.Placing n)) (rest_at (head.Placing n))
 unfolding rest_at
 exact_placing n small =
-    exact_same (λ e ls. (pairs : List (ℤ × ℤ)) × HasPairs n pairs ls × (e ≡ Placed (seconds_of pairs))) (HasRest (Placing n)) (λ ls. pairs_at n ls >>= λ pairs. Ok (Placed (seconds_of pairs.0), pairs.1))
+    exact_same (λ e ls. (pairs : List (ℤ × ℤ)) × HasPairs n pairs ls × (e ≡ Placed (seconds_of pairs))) (HasRest (head.Placing n)) (λ ls. pairs_at n ls >>= λ pairs. Ok (Placed (seconds_of pairs.0), pairs.1))
     (λ e ls h.
     let m = h.1 in
     let size = seconds_length h.0 in
-    let placing : IsPlacing (seconds_of h.0) = (omega (arith, size), omega (arith, size, m.1, small)) in
+    let placing : ArePairs (seconds_of h.0) = (omega (arith, size), omega (arith, size, m.1, small)) in
     let pairs = pairs_again h.0 in
-    rw h.2 ((placing, pairs_long h.0 m.0), ap (λ (ps : List (ℤ × ℤ)). Placing (length ps)) pairs ∙ ap (λ (k : ℕ). Placing k) m.1, m.2 ∙ flat_map_single at_line h.0 ∙ ap (λ (ps : List (ℤ × ℤ)). map at_line ps) (sym pairs)))
+    rw h.2 ((placing, pairs_long h.0 m.0), ap (λ (ps : List (ℤ × ℤ)). head.Placing (length ps)) pairs ∙ ap (λ (k : ℕ). head.Placing k) m.1, m.2 ∙ flat_map_single at_line h.0 ∙ ap (λ (ps : List (ℤ × ℤ)). map at_line ps) (sym pairs)))
     (λ e ls h. from e ls h)
     (exact_map (λ pairs. Placed (seconds_of pairs)) (HasPairs n) (pairs_at n) (exact_many IsPair (λ pair. at_line pair ∷ []) (λ rest. line_at pair_of rest) exact_pair n))
   where
-    from : (e : PlainEvidence) (ls : Lines) → HasRest (Placing n) e ls → (pairs : List (ℤ × ℤ)) × HasPairs n pairs ls × (e ≡ Placed (seconds_of pairs))
+    from : (e : PlainEvidence) (ls : Lines) → HasRest (head.Placing n) e ls → (pairs : List (ℤ × ℤ)) × HasPairs n pairs ls × (e ≡ Placed (seconds_of pairs))
     from (Placed seconds) ls h = (pairs_of seconds, (long_again seconds h.0.1, (let k = h.1 in cc), h.2 ∙ sym (flat_map_single at_line (pairs_of seconds))), ap (λ (more : List ℤ). Placed more) (sym (seconds_again seconds h.0.0.0)))
-    from (Round lines) ls h = absurd (let k = h.1 in cc)
+    from (Cycle lines) ls h = absurd (let k = h.1 in cc)
 
 -- ---- cycles
 
@@ -87,24 +87,24 @@ exact_cycle_line : Exact (Has HasNumbers (λ line. cycle_line line ∷ [])) (λ 
 exact_cycle_line = exact_form cycle_line HasNumbers cycle_line_of (Span 0) (omega arith) cycle_line_form
 
 -- so many lines are a cycle
-exact_cycle : (n : ℕ) → IsNumber n → Exact (HasRest (Cycle n)) (rest_at (Cycle n))
+exact_cycle : (n : ℕ) → IsNumber n → Exact (HasRest (head.Cycle n)) (rest_at (head.Cycle n))
 unfolding rest_at
 exact_cycle n small =
-    exact_same (λ e ls. (lines : List Line) × HasCycle n lines ls × (e ≡ Round lines)) (HasRest (Cycle n)) (λ ls. cycle_at n ls >>= λ lines. Ok (Round lines.0, lines.1))
-    (λ e ls h. let m = h.1 in rw h.2 ((All-from_recursion HasNumbers h.0 m.0, subst IsNumber (sym m.1) small), ap (λ (k : ℕ). Cycle k) m.1, m.2 ∙ flat_map_single cycle_line h.0))
+    exact_same (λ e ls. (lines : List Line) × HasCycle n lines ls × (e ≡ Cycle lines)) (HasRest (head.Cycle n)) (λ ls. cycle_at n ls >>= λ lines. Ok (Cycle lines.0, lines.1))
+    (λ e ls h. let m = h.1 in rw h.2 ((All-from_recursion HasNumbers h.0 m.0, subst IsNumber (sym m.1) small), ap (λ (k : ℕ). head.Cycle k) m.1, m.2 ∙ flat_map_single cycle_line h.0))
     (λ e ls h. from e ls h)
-    (exact_map (λ lines. Round lines) (HasCycle n) (cycle_at n) (exact_many HasNumbers (λ line. cycle_line line ∷ []) (λ rest. line_at cycle_line_of rest) exact_cycle_line n))
+    (exact_map (λ lines. Cycle lines) (HasCycle n) (cycle_at n) (exact_many HasNumbers (λ line. cycle_line line ∷ []) (λ rest. line_at cycle_line_of rest) exact_cycle_line n))
   where
-    from : (e : PlainEvidence) (ls : Lines) → HasRest (Cycle n) e ls → (lines : List Line) × HasCycle n lines ls × (e ≡ Round lines)
+    from : (e : PlainEvidence) (ls : Lines) → HasRest (head.Cycle n) e ls → (lines : List Line) × HasCycle n lines ls × (e ≡ Cycle lines)
     from (Placed seconds) ls h = absurd (let k = h.1 in cc)
-    from (Round lines) ls h = (lines, (recursion_from_All HasNumbers lines h.0.0, (let k = h.1 in cc), h.2 ∙ sym (flat_map_single cycle_line lines)), refl)
+    from (Cycle lines) ls h = (lines, (recursion_from_All HasNumbers lines h.0.0, (let k = h.1 in cc), h.2 ∙ sym (flat_map_single cycle_line lines)), refl)
 
 -- ---- a body, and a text
 
 -- what follows the line that names the kind
 exact_rest : (h : Head) → IsHead h → Exact (HasRest h) (rest_at h)
-exact_rest (Placing n) h = exact_placing n h
-exact_rest (Cycle n) h = exact_cycle n h
+exact_rest (head.Placing n) h = exact_placing n h
+exact_rest (head.Cycle n) h = exact_cycle n h
 
 -- what stands between the first line and the last one
 exact_body : Exact (Has IsWellFormed body_lines) body_at
@@ -116,7 +116,7 @@ exact_body =
     (r.0, t.5 ∙ ap (λ (x : Lines). x ++ t.2) t.3.1 ∙ ap (λ (x : Lines). head_line t.0 ∷ x) r.2 ∙ ap (λ (h : Head). head_line h ∷ rest_lines e) (sym r.1) ∙ sym (body_is e)))
     (λ e ls h. (head_for e, head_line (head_for e) ∷ [], rest_lines e, (head_is e h.0, refl), (h.0, refl, refl), h.1 ∙ body_is e))
     (exact_then (Has IsHead (λ h. head_line h ∷ [])) HasRest (line_at head_of) rest_at
-    (exact_form head_line IsHead head_of (Cycle 0) (omega arith) head_form)
+    (exact_form head_line IsHead head_of (head.Cycle 0) (omega arith) head_form)
     (λ h prefix g. exact_rest h g.0))
 
 -- evidence from its first line to its last one

@@ -9,7 +9,7 @@ use Rattle.evidence_format.specs.Evidence.{last_line}
 use Rattle.evidence_format.specs.Words.{is_not}
 use Rattle.evidence_format.proofs.LineLaws.{IsLine, mapped_are, one_is, two_is}
 use Rattle.evidence_format.proofs.WordLaws.{long_differ}
-use Rattle.seconds_core.specs.Evidence.{PlainEvidence, Placed, Round}
+use Rattle.seconds_core.specs.Evidence.{PlainEvidence, Placed, Cycle}
 use Rattle.seconds_core.specs.declared.line.Line.{Line}
 use Rattle.seconds_core.specs.declared.line.Line.TheVariants.{Span, Via, Lower, Upper, Least, Most}
 use Rattle.seconds_format.specs.Texts.{HasNumbers, IsLong, IsPair, IsWellFormed, at_line, body_lines, cycle_line, pairs_of, text_lines}
@@ -39,7 +39,7 @@ cycle_line_is (Most i) h = one_is (codes "most ") i refl h
 -- what stands between the first line and the last one is whole lines
 body_is : (e : PlainEvidence) → IsWellFormed e → AllByRecursion IsLine (body_lines e)
 body_is (Placed seconds) h = (one_is (codes "placing ") (length (pairs_of seconds)) refl (omega (arith, pairs_length seconds h.0.0, h.0.1)), mapped_are IsPair at_line at_is (pairs_of seconds) (long_again seconds h.1))
-body_is (Round lines) h = (one_is (codes "cycle ") (length lines) refl h.1, mapped_are HasNumbers cycle_line cycle_line_is lines (recursion_from_All HasNumbers lines h.0))
+body_is (Cycle lines) h = (one_is (codes "cycle ") (length lines) refl h.1, mapped_are HasNumbers cycle_line cycle_line_is lines (recursion_from_All HasNumbers lines h.0))
 
 -- the lines of a text are whole
 pub text_is : (e : PlainEvidence) → IsWellFormed e → AllByRecursion IsLine (text_lines e)

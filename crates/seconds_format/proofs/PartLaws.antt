@@ -8,7 +8,7 @@ use Rattle.evidence_format.specs.Lines.{Lines}
 use Rattle.evidence_format.specs.Parts.{MayBegin}
 use Rattle.evidence_format.proofs.PartLaws.{between_begins, between_prefix, count_begins, counted_lines, counted_prefix}
 use Rattle.evidence_format.proofs.ReaderLaws.{AreCounted, Has}
-use Rattle.seconds_core.specs.Evidence.{IsPlacing, PlainEvidence, Placed, Round}
+use Rattle.seconds_core.specs.Evidence.{ArePairs, PlainEvidence, Placed, Cycle}
 use Rattle.seconds_core.specs.declared.line.Line.TheVariants.{Span}
 use Rattle.seconds_format.specs.Begun.{IsBegun}
 use Rattle.seconds_format.specs.Parts.{IsBegunBody, IsBegunByParts}
@@ -23,13 +23,13 @@ counted_pairs seconds h = (All-from_recursion IsPair (pairs_of seconds) (long_ag
 -- and the seconds of such pairs are well formed
 well_formed : (pairs : List (ℤ × ℤ)) → AreCounted IsPair pairs → IsWellFormed (Placed (seconds_of pairs))
 well_formed pairs h =
-    let placing : IsPlacing (seconds_of pairs) = (omega (arith, seconds_length pairs), omega (arith, seconds_length pairs, h.1)) in
+    let placing : ArePairs (seconds_of pairs) = (omega (arith, seconds_length pairs), omega (arith, seconds_length pairs, h.1)) in
     (placing, pairs_long pairs (recursion_from_All IsPair pairs h.0))
 
 -- the first lines of a body
 body_prefix : (e : PlainEvidence) (xs ys : Lines) → IsWellFormed e → xs ++ ys ≡ body_lines e → MayBegin IsBegunBody xs
 body_prefix (Placed seconds) xs ys h e = elim (counted_prefix (codes "placing ") at_line IsPair (pairs_of seconds) xs ys (counted_pairs seconds h) e) [ inl none ↦ inl none | inr begun ↦ inr (inl begun) ]
-body_prefix (Round lines) xs ys h e = elim (counted_prefix (codes "cycle ") cycle_line HasNumbers lines xs ys h e) [ inl none ↦ inl none | inr begun ↦ inr (inr begun) ]
+body_prefix (Cycle lines) xs ys h e = elim (counted_prefix (codes "cycle ") cycle_line HasNumbers lines xs ys h e) [ inl none ↦ inl none | inr begun ↦ inr (inr begun) ]
 
 -- after the first line, a body that may begin
 opened : (ls more : Lines) → ls ≡ first_line ∷ more → MayBegin IsBegunBody more → IsBegunByParts ls
@@ -54,16 +54,16 @@ body_begins ls (inl h) =
     (Placed (seconds_of p.0), p.1, (well_formed p.0 p.2.0, p.2.1 ∙ ap (λ (pairs : List (ℤ × ℤ)). counted_lines (codes "placing ") at_line pairs) (sym (pairs_again p.0))))
 body_begins ls (inr h) =
     let c = count_begins (codes "cycle ") cycle_line HasNumbers (Span 0) (omega arith) ls h in
-    (Round c.0, c.1, (c.2.0, c.2.1))
+    (Cycle c.0, c.1, (c.2.0, c.2.1))
 
 -- no lines are a cycle
-no_lines : IsWellFormed (Round [])
+no_lines : IsWellFormed (Cycle [])
 no_lines = (All-nil HasNumbers, omega arith)
 
 -- lines that are begun by their parts begin a text
 parts_begin : (ls : Lines) → IsBegunByParts ls → IsBegun ls
-parts_begin ls (inl none) = (Round [], text_lines (Round []), (no_lines, ap (λ (x : Lines). x ++ text_lines (Round [])) none))
-parts_begin ls (inr (inl first)) = between_begins first_line IsWellFormed body_lines ls [] first (Round [], body_lines (Round []), (no_lines, refl))
+parts_begin ls (inl none) = (Cycle [], text_lines (Cycle []), (no_lines, ap (λ (x : Lines). x ++ text_lines (Cycle [])) none))
+parts_begin ls (inr (inl first)) = between_begins first_line IsWellFormed body_lines ls [] first (Cycle [], body_lines (Cycle []), (no_lines, refl))
 parts_begin ls (inr (inr (inl t))) = between_begins first_line IsWellFormed body_lines ls t.0 t.2 (body_begins t.0 t.1)
 parts_begin ls (inr (inr (inr w))) = (w.0, [], (w.1, append-nil ls ∙ w.2))
 

@@ -22,10 +22,10 @@ abbrev pub IsBadLine : List ℕ → ℕ → Type 0
 IsBadLine text line = IsBadLineBy IsBegun text line
 
 -- this evidence was read, unless out of memory
-abbrev pub Reads : PlainEvidence → Result SecondsEvidence ReadEvidence → Type 0
-Reads e (Ok evidence) = evidence_of evidence ≡ e
-Reads e (Err Memory) = ⊤
-Reads e (Err (BadLine line)) = ⊥
+abbrev pub ReadsSeconds : PlainEvidence → Result SecondsEvidence ReadEvidence → Type 0
+ReadsSeconds e (Ok evidence) = evidence_of evidence ≡ e
+ReadsSeconds e (Err Memory) = ⊤
+ReadsSeconds e (Err (BadLine line)) = ⊥
 
 -- the bad line is reported, unless out of memory
 abbrev pub TellsBadLine : List ℕ → ReadEvidence → Type 0

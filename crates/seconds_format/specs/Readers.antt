@@ -4,10 +4,10 @@ use Rattle.evidence_format.specs.Lines.{Lines}
 use Rattle.evidence_format.specs.Readers.{many_at, end_at}
 use Rattle.evidence_format.specs.Reading.{Read, ◌>>=◌, line_at}
 use Rattle.evidence_format.specs.Words.{same_of}
-use Rattle.seconds_core.specs.Evidence.{PlainEvidence, Placed, Round}
+use Rattle.seconds_core.specs.Evidence.{PlainEvidence, Placed, Cycle}
 use Rattle.seconds_core.specs.declared.line.Line.{Line}
 use Rattle.seconds_format.specs.declared.head.Head.{Head}
-use Rattle.seconds_format.specs.declared.head.Head.TheVariants.{Placing, Cycle}
+use Rattle.seconds_format.specs.declared.head.Head.TheVariants as head
 use Rattle.seconds_format.specs.Forms.{cycle_line_of, head_of}
 use Rattle.seconds_format.specs.Texts.{first_line}
 use Rattle.seconds_format.specs.Words.{pair_of}
@@ -27,12 +27,12 @@ seconds_of (pair ∷ pairs) = pair.0 ∷ pair.1 ∷ seconds_of pairs
 
 -- what follows the line that names the kind
 unfoldable pub rest_at : Head → Lines → Read PlainEvidence
-rest_at (Placing n) ls = do
+rest_at (head.Placing n) ls = do
   pairs ← pairs_at n ls
   Ok (Placed (seconds_of pairs.0), pairs.1)
-rest_at (Cycle n) ls = do
+rest_at (head.Cycle n) ls = do
   lines ← cycle_at n ls
-  Ok (Round lines.0, lines.1)
+  Ok (Cycle lines.0, lines.1)
 
 unfoldable pub body_at : Lines → Read PlainEvidence
 body_at ls = do

@@ -5,7 +5,7 @@ use Rattle.std.specs.Int.{w64}
 use Rattle.std.specs.List.{All, concat}
 use Rattle.evidence_format.specs.Evidence.{IsNumber, last_line, one_number, two_numbers}
 use Rattle.evidence_format.specs.Lines.{Lines}
-use Rattle.seconds_core.specs.Evidence.{IsPlacing, PlainEvidence, Placed, Round}
+use Rattle.seconds_core.specs.Evidence.{ArePairs, PlainEvidence, Placed, Cycle}
 use Rattle.seconds_core.specs.declared.line.Line.{Line}
 use Rattle.seconds_core.specs.declared.line.Line.TheVariants.{Span, Via, Lower, Upper, Least, Most}
 
@@ -28,8 +28,8 @@ HasNumbers (Most i) = IsNumber i
 
 -- all numbers can stand in a text, and how many intervals or lines there are
 abbrev pub IsWellFormed : PlainEvidence → Type 0
-IsWellFormed (Placed seconds) = IsPlacing seconds × All IsLong seconds
-IsWellFormed (Round lines) = All HasNumbers lines × IsNumber (length lines)
+IsWellFormed (Placed seconds) = ArePairs seconds × All IsLong seconds
+IsWellFormed (Cycle lines) = All HasNumbers lines × IsNumber (length lines)
 
 -- the start and the end of each interval
 abbrev pub pairs_of : List ℤ → List (ℤ × ℤ)
@@ -53,7 +53,7 @@ cycle_line (Most i) = one_number (codes "most ") i
 -- how many intervals there are, and the seconds of each; or how many lines there are, and each of them
 abbrev pub body_lines : PlainEvidence → Lines
 body_lines (Placed seconds) = one_number (codes "placing ") (length (pairs_of seconds)) ∷ map at_line (pairs_of seconds)
-body_lines (Round lines) = one_number (codes "cycle ") (length lines) ∷ map cycle_line lines
+body_lines (Cycle lines) = one_number (codes "cycle ") (length lines) ∷ map cycle_line lines
 
 abbrev pub first_line : List ℕ
 first_line = codes "tml-seconds 1\n"

@@ -2,7 +2,7 @@
 use Rattle.std.specs.Prelude.{ℕ, ℤ, List, ◌++◌, length, codes}
 use Rattle.std.specs.List.{flat_map}
 use Rattle.evidence_format.specs.Evidence.{last_line, one_number}
-use Rattle.seconds_core.specs.Evidence.{PlainEvidence, Placed, Round}
+use Rattle.seconds_core.specs.Evidence.{PlainEvidence, Placed, Cycle}
 use Rattle.seconds_core.specs.declared.line.Line.{Line}
 use Rattle.seconds_format.specs.Texts.{at_line, cycle_line, first_line, pairs_of}
 
@@ -14,7 +14,7 @@ cycle_bytes lines = one_number (codes "cycle ") (length lines) ++ flat_map cycle
 
 abbrev pub body_bytes : PlainEvidence → List ℕ
 body_bytes (Placed seconds) = placing_bytes seconds
-body_bytes (Round lines) = cycle_bytes lines
+body_bytes (Cycle lines) = cycle_bytes lines
 
 abbrev pub text_bytes : PlainEvidence → List ℕ
 text_bytes e = first_line ++ (body_bytes e ++ last_line)

@@ -1,5 +1,5 @@
 //! Reading cycles.
-ghost use Rattle.evidence_format.specs.Given.{Gives};
+ghost use Rattle.evidence_format.specs.Given.{GivesOrStops};
 ghost use Rattle.evidence_format.specs.Lines.{lines_of};
 ghost use Rattle.evidence_format.specs.Reading.{line_at};
 ghost use Rattle.seconds_core.specs.Evidence.{max_lines};
@@ -18,7 +18,7 @@ pub fn cycle_at<'t>(
     count: u32,
     text: &'t [u8],
 ) -> Result<(Cycle, &'t [u8]), Stop<'t>>
-    ensures { Gives (λ x. (x.0, lines_of x.1.now)) result (readers.cycle_at count (lines_of text.now)) }
+    ensures { GivesOrStops (λ x. (x.0, lines_of x.1.now)) result (readers.cycle_at count (lines_of text.now)) }
 {
     let (lines, rest) = lines_at(alloc, count, text)?;
     Ok((Cycle::from_vec(lines.into_vec()), rest))
@@ -30,7 +30,7 @@ fn lines_at<'t>(
     count: u32,
     text: &'t [u8],
 ) -> Result<(List<Line>, &'t [u8]), Stop<'t>>
-    ensures lines { Gives (λ x. (x.0, lines_of x.1.now)) result (readers.cycle_at count (lines_of text.now)) }
+    ensures lines { GivesOrStops (λ x. (x.0, lines_of x.1.now)) result (readers.cycle_at count (lines_of text.now)) }
     ensures few { IfOk result (λ x. length x.0 < max_lines) }
 {
     let mut lines = List::new(alloc);
@@ -45,7 +45,7 @@ fn lines_at<'t>(
 
 /// A line, and what follows it.
 fn line_at(text: &[u8]) -> Result<(Line, &[u8]), Stop<'_>>
-    ensures { Gives (λ x. (x.0, lines_of x.1.now)) result (line_at forms.cycle_line_of (lines_of text.now)) }
+    ensures { GivesOrStops (λ x. (x.0, lines_of x.1.now)) result (line_at forms.cycle_line_of (lines_of text.now)) }
 {
     let (line, rest) = next_line(text).ok_or(Stop::BadLine(text))?;
     let line = cycle_line_of(line).ok_or(Stop::BadLine(text))?;

@@ -1,5 +1,5 @@
 //! The line that names the kind of evidence.
-ghost use Rattle.evidence_format.specs.Given.{Gives};
+ghost use Rattle.evidence_format.specs.Given.{GivesOrStops};
 ghost use Rattle.evidence_format.specs.Lines.{lines_of};
 ghost use Rattle.evidence_format.specs.Reading.{line_at};
 ghost use Rattle.seconds_format.specs.Forms as forms;
@@ -18,7 +18,7 @@ pub enum Head {
 
 /// The kind of evidence, and what follows its line.
 pub fn head_at(text: &[u8]) -> Result<(Head, &[u8]), Stop<'_>>
-    ensures { Gives (λ x. (x.0, lines_of x.1.now)) result (line_at forms.head_of (lines_of text.now)) }
+    ensures { GivesOrStops (λ x. (x.0, lines_of x.1.now)) result (line_at forms.head_of (lines_of text.now)) }
 {
     let (line, rest) = next_line(text).ok_or(Stop::BadLine(text))?;
     let head = head_of(line).ok_or(Stop::BadLine(text))?;

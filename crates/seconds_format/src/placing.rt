@@ -1,8 +1,8 @@
 //! Reading placings.
-ghost use Rattle.evidence_format.specs.Given.{Gives};
+ghost use Rattle.evidence_format.specs.Given.{GivesOrStops};
 ghost use Rattle.evidence_format.specs.Lines.{lines_of};
 ghost use Rattle.evidence_format.specs.Reading.{line_at};
-ghost use Rattle.seconds_core.specs.Evidence.{IsPlacing};
+ghost use Rattle.seconds_core.specs.Evidence.{ArePairs};
 ghost use Rattle.seconds_format.specs.Readers as readers;
 ghost use Rattle.seconds_format.specs.Texts.{pairs_of};
 ghost use Rattle.seconds_format.specs.Words as words;
@@ -20,8 +20,8 @@ pub fn placing_at<'t>(
     count: u32,
     text: &'t [u8],
 ) -> Result<(Placing, &'t [u8]), Stop<'t>>
-    ensures pairs { Gives (λ x. (pairs_of x.0, lines_of x.1.now)) result (readers.pairs_at count (lines_of text.now)) }
-    ensures placing { IfOk result (λ x. IsPlacing x.0) }
+    ensures pairs { GivesOrStops (λ x. (pairs_of x.0, lines_of x.1.now)) result (readers.pairs_at count (lines_of text.now)) }
+    ensures placing { IfOk result (λ x. ArePairs x.0) }
 {
     let (seconds, rest) = pairs_at(alloc, count, text)?;
     Ok((Placing::from_vec(seconds.into_vec()), rest))
@@ -34,7 +34,7 @@ fn pairs_at<'t>(
     count: u32,
     text: &'t [u8],
 ) -> Result<(List<i64>, &'t [u8]), Stop<'t>>
-    ensures pairs { Gives (λ x. (pairs_of x.0, lines_of x.1.now)) result (readers.pairs_at count (lines_of text.now)) }
+    ensures pairs { GivesOrStops (λ x. (pairs_of x.0, lines_of x.1.now)) result (readers.pairs_at count (lines_of text.now)) }
     ensures size { IfOk result (λ x. length x.0 ≡ 2 * count) }
 {
     let mut seconds = List::new(alloc);
@@ -60,7 +60,7 @@ fn push_pair(seconds: &mut List<i64>, start: i64, finish: i64) -> Result<(), Mem
 
 /// The seconds of an interval, and what follows its line.
 fn pair_at(text: &[u8]) -> Result<((i64, i64), &[u8]), Stop<'_>>
-    ensures { Gives (λ x. (x.0, lines_of x.1.now)) result (line_at words.pair_of (lines_of text.now)) }
+    ensures { GivesOrStops (λ x. (x.0, lines_of x.1.now)) result (line_at words.pair_of (lines_of text.now)) }
 {
     let (line, rest) = next_line(text).ok_or(Stop::BadLine(text))?;
     let pair = pair_of(line).ok_or(Stop::BadLine(text))?;

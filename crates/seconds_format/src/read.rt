@@ -1,10 +1,10 @@
 //! Reading placings and cycles.
-ghost use Rattle.evidence_format.specs.Given.{Gives};
+ghost use Rattle.evidence_format.specs.Given.{GivesOrStops};
 ghost use Rattle.evidence_format.specs.Lines.{lines_of};
 ghost use Rattle.net_core.specs.Limits.{max_evidence};
 ghost use Rattle.seconds_core.specs.Evidence.{PlainEvidence};
 ghost use Rattle.seconds_core.specs.View.{evidence_of};
-ghost use Rattle.seconds_format.specs.Begun.{Reads, TellsBadLine};
+ghost use Rattle.seconds_format.specs.Begun.{ReadsSeconds, TellsBadLine};
 ghost use Rattle.seconds_format.specs.Readers as readers;
 ghost use Rattle.seconds_format.specs.Texts.{IsText};
 ghost use Rattle.std.specs.Prelude.{IfErr, IfOk, length, ◌≤◌};
@@ -27,7 +27,7 @@ use std::alloc::Global;
 pub fn read_seconds(alloc: Global, text: &[u8]) -> Result<SecondsEvidence, ReadEvidence>
     requires { length text.now ≤ max_evidence }
     ensures found { IfOk result (λ e. IsText (evidence_of e) text.now) }
-    ensures only { (e : PlainEvidence) → IsText e text.now → Reads e result }
+    ensures only { (e : PlainEvidence) → IsText e text.now → ReadsSeconds e result }
     ensures fault { IfErr result (λ f. TellsBadLine text.now f) }
 {
     match seconds_at(alloc, text) {
@@ -42,7 +42,7 @@ pub fn read_seconds(alloc: Global, text: &[u8]) -> Result<SecondsEvidence, ReadE
 /// A placing or a cycle, with nothing after it.
 #[tactic(auto, unfolding(crate::specs::Readers::seconds_at))]
 fn seconds_at(alloc: Global, text: &[u8]) -> Result<SecondsEvidence, Stop<'_>>
-    ensures { Gives evidence_of result (readers.seconds_at (lines_of text.now)) }
+    ensures { GivesOrStops evidence_of result (readers.seconds_at (lines_of text.now)) }
 {
     let (_, rest) = same_at(b"tml-seconds 1\n", text)?;
     let (evidence, rest) = body_at(alloc, rest)?;
@@ -53,7 +53,7 @@ fn seconds_at(alloc: Global, text: &[u8]) -> Result<SecondsEvidence, Stop<'_>>
 /// What stands between the first line and the last one.
 #[tactic(auto, unfolding(crate::specs::Readers::body_at))]
 fn body_at<'t>(alloc: Global, text: &'t [u8]) -> Result<(SecondsEvidence, &'t [u8]), Stop<'t>>
-    ensures { Gives (λ x. (evidence_of x.0, lines_of x.1.now)) result (readers.body_at (lines_of text.now)) }
+    ensures { GivesOrStops (λ x. (evidence_of x.0, lines_of x.1.now)) result (readers.body_at (lines_of text.now)) }
 {
     let (head, rest) = head_at(text)?;
     rest_at(alloc, head, rest)
@@ -66,7 +66,7 @@ fn rest_at<'t>(
     head: Head,
     text: &'t [u8],
 ) -> Result<(SecondsEvidence, &'t [u8]), Stop<'t>>
-    ensures { Gives (λ x. (evidence_of x.0, lines_of x.1.now)) result (readers.rest_at head (lines_of text.now)) }
+    ensures { GivesOrStops (λ x. (evidence_of x.0, lines_of x.1.now)) result (readers.rest_at head (lines_of text.now)) }
 {
     match head {
         Head::Placing { intervals } => {

@@ -1,5 +1,5 @@
 //! Writing placings and cycles.
-ghost use Rattle.seconds_core.specs.Evidence.{IsPlacing, max_lines};
+ghost use Rattle.seconds_core.specs.Evidence.{ArePairs, max_lines};
 ghost use Rattle.seconds_core.specs.View.{evidence_of};
 ghost use Rattle.seconds_format.specs.Texts.{HasNumbers, IsLong, IsPair, IsText, IsWellFormed, at_line, cycle_line, pairs_of};
 ghost use Rattle.seconds_format.specs.Written as written;
@@ -50,7 +50,7 @@ fn push_body(out: &mut Vec<u8>, evidence: &SecondsEvidence) -> Result<(), AllocE
 
 #[tactic(auto, using(crate::proofs::PairLaws::pairs_half, crate::proofs::PairLaws::all_long))]
 fn push_placing(out: &mut Vec<u8>, seconds: &[i64]) -> Result<(), AllocError>
-    requires { IsPlacing seconds.now }
+    requires { ArePairs seconds.now }
     ensures bytes { OnOk result (out.new.items ≡ out.old.items ++ written.placing_bytes seconds.now) }
     ensures good { OnOk result (All IsLong seconds.now) }
 {

@@ -6,7 +6,7 @@ use Rattle.std.proofs.lemmas.Int.{ints}
 use Rattle.std.proofs.lemmas.List.{get_or-set_other, get_or-set_same, get_or_append_left, get_or_push, length-replicate, length-set, length_push, reverse-append}
 use Rattle.std.proofs.lemmas.List.Elements.{All-cons, All-get_or, All-nil}
 use Rattle.seconds_core.specs.Constraints.{constraint_of}
-use Rattle.seconds_core.specs.Cycles.{IsJoined, IsNegative, sum_of, weight_in}
+use Rattle.seconds_core.specs.Cycles.{LeadFromTo, IsNegative, sum_of, weight_in}
 use Rattle.seconds_core.specs.Timed.{PlainTimed, max_second}
 use Rattle.seconds_core.specs.declared.line.Line.{Line}
 use Rattle.seconds_search.specs.declared.edges.Edge.{Edge}
@@ -122,8 +122,8 @@ module _ (edges : List Edge) (d : PlainDistances) (is : IsRelaxed edges d) where
 
 -- ---- its lines
 
-joined_push : (timed : PlainTimed) (lines : List Line) (line : Line) (x y z : ℕ) → IsJoined timed lines x y → IsJoined timed (line ∷ []) y z → IsJoined timed (lines ++ line ∷ []) x z
-joined_push timed [] line x y z same after = subst (λ p. IsJoined timed (line ∷ []) p z) (sym same) after
+joined_push : (timed : PlainTimed) (lines : List Line) (line : Line) (x y z : ℕ) → LeadFromTo timed lines x y → LeadFromTo timed (line ∷ []) y z → LeadFromTo timed (lines ++ line ∷ []) x z
+joined_push timed [] line x y z same after = subst (λ p. LeadFromTo timed (line ∷ []) p z) (sym same) after
 joined_push timed (first ∷ lines) line x y z (c, named, from, rest) after = (c, named, from, joined_push timed lines line c.to y z rest after)
 
 sum_push : (timed : PlainTimed) (lines : List Line) (line : Line) → sum_of timed (lines ++ line ∷ []) ≡ sum_of timed lines +ℤ weight_in (constraint_of timed line)
@@ -132,7 +132,7 @@ sum_push timed (first ∷ lines) line = omega (arith, ints, sum_push timed lines
 
 module _ (timed : PlainTimed) (edges : List Edge) (d : PlainDistances) (is : IsRelaxed edges d) (named : All (IsEdge timed) edges) where
   -- the lines of a trail, turned round, lead on to where it began, and their sum is its weight
-  leads : (trail : List ℕ) (p q : ℕ) → IsTrail edges d.predecessors p trail q → IsJoined timed (reverse (map (line_at edges) trail)) q p × (sum_of timed (reverse (map (line_at edges) trail)) ≡ weight_of edges trail)
+  leads : (trail : List ℕ) (p q : ℕ) → IsTrail edges d.predecessors p trail q → LeadFromTo timed (reverse (map (line_at edges) trail)) q p × (sum_of timed (reverse (map (line_at edges) trail)) ≡ weight_of edges trail)
   leads [] p q same = (sym same, refl)
   leads (e ∷ trail) p q (at, on) =
       let edge = is.lowered p e at in
@@ -142,7 +142,7 @@ module _ (timed : PlainTimed) (edges : List Edge) (d : PlainDistances) (is : IsR
       let turned = reverse-append (line_at edges e ∷ []) (map (line_at edges) trail) in
       let all = joined_push timed lines (line_at edges e) q (constraint_at edges e).from p joined (constraint_at edges e, its, refl, edge.to) in
       let weighs = ap weight_in its in (
-        subst (λ (ls : List Line). IsJoined timed ls q p) (sym turned) all,
+        subst (λ (ls : List Line). LeadFromTo timed ls q p) (sym turned) all,
         ap (sum_of timed) turned ∙ omega (arith, ints, sum_push timed lines (line_at edges e), sum, weighs),
       )
 

@@ -5,7 +5,7 @@ use Rattle.net_core.specs.Least.{IsLeast}
 use Rattle.net_core.specs.Ranks.{timeline_of}
 use Rattle.net_core.specs.Relations.{Timeline}
 use Rattle.net_core.specs.declared.atom.Atom.{Atom}
-use Rattle.order_closure.specs.Tables.{Table, Keeps, AreClosed, AreKept}
+use Rattle.order_closure.specs.Tables.{Table, Keeps, AreClosed, AreCellsKept}
 use Rattle.order_closure.specs.Timelines.{opposite}
 use Rattle.order_closure.specs.declared.cell.Cell.{Cell}
 use Rattle.order_closure.proofs.LeastRanks.{opposite_is, same_least}
@@ -13,7 +13,7 @@ use Rattle.order_closure.proofs.Ranking.{ranks_kept, ranks_least, ranks_small}
 use Rattle.timeline.specs.Ranking.{AreRanks}
 
 module _ (n : ℕ) (cell : ℕ → ℕ → Cell) (t : List ℕ) (closed : AreClosed n cell) (ranks : AreRanks n cell t) where
-  pub least_ranks : IsLeast n (AreKept n cell) (timeline_of t)
+  pub least_ranks : IsLeast n (AreCellsKept n cell) (timeline_of t)
   least_ranks = record {
     holds = ranks_kept n cell closed (timeline_of t) (λ r p lr lp. (ranks p lp).above r lr) (λ p m lp. (ranks p lp).least m);
     least = ranks_least n cell closed (timeline_of t) (λ r p lr lp. (ranks p lp).above r lr) (λ p m lp. (ranks p lp).least m);

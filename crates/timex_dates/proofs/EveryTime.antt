@@ -13,7 +13,8 @@ use Rattle.timex_value.specs.declared.shape.Shape.{Shape}
 use Rattle.timex_value.specs.declared.shape.Shape.TheVariants as ShapeOf
 use Rattle.timex_value.specs.declared.value.Value.TheVariants as ValueOf
 use Rattle.timex_value.specs.Civil.{day_index, month_length, IsDate}
-use Rattle.timex_value.specs.Filling.{HasYear, IsYearOf}
+use Rattle.timex_value.specs.Filling.{IsYearOf}
+use Rattle.timex_value.specs.Years.{HasYear}
 use Rattle.timex_value.specs.Values.{year_of, shape_of}
 use Rattle.timex_dates.specs.Seconds.{Extent, IsCivilSecond, second_number, monday_of}
 use Rattle.timex_dates.specs.Sets.{InYears, InWeekYears, InMonth, InQuarter, InHalf, InDay, InWeek, InWeekday, InHour, InMinute, InSecond}

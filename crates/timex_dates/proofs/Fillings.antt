@@ -9,7 +9,8 @@ use Rattle.timex_value.specs.declared.shape.Shape.{Shape}
 use Rattle.timex_value.specs.declared.shape.Shape.TheVariants as ShapeOf
 use Rattle.timex_value.specs.declared.value.Calendar.{Calendar}
 use Rattle.timex_value.specs.Text.{IsWritten, IsYearWritten, IsShapeWritten}
-use Rattle.timex_value.specs.Filling.{CanBe, DigitCanBe, YearCanBe, HasDate, HasClock, IsValidIn, HasFilling, HasYear}
+use Rattle.timex_value.specs.Filling.{CanBe, DigitCanBe, YearCanBe, HasDate, HasClock, IsValidIn, HasFilling}
+use Rattle.timex_value.specs.Years.{HasYear}
 use Rattle.timex_value.specs.Values.{year_of, shape_of}
 use Rattle.timex_value.proofs.Filled.{clock_limits}
 use Rattle.timex_dates.specs.Valid.{IfKnown, HasClockParts, HasDateParts, HasShapeParts, HasParts}

@@ -1,4 +1,4 @@
--- The calendar has the known part of a value.
+-- Serves the code: the calendar has the known part of a value.
 use Rattle.std.specs.Prelude.{ℕ, ◌<◌, ◌≤◌}
 use Rattle.std.specs.Int.{IsInRange}
 use Rattle.timex_value.specs.declared.shape.Year.{Year}

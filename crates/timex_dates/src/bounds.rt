@@ -5,7 +5,7 @@ ghost use Rattle.timex_dates.specs.Answers.{BoundsOf, HasBounds, IsCivil, calend
 ghost use Rattle.timex_dates.specs.KnownParts as parts;
 ghost use Rattle.timex_dates.specs.KnownParts.{Belongs};
 ghost use Rattle.timex_dates.specs.Valid.{HasParts};
-ghost use Rattle.timex_value.specs.Filling.{HasYear};
+ghost use Rattle.timex_value.specs.Years.{HasYear};
 ghost use Rattle.timex_value.specs.Values as values;
 
 use crate::interval::Interval;

@@ -5,7 +5,7 @@ ghost use Rattle.timex_dates.specs.Seconds as seconds;
 ghost use Rattle.timex_dates.specs.Seconds.{Extent, IsCivilSecond, IsDayNumber};
 ghost use Rattle.timex_dates.specs.Sets.{InDay, InHalf, InHour, InMinute, InMonth, InQuarter, InSecond, InWeek, InWeekYears, InWeekday, InYears};
 ghost use Rattle.timex_value.specs.Civil.{IsDate, day_index, month_length, weeks_of};
-ghost use Rattle.timex_value.specs.Filling.{HasYear};
+ghost use Rattle.timex_value.specs.Years.{HasYear};
 
 use crate::days::{day_number, last_of_month, monday_number};
 use timex_value::Year;

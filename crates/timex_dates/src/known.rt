@@ -4,7 +4,7 @@ ghost use Rattle.std.specs.Prelude.{◌≡◌, ◌<ℤ◌};
 ghost use Rattle.timex_dates.specs.KnownParts as parts;
 ghost use Rattle.timex_dates.specs.KnownParts.{Belongs, InAllYears, InDate, InHalfDate, InQuarterDate, InShape, InWeekDate};
 ghost use Rattle.timex_dates.specs.Seconds.{Extent, IsCivilSecond};
-ghost use Rattle.timex_value.specs.Filling.{HasYear};
+ghost use Rattle.timex_value.specs.Years.{HasYear};
 ghost use Rattle.timex_dates.specs.Valid.{HasDateParts, HasHalfPart, HasParts, HasQuarterPart, HasShapeParts, HasWeekParts};
 
 use crate::interval;

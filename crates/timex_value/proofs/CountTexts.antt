@@ -7,7 +7,8 @@ use Rattle.std.specs.Int.{IsInRange}
 use Rattle.std.specs.Char.{is_ascii_digit, digit_value}
 use Rattle.std.specs.Str.{byte}
 use Rattle.std.specs.Str.Parse.{AllDigits, digits_value}
-use Rattle.timex_value.specs.Durations.{CountThen, ReadsCount}
+use Rattle.timex_value.specs.Durations.{CountThen}
+use Rattle.timex_value.specs.Counts.{ReadsCount}
 use Rattle.timex_value.specs.declared.length.Count.{Count}
 use Rattle.timex_value.specs.declared.length.Count.TheVariants.{Absent, Number, Unknown}
 

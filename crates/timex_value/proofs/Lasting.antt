@@ -14,7 +14,8 @@ use native.Mathlib.Decide.{ℕ_discrete}
 use Rattle.timex_value.specs.declared.length.Count.{Count}
 use Rattle.timex_value.specs.declared.length.Count.TheVariants.{Absent, Number, Unknown}
 use Rattle.timex_value.specs.declared.length.Length.{Length}
-use Rattle.timex_value.specs.Durations.{CountThen, ReadsCount, ClockThen, ClockText, SpellsLength, has_clock, is_length}
+use Rattle.timex_value.specs.Durations.{CountThen, ClockThen, ClockText, SpellsLength, has_clock, is_length}
+use Rattle.timex_value.specs.Counts.{ReadsCount}
 use Rattle.timex_value.proofs.CountTexts.{number_is, number_read, x_then, tail_is}
 use Rattle.timex_value.proofs.Lengths.{ReadsCounts, clock_read, length_read, one_clock, length_by_counts}
 

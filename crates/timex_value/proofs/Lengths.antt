@@ -2,7 +2,8 @@
 use Rattle.std.proofs.Common.{◌≡◌, ◌≢◌, inl, inr, ℕ, Bool, true, false, ◌||◌, List, [], ◌∷◌, codes, refl, sym, ap, ◌∙◌, subst, arith}
 use Rattle.std.specs.Str.{byte}
 use Rattle.std.specs.Char.{is_ascii_digit}
-use Rattle.timex_value.specs.Durations.{ReadsCount, CountsThen, ClockThen, ClockText, SpellsLength, is_present, has_clock}
+use Rattle.timex_value.specs.Durations.{CountsThen, ClockThen, ClockText, SpellsLength, is_present, has_clock}
+use Rattle.timex_value.specs.Counts.{ReadsCount}
 use Rattle.timex_value.specs.declared.length.Count.{Count}
 use Rattle.timex_value.specs.declared.length.Count.TheVariants.{Absent, Number, Unknown}
 use Rattle.timex_value.specs.declared.length.Length.{Length}

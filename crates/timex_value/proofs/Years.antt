@@ -2,7 +2,7 @@
 use Rattle.timex_value.specs.declared.shape.Year.{Year}
 use Rattle.timex_value.specs.declared.shape.Year.TheVariants.{Known, Decade, Century, Unknown}
 use Rattle.timex_value.specs.Text.{IsYearWritten}
-use Rattle.timex_value.specs.Filling.{HasYear}
+use Rattle.timex_value.specs.Years.{HasYear}
 
 -- the number of a year that there is has the digits that are written
 pub year_written : (year : Year) → HasYear year → IsYearWritten year

@@ -3,5 +3,7 @@ pub mod Civil
 pub mod Text
 pub mod Places
 pub mod Filling
+pub mod Years
 pub mod Durations
+pub mod Counts
 pub mod Values

@@ -4,7 +4,8 @@ ghost use Rattle.std.specs.Char.{is_ascii_digit};
 ghost use Rattle.std.specs.List.{prefix_len};
 ghost use Rattle.std.specs.Str.Parse.{AllDigits, digits_value};
 ghost use Rattle.timex_value.specs.Durations as durations;
-ghost use Rattle.timex_value.specs.Durations.{CountThen, NoNumber, NoUnknown, NoClock, ReadsCount, ClockText, SpellsLength};
+ghost use Rattle.timex_value.specs.Durations.{CountThen, ClockText, SpellsLength};
+ghost use Rattle.timex_value.specs.Counts.{NoNumber, NoUnknown, NoClock, ReadsCount};
 ghost use Rattle.timex_value.specs.declared.length.Count.TheVariants as count;
 ghost use Rattle.timex_value.specs.Text.{FindsExactly};
 

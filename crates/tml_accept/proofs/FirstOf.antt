@@ -3,7 +3,7 @@ use Rattle.std.proofs.Common.{ℕ, List, inl, inr, Option, Some, None, IfSome}
 use Rattle.faults.specs.declared.kind.FaultKind.{FaultKind}
 use Rattle.tml_span.specs.declared.fault.Cut as cuts
 use Rattle.tml_span.specs.declared.fault.Cut.TheVariants as cut
-use Rattle.tml_span.specs.Faults.{HasFault as HasCutFault, cut_kind_and_place}
+use Rattle.tml_span.specs.Faults.{HasCutFault, cut_kind_and_place}
 use Rattle.tml_tree.specs.Plain.{PlainNode}
 use Rattle.tml_tree.specs.Walking.{elements}
 use Rattle.tml_tree.specs.Whole.{IsTreeOf, UnitsFaultAt, kind_and_place as tree_kind_and_place}
@@ -23,7 +23,7 @@ of_cut doc (cut.BadMarkup place) h = inl (inl h)
 of_cut doc cut.Memory h = tt
 
 -- the fault of its units
-pub of_units : (doc : List ℕ) (o : Option (FaultKind × ℕ)) → IfSome o (λ f. UnitsFaultAt doc f.1 f.0) → IfSome o (λ f. FirstFault doc f.0 f.1)
+of_units : (doc : List ℕ) (o : Option (FaultKind × ℕ)) → IfSome o (λ f. UnitsFaultAt doc f.1 f.0) → IfSome o (λ f. FirstFault doc f.0 f.1)
 of_units doc None h = tt
 of_units doc (Some f) h = inl (inr h)
 

@@ -1,16 +1,13 @@
 //! Whether a document is well annotated.
-ghost use Rattle.std.specs.Prelude.{◌≡◌, ◌≤◌, length, IfOk, IfErr, IfSome};
-ghost use Rattle.tml_tree.specs.Plain.{PlainNode};
-ghost use Rattle.tml_accept.specs.Acceptance.{Accepted, AreTypedTags, FirstFault, Says};
+ghost use Rattle.std.specs.Prelude.{◌≤◌, length, IfOk, IfErr, IfSome};
+ghost use Rattle.tml_accept.specs.Acceptance.{FirstFault, Says};
 ghost use Rattle.tml_accept.specs.Taking.{HasTakenAll};
 ghost use Rattle.net_core.specs.Limits.{max_document};
 
 use faults::FaultKind;
 use std::alloc::Global;
-use tml_refs::{Document, Resolver, resolve};
-use tml_span::reader;
-use tml_tree::{TagTree, tree_from};
-use tml_types::{TagReader, Typed, type_tags};
+use tml_refs::{Document, Resolver};
+use tml_types::TagReader;
 
 /// The kind and the place of a fault of a document. Out of memory there is none.
 pub type Fault = Option<(FaultKind, u32)>;
@@ -38,31 +35,6 @@ pub fn accept<'s>(alloc: Global, doc: &'s [u8]) -> Result<Document<'s>, Fault>
     }
 }
 
-/// The tree of a document that has no fault in any of the five phases.
-///
-/// # Errors
-///
-/// The first fault, as `accept` has it. Out of memory it is None.
-pub fn accepted_tree<'s>(alloc: Global, doc: &'s [u8]) -> Result<TagTree<'s>, Fault>
-    requires { length doc.now ≤ max_document }
-    ensures tree { IfOk result (λ tree. tree ≡ doc.now) }
-    ensures ok { IfOk result (λ tree. Accepted doc.now) }
-    ensures err { IfErr result (λ fault. IfSome fault (λ f. FirstFault doc.now f.0 f.1)) }
-{
-    let tree = match nested(alloc, doc) {
-        Ok(tree) => tree,
-        Err(fault) => return Err(fault),
-    };
-    let typed = match typed_tags(alloc, &tree) {
-        Ok(typed) => typed,
-        Err(fault) => return Err(fault),
-    };
-    match resolve(alloc, &typed) {
-        Ok(_) => Ok(tree),
-        Err(fault) => Err(fault.kind_and_place()),
-    }
-}
-
 /// A resolver that has taken all tags of a document, or the first fault of its bytes, its units, their nesting or its
 /// attributes.
 fn resolver<'s>(alloc: Global, doc: &'s [u8]) -> Result<Resolver<'s>, Fault>
@@ -85,32 +57,5 @@ fn resolver<'s>(alloc: Global, doc: &'s [u8]) -> Result<Resolver<'s>, Fault>
             Ok(None) => return Ok(resolver),
             Err(fault) => return Err(fault.kind_and_place()),
         }
-    }
-}
-
-/// The tree of a document, or the first fault of its bytes, its units or their nesting.
-fn nested<'s>(alloc: Global, doc: &'s [u8]) -> Result<TagTree<'s>, Fault>
-    requires { length doc.now ≤ max_document }
-    ensures ok { IfOk result (λ tree. tree ≡ doc.now) }
-    ensures err { IfErr result (λ fault. IfSome fault (λ f. FirstFault doc.now f.0 f.1)) }
-{
-    let mut reader = match reader(doc) {
-        Ok(reader) => reader,
-        Err(fault) => return Err(Some(fault.kind_and_place())),
-    };
-    match tree_from(alloc, &mut reader) {
-        Ok(tree) => Ok(tree),
-        Err(fault) => Err(fault.kind_and_place()),
-    }
-}
-
-/// The typed tags of a tree, or the first fault of its attributes.
-fn typed_tags<'s>(alloc: Global, tree: &TagTree<'s>) -> Result<Typed<'s>, Fault>
-    ensures ok { IfOk result (λ tags. (root : PlainNode) × AreTypedTags tree.now root tags) }
-    ensures err { IfErr result (λ fault. IfSome fault (λ f. FirstFault tree.now f.0 f.1)) }
-{
-    match type_tags(alloc, tree) {
-        Ok(typed) => Ok(typed),
-        Err(fault) => Err(fault.kind_and_place()),
     }
 }

@@ -4,5 +4,5 @@
 mod accepting;
 mod laws;
 
-pub use accepting::{Fault, accept, accepted_tree};
+pub use accepting::{Fault, accept};
 pub use laws::{every_document_is_judged, one_acceptance};

@@ -20,3 +20,5 @@ pub mod Pushing
 pub mod Searching
 pub mod Sorting
 pub mod SortedNames
+pub mod Writing
+pub mod WrittenUnits

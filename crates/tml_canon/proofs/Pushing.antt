@@ -1,13 +1,12 @@
 -- The canonical text of a tag, piece by piece.
 use Rattle.std.proofs.Common.{◌≡◌, ℕ, suc, ◌+◌, ◌<◌, ◌≤◌, true, false, add-one, drop-cons, List, [], ◌∷◌, ◌++◌, length, drop, get_or, map, refl, sym, ap, ◌∙◌, append_assoc}
 use Rattle.std.specs.Prelude.{◌==◌, codes}
-use Rattle.std.specs.List.{flat_map}
 use Rattle.std.proofs.lemmas.Bool.{eqb-true, eqb-false}
 use Rattle.std.proofs.lemmas.List.{append-nil, drop_all, nil_from_length}
 use Rattle.std.proofs.lemmas.Grind.{flat_map-append}
 use Rattle.tml_span.specs.Units.{Attribute, start_tag, end_tag}
 use Rattle.tml_span.specs.View.{attribute_of}
-use Rattle.tml_span.specs.Written.{attribute_text, kind_text, written}
+use Rattle.tml_span.specs.Written.{kind_text, written}
 use Rattle.tml_tree.specs.declared.node.Tag.{Tag}
 use Rattle.tml_tree.specs.declared.node.Node.{Node}
 use Rattle.tml_tree.specs.Plain.{PlainNode, PlainNodes, none, more, element, nodes_of}
@@ -15,30 +14,26 @@ use Rattle.tml_tree.specs.TagNames.{text_of}
 use Rattle.tml_tree.specs.View.{node_of, tag_node}
 use Rattle.tml_tree.specs.Written.{all_kinds, kinds_of, node_text}
 use Rattle.tml_tree.proofs.Rows.{element_is}
-use Rattle.tml_canon.specs.Canonical.{canonical, canonical_nodes, canonical_attributes}
+use Rattle.tml_canon.specs.Canonical.{canonical, canonical_nodes, canonical_attributes, opening}
 
 -- the text of nodes one after another
 abbrev pub nodes_text : PlainNodes → List ℕ
 nodes_text nodes = written (all_kinds nodes)
 
 -- the text of the first node, and that of the others
-nodes_text-more : (n : PlainNode) (ns : PlainNodes) → nodes_text (more n ns) ≡ node_text n ++ nodes_text ns
+pub nodes_text-more : (n : PlainNode) (ns : PlainNodes) → nodes_text (more n ns) ≡ node_text n ++ nodes_text ns
 nodes_text-more n ns = flat_map-append kind_text (kinds_of n) (all_kinds ns)
-
--- what a start tag and an empty tag begin with
-abbrev pub opening : List ℕ → List Attribute → List ℕ
-opening name attrs = codes "<" ++ name ++ flat_map attribute_text attrs
 
 -- an end tag
 abbrev pub closing : List ℕ → List ℕ
 closing name = codes "</" ++ name ++ codes ">"
 
 -- the text of an element without children is that of an empty tag
-empty_text : (name : List ℕ) (attrs : List Attribute) → node_text (element 0 0 name attrs none) ≡ opening name attrs ++ codes "/>"
+pub empty_text : (name : List ℕ) (attrs : List Attribute) → node_text (element 0 0 name attrs none) ≡ opening name attrs ++ codes "/>"
 empty_text name attrs = append-nil (opening name attrs ++ codes "/>")
 
 -- the text of an element with children is that of a start tag, these and an end tag
-full_text : (name : List ℕ) (attrs : List Attribute) (n : PlainNode) (ns : PlainNodes)
+pub full_text : (name : List ℕ) (attrs : List Attribute) (n : PlainNode) (ns : PlainNodes)
     → node_text (element 0 0 name attrs (more n ns)) ≡ opening name attrs ++ codes ">" ++ nodes_text (more n ns) ++ closing name
 full_text name attrs n ns =
     let inner : written (all_kinds (more n ns) ++ end_tag name ∷ []) ≡ nodes_text (more n ns) ++ closing name =

@@ -1,13 +1,13 @@
 -- Attributes that are sorted by their names are in order.
-use Rattle.std.proofs.Common.{◌≡◌, ℕ, ◌+◌, ◌<◌, ◌≤◌, Bool, true, false, cond, List, [], ◌∷◌, ◌++◌, length, get_or, map, take, refl, sym, ap, ◌∙◌}
+use Rattle.std.proofs.Common.{◌≡◌, ℕ, ◌+◌, ◌<◌, Bool, true, false, cond, List, [], ◌∷◌, ◌++◌, length, get_or, map, take, refl, sym, ap, ◌∙◌}
 use Rattle.std.specs.Cmp.{IsStrictWeakOrder}
 use Rattle.std.specs.Cmp.Lexicographic.{slice_cmp}
-use Rattle.std.specs.List.{flat_map}
+use Rattle.std.specs.List.{IsAllAdjacentAnswer, flat_map}
 use Rattle.std.specs.List.Sorted.{IsSortedBy, IsStableBy}
 use Rattle.std.specs.declared.cmp.Ordering.{Ordering}
 use Rattle.std.specs.declared.cmp.Ordering.TheVariants.{Less, Equal, Greater}
-use Rattle.std.specs.Ordering.{is_lt, is_gt, nat_cmp, ordering_reverse}
-use Rattle.std.proofs.lemmas.List.{flat_map_more, map-append, map_more, take_all}
+use Rattle.std.specs.Ordering.{is_le, is_lt, is_gt, nat_cmp, ordering_reverse}
+use Rattle.std.proofs.lemmas.List.{flat_map_more, map-append, map_more}
 use Rattle.std.proofs.lemmas.Cmp.{nat_list_cmp_total}
 use Rattle.std.proofs.lemmas.List.Sorted.{ranks_by}
 use Rattle.tml_span.specs.declared.unit.Attr.{Attr}
@@ -67,10 +67,28 @@ attribute_put start out put attrs i d below so_far e =
     ∙ flat_map_more attribute_text start (one (take i attrs)) (canonical_attribute (attribute_of (get_or attrs i d)))
     ∙ ap (λ (as' : List Attribute). start ++ flat_map attribute_text as') (sym more)
 
--- the attributes that a stable sort by name gives are the canonical ones
-pub sorted_put : (start out : List ℕ) (attrs sorted : List Attr) (i : ℕ) → length sorted ≤ i → IsSortedBy has_lower_name sorted → IsStableBy has_lower_name attrs sorted
-    → out ≡ start ++ attributes_text (take i sorted) → out ≡ start ++ flat_map attribute_text (canonical_attributes (map attribute_of attrs))
-sorted_put start out attrs sorted i all up same e =
+-- attributes in the order of their names are the canonical ones of those that a stable sort by name would put so
+pub sorted_text : (start : List ℕ) (attrs sorted : List Attr) → IsSortedBy has_lower_name sorted → IsStableBy has_lower_name attrs sorted → start ++ attributes_text sorted ≡ start ++ flat_map attribute_text (canonical_attributes (map attribute_of attrs))
+sorted_text start attrs sorted up same =
     let in_place : map attribute_of sorted ≡ in_order (map attribute_of attrs) =
     ap (map attribute_of) (sorted_is_ordered has_lower_name names_rank attrs sorted up same) ∙ ordered_is_in_order attrs in
-    e ∙ ap (λ (as' : List Attr). start ++ attributes_text as') (take_all i sorted all) ∙ ap (λ (as' : List Attribute). start ++ flat_map attribute_text (map canonical_attribute as')) in_place
+    ap (λ (as' : List Attribute). start ++ flat_map attribute_text (map canonical_attribute as')) in_place
+
+-- ---- attributes that are in order already
+
+-- the name of one attribute does not come after that of another one
+abbrev pub is_not_after : Attr → Attr → Bool
+is_not_after a b = is_le (slice_cmp nat_cmp a.name.now b.name.now)
+
+not_less : (o : Ordering) → true ≡ is_le o → is_lt (ordering_reverse o) ≡ false
+not_less Less e = refl
+not_less Equal e = refl
+not_less Greater e = absurd cc
+
+not_lower : (a b : Attr) → true ≡ is_not_after a b → has_lower_name b a ≡ false
+not_lower a b e = ap is_lt (nat_list_cmp_total.antisymm b.name.now a.name.now) ∙ not_less (slice_cmp nat_cmp a.name.now b.name.now) e
+
+-- where each name does not come after the next one, they are sorted
+pub sorted_by_test : (attrs : List Attr) (r : Bool) → r ≡ true → IsAllAdjacentAnswer (λ a b t. t ≡ is_not_after a b) attrs r → IsSortedBy has_lower_name attrs
+sorted_by_test attrs true e h = λ k d from below. not_lower (get_or attrs k d) (get_or attrs (k + 1) d) (h k d below)
+sorted_by_test attrs false e h = absurd cc

@@ -13,7 +13,7 @@ use Rattle.faults.specs.declared.kind.FaultKind.TheVariants as fault
 use Rattle.tml_span.specs.Bytes.{is_white}
 use Rattle.tml_span.specs.Units.{Attribute, Kind, bom, declaration, doctype, comment, text, start_tag, end_tag, empty_tag, PlainUnit}
 use Rattle.tml_tree.specs.Plain.{unit, PlainNode, PlainNodes, text_node, comment_node, element, none, more, nodes_of}
-use Rattle.tml_tree.specs.Nesting.{OpenTag, Opens, name_of, is_seen, is_content, is_element}
+use Rattle.tml_tree.specs.Nesting.{OpenTag, Opens, open_name, is_seen, is_content, is_element}
 use Rattle.tml_tree.specs.Rules.{history_of, is_tag, is_unknown, is_misplaced, is_misplaced_tag, is_too_deep}
 use Rattle.tml_tree.specs.Stage.{Stage, step, run}
 use Rattle.tml_tree.specs.TagNames.{is_known, is_link, is_root}
@@ -86,19 +86,19 @@ root_rule false false h = absurd cc
 
 -- a tag that is in no way at fault may be open there
 tag_is_open : (us : List PlainUnit) (tags : List OpenTag) (nodes : List PlainNode) (name : List ℕ) (attrs : List Attribute) → Opens (filter is_content us) tags nodes
-    → not (is_known name) ≡ false → is_misplaced_tag (history_of us (map name_of tags) (is_seen tags nodes)) name ≡ false → nat_le 32 (length (map name_of tags)) ≡ false → MayBeOpen tags name
+    → not (is_known name) ≡ false → is_misplaced_tag (history_of us (map open_name tags) (is_seen tags nodes)) name ≡ false → nat_le 32 (length (map open_name tags)) ≡ false → MayBeOpen tags name
 tag_is_open us [] nodes name attrs o k m d =
     let same = tagged_is_seen us nodes o in
     let root = root_rule (list_any is_tag us) (is_root name) (ap (λ (b : Bool). not (list_any is_tag us) && not (is_root name) || b || false) same ∙ m) in
     sym ((bytes_eq-Decides (codes "TimeML") name).0 root)
 tag_is_open us (t ∷ tags) nodes name attrs o k m d =
     let first = not (list_any is_tag us) && not (is_root name) in
-    let links = list_any is_link (map name_of (t ∷ tags)) in
+    let links = list_any is_link (map open_name (t ∷ tags)) in
     let root = or_parts (links || first || false) (is_root name) m in
     let link = or_parts links first (or_parts (links || first) false root.0).0 in
-    let same : length (map name_of (t ∷ tags)) ≡ length (t ∷ tags) = simp length-map in
+    let same : length (map open_name (t ∷ tags)) ≡ length (t ∷ tags) = simp length-map in
     let few : length (t ∷ tags) < 32 = grind (arith, nat_tests, d, same) in
-    (not-false (is_known name) k, root.1, few, (or_parts (is_link t.name) (list_any is_link (map name_of tags)) link.0).0)
+    (not-false (is_known name) k, root.1, few, (or_parts (is_link t.name) (list_any is_link (map open_name tags)) link.0).0)
 
 -- in a link tag a text that is in no way at fault is white space
 text_rule : (white link others : Bool) → (not white && (link || others)) ≡ false → link ≡ true → white ≡ true
@@ -107,9 +107,9 @@ text_rule false true others h l = absurd cc
 text_rule false false others h l = absurd cc
 
 -- a text that is in no way at fault may stand there
-text_follows : (us : List PlainUnit) (tags : List OpenTag) (nodes : List PlainNode) (start end : ℕ) (bytes : List ℕ) → is_misplaced (history_of us (map name_of tags) (is_seen tags nodes)) (text bytes) ≡ false → MayFollow tags (text_node start end bytes)
+text_follows : (us : List PlainUnit) (tags : List OpenTag) (nodes : List PlainNode) (start end : ℕ) (bytes : List ℕ) → is_misplaced (history_of us (map open_name tags) (is_seen tags nodes)) (text bytes) ≡ false → MayFollow tags (text_node start end bytes)
 text_follows us [] nodes start end bytes m = λ e. absurd cc
-text_follows us (t ∷ tags) nodes start end bytes m = (tt, text_rule (list_all is_white bytes) (is_link t.name) (list_any is_link (map name_of tags)) m)
+text_follows us (t ∷ tags) nodes start end bytes m = (tt, text_rule (list_all is_white bytes) (is_link t.name) (list_any is_link (map open_name tags)) m)
 
 -- a comment may stand anywhere
 comment_follows : (tags : List OpenTag) (start end : ℕ) (bytes : List ℕ) → MayFollow tags (comment_node start end bytes)
@@ -128,7 +128,7 @@ stand_end t tags nodes end s true h e =
 
 -- a unit that is in no way at fault keeps it so
 stand_step : (start end : ℕ) (k : Kind) (us : List PlainUnit) (tags : List OpenTag) (nodes : List PlainNode) (s : Stage) → Opens (filter is_content us) tags nodes → Stand tags nodes → is_unknown k ≡ false
-    → is_misplaced (history_of us (map name_of tags) (is_seen tags nodes)) k ≡ false → is_too_deep (history_of us (map name_of tags) (is_seen tags nodes)) k ≡ false → step tags nodes (unit start end k) ≡ Some s → Stand s.tags s.nodes
+    → is_misplaced (history_of us (map open_name tags) (is_seen tags nodes)) k ≡ false → is_too_deep (history_of us (map open_name tags) (is_seen tags nodes)) k ≡ false → step tags nodes (unit start end k) ≡ Some s → Stand s.tags s.nodes
 stand_step start end bom us tags nodes s o h k m d e = subst (λ (r : Stage). Stand r.tags r.nodes) (same_Some _ _ e) h
 stand_step start end (declaration b) us tags nodes s o h k m d e = subst (λ (r : Stage). Stand r.tags r.nodes) (same_Some _ _ e) h
 stand_step start end (doctype b) us tags nodes s o h k m d e = subst (λ (r : Stage). Stand r.tags r.nodes) (same_Some _ _ e) h

@@ -1,11 +1,12 @@
 -- The canonical text of a tree.
-use Rattle.std.specs.Prelude.{ℕ, Bool, ◌==◌, List, [], ◌∷◌, codes, map, if◌then◌else◌}
+use Rattle.std.specs.Prelude.{◌≡◌, ℕ, Bool, ◌==◌, List, [], ◌∷◌, ◌++◌, codes, map, if◌then◌else◌}
 use Rattle.std.specs.Cmp.Lexicographic.{slice_cmp}
 use Rattle.std.specs.List.{flat_map}
 use Rattle.std.specs.Ordering.{is_gt, nat_cmp}
 use Rattle.tml_span.specs.Units.{Attribute}
-use Rattle.tml_span.specs.Written.{double_quote}
+use Rattle.tml_span.specs.Written.{attribute_text, double_quote}
 use Rattle.tml_tree.specs.Plain.{PlainNode, PlainNodes, text_node, comment_node, element, none, more}
+use Rattle.tml_tree.specs.Whole.{IsTreeOf}
 use Rattle.tml_tree.specs.Written.{root_text}
 
 -- ---- attributes
@@ -39,6 +40,10 @@ canonical_attribute a = record { start = 0; end = 0; name = a.name; value = quot
 abbrev pub canonical_attributes : List Attribute → List Attribute
 canonical_attributes attrs = map canonical_attribute (in_order attrs)
 
+-- what a start tag and an empty tag begin with
+abbrev pub opening : List ℕ → List Attribute → List ℕ
+opening name attrs = codes "<" ++ name ++ flat_map attribute_text attrs
+
 -- ---- trees
 
 -- A tree whose attributes are canonical. Texts, comments, names and the order of children stay, and places are nothing.
@@ -55,3 +60,11 @@ abbrev mutual
 -- the canonical text of a root: its tree as it is written, and a line feed
 abbrev pub canonical_text : PlainNode → List ℕ
 canonical_text root = root_text (canonical root)
+
+-- a source has a tree
+abbrev pub HasTree : List ℕ → Type 0
+HasTree source = (root : PlainNode) × IsTreeOf source root
+
+-- a source has a tree, and this is the canonical text of it
+abbrev pub IsCanonicalText : List ℕ → List ℕ → Type 0
+IsCanonicalText source text = (root : PlainNode) × IsTreeOf source root × (text ≡ canonical_text root)

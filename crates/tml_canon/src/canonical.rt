@@ -6,7 +6,6 @@ ghost use Rattle.tml_span.specs.Units.{end_tag};
 ghost use Rattle.tml_span.specs.View.{attribute_of};
 ghost use Rattle.tml_span.specs.Written.{attribute_text, kind_text};
 ghost use Rattle.tml_tree.specs.Plain.{PlainNode};
-ghost use Rattle.tml_tree.specs.TagNames as names;
 ghost use Rattle.tml_tree.specs.View.{node_of, tag_node};
 ghost use Rattle.tml_tree.specs.Whole.{IsTreeOf};
 ghost use Rattle.tml_tree.specs.Written.{node_text};
@@ -53,7 +52,7 @@ fn push_tag<'s>(
 ) -> Result<(), AllocError>
     ensures { OnOk result (out.new.items ≡ out.old.items ++ node_text (spec.canonical (tag_node tag.now))) }
 {
-    push_opening(out, sorted, tag)?;
+    push_opening(out, sorted, tag.name.text(), tag.attrs.as_slice())?;
     let children = tag.children.as_slice();
     if children.is_empty() {
         return out.extend_from_slice(b"/>");
@@ -81,20 +80,21 @@ fn push_node<'s>(
 }
 
 /// Appends what a start tag and an empty tag begin with: `<`, the name and the attributes.
-fn push_opening<'s>(
+pub fn push_opening<'s>(
     out: &mut Vec<u8>,
     sorted: &mut Vec<Attr<'s>>,
-    tag: &Tag<'s>,
+    name: &[u8],
+    attrs: &[Attr<'s>],
 ) -> Result<(), AllocError>
-    ensures { OnOk result (out.new.items ≡ out.old.items ++ (codes "<" ++ names.text_of tag.now.name ++ flat_map attribute_text (spec.canonical_attributes (map attribute_of tag.now.attrs)))) }
+    ensures { OnOk result (out.new.items ≡ out.old.items ++ spec.opening name.now (spec.canonical_attributes (map attribute_of attrs.now))) }
 {
     out.extend_from_slice(b"<")?;
-    out.extend_from_slice(tag.name.text())?;
-    push_attributes(out, sorted, tag.attrs.as_slice())
+    out.extend_from_slice(name)?;
+    push_attributes(out, sorted, attrs)
 }
 
 /// Appends an end tag.
-fn push_end_tag(out: &mut Vec<u8>, name: &[u8]) -> Result<(), AllocError>
+pub fn push_end_tag(out: &mut Vec<u8>, name: &[u8]) -> Result<(), AllocError>
     ensures { OnOk result (out.new.items ≡ out.old.items ++ kind_text (end_tag name.now)) }
 {
     out.extend_from_slice(b"</")?;
@@ -110,10 +110,20 @@ fn push_attributes<'s>(
 ) -> Result<(), AllocError>
     ensures { OnOk result (out.new.items ≡ out.old.items ++ flat_map attribute_text (spec.canonical_attributes (map attribute_of attrs.now))) }
 {
+    if attrs.is_sorted_by(|a, b| a.name.cmp(b.name).is_le()) {
+        return push_each(out, attrs);
+    }
     sorted.clear();
     sorted.extend_from_slice(attrs)?;
     sorted.sort_by(|a, b| a.name.cmp(b.name))?;
-    for attr in sorted.as_slice() {
+    push_each(out, sorted.as_slice())
+}
+
+/// Appends attributes, in the order in which they stand.
+fn push_each(out: &mut Vec<u8>, attrs: &[Attr<'_>]) -> Result<(), AllocError>
+    ensures { OnOk result (out.new.items ≡ out.old.items ++ flat_map attribute_text (map spec.canonical_attribute (map attribute_of attrs.now))) }
+{
+    for attr in attrs {
         push_attribute(out, attr)?;
     }
     Ok(())

@@ -19,7 +19,7 @@ use Rattle.order_closure.specs.declared.cell.Cell.TheVariants.{Strict}
 use Rattle.tml_possible.specs.Examples.{false_orders}
 use Rattle.tml_possible.specs.Possible.{CanHold}
 use Rattle.tml_possible.specs.Sets.{AreMore, IsSetOf, base_number, has}
-use Rattle.tml_possible.specs.Trying.{AreKept, AreKeptFrom, ranks_of}
+use Rattle.tml_possible.specs.Trying.{AreKeptAmong, AreKeptFrom, ranks_of}
 use Rattle.tml_possible.specs.declared.base_set.BaseSet.{BaseSet}
 use Rattle.tml_possible.specs.declared.possible_sets.TheConstants.{FALSE_ORDERS}
 use Rattle.tml_possible.proofs.Bases.{base_is_numbered, has_bit, none_there, not_numbered, numbered, numbered_is_base}
@@ -85,10 +85,10 @@ all_taken P set new rels e more r = (
 
 -- the relation holds of ranks with a number below this one, which the cells allow
 abbrev HoldsBelow : Table → ℕ → ℕ → ℕ → Rel → Type 0
-HoldsBelow table a b code r = (n : ℕ) × (n < code) × AreKept table a b (ranks_of n).0 (ranks_of n).1 × Holds r (ranks_of n).0 (ranks_of n).1
+HoldsBelow table a b code r = (n : ℕ) × (n < code) × AreKeptAmong table a b (ranks_of n).0 (ranks_of n).1 × Holds r (ranks_of n).0 (ranks_of n).1
 
 module _ (table : Table) (a b code : ℕ) (set : BaseSet) (so_far : IsSetOf (HoldsBelow table a b code) set) where
-  pub kept_next : (new : BaseSet) → AreKept table a b (ranks_of code).0 (ranks_of code).1 → AreMore set (λ r. Holds r (ranks_of code).0 (ranks_of code).1) new → IsSetOf (HoldsBelow table a b (code + 1)) new
+  pub kept_next : (new : BaseSet) → AreKeptAmong table a b (ranks_of code).0 (ranks_of code).1 → AreMore set (λ r. Holds r (ranks_of code).0 (ranks_of code).1) new → IsSetOf (HoldsBelow table a b (code + 1)) new
   kept_next new kept more r = (
     λ h. elim ((more r).0 h) [
       | inl before ↦ let (base, (n, lt, kept, holds)) = (so_far r).0 before in (base, (n, omega (arith, lt), kept, holds))
@@ -100,11 +100,11 @@ module _ (table : Table) (a b code : ℕ) (set : BaseSet) (so_far : IsSetOf (Hol
     ]),
   )
 
-  pub not_kept_next : ¬ AreKept table a b (ranks_of code).0 (ranks_of code).1 → IsSetOf (HoldsBelow table a b (code + 1)) set
+  pub not_kept_next : ¬ AreKeptAmong table a b (ranks_of code).0 (ranks_of code).1 → IsSetOf (HoldsBelow table a b (code + 1)) set
   not_kept_next not r = (
     λ h. let (base, (n, lt, kept, holds)) = (so_far r).0 h in (base, (n, omega (arith, lt), kept, holds)),
     λ h. elim (cases_eq h.1.0 code) [
-      | inl same ↦ absurd (not (subst (λ (n : ℕ). AreKept table a b (ranks_of n).0 (ranks_of n).1) same h.1.2))
+      | inl same ↦ absurd (not (subst (λ (n : ℕ). AreKeptAmong table a b (ranks_of n).0 (ranks_of n).1) same h.1.2))
       | inr other ↦ (so_far r).1 (h.0, (h.1.0, omega (arith, h.1.1, other), h.1.2, h.1.3))
     ],
   )
@@ -145,7 +145,7 @@ points_kept table a b x y r s u v starts back across finishes = (
     each ss sf fs ff Finish Finish = ff
 
 pub intervals_kept : (table : Table) (a b : ℕ) (x y : Ends) (r s u v : Bool) → (IsTrue r ↔ AreKeptFrom table a a x x) → (IsTrue s ↔ AreKeptFrom table a b x y) → (IsTrue u ↔ AreKeptFrom table b a y x) → (IsTrue v ↔ AreKeptFrom table b b y y)
-    → IsTrue (((r && s) && u) && v) ↔ AreKept table a b x y
+    → IsTrue (((r && s) && u) && v) ↔ AreKeptAmong table a b x y
 intervals_kept table a b x y r s u v first forth back second = (
   λ h. let all = (all_four r s u v).0 h in record { first = first.0 all.0; forth = forth.0 all.1; back = back.0 all.2; second = second.0 all.3 },
   λ kept. (all_four r s u v).1 (first.1 kept.first, forth.1 kept.forth, back.1 kept.back, second.1 kept.second),

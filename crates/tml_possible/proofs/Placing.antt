@@ -22,7 +22,7 @@ use Rattle.order_closure.specs.declared.cell.Cell.{Cell}
 use Rattle.order_closure.specs.declared.cell.Cell.TheVariants.{Weak}
 use Rattle.order_closure.proofs.Chosen.{chosen_points_decide}
 use Rattle.tml_possible.specs.Possible.{CanHold}
-use Rattle.tml_possible.specs.Trying.{AreKept}
+use Rattle.tml_possible.specs.Trying.{AreKeptAmong}
 
 -- the points of two intervals
 abbrev pub four_points : ℕ → ℕ → List ℕ
@@ -88,7 +88,7 @@ module _ (table : Table) (a b : ℕ) (closed : IsClosed table) (fa : 2 * a + 1 <
   in_table = each_point a b (λ i. i < table.points) (first_inside table.points a b fa fb) (second_inside table.points a b fa fb)
 
   -- ranks of both intervals that the cells allow
-  module _ (x y : Ends) (kept : AreKept table a b x y) where
+  module _ (x y : Ends) (kept : AreKeptAmong table a b x y) where
     -- as a timeline
     abbrev placed : Timeline
     placed p = if p == 2 * a then x.start else (if p == 2 * a + 1 then x.finish else (if p == 2 * b then y.start else y.finish))

@@ -15,7 +15,7 @@ use Rattle.order_closure.specs.Chosen.{OrderAlike}
 use Rattle.order_closure.specs.Tables.{Keeps, Table, cell_at}
 use Rattle.order_closure.specs.declared.cell.Cell.{Cell}
 use Rattle.order_closure.specs.declared.cell.Cell.TheVariants.{Free, Weak, Strict}
-use Rattle.tml_possible.specs.Trying.{AreKept, ranks_of}
+use Rattle.tml_possible.specs.Trying.{AreKeptAmong, ranks_of}
 use Rattle.tml_possible.proofs.Placing.{each_point, four_points, of_first, of_second, place_of, related_alike}
 
 -- one where the first number is below the second, and else none
@@ -120,11 +120,11 @@ module _ (t : Timeline) (a b : ℕ) where
 
   -- so a timeline that keeps a table is found among them
   pub found : (table : Table) → 2 * a + 1 < table.points → 2 * b + 1 < table.points → Keeps table t → (r : Rel) → Relates t r a b
-      → (n : ℕ) × (n < 256) × AreKept table a b (ranks_of n).0 (ranks_of n).1 × Holds r (ranks_of n).0 (ranks_of n).1
+      → (n : ℕ) × (n < 256) × AreKeptAmong table a b (ranks_of n).0 (ranks_of n).1 × Holds r (ranks_of n).0 (ranks_of n).1
   found table fa fb kept r holds = (
     code,
     omega (arith, rank_small (2 * a) (of_first a b Start), rank_small (2 * a + 1) (of_first a b Finish), rank_small (2 * b) (of_second a b Start), rank_small (2 * b + 1) (of_second a b Finish)),
-    subst (λ (e : Ends × Ends). AreKept table a b e.0 e.1) (sym ranks_are) (record {
+    subst (λ (e : Ends × Ends). AreKeptAmong table a b e.0 e.1) (sym ranks_are) (record {
       first = λ p q. moved a a p q (of_first a b p) fa fa;
       forth = λ p q. moved a b p q (of_first a b p) fa fb;
       back = λ p q. moved b a p q (of_second a b p) fb fa;

@@ -11,7 +11,7 @@ abbrev pub AreKeptFrom : Table → ℕ → ℕ → Ends → Ends → Type 0
 AreKeptFrom table a b x y = (p q : End) → Says (cell_at table (point_in (points_of a) p) (point_in (points_of b) q)) (point_in x p) (point_in y q)
 
 -- the cells of the points of both are
-pub record AreKept (table : Table) (a b : ℕ) (x y : Ends) : Type 0 where
+pub record AreKeptAmong (table : Table) (a b : ℕ) (x y : Ends) : Type 0 where
   pub first : AreKeptFrom table a a x x
   pub forth : AreKeptFrom table a b x y
   pub back : AreKeptFrom table b a y x

@@ -6,7 +6,7 @@ ghost use Rattle.std.specs.Prelude.{IsTrue, ◌%◌, ◌*◌, ◌+◌, ◌<◌, 
 ghost use Rattle.tml_possible.specs.Possible.{CanHold};
 ghost use Rattle.tml_possible.specs.Sets.{AreMore, IsSetOf};
 ghost use Rattle.tml_possible.specs.Trying as spec;
-ghost use Rattle.tml_possible.specs.Trying.{AreKept, AreKeptFrom};
+ghost use Rattle.tml_possible.specs.Trying.{AreKeptAmong, AreKeptFrom};
 
 use crate::BaseSet;
 use named::Named;
@@ -51,7 +51,7 @@ fn ranks_of(code: u32) -> (Ends, Ends)
 fn are_kept(closed: &Closed, a: u32, b: u32, of_a: Ends, of_b: Ends) -> bool
     requires a { 2 * a + 1 < closed.now.points }
     requires b { 2 * b + 1 < closed.now.points }
-    ensures { IsTrue result ↔ AreKept closed.now a b of_a of_b }
+    ensures { IsTrue result ↔ AreKeptAmong closed.now a b of_a of_b }
 {
     let first = are_kept_from(closed, a, a, of_a, of_a);
     let forth = are_kept_from(closed, a, b, of_a, of_b);

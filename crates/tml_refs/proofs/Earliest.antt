@@ -10,11 +10,11 @@ use Rattle.faults.specs.First.{NoneBreaks}
 use Rattle.faults.specs.Kinds.{number_of}
 use Rattle.named.proofs.Cuts.{last_or_before}
 use Rattle.tml_types.specs.Content.{PlainTyped}
-use Rattle.tml_types.specs.Places.{ArePlaced}
+use Rattle.tml_types.specs.Places.{HaveRisingPlaces}
 use Rattle.tml_refs.specs.declared.resolving.RefFault.{RefFault}
 use Rattle.tml_refs.specs.declared.resolving.RefFault.TheVariants as faults
-use Rattle.tml_refs.specs.Firsts.{IsEarliest, IsFirst, StandsAt, bound, nowhere}
-use Rattle.tml_refs.specs.Rules.{Breaks, HasFault}
+use Rattle.tml_refs.specs.Firsts.{IsEarliest, IsFirstPlace, StandsAt, bound, nowhere}
+use Rattle.tml_refs.specs.Rules.{Breaks, HasReferenceFault}
 use Rattle.tml_refs.specs.Taking.{past}
 use Rattle.tml_refs.proofs.Placing.{begins_before, place_small}
 
@@ -55,7 +55,7 @@ module _ (p : PlainTyped → Bool) (most : ℕ) where
   }
 
   -- one tag more
-  past_by : (tags : List PlainTyped) (t : PlainTyped) (old : Option ℕ) (n : ℕ) (b : Bool) → (p t && n == most) ≡ b → n ≡ count_by p tags → IsFirst IsPast tags (bound old) → IsFirst IsPast (tags ++ t ∷ []) (bound (cond b (Some t.place) old))
+  past_by : (tags : List PlainTyped) (t : PlainTyped) (old : Option ℕ) (n : ℕ) (b : Bool) → (p t && n == most) ≡ b → n ≡ count_by p tags → IsFirstPlace IsPast tags (bound old) → IsFirstPlace IsPast (tags ++ t ∷ []) (bound (cond b (Some t.place) old))
   past_by tags t old n true e count first =
       let both = and_parts (p t) (n == most) e in
       let here : IsPast tags t = ap (λ (m : ℕ). p t && m == most) (sym count) ∙ e in
@@ -77,8 +77,8 @@ module _ (p : PlainTyped → Bool) (most : ℕ) where
         here = λ small. stands_longer tags t (bound old) (first.here small);
       }
 
-  pub past_more : (tags : List PlainTyped) (t : PlainTyped) (old new : Option ℕ) (n : ℕ) → new ≡ past (p t) n most t.place old → n ≡ count_by p tags → IsFirst IsPast tags (bound old) → IsFirst IsPast (tags ++ t ∷ []) (bound new)
-  past_more tags t old new n e count first = subst (λ (o : Option ℕ). IsFirst IsPast (tags ++ t ∷ []) (bound o)) (sym e) (past_by tags t old n (p t && n == most) refl count first)
+  pub past_more : (tags : List PlainTyped) (t : PlainTyped) (old new : Option ℕ) (n : ℕ) → new ≡ past (p t) n most t.place old → n ≡ count_by p tags → IsFirstPlace IsPast tags (bound old) → IsFirstPlace IsPast (tags ++ t ∷ []) (bound new)
+  past_more tags t old new n e count first = subst (λ (o : Option ℕ). IsFirstPlace IsPast (tags ++ t ∷ []) (bound o)) (sym e) (past_by tags t old n (p t && n == most) refl count first)
 
 -- ---- the first fault
 
@@ -104,8 +104,8 @@ module _ (all before : List PlainTyped) (tag : PlainTyped) where
     | _ ↦ λ b. absurd cc
   ]
 
-module _ {all : List PlainTyped} (placed : ArePlaced all) {repeat unknown intervals links : ℕ} (repeats : IsFirst (Breaks all kinds.DuplicateId) all repeat) (unknowns : IsFirst (Breaks all kinds.UnknownReference) all unknown)
-    (too_many : IsFirst (Breaks [] kinds.TooManyIntervals) all intervals) (too_many_links : IsFirst (Breaks [] kinds.TooManyLinks) all links) where
+module _ {all : List PlainTyped} (placed : HaveRisingPlaces all) {repeat unknown intervals links : ℕ} (repeats : IsFirstPlace (Breaks all kinds.DuplicateId) all repeat) (unknowns : IsFirstPlace (Breaks all kinds.UnknownReference) all unknown)
+    (too_many : IsFirstPlace (Breaks [] kinds.TooManyIntervals) all intervals) (too_many_links : IsFirstPlace (Breaks [] kinds.TooManyLinks) all links) where
   -- before all four places no rule is broken
   none_below : (place : ℕ) → place ≤ repeat → place ≤ unknown → place ≤ intervals → place ≤ links → (before after : List PlainTyped) (tag : PlainTyped) → all ≡ before ++ tag ∷ after → tag.place < place
       → (rule : FaultKind) → Breaks all rule before tag → ⊥
@@ -125,7 +125,7 @@ module _ {all : List PlainTyped} (placed : ArePlaced all) {repeat unknown interv
   none_at_all h = λ before after tag rule whole. none_below nowhere h.0 h.1 h.2 h.3 before after tag whole (place_small all placed before after tag whole) rule
 
   -- at the earliest place stands the first fault
-  pub earliest_fault : (fault : RefFault) → IsEarliest repeat unknown intervals links (Some fault) → HasFault all fault
+  pub earliest_fault : (fault : RefFault) → IsEarliest repeat unknown intervals links (Some fault) → HasReferenceFault all fault
   earliest_fault (faults.DuplicateId place) h =
       let at = repeats.here (omega (arith, h.0, h.1)) in record {
         before = at.before;

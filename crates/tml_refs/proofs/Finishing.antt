@@ -14,7 +14,7 @@ use Rattle.tml_refs.specs.Documents.{IsLinkOf, PlainDocument, PlainInterval, Res
 use Rattle.tml_refs.specs.Firsts.{IsEarliest, bound, nowhere}
 use Rattle.tml_refs.specs.Linking.{IsLinked, IsLooseAt, IsNamedLink, is_loose}
 use Rattle.tml_refs.specs.NameIndex.{AreEntriesOf, IsFirstRepeat, IsIndexOf, IsIndexedDocument, is_unlisted}
-use Rattle.tml_refs.specs.Rules.{Breaks, HasFault, is_tlink}
+use Rattle.tml_refs.specs.Rules.{Breaks, HasReferenceFault, is_tlink}
 use Rattle.tml_refs.specs.Taking.{HasTaken}
 use Rattle.tml_refs.specs.View.{document_of, plain_interval}
 use Rattle.tml_refs.proofs.Documents.{count_intervals, few_intervals, resolved_document}
@@ -42,7 +42,7 @@ pub record HasFound (names : List Entry) (asked : List Asked) (links : List Name
   pub here_loose : loose < nowhere → IsLooseAt names links loose
 
 module _ {tags : List PlainTyped} {r : Resolver} (taken : HasTaken tags r) (names : List Entry) (known : AreEntriesOf tags names) (repeat unlisted loose unknown : ℕ) (found : HasFound names r.asked r.links repeat unlisted loose) (e : unknown ≡ min unlisted loose) where
-  pub fault_is : (fault : RefFault) → IsEarliest repeat unknown (bound r.past_intervals) (bound r.past_links) (Some fault) → HasFault tags fault
+  pub fault_is : (fault : RefFault) → IsEarliest repeat unknown (bound r.past_intervals) (bound r.past_links) (Some fault) → HasReferenceFault tags fault
   fault_is fault h =
       earliest_fault taken.placed (first_taken tags taken.placed names known repeat found.repeats)
       (first_unknown tags names known r.asked taken.asked r.links taken.links unlisted loose unknown e found.before found.here found.before_loose found.here_loose) taken.past_intervals taken.past_links fault h

@@ -15,7 +15,7 @@ use Rattle.tml_types.specs.References.{id_of, is_of_kind, reference, references_
 use Rattle.tml_types.specs.References as references
 use Rattle.tml_refs.specs.declared.document.DocLink.{DocLink}
 use Rattle.tml_refs.specs.declared.name_index.Entry.{Entry}
-use Rattle.tml_refs.specs.Documents.{IsLinkOf, PlainInterval, RefersTo, instance, interval_of, intervals_of, kind_of, name_of, time}
+use Rattle.tml_refs.specs.Documents.{IsLinkOf, PlainInterval, RefersTo, instance, interval_of, intervals_of, kind_of, interval_name, time}
 use Rattle.tml_refs.specs.declared.links.NamedLink.{NamedLink}
 use Rattle.tml_types.specs.View.{end_of}
 use Rattle.tml_refs.specs.Linking.{IsLinked, IsNamedLink}
@@ -54,7 +54,7 @@ refers_at all r before after tag whole of target =
       interval = v.0;
       at = ap (λ (ts : List PlainTyped). slice_get (intervals_of ts) (length (intervals_of before))) whole ∙ filter_map_at interval_of before after tag v.0 v.1;
       kind = v.2;
-      name = same_Some (name_of v.0) r.name (sym (its_id tag v.0 v.1) ∙ its_own_id tag r.name both.1);
+      name = same_Some (interval_name v.0) r.name (sym (its_id tag v.0 v.1) ∙ its_own_id tag r.name both.1);
     }
 
 -- ---- one entry
@@ -110,12 +110,12 @@ module _ (all : List PlainTyped) (names : List Entry) (known : AreEntriesOf all 
       let at : IsEntryIn all e.0 = All-contains (IsEntryIn all) names e.0 known.only e.1 in
       refers_by r i at.0 at.1 at.2 e.0 at.3 at.4 h.0 e.2 e.3
 
-  each_found : (i : ℕ) (v : PlainInterval) → slice_get (intervals_of all) i ≡ Some v → HasNumber names (reference (kind_of v) (name_of v)) i
+  each_found : (i : ℕ) (v : PlainInterval) → slice_get (intervals_of all) i ≡ Some v → HasNumber names (reference (kind_of v) (interval_name v)) i
   each_found i v h =
       let l = located all i v h in
       let id = its_id l.tag v l.its in
-      let e = known.each l.before l.after l.tag l.whole (some_from (id_of l.tag.content) (name_of v) id) in
-      let asked = is_for_both (reference (kind_of v) (name_of v)) e.0 (e.2.rank ∙ ap rank_of (its_kind l.tag v l.its)) (same_Some (name_of v) (entry_name e.0) (sym id ∙ e.2.name)) in
+      let e = known.each l.before l.after l.tag l.whole (some_from (id_of l.tag.content) (interval_name v) id) in
+      let asked = is_for_both (reference (kind_of v) (interval_name v)) e.0 (e.2.rank ∙ ap rank_of (its_kind l.tag v l.its)) (same_Some (interval_name v) (entry_name e.0) (sym id ∙ e.2.name)) in
       (e.0, e.1, asked, e.2.number ∙ l.number)
 
   pub index_is : IsIndexOf (intervals_of all) names

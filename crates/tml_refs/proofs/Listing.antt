@@ -9,7 +9,7 @@ use Rattle.tml_types.specs.Content.{PlainTyped}
 use Rattle.tml_types.specs.References.{id_of}
 use Rattle.tml_refs.specs.declared.name_index.Entry.{Entry}
 use Rattle.tml_refs.specs.NameIndex.{AreEntriesOf, IsEntryIn, IsEntryOf, is_at}
-use Rattle.tml_types.specs.Places.{ArePlaced}
+use Rattle.tml_types.specs.Places.{HaveRisingPlaces}
 use Rattle.tml_refs.proofs.Lists.{count_more}
 use Rattle.tml_refs.proofs.Placing.{before_last}
 
@@ -33,12 +33,12 @@ other_place place e true t below = absurd (omega (arith, eqb-true e.place place 
 other_place place e false t below = refl
 
 -- the entries so far are at places before the next
-below_end : (tags : List PlainTyped) (tag : PlainTyped) (entries : List Entry) → ArePlaced (tags ++ tag ∷ []) → All (IsEntryIn tags) entries → All (λ (e : Entry). is_at tag.place e ≡ false) entries
+below_end : (tags : List PlainTyped) (tag : PlainTyped) (entries : List Entry) → HaveRisingPlaces (tags ++ tag ∷ []) → All (IsEntryIn tags) entries → All (λ (e : Entry). is_at tag.place e ≡ false) entries
 below_end tags tag entries placed h = λ k d below.
     let e = h k d below in
     other_place tag.place (get_or entries k d) (is_at tag.place (get_or entries k d)) refl (omega (arith, e.4.place, before_last tags tag e.0 e.1 e.2 placed e.3))
 
-apart_by : (tags : List PlainTyped) (tag : PlainTyped) (entries : List Entry) (e : Entry) (place : ℕ) (b : Bool) → ArePlaced (tags ++ tag ∷ []) → is_at place e ≡ b → All (IsEntryIn tags) entries → e.place ≡ tag.place → count_by (is_at place) entries ≤ 1
+apart_by : (tags : List PlainTyped) (tag : PlainTyped) (entries : List Entry) (e : Entry) (place : ℕ) (b : Bool) → HaveRisingPlaces (tags ++ tag ∷ []) → is_at place e ≡ b → All (IsEntryIn tags) entries → e.place ≡ tag.place → count_by (is_at place) entries ≤ 1
     → count_by (is_at place) (entries ++ e ∷ []) ≡ count_by (is_at place) entries + cond b 1 0 → count_by (is_at place) (entries ++ e ∷ []) ≤ 1
 apart_by tags tag entries e place true placed t only at few more =
     let same : tag.place ≡ place = sym at ∙ eqb-true e.place place t in
@@ -46,7 +46,7 @@ apart_by tags tag entries e place true placed t only at few more =
     omega (arith, none, more)
 apart_by tags tag entries e place false placed t only at few more = omega (arith, few, more)
 
-pub entries_more : (tags : List PlainTyped) (tag : PlainTyped) (entries : List Entry) (e : Entry) → ArePlaced (tags ++ tag ∷ []) → AreEntriesOf tags entries → IsEntryOf tags tag e → AreEntriesOf (tags ++ tag ∷ []) (entries ++ e ∷ [])
+pub entries_more : (tags : List PlainTyped) (tag : PlainTyped) (entries : List Entry) (e : Entry) → HaveRisingPlaces (tags ++ tag ∷ []) → AreEntriesOf tags entries → IsEntryOf tags tag e → AreEntriesOf (tags ++ tag ∷ []) (entries ++ e ∷ [])
 entries_more tags tag entries e placed names its = record {
   each = λ before after t whole some. elim (last_or_before tags before after tag t whole) [
     | inl k ↦ (e, Contains-push entries e, subst (λ (p : List PlainTyped × PlainTyped). IsEntryOf p.0 p.1 e) (λ i. (k.0 i, k.1 i)) its)

@@ -10,7 +10,7 @@ use Rattle.tml_types.specs.Content as content
 use Rattle.tml_types.specs.Content.{Content, PlainTyped}
 use Rattle.tml_types.specs.References as references
 use Rattle.tml_types.specs.References.{id_of}
-use Rattle.tml_refs.specs.Documents.{IsNamed, PlainInterval, interval_of, intervals_of, kind_of, name_of}
+use Rattle.tml_refs.specs.Documents.{IsNamed, PlainInterval, interval_of, intervals_of, kind_of, interval_name}
 use Rattle.tml_refs.specs.Rules.{Breaks, has_id}
 use Rattle.tml_refs.proofs.Lists.{any_inside}
 
@@ -52,10 +52,10 @@ abbrev pub with_content : PlainTyped → Content → PlainTyped
 with_content tag c = record { place = tag.place; content = c }
 
 -- the identifier and the kind of an interval are those of its tag
-pub its_id : (tag : PlainTyped) (v : PlainInterval) → interval_of tag ≡ Some v → id_of tag.content ≡ Some (name_of v)
-its_id tag v = elim tag.content as (λ c. interval_of (with_content tag c) ≡ Some v → id_of c ≡ Some (name_of v)) [
-  | content.instance x ↦ λ h. ap (option_map name_of) h
-  | content.timex x ↦ λ h. ap (option_map name_of) h
+pub its_id : (tag : PlainTyped) (v : PlainInterval) → interval_of tag ≡ Some v → id_of tag.content ≡ Some (interval_name v)
+its_id tag v = elim tag.content as (λ c. interval_of (with_content tag c) ≡ Some v → id_of c ≡ Some (interval_name v)) [
+  | content.instance x ↦ λ h. ap (option_map interval_name) h
+  | content.timex x ↦ λ h. ap (option_map interval_name) h
   | _ ↦ λ h. absurd cc
 ]
 
@@ -86,7 +86,7 @@ twice : (all before mid after : List PlainTyped) (tag other : PlainTyped) (name 
 twice all before mid after tag other name sound e t o =
     sound (before ++ tag ∷ mid) after other DuplicateId e (repeats_id all (before ++ tag ∷ mid) other name o (any_inside (has_id name) before mid tag (has_own_id tag name t)))
 
-one_place : (all : List PlainTyped) (name : List ℕ) (i j : ℕ) (v w : PlainInterval) → NoneBreaks (Breaks all) all → Located all i v → Located all j w → name_of v ≡ name → name_of w ≡ name → i ≡ j
+one_place : (all : List PlainTyped) (name : List ℕ) (i j : ℕ) (v w : PlainInterval) → NoneBreaks (Breaks all) all → Located all i v → Located all j w → interval_name v ≡ name → interval_name w ≡ name → i ≡ j
 one_place all name i j v w sound l m e f =
     let own = its_id l.tag v l.its ∙ ap (λ (n : List ℕ). Some n) e in
     let its = its_id m.tag w m.its ∙ ap (λ (n : List ℕ). Some n) f in

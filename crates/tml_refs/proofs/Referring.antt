@@ -15,7 +15,7 @@ use Rattle.tml_refs.specs.declared.asked.Asked.{Asked}
 use Rattle.tml_refs.specs.declared.links.NamedLink.{NamedLink}
 use Rattle.tml_refs.specs.declared.name_index.Entry.{Entry}
 use Rattle.tml_refs.specs.Asking.{AreAsked, Asks, HasAsked, IsAskedAt, IsAskedIn, IsUnlistedAt, asked_reference}
-use Rattle.tml_refs.specs.Firsts.{IsFirst, StandsAt, nowhere}
+use Rattle.tml_refs.specs.Firsts.{IsFirstPlace, StandsAt, nowhere}
 use Rattle.tml_refs.specs.Linking.{IsLooseAt, IsNamedLink, is_loose}
 use Rattle.tml_refs.specs.NameIndex.{AreEntriesOf, is_either_unlisted, is_unlisted, other_references}
 use Rattle.tml_refs.specs.Rules.{Breaks, is_tlink, is_unknown}
@@ -121,7 +121,7 @@ module _ (all : List PlainTyped) (names : List Entry) (known : AreEntriesOf all 
   pub first_unknown : (unlisted loose first : ℕ) → first ≡ min unlisted loose
       → All (λ (a : Asked). a.place < unlisted → is_unlisted names (asked_reference a) ≡ false) asked → (unlisted < nowhere → IsUnlistedAt names asked unlisted)
       → All (λ (n : NamedLink). n.place < loose → is_loose names n ≡ false) links → (loose < nowhere → IsLooseAt names links loose)
-      → IsFirst (Breaks all UnknownReference) all first
+      → IsFirstPlace (Breaks all UnknownReference) all first
   first_unknown unlisted loose first e before here before_loose here_loose = record {
     none = λ front after tag whole below broken. elim (or_cases _ _ (broken_is tag ∙ broken)) [
       | inl other ↦

@@ -8,13 +8,13 @@ use Rattle.named.proofs.Cuts.{two_cuts}
 use Rattle.tml_types.specs.Content.{PlainTyped}
 use Rattle.tml_types.specs.References.{id_of}
 use Rattle.tml_refs.specs.declared.name_index.Entry.{Entry}
-use Rattle.tml_refs.specs.Firsts.{IsFirst, StandsAt, nowhere}
+use Rattle.tml_refs.specs.Firsts.{IsFirstPlace, StandsAt, nowhere}
 use Rattle.tml_refs.specs.NameIndex.{AreEntriesOf, IsEntryIn, IsEntryOf, IsFirstRepeat, Repeats, entry_name}
 use Rattle.tml_refs.specs.Rules.{Breaks, has_id}
 use Rattle.tml_refs.proofs.Knowing.{some_from}
 use Rattle.tml_refs.proofs.Lists.{any_inside, passes_at}
 use Rattle.tml_refs.proofs.Placing.{begins_before}
-use Rattle.tml_types.specs.Places.{ArePlaced}
+use Rattle.tml_types.specs.Places.{HaveRisingPlaces}
 use Rattle.tml_refs.proofs.Locating.{has_own_id, its_own_id, repeats_id}
 
 -- an identifier is that of a tag before
@@ -22,7 +22,7 @@ taken_by : (before : List PlainTyped) (o : Option (List ℕ)) → elim o [ None 
 taken_by before None h = absurd cc
 taken_by before (Some id) h = (id, refl, h)
 
-module _ (all : List PlainTyped) (placed : ArePlaced all) (names : List Entry) (known : AreEntriesOf all names) where
+module _ (all : List PlainTyped) (placed : HaveRisingPlaces all) (names : List Entry) (known : AreEntriesOf all names) where
   repeated : (before after : List PlainTyped) (tag : PlainTyped) → all ≡ before ++ tag ∷ after → Breaks all DuplicateId before tag → Repeats names tag.place
   repeated before after tag whole broken =
       let taken = taken_by before (id_of tag.content) broken in
@@ -60,7 +60,7 @@ module _ (all : List PlainTyped) (placed : ArePlaced all) (names : List Entry) (
       }
 
   -- the first place at which a name is repeated is that at which the rule of identifiers is broken first
-  pub first_taken : (first : ℕ) → IsFirstRepeat names nowhere first → IsFirst (Breaks all DuplicateId) all first
+  pub first_taken : (first : ℕ) → IsFirstRepeat names nowhere first → IsFirstPlace (Breaks all DuplicateId) all first
   first_taken first h = record {
     none = λ before after tag whole below broken. absurd (omega (arith, h.none_before tag.place (repeated before after tag whole broken), below));
     here = λ some. taken_here first (h.here some);

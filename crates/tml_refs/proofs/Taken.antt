@@ -15,7 +15,7 @@ use Rattle.tml_types.specs.declared.typed.TagKind.{TagKind}
 use Rattle.tml_types.specs.declared.typed.TagKind.TheVariants as kind
 use Rattle.tml_types.specs.Content as content
 use Rattle.tml_types.specs.Content.{Content, PlainTyped}
-use Rattle.tml_types.specs.Places.{ArePlaced, IsPlaceSmall}
+use Rattle.tml_types.specs.Places.{HaveRisingPlaces, IsPlaceSmall}
 use Rattle.tml_types.specs.References.{id_of, is_of_kind, kind_of}
 use Rattle.tml_refs.specs.declared.asked.Asked.{Asked}
 use Rattle.tml_refs.specs.declared.document.Counts.{Counts}
@@ -25,7 +25,7 @@ use Rattle.tml_refs.specs.declared.resolver.Resolver.{Resolver}
 use Rattle.tml_refs.specs.Asking.{AreAsked, Asks}
 use Rattle.tml_refs.specs.Counting.{IsOneMore, one_at}
 use Rattle.tml_refs.specs.Documents.{PlainInterval, count_of, counts_of, interval_of, intervals_of}
-use Rattle.tml_refs.specs.Firsts.{IsFirst, bound, nowhere}
+use Rattle.tml_refs.specs.Firsts.{IsFirstPlace, bound, nowhere}
 use Rattle.tml_refs.specs.Linking.{IsNamedLink}
 use Rattle.tml_refs.specs.NameIndex.{AreEntriesOf, IsEntryIn, IsEntryOf, other_references}
 use Rattle.tml_refs.specs.Rules.{Breaks, is_interval, is_tlink}
@@ -46,7 +46,7 @@ no_entries = record {
   apart = λ place. omega arith;
 }
 
-none_first : (breaks : List PlainTyped → PlainTyped → Type 0) → IsFirst breaks [] nowhere
+none_first : (breaks : List PlainTyped → PlainTyped → Type 0) → IsFirstPlace breaks [] nowhere
 none_first breaks = record { none = λ before after tag whole below broken. none_cut before after tag whole; here = λ small. absurd (omega (arith, small)) }
 
 pub none_taken : (r : Resolver) → r.entries ≡ [] → r.asked ≡ [] → r.contents.counts ≡ counts_of [] → r.contents.intervals ≡ [] → r.contents.links ≡ [] → r.links ≡ [] → r.past_intervals ≡ None → r.past_links ≡ None → HasTaken [] r
@@ -58,8 +58,8 @@ none_taken r entries asked counts intervals no_links links past_intervals past_l
   intervals = λ few. ap (map plain_interval) intervals;
   no_links = no_links;
   links = subst (λ (ns : List NamedLink). AllZip IsNamedLink [] ns) (sym links) tt;
-  past_intervals = subst (λ (o : Option ℕ). IsFirst (Breaks [] TooManyIntervals) [] (bound o)) (sym past_intervals) (none_first (Breaks [] TooManyIntervals));
-  past_links = subst (λ (o : Option ℕ). IsFirst (Breaks [] TooManyLinks) [] (bound o)) (sym past_links) (none_first (Breaks [] TooManyLinks));
+  past_intervals = subst (λ (o : Option ℕ). IsFirstPlace (Breaks [] TooManyIntervals) [] (bound o)) (sym past_intervals) (none_first (Breaks [] TooManyIntervals));
+  past_links = subst (λ (o : Option ℕ). IsFirstPlace (Breaks [] TooManyLinks) [] (bound o)) (sym past_links) (none_first (Breaks [] TooManyLinks));
 }
 
 -- ---- counts
@@ -112,7 +112,7 @@ number_is tags counts e = ap (λ (c : Counts). c.instances + c.timex) e ∙ inte
 
 -- ---- one tag more
 
-module _ {tags : List PlainTyped} (t : PlainTyped) {old : Resolver} (taken : HasTaken tags old) (placed : ArePlaced (tags ++ t ∷ [])) where
+module _ {tags : List PlainTyped} (t : PlainTyped) {old : Resolver} (taken : HasTaken tags old) (placed : HaveRisingPlaces (tags ++ t ∷ [])) where
   -- its entry, where it has one
   pub with_entry : (number : ℕ) (e : Entry) (entries : List Entry) → number ≡ old.contents.counts.instances + old.contents.counts.timex → ((before : List PlainTyped) → number ≡ length (intervals_of before) → IsEntryOf before t e)
       → entries ≡ old.entries ++ e ∷ [] → AreEntriesOf (tags ++ t ∷ []) entries
@@ -142,9 +142,9 @@ module _ {tags : List PlainTyped} (t : PlainTyped) {old : Resolver} (taken : Has
         links = subst (λ (p : List PlainTyped × List NamedLink). AllZip IsNamedLink p.0 p.1) (λ i. (sym (filter-append is_tlink tags (t ∷ [])) i, sym (adds.links.2 ∙ ap (λ (r : Resolver). r.links ++ adds.links.0) same) i))
             (zip_append IsNamedLink (filter is_tlink tags) (filter is_tlink (t ∷ [])) old.links adds.links.0 taken.links adds.links.1);
         past_intervals = past_more is_interval max_intervals tags t between.past_intervals added.past_intervals number adds.past_intervals (before ∙ count_intervals tags)
-            (subst (λ (r : Resolver). IsFirst (Breaks [] TooManyIntervals) tags (bound r.past_intervals)) (sym same) taken.past_intervals);
+            (subst (λ (r : Resolver). IsFirstPlace (Breaks [] TooManyIntervals) tags (bound r.past_intervals)) (sym same) taken.past_intervals);
         past_links = past_more is_tlink max_links tags t between.past_links added.past_links (length between.links) adds.past_links links_long
-            (subst (λ (r : Resolver). IsFirst (Breaks [] TooManyLinks) tags (bound r.past_links)) (sym same) taken.past_links);
+            (subst (λ (r : Resolver). IsFirstPlace (Breaks [] TooManyLinks) tags (bound r.past_links)) (sym same) taken.past_links);
       }
 
 -- there are few intervals

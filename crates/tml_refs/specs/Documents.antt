@@ -33,9 +33,9 @@ pub record PlainDocument : Type 0 where
   pub intervals : List PlainInterval
   pub links : List DocLink
 
-abbrev pub name_of : PlainInterval → List ℕ
-name_of (instance name) = name
-name_of (time t) = t.name
+abbrev pub interval_name : PlainInterval → List ℕ
+interval_name (instance name) = name
+interval_name (time t) = t.name
 
 -- the kind of tag that an interval is
 abbrev pub kind_of : PlainInterval → TagKind
@@ -59,7 +59,7 @@ pub record RefersTo (intervals : List PlainInterval) (r : Reference) (i : ℕ) :
   pub interval : PlainInterval
   pub at : slice_get intervals i ≡ Some interval
   pub kind : kind_of interval ≡ r.asked
-  pub name : name_of interval ≡ r.name
+  pub name : interval_name interval ≡ r.name
 
 -- a link has the relation of a TLINK, between the intervals that the TLINK names
 abbrev pub IsLinkOf : List PlainInterval → PlainTyped → DocLink → Type 0
@@ -92,7 +92,7 @@ pub record Resolved (tags : List PlainTyped) (doc : PlainDocument) : Type 0 wher
 
 -- the interval of this number has this name
 abbrev pub IsNamed : List PlainInterval → List ℕ → ℕ → Type 0
-IsNamed intervals name i = (v : PlainInterval) × (slice_get intervals i ≡ Some v) × (name_of v ≡ name)
+IsNamed intervals name i = (v : PlainInterval) × (slice_get intervals i ≡ Some v) × (interval_name v ≡ name)
 
 -- No two intervals have one name, the ends of links are intervals, and there are no more of both than the limits allow.
 pub record IsDocument (doc : PlainDocument) : Type 0 where

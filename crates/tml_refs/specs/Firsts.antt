@@ -23,7 +23,7 @@ pub record StandsAt (breaks : List PlainTyped → PlainTyped → Type 0) (all : 
   pub broken : breaks before tag
 
 -- no tag before this place breaks a rule, and one at this place does, unless it is nowhere
-pub record IsFirst (breaks : List PlainTyped → PlainTyped → Type 0) (all : List PlainTyped) (place : ℕ) : Type 0 where
+pub record IsFirstPlace (breaks : List PlainTyped → PlainTyped → Type 0) (all : List PlainTyped) (place : ℕ) : Type 0 where
   pub none : (before after : List PlainTyped) (tag : PlainTyped) → all ≡ before ++ tag ∷ after → tag.place < place → breaks before tag → ⊥
   pub here : place < nowhere → StandsAt breaks all place
 

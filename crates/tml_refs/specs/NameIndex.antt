@@ -14,7 +14,7 @@ use Rattle.tml_types.specs.References.{id_of, kind_of, optional_reference, refer
 pub use Rattle.tml_types.specs.References.{rank_of}
 use Rattle.tml_refs.specs.declared.name_index.Entry.{Entry}
 use Rattle.tml_refs.specs.declared.name_index.Key.{Key}
-use Rattle.tml_refs.specs.Documents.{IsDocument, PlainDocument, PlainInterval, RefersTo, intervals_of, name_of}
+use Rattle.tml_refs.specs.Documents.{IsDocument, PlainDocument, PlainInterval, RefersTo, intervals_of, interval_name}
 use Rattle.tml_refs.specs.Documents as documents
 
 -- a key is that of what a reference asks for
@@ -124,7 +124,7 @@ other_references content = references_of content
 -- The entries find each interval by its kind and name, and an interval that is found is at the number that they say.
 pub record IsIndexOf (intervals : List PlainInterval) (entries : List Entry) : Type 0 where
   pub each : (i : ℕ) (v : PlainInterval)
-      → slice_get intervals i ≡ Some v → HasNumber entries (reference (documents.kind_of v) (name_of v)) i
+      → slice_get intervals i ≡ Some v → HasNumber entries (reference (documents.kind_of v) (interval_name v)) i
   pub only : (r : Reference) (i : ℕ) → HasIntervalNumber entries r i → RefersTo intervals r i
 
 abbrev pub IsIndexedDocument : PlainDocument → List Entry → Type 0

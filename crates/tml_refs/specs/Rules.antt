@@ -57,5 +57,5 @@ kind_and_place (faults.TooManyLinks place) = Some (kinds.TooManyLinks, place)
 kind_and_place faults.Memory = None
 
 -- the fault of the typed tags of a document; out of memory says nothing
-abbrev pub HasFault : List PlainTyped → RefFault → Type 0
-HasFault all fault = IfSome (kind_and_place fault) (λ (f : FaultKind × ℕ). FaultAt all f.1 f.0)
+abbrev pub HasReferenceFault : List PlainTyped → RefFault → Type 0
+HasReferenceFault all fault = IfSome (kind_and_place fault) (λ (f : FaultKind × ℕ). FaultAt all f.1 f.0)

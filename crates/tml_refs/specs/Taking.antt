@@ -5,13 +5,13 @@ use Rattle.std.specs.Option.{option_to_list}
 use Rattle.faults.specs.declared.kind.FaultKind.TheVariants.{TooManyIntervals, TooManyLinks}
 use Rattle.net_core.specs.Limits.{max_intervals, max_links}
 use Rattle.tml_types.specs.Content.{PlainTyped}
-use Rattle.tml_types.specs.Places.{ArePlaced}
+use Rattle.tml_types.specs.Places.{HaveRisingPlaces}
 use Rattle.tml_refs.specs.declared.document.Interval.{Interval}
 use Rattle.tml_refs.specs.declared.links.NamedLink.{NamedLink}
 use Rattle.tml_refs.specs.declared.resolver.Resolver.{Resolver}
 use Rattle.tml_refs.specs.Asking.{AreAsked}
 use Rattle.tml_refs.specs.Documents.{counts_of, interval_of, intervals_of}
-use Rattle.tml_refs.specs.Firsts.{IsFirst, bound}
+use Rattle.tml_refs.specs.Firsts.{IsFirstPlace, bound}
 use Rattle.tml_refs.specs.Linking.{IsNamedLink}
 use Rattle.tml_refs.specs.NameIndex.{AreEntriesOf}
 use Rattle.tml_refs.specs.Rules.{Breaks, is_interval, is_tlink}
@@ -19,23 +19,23 @@ use Rattle.tml_refs.specs.View.{plain_interval}
 
 -- A resolver has taken these tags, which are at places that rise.
 pub record HasTaken (tags : List PlainTyped) (r : Resolver) : Type 0 where
-  pub placed : ArePlaced tags
+  pub placed : HaveRisingPlaces tags
   pub entries : AreEntriesOf tags r.entries
   pub asked : AreAsked tags r.asked
   pub counts : r.contents.counts ≡ counts_of tags
   pub intervals : length (intervals_of tags) ≤ max_intervals → map plain_interval r.contents.intervals ≡ intervals_of tags
   pub no_links : r.contents.links ≡ []
   pub links : AllZip IsNamedLink (filter is_tlink tags) r.links
-  pub past_intervals : IsFirst (Breaks [] TooManyIntervals) tags (bound r.past_intervals)
-  pub past_links : IsFirst (Breaks [] TooManyLinks) tags (bound r.past_links)
+  pub past_intervals : IsFirstPlace (Breaks [] TooManyIntervals) tags (bound r.past_intervals)
+  pub past_links : IsFirstPlace (Breaks [] TooManyLinks) tags (bound r.past_links)
 
 -- one more tag stands after those that were taken
 abbrev pub MayTake : Resolver → PlainTyped → Type 0
-MayTake r t = (tags : List PlainTyped) × HasTaken tags r × ArePlaced (tags ++ t ∷ [])
+MayTake r t = (tags : List PlainTyped) × HasTaken tags r × HaveRisingPlaces (tags ++ t ∷ [])
 
 -- and is taken
 abbrev pub Takes : Resolver → PlainTyped → Resolver → Type 0
-Takes old t new = (tags : List PlainTyped) → HasTaken tags old → ArePlaced (tags ++ t ∷ []) → HasTaken (tags ++ t ∷ []) new
+Takes old t new = (tags : List PlainTyped) → HasTaken tags old → HaveRisingPlaces (tags ++ t ∷ []) → HasTaken (tags ++ t ∷ []) new
 
 -- ---- one tag more
 

@@ -2,7 +2,7 @@
 ghost use Rattle.std.specs.List.{slice_get};
 ghost use Rattle.std.specs.Prelude.{◌≡◌, ◌+◌, ◌<◌, ◌^◌, ℕ, length, Some, IfSome, IsNone};
 ghost use Rattle.tml_refs.specs.Counting.{AreFew, IsOneMore};
-ghost use Rattle.tml_refs.specs.Documents.{IsDocument, IsNamed, name_of};
+ghost use Rattle.tml_refs.specs.Documents.{IsDocument, IsNamed, interval_name};
 ghost use Rattle.tml_refs.specs.View.{plain_interval};
 
 use crate::contents::Contents;
@@ -78,7 +78,7 @@ pub enum Interval<'s> {
 impl<'s> Interval<'s> {
     /// The identifier of the tag.
     pub fn name(self) -> &'s [u8]
-        ensures { result.now ≡ name_of (plain_interval self.entry) }
+        ensures { result.now ≡ interval_name (plain_interval self.entry) }
     {
         match self {
             Interval::Instance { name } | Interval::Timex { name, .. } => name,

@@ -1,7 +1,7 @@
 //! The references of a document whose typed tags are taken one by one.
 ghost use Rattle.std.specs.Prelude.{◌≡◌, List as ListOf, [], IfOk, IfErr, OnOk};
 ghost use Rattle.tml_refs.specs.Documents.{Resolved, counts_of};
-ghost use Rattle.tml_refs.specs.Rules.{HasFault};
+ghost use Rattle.tml_refs.specs.Rules.{HasReferenceFault};
 ghost use Rattle.tml_refs.specs.Taking.{Adds, HasTaken, KeepsInterval, KeepsLink, MayTake, Takes};
 ghost use Rattle.tml_types.specs.Content.{PlainTyped};
 ghost use Rattle.tml_types.specs.View.{typed_of};
@@ -145,7 +145,7 @@ impl<'s> Resolver<'s> {
     pub fn finish(self) -> Result<Document<'s>, RefFault>
         requires { (tags : ListOf PlainTyped) × HasTaken tags self }
         ensures ok { IfOk result (λ d. (tags : ListOf PlainTyped) → HasTaken tags self.entry → Resolved tags d) }
-        ensures err { IfErr result (λ e. (tags : ListOf PlainTyped) → HasTaken tags self.entry → HasFault tags e) }
+        ensures err { IfErr result (λ e. (tags : ListOf PlainTyped) → HasTaken tags self.entry → HasReferenceFault tags e) }
     {
         let Resolver {
             entries,

@@ -2,7 +2,7 @@
 ghost use Rattle.std.specs.Prelude.{◌≡◌, IfOk, IfErr};
 ghost use Rattle.tml_refs.specs.Documents.{Resolved};
 ghost use Rattle.tml_refs.specs.Rules as rules;
-ghost use Rattle.tml_refs.specs.Rules.{HasFault};
+ghost use Rattle.tml_refs.specs.Rules.{HasReferenceFault};
 
 use crate::document::Document;
 use crate::resolver::Resolver;
@@ -48,7 +48,7 @@ impl RefFault {
 /// of `RefFault`. `Memory` may come at any place.
 pub fn resolve<'s>(alloc: Global, typed: &Typed<'s>) -> Result<Document<'s>, RefFault>
     ensures ok { IfOk result (λ d. Resolved typed.now d) }
-    ensures err { IfErr result (λ e. HasFault typed.now e) }
+    ensures err { IfErr result (λ e. HasReferenceFault typed.now e) }
 {
     let mut resolver = Resolver::new(alloc);
     for tag in typed.as_slice() {

@@ -1,3 +1,4 @@
+pub mod Answering
 pub mod EveryReply
 pub mod HowItEnds
 pub mod Missing

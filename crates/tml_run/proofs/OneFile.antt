@@ -5,7 +5,8 @@ use Rattle.tml_run.specs.declared.status.Status.{Status}
 use Rattle.tml_run.specs.declared.status.Status.TheVariants.{TooLong}
 use Rattle.tml_run.specs.Answered.{AreAnswered, Freedom, NeverFree}
 use Rattle.tml_run.specs.EveryReply.{HasNext}
-use Rattle.tml_run.specs.OneFile.{Answers, IsAnswered, of_its_bytes, of_one_file}
+use Rattle.tml_run.specs.OneFile.{Answers, of_its_bytes, of_one_file}
+use Rattle.tml_run.proofs.Answering.{IsAnswered}
 use Rattle.tml_run.specs.OneReply.{Agree, HasOneText, is_broken_off}
 use Rattle.tml_run.specs.Reading.{ReadsWhole, Reading, total}
 use Rattle.tml_run.specs.Replies.{Replies}

@@ -10,12 +10,13 @@ use Rattle.tml_run.specs.OneReply.{Agree, HasOneText, is_broken_off}
 use Rattle.tml_run.specs.Reading.{ReadsWhole, Reached, Reading, total}
 use Rattle.tml_run.specs.Replies.{Replies}
 use Rattle.tml_run.specs.Rows.{File, Next, Rows, answers, reads}
-use Rattle.tml_run.specs.TwoFiles.{CannotJudge, IsAnsweredAfter, IsJudged, IsPassed, IsRefusedFirst, Judging, after_first, of_both, of_two_files}
+use Rattle.tml_run.specs.TwoFiles.{CannotJudge, IsPassed, IsRefusedFirst, Judging, after_first, of_both, of_two_files}
+use Rattle.tml_run.proofs.Answering.{IsAnsweredAfter, IsDecisive}
 use Rattle.tml_run.proofs.HowItEnds.{answered}
 use Rattle.tml_run.proofs.OneFile.{freer, the_one}
 use Rattle.tml_run.proofs.OneReply.{EndsWhole, ends_whole, not_both}
 
-module _ {C : Type 0} (judging : Judging C) (first second : File) (Of : C → Answers) (IsFree : C → List ℕ → Status → Type 0) (is : IsJudged first.limit judging) (are : IsAnsweredAfter judging first.limit second.limit Of IsFree) where
+module _ {C : Type 0} (judging : Judging C) (first second : File) (Of : C → Answers) (IsFree : C → List ℕ → Status → Type 0) (is : IsDecisive first.limit judging) (are : IsAnsweredAfter judging first.limit second.limit Of IsFree) where
   agree : (contents : List (List ℕ)) (next other : Next) → of_two_files judging first second Of contents next → of_two_files judging first second Of contents other → Agree next other
   agree [] (reads a) (reads b) h k = h ∙ sym k
   agree [] (reads a) other h k = absurd k
@@ -64,7 +65,7 @@ module _ {C : Type 0} (judging : Judging C) (first second : File) (Of : C → An
   both_answered = record { one_next = agree; next = every_next; most = 2; few = few; whole = whole_row; one_text = line_of }
 
 -- the rows of two files of which every text is determined
-pub both_answered_once : {C : Type 0} (judging : Judging C) (first second : File) (Of : C → Answers) → IsJudged first.limit judging → IsAnsweredAfter judging first.limit second.limit Of (λ c other status. ⊥)
+pub both_answered_once : {C : Type 0} (judging : Judging C) (first second : File) (Of : C → Answers) → IsDecisive first.limit judging → IsAnsweredAfter judging first.limit second.limit Of (λ c other status. ⊥)
     → AreAnswered (of_two_files judging first second Of) NeverFree
 both_answered_once {C} judging first second Of is are =
     let IsFree : C → List ℕ → Status → Type 0 = λ c other status. ⊥ in

@@ -1,8 +1,7 @@
 -- Commands that read one file, and answer by its contents.
-use Rattle.std.specs.Prelude.{◌≡◌, ◌≤◌, false, ℕ, List, [], ◌∷◌, length}
+use Rattle.std.specs.Prelude.{◌≡◌, ℕ, List, [], ◌∷◌}
 use Rattle.tml_run.specs.declared.status.Status.{Status}
 use Rattle.tml_run.specs.Answered.{Freedom}
-use Rattle.tml_run.specs.OneReply.{is_broken_off}
 use Rattle.tml_run.specs.Rows.{File, Rows, reads, answers}
 
 -- the answers to the contents of one file
@@ -19,10 +18,3 @@ of_one_file file Of contents next = ⊥
 abbrev pub of_its_bytes : (List ℕ → Status → Type 0) → Freedom
 of_its_bytes IsFree (bytes ∷ []) status = IsFree bytes status
 of_its_bytes IsFree contents status = ⊥
-
--- Contents within a limit have an answer, with one status, which is none that is broken off; and with one text, where that is not free.
-pub record IsAnswered (limit : ℕ) (Of : Answers) (IsFree : List ℕ → Status → Type 0) : Type 0 where
-  pub some : (bytes : List ℕ) → length bytes ≤ limit → (status : Status) × (text : List ℕ) × Of bytes status text
-  pub one_status : (bytes : List ℕ) (status other : Status) (text line : List ℕ) → Of bytes status text → Of bytes other line → status ≡ other
-  pub whole : (bytes : List ℕ) (status : Status) (text : List ℕ) → Of bytes status text → is_broken_off status ≡ false
-  pub one_text : (bytes : List ℕ) (status : Status) (text line : List ℕ) → (IsFree bytes status → ⊥) → Of bytes status text → Of bytes status line → text ≡ line

@@ -1,5 +1,5 @@
 -- Commands that read a file, judge it by itself, and read a second one only where the first is not refused.
-use Rattle.std.specs.Prelude.{◌≡◌, ◌⊎◌, ◌≤◌, false, ℕ, List, [], ◌∷◌, length, Some}
+use Rattle.std.specs.Prelude.{◌≡◌, ◌⊎◌, false, ℕ, List, [], ◌∷◌, Some}
 use Rattle.tml_io.specs.Files.{Files}
 use Rattle.tml_run.specs.declared.status.Status.{Status}
 use Rattle.tml_run.specs.declared.status.Status.TheVariants.{NoMemory}
@@ -35,26 +35,10 @@ of_two_files judging first second Of contents next = ⊥
 abbrev pub CannotJudge : {C : Type 0} → Judging C → List ℕ → Status → List ℕ → Type 0
 CannotJudge judging one status text = judging.IsRefused one status text ⊎ ((status ≡ NoMemory) × (text ≡ []))
 
--- A first file within its limit says something or is refused, and not both. It says one thing, or is refused with one status, which is none that is broken off, and one text.
-pub record IsJudged {C : Type 0} (limit : ℕ) (judging : Judging C) : Type 0 where
-  pub some : (one : List ℕ) → length one ≤ limit → IsPassed judging one ⊎ ((status : Status) × (text : List ℕ) × judging.IsRefused one status text)
-  pub not_both : (one : List ℕ) (status : Status) (text : List ℕ) → IsPassed judging one → judging.IsRefused one status text → ⊥
-  pub one_said : (one : List ℕ) (c d : C) → judging.Says one c → judging.Says one d → c ≡ d
-  pub one_status : (one : List ℕ) (status other : Status) (text line : List ℕ) → judging.IsRefused one status text → judging.IsRefused one other line → status ≡ other
-  pub whole : (one : List ℕ) (status : Status) (text : List ℕ) → judging.IsRefused one status text → is_broken_off status ≡ false
-  pub one_text : (one : List ℕ) (status : Status) (text line : List ℕ) → judging.IsRefused one status text → judging.IsRefused one status line → text ≡ line
-
 -- of which second file the text of an answer is not determined, by what the first one says
 abbrev pub of_both : {C : Type 0} → Judging C → (C → List ℕ → Status → Type 0) → Freedom
 of_both {C} judging IsFree (one ∷ other ∷ []) status = (c : C) × judging.Says one c × IsFree c other status
 of_both {C} judging IsFree contents status = ⊥
-
--- Two files within their limits have an answer, by what the first one says: one status, which is none that is broken off; and one text, where that is not free.
-pub record IsAnsweredAfter {C : Type 0} (judging : Judging C) (first second : ℕ) (Of : C → Answers) (IsFree : C → List ℕ → Status → Type 0) : Type 0 where
-  pub some : (one : List ℕ) → length one ≤ first → (c : C) → judging.Says one c → (other : List ℕ) → length other ≤ second → (status : Status) × (text : List ℕ) × Of c other status text
-  pub one_status : (one : List ℕ) (c : C) → judging.Says one c → (other : List ℕ) (status found : Status) (text line : List ℕ) → Of c other status text → Of c other found line → status ≡ found
-  pub whole : (c : C) (other : List ℕ) (status : Status) (text : List ℕ) → Of c other status text → is_broken_off status ≡ false
-  pub one_text : (one : List ℕ) (c : C) → judging.Says one c → (other : List ℕ) (status : Status) (text line : List ℕ) → (IsFree c other status → ⊥) → Of c other status text → Of c other status line → text ≡ line
 
 -- Where the first file is refused, each reply is its refusal. The second file is not reached, and sound inputs fail nothing, whether it is there or not.
 pub record IsRefusedFirst {C : Type 0} (judging : Judging C) (files : Files) (rows : Rows) (first : File) (one : List ℕ) : Type 0 where

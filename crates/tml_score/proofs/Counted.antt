@@ -21,7 +21,7 @@ use Rattle.net_core.specs.declared.rels.Rel.TheVariants as rel
 use Rattle.net_core.proofs.AtomLaws.{atoms_in_range, atoms_say_the_relation}
 use Rattle.net_core.proofs.StepLaws.{fits_fewer}
 use Rattle.order_closure.specs.Tables.{Table}
-use Rattle.tml_refs.specs.Documents.{IsNamed, PlainInterval, instance, name_of}
+use Rattle.tml_refs.specs.Documents.{IsNamed, PlainInterval, instance, interval_name}
 use Rattle.tml_refs.proofs.NamedIntervals.{named_or_not}
 use Rattle.tml_score.specs.Scores.{Annotation, AreMatched, EveryScore, FollowsIn, HaveOneName, IsClosedOf, IsCountOf, IsSound, OneScore}
 use Rattle.tml_score.specs.Scoring.{ArePartners, AreWithin, EntailsBetween, IsPartner}
@@ -38,7 +38,7 @@ named_within intervals name i named = slice_get_within intervals i named.0 named
 one_name : (intervals : List PlainInterval) (name other : List ℕ) (i : ℕ) → IsNamed intervals name i → IsNamed intervals other i → name ≡ other
 one_name intervals name other i named also =
     let same : named.0 ≡ also.0 = let e = named.1 in let f = also.1 in cc in
-    sym named.2 ∙ ap name_of same ∙ also.2
+    sym named.2 ∙ ap interval_name same ∙ also.2
 
 -- and one partner
 one_partner : (own other : List PlainInterval) → ((name : List ℕ) (i j : ℕ) → IsNamed other name i → IsNamed other name j → i ≡ j) → (i j k : ℕ) → HaveOneName own other i j → HaveOneName own other i k → j ≡ k
@@ -46,7 +46,7 @@ one_partner own other distinct i j k have also = distinct also.0 j k (subst (λ 
 
 -- what is found by the name of an interval is its partner
 pub partner_found : (own other : List PlainInterval) → ((name : List ℕ) (i j : ℕ) → IsNamed other name i → IsNamed other name j → i ≡ j)
-    → (i : ℕ) (v : PlainInterval) (name : List ℕ) (partner : Option ℕ) → slice_get own i ≡ Some v → name_of v ≡ name
+    → (i : ℕ) (v : PlainInterval) (name : List ℕ) (partner : Option ℕ) → slice_get own i ≡ Some v → interval_name v ≡ name
     → IfSome partner (IsNamed other name) → (IsNone partner → (j : ℕ) → IsNamed other name j → ⊥) → IsPartner own other i partner
 partner_found own other distinct i v name (Some j) at named some none = λ k.
     let have : HaveOneName own other i j = (name, (v, at, named), some) in
@@ -145,9 +145,9 @@ partner_or_not : (own other : List PlainInterval) (i : ℕ) → i < length own �
 partner_or_not own other i lt =
     let v = get_or own i (instance []) in
     let at : slice_get own i ≡ Some v = slice_get-get_or own i (instance []) lt in
-    elim (named_or_not other (name_of v)) [
-      | yes found ↦ inl (found.0, (name_of v, (v, at, refl), found.1))
-      | no none ↦ inr (λ j have. none (j, subst (λ (n : List ℕ). IsNamed other n j) (one_name own have.0 (name_of v) i have.1 (v, at, refl)) have.2))
+    elim (named_or_not other (interval_name v)) [
+      | yes found ↦ inl (found.0, (interval_name v, (v, at, refl), found.1))
+      | no none ↦ inr (λ j have. none (j, subst (λ (n : List ℕ). IsNamed other n j) (one_name own have.0 (interval_name v) i have.1 (v, at, refl)) have.2))
     ]
 
 -- a relation follows from a net, or it can fail

@@ -6,8 +6,8 @@ use Rattle.std.proofs.lemmas.Bool.{cases_lt}
 use Rattle.std.proofs.lemmas.List.Elements.{All-contains, All-from_recursion, All-get_or, Contains-append_left, Contains-get_or, Contains-push, Contains-push_cases}
 use Rattle.std.proofs.lemmas.List.{get_or_default}
 use Rattle.std.proofs.lemmas.List.Sorted.{Contains-permutation, IsPermutation-sym}
-use Rattle.clash.specs.declared.orders.Order.{Order}
-use Rattle.clash.proofs.LinkAtoms.{link_said}
+use Rattle.net_orders.specs.declared.orders.Order.{Order}
+use Rattle.net_orders.proofs.LinkAtoms.{link_said}
 use Rattle.net_core.specs.Atoms.{IsInRange, Satisfies}
 use Rattle.net_core.specs.Fits.{FitsWith}
 use Rattle.net_core.specs.Nets.{IsNet, PlainNet, link_at, points}
@@ -18,7 +18,7 @@ use Rattle.net_core.specs.declared.rels.Rel.TheVariants as rel
 use Rattle.net_core.proofs.AtomLaws.{atoms_in_range}
 use Rattle.clash.proofs.Elements.{every}
 use Rattle.tml_score.specs.Ends.{end_of}
-use Rattle.tml_score.specs.Graph.{Adds, AreAll, AreOfPoint, AreOrdersOf, IsFixed, IsGraphOf, IsOfSome, by_end, counts, link_atoms}
+use Rattle.tml_score.specs.Graph.{Adds, AreAll, AreOfPoint, AreAllOrders, IsFixed, IsGraphOf, IsOfSome, by_end, counts, link_atoms}
 use Rattle.tml_score.specs.declared.ends.End.{End}
 use Rattle.tml_score.specs.declared.ends.End.TheVariants.{From, To}
 use Rattle.tml_score.specs.declared.graph.Graph.{Graph}
@@ -102,7 +102,7 @@ all_added net fixed old mid new empty first second o = (
 )
 
 -- the same orders are all orders too
-pub same_orders_of : (net : PlainNet) (orders same : List Order) → AreOrdersOf net orders → IsPermutation orders same → AreOrdersOf net same
+pub same_orders_of : (net : PlainNet) (orders same : List Order) → AreAllOrders net orders → IsPermutation orders same → AreAllOrders net same
 same_orders_of net orders same are alike = record {
   fixed = are.fixed;
   are_fixed = are.are_fixed;
@@ -119,7 +119,7 @@ module _ (net : PlainNet) (is : IsNet net) where
       let ends = All-get_or (λ (l : NetLink). (l.a < length net.bounds) × (l.b < length net.bounds)) net.links k (record { a = 0; rel = rel.Before; b = 0 }) below is.ends in
       All-contains (IsInRange (points net)) (link_atoms net k) a (All-from_recursion (IsInRange (points net)) (link_atoms net k) (atoms_in_range (length net.bounds) link.rel link.a link.b ends.0 ends.1)) among
 
-  module _ (orders : List Order) (graph : AreOrdersOf net orders) where
+  module _ (orders : List Order) (graph : AreAllOrders net orders) where
     -- and so are all
     pub in_range : (o : Order) → Contains orders o → IsInRange (points net) o.atom
     in_range o among = elim ((graph.all o).0 among) [

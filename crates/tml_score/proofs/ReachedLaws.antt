@@ -6,7 +6,7 @@ use Rattle.std.proofs.lemmas.List.{get_or_append_left, get_or_default, get_or_pu
 use Rattle.std.proofs.Common.{get_or-set_other, get_or-set_same}
 use Rattle.std.proofs.lemmas.Map.Keys.{IsDistinct-from_apart}
 use Rattle.std.proofs.lemmas.Map.Steps.{length-le_from_distinct_below}
-use Rattle.tml_score.specs.Reached.{ArePlaced}
+use Rattle.tml_score.specs.Reached.{StandAtPlaces}
 
 -- a number that a test finds in a list stands there
 in_list : (q : ℕ) (xs : List ℕ) → list_any (λ x. q == x) xs ≡ true → (i : ℕ) × (i < length xs) × (slice_index xs i ≡ q)
@@ -18,7 +18,7 @@ in_list q (x ∷ xs) found = elim (cases_eq q x) [
       (suc rest.0, let lt = rest.1 in omega arith, rest.2)
 ]
 
-module _ (points places : List ℕ) (are : ArePlaced points places) where
+module _ (points places : List ℕ) (are : StandAtPlaces points places) where
   -- no point stands twice
   apart : (i j d : ℕ) → i < j → j < length points → (get_or points i d == get_or points j d) ≡ false
   apart i j d less lt = ne_eqb (get_or points i d) (get_or points j d) (λ same.
@@ -37,7 +37,7 @@ module _ (points places : List ℕ) (are : ArePlaced points places) where
       omega (arith, lt, found.2))
 
 -- one point more, which was not there
-pub placed_push : (points places : List ℕ) (point : ℕ) → ArePlaced points places → point < length places → (Contains points point → ⊥) → ArePlaced (points ++ point ∷ []) (slice_set places point (length points))
+pub placed_push : (points places : List ℕ) (point : ℕ) → StandAtPlaces points places → point < length places → (Contains points point → ⊥) → StandAtPlaces (points ++ point ∷ []) (slice_set places point (length points))
 placed_push points places point are room new = record {
   few = omega (arith, are.few, length-set places point (length points));
   room = λ i lt. elim (cases_lt i (length points)) [

@@ -3,9 +3,9 @@ use Rattle.std.proofs.Common.{◌≡◌, ◌≢◌, ◌↔◌, ◌⊎◌, inl, i
 use Rattle.std.specs.List.{All, Contains, filter}
 use Rattle.std.proofs.lemmas.Bool.{cases_eq, eq-eqb, ne_eqb}
 use Rattle.std.proofs.lemmas.List.Elements.{All-contains, All-get_or}
-use Rattle.clash.specs.declared.orders.Order.{Order}
+use Rattle.net_orders.specs.declared.orders.Order.{Order}
 use Rattle.clash.proofs.Entailing.{given_holds, held_given}
-use Rattle.clash.proofs.LinkAtoms.{link_said}
+use Rattle.net_orders.proofs.LinkAtoms.{link_said}
 use Rattle.clash.proofs.Paths.{AllTrue, Leads, any_strict, leads_kept, path_kept, path_or_counter}
 use Rattle.net_core.specs.Atoms.{IsInOrder, IsInRange, Satisfies}
 use Rattle.net_core.specs.Clashes.{Others}
@@ -13,7 +13,7 @@ use Rattle.net_core.specs.Entailment.{Always}
 use Rattle.net_core.specs.Fits.{EveryLink, Fits, FitsWith}
 use Rattle.net_core.specs.Nets.{PlainNet, link_at, points}
 use Rattle.net_core.specs.Relations.{Timeline}
-use Rattle.net_core.specs.Walks.{Kept as IsKept}
+use Rattle.net_core.specs.Walks.{Kept}
 use Rattle.net_core.specs.declared.atom.Atom.{Atom}
 use Rattle.net_core.specs.declared.net.NetLink.{NetLink}
 use Rattle.net_core.specs.declared.rels.Rel.TheVariants as rel
@@ -36,7 +36,7 @@ abbrev atom_of : Order → Atom
 atom_of o = o.atom
 
 -- another link that is kept passes the test, and the other way round
-pub other_kept : (keep : List Bool) (link k : ℕ) → (is_other keep link k ≡ true) ↔ Others (IsKept keep) link k
+pub other_kept : (keep : List Bool) (link k : ℕ) → (is_other keep link k ≡ true) ↔ Others (Kept keep) link k
 other_kept keep link k = elim (cases_eq k link) [
   | inl same ↦ (
     λ passes. absurd (let is : (k == link) ≡ true = eq-eqb k link same in let both : false ≡ true = sym (ap (λ (b : Bool). not b && slice_index_or keep k false) is) ∙ passes in cc),
@@ -118,7 +118,7 @@ module _ (basis : Basis) (asked : Asked) (ready : IsReady basis) (is : IsAsked b
   true_rest t all = fits_fewer net (λ k. is_other basis.keep asked.link k ≡ true) (Rest basis asked) t (λ k below other. (other_kept basis.keep asked.link k).1 other) ((edges_true (is_other basis.keep asked.link) t).1 all)
 
   kept_true : (t : Timeline) → Fits net t → AllTrue atom_of kept t
-  kept_true t fits = (edges_true kept_test t).0 (fits_fewer net EveryLink (IsKept basis.keep) t (λ k below kept. tt) fits)
+  kept_true t fits = (edges_true kept_test t).0 (fits_fewer net EveryLink (Kept basis.keep) t (λ k below kept. tt) fits)
 
   true_kept : (t : Timeline) → AllTrue atom_of kept t → Fits net t
   true_kept t all = ready.same t ((edges_true kept_test t).1 all)

@@ -5,8 +5,8 @@ use Rattle.std.proofs.lemmas.Bool.{OnTrue_at, cases_eq, cases_lt, eq-eqb, eqb-fa
 use Rattle.std.proofs.lemmas.List.{get_or-take, get_or_append_left, get_or_default, get_or_push, length-set, length_push}
 use Rattle.std.proofs.lemmas.List.Elements.{All-get_or, All-push, All-weaker}
 use Rattle.clash.specs.Closures.{IsClosureOf}
-use Rattle.clash.specs.Orders.{is_link, is_of}
-use Rattle.clash.specs.declared.orders.Order.{Order}
+use Rattle.net_orders.specs.Orders.{is_link, is_of}
+use Rattle.net_orders.specs.declared.orders.Order.{Order}
 use Rattle.clash.proofs.Rounds.{others_set}
 use Rattle.net_core.specs.Atoms.{Satisfies}
 use Rattle.net_core.specs.Entailment.{HasTimeline}
@@ -19,7 +19,7 @@ use Rattle.tml_score.specs.Graph.{IsGraphOf, counts}
 use Rattle.tml_score.specs.Reducing.{AreGoneOver}
 use Rattle.tml_score.specs.Search.{Basis, IsAsked, IsLed, IsReady, Rest, is_other}
 use Rattle.tml_score.specs.Ties.{AreTies}
-use Rattle.tml_score.specs.Tree.{HoldBefore, IsBefore, IsBeyond, IsBranch, IsCovered, IsJoined, IsTree, LeadsOn, is_used, no_order, order_at, with_link, without}
+use Rattle.tml_score.specs.Tree.{HoldBefore, IsBefore, IsBeyond, IsBranch, IsCovered, IsBeyondRoot, IsTree, LeadsOn, is_used, no_order, order_at, with_link, without}
 use Rattle.tml_score.specs.Trees.{IsKnown}
 use Rattle.tml_score.specs.Meeting.{IsLedTo}
 use Rattle.tml_score.specs.declared.ends.End.{End}
@@ -48,7 +48,7 @@ covered_by_all roots tree n point covered = elim covered [ inl root ↦ inl root
 
 module _ (basis : Basis) (roots : List ℕ) (near : End) (tree : Tree) (is : IsTree basis roots near tree) where
   -- what the first orders of a tree cover is joined by these
-  pub covered_joined : (n point : ℕ) → IsCovered roots tree n point → IsJoined near roots tree.orders.items n point
+  pub covered_joined : (n point : ℕ) → IsCovered roots tree n point → IsBeyondRoot near roots tree.orders.items n point
   covered_joined n point covered = elim covered [
     | inl root ↦ λ t hold. beyond_self near t (slice_index roots point) point root
     | inr at ↦

@@ -4,7 +4,7 @@ use Rattle.std.specs.List.{All, Contains}
 use Rattle.std.proofs.lemmas.Bool.{cases_lt}
 use Rattle.std.proofs.lemmas.List.{get_or_default}
 use Rattle.std.proofs.lemmas.List.Elements.{All-cons, All-nil, All-push, Contains-get_or, Contains-push_cases}
-use Rattle.clash.specs.declared.orders.Order.{Order}
+use Rattle.net_orders.specs.declared.orders.Order.{Order}
 use Rattle.tml_score.specs.Ends.{end_of, far_end_of}
 use Rattle.tml_score.specs.Graph.{AreOfPoint, by_end}
 use Rattle.tml_score.specs.Meeting.{AreApart, IsOn, IsPassedAt, IsSide, Visits}

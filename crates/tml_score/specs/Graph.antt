@@ -2,8 +2,8 @@
 use Rattle.std.specs.Prelude.{◌≡◌, ◌↔◌, ◌⊎◌, ℕ, ◌<◌, Bool, true, List, length, Option, Some, None}
 use Rattle.std.specs.List.{Contains}
 use Rattle.std.specs.List.Sorted.{IsPermutation}
-use Rattle.clash.specs.Orders.{AreFixed}
-use Rattle.clash.specs.declared.orders.Order.{Order}
+use Rattle.net_orders.specs.Orders.{AreFixed}
+use Rattle.net_orders.specs.declared.orders.Order.{Order}
 use Rattle.net_core.specs.Atoms.{atoms_of}
 use Rattle.net_core.specs.Nets.{PlainNet, link_at, points}
 use Rattle.net_core.specs.declared.atom.Atom.{Atom}
@@ -43,7 +43,7 @@ abbrev pub AreAll : PlainNet → List Atom → List Order → Type 0
 AreAll net fixed orders = (order : Order) → Contains orders order ↔ (IsFixed fixed order ⊎ IsOfSome net order)
 
 -- all orders of a net
-pub record AreOrdersOf (net : PlainNet) (orders : List Order) : Type 0 where
+pub record AreAllOrders (net : PlainNet) (orders : List Order) : Type 0 where
   pub fixed : List Atom
   pub are_fixed : AreFixed net fixed
   pub all : AreAll net fixed orders
@@ -59,7 +59,7 @@ AreOfPoint index point orders = (order : Order) → Contains orders order ↔ (C
 
 -- all orders of a net by the points that they leave, and by those that they lead to
 pub record IsGraphOf (net : PlainNet) (graph : Graph) : Type 0 where
-  pub orders : AreOrdersOf net graph.onward.items
+  pub orders : AreAllOrders net graph.onward.items
   pub leave : graph.onward.by ≡ From
   pub onward_points : graph.onward.points ≡ points net
   pub same : IsPermutation graph.onward.items graph.back.items

@@ -2,7 +2,7 @@
 use Rattle.std.specs.Prelude.{◌≡◌, ◌≢◌, ◌⊎◌, ℕ, Bool, true, false, ⊤, List, [], ◌∷◌, ◌++◌, Result, Ok, Err}
 use Rattle.std.specs.List.{All, Contains}
 use Rattle.clash.specs.Walks.{AlwaysWith}
-use Rattle.clash.specs.declared.orders.Order.{Order}
+use Rattle.net_orders.specs.declared.orders.Order.{Order}
 use Rattle.net_core.specs.Nets.{points}
 use Rattle.net_core.specs.declared.list.Memory.{Memory}
 use Rattle.order_closure.specs.Tables.{cell_at}

@@ -8,7 +8,7 @@ pub record PlainReached : Type 0 where
   pub room : ℕ
 
 -- Each point stands at the place that is kept for it.
-pub record ArePlaced (points places : List ℕ) : Type 0 where
+pub record StandAtPlaces (points places : List ℕ) : Type 0 where
   pub few : length places ≤ max_points
   pub room : (i : ℕ) → i < length points → slice_index points i < length places
   pub placed : (i : ℕ) → i < length points → slice_index places (slice_index points i) ≡ i

@@ -3,14 +3,14 @@ use Rattle.std.specs.Prelude.{◌≡◌, ◌≢◌, ◌⊎◌, ℕ, ◌<◌, ◌
 use Rattle.std.specs.List.{All, Contains}
 use Rattle.clash.specs.Closures.{IsClosureOf}
 use Rattle.clash.specs.Walks.{AlwaysWith}
-use Rattle.clash.specs.declared.orders.Order.{Order}
+use Rattle.net_orders.specs.declared.orders.Order.{Order}
 use Rattle.net_core.specs.Atoms.{Satisfies}
 use Rattle.net_core.specs.Clashes.{Others}
 use Rattle.net_core.specs.Entailment.{HasTimeline}
 use Rattle.net_core.specs.Fits.{Fits, FitsWith}
 use Rattle.net_core.specs.Nets.{IsNet, PlainNet, points}
 use Rattle.net_core.specs.Relations.{Timeline}
-use Rattle.net_core.specs.Walks.{Kept as IsKept}
+use Rattle.net_core.specs.Walks.{Kept}
 use Rattle.net_core.specs.declared.list.Memory.{Memory}
 use Rattle.order_closure.specs.Cells.{order, strength}
 use Rattle.order_closure.specs.Tables.{Table, cell_at}
@@ -20,7 +20,7 @@ use Rattle.tml_score.specs.Reached.{PlainReached}
 use Rattle.tml_score.specs.declared.graph.Graph.{Graph}
 use Rattle.tml_score.specs.declared.reached.Sides.{Sides}
 use Rattle.tml_score.specs.declared.search.Asked.{Asked}
-use Rattle.tml_score.specs.declared.search.Kept.{Kept}
+use Rattle.tml_score.specs.declared.search.KeptLinks.{KeptLinks}
 
 -- what a search goes by: a net, its closure, its orders, and which of its links are kept
 pub record Basis : Type 0 where
@@ -29,7 +29,7 @@ pub record Basis : Type 0 where
   pub graph : Graph
   pub keep : List Bool
 
-abbrev pub basis_of : Kept → Basis
+abbrev pub basis_of : KeptLinks → Basis
 basis_of kept = record { net = kept.net.now; table = kept.table.now; graph = kept.graph.now; keep = kept.keep.now }
 
 -- The links that are kept say the same as all, and some timeline fits.
@@ -39,17 +39,17 @@ pub record IsReady (basis : Basis) : Type 0 where
   pub closure : IsClosureOf basis.net basis.table
   pub graph : IsGraphOf basis.net basis.graph
   pub marks : length basis.keep ≡ length basis.net.links
-  pub same : (t : Timeline) → FitsWith basis.net (IsKept basis.keep) t → Fits basis.net t
+  pub same : (t : Timeline) → FitsWith basis.net (Kept basis.keep) t → Fits basis.net t
 
 -- an order of a link that is kept
 pub record IsAsked (basis : Basis) (asked : Asked) : Type 0 where
   pub link : asked.link < length basis.net.links
-  pub kept : IsKept basis.keep asked.link
+  pub kept : Kept basis.keep asked.link
   pub order : Contains (link_atoms basis.net asked.link) asked.order
 
 -- the other links that are kept
 abbrev pub Rest : Basis → Asked → ℕ → Type 0
-Rest basis asked = Others (IsKept basis.keep) asked.link
+Rest basis asked = Others (Kept basis.keep) asked.link
 
 -- whether a link is another one that is kept
 abbrev pub is_other : List Bool → ℕ → ℕ → Bool

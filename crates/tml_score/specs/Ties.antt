@@ -1,7 +1,7 @@
 -- Ties: orders of points that are at one place.
 use Rattle.std.specs.Prelude.{◌≡◌, ℕ, ◌<◌, List, length}
 use Rattle.std.specs.List.{All, Contains}
-use Rattle.clash.specs.declared.orders.Order.{Order}
+use Rattle.net_orders.specs.declared.orders.Order.{Order}
 use Rattle.net_core.specs.Nets.{points}
 use Rattle.point_index.specs.Index.{PlainIndex}
 use Rattle.tml_score.specs.Search.{Basis}

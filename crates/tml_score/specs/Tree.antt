@@ -1,8 +1,8 @@
 -- A tree: orders that lead from the root of each place to its points, or from these back to it.
 use Rattle.std.specs.Prelude.{◌≡◌, ◌⊎◌, ℕ, ◌+◌, ◌<◌, ◌≤◌, Bool, true, false, List, length, Option, Some, None, slice_index, slice_index_or, slice_set}
 use Rattle.std.specs.List.{All, Contains}
-use Rattle.clash.specs.Orders.{is_of}
-use Rattle.clash.specs.declared.orders.Order.{Order}
+use Rattle.net_orders.specs.Orders.{is_of}
+use Rattle.net_orders.specs.declared.orders.Order.{Order}
 use Rattle.net_core.specs.Atoms.{Satisfies}
 use Rattle.net_core.specs.Nets.{points}
 use Rattle.net_core.specs.Relations.{Timeline}
@@ -30,8 +30,8 @@ IsBeyond From t root point = t root ≤ t point
 IsBeyond To t root point = t point ≤ t root
 
 -- a point is beyond its root where the first n orders hold
-abbrev pub IsJoined : End → List ℕ → List Order → ℕ → ℕ → Type 0
-IsJoined near roots orders n point = (t : Timeline) → HoldBefore t orders n → IsBeyond near t (slice_index roots point) point
+abbrev pub IsBeyondRoot : End → List ℕ → List Order → ℕ → ℕ → Type 0
+IsBeyondRoot near roots orders n point = (t : Timeline) → HoldBefore t orders n → IsBeyond near t (slice_index roots point) point
 
 -- whether an order is of no link, or of one in use
 abbrev pub is_used : List Bool → Order → Bool
@@ -49,7 +49,7 @@ pub record IsTree (basis : Basis) (roots : List ℕ) (near : End) (tree : Tree) 
   pub turns : length tree.turns.items ≡ points basis.net
   pub in_use : length tree.in_use.items ≡ length basis.net.links
   pub branches : All (IsBranch basis tree.in_use.items) tree.orders.items
-  pub joined : (i : ℕ) → i < length tree.orders.items → IsJoined near roots tree.orders.items (i + 1) (far_end_of near (order_at tree.orders.items i))
+  pub joined : (i : ℕ) → i < length tree.orders.items → IsBeyondRoot near roots tree.orders.items (i + 1) (far_end_of near (order_at tree.orders.items i))
 
 -- a point is a root, or one of the first n orders of the tree leads to it
 abbrev pub IsCovered : List ℕ → Tree → ℕ → ℕ → Type 0

@@ -4,8 +4,8 @@ ghost use Rattle.std.specs.List.Sorted.{IsPermutation};
 ghost use Rattle.std.specs.Prelude.{IfOk, ◌≡◌, ◌≤◌};
 ghost use Rattle.tml_score.specs.Ends.{far_end_of};
 
-use clash::Order;
 use net_core::Memory;
+use net_orders::Order;
 use point_index::{Index, PointOf};
 use std::alloc::Global;
 

@@ -1,10 +1,10 @@
 //! The orders of a net, by the points that they leave and those that they lead to.
 ghost use Rattle.std.specs.Prelude.{IfOk, OnOk, length, ◌<◌, ◌≡◌};
-ghost use Rattle.tml_score.specs.Graph.{Adds, AreOfPoint, AreOrdersOf, IsFixed, IsGraphOf, IsOfLink, IsOfSome, by_end};
+ghost use Rattle.tml_score.specs.Graph.{Adds, AreOfPoint, AreAllOrders, IsFixed, IsGraphOf, IsOfLink, IsOfSome, by_end};
 
 use crate::ends::{End, by_point};
-use clash::{Order, atoms_of_link, fixed_orders, nth_order};
 use net_core::{Atom, Memory, Net};
+use net_orders::{Order, atoms_of_link, fixed_orders, nth_order};
 use point_index::Index;
 use std::alloc::Global;
 
@@ -47,7 +47,7 @@ impl Graph {
 
 /// The orders of a net: those that hold without any link, and those of its links.
 fn orders_of(alloc: Global, net: &Net) -> Result<Vec<Order>, Memory>
-    ensures { IfOk result (λ orders. AreOrdersOf net.now orders.items) }
+    ensures { IfOk result (λ orders. AreAllOrders net.now orders.items) }
 {
     let fixed = fixed_orders(alloc, net)?;
     let mut orders = Vec::new(alloc);

@@ -9,12 +9,12 @@ ghost use Rattle.tml_score.specs.Trees.{IsKnown};
 
 use crate::ends::End;
 use crate::reached::Reached;
-use crate::search::{Asked, Kept};
+use crate::search::{Asked, KeptLinks};
 use crate::trees::Known;
 use net_core::Memory;
 use order_closure::Cell;
 
-impl Kept<'_> {
+impl KeptLinks<'_> {
     /// Whether an order of two points that are at one place in every timeline follows from the other links that are kept.
     /// The search goes on from the first point, and back from the last one, through points at their place. It ends where
     /// the sides meet, where a side comes to a point that the trees join with the other one, or where a side is at its end.

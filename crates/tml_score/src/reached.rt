@@ -17,13 +17,13 @@ pub struct Reached {
 
 impl Model for Reached {
     ghost use Rattle.std.specs.Prelude.{length};
-    ghost use Rattle.tml_score.specs.Reached.{ArePlaced, PlainReached};
+    ghost use Rattle.tml_score.specs.Reached.{StandAtPlaces, PlainReached};
 
     ghost Value = { PlainReached };
 
     ghost view = { λ a. record { points = a.points.items; room = length a.places.items } };
 
-    ghost invariant = { λ a. ArePlaced a.points.items a.places.items };
+    ghost invariant = { λ a. StandAtPlaces a.points.items a.places.items };
 }
 
 impl Reached {

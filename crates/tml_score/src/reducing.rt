@@ -1,7 +1,7 @@
 //! The links of a net without those that follow from others.
 ghost use Rattle.clash.specs.Closures.{IsClosureOf};
 ghost use Rattle.net_core.specs.Entailment.{HasTimeline};
-ghost use Rattle.net_core.specs.Walks.{Kept as IsKept};
+ghost use Rattle.net_core.specs.Walks.{Kept};
 ghost use Rattle.std.specs.Prelude.{IfOk, OnOk, length, ◌<◌};
 ghost use Rattle.tml_score.specs.Graph.{IsGraphOf};
 ghost use Rattle.tml_score.specs.Reduced.{IsReduced};
@@ -11,10 +11,11 @@ ghost use Rattle.tml_score.specs.Trees.{AreTrees};
 
 use crate::graph::Graph;
 use crate::reached::{Reached, Sides};
-use crate::search::{Asked, Kept};
+use crate::search::{Asked, KeptLinks};
 use crate::trees::Trees;
-use clash::{CloseFault, atoms_of_link, close, marked, nth_order};
+use clash::{CloseFault, close, marked};
 use net_core::{List, Memory, Net};
+use net_orders::{atoms_of_link, nth_order};
 use order_closure::Closed;
 use std::alloc::Global;
 
@@ -65,7 +66,7 @@ fn marks(alloc: Global, net: &Net, table: &Closed, graph: &Graph) -> Result<Vec<
         onward: Reached::new(alloc, table.points())?,
         back: Reached::new(alloc, table.points())?,
     };
-    let all = Kept {
+    let all = KeptLinks {
         net,
         table,
         graph,
@@ -73,7 +74,7 @@ fn marks(alloc: Global, net: &Net, table: &Closed, graph: &Graph) -> Result<Vec<
     };
     let mut trees = Trees::new(alloc, &all)?;
     for link in 0..net.links() {
-        let kept = Kept {
+        let kept = KeptLinks {
             net,
             table,
             graph,
@@ -90,14 +91,14 @@ fn marks(alloc: Global, net: &Net, table: &Closed, graph: &Graph) -> Result<Vec<
 
 /// Whether a link follows from the others that are kept: whether all its orders do.
 fn link_follows(
-    kept: &Kept<'_>,
+    kept: &KeptLinks<'_>,
     link: u32,
     trees: &mut Trees,
     sides: &mut Sides,
 ) -> Result<bool, Memory>
     requires ready { IsReady (basis_of kept.now) }
     requires link { link < length kept.now.net.now.links }
-    requires kept { IsKept kept.now.keep.now link }
+    requires kept { Kept kept.now.keep.now link }
     requires trees { AreTrees (basis_of kept.now) trees.old }
     requires room { HaveRoom (basis_of kept.now) sides.old }
     ensures decides { IfOk result (DecidesLink kept.now.net.now kept.now.keep.now link) }
@@ -116,7 +117,7 @@ fn link_follows(
 
 /// Whether an order of a link follows from the others that are kept, by what the trees show and a search.
 fn order_follows(
-    kept: &Kept<'_>,
+    kept: &KeptLinks<'_>,
     asked: Asked,
     trees: &mut Trees,
     sides: &mut Sides,

@@ -8,13 +8,13 @@ ghost use Rattle.tml_score.specs.Trees.{IsKnown};
 use crate::graph::Graph;
 use crate::reached::{Reached, Sides};
 use crate::trees::Known;
-use clash::Order;
 use net_core::{Atom, Memory, Net};
+use net_orders::Order;
 use order_closure::{Cell, Closed};
 
 /// The links of a net that are kept, which say the same as all, with the closure of the net and all its orders.
 #[derive(Clone, Copy)]
-pub struct Kept<'a> {
+pub struct KeptLinks<'a> {
     pub net: &'a Net,
     pub table: &'a Closed,
     pub graph: &'a Graph,
@@ -28,7 +28,7 @@ pub struct Asked {
     pub order: Atom,
 }
 
-impl Kept<'_> {
+impl KeptLinks<'_> {
     /// Whether an order of a link follows from the other links that are kept.
     ///
     /// # Errors

@@ -5,9 +5,9 @@ ghost use Rattle.tml_score.specs.Search.{IsReady, basis_of};
 ghost use Rattle.tml_score.specs.Ties.{AreOrders, AreOrdersBy, ArePoints, AreTies};
 
 use crate::ends::{End, by_point};
-use crate::search::Kept;
-use clash::Order;
+use crate::search::KeptLinks;
 use net_core::Memory;
+use net_orders::Order;
 use order_closure::Cell;
 use point_index::Index;
 use std::alloc::Global;
@@ -29,7 +29,7 @@ impl Ties {
     /// # Errors
     ///
     /// Out of memory.
-    pub fn new(alloc: Global, kept: &Kept<'_>) -> Result<Ties, Memory>
+    pub fn new(alloc: Global, kept: &KeptLinks<'_>) -> Result<Ties, Memory>
         requires { IsReady (basis_of kept.now) }
         ensures { IfOk result (AreTies (basis_of kept.now)) }
     {
@@ -55,7 +55,7 @@ impl Ties {
     }
 
     /// The ties that have a point at this end.
-    pub fn of_point(&self, kept: &Kept<'_>, end: End, point: u32) -> &[Order]
+    pub fn of_point(&self, kept: &KeptLinks<'_>, end: End, point: u32) -> &[Order]
         requires ties { AreTies (basis_of kept.now) self.now }
         requires point { point < points kept.now.net.now }
         ensures { AreOrders (basis_of kept.now) result.now }
@@ -68,7 +68,7 @@ impl Ties {
 }
 
 /// The orders of points that are at one place, those of the last link first.
-fn tied(alloc: Global, kept: &Kept<'_>) -> Result<Vec<Order>, Memory>
+fn tied(alloc: Global, kept: &KeptLinks<'_>) -> Result<Vec<Order>, Memory>
     requires { IsReady (basis_of kept.now) }
     ensures { IfOk result (λ ties. AreOrders (basis_of kept.now) ties.items) }
 {
@@ -78,7 +78,7 @@ fn tied(alloc: Global, kept: &Kept<'_>) -> Result<Vec<Order>, Memory>
 }
 
 /// The same, in no order.
-fn ties_of(alloc: Global, kept: &Kept<'_>) -> Result<Vec<Order>, Memory>
+fn ties_of(alloc: Global, kept: &KeptLinks<'_>) -> Result<Vec<Order>, Memory>
     requires { IsReady (basis_of kept.now) }
     ensures { IfOk result (λ ties. AreOrders (basis_of kept.now) ties.items) }
 {
@@ -93,7 +93,11 @@ fn ties_of(alloc: Global, kept: &Kept<'_>) -> Result<Vec<Order>, Memory>
 }
 
 /// For each point the first one at its place: the first from which ties lead to it.
-fn roots_of(alloc: Global, kept: &Kept<'_>, onward: &Index<Order, End>) -> Result<Vec<u32>, Memory>
+fn roots_of(
+    alloc: Global,
+    kept: &KeptLinks<'_>,
+    onward: &Index<Order, End>,
+) -> Result<Vec<u32>, Memory>
     requires ready { IsReady (basis_of kept.now) }
     requires onward { AreOrdersBy (basis_of kept.now) onward.now }
     ensures { IfOk result (λ roots. length roots.items ≡ points kept.now.net.now) }
@@ -126,7 +130,7 @@ fn own_roots(alloc: Global, points: u32) -> Result<Vec<u32>, Memory>
 
 /// Gives a root to all points that ties lead to from those that were met.
 fn flood(
-    kept: &Kept<'_>,
+    kept: &KeptLinks<'_>,
     onward: &Index<Order, End>,
     root: u32,
     roots: &mut [u32],
@@ -149,7 +153,7 @@ fn flood(
 
 /// Gives a root to the points that ties lead to from one, and notes those that had none but themselves.
 fn meet_all(
-    kept: &Kept<'_>,
+    kept: &KeptLinks<'_>,
     onward: &Index<Order, End>,
     point: u32,
     root: u32,

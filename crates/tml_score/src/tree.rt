@@ -1,5 +1,5 @@
 //! Orders that lead from the root of each place to its points, or from these back to it.
-ghost use Rattle.clash.specs.Orders as orders;
+ghost use Rattle.net_orders.specs.Orders as orders;
 ghost use Rattle.net_core.specs.Nets.{points};
 ghost use Rattle.std.specs.Bool.{OnTrue};
 ghost use Rattle.std.specs.List.{Contains};
@@ -10,10 +10,10 @@ ghost use Rattle.tml_score.specs.Ties.{AreTies};
 ghost use Rattle.tml_score.specs.Tree.{IsBefore, IsCovered, IsCut, IsTree, LeadsOn, order_at, with_link};
 
 use crate::ends::End;
-use crate::search::Kept;
+use crate::search::KeptLinks;
 use crate::ties::Ties;
-use clash::Order;
 use net_core::Memory;
+use net_orders::Order;
 use point_index::PointOf;
 use std::alloc::Global;
 
@@ -98,7 +98,7 @@ impl Tree {
     /// # Errors
     ///
     /// Out of memory.
-    pub fn refresh(&mut self, kept: &Kept<'_>, ties: &Ties, next: u32) -> Result<(), Memory>
+    pub fn refresh(&mut self, kept: &KeptLinks<'_>, ties: &Ties, next: u32) -> Result<(), Memory>
         requires ready { IsReady (basis_of kept.now) }
         requires ties { AreTies (basis_of kept.now) ties.now }
         requires tree { IsTree (basis_of kept.now) ties.now.roots.items self.old.near self.old }
@@ -125,7 +125,7 @@ impl Tree {
     }
 
     /// Takes all orders that lead on, the late links first.
-    fn grow(&mut self, kept: &Kept<'_>, ties: &Ties, next: u32) -> Result<(), Memory>
+    fn grow(&mut self, kept: &KeptLinks<'_>, ties: &Ties, next: u32) -> Result<(), Memory>
         requires ready { IsReady (basis_of kept.now) }
         requires ties { AreTies (basis_of kept.now) ties.now }
         requires tree { IsTree (basis_of kept.now) ties.now.roots.items self.old.near self.old }
@@ -149,7 +149,7 @@ impl Tree {
     }
 
     /// Takes the orders that lead on from the roots.
-    fn leave_roots(&mut self, kept: &Kept<'_>, ties: &Ties, open: Open) -> Result<(), Memory>
+    fn leave_roots(&mut self, kept: &KeptLinks<'_>, ties: &Ties, open: Open) -> Result<(), Memory>
         requires ready { IsReady (basis_of kept.now) }
         requires ties { AreTies (basis_of kept.now) ties.now }
         requires tree { IsTree (basis_of kept.now) ties.now.roots.items self.old.near self.old }
@@ -166,7 +166,7 @@ impl Tree {
     /// Takes the orders that lead on from what the orders from a turn on lead to, and returns the turn at the end.
     fn go_on(
         &mut self,
-        kept: &Kept<'_>,
+        kept: &KeptLinks<'_>,
         ties: &Ties,
         open: Open,
         first: usize,
@@ -188,7 +188,13 @@ impl Tree {
     }
 
     /// Takes the orders that lead on from a point.
-    fn spread(&mut self, kept: &Kept<'_>, ties: &Ties, open: Open, point: u32) -> Result<(), Memory>
+    fn spread(
+        &mut self,
+        kept: &KeptLinks<'_>,
+        ties: &Ties,
+        open: Open,
+        point: u32,
+    ) -> Result<(), Memory>
         requires ready { IsReady (basis_of kept.now) }
         requires ties { AreTies (basis_of kept.now) ties.now }
         requires point { point < points kept.now.net.now }
@@ -204,7 +210,7 @@ impl Tree {
     }
 
     /// Takes an order, where it leads on.
-    fn reach(&mut self, kept: &Kept<'_>, ties: &Ties, order: &Order) -> Result<bool, Memory>
+    fn reach(&mut self, kept: &KeptLinks<'_>, ties: &Ties, order: &Order) -> Result<bool, Memory>
         requires ready { IsReady (basis_of kept.now) }
         requires ties { AreTies (basis_of kept.now) ties.now }
         requires order { Contains kept.now.graph.now.onward.items order.now }
@@ -219,7 +225,7 @@ impl Tree {
     }
 
     /// Whether an order that is kept leads from a point that is covered to one of its place that isn't.
-    fn leads_on(&self, kept: &Kept<'_>, ties: &Ties, order: &Order) -> bool
+    fn leads_on(&self, kept: &KeptLinks<'_>, ties: &Ties, order: &Order) -> bool
         requires ready { IsReady (basis_of kept.now) }
         requires ties { AreTies (basis_of kept.now) ties.now }
         requires order { Contains kept.now.graph.now.onward.items order.now }

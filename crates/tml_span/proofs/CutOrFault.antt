@@ -12,7 +12,7 @@ use Rattle.named.proofs.Deciding.{by_test, either, least_number, some_number}
 use Rattle.tml_span.specs.Units.{PlainUnit}
 use Rattle.tml_span.specs.Cutting.{Cuts, CutsFrom}
 use Rattle.tml_span.specs.Faults.{CutOrFault, IsNotUtf8}
-use Rattle.tml_span.specs.References.{IsBadAt, Piece, IsBadIn, IsBad, IsFirst, IsNowhere, pieces_of}
+use Rattle.tml_span.specs.References.{IsBadAt, Piece, IsBadIn, IsBad, IsLeastPlace, IsNowhere, pieces_of}
 use Rattle.tml_span.proofs.EveryCut.{every_cut_from}
 use Rattle.tml_span.proofs.FirstBad.{bad_at_within, bad_here, bad_is, not_begun}
 use Rattle.tml_span.proofs.Referring.{reference_or_not}
@@ -86,7 +86,7 @@ bad_below (u ∷ units) =
       ],
     )
 
-first_or_nowhere : (units : List PlainUnit) → ((place : ℕ) × IsFirst (IsBad units) place) ⊎ IsNowhere (IsBad units)
+first_or_nowhere : (units : List PlainUnit) → ((place : ℕ) × IsLeastPlace (IsBad units) place) ⊎ IsNowhere (IsBad units)
 first_or_nowhere units = let limit = bad_below units in least_number (IsBad units) (bad_or_not units) limit.0 limit.1
 
 -- ---- a source

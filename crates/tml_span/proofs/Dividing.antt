@@ -7,7 +7,7 @@ use Rattle.tml_span.specs.Units.{PlainUnit}
 use Rattle.tml_span.specs.Cutter.{BeginsCut, CutsOn, HasCut}
 use Rattle.tml_span.specs.Cutting.{Cuts}
 use Rattle.tml_span.specs.Whole.{IsWhole, CutsWhole}
-use Rattle.tml_span.specs.Reader.{Divides, Gives, IsReading, Reading}
+use Rattle.tml_span.specs.Reader.{Divides, GivesUnit, IsReading, Reading}
 use Rattle.tml_span.specs.View.{unit_of}
 use Rattle.tml_span.proofs.FirstBad.{bad-append_left}
 use Rattle.tml_span.proofs.OneCut.{one_cut_from}
@@ -54,7 +54,7 @@ module _ (old new : Reading) (reading : IsReading old) where
       append_cancel_left given left [] (same.0 ∙ sym (append-nil given))
 
   -- a unit or none
-  pub gives : (found : Option rust.Unit) → CutsOn old new (Ok found) → Gives old new (Ok found)
+  pub gives : (found : Option rust.Unit) → CutsOn old new (Ok found) → GivesUnit old new (Ok found)
   gives (Some u) on = (on.0, on.1, on.2, on.3, divides_more u on)
   gives None on = (on.0, on.1, none_left on)
 

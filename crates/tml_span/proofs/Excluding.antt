@@ -7,7 +7,7 @@ use Rattle.faults.specs.declared.kind.FaultKind.TheVariants as fault
 use Rattle.tml_span.specs.Units.{PlainUnit}
 use Rattle.tml_span.specs.Cutting.{Cuts}
 use Rattle.tml_span.specs.Faults.{CutFault, IsNotUtf8, HasBadReference, HasBadMarkup, OneFaults}
-use Rattle.tml_span.specs.References.{IsBad, IsFirst}
+use Rattle.tml_span.specs.References.{IsBad, IsLeastPlace}
 use Rattle.tml_span.specs.Whole.{IsWhole}
 use Rattle.tml_span.proofs.OneCut.{one_cut_from}
 
@@ -16,7 +16,7 @@ valid_up_to : (source : List ℕ) (place other : ℕ) → IsValidUpTo source pla
 valid_up_to source place other h k = sym (utf8_valid_len-IsValidUpTo source place h) ∙ utf8_valid_len-IsValidUpTo source other k
 
 -- there is one least place
-one_first : (Bad : ℕ → Type 0) (place other : ℕ) → IsFirst Bad place → IsFirst Bad other → place ≡ other
+one_first : (Bad : ℕ → Type 0) (place other : ℕ) → IsLeastPlace Bad place → IsLeastPlace Bad other → place ≡ other
 one_first Bad place other h k = omega (arith, h.1 other k.0, k.1 place h.0)
 
 -- units of one source are the same
@@ -40,7 +40,7 @@ reference_or_markup source place other f g =
 one_reference : (source : List ℕ) (place other : ℕ) → HasBadReference source place → HasBadReference source other → place ≡ other
 one_reference source place other f g =
     let same = one_units source f.1 g.1 f.2 g.2 f.3 g.3 in
-    one_first (IsBad g.1) place other (subst (λ (us : List PlainUnit). IsFirst (IsBad us) place) same f.4) g.4
+    one_first (IsBad g.1) place other (subst (λ (us : List PlainUnit). IsLeastPlace (IsBad us) place) same f.4) g.4
 
 one_markup : (source : List ℕ) (place other : ℕ) → HasBadMarkup source place → HasBadMarkup source other → place ≡ other
 one_markup source place other f g =

@@ -7,7 +7,7 @@ use Rattle.std.proofs.lemmas.List.{length-map, take-append-drop, take_rest, drop
 use Rattle.memchr.specs.Find.{IsFirstByte, is_byte}
 use Rattle.tml_span.specs.declared.unit.Attr.{Attr}
 use Rattle.tml_span.specs.Units.{PlainUnit}
-use Rattle.tml_span.specs.References.{BeginsReference, IsBadAt, Piece, value_piece, IsBadIn, IsBad, IsFirst, IsNowhere, IsWithin, Follows}
+use Rattle.tml_span.specs.References.{BeginsReference, IsBadAt, Piece, value_piece, IsBadIn, IsBad, IsLeastPlace, IsNowhere, IsWithin, Follows}
 use Rattle.tml_span.specs.View.{attribute_of}
 
 -- a bad index is one of the bytes
@@ -74,7 +74,7 @@ passes_all bytes i so_far h place bad =
     further bytes i (length (drop i bytes)) so_far (λ k below. none k (omega arith) below) place (omega (arith, bad_at_within bytes place bad, length-drop i bytes)) bad
 
 -- an `&` that was found with no reference is the first bad one
-pub first_found : (bytes : List ℕ) (i ahead : ℕ) → NoneBelow bytes i → IsFirstByte (is_byte 38) (from bytes i) (Some ahead) → (BeginsReference (from bytes (i + ahead)) → ⊥) → IsFirst (IsBadAt bytes) (i + ahead)
+pub first_found : (bytes : List ℕ) (i ahead : ℕ) → NoneBelow bytes i → IsFirstByte (is_byte 38) (from bytes i) (Some ahead) → (BeginsReference (from bytes (i + ahead)) → ⊥) → IsLeastPlace (IsBadAt bytes) (i + ahead)
 first_found bytes i ahead so_far h none =
     let found = subst (λ (r : List ℕ). IsFirstByte (is_byte 38) r (Some ahead)) (take_rest bytes i) h in
     let is : slice_index bytes (i + ahead) ≡ 38 = sym (get_or-drop i bytes ahead 0) ∙ eqb-true _ _ found.1 in
@@ -130,7 +130,7 @@ follows_on [] ys low high h = (low, h)
 follows_on (x ∷ xs) ys low high h = follows_on xs ys (x.0 + length x.1) high h.1
 
 -- the first bad index of bytes at a place
-pub first_at : (start index : ℕ) (bytes : List ℕ) → IsFirst (IsBadAt bytes) index → IsFirst (IsBadIn ((start, bytes) ∷ [])) (start + index)
+pub first_at : (start index : ℕ) (bytes : List ℕ) → IsLeastPlace (IsBadAt bytes) index → IsLeastPlace (IsBadIn ((start, bytes) ∷ [])) (start + index)
 first_at start index bytes first = (
   inl (index, first.0, refl),
   λ other bad. elim bad as (λ _. start + index ≤ other) [ inl here ↦ omega (arith, here.2, first.1 here.0 here.1) | inr nothing ↦ absurd nothing ],
@@ -142,7 +142,7 @@ nowhere_at start bytes none place (inl here) = none here.0 here.1
 nowhere_at start bytes none place (inr nothing) = nothing
 
 -- the first bad place of the first piece with a bad one is the first of all
-pub first_in : (xs : List Piece) (piece : Piece) (ys : List Piece) (low high place : ℕ) → Follows low (xs ++ piece ∷ ys) high → IsNowhere (IsBadIn xs) → IsFirst (IsBadIn (piece ∷ [])) place → IsFirst (IsBadIn (xs ++ piece ∷ ys)) place
+pub first_in : (xs : List Piece) (piece : Piece) (ys : List Piece) (low high place : ℕ) → Follows low (xs ++ piece ∷ ys) high → IsNowhere (IsBadIn xs) → IsLeastPlace (IsBadIn (piece ∷ [])) place → IsLeastPlace (IsBadIn (xs ++ piece ∷ ys)) place
 first_in xs piece ys low high place h none first =
     let on = follows_on xs (piece ∷ ys) low high h in
     let one = (bad_in_from (piece ∷ []) on.0 (piece.0 + length piece.1) place (on.1.0, omega arith) first.0).1 in
@@ -160,10 +160,10 @@ split_at pieces i piece below is =
     sym (take-append-drop i pieces) ∙ ap (λ (x : List Piece). take i pieces ++ x) (drop_more pieces i piece below ∙ ap (λ (x : Piece). x ∷ drop (i + 1) pieces) is)
 
 -- the first bad place of the first piece with a bad one, which is at an index, is the first of all
-pub first_in_piece : (pieces : List Piece) (i : ℕ) (piece : Piece) (low high place : ℕ) → i < length pieces → get_or pieces i piece ≡ piece → Follows low pieces high → IsNowhere (IsBadIn (take i pieces)) → IsFirst (IsBadIn (piece ∷ [])) place → IsFirst (IsBadIn pieces) place
+pub first_in_piece : (pieces : List Piece) (i : ℕ) (piece : Piece) (low high place : ℕ) → i < length pieces → get_or pieces i piece ≡ piece → Follows low pieces high → IsNowhere (IsBadIn (take i pieces)) → IsLeastPlace (IsBadIn (piece ∷ [])) place → IsLeastPlace (IsBadIn pieces) place
 first_in_piece pieces i piece low high place below is h none first =
     let split = split_at pieces i piece below is in
-    subst (λ (x : List Piece). IsFirst (IsBadIn x) place) (sym split)
+    subst (λ (x : List Piece). IsLeastPlace (IsBadIn x) place) (sym split)
     (first_in (take i pieces) piece (drop (i + 1) pieces) low high place (subst (λ (x : List Piece). Follows low x high) split h) none first)
 
 -- one more piece with nothing bad
@@ -196,7 +196,7 @@ value_within (a ∷ attrs) zero d below h = h.0
 value_within (a ∷ attrs) (suc i) d below h = value_within attrs i d (omega arith) h.1
 
 -- the first bad place of the first value with a bad one is the first of all
-pub first_in_value : (attrs : List Attr) (i : ℕ) (d : Attr) (place : ℕ) → i < length attrs → (low : ℕ) × (high : ℕ) × Follows low (values attrs) high → IsNowhere (IsBadIn (take i (values attrs))) → IsFirst (IsBadIn (value_piece (attribute_of (get_or attrs i d)) ∷ [])) place → IsFirst (IsBadIn (values attrs)) place
+pub first_in_value : (attrs : List Attr) (i : ℕ) (d : Attr) (place : ℕ) → i < length attrs → (low : ℕ) × (high : ℕ) × Follows low (values attrs) high → IsNowhere (IsBadIn (take i (values attrs))) → IsLeastPlace (IsBadIn (value_piece (attribute_of (get_or attrs i d)) ∷ [])) place → IsLeastPlace (IsBadIn (values attrs)) place
 first_in_value attrs i d place below h none first =
     let piece = value_piece (attribute_of (get_or attrs i d)) in
     first_in_piece (values attrs) i piece h.0 h.1 place (omega (arith, length-values attrs, below)) (value_at attrs i d below) h.2 none first

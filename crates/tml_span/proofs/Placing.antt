@@ -3,7 +3,7 @@ use Rattle.std.proofs.Common.{ℕ, ◌+◌, ◌-◌, ◌<◌, ◌≤◌, List, [
 use Rattle.std.specs.List.{AllByRecursion}
 use Rattle.tml_span.specs.Units.{Attribute, SpelledAttribute, SpelledAttributes, Kind, bom, declaration, doctype, comment, text, start_tag, end_tag, empty_tag, SpelledTag, PlainUnit, SpelledKind, Spelled}
 use Rattle.tml_span.specs.Cutting.{FindsUnit}
-use Rattle.tml_span.specs.References.{value_piece, kind_pieces, kind_attributes, Follows, IsWithin, IsPlaced}
+use Rattle.tml_span.specs.References.{value_piece, kind_pieces, kind_attributes, Follows, IsWithin, HasPiecesInOrder}
 
 -- a value is between its place and the closing quote
 pub value_before_end : (place : ℕ) (a : Attribute) (bytes : List ℕ) → SpelledAttribute place a bytes → place + length a.value < a.end
@@ -36,7 +36,7 @@ kind_placed place (end_tag name) prefix h = (omega arith, tt)
 kind_placed place (empty_tag name attrs) prefix h = tag_placed place name attrs _ prefix h
 
 -- the pieces of a unit that is spelled at a place are in order within its span
-pub placed : (place : ℕ) (u : PlainUnit) (prefix : List ℕ) → Spelled place u prefix → IsPlaced u
+pub placed : (place : ℕ) (u : PlainUnit) (prefix : List ℕ) → Spelled place u prefix → HasPiecesInOrder u
 placed place u prefix h =
     let k = kind_placed place u.kind prefix h.kind in
     record {
@@ -44,5 +44,5 @@ placed place u prefix h =
       within = k.1;
     }
 
-pub found_placed : (place : ℕ) (bytes : List ℕ) (u : PlainUnit) (rest : List ℕ) → FindsUnit place bytes u rest → IsPlaced u
+pub found_placed : (place : ℕ) (bytes : List ℕ) (u : PlainUnit) (rest : List ℕ) → FindsUnit place bytes u rest → HasPiecesInOrder u
 found_placed place bytes u rest found = placed place u found.0 found.2

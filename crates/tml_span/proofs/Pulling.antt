@@ -6,7 +6,7 @@ use Rattle.tml_span.specs.Units.{PlainUnit}
 use Rattle.tml_span.specs.Cutting.{Stops, CutsFrom, FindsUnit}
 use Rattle.tml_span.specs.Cutter.{CutsOn, HasCut, IsCutSoFar}
 use Rattle.tml_span.specs.Faults.{HasBadMarkup, HasBadReference}
-use Rattle.tml_span.specs.References.{IsBadIn, IsFirst, IsNowhere, pieces_of}
+use Rattle.tml_span.specs.References.{IsBadIn, IsLeastPlace, IsNowhere, pieces_of}
 use Rattle.tml_span.specs.Slices.{UnitIsIn}
 use Rattle.tml_span.specs.Whole.{IsWhole, CutsWhole}
 use Rattle.tml_span.specs.Reader.{Reading, end_of}
@@ -94,7 +94,7 @@ module _ (r : Reading) (cut : IsCutSoFar r) (bytes : List ℕ) (is : bytes ≡ l
   -- ---- where a unit begins
 
   module _ (after : List ℕ) (u : PlainUnit) (found : FindsUnit r.place bytes u after) where
-    pub unit_is_bad : (bad : ℕ) → IsFirst (IsBadIn (pieces_of u)) bad → HasBadReference r.source bad
+    pub unit_is_bad : (bad : ℕ) → IsLeastPlace (IsBadIn (pieces_of u)) bad → HasBadReference r.source bad
     unit_is_bad bad first = bad_reference r.source bytes after r.place u bad cut.2.utf8 passing found first
 
     abbrev pub next : Reading

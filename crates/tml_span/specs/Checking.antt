@@ -3,13 +3,13 @@ use Rattle.std.specs.Prelude.{◌≡◌, ℕ, List, [], ◌∷◌, ◌++◌, map
 use Rattle.tml_span.specs.declared.check.Checked.{Checked}
 use Rattle.tml_span.specs.Cutting.{Stops, FindsUnit}
 use Rattle.tml_span.specs.Reading.{ReadsAttributes}
-use Rattle.tml_span.specs.References.{Piece, IsBadIn, IsFirst, IsNowhere, FirstBadIn, pieces_of, value_piece}
+use Rattle.tml_span.specs.References.{Piece, IsBadIn, IsLeastPlace, IsNowhere, FirstBadIn, pieces_of, value_piece}
 use Rattle.tml_span.specs.Units.{Attribute, PlainUnit}
 
 -- the first bad place in the first piece that has one, or none where no piece has one
 abbrev pub FirstInOrder : List Piece → Option ℕ → Type 0
 FirstInOrder pieces None = IsNowhere (IsBadIn pieces)
-FirstInOrder pieces (Some place) = (before : List Piece) × (piece : Piece) × (after : List Piece) × (pieces ≡ before ++ piece ∷ after) × IsNowhere (IsBadIn before) × IsFirst (IsBadIn (piece ∷ [])) place
+FirstInOrder pieces (Some place) = (before : List Piece) × (piece : Piece) × (after : List Piece) × (pieces ≡ before ++ piece ∷ after) × IsNowhere (IsBadIn before) × IsLeastPlace (IsBadIn (piece ∷ [])) place
 
 -- attributes and the first bad place in their values
 abbrev pub ChecksAttributes : ℕ → List ℕ → Checked → Type 0

@@ -6,7 +6,7 @@ use Rattle.tml_span.specs.declared.unit.Unit as rust
 use Rattle.tml_span.specs.declared.fault.Cut.{Cut}
 use Rattle.tml_span.specs.Units.{PlainUnit}
 use Rattle.tml_span.specs.Cutting.{Cuts, CutsFrom}
-use Rattle.tml_span.specs.Faults.{HasFault}
+use Rattle.tml_span.specs.Faults.{HasCutFault}
 use Rattle.tml_span.specs.Reader.{Reading, end_of}
 use Rattle.tml_span.specs.References.{IsBad, IsNowhere}
 use Rattle.tml_span.specs.Slices.{UnitIsIn}
@@ -33,4 +33,4 @@ abbrev pub CutsOn : Reading → Reading → Result (Option rust.Unit) Cut → Ty
 CutsOn old new (Ok (Some u)) = (new.source ≡ old.source) × (old.place < new.place) × (new.place ≤ length old.source) × UnitIsIn old.source (unit_of u)
     × ((given : List PlainUnit) → HasCut old given → HasCut new (given ++ unit_of u ∷ []))
 CutsOn old new (Ok None) = (new ≡ old) × (old.place ≡ length old.source) × ((given : List PlainUnit) → HasCut old given → IsWhole (record { source = old.source; units = given }))
-CutsOn old new (Err cut) = (new ≡ old) × HasFault old.source cut
+CutsOn old new (Err cut) = (new ≡ old) × HasCutFault old.source cut

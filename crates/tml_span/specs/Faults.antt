@@ -9,7 +9,7 @@ use Rattle.tml_span.specs.declared.fault.PlainCut.{PlainCut}
 use Rattle.tml_span.specs.declared.fault.PlainCut.TheVariants as plain
 use Rattle.tml_span.specs.Units.{PlainUnit}
 use Rattle.tml_span.specs.Cutting.{Cuts}
-use Rattle.tml_span.specs.References.{IsBad, IsFirst, IsNowhere}
+use Rattle.tml_span.specs.References.{IsBad, IsLeastPlace, IsNowhere}
 use Rattle.tml_span.specs.Whole.{IsWhole, CutsWhole}
 
 -- the source is not UTF-8, and its longest valid prefix has this length
@@ -18,7 +18,7 @@ IsNotUtf8 source place = ¬ (IsUtf8 source) × IsValidUpTo source place
 
 -- the first bad reference in the units of the cut is here
 abbrev pub HasBadReference : List ℕ → ℕ → Type 0
-HasBadReference source place = IsUtf8 source × (units : List PlainUnit) × (rest : List ℕ) × Cuts source units rest × IsFirst (IsBad units) place
+HasBadReference source place = IsUtf8 source × (units : List PlainUnit) × (rest : List ℕ) × Cuts source units rest × IsLeastPlace (IsBad units) place
 
 -- no reference in the units of the cut is bad, but the cut has a rest, which begins here
 abbrev pub HasBadMarkup : List ℕ → ℕ → Type 0
@@ -55,11 +55,11 @@ cut_kind_and_place (BadMarkup place) = Some (fault.BadMarkup, place)
 cut_kind_and_place Memory = None
 
 -- what a refusal says of the source
-abbrev pub HasFault : List ℕ → Cut → Type 0
-HasFault source (NotUtf8 place) = IsNotUtf8 source place
-HasFault source (BadReference place) = HasBadReference source place
-HasFault source (BadMarkup place) = HasBadMarkup source place
-HasFault source Memory = ⊤
+abbrev pub HasCutFault : List ℕ → Cut → Type 0
+HasCutFault source (NotUtf8 place) = IsNotUtf8 source place
+HasCutFault source (BadReference place) = HasBadReference source place
+HasCutFault source (BadMarkup place) = HasBadMarkup source place
+HasCutFault source Memory = ⊤
 
 -- a source has one fault at most, and none where it is cut whole
 pub record OneFault (source : List ℕ) : Type 0 where

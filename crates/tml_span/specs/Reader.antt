@@ -33,8 +33,8 @@ abbrev pub Begins : List ℕ → Reading → Type 0
 Begins source r = (r ≡ record { source = source; place = 0 }) × CutsWhole source
 
 -- What a pull gives: the first of the units that are left, or none where none is left. A refusal changes nothing.
-abbrev pub Gives : Reading → Reading → Result (Option rust.Unit) Memory → Type 0
-Gives old new (Ok (Some u)) = (new.source ≡ old.source) × (old.place < new.place) × (new.place ≤ length old.source) × UnitIsIn old.source (unit_of u)
+abbrev pub GivesUnit : Reading → Reading → Result (Option rust.Unit) Memory → Type 0
+GivesUnit old new (Ok (Some u)) = (new.source ≡ old.source) × (old.place < new.place) × (new.place ≤ length old.source) × UnitIsIn old.source (unit_of u)
     × ((given left : List PlainUnit) → Divides old given left → (more : List PlainUnit) × (left ≡ unit_of u ∷ more) × Divides new (given ++ unit_of u ∷ []) more)
-Gives old new (Ok None) = (new ≡ old) × (old.place ≡ length old.source) × ((given left : List PlainUnit) → Divides old given left → left ≡ [])
-Gives old new (Err e) = new ≡ old
+GivesUnit old new (Ok None) = (new ≡ old) × (old.place ≡ length old.source) × ((given left : List PlainUnit) → Divides old given left → left ≡ [])
+GivesUnit old new (Err e) = new ≡ old

@@ -76,8 +76,8 @@ IsBad [] place = ⊥
 IsBad (u ∷ units) place = IsBadIn (pieces_of u) place ⊎ IsBad units place
 
 -- the least place at which something is bad
-abbrev pub IsFirst : (ℕ → Type 0) → ℕ → Type 0
-IsFirst Bad place = Bad place × ((other : ℕ) → Bad other → place ≤ other)
+abbrev pub IsLeastPlace : (ℕ → Type 0) → ℕ → Type 0
+IsLeastPlace Bad place = Bad place × ((other : ℕ) → Bad other → place ≤ other)
 
 -- nothing is bad at any place
 abbrev pub IsNowhere : (ℕ → Type 0) → Type 0
@@ -85,7 +85,7 @@ IsNowhere Bad = (place : ℕ) → Bad place → ⊥
 
 -- the first bad place in these pieces, or none where none is bad
 abbrev pub FirstBadIn : List Piece → Option ℕ → Type 0
-FirstBadIn pieces bad = MatchOption bad (IsNowhere (IsBadIn pieces)) (IsFirst (IsBadIn pieces))
+FirstBadIn pieces bad = MatchOption bad (IsNowhere (IsBadIn pieces)) (IsLeastPlace (IsBadIn pieces))
 
 -- the pieces follow each other, from a place up to another
 abbrev pub Follows : ℕ → List Piece → ℕ → Type 0
@@ -102,6 +102,6 @@ kind_attributes (empty_tag name attrs) = attrs
 kind_attributes kind = []
 
 -- the pieces of a unit are in order within its span
-pub record IsPlaced (u : PlainUnit) : Type 0 where
+pub record HasPiecesInOrder (u : PlainUnit) : Type 0 where
   pub follows : Follows u.start (pieces_of u) u.end
   pub within : AllByRecursion IsWithin (kind_attributes u.kind)

@@ -4,7 +4,7 @@ ghost use Rattle.tml_span.specs.Bytes as kinds;
 ghost use Rattle.tml_span.specs.Checking.{AddsPiece, ChecksAttributes, ChecksUnit};
 ghost use Rattle.tml_span.specs.Cutter.{IsCutSoFar};
 ghost use Rattle.tml_span.specs.Faults.{HasPlainFault};
-ghost use Rattle.tml_span.specs.References.{FirstBadIn, IsPlaced, IsWithin, pieces_of, value_piece};
+ghost use Rattle.tml_span.specs.References.{FirstBadIn, HasPiecesInOrder, IsWithin, pieces_of, value_piece};
 ghost use Rattle.tml_span.specs.View.{attribute_of, unit_of};
 ghost use Rattle.tml_span.specs.Whole.{CutsWhole};
 
@@ -71,7 +71,7 @@ fn check_tag(place: u32, bytes: &[u8]) -> Option<Checked<'_>>
 /// A unit and what follows it. It stands in its callers, so that of most units nothing is made.
 #[inline(always)]
 fn check_found<'s>(found: (Unit<'s>, &'s [u8])) -> Checked<'s>
-    requires { IsPlaced (unit_of found.0) }
+    requires { HasPiecesInOrder (unit_of found.0) }
     ensures bad { FirstBadIn (pieces_of (unit_of found.entry.0)) result.bad }
     ensures rest { result.rest.now ≡ found.entry.1.now }
 {

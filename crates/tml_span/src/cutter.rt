@@ -32,7 +32,7 @@ impl<'s> Model for Cutter<'s> {
 
 impl<'s> Cutter<'s> {
     ghost use Rattle.tml_span.specs.Cutter.{CutsOn, IsCutSoFar};
-    ghost use Rattle.tml_span.specs.Faults.{HasFault};
+    ghost use Rattle.tml_span.specs.Faults.{HasCutFault};
     ghost use Rattle.tml_span.specs.Whole.{CutsWhole};
 
     /// Looks at the bytes of a source of fewer than 2^32, which takes no memory. No unit was given.
@@ -109,7 +109,7 @@ impl<'s> Cutter<'s> {
 
     /// What is answered out of memory: the fault of the source, where it has one, comes before that.
     pub fn out_of_memory(&self) -> Cut
-        ensures { HasFault self.now.source result }
+        ensures { HasCutFault self.now.source result }
     {
         match self.check() {
             Ok(()) => Cut::Memory,

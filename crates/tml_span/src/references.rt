@@ -1,7 +1,7 @@
 //! References in texts and values, and the first that is bad.
 ghost use Rattle.std.specs.Prelude.{◌≡◌, ◌↔◌, ◌+◌, ◌<◌, ◌≤◌, ◌^◌, ℕ, [], ◌∷◌, length, IsTrue, IfSome, MatchOption, map, nat_eq, Some};
 ghost use Rattle.std.specs.List.{AllByRecursion, list_any, starts_with};
-ghost use Rattle.tml_span.specs.References.{named_references, Begins, IsClosed, IsDecimalReference, IsHexReference, BeginsReference, FirstBadIn, IsBadAt, IsFirst, IsNowhere, IsPlaced, IsWithin, Follows, pieces_of, value_piece};
+ghost use Rattle.tml_span.specs.References.{named_references, Begins, IsClosed, IsDecimalReference, IsHexReference, BeginsReference, FirstBadIn, IsBadAt, IsLeastPlace, IsNowhere, HasPiecesInOrder, IsWithin, Follows, pieces_of, value_piece};
 ghost use Rattle.tml_span.specs.View.{unit_of, attribute_of};
 
 use crate::bytes::{ampersand_at, digits_len, hex_digits_len};
@@ -55,7 +55,7 @@ fn begins_reference(bytes: &[u8]) -> bool
 
 /// The index of the first `&` with which no reference begins.
 fn bad_reference(bytes: &[u8]) -> Option<usize>
-    ensures first { MatchOption result (IsNowhere (IsBadAt bytes.now)) (IsFirst (IsBadAt bytes.now)) }
+    ensures first { MatchOption result (IsNowhere (IsBadAt bytes.now)) (IsLeastPlace (IsBadAt bytes.now)) }
     ensures within { IfSome result (λ index. index < length bytes.now) }
 {
     let mut index = 0;
@@ -112,7 +112,7 @@ fn bad_value(attrs: &[Attr]) -> Option<u32>
 
 /// The place of the first bad reference in a unit.
 pub fn bad_reference_in(unit: &Unit) -> Option<u32>
-    requires { IsPlaced (unit_of unit.now) }
+    requires { HasPiecesInOrder (unit_of unit.now) }
     ensures { FirstBadIn (pieces_of (unit_of unit.now)) result }
 {
     match unit {

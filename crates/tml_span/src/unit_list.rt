@@ -1,7 +1,7 @@
 //! All units of a source.
 ghost use Rattle.std.specs.Prelude.{◌≡◌, ◌<◌, ◌^◌, length, map, IfOk, IfErr};
 ghost use Rattle.std.specs.List.{AllByRecursion};
-ghost use Rattle.tml_span.specs.Faults.{HasFault};
+ghost use Rattle.tml_span.specs.Faults.{HasCutFault};
 ghost use Rattle.tml_span.specs.Slices.{UnitIsIn};
 ghost use Rattle.tml_span.specs.Whole.{IsWhole};
 
@@ -72,7 +72,7 @@ pub fn units<'s>(alloc: Global, source: &'s [u8]) -> Result<UnitList<'s>, Cut>
     ensures source { IfOk result (λ l. l.source ≡ source.now) }
     ensures whole { IfOk result (λ l. IsWhole l) }
     ensures slices { IfOk result (λ l. AllByRecursion (UnitIsIn l.source) l.units) }
-    ensures fault { IfErr result (λ e. HasFault source.now e) }
+    ensures fault { IfErr result (λ e. HasCutFault source.now e) }
 {
     let mut reader = match reader(source) {
         Ok(reader) => reader,

@@ -8,7 +8,7 @@ use crate::{Cutter, Memory, Unit};
 use std::alloc::Global;
 use std::marker::Model;
 
-/// Gives the units of a source one by one, from the first on. The source has no fault. Contracts see the source and the
+/// GivesUnit the units of a source one by one, from the first on. The source has no fault. Contracts see the source and the
 /// place: the units that are given are those that end at or before it.
 #[derive(Drop)]
 pub struct UnitReader<'s> {
@@ -42,7 +42,7 @@ pub fn reader<'s>(source: &'s [u8]) -> Result<UnitReader<'s>, PlainCut>
 }
 
 impl<'s> UnitReader<'s> {
-    ghost use Rattle.tml_span.specs.Reader.{IsReading, Gives};
+    ghost use Rattle.tml_span.specs.Reader.{IsReading, GivesUnit};
 
     /// The end of the last unit that was given, or 0.
     pub fn place(&self) -> u32
@@ -66,7 +66,7 @@ impl<'s> UnitReader<'s> {
     ///
     /// Out of memory the reader is unchanged, and a later call may succeed.
     pub fn pull(&mut self, alloc: Global) -> Result<Option<Unit<'s>>, Memory>
-        ensures gives { Gives self.old self.new result }
+        ensures gives { GivesUnit self.old self.new result }
     {
         match self.cutter.pull(alloc) {
             Ok(found) => Ok(found),

@@ -27,9 +27,8 @@ use Rattle.tml_run.specs.declared.status.Status.{Status}
 use Rattle.tml_run.proofs.OneFile.{replied, replies}
 use Rattle.tml_tree.specs.Plain.{PlainNode}
 use Rattle.tml_tool.specs.Alike.{CanonicalIsAlike, HasReply, HoldsDocument, is_of_contents}
-use Rattle.tml_tool.specs.Forms.{argument}
 use Rattle.tml_tool.specs.declared.commands.Form.{Form}
-use Rattle.tml_tool.specs.declared.commands.Form.TheVariants.{Check, Dates, Solve, Ask, Relations, Possible, Matrix, Reduce, Seconds}
+use Rattle.tml_tool.specs.declared.commands.Form.TheVariants.{Spans, Check, Dates, Solve, Ask, Relations, Canon, Verify, Drill, Renew, Join, Possible, Matrix, Reduce, Score, Seconds, Confirm}
 
 -- the canonical text of an accepted document is accepted, and says the same
 canonical_accepted : (doc : List ℕ) (root : PlainNode) (contents : PlainDocument) → IsAccepted doc root contents → IsAccepted (canonical_text root) (canonical_tree root) contents
@@ -50,16 +49,25 @@ module _ (doc other : List ℕ) (contents : PlainDocument) (says : Says doc cont
         (total (other ∷ []) + 0, replies files (doc_file another) (of_contents Of) other too.0 too.1 status line (answered_alike Of status line answer))
 
     reply_alike : (form : Form) (given : List (List ℕ)) (status : Status) (line : List ℕ) → is_of_contents form ≡ true → is_broken_off status ≡ false → HasReply files form name given status line → HasReply files form another given status line
-    reply_alike Check given status line e whole (taken, h) = rows_alike OfCheck status line taken whole h
-    reply_alike Dates given status line e whole (taken, h) = rows_alike OfDates status line taken whole h
-    reply_alike Solve given status line e whole (taken, h) = rows_alike (of_net OfSolve) status line taken whole h
-    reply_alike Ask given status line e whole (taken, h) = rows_alike (OfAsk (argument given 0) (argument given 1) (argument given 2)) status line taken whole h
-    reply_alike Relations given status line e whole (taken, h) = rows_alike (of_net OfRelations) status line taken whole h
-    reply_alike Possible given status line e whole (taken, h) = rows_alike (OfPossible (argument given 0) (argument given 1)) status line taken whole h
-    reply_alike Matrix given status line e whole (taken, h) = rows_alike (of_net OfMatrix) status line taken whole h
-    reply_alike Reduce given status line e whole (taken, h) = rows_alike (of_net OfReduce) status line taken whole h
-    reply_alike Seconds given status line e whole (taken, h) = rows_alike OfSeconds status line taken whole h
-    reply_alike form given status line e whole h = absurd cc
+    reply_alike Check [] status line e whole (taken, h) = rows_alike OfCheck status line taken whole h
+    reply_alike Dates [] status line e whole (taken, h) = rows_alike OfDates status line taken whole h
+    reply_alike Solve [] status line e whole (taken, h) = rows_alike (of_net OfSolve) status line taken whole h
+    reply_alike Ask (x ∷ rel ∷ y ∷ []) status line e whole (taken, h) = rows_alike (OfAsk x rel y) status line taken whole h
+    reply_alike Relations [] status line e whole (taken, h) = rows_alike (of_net OfRelations) status line taken whole h
+    reply_alike Possible (x ∷ y ∷ []) status line e whole (taken, h) = rows_alike (OfPossible x y) status line taken whole h
+    reply_alike Matrix [] status line e whole (taken, h) = rows_alike (of_net OfMatrix) status line taken whole h
+    reply_alike Reduce [] status line e whole (taken, h) = rows_alike (of_net OfReduce) status line taken whole h
+    reply_alike Seconds [] status line e whole (taken, h) = rows_alike OfSeconds status line taken whole h
+    reply_alike Spans given status line e whole h = absurd cc
+    reply_alike Canon given status line e whole h = absurd cc
+    reply_alike Verify given status line e whole h = absurd cc
+    reply_alike Drill given status line e whole h = absurd cc
+    reply_alike Renew given status line e whole h = absurd cc
+    reply_alike Join given status line e whole h = absurd cc
+    reply_alike Score given status line e whole h = absurd cc
+    reply_alike Confirm given status line e whole h = absurd cc
+    -- so many arguments have no form over either
+    reply_alike form given status line e whole h = h
 
 -- a canonical text is its own, and is answered as the document is
 pub canonical_is_alike : CanonicalIsAlike

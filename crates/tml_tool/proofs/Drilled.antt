@@ -1,5 +1,5 @@
 -- The reply to a drill: no file is read for it.
-use Rattle.std.proofs.Common.{◌≡◌, ℕ, List, [], Option, Result, Some, None, Bool, refl, sym, ap, ◌∙◌, arith}
+use Rattle.std.proofs.Common.{◌≡◌, ℕ, List, [], ◌∷◌, Option, Result, Some, None, Bool, refl, sym, ap, ◌∙◌, arith}
 use Rattle.std.specs.Prelude.{IfOk, is_some}
 use Rattle.std.proofs.lemmas.Result.{IfOk-weaker}
 use Rattle.order_answers.specs.Drill.{OfDrill, drill_number}
@@ -11,24 +11,23 @@ use Rattle.tml_run.specs.declared.answer.Answer.{Answer}
 use Rattle.tml_run.proofs.HowItEnds.{answered_or_not}
 use Rattle.tml_tool.specs.declared.commands.Form.TheVariants.{Drill}
 use Rattle.tml_tool.specs.Commands.{rows_of, rows_with, taken}
-use Rattle.tml_tool.specs.Forms.{argument}
 use Rattle.tml_tool.proofs.Asked.{along, by_no_test, by_test}
 
 -- the argument is the number of a drill
-pub a_drill : (arguments : List (List ℕ)) (n : ℕ) → Some n ≡ drill_number (argument arguments 0) → taken Drill arguments ≡ Some (Drill, arguments)
-a_drill arguments n e = by_test (is_some (drill_number (argument arguments 0))) (Some (Drill, arguments)) (ap is_some (sym e))
+pub a_drill : (word : List ℕ) (n : ℕ) → Some n ≡ drill_number word → taken Drill (word ∷ []) ≡ Some (Drill, word ∷ [])
+a_drill word n e = by_test (is_some (drill_number word)) (Some (Drill, word ∷ [])) (ap is_some (sym e))
 
 -- it is not
-pub no_drill : (arguments : List (List ℕ)) → None ≡ drill_number (argument arguments 0) → taken Drill arguments ≡ None
-no_drill arguments e = by_no_test (is_some (drill_number (argument arguments 0))) (Some (Drill, arguments)) (λ is. cc (ap is_some e ∙ is))
+pub no_drill : (word : List ℕ) → None ≡ drill_number word → taken Drill (word ∷ []) ≡ None
+no_drill word e = by_no_test (is_some (drill_number word)) (Some (Drill, word ∷ [])) (λ is. cc (ap is_some e ∙ is))
 
-pub drill_replied : {E : Type 0} (known : Option Files) (sound : Bool) (given faults : ℕ) (same : Type 0) (arguments : List (List ℕ)) (n : ℕ) (r : Result Answer E)
-    → Some n ≡ drill_number (argument arguments 0) → IfOk r (λ answer. OfDrill n (finding_status answer.finding) answer.text.items) → same
-    → IsReplyTo (rows_of (taken Drill arguments)) known sound given given faults faults same (status_of (reply_of r)) (text_of (reply_of r))
-drill_replied known sound given faults same arguments n r e of unchanged =
-    let rows = rows_with Drill arguments in
+pub drill_replied : {E : Type 0} (known : Option Files) (sound : Bool) (given faults : ℕ) (same : Type 0) (word : List ℕ) (n : ℕ) (r : Result Answer E)
+    → Some n ≡ drill_number word → IfOk r (λ answer. OfDrill n (finding_status answer.finding) answer.text.items) → same
+    → IsReplyTo (rows_of (taken Drill (word ∷ []))) known sound given given faults faults same (status_of (reply_of r)) (text_of (reply_of r))
+drill_replied known sound given faults same word n r e of unchanged =
+    let rows = rows_with Drill (word ∷ []) in
     let ends = IfOk-weaker r (λ (answer : Answer). OfDrill n (finding_status answer.finding) answer.text.items) (λ (answer : Answer). rows [] (answers (finding_status answer.finding) answer.text.items)) (λ answer is. (n, sym e, is)) of in
-    along known sound given given faults faults same (taken Drill arguments) (Some (Drill, arguments)) (status_of (reply_of r)) (text_of (reply_of r)) (a_drill arguments n e) (record {
+    along known sound given given faults faults same (taken Drill (word ∷ [])) (Some (Drill, word ∷ [])) (status_of (reply_of r)) (text_of (reply_of r)) (a_drill word n e) (record {
       replies = (0, answered_or_not known rows [] r 0 tt ends (omega arith), omega arith);
       no_fault = λ sound there. refl;
       untouched = λ none. unchanged;

@@ -1,3 +1,4 @@
+pub mod Arguments
 pub mod Alike
 pub mod Asked
 pub mod Drilled

@@ -1,16 +1,19 @@
 -- What is printed as evidence, `verify` accepts.
-use Rattle.std.proofs.Common.{◌≡◌, ◌≢◌, ◌≤◌, ◌+◌, false, ℕ, List, map, [], ◌∷◌, length, refl, Some, inl, inr, arith}
+use Rattle.std.proofs.Common.{◌≡◌, ◌≢◌, ◌≤◌, false, ℕ, List, map, [], ◌∷◌, length, refl, Some, inl, inr, arith}
 use Rattle.answers.specs.Documents.{Contents, doc_file, document_rows, of_contents}
 use Rattle.answers.specs.Judged.{documents}
 use Rattle.evidence_answers.specs.Texts.{claim_lines}
 use Rattle.evidence_answers.specs.Files.{evidence_file}
-use Rattle.evidence_answers.specs.Verify.{verify_rows}
+use Rattle.evidence_answers.specs.Accepting.{AcceptsText}
+use Rattle.evidence_answers.specs.Verify.{OfVerify, verify_rows}
+use Rattle.evidence_answers.proofs.Accepting.{accepted}
 use Rattle.evidence_answers.proofs.VerifyAnswered.{verify_answered}
 use Rattle.evidence_check.specs.Claims.{ShowsTruth}
 use Rattle.evidence_check.specs.Supported.{IsSupported}
 use Rattle.evidence_format.specs.Evidence.{clash, counter, entails, timeline}
 use Rattle.evidence_format.proofs.Claims.{all_of_one}
 use Rattle.net_answers.specs.Nets.{HasEvidence, NetAnswers, of_net}
+use Rattle.net_core.specs.Limits.{max_evidence}
 use Rattle.net_core.specs.Nets.{PlainNet}
 use Rattle.net_core.specs.Ranks.{pairs_of}
 use Rattle.order_answers.specs.Ask.{OfAsk, of_numbers}
@@ -24,16 +27,17 @@ use Rattle.tml_accept.specs.Acceptance.{Says}
 use Rattle.tml_io.specs.Files.{Files, held}
 use Rattle.tml_refs.specs.Documents.{PlainDocument}
 use Rattle.tml_run.specs.OneReply.{is_broken_off}
-use Rattle.tml_run.specs.Reading.{total}
 use Rattle.tml_run.specs.Replies.{Replies}
 use Rattle.tml_run.specs.declared.status.Status.{Status}
-use Rattle.tml_run.specs.declared.status.Status.TheVariants.{Done, Clash, DocFault, TooLong}
+use Rattle.tml_run.specs.declared.status.Status.TheVariants.{Done, Clash, DocFault, TooLong, Usage}
+use Rattle.tml_run.specs.Words.{usage_rows}
+use Rattle.tml_run.proofs.HowItEnds.{answered}
 use Rattle.tml_run.proofs.OneFile.{answered_or_long}
 use Rattle.tml_run.proofs.OneReply.{one_reply}
 use Rattle.tml_run.proofs.TwoFiles.{judged_or_long}
-use Rattle.tml_tool.specs.Commands.{rows_with}
-use Rattle.tml_tool.specs.Forms.{argument}
-use Rattle.tml_tool.specs.TwoRuns.{EvidenceIsVerified, IsVerified, PrintsEvidence}
+use Rattle.tml_run.proofs.Usage.{usage_answered}
+use Rattle.tml_tool.specs.Commands.{rows_with, usage}
+use Rattle.tml_tool.specs.TwoRuns.{EvidenceIsVerified, PrintsEvidence}
 use Rattle.tml_tool.specs.declared.commands.Form.{Form}
 use Rattle.tml_tool.specs.declared.commands.Form.TheVariants.{Solve, Ask, Relations, Possible, Matrix, Reduce, Score}
 
@@ -97,40 +101,42 @@ scored files name key text taken other h = elim (judged_or_long documents files 
   | inl (doc, holds, short, inr (bytes, (contents, says, inr (said, is, asked)))) ↦ (doc, holds, short, a_clash (OfKey said) doc contents says text (λ net answer. other answer.2.1) asked)
 ]
 
+-- words that have no form have no other reply than the usage text
+no_form : (files : Files) (status : Status) (text : List ℕ) (taken : ℕ) → is_broken_off status ≡ false → (status ≡ Usage → ⊥) → Replies (Some files) (usage_rows usage) status text taken → ⊥
+no_form files status text taken whole other h =
+    let reply : Replies (Some files) (usage_rows usage) Usage usage 0 = answered (Some files) (usage_rows usage) [] Usage usage 0 tt refl refl in
+    other (one_reply (usage_rows usage) (usage_answered usage).one_next files status Usage text usage taken 0 whole refl h reply).one_status
+
 printed : (files : Files) (form : Form) (name : List ℕ) (given : List (List ℕ)) (status : Status) (text : List ℕ) (taken : ℕ) → PrintsEvidence form status text
     → Replies (Some files) (rows_with form (name ∷ given)) status text taken → HasShown files name text
-printed files Solve name given Done text taken e h = shown files (of_net OfSolve) name Done text taken (refl, λ is. cc, λ is. cc) of_timeline h
-printed files Solve name given Clash text taken e h = shown files (of_net OfSolve) name Clash text taken (refl, λ is. cc, λ is. cc) (of_clash OfSolve (λ contents net text none. none)) h
-printed files Relations name given Clash text taken e h = shown files (of_net OfRelations) name Clash text taken (refl, λ is. cc, λ is. cc) (of_clash OfRelations (λ contents net text none. none)) h
-printed files Ask name given Done text taken e h =
-    shown files (OfAsk (argument given 0) (argument given 1) (argument given 2)) name Done text taken (refl, λ is. cc, λ is. cc) (of_relation (argument given 0) (argument given 1) (argument given 2)) h
-printed files Ask name given Clash text taken e h =
-    shown files (OfAsk (argument given 0) (argument given 1) (argument given 2)) name Clash text taken (refl, λ is. cc, λ is. cc) (of_asked_clash (argument given 0) (argument given 1) (argument given 2)) h
-printed files Possible name given Clash text taken e h =
-    shown files (OfPossible (argument given 0) (argument given 1)) name Clash text taken (refl, λ is. cc, λ is. cc) (of_possible_clash (argument given 0) (argument given 1)) h
-printed files Matrix name given Clash text taken e h = shown files (of_net OfMatrix) name Clash text taken (refl, λ is. cc, λ is. cc) (of_clash OfMatrix (λ contents net text none. none)) h
-printed files Reduce name given Clash text taken e h = shown files (of_net OfReduce) name Clash text taken (refl, λ is. cc, λ is. cc) (of_clash OfReduce (λ contents net text none. none)) h
-printed files Score name given Clash text taken e h = scored files name (argument given 0) text taken e h
+printed files Solve name [] Done text taken e h = shown files (of_net OfSolve) name Done text taken (refl, λ is. cc, λ is. cc) of_timeline h
+printed files Solve name [] Clash text taken e h = shown files (of_net OfSolve) name Clash text taken (refl, λ is. cc, λ is. cc) (of_clash OfSolve (λ contents net text none. none)) h
+printed files Relations name [] Clash text taken e h = shown files (of_net OfRelations) name Clash text taken (refl, λ is. cc, λ is. cc) (of_clash OfRelations (λ contents net text none. none)) h
+printed files Ask name (x ∷ rel ∷ y ∷ []) Done text taken e h = shown files (OfAsk x rel y) name Done text taken (refl, λ is. cc, λ is. cc) (of_relation x rel y) h
+printed files Ask name (x ∷ rel ∷ y ∷ []) Clash text taken e h = shown files (OfAsk x rel y) name Clash text taken (refl, λ is. cc, λ is. cc) (of_asked_clash x rel y) h
+printed files Possible name (x ∷ y ∷ []) Clash text taken e h = shown files (OfPossible x y) name Clash text taken (refl, λ is. cc, λ is. cc) (of_possible_clash x y) h
+printed files Matrix name [] Clash text taken e h = shown files (of_net OfMatrix) name Clash text taken (refl, λ is. cc, λ is. cc) (of_clash OfMatrix (λ contents net text none. none)) h
+printed files Reduce name [] Clash text taken e h = shown files (of_net OfReduce) name Clash text taken (refl, λ is. cc, λ is. cc) (of_clash OfReduce (λ contents net text none. none)) h
+printed files Score name (key ∷ []) Clash text taken e h = scored files name key text taken e h
+-- so many arguments have no form, and a reply to words that have none is no evidence
+printed files Solve name given Done text taken e h = absurd (no_form files Done text taken refl (λ is. cc) h)
+printed files Ask name given Done text taken e h = absurd (no_form files Done text taken refl (λ is. cc) h)
+printed files Solve name given Clash text taken e h = absurd (no_form files Clash text taken refl (λ is. cc) h)
+printed files Relations name given Clash text taken e h = absurd (no_form files Clash text taken refl (λ is. cc) h)
+printed files Ask name given Clash text taken e h = absurd (no_form files Clash text taken refl (λ is. cc) h)
+printed files Possible name given Clash text taken e h = absurd (no_form files Clash text taken refl (λ is. cc) h)
+printed files Matrix name given Clash text taken e h = absurd (no_form files Clash text taken refl (λ is. cc) h)
+printed files Reduce name given Clash text taken e h = absurd (no_form files Clash text taken refl (λ is. cc) h)
+printed files Score name given Clash text taken e h = absurd (no_form files Clash text taken refl (λ is. cc) h)
 printed files form name given status text taken e h = absurd e
 
--- the reply to `verify`
-accepted : (files : Files) (name other text : List ℕ) → HasShown files name text → held files other ≡ Some text → IsVerified files name other text
-accepted files name other text (doc, holds, short, has) held_text =
+-- it is read as evidence, and verified
+verified : (files : Files) (name other text : List ℕ) → HasShown files name text → held files other ≡ Some text → AcceptsText files (verify_rows name other) text
+verified files name other text (doc, holds, short, has) held_text =
     let shows = has.shows in
-    let few : length text ≤ (evidence_file other).limit = omega (arith, shows.3) in
-    let line = claim_lines has.contents (has.evidence ∷ []) in
-    let reply : Replies (Some files) (verify_rows name other) Done line (total (doc ∷ text ∷ []) + 0) = record {
-      contents = doc ∷ text ∷ [];
-      reading = (doc_file name, refl, (holds, short), (evidence_file other, ((has.contents, has.says), refl), (held_text, few), tt));
-      part = 0;
-      ends = inl ((has.contents, has.says, (has.net, has.built, (has.evidence ∷ [], inl shows.0, all_of_one (IsSupported has.net) has.evidence shows.1, all_of_one (ShowsTruth has.net) has.evidence shows.2, refl))), refl);
-      bytes = refl;
-    } in
-    record {
-      short = few;
-      done = (line, total (doc ∷ text ∷ []) + 0, reply);
-      reply = λ status found taken e h. (one_reply (verify_rows name other) (verify_answered name other).one_next files status Done found line taken (total (doc ∷ text ∷ []) + 0) e refl h reply).one_status;
-    }
+    let few : length text ≤ max_evidence = omega (arith, shows.3) in
+    accepted files name (evidence_file other) OfVerify doc text (claim_lines has.contents (has.evidence ∷ [])) has.contents (verify_answered name other).one_next holds short has.says held_text few few
+    (has.net, has.built, (has.evidence ∷ [], inl shows.0, all_of_one (IsSupported has.net) has.evidence shows.1, all_of_one (ShowsTruth has.net) has.evidence shows.2, refl))
 
 pub evidence_is_verified : EvidenceIsVerified
-evidence_is_verified = λ files form name arguments other text status taken e h held_text. accepted files name other text (printed files form name arguments status text taken e h) held_text
+evidence_is_verified = λ files form name arguments other text status taken e h held_text. verified files name other text (printed files form name arguments status text taken e h) held_text

@@ -25,7 +25,7 @@ use Rattle.seconds_answers.specs.Placed.{SecondsAreFree, seconds_rows}
 use Rattle.tml_run.specs.Answered.{Freedom, NeverFree}
 use Rattle.tml_run.specs.Rows.{Rows}
 use Rattle.tml_run.specs.Words.{calls_for, texts_of, usage_rows}
-use Rattle.tml_tool.specs.Forms.{argument, taken_by, usage_of, with_arguments}
+use Rattle.tml_tool.specs.Forms.{taken_by, usage_of, with_arguments}
 use Rattle.tml_tool.specs.declared.commands.Form.{Form}
 use Rattle.tml_tool.specs.declared.commands.Form.TheVariants.{Spans, Check, Dates, Solve, Ask, Relations, Canon, Verify, Drill, Renew, Join, Possible, Matrix, Reduce, Score, Seconds, Confirm}
 
@@ -65,9 +65,13 @@ arguments_of Score = codes "DOC" ∷ codes "KEY" ∷ []
 arguments_of Confirm = codes "DOC" ∷ codes "SECONDS" ∷ []
 arguments_of form = codes "DOC" ∷ []
 
--- whether a form takes so many arguments with these texts: a drill has a number
+-- the usage text
+abbrev pub usage : List ℕ
+usage = usage_of word_of all_forms arguments_of
+
+-- whether a form takes as many arguments as it has, with these texts: a drill has a number
 abbrev pub takes : Form → List (List ℕ) → Bool
-takes Drill arguments = is_some (drill_number (argument arguments 0))
+takes Drill (number ∷ []) = is_some (drill_number number)
 takes form arguments = true
 
 -- how long the files of a form may be, in the order of reading
@@ -80,42 +84,40 @@ limits_of Score = max_document ∷ max_document ∷ []
 limits_of Confirm = max_document ∷ max_evidence ∷ []
 limits_of form = max_document ∷ []
 
--- what comes next, by the arguments of a form
+-- What comes next, by the arguments of a form. With fewer or more of them words have no form.
 abbrev pub rows_with : Form → List (List ℕ) → Rows
-rows_with Spans arguments = spans_rows (argument arguments 0)
-rows_with Check arguments = check_rows (argument arguments 0)
-rows_with Dates arguments = dates_rows (argument arguments 0)
-rows_with Solve arguments = solve_rows (argument arguments 0)
-rows_with Ask arguments = ask_rows (argument arguments 0) (argument arguments 1) (argument arguments 2) (argument arguments 3)
-rows_with Relations arguments = relations_rows (argument arguments 0)
-rows_with Canon arguments = canon_rows (argument arguments 0)
-rows_with Verify arguments = verify_rows (argument arguments 0) (argument arguments 1)
-rows_with Drill arguments = drill_rows (argument arguments 0)
-rows_with Renew arguments = renew_rows (argument arguments 0)
-rows_with Join arguments = join_rows (argument arguments 0) (argument arguments 1)
-rows_with Possible arguments = possible_rows (argument arguments 0) (argument arguments 1) (argument arguments 2)
-rows_with Matrix arguments = matrix_rows (argument arguments 0)
-rows_with Reduce arguments = reduce_rows (argument arguments 0)
-rows_with Score arguments = score_rows (argument arguments 0) (argument arguments 1)
-rows_with Seconds arguments = seconds_rows (argument arguments 0)
-rows_with Confirm arguments = confirm_rows (argument arguments 0) (argument arguments 1)
+rows_with Spans (doc ∷ []) = spans_rows doc
+rows_with Check (doc ∷ []) = check_rows doc
+rows_with Dates (doc ∷ []) = dates_rows doc
+rows_with Solve (doc ∷ []) = solve_rows doc
+rows_with Ask (doc ∷ x ∷ rel ∷ y ∷ []) = ask_rows doc x rel y
+rows_with Relations (doc ∷ []) = relations_rows doc
+rows_with Canon (doc ∷ []) = canon_rows doc
+rows_with Verify (doc ∷ evidence ∷ []) = verify_rows doc evidence
+rows_with Drill (number ∷ []) = drill_rows number
+rows_with Renew (evidence ∷ []) = renew_rows evidence
+rows_with Join (evidence ∷ second ∷ []) = join_rows evidence second
+rows_with Possible (doc ∷ x ∷ y ∷ []) = possible_rows doc x y
+rows_with Matrix (doc ∷ []) = matrix_rows doc
+rows_with Reduce (doc ∷ []) = reduce_rows doc
+rows_with Score (doc ∷ key ∷ []) = score_rows doc key
+rows_with Seconds (doc ∷ []) = seconds_rows doc
+rows_with Confirm (doc ∷ seconds ∷ []) = confirm_rows doc seconds
+rows_with form arguments = usage_rows usage
 
 -- after which contents the text of an answer is free: which clash is printed, which walks prove a relation, and which placing or cycle shows whether there is one
 abbrev pub is_free_with : Form → List (List ℕ) → Freedom
-is_free_with Solve arguments = ClashIsFree
-is_free_with Ask arguments = AskIsFree (argument arguments 1) (argument arguments 2) (argument arguments 3)
-is_free_with Relations arguments = ClashIsFree
-is_free_with Possible arguments = ClashIsFree
-is_free_with Matrix arguments = ClashIsFree
-is_free_with Reduce arguments = ClashIsFree
-is_free_with Score arguments = ScoreIsFree
-is_free_with Seconds arguments = SecondsAreFree
+is_free_with Solve (doc ∷ []) = ClashIsFree
+is_free_with Ask (doc ∷ x ∷ rel ∷ y ∷ []) = AskIsFree x rel y
+is_free_with Relations (doc ∷ []) = ClashIsFree
+is_free_with Possible (doc ∷ x ∷ y ∷ []) = ClashIsFree
+is_free_with Matrix (doc ∷ []) = ClashIsFree
+is_free_with Reduce (doc ∷ []) = ClashIsFree
+is_free_with Score (doc ∷ key ∷ []) = ScoreIsFree
+is_free_with Seconds (doc ∷ []) = SecondsAreFree
 is_free_with form arguments = NeverFree
 
 -- ---- words
-
-abbrev pub usage : List ℕ
-usage = usage_of word_of all_forms arguments_of
 
 -- a form with so many arguments, if it takes them
 abbrev pub taken : Form → List (List ℕ) → Option (Form × List (List ℕ))

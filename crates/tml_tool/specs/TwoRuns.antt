@@ -1,10 +1,9 @@
 -- Two runs: what is printed as evidence of a document, `verify` accepts.
-use Rattle.std.specs.Prelude.{◌≡◌, ◌≢◌, ◌≤◌, false, ℕ, List, ◌∷◌, length, Some, ⊤}
+use Rattle.std.specs.Prelude.{◌≡◌, ◌≢◌, ℕ, List, ◌∷◌, Some, ⊤}
+use Rattle.evidence_answers.specs.Accepting.{AcceptsText}
 use Rattle.evidence_answers.specs.Verify.{verify_rows}
-use Rattle.net_core.specs.Limits.{max_evidence}
 use Rattle.score_answers.specs.Score.{key_clash}
 use Rattle.tml_io.specs.Files.{Files, held}
-use Rattle.tml_run.specs.OneReply.{is_broken_off}
 use Rattle.tml_run.specs.Replies.{Replies}
 use Rattle.tml_run.specs.declared.status.Status.{Status}
 use Rattle.tml_run.specs.declared.status.Status.TheVariants.{Done, Clash}
@@ -25,14 +24,8 @@ PrintsEvidence Reduce Clash text = ⊤
 PrintsEvidence Score Clash text = text ≢ key_clash
 PrintsEvidence form status text = ⊥
 
--- `verify` reads a text whole as evidence, Done is a reply, and every other one is broken off
-pub record IsVerified (files : Files) (name other text : List ℕ) : Type 0 where
-  pub short : length text ≤ max_evidence
-  pub done : (line : List ℕ) × (taken : ℕ) × Replies (Some files) (verify_rows name other) Done line taken
-  pub reply : (status : Status) (line : List ℕ) (taken : ℕ) → is_broken_off status ≡ false → Replies (Some files) (verify_rows name other) status line taken → status ≡ Done
-
--- where a run printed evidence of the document in one file, and another file holds what it printed
+-- where a run printed evidence of the document in one file, and another file holds what it printed, `verify` accepts it
 abbrev pub EvidenceIsVerified : Type 0
 EvidenceIsVerified = (files : Files) (form : Form) (name : List ℕ) (arguments : List (List ℕ)) (other text : List ℕ) (status : Status) (taken : ℕ)
     → PrintsEvidence form status text → Replies (Some files) (rows_with form (name ∷ arguments)) status text taken
-    → held files other ≡ Some text → IsVerified files name other text
+    → held files other ≡ Some text → AcceptsText files (verify_rows name other) text

@@ -5,6 +5,7 @@ mod commands;
 mod laws;
 mod top;
 
+pub use commands::usage_text;
 pub use drill::drill_text;
 pub use laws::{
     canonical_is_alike, every_question_is_answered, evidence_is_verified, missing_files_are_faults,

@@ -7,15 +7,15 @@ use Rattle.faults.specs.First.{NoneBreaks}
 use Rattle.faults.specs.declared.kind.FaultKind.{FaultKind}
 use Rattle.tml_span.specs.Units.{Kind, bom, declaration, doctype, PlainUnit}
 use Rattle.tml_tree.specs.Plain.{unit, PlainNode, text_node, comment_node, element, nodes_of}
-use Rattle.tml_tree.specs.Nesting.{Item, Items, OpenTag, Opens, name_of, is_seen, is_content, is_element}
+use Rattle.tml_tree.specs.Nesting.{Item, Items, OpenTag, Opens, open_name, is_seen, is_content, is_element}
 use Rattle.tml_tree.specs.Rules.{history_of, is_at_fault, is_tag}
 use Rattle.tml_tree.specs.Trees.{Breaks}
 
 -- no unit is at fault, given what the units before it have open
 pub not_at_fault : (done us : List PlainUnit) (u : PlainUnit) (tags : List OpenTag) (nodes : List PlainNode) → Opens (filter is_content done) tags nodes → NoneBreaks Breaks (done ++ u ∷ us) → (kind : FaultKind)
-    → is_at_fault kind (history_of done (map name_of tags) (is_seen tags nodes)) u.kind ≡ false
+    → is_at_fault kind (history_of done (map open_name tags) (is_seen tags nodes)) u.kind ≡ false
 not_at_fault done us u tags nodes o lawful kind =
-    false_from_ne_true (is_at_fault kind (history_of done (map name_of tags) (is_seen tags nodes)) u.kind) (λ e. lawful done us u kind refl (map name_of tags, is_seen tags nodes, (tags, nodes, o, refl, refl), e))
+    false_from_ne_true (is_at_fault kind (history_of done (map open_name tags) (is_seen tags nodes)) u.kind) (λ e. lawful done us u kind refl (map open_name tags, is_seen tags nodes, (tags, nodes, o, refl, refl), e))
 
 -- ---- tags among units
 

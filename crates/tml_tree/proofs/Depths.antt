@@ -9,7 +9,7 @@ use Rattle.faults.specs.First.{NoneBreaks}
 use Rattle.faults.specs.declared.kind.FaultKind.TheVariants as fault
 use Rattle.tml_span.specs.Units.{Kind, bom, declaration, doctype, comment, text, start_tag, end_tag, empty_tag, PlainUnit}
 use Rattle.tml_tree.specs.Plain.{unit, PlainNode, text_node, comment_node, element, none, nodes_of}
-use Rattle.tml_tree.specs.Nesting.{OpenTag, Opens, Nests, name_of, is_seen, is_content, is_element}
+use Rattle.tml_tree.specs.Nesting.{OpenTag, Opens, Nests, open_name, is_seen, is_content, is_element}
 use Rattle.tml_tree.specs.Rules.{history_of, is_too_deep}
 use Rattle.tml_tree.specs.Stage.{Stage, step, run}
 use Rattle.tml_tree.specs.Trees.{Breaks}
@@ -45,11 +45,11 @@ shallow_end t tags nodes end s false h e = absurd cc
 shallow_end t tags nodes end s true h e =
     subst (λ (r : Stage). AreShallow r.tags r.nodes) (same_Some _ _ e) (shallow_more tags t.before (element t.start end t.name t.attrs (nodes_of nodes)) h.1 (omega (arith, h.0)))
 
-not_deep : (tags : List OpenTag) → nat_le 32 (length (map name_of tags)) ≡ false → 1 + length tags ≤ 32
-not_deep tags d = let same : length (map name_of tags) ≡ length tags = simp length-map in grind (arith, nat_tests, d)
+not_deep : (tags : List OpenTag) → nat_le 32 (length (map open_name tags)) ≡ false → 1 + length tags ≤ 32
+not_deep tags d = let same : length (map open_name tags) ≡ length tags = simp length-map in grind (arith, nat_tests, d)
 
 -- a step keeps it, where no start or empty tag is too deep
-shallow_step : (start end : ℕ) (k : Kind) (us : List PlainUnit) (tags : List OpenTag) (nodes : List PlainNode) (seen : Bool) (s : Stage) → AreShallow tags nodes → is_too_deep (history_of us (map name_of tags) seen) k ≡ false
+shallow_step : (start end : ℕ) (k : Kind) (us : List PlainUnit) (tags : List OpenTag) (nodes : List PlainNode) (seen : Bool) (s : Stage) → AreShallow tags nodes → is_too_deep (history_of us (map open_name tags) seen) k ≡ false
     → step tags nodes (unit start end k) ≡ Some s → AreShallow s.tags s.nodes
 shallow_step start end bom us tags nodes seen s h d e = subst (λ (r : Stage). AreShallow r.tags r.nodes) (same_Some _ _ e) h
 shallow_step start end (declaration b) us tags nodes seen s h d e = subst (λ (r : Stage). AreShallow r.tags r.nodes) (same_Some _ _ e) h
@@ -75,8 +75,8 @@ shallow_from : (done us : List PlainUnit) (tags : List OpenTag) (nodes : List Pl
 shallow_from done [] tags nodes s o h lawful e = subst (λ (r : Stage). AreShallow r.tags r.nodes) (same_Some _ _ e) h
 shallow_from done (u ∷ us) tags nodes s o h lawful e =
     let one = then_some (step tags nodes u) (λ r. run r.tags r.nodes us) s e in
-    let nests : Nests done (map name_of tags) (is_seen tags nodes) = (tags, nodes, o, refl, refl) in
-    let flat = not_true (is_too_deep (history_of done (map name_of tags) (is_seen tags nodes)) u.kind) (λ d. lawful done us u fault.TooDeep refl (map name_of tags, is_seen tags nodes, nests, d)) in
+    let nests : Nests done (map open_name tags) (is_seen tags nodes) = (tags, nodes, o, refl, refl) in
+    let flat = not_true (is_too_deep (history_of done (map open_name tags) (is_seen tags nodes)) u.kind) (λ d. lawful done us u fault.TooDeep refl (map open_name tags, is_seen tags nodes, nests, d)) in
     let kept = shallow_step u.start u.end u.kind done tags nodes (is_seen tags nodes) one.0 h flat one.1 in
     shallow_from (done ++ u ∷ []) us one.0.tags one.0.nodes s (opens_step done u tags nodes one.0 o one.1) kept (subst (λ (vs : List PlainUnit). NoneBreaks Breaks vs) (sym (append_assoc done (u ∷ []) us)) lawful) one.2
 

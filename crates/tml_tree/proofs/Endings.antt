@@ -11,16 +11,16 @@ use Rattle.tml_tree.specs.Judging.{first_fault, names_in}
 use Rattle.tml_tree.specs.Rules.{History, is_innermost}
 use Rattle.tml_tree.proofs.FirstFaults.{first_of}
 use Rattle.tml_tree.specs.Stage.{closed}
-use Rattle.tml_tree.specs.View.{tag_of, tags_of}
+use Rattle.tml_tree.specs.Building.{open_tag_of, open_tags_of}
 use Rattle.tml_tree.proofs.Stacks.{names_more, tags_more}
 
 pub innermost_is : (tags rest : List TagName) (t : TagName) (name : List ℕ) → tags ≡ rest ++ t ∷ [] → is_innermost name (names_in tags) ≡ bytes_eq (text_of t) name
 innermost_is tags rest t name e = ap (λ (ts : List TagName). is_innermost name (names_in ts)) e ∙ ap (λ (ns : List (List ℕ)). is_innermost name ns) (names_more rest t)
 
 pub closed_is : (frames rest : List Frame) (f : Frame) (nodes after : List PlainNode) (end : ℕ) (name : List ℕ) → frames ≡ rest ++ f ∷ [] → bytes_eq (text_of f.name) name ≡ true
-    → after ≡ (tag_of f).before ++ element f.span.start end (text_of f.name) (tag_of f).attrs (nodes_of nodes) ∷ [] → closed (tags_of frames) nodes end name ≡ Some (record { tags = tags_of rest; nodes = after })
+    → after ≡ (open_tag_of f).before ++ element f.span.start end (text_of f.name) (open_tag_of f).attrs (nodes_of nodes) ∷ [] → closed (open_tags_of frames) nodes end name ≡ Some (record { tags = open_tags_of rest; nodes = after })
 closed_is frames rest f nodes after end name e same a =
-    ap (λ (fs : List Frame). closed (tags_of fs) nodes end name) e ∙ ap (λ (ts : List OpenTag). closed ts nodes end name) (tags_more rest f)
+    ap (λ (fs : List Frame). closed (open_tags_of fs) nodes end name) e ∙ ap (λ (ts : List OpenTag). closed ts nodes end name) (tags_more rest f)
     ∙ rw (same, a) refl
 
 closes : (same : Bool) → first_of false (not same) false false ≡ None → same ≡ true

@@ -12,7 +12,7 @@ use Rattle.faults.specs.First.{NoneBreaks}
 use Rattle.faults.proofs.First.{none_breaks_nil}
 use Rattle.faults.specs.declared.kind.FaultKind.{FaultKind}
 use Rattle.tml_tree.specs.Plain.{unit, PlainNode, text_node, comment_node, element, none, nodes_of}
-use Rattle.tml_tree.specs.Nesting.{OpenTag, Opens, name_of, is_seen, is_content, is_element}
+use Rattle.tml_tree.specs.Nesting.{OpenTag, Opens, open_name, is_seen, is_content, is_element}
 use Rattle.tml_tree.specs.TagNames.{is_known, is_root}
 use Rattle.tml_tree.specs.Rules.{is_past_bom, is_tag, is_doctype, is_nil, History, history_of}
 use Rattle.tml_tree.specs.Stage.{Stage, step}
@@ -30,7 +30,7 @@ seen_leaf : (tags : List OpenTag) (nodes : List PlainNode) (n : PlainNode) → i
 seen_leaf [] nodes n e = any_more is_element nodes n ∙ ap (λ (b : Bool). list_any is_element nodes || b) e ∙ or-false (list_any is_element nodes)
 seen_leaf (t ∷ tags) nodes n e = refl
 
-seen_element : (tags : List OpenTag) (nodes : List PlainNode) (n : PlainNode) → is_element n ≡ true → is_seen tags (nodes ++ n ∷ []) ≡ is_nil (map name_of tags)
+seen_element : (tags : List OpenTag) (nodes : List PlainNode) (n : PlainNode) → is_element n ≡ true → is_seen tags (nodes ++ n ∷ []) ≡ is_nil (map open_name tags)
 seen_element [] nodes n e = any_more is_element nodes n ∙ ap (λ (b : Bool). list_any is_element nodes || b) e ∙ or-true (list_any is_element nodes)
 seen_element (t ∷ tags) nodes n e = refl
 
@@ -66,36 +66,36 @@ unseen_rule false true d s e = absurd cc
 unseen_rule false false d true e = absurd cc
 unseen_rule false false d false e = refl
 
-none_outside : (before : List PlainUnit) (tags : List OpenTag) (nodes : List PlainNode) (name : List ℕ) → AtMostOne tags nodes → first_fault (history_of before (map name_of tags) (is_seen tags nodes)) (start_tag name []) ≡ None → filter is_element (outer tags nodes) ≡ []
+none_outside : (before : List PlainUnit) (tags : List OpenTag) (nodes : List PlainNode) (name : List ℕ) → AtMostOne tags nodes → first_fault (history_of before (map open_name tags) (is_seen tags nodes)) (start_tag name []) ≡ None → filter is_element (outer tags nodes) ≡ []
 none_outside before [] nodes name h e = no_elements nodes (unseen_rule (not (is_known name)) (not (list_any is_tag before) && not (is_root name)) (nat_le 32 0) (list_any is_element nodes) e)
 none_outside before (t ∷ tags) nodes name h e = h
 
 -- a step keeps both
-pub record Kept (tags : List OpenTag) (nodes : List PlainNode) (u : PlainUnit) (s : Stage) : Type 0 where
-  pub seen : is_seen s.tags s.nodes ≡ cond (is_tag u) (is_nil (map name_of s.tags)) (is_seen tags nodes)
+pub record StaysSeen (tags : List OpenTag) (nodes : List PlainNode) (u : PlainUnit) (s : Stage) : Type 0 where
+  pub seen : is_seen s.tags s.nodes ≡ cond (is_tag u) (is_nil (map open_name s.tags)) (is_seen tags nodes)
   pub single : AtMostOne s.tags s.nodes
 
 kept_end : (t : OpenTag) (tags : List OpenTag) (nodes : List PlainNode) (start end : ℕ) (name : List ℕ) (s : Stage) (b : Bool) → AtMostOne (t ∷ tags) nodes
-    → cond b (Some (record { tags = tags; nodes = t.before ++ element t.start end t.name t.attrs (nodes_of nodes) ∷ [] })) None ≡ Some s → Kept (t ∷ tags) nodes (unit start end (end_tag name)) s
+    → cond b (Some (record { tags = tags; nodes = t.before ++ element t.start end t.name t.attrs (nodes_of nodes) ∷ [] })) None ≡ Some s → StaysSeen (t ∷ tags) nodes (unit start end (end_tag name)) s
 kept_end t tags nodes start end name s false h e = absurd cc
 kept_end t tags nodes start end name s true h e =
     let n = element t.start end t.name t.attrs (nodes_of nodes) in
-    subst (λ (r : Stage). Kept (t ∷ tags) nodes (unit start end (end_tag name)) r) (same_Some _ _ e) (record { seen = seen_element tags t.before n refl; single = single_element tags t.before n refl h })
+    subst (λ (r : Stage). StaysSeen (t ∷ tags) nodes (unit start end (end_tag name)) r) (same_Some _ _ e) (record { seen = seen_element tags t.before n refl; single = single_element tags t.before n refl h })
 
-pub kept_kind : (start end : ℕ) (k : Kind) (before : List PlainUnit) (tags : List OpenTag) (nodes : List PlainNode) (s : Stage) → AtMostOne tags nodes → first_fault (history_of before (map name_of tags) (is_seen tags nodes)) k ≡ None
-    → step tags nodes (unit start end k) ≡ Some s → Kept tags nodes (unit start end k) s
-kept_kind start end bom before tags nodes s h l e = subst (λ (r : Stage). Kept tags nodes (unit start end bom) r) (same_Some _ _ e) (record { seen = refl; single = h })
-kept_kind start end (declaration b) before tags nodes s h l e = subst (λ (r : Stage). Kept tags nodes (unit start end (declaration b)) r) (same_Some _ _ e) (record { seen = refl; single = h })
-kept_kind start end (doctype b) before tags nodes s h l e = subst (λ (r : Stage). Kept tags nodes (unit start end (doctype b)) r) (same_Some _ _ e) (record { seen = refl; single = h })
+pub kept_kind : (start end : ℕ) (k : Kind) (before : List PlainUnit) (tags : List OpenTag) (nodes : List PlainNode) (s : Stage) → AtMostOne tags nodes → first_fault (history_of before (map open_name tags) (is_seen tags nodes)) k ≡ None
+    → step tags nodes (unit start end k) ≡ Some s → StaysSeen tags nodes (unit start end k) s
+kept_kind start end bom before tags nodes s h l e = subst (λ (r : Stage). StaysSeen tags nodes (unit start end bom) r) (same_Some _ _ e) (record { seen = refl; single = h })
+kept_kind start end (declaration b) before tags nodes s h l e = subst (λ (r : Stage). StaysSeen tags nodes (unit start end (declaration b)) r) (same_Some _ _ e) (record { seen = refl; single = h })
+kept_kind start end (doctype b) before tags nodes s h l e = subst (λ (r : Stage). StaysSeen tags nodes (unit start end (doctype b)) r) (same_Some _ _ e) (record { seen = refl; single = h })
 kept_kind start end (comment b) before tags nodes s h l e =
-    subst (λ (r : Stage). Kept tags nodes (unit start end (comment b)) r) (same_Some _ _ e) (record { seen = seen_leaf tags nodes (comment_node start end b) refl; single = single_leaf tags nodes (comment_node start end b) refl h })
+    subst (λ (r : Stage). StaysSeen tags nodes (unit start end (comment b)) r) (same_Some _ _ e) (record { seen = seen_leaf tags nodes (comment_node start end b) refl; single = single_leaf tags nodes (comment_node start end b) refl h })
 kept_kind start end (text b) before tags nodes s h l e =
-    subst (λ (r : Stage). Kept tags nodes (unit start end (text b)) r) (same_Some _ _ e) (record { seen = seen_leaf tags nodes (text_node start end b) refl; single = single_leaf tags nodes (text_node start end b) refl h })
+    subst (λ (r : Stage). StaysSeen tags nodes (unit start end (text b)) r) (same_Some _ _ e) (record { seen = seen_leaf tags nodes (text_node start end b) refl; single = single_leaf tags nodes (text_node start end b) refl h })
 kept_kind start end (start_tag name attrs) before tags nodes s h l e =
-    subst (λ (r : Stage). Kept tags nodes (unit start end (start_tag name attrs)) r) (same_Some _ _ e) (record { seen = refl; single = none_outside before tags nodes name h l })
+    subst (λ (r : Stage). StaysSeen tags nodes (unit start end (start_tag name attrs)) r) (same_Some _ _ e) (record { seen = refl; single = none_outside before tags nodes name h l })
 kept_kind start end (empty_tag name attrs) before tags nodes s h l e =
     let n = element start end name attrs none in
-    subst (λ (r : Stage). Kept tags nodes (unit start end (empty_tag name attrs)) r) (same_Some _ _ e) (record { seen = seen_element tags nodes n refl; single = single_element tags nodes n refl (none_outside before tags nodes name h l) })
+    subst (λ (r : Stage). StaysSeen tags nodes (unit start end (empty_tag name attrs)) r) (same_Some _ _ e) (record { seen = seen_element tags nodes n refl; single = single_element tags nodes n refl (none_outside before tags nodes name h l) })
 kept_kind start end (end_tag name) before [] nodes s h l e = absurd cc
 kept_kind start end (end_tag name) before (t ∷ tags) nodes s h l e = kept_end t tags nodes start end name s (bytes_eq t.name name) h e
 
@@ -103,7 +103,7 @@ kept_kind start end (end_tag name) before (t ∷ tags) nodes s h l e = kept_end 
 
 pub unclosed_open : (us : List PlainUnit) (t : OpenTag) (tags : List OpenTag) (nodes : List PlainNode) → Opens (filter is_content us) (t ∷ tags) nodes → NoneBreaks Breaks us → Unclosed us
 unclosed_open us t tags nodes h l =
-    let path : Path us (name_of t ∷ map name_of tags) false = ((t ∷ tags, nodes, h, refl, refl), l) in
+    let path : Path us (open_name t ∷ map open_name tags) false = ((t ∷ tags, nodes, h, refl, refl), l) in
     ((_, _, path), λ p. let e = one_path us _ _ _ _ path p in absurd (cc (e.0)))
 
 pub unclosed_none : (us : List PlainUnit) (nodes : List PlainNode) → Opens (filter is_content us) [] nodes → NoneBreaks Breaks us → filter is_element nodes ≡ [] → Unclosed us
@@ -137,10 +137,10 @@ pub passed_none : HavePassed [] [] [] no_history
 passed_none = record { opens = refl; lawful = none_breaks_nil Breaks; begun = refl; tagged = refl; doctyped = refl; names = refl; seen = refl; single = inl refl }
 
 -- what is known of units is what the rules ask about them
-history_is : (us : List PlainUnit) (tags : List OpenTag) (nodes : List PlainNode) (h : History) → HavePassed us tags nodes h → h ≡ history_of us (map name_of tags) (is_seen tags nodes)
+history_is : (us : List PlainUnit) (tags : List OpenTag) (nodes : List PlainNode) (h : History) → HavePassed us tags nodes h → h ≡ history_of us (map open_name tags) (is_seen tags nodes)
 history_is us tags nodes h p = λ i. record { begun = p.begun i; tagged = p.tagged i; doctyped = p.doctyped i; names = p.names i; seen = p.seen i }
 
-path_is : (us : List PlainUnit) (tags : List OpenTag) (nodes : List PlainNode) (h : History) → HavePassed us tags nodes h → Path us (map name_of tags) (is_seen tags nodes)
+path_is : (us : List PlainUnit) (tags : List OpenTag) (nodes : List PlainNode) (h : History) → HavePassed us tags nodes h → Path us (map open_name tags) (is_seen tags nodes)
 path_is us tags nodes h p = ((tags, nodes, p.opens, refl, refl), p.lawful)
 
 begun_after : (h : History) (start end : ℕ) (k : Kind) → (after h k).begun ≡ (h.begun || is_past_bom (unit start end k))
@@ -172,18 +172,18 @@ seen_after h start end k names d = refl
 pub passed_more : (us : List PlainUnit) (u : PlainUnit) (tags : List OpenTag) (nodes : List PlainNode) (h : History) (s : Stage) → HavePassed us tags nodes h → first_fault h u.kind ≡ None → step tags nodes u ≡ Some s
     → HavePassed (us ++ u ∷ []) s.tags s.nodes (after h u.kind)
 passed_more us u tags nodes h s p sound e =
-    let history = history_of us (map name_of tags) (is_seen tags nodes) in
+    let history = history_of us (map open_name tags) (is_seen tags nodes) in
     let lawful : first_fault history u.kind ≡ None = ap (λ (g : History). first_fault g u.kind) (sym (history_is us tags nodes h p)) ∙ sound in
     let kept = kept_kind u.start u.end u.kind us tags nodes s p.single lawful e in
-    let d = subst (λ (ns : List (List ℕ)). Differs u.kind ns (map name_of s.tags)) (sym p.names) (differs u.start u.end u.kind tags nodes s e) in
+    let d = subst (λ (ns : List (List ℕ)). Differs u.kind ns (map open_name s.tags)) (sym p.names) (differs u.start u.end u.kind tags nodes s e) in
     record {
       opens = opens_step us u tags nodes s p.opens e;
-      lawful = lawful_more us u (map name_of tags) (is_seen tags nodes) (path_is us tags nodes h p) lawful;
+      lawful = lawful_more us u (map open_name tags) (is_seen tags nodes) (path_is us tags nodes h p) lawful;
       begun = begun_after h u.start u.end u.kind ∙ ap (λ (b : Bool). b || is_past_bom u) p.begun ∙ sym (any_more is_past_bom us u);
       tagged = tagged_after h u.start u.end u.kind ∙ ap (λ (b : Bool). b || is_tag u) p.tagged ∙ sym (any_more is_tag us u);
       doctyped = doctyped_after h u.start u.end u.kind ∙ ap (λ (b : Bool). b || is_doctype u) p.doctyped ∙ sym (any_more is_doctype us u);
-      names = names_after h u.kind (map name_of s.tags) d;
-      seen = seen_after h u.start u.end u.kind (map name_of s.tags) d ∙ ap (λ (b : Bool). cond (is_tag u) (is_nil (map name_of s.tags)) b) p.seen ∙ sym kept.seen;
+      names = names_after h u.kind (map open_name s.tags) d;
+      seen = seen_after h u.start u.end u.kind (map open_name s.tags) d ∙ ap (λ (b : Bool). cond (is_tag u) (is_nil (map open_name s.tags)) b) p.seen ∙ sym kept.seen;
       single = kept.single;
     }
 

@@ -6,7 +6,7 @@ use Rattle.faults.specs.First.{NoneBreaks}
 use Rattle.faults.specs.declared.kind.FaultKind.{FaultKind}
 use Rattle.tml_span.specs.Units.{Kind, bom, declaration, doctype, comment, text, start_tag, end_tag, empty_tag, PlainUnit}
 use Rattle.tml_tree.specs.Plain.{unit, PlainNode}
-use Rattle.tml_tree.specs.Nesting.{OpenTag, Opens, name_of, is_seen, is_content}
+use Rattle.tml_tree.specs.Nesting.{OpenTag, Opens, open_name, is_seen, is_content}
 use Rattle.tml_tree.specs.Roots.{AtMostOne}
 use Rattle.tml_tree.specs.Rules.{History, is_innermost, is_nil}
 use Rattle.tml_tree.specs.Stage.{Stage, step}
@@ -23,12 +23,12 @@ closes true s e = (s, refl)
 closes false s e = absurd cc
 
 -- an end tag without a fault has an open tag of its name
-ends : (start end : ℕ) (name : List ℕ) (tags : List OpenTag) (nodes : List PlainNode) → first_of false (not (is_innermost name (map name_of tags))) false false ≡ None → (s : Stage) × (step tags nodes (unit start end (end_tag name)) ≡ Some s)
+ends : (start end : ℕ) (name : List ℕ) (tags : List OpenTag) (nodes : List PlainNode) → first_of false (not (is_innermost name (map open_name tags))) false false ≡ None → (s : Stage) × (step tags nodes (unit start end (end_tag name)) ≡ Some s)
 ends start end name [] nodes e = absurd cc
 ends start end name (t ∷ tags) nodes e = closes (bytes_eq t.name name) _ e
 
 -- a unit without a fault makes a step
-steps : (start end : ℕ) (k : Kind) (h : History) (tags : List OpenTag) (nodes : List PlainNode) → h.names ≡ map name_of tags → first_fault h k ≡ None → (s : Stage) × (step tags nodes (unit start end k) ≡ Some s)
+steps : (start end : ℕ) (k : Kind) (h : History) (tags : List OpenTag) (nodes : List PlainNode) → h.names ≡ map open_name tags → first_fault h k ≡ None → (s : Stage) × (step tags nodes (unit start end k) ≡ Some s)
 steps start end bom h tags nodes n e = (_, refl)
 steps start end (declaration b) h tags nodes n e = (_, refl)
 steps start end (doctype b) h tags nodes n e = (_, refl)
@@ -52,17 +52,17 @@ refused end us rest u tags nodes h (Some f) p r = inl (rw r.1 (passed_not us res
 
 -- ---- the end
 
-whole_by : (us : List PlainUnit) (tags : List OpenTag) (nodes : List PlainNode) → Opens (filter is_content us) tags nodes → NoneBreaks Breaks us → AtMostOne tags nodes → (is_nil (map name_of tags) && is_seen tags nodes) ≡ true → (root : PlainNode) × Document root us
+whole_by : (us : List PlainUnit) (tags : List OpenTag) (nodes : List PlainNode) → Opens (filter is_content us) tags nodes → NoneBreaks Breaks us → AtMostOne tags nodes → (is_nil (map open_name tags) && is_seen tags nodes) ≡ true → (root : PlainNode) × Document root us
 whole_by us [] nodes o l (inl none) e = let unseen = some_elements nodes none in absurd cc
 whole_by us [] nodes o l (inr one) e = (one.0, document_is us one.0 nodes o l (inr one) ([], one.1))
 whole_by us (t ∷ tags) nodes o l s e = absurd cc
 
-unclosed_by : (us : List PlainUnit) (tags : List OpenTag) (nodes : List PlainNode) → Opens (filter is_content us) tags nodes → NoneBreaks Breaks us → (is_nil (map name_of tags) && is_seen tags nodes) ≡ false → Unclosed us
+unclosed_by : (us : List PlainUnit) (tags : List OpenTag) (nodes : List PlainNode) → Opens (filter is_content us) tags nodes → NoneBreaks Breaks us → (is_nil (map open_name tags) && is_seen tags nodes) ≡ false → Unclosed us
 unclosed_by us [] nodes o l e = unclosed_none us nodes o l (no_elements nodes e)
 unclosed_by us (t ∷ tags) nodes o l e = unclosed_open us t tags nodes o l
 
 module _ (us : List PlainUnit) (tags : List OpenTag) (nodes : List PlainNode) (h : History) (p : HavePassed us tags nodes h) where
-  known : (is_nil h.names && h.seen) ≡ (is_nil (map name_of tags) && is_seen tags nodes)
+  known : (is_nil h.names && h.seen) ≡ (is_nil (map open_name tags) && is_seen tags nodes)
   known = λ i. is_nil (p.names i) && p.seen i
 
   -- where no tag is open and the root was seen whole, there is a tree

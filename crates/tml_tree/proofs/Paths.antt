@@ -6,7 +6,7 @@ use Rattle.faults.specs.declared.kind.FaultKind.{FaultKind}
 use Rattle.faults.proofs.First.{none_breaks_more}
 use Rattle.tml_span.specs.Units.{PlainUnit}
 use Rattle.tml_tree.specs.Plain.{PlainNode}
-use Rattle.tml_tree.specs.Nesting.{OpenTag, Nests, name_of, is_seen, is_element}
+use Rattle.tml_tree.specs.Nesting.{OpenTag, Nests, open_name, is_seen, is_element}
 use Rattle.tml_tree.specs.Rules.{history_of, is_at_fault}
 use Rattle.tml_tree.specs.Judging.{first_fault}
 use Rattle.tml_tree.specs.Trees.{Breaks, Path, Document, FaultAt, OneTree}
@@ -20,7 +20,7 @@ use Rattle.tml_tree.proofs.Running.{one_nesting}
 pub one_nests : (us : List PlainUnit) (names others : List (List ℕ)) (seen was : Bool) → Nests us names seen → Nests us others was → (names ≡ others) × (seen ≡ was)
 one_nests us names others seen was h k =
     let e = one_nesting us h.0 k.0 h.1 k.1 h.2 k.2 in
-    (h.3 ∙ ap (λ (ts : List OpenTag). map name_of ts) e.0 ∙ sym k.3, h.4 ∙ ap (λ (p : List OpenTag × List PlainNode). is_seen p.0 p.1) (λ i. (e.0 i, e.1 i)) ∙ sym k.4)
+    (h.3 ∙ ap (λ (ts : List OpenTag). map open_name ts) e.0 ∙ sym k.3, h.4 ∙ ap (λ (p : List OpenTag × List PlainNode). is_seen p.0 p.1) (λ i. (e.0 i, e.1 i)) ∙ sym k.4)
 
 pub one_path : (us : List PlainUnit) (names others : List (List ℕ)) (seen was : Bool) → Path us names seen → Path us others was → (names ≡ others) × (seen ≡ was)
 one_path us names others seen was h k = one_nests us names others seen was h.0 k.0

@@ -1,7 +1,7 @@
 -- A reader whose units are judged one after another.
 use Rattle.std.proofs.Common.{◌≡◌, ◌<◌, ◌^◌, ℕ, List, [], ◌∷◌, ◌++◌, append_assoc, length, refl, sym, subst, ◌∙◌, Some, None, IfSome, Ok}
 use Rattle.tml_span.specs.declared.unit.Unit.{Unit}
-use Rattle.tml_span.specs.Reader.{Reading, Divides, Gives, IsReading}
+use Rattle.tml_span.specs.Reader.{Reading, Divides, GivesUnit, IsReading}
 use Rattle.tml_span.specs.Units.{PlainUnit}
 use Rattle.tml_span.specs.View.{unit_of}
 use Rattle.tml_span.specs.Whole.{IsWhole}
@@ -62,12 +62,12 @@ pub reads_on : {Known : List PlainUnit → Type 0} (first r : Reading) → IsRea
 reads_on first r reading h = still_reading first r reading h.source_is h.given h.left h.divides
 
 -- where no unit is left, this is known of all units
-pub all_known : {source : List ℕ} {Known : List PlainUnit → Type 0} {r s : Reading} → HasGiven source Known r → Gives r s (Ok None) → (us : List PlainUnit) × IsWhole (record { source = source; units = us }) × Known us
+pub all_known : {source : List ℕ} {Known : List PlainUnit → Type 0} {r s : Reading} → HasGiven source Known r → GivesUnit r s (Ok None) → (us : List PlainUnit) × IsWhole (record { source = source; units = us }) × Known us
 all_known {source} {Known} {r} h gives =
     let whole = all_given r h.given h.left (gives.2 h.given h.left h.divides) h.divides in
     (h.given, subst (λ (bytes : List ℕ). IsWhole (record { source = bytes; units = h.given })) h.source_is whole, h.known)
 
-module _ {source : List ℕ} {Known : List PlainUnit → Type 0} {r s : Reading} (u : Unit) (h : HasGiven source Known r) (gives : Gives r s (Ok (Some u))) where
+module _ {source : List ℕ} {Known : List PlainUnit → Type 0} {r s : Reading} (u : Unit) (h : HasGiven source Known r) (gives : GivesUnit r s (Ok (Some u))) where
   -- one more unit is given
   pub one_more : {More : List PlainUnit → Type 0} → ((given : List PlainUnit) → Known given → More (given ++ unit_of u ∷ [])) → HasGiven source More s
   one_more more =
@@ -89,7 +89,7 @@ module _ {source : List ℕ} {Known : List PlainUnit → Type 0} {r s : Reading}
       units_fault source (h.given ++ unit_of u ∷ next.0) f (whole_with next.0 next.2) (refused (length source) h.given next.0 (unit_of u) p.0 p.1 history _ p.2 refuses)
 
 -- the reader is left at the end of the unit that is at fault
-pub left_at_fault : {Known : List PlainUnit → Type 0} (first : Reading) {r s : Reading} (u : Unit) (history : History) (f : TreeFault) → IsReading first → HasGiven first.source Known r → Gives r s (Ok (Some u)) → Refuses history (unit_of u).kind (unit_of u).start f
+pub left_at_fault : {Known : List PlainUnit → Type 0} (first : Reading) {r s : Reading} (u : Unit) (history : History) (f : TreeFault) → IsReading first → HasGiven first.source Known r → GivesUnit r s (Ok (Some u)) → Refuses history (unit_of u).kind (unit_of u).start f
     → Leaves first.source s f
 left_at_fault first {r} {s} u history f reading h gives refuses =
     let next = gives.4 h.given h.left h.divides in

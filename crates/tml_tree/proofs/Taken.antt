@@ -13,6 +13,7 @@ use Rattle.tml_tree.specs.Rules.{History}
 use Rattle.tml_tree.specs.Trees.{Breaks, Document, Unclosed}
 use Rattle.tml_tree.specs.Roots.{AtMostOne, EndsIn}
 use Rattle.tml_tree.specs.View as view
+use Rattle.tml_tree.specs.Building as building
 use Rattle.tml_tree.specs.Taking.{Agrees, TakesUnit, HasTaken, stage_of}
 use Rattle.tml_tree.proofs.Passed.{passed_more, unclosed_open, unclosed_none, document_is}
 use Rattle.tml_tree.proofs.Stacks.{names_are}
@@ -21,8 +22,8 @@ use Rattle.tml_tree.proofs.Stacks.{names_are}
 
 pub taken_more : (us : List PlainUnit) (u : PlainUnit) (b c : Builder) → HasTaken us b → TakesUnit b u c → HasTaken (us ++ u ∷ []) c
 taken_more us u b c s t =
-    subst (λ (h : History). HavePassed (us ++ u ∷ []) (view.tags_of c.frames.items) (map view.node_of c.nodes.items) h) (sym t.0.1)
-    (passed_more us u (view.tags_of b.frames.items) (map view.node_of b.nodes.items) b.nesting (stage_of c) s t.0.0 t.1)
+    subst (λ (h : History). HavePassed (us ++ u ∷ []) (building.open_tags_of c.frames.items) (map view.node_of c.nodes.items) h) (sym t.0.1)
+    (passed_more us u (building.open_tags_of b.frames.items) (map view.node_of b.nodes.items) b.nesting (stage_of c) s t.0.0 t.1)
 
 pub agrees : (us : List PlainUnit) (b : Builder) → HasTaken us b → Agrees b
 agrees us b s = s.names ∙ sym (names_are b.frames.items)
@@ -37,14 +38,14 @@ ends_some : (us : List PlainUnit) (tags : List OpenTag) (nodes : List PlainNode)
 ends_some us [] nodes h l e = absurd (e refl)
 ends_some us (t ∷ tags) nodes h l e = unclosed_open us t tags nodes h l
 
-tags_length : (frames : List Frame) → length (view.tags_of frames) ≡ length frames
+tags_length : (frames : List Frame) → length (building.open_tags_of frames) ≡ length frames
 tags_length frames = simp (length-map, length-reverse)
 
 pub ends_open : (us : List PlainUnit) (b : Builder) → HasTaken us b → (length b.frames.items ≡ 0 → ⊥) → Unclosed us
-ends_open us b s e = ends_some us (view.tags_of b.frames.items) (map view.node_of b.nodes.items) s.opens s.lawful (λ z. e (sym (tags_length b.frames.items) ∙ z))
+ends_open us b s e = ends_some us (building.open_tags_of b.frames.items) (map view.node_of b.nodes.items) s.opens s.lawful (λ z. e (sym (tags_length b.frames.items) ∙ z))
 
-no_tags : (b : Builder) → length b.frames.items ≡ 0 → view.tags_of b.frames.items ≡ []
-no_tags b e = ap (λ (fs : List Frame). view.tags_of fs) (nothing_left b.frames.items e)
+no_tags : (b : Builder) → length b.frames.items ≡ 0 → building.open_tags_of b.frames.items ≡ []
+no_tags b e = ap (λ (fs : List Frame). building.open_tags_of fs) (nothing_left b.frames.items e)
 
 pub ends_none : (us : List PlainUnit) (b : Builder) → HasTaken us b → length b.frames.items ≡ 0 → filter is_element (map view.node_of b.nodes.items) ≡ [] → Unclosed us
 ends_none us b s e f = unclosed_none us (map view.node_of b.nodes.items) (subst (λ (ts : List OpenTag). Opens (filter is_content us) ts (map view.node_of b.nodes.items)) (no_tags b e) s.opens) s.lawful f

@@ -11,7 +11,7 @@ use Rattle.tml_span.specs.Bytes.{is_white}
 use Rattle.tml_span.specs.Units.{Attribute, text, comment, start_tag, end_tag, empty_tag, PlainUnit}
 use Rattle.tml_span.specs.Written.{tag_attributes, unit_at, units_at}
 use Rattle.tml_tree.specs.Plain.{PlainNode, PlainNodes, text_node, comment_node, element, none, more, nodes_of}
-use Rattle.tml_tree.specs.Nesting.{OpenTag, Opens, name_of, is_seen, is_content}
+use Rattle.tml_tree.specs.Nesting.{OpenTag, Opens, open_name, is_seen, is_content}
 use Rattle.tml_tree.specs.Rules.{is_tag, history_of}
 use Rattle.tml_tree.specs.TagNames.{is_known, is_link, is_root}
 use Rattle.tml_tree.specs.Stage.{Stage, step}
@@ -31,16 +31,16 @@ pub record Reaches (us : List PlainUnit) (tags : List OpenTag) (nodes : List Pla
 
 -- one more unit that no rule forbids, where it or one before it is a tag
 pub reaches_first : (us : List PlainUnit) (u : PlainUnit) (tags : List OpenTag) (nodes : List PlainNode) (s : Stage) → Opens (filter is_content us) tags nodes → NoneBreaks Breaks us → (list_any is_tag us || is_tag u) ≡ true
-    → step tags nodes u ≡ Some s → first_fault (history_of us (map name_of tags) (is_seen tags nodes)) u.kind ≡ None → Reaches (us ++ u ∷ []) s.tags s.nodes
+    → step tags nodes u ≡ Some s → first_fault (history_of us (map open_name tags) (is_seen tags nodes)) u.kind ≡ None → Reaches (us ++ u ∷ []) s.tags s.nodes
 reaches_first us u tags nodes s o l t e f = record {
   opens = opens_step us u tags nodes s o e;
-  lawful = lawful_more us u (map name_of tags) (is_seen tags nodes) ((tags, nodes, o, refl, refl), l) f;
+  lawful = lawful_more us u (map open_name tags) (is_seen tags nodes) ((tags, nodes, o, refl, refl), l) f;
   tagged = any_more is_tag us u ∙ t;
 }
 
 -- the same where a tag is before it
 pub reaches_more : (us : List PlainUnit) (u : PlainUnit) (tags : List OpenTag) (nodes : List PlainNode) (s : Stage) → Reaches us tags nodes → step tags nodes u ≡ Some s
-    → first_fault (history_of us (map name_of tags) (is_seen tags nodes)) u.kind ≡ None → Reaches (us ++ u ∷ []) s.tags s.nodes
+    → first_fault (history_of us (map open_name tags) (is_seen tags nodes)) u.kind ≡ None → Reaches (us ++ u ∷ []) s.tags s.nodes
 reaches_more us u tags nodes s r e f = reaches_first us u tags nodes s r.opens r.lawful (ap (λ (b : Bool). b || is_tag u) r.tagged) e f
 
 -- ---- rules
@@ -61,8 +61,8 @@ tag_allowed : (us : List PlainUnit) (outer : List ℕ) (names : List (List ℕ))
 tag_allowed us outer names name attrs t k r l d = λ i. first_of (not (k i)) false (l i || not (t i) && not (r i) || false || true && r i) (d i)
 
 -- fewer than 32 tags are open
-is_flat : (tags : List OpenTag) → length tags < 32 → nat_le 32 (length (map name_of tags)) ≡ false
-is_flat tags h = let same : length (map name_of tags) ≡ length tags = simp length-map in rw same (grind (arith, nat_tests))
+is_flat : (tags : List OpenTag) → length tags < 32 → nat_le 32 (length (map open_name tags)) ≡ false
+is_flat tags h = let same : length (map open_name tags) ≡ length tags = simp length-map in rw same (grind (arith, nat_tests))
 
 -- where a tag may stand no link tag is open
 no_link : (b : Bool) → (b ≡ true → false ≡ true) → b ≡ false
@@ -99,17 +99,17 @@ mutual
   unfolding list_of
 
   -- inside a tag, the units of a node that may stand there lead to the node
-  pub node_reached : (node : PlainNode) (place : ℕ) (done : List PlainUnit) (t : OpenTag) (tags : List OpenTag) (nodes : List PlainNode) → MayStand (length (t ∷ tags)) node → (list_any is_link (map name_of (t ∷ tags)) ≡ true → may_be_in_link node ≡ true)
+  pub node_reached : (node : PlainNode) (place : ℕ) (done : List PlainUnit) (t : OpenTag) (tags : List OpenTag) (nodes : List PlainNode) → MayStand (length (t ∷ tags)) node → (list_any is_link (map open_name (t ∷ tags)) ≡ true → may_be_in_link node ≡ true)
       → Reaches done (t ∷ tags) nodes → Reaches (done ++ units_at place (kinds_of node)) (t ∷ tags) (nodes ++ node_at place node ∷ [])
-  node_reached (text_node start end bytes) place done t tags nodes m l r = reaches_more done (unit_at place (text bytes)) (t ∷ tags) nodes _ r refl (text_allowed done t.name (map name_of tags) bytes l)
+  node_reached (text_node start end bytes) place done t tags nodes m l r = reaches_more done (unit_at place (text bytes)) (t ∷ tags) nodes _ r refl (text_allowed done t.name (map open_name tags) bytes l)
   node_reached (comment_node start end bytes) place done t tags nodes m l r = reaches_more done (unit_at place (comment bytes)) (t ∷ tags) nodes _ r refl refl
   node_reached (element start end name attrs none) place done t tags nodes m l r =
-      let lawful = tag_allowed done t.name (map name_of tags) name (tag_attributes place name attrs) r.tagged m.0 m.1 (no_link (list_any is_link (map name_of (t ∷ tags))) l) (is_flat (t ∷ tags) m.2) in
+      let lawful = tag_allowed done t.name (map open_name tags) name (tag_attributes place name attrs) r.tagged m.0 m.1 (no_link (list_any is_link (map open_name (t ∷ tags))) l) (is_flat (t ∷ tags) m.2) in
       subst (λ (p : ℕ). Reaches (done ++ unit_at place (empty_tag name attrs) ∷ []) (t ∷ tags) (nodes ++ element place p name (tag_attributes place name attrs) none ∷ [])) (empty_end place start end name attrs)
       (reaches_more done (unit_at place (empty_tag name attrs)) (t ∷ tags) nodes _ r refl lawful)
   node_reached (element start end name attrs (more n ns)) place done t tags nodes m l r =
-      let outside = no_link (list_any is_link (map name_of (t ∷ tags))) l in
-      let lawful = tag_allowed done t.name (map name_of tags) name (tag_attributes place name attrs) r.tagged m.0 m.1 outside (is_flat (t ∷ tags) m.2) in
+      let outside = no_link (list_any is_link (map open_name (t ∷ tags))) l in
+      let lawful = tag_allowed done t.name (map open_name tags) name (tag_attributes place name attrs) r.tagged m.0 m.1 outside (is_flat (t ∷ tags) m.2) in
       let opened = reaches_more done (unit_at place (start_tag name attrs)) (t ∷ tags) nodes (record { tags = open_at place name attrs nodes ∷ t ∷ tags; nodes = [] }) r refl lawful in
       element_reached place done (t ∷ tags) nodes start end name attrs n ns
       (nodes_reached (more n ns) (inside_at place name attrs) (done ++ unit_at place (start_tag name attrs) ∷ []) (open_at place name attrs nodes) (t ∷ tags) []
@@ -117,11 +117,11 @@ mutual
       (λ k. m.3 (sym (or-false (is_link name)) ∙ ap (λ (b : Bool). is_link name || b) (sym outside) ∙ k)) opened)
 
   -- the same for the units of nodes one after another
-  pub nodes_reached : (ns : PlainNodes) (place : ℕ) (done : List PlainUnit) (t : OpenTag) (tags : List OpenTag) (nodes : List PlainNode) → AllMayStand (length (t ∷ tags)) ns → (list_any is_link (map name_of (t ∷ tags)) ≡ true → all_may_be_in_link ns ≡ true)
+  pub nodes_reached : (ns : PlainNodes) (place : ℕ) (done : List PlainUnit) (t : OpenTag) (tags : List OpenTag) (nodes : List PlainNode) → AllMayStand (length (t ∷ tags)) ns → (list_any is_link (map open_name (t ∷ tags)) ≡ true → all_may_be_in_link ns ≡ true)
       → Reaches done (t ∷ tags) nodes → Reaches (done ++ units_at place (all_kinds ns)) (t ∷ tags) (nodes ++ list_of (nodes_at place ns))
   nodes_reached none place done t tags nodes m l r = rw (append-nil done, append-nil nodes) r
   nodes_reached (more n ns) place done t tags nodes m l r =
-      let each = λ (k : list_any is_link (map name_of (t ∷ tags)) ≡ true). and_parts (may_be_in_link n) (all_may_be_in_link ns) (l k) in
+      let each = λ (k : list_any is_link (map open_name (t ∷ tags)) ≡ true). and_parts (may_be_in_link n) (all_may_be_in_link ns) (l k) in
       let first = node_reached n place done t tags nodes m.0 (λ k. (each k).0) r in
       let rest = nodes_reached ns (place + size_of n) (done ++ units_at place (kinds_of n)) t tags (nodes ++ node_at place n ∷ []) m.1 (λ k. (each k).1) first in
       let us = append_assoc done (units_at place (kinds_of n)) (units_at (place + size_of n) (all_kinds ns)) ∙ ap (λ (vs : List PlainUnit). done ++ vs) (sym (units_append place (kinds_of n) (all_kinds ns))) in

@@ -9,7 +9,7 @@ use Rattle.tml_tree.specs.declared.tag_name.TagName.{TagName}
 use Rattle.tml_tree.specs.declared.whole.TreeFault.{TreeFault}
 use Rattle.tml_tree.specs.TagNames.{text_of, is_link}
 use Rattle.tml_tree.specs.Plain.{PlainNode}
-use Rattle.tml_tree.specs.Nesting.{OpenTag, Opens, name_of, is_content, is_seen}
+use Rattle.tml_tree.specs.Nesting.{OpenTag, Opens, open_name, is_content, is_seen}
 use Rattle.tml_tree.specs.Rules.{is_past_bom, is_tag, is_doctype, is_nil, is_unknown, is_unbalanced, is_misplaced, is_too_deep, History}
 use Rattle.tml_tree.specs.Trees.{Breaks}
 use Rattle.tml_tree.specs.Roots.{AtMostOne}
@@ -72,6 +72,6 @@ pub record HavePassed (us : List PlainUnit) (tags : List OpenTag) (nodes : List 
   pub begun : h.begun ≡ list_any is_past_bom us
   pub tagged : h.tagged ≡ list_any is_tag us
   pub doctyped : h.doctyped ≡ list_any is_doctype us
-  pub names : h.names ≡ map name_of tags
+  pub names : h.names ≡ map open_name tags
   pub seen : h.seen ≡ is_seen tags nodes
   pub single : AtMostOne tags nodes

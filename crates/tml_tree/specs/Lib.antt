@@ -1,3 +1,4 @@
+pub mod Building
 pub mod Judging
 pub mod Nesting
 pub mod Places

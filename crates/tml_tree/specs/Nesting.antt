@@ -28,8 +28,8 @@ pub record OpenTag : Type 0 where
 abbrev pub tag_unit : OpenTag → PlainUnit
 tag_unit t = unit t.start t.end (start_tag t.name t.attrs)
 
-abbrev pub name_of : OpenTag → List ℕ
-name_of t = t.name
+abbrev pub open_name : OpenTag → List ℕ
+open_name t = t.name
 
 -- whole items, and for each open tag, the innermost first, its start tag and then whole items
 abbrev pub Opens : List PlainUnit → List OpenTag → List PlainNode → Type 0
@@ -51,4 +51,4 @@ is_seen (t ∷ ts) nodes = false
 
 -- by nesting alone the tags of these names are open, the innermost first, and the root was or was not seen whole
 abbrev pub Nests : List PlainUnit → List (List ℕ) → Bool → Type 0
-Nests us names seen = (tags : List OpenTag) × (nodes : List PlainNode) × Opens (filter is_content us) tags nodes × (names ≡ map name_of tags) × (seen ≡ is_seen tags nodes)
+Nests us names seen = (tags : List OpenTag) × (nodes : List PlainNode) × Opens (filter is_content us) tags nodes × (names ≡ map open_name tags) × (seen ≡ is_seen tags nodes)

@@ -5,15 +5,16 @@ use Rattle.tml_tree.specs.declared.builder.Builder.{Builder}
 use Rattle.tml_tree.specs.declared.whole.TreeFault.{TreeFault}
 use Rattle.tml_tree.specs.Judging.{HavePassed, Passes, Refuses}
 use Rattle.tml_tree.specs.Stage.{Stage, step}
-use Rattle.tml_tree.specs.View.{node_of, names_of, tags_of}
+use Rattle.tml_tree.specs.View.{node_of}
+use Rattle.tml_tree.specs.Building.{names_of, open_tags_of}
 
 -- the open tags and the nodes of a builder
 abbrev pub stage_of : Builder → Stage
-stage_of b = record { tags = tags_of b.frames.items; nodes = map node_of b.nodes.items }
+stage_of b = record { tags = open_tags_of b.frames.items; nodes = map node_of b.nodes.items }
 
 -- the open tags and the nodes after one more unit
 abbrev pub Builds : Builder → PlainUnit → Builder → Type 0
-Builds b u c = step (tags_of b.frames.items) (map node_of b.nodes.items) u ≡ Some (stage_of c)
+Builds b u c = step (open_tags_of b.frames.items) (map node_of b.nodes.items) u ≡ Some (stage_of c)
 
 -- the unit has no fault, and it was taken
 abbrev pub TakesUnit : Builder → PlainUnit → Builder → Type 0
@@ -29,4 +30,4 @@ Agrees b = b.nesting.names ≡ names_of b.frames.items
 
 -- what a builder knows of the units that it has taken
 abbrev pub HasTaken : List PlainUnit → Builder → Type 0
-HasTaken us b = HavePassed us (tags_of b.frames.items) (map node_of b.nodes.items) b.nesting
+HasTaken us b = HavePassed us (open_tags_of b.frames.items) (map node_of b.nodes.items) b.nesting

@@ -36,8 +36,8 @@ abbrev pub UnitsFault : ℕ → List PlainUnit → TreeFault → Type 0
 UnitsFault end us fault = IfSome (kind_and_place fault) (λ f. FaultOf end us f.1 f.0)
 
 -- the same of a source with its units
-abbrev pub HasFault : Cutting → TreeFault → Type 0
-HasFault c fault = UnitsFault (length c.source) c.units fault
+abbrev pub HasUnitFault : Cutting → TreeFault → Type 0
+HasUnitFault c fault = UnitsFault (length c.source) c.units fault
 
 -- the fault of the units of a source that has no fault of the cut
 abbrev pub UnitsFaultAt : List ℕ → ℕ → FaultKind → Type 0
@@ -60,8 +60,8 @@ abbrev pub OneSourceAnswers : Type 0
 OneSourceAnswers = (source : List ℕ) → OneSourceAnswer source
 
 -- units whose source has this length make a tree, or have a fault
-abbrev pub AreJudged : ℕ → List PlainUnit → Type 0
-AreJudged end us = ((root : PlainNode) × Document root us) ⊎ ((place : ℕ) × (kind : FaultKind) × FaultOf end us place kind)
+abbrev pub HaveTreeOrFault : ℕ → List PlainUnit → Type 0
+HaveTreeOrFault end us = ((root : PlainNode) × Document root us) ⊎ ((place : ℕ) × (kind : FaultKind) × FaultOf end us place kind)
 
 -- a source has a tree, or a fault
 abbrev pub TreeOrFault : List ℕ → Type 0

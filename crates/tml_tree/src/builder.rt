@@ -7,7 +7,8 @@ ghost use Rattle.tml_tree.specs.Plain.{element};
 ghost use Rattle.tml_tree.specs.Trees.{Document, Unclosed};
 ghost use Rattle.tml_tree.specs.Roots.{EndsIn};
 ghost use Rattle.tml_tree.specs.Taking.{Agrees, HasTaken, RefusesUnit, TakesUnit};
-ghost use Rattle.tml_tree.specs.View.{at_span, element_of, elements_in, empty_unit, node_of, start_unit, tag_node};
+ghost use Rattle.tml_tree.specs.View.{node_of, tag_node};
+ghost use Rattle.tml_tree.specs.Building.{at_span, element_of, elements_in, empty_unit, start_unit};
 
 use crate::nesting::Nesting;
 use crate::{Node, Tag, TagName, TreeFault};

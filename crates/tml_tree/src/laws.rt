@@ -4,7 +4,7 @@ ghost use Rattle.tml_span.specs.Units.{PlainUnit};
 ghost use Rattle.tml_tree.specs.Places.{TreeIsLaidOut};
 ghost use Rattle.tml_tree.specs.Trees.{LastUnit, OneAnswers, OnePath, OneTree, PathEnds};
 ghost use Rattle.tml_tree.specs.Walking.{ElementsAreTags};
-ghost use Rattle.tml_tree.specs.Whole.{AreJudged, OneSourceAnswers, OneTreeOfSource, TreeOrFault};
+ghost use Rattle.tml_tree.specs.Whole.{HaveTreeOrFault, OneSourceAnswers, OneTreeOfSource, TreeOrFault};
 ghost use Rattle.tml_tree.specs.Written.{WrittenIsRead};
 
 /// Units have one path.
@@ -50,7 +50,7 @@ pub fn one_source_answer()
 
 /// Whatever units they are, and however long their source is, they make a tree or have a fault.
 pub fn units_are_judged()
-    ensures { (end : ℕ) (us : List PlainUnit) → AreJudged end us }
+    ensures { (end : ℕ) (us : List PlainUnit) → HaveTreeOrFault end us }
 {}
 
 /// Every source has a tree or a fault.

@@ -1,7 +1,7 @@
 //! A tree with its source.
 ghost use Rattle.std.specs.Prelude.{◌≡◌, ◌<◌, length, IfOk, IfErr, OnOk};
 ghost use Rattle.tml_tree.specs.Pulled.{IsAtEnd, Leaves};
-ghost use Rattle.tml_tree.specs.Whole.{IsTreeOf, HasFault, HasTreeFault};
+ghost use Rattle.tml_tree.specs.Whole.{IsTreeOf, HasUnitFault, HasTreeFault};
 
 use crate::pulled::root_from;
 use crate::whole::root;
@@ -70,7 +70,7 @@ pub fn tree_from<'s>(alloc: Global, reader: &mut UnitReader<'s>) -> Result<TagTr
 /// Nests the units of a document. They are consumed on every answer.
 pub fn tree<'s>(alloc: Global, units: UnitList<'s>) -> Result<TagTree<'s>, TreeFault>
     ensures source { IfOk result (λ t. t ≡ units.entry.source) }
-    ensures fault { IfErr result (λ e. HasFault units.entry e) }
+    ensures fault { IfErr result (λ e. HasUnitFault units.entry e) }
 {
     let source = units.source();
     let length = units.length();

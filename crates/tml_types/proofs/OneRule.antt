@@ -20,9 +20,9 @@ use Rattle.tml_types.specs.Rules.{Breaks, BreaksAfter, IsNoDate, IsSound, is_bad
 use Rattle.tml_types.specs.Table.{rows_at, rows_of}
 use Rattle.tml_types.specs.Typing.{HasFields, IsValueOf, TypedAs}
 use Rattle.tml_types.specs.Values.{value_of}
-use Rattle.tml_types.specs.Walking.{Reads, Refuses, tag_at}
+use Rattle.tml_types.specs.Walking.{ReadsTag, Refuses, tag_at}
 use Rattle.tml_types.proofs.KindNames.{names_differ}
-use Rattle.tml_types.specs.Whole.{FaultAt, HasFault, place_of}
+use Rattle.tml_types.specs.Whole.{FaultAt, HasTagFault, place_of}
 
 pub known : AreApart text_of all_tags
 known = search rules
@@ -103,7 +103,7 @@ module _ (name : TagName) (attrs : List Attribute) (place : ℕ) where
     | _ ↦ λ b. absurd b
   ])
 
-  pub refused : (fault : TypeFault) → is_repeated attrs ≡ false → Refuses name attrs place fault → HasFault (tag_at place name attrs ∷ []) fault
+  pub refused : (fault : TypeFault) → is_repeated attrs ≡ false → Refuses name attrs place fault → HasTagFault (tag_at place name attrs ∷ []) fault
   refused (faults.RepeatedAttribute p) r h = absurd h
   refused (faults.MissingAttribute p) r h = rw (h.0) (missing_fault r h.1)
   refused (faults.BadValue p) r h = rw (h.0) (bad_fault r h.1 h.2)
@@ -140,8 +140,8 @@ module _ (name : TagName) (attrs : List Attribute) (place : ℕ) where
   no_bad_date (alink l) n f t d = absurd (names_differ kind.Alink kind.Timex refl (sym n ∙ t))
   no_bad_date (slink l) n f t d = absurd (names_differ kind.Slink kind.Timex refl (sym n ∙ t))
 
-  pub read_sound : (t : PlainTyped) → is_repeated attrs ≡ false → Reads name attrs place t → IsSound (tag_at place name attrs)
+  pub read_sound : (t : PlainTyped) → is_repeated attrs ≡ false → ReadsTag name attrs place t → IsSound (tag_at place name attrs)
   read_sound t r h = sound_by r h.none_missing h.none_bad h.no_conflict (λ b. no_bad_date t.content h.kind h.fields b.0 b.1)
 
-  pub read_typed : (t : PlainTyped) → Reads name attrs place t → TypedAs (tag_at place name attrs) t
+  pub read_typed : (t : PlainTyped) → ReadsTag name attrs place t → TypedAs (tag_at place name attrs) t
   read_typed t h = record { place = h.place_is; name = h.kind; fields = h.fields }

@@ -19,7 +19,7 @@ use Rattle.tml_types.specs.Rules.{IsSound, is_bad, is_conflict, is_missing, is_r
 use Rattle.tml_types.specs.Table.{Row, rows_at, rows_of}
 use Rattle.tml_types.specs.Typing.{TypedAs}
 use Rattle.tml_types.specs.View.{typed_of}
-use Rattle.tml_types.specs.Walking.{Adds, Reads, Yields, tag_at}
+use Rattle.tml_types.specs.Walking.{Adds, ReadsTag, Yields, tag_at}
 use Rattle.tml_types.specs.Whole.{AreTyped, has_rows}
 use Rattle.tml_types.proofs.OneRule.{known, rows_known, sound_by, read_sound, read_typed}
 
@@ -60,7 +60,7 @@ module _ (name : TagName) (attrs : List Attribute) (place : ℕ) where
       )
 
   -- another has the one that is read
-  pub yields_one : (t : TypedTag) → is_repeated attrs ≡ false → Reads name attrs place (typed_of t) → Yields (tag_at place name attrs) (Some t)
+  pub yields_one : (t : TypedTag) → is_repeated attrs ≡ false → ReadsTag name attrs place (typed_of t) → Yields (tag_at place name attrs) (Some t)
   yields_one t r h = (
     record {
       sound = All-cons IsSound (tag_at place name attrs) [] (read_sound name attrs place (typed_of t) r h) (All-nil IsSound);

@@ -6,7 +6,7 @@ use Rattle.std.proofs.lemmas.List.Elements.{All-append, All-nil, filter_map-appe
 use Rattle.tml_span.specs.declared.fault.Cut as cuts
 use Rattle.tml_span.specs.declared.unit.Unit.{Unit}
 use Rattle.tml_span.specs.Cutter.{BeginsCut, CutsOn}
-use Rattle.tml_span.specs.Faults.{HasFault as HasCutFault}
+use Rattle.tml_span.specs.Faults.{HasCutFault}
 use Rattle.tml_span.specs.Reader.{Reading}
 use Rattle.tml_span.specs.Units.{PlainUnit}
 use Rattle.tml_span.specs.View.{unit_of}
@@ -30,12 +30,12 @@ use Rattle.tml_types.specs.declared.tag_reader.TagReader.{TagReader}
 use Rattle.tml_types.specs.declared.typed.TypedTag.{TypedTag}
 use Rattle.tml_types.specs.declared.walk.TypeFault.{TypeFault}
 use Rattle.tml_types.specs.Content.{PlainTyped}
-use Rattle.tml_types.specs.Places.{ArePlaced, IsPlaceSmall}
+use Rattle.tml_types.specs.Places.{HaveRisingPlaces, IsPlaceSmall}
 use Rattle.tml_types.specs.Rules.{IsSound}
 use Rattle.tml_types.specs.TagReader.{AreTypedSo, HasGiven, HasRead, HasSourceFault, bytes_left, is_complete}
 use Rattle.tml_types.specs.View.{typed_of}
 use Rattle.tml_types.specs.Walking.{Yields}
-use Rattle.tml_types.specs.Whole.{HasFault, OfTree}
+use Rattle.tml_types.specs.Whole.{HasTagFault, OfTree}
 use Rattle.tml_types.proofs.Rising.{units_placed}
 use Rattle.tml_types.proofs.Walks.{fault_of_more, types_append}
 
@@ -127,18 +127,18 @@ pub typed_same : (typed : List PlainTyped) (tag : PlainTag) (o : Option PlainTag
 typed_same typed tag o e h tags k = subst (λ (ts : List PlainTyped). AreTypedSo ts (tags ++ option_to_list o)) (append-nil typed) (typed_more typed tag None o e h tags k)
 
 -- the fault of a tag after tags without one
-pub fault_comes : (typed : List PlainTyped) (tag : PlainTag) (f : TypeFault) (o : Option PlainTag) → Some tag ≡ o → HasFault (tag ∷ []) f → (tags : List PlainTag) → AreTypedSo typed tags → HasFault (tags ++ option_to_list o) f
+pub fault_comes : (typed : List PlainTyped) (tag : PlainTag) (f : TypeFault) (o : Option PlainTag) → Some tag ≡ o → HasTagFault (tag ∷ []) f → (tags : List PlainTag) → AreTypedSo typed tags → HasTagFault (tags ++ option_to_list o) f
 fault_comes typed tag f o e k tags h =
-    subst (λ (p : Option PlainTag). HasFault (tags ++ option_to_list p) f) e (fault_of_more tags (tag ∷ []) [] (tags ++ tag ∷ []) f (append-nil (tags ++ tag ∷ [])) h.0.sound k)
+    subst (λ (p : Option PlainTag). HasTagFault (tags ++ option_to_list p) f) e (fault_of_more tags (tag ∷ []) [] (tags ++ tag ∷ []) f (append-nil (tags ++ tag ∷ [])) h.0.sound k)
 
 -- a fault stays that of more tags
-pub fault_stays : (f : TypeFault) (more tags : List PlainTag) → HasFault tags f → HasFault (tags ++ more) f
+pub fault_stays : (f : TypeFault) (more tags : List PlainTag) → HasTagFault tags f → HasTagFault (tags ++ more) f
 fault_stays f more tags h = fault_of_more [] tags more (tags ++ more) f refl (All-nil IsSound) h
 
 -- ---- places
 
 -- the typed tags that a reader has given are at places that rise
-pub given_placed : (source : List ℕ) (typed : List PlainTyped) (r : TagReader) → HasGiven source typed r → ArePlaced typed
+pub given_placed : (source : List ℕ) (typed : List PlainTyped) (r : TagReader) → HasGiven source typed r → HaveRisingPlaces typed
 given_placed source typed r h =
     let some = some_cut r.units h.given h.cut in
     units_placed r.units.source some.1 h.given some.0 typed some.2 h.known.0.typed_tags h.known.1

@@ -25,7 +25,7 @@ use Rattle.tml_types.specs.Rules.{Breaks, IsSound}
 use Rattle.tml_types.specs.Typing.{TypedAs}
 use Rattle.tml_types.specs.View.{typed_of}
 use Rattle.tml_types.specs.Walking.{Adds, tag_at}
-use Rattle.tml_types.specs.Whole.{FaultAt, HasFault, Types, has_rows, kind_and_place, place_of}
+use Rattle.tml_types.specs.Whole.{FaultAt, HasTagFault, Types, has_rows, kind_and_place, place_of}
 
 pub types_append : (tags others : List PlainTag) (ts us : List PlainTyped) → Types tags ts → Types others us → Types (tags ++ others) (ts ++ us)
 types_append tags others ts us h k = record {
@@ -45,7 +45,7 @@ when_ok (Ok x) e h = h
 when_ok (Err x) e h = absurd cc
 
 -- the first fault of some tags is that of more, where those before them have none
-pub fault_of_more : (before tags after all : List PlainTag) (fault : TypeFault) → before ++ tags ++ after ≡ all → All IsSound before → HasFault tags fault → HasFault all fault
+pub fault_of_more : (before tags after all : List PlainTag) (fault : TypeFault) → before ++ tags ++ after ≡ all → All IsSound before → HasTagFault tags fault → HasTagFault all fault
 fault_of_more before tags after all fault e sound h =
     rw (← e)
     (elim (kind_and_place fault) as (λ t. IfSome t (λ (f : FaultKind × ℕ). FaultAt tags f.1 f.0) → IfSome t (λ (f : FaultKind × ℕ). FaultAt (before ++ tags ++ after) f.1 f.0)) [

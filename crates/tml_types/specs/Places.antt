@@ -15,7 +15,7 @@ abbrev pub IsPlaceSmall : PlainTyped → Type 0
 IsPlaceSmall t = t.place < 2 ^ 32
 
 -- the places of typed tags rise strictly and are below 2^32, and so is the number of the tags
-pub record ArePlaced (typed : List PlainTyped) : Type 0 where
+pub record HaveRisingPlaces (typed : List PlainTyped) : Type 0 where
   pub rising : Rises 0 (map place_of typed)
   pub small : All IsPlaceSmall typed
   pub few : length typed < 2 ^ 32

@@ -3,7 +3,7 @@ use Rattle.std.specs.Prelude.{◌≡◌, ◌<◌, ◌-◌, ◌&&◌, ℕ, Bool, 
 use Rattle.std.specs.List.{All}
 use Rattle.faults.specs.declared.kind.FaultKind.{FaultKind}
 use Rattle.tml_span.specs.Cutter.{HasCut}
-use Rattle.tml_span.specs.Faults.{HasFault as HasCutFault, cut_kind_and_place}
+use Rattle.tml_span.specs.Faults.{HasCutFault, cut_kind_and_place}
 use Rattle.tml_span.specs.Units.{PlainUnit}
 use Rattle.tml_tree.specs.declared.whole.TreeFault.{TreeFault}
 use Rattle.tml_tree.specs.declared.whole.TreeFault.TheVariants as tree
@@ -20,11 +20,11 @@ use Rattle.tml_types.specs.declared.tag_reader.TagReader.{TagReader}
 use Rattle.tml_types.specs.declared.typed.TypedTag.{TypedTag}
 use Rattle.tml_types.specs.declared.walk.TypeFault.{TypeFault}
 use Rattle.tml_types.specs.Content.{PlainTyped}
-use Rattle.tml_types.specs.Places.{ArePlaced, IsPlaceSmall}
+use Rattle.tml_types.specs.Places.{HaveRisingPlaces, IsPlaceSmall}
 use Rattle.tml_types.specs.Reading.{attrs_of}
 use Rattle.tml_types.specs.View.{typed_of}
 use Rattle.tml_types.specs.Walking.{tag_at}
-use Rattle.tml_types.specs.Whole.{HasFault, OfTree, Types, kind_and_place}
+use Rattle.tml_types.specs.Whole.{HasTagFault, OfTree, Types, kind_and_place}
 
 -- the kind and the place of a fault; out of memory has none
 abbrev pub source_kind_and_place : SourceFault → Option (FaultKind × ℕ)
@@ -36,7 +36,7 @@ source_kind_and_place (Tag fault) = kind_and_place fault
 abbrev pub HasSourceFault : List ℕ → SourceFault → Type 0
 HasSourceFault source (Cut cut) = HasCutFault source cut
 HasSourceFault source (Tree fault) = HasTreeFault source fault
-HasSourceFault source (Tag fault) = OfTree source (λ tags. HasFault tags fault)
+HasSourceFault source (Tag fault) = OfTree source (λ tags. HasTagFault tags fault)
 
 -- the tag that a unit begins
 abbrev pub begun_tag : Begun → PlainTag
@@ -61,10 +61,10 @@ abbrev pub HasGiven : List ℕ → List PlainTyped → TagReader → Type 0
 HasGiven source typed r = HasRead source (AreTypedSo typed) r
 
 -- What a pull gives: one typed tag more, whose place is above those before it, or none where all tags of the tree were given, or the fault of the source.
-abbrev pub Gives : TagReader → TagReader → Result (Option TypedTag) SourceFault → Type 0
-Gives old new (Ok (Some t)) = (source : List ℕ) (typed : List PlainTyped) → HasGiven source typed old → HasGiven source (typed ++ typed_of t ∷ []) new × ArePlaced (typed ++ typed_of t ∷ [])
-Gives old new (Ok None) = (source : List ℕ) (typed : List PlainTyped) → HasGiven source typed old → OfTree source (λ tags. Types tags typed)
-Gives old new (Err fault) = (source : List ℕ) (typed : List PlainTyped) → HasGiven source typed old → HasSourceFault source fault
+abbrev pub GivesTag : TagReader → TagReader → Result (Option TypedTag) SourceFault → Type 0
+GivesTag old new (Ok (Some t)) = (source : List ℕ) (typed : List PlainTyped) → HasGiven source typed old → HasGiven source (typed ++ typed_of t ∷ []) new × HaveRisingPlaces (typed ++ typed_of t ∷ [])
+GivesTag old new (Ok None) = (source : List ℕ) (typed : List PlainTyped) → HasGiven source typed old → OfTree source (λ tags. Types tags typed)
+GivesTag old new (Err fault) = (source : List ℕ) (typed : List PlainTyped) → HasGiven source typed old → HasSourceFault source fault
 
 -- no tag is open, and the root was seen whole
 abbrev pub is_complete : History → Bool
@@ -76,7 +76,7 @@ IsUnclosed r fault = (fault ≡ tree.Unclosed r.units.place) × (is_complete r.n
 
 -- the fault of a source of which the first tag at fault is known
 abbrev pub FaultsWith : TagReader → TypeFault → SourceFault → Type 0
-FaultsWith r known fault = (source : List ℕ) → HasRead source (λ tags. HasFault tags known) r → HasSourceFault source fault
+FaultsWith r known fault = (source : List ℕ) → HasRead source (λ tags. HasTagFault tags known) r → HasSourceFault source fault
 
 -- how many bytes are left to a reader
 abbrev pub bytes_left : TagReader → ℕ

@@ -27,17 +27,17 @@ abbrev pub tag_at : ℕ → TagName → List Attribute → PlainTag
 tag_at place name attrs = record { place = place; name = text_of name; attrs = attrs }
 
 -- the name of the tags of a kind
-abbrev pub name_of : TagKind → TagName
-name_of kind.Event = tag.Event
-name_of kind.Instance = tag.MakeInstance
-name_of kind.Timex = tag.Timex3
-name_of kind.Signal = tag.Signal
-name_of kind.Tlink = tag.Tlink
-name_of kind.Alink = tag.Alink
-name_of kind.Slink = tag.Slink
+abbrev pub name_of_kind : TagKind → TagName
+name_of_kind kind.Event = tag.Event
+name_of_kind kind.Instance = tag.MakeInstance
+name_of_kind kind.Timex = tag.Timex3
+name_of_kind kind.Signal = tag.Signal
+name_of_kind kind.Tlink = tag.Tlink
+name_of_kind kind.Alink = tag.Alink
+name_of_kind kind.Slink = tag.Slink
 
 -- no rule is broken by a tag of this name with these attributes, but maybe that of repeated names, and this is its typed tag
-pub record Reads (name : TagName) (attrs : List Attribute) (place : ℕ) (t : PlainTyped) : Type 0 where
+pub record ReadsTag (name : TagName) (attrs : List Attribute) (place : ℕ) (t : PlainTyped) : Type 0 where
   pub none_missing : list_any (is_missing attrs) (rows_of name) ≡ false
   pub none_bad : list_any (is_bad attrs) (rows_of name) ≡ false
   pub no_conflict : list_any (is_conflict attrs) (rows_of name) ≡ false

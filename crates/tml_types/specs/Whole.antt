@@ -45,8 +45,8 @@ kind_and_place (faults.BadDate place) = Some (kinds.BadDate, place)
 kind_and_place faults.Memory = None
 
 -- the fault of some tags; out of memory says nothing
-abbrev pub HasFault : List PlainTag → TypeFault → Type 0
-HasFault tags fault = IfSome (kind_and_place fault) (λ (f : FaultKind × ℕ). FaultAt tags f.1 f.0)
+abbrev pub HasTagFault : List PlainTag → TypeFault → Type 0
+HasTagFault tags fault = IfSome (kind_and_place fault) (λ (f : FaultKind × ℕ). FaultAt tags f.1 f.0)
 
 -- this holds of the tags of the tree of a source, which there is
 abbrev pub OfTree : List ℕ → (List PlainTag → Type 0) → Type 0

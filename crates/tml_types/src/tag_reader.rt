@@ -1,13 +1,13 @@
 //! The typed tags of a source, one by one, as its units are pulled: no tree is built.
 ghost use Rattle.std.specs.Prelude.{◌≡◌, ◌<◌, ◌^◌, [], true, length, IfOk, IfErr, OnOk, option_map};
-ghost use Rattle.tml_span.specs.Faults.{HasFault as HasCutFault, HasPlainFault};
+ghost use Rattle.tml_span.specs.Faults.{HasCutFault, HasPlainFault};
 ghost use Rattle.tml_span.specs.View.{unit_of};
 ghost use Rattle.tml_span.specs.Whole.{CutsWhole};
 ghost use Rattle.tml_tree.specs.Judging.{Passes, Refuses};
 ghost use Rattle.tml_tree.specs.Walking.{tag_of};
 ghost use Rattle.tml_tree.specs.Whole.{HasTreeFault};
 ghost use Rattle.tml_types.specs.TagReader as tag_reader;
-ghost use Rattle.tml_types.specs.TagReader.{FaultsWith, Gives, HasGiven, HasSourceFault, IsUnclosed, MovesOn, begun_tag, is_complete};
+ghost use Rattle.tml_types.specs.TagReader.{FaultsWith, GivesTag, HasGiven, HasSourceFault, IsUnclosed, MovesOn, begun_tag, is_complete};
 
 use crate::TypeFault;
 use crate::attributes::Attributes;
@@ -42,7 +42,7 @@ impl SourceFault {
     }
 }
 
-/// Gives the typed tags of a source one by one, in document order, as its units are read.
+/// GivesTag the typed tags of a source one by one, in document order, as its units are read.
 #[derive(Drop)]
 pub struct TagReader<'s> {
     units: Cutter<'s>,
@@ -77,7 +77,7 @@ impl<'s> TagReader<'s> {
     /// before any fault of the tree, and that before any fault of a tag. So what is left is looked at where a unit is
     /// refused or a tag is at fault. `Memory` may come at any place. After a fault nothing is said of the reader.
     pub fn pull(&mut self, alloc: Global) -> Result<Option<TypedTag<'s>>, SourceFault>
-        ensures gives { Gives self.old self.new result }
+        ensures gives { GivesTag self.old self.new result }
         ensures moves { MovesOn self.old self.new result }
     {
         loop {

@@ -7,8 +7,8 @@ ghost use Rattle.tml_tree.specs.declared.tag_name.TagName.TheVariants as tag;
 ghost use Rattle.tml_types.specs.Reading.{attrs_of};
 ghost use Rattle.tml_types.specs.Table.{rows_of};
 ghost use Rattle.tml_types.specs.View.{typed_of};
-ghost use Rattle.tml_types.specs.Walking.{Reads, Refuses, Yields, name_of, tag_at};
-ghost use Rattle.tml_types.specs.Whole.{HasFault};
+ghost use Rattle.tml_types.specs.Walking.{ReadsTag, Refuses, Yields, name_of_kind, tag_at};
+ghost use Rattle.tml_types.specs.Whole.{HasTagFault};
 
 use crate::attributes::Attributes;
 use crate::repeats::is_repeated;
@@ -22,7 +22,7 @@ use tml_tree::TagName;
 
 #[inline(never)]
 fn event<'s>(of: &Attributes<'_, 's>) -> Result<TypedTag<'s>, TypeFault>
-    ensures ok { IfOk result (λ t. Reads tag.Event (attrs_of of.now) of.now.place (typed_of t)) }
+    ensures ok { IfOk result (λ t. ReadsTag tag.Event (attrs_of of.now) of.now.place (typed_of t)) }
     ensures err { IfErr result (λ e. Refuses tag.Event (attrs_of of.now) of.now.place e) }
 {
     let (eid, class) = of.both_required(b"eid", b"class")?;
@@ -38,7 +38,7 @@ fn event<'s>(of: &Attributes<'_, 's>) -> Result<TypedTag<'s>, TypeFault>
 
 #[inline(never)]
 fn instance<'s>(of: &Attributes<'_, 's>) -> Result<TypedTag<'s>, TypeFault>
-    ensures ok { IfOk result (λ t. Reads tag.MakeInstance (attrs_of of.now) of.now.place (typed_of t)) }
+    ensures ok { IfOk result (λ t. ReadsTag tag.MakeInstance (attrs_of of.now) of.now.place (typed_of t)) }
     ensures err { IfErr result (λ e. Refuses tag.MakeInstance (attrs_of of.now) of.now.place e) }
 {
     let (eiid, event) = of.both_required(b"eiid", b"eventID")?;
@@ -59,7 +59,7 @@ fn instance<'s>(of: &Attributes<'_, 's>) -> Result<TypedTag<'s>, TypeFault>
 
 #[inline(never)]
 fn timex<'s>(of: &Attributes<'_, 's>) -> Result<TypedTag<'s>, TypeFault>
-    ensures ok { IfOk result (λ t. Reads tag.Timex3 (attrs_of of.now) of.now.place (typed_of t)) }
+    ensures ok { IfOk result (λ t. ReadsTag tag.Timex3 (attrs_of of.now) of.now.place (typed_of t)) }
     ensures err { IfErr result (λ e. Refuses tag.Timex3 (attrs_of of.now) of.now.place e) }
 {
     let (tid, kind) = of.both_required(b"tid", b"type")?;
@@ -89,7 +89,7 @@ fn timex<'s>(of: &Attributes<'_, 's>) -> Result<TypedTag<'s>, TypeFault>
 
 #[inline(never)]
 fn signal<'s>(of: &Attributes<'_, 's>) -> Result<TypedTag<'s>, TypeFault>
-    ensures ok { IfOk result (λ t. Reads tag.Signal (attrs_of of.now) of.now.place (typed_of t)) }
+    ensures ok { IfOk result (λ t. ReadsTag tag.Signal (attrs_of of.now) of.now.place (typed_of t)) }
     ensures err { IfErr result (λ e. Refuses tag.Signal (attrs_of of.now) of.now.place e) }
 {
     let sid = of.required(b"sid")?;
@@ -103,7 +103,7 @@ fn signal<'s>(of: &Attributes<'_, 's>) -> Result<TypedTag<'s>, TypeFault>
 
 #[inline(never)]
 fn tlink<'s>(of: &Attributes<'_, 's>) -> Result<TypedTag<'s>, TypeFault>
-    ensures ok { IfOk result (λ t. Reads tag.Tlink (attrs_of of.now) of.now.place (typed_of t)) }
+    ensures ok { IfOk result (λ t. ReadsTag tag.Tlink (attrs_of of.now) of.now.place (typed_of t)) }
     ensures err { IfErr result (λ e. Refuses tag.Tlink (attrs_of of.now) of.now.place e) }
 {
     let rel = of.required(b"relType")?;
@@ -128,7 +128,7 @@ fn tlink<'s>(of: &Attributes<'_, 's>) -> Result<TypedTag<'s>, TypeFault>
 
 #[inline(never)]
 fn alink<'s>(of: &Attributes<'_, 's>) -> Result<TypedTag<'s>, TypeFault>
-    ensures ok { IfOk result (λ t. Reads tag.Alink (attrs_of of.now) of.now.place (typed_of t)) }
+    ensures ok { IfOk result (λ t. ReadsTag tag.Alink (attrs_of of.now) of.now.place (typed_of t)) }
     ensures err { IfErr result (λ e. Refuses tag.Alink (attrs_of of.now) of.now.place e) }
 {
     let event = of.required(b"eventInstanceID")?;
@@ -150,7 +150,7 @@ fn alink<'s>(of: &Attributes<'_, 's>) -> Result<TypedTag<'s>, TypeFault>
 
 #[inline(never)]
 fn slink<'s>(of: &Attributes<'_, 's>) -> Result<TypedTag<'s>, TypeFault>
-    ensures ok { IfOk result (λ t. Reads tag.Slink (attrs_of of.now) of.now.place (typed_of t)) }
+    ensures ok { IfOk result (λ t. ReadsTag tag.Slink (attrs_of of.now) of.now.place (typed_of t)) }
     ensures err { IfErr result (λ e. Refuses tag.Slink (attrs_of of.now) of.now.place e) }
 {
     let (subordinated, rel) = of.both_required(b"subordinatedEventInstance", b"relType")?;
@@ -171,7 +171,7 @@ fn slink<'s>(of: &Attributes<'_, 's>) -> Result<TypedTag<'s>, TypeFault>
 
 /// The kind of the typed tag that a tag of this name has. The root and the wrappers have none.
 fn kind_named(name: TagName) -> Option<TagKind>
-    ensures some { IfSome result (λ kind. name ≡ name_of kind) }
+    ensures some { IfSome result (λ kind. name ≡ name_of_kind kind) }
     ensures none { IsNone result → rows_of name ≡ [] }
 {
     match name {
@@ -189,8 +189,8 @@ fn kind_named(name: TagName) -> Option<TagKind>
 /// The typed tag of a tag of this kind that repeats no name of an attribute.
 #[inline(always)]
 fn typed_tag<'s>(kind: TagKind, of: &Attributes<'_, 's>) -> Result<TypedTag<'s>, TypeFault>
-    ensures ok { IfOk result (λ t. Reads (name_of kind) (attrs_of of.now) of.now.place (typed_of t)) }
-    ensures err { IfErr result (λ e. Refuses (name_of kind) (attrs_of of.now) of.now.place e) }
+    ensures ok { IfOk result (λ t. ReadsTag (name_of_kind kind) (attrs_of of.now) of.now.place (typed_of t)) }
+    ensures err { IfErr result (λ e. Refuses (name_of_kind kind) (attrs_of of.now) of.now.place e) }
 {
     match kind {
         TagKind::Event => event(of),
@@ -212,7 +212,7 @@ pub fn type_one<'s>(
     of: Attributes<'_, 's>,
 ) -> Result<Option<TypedTag<'s>>, TypeFault>
     ensures ok { IfOk result (λ t. Yields (tag_at of.entry.place name (attrs_of of.entry)) t) }
-    ensures err { IfErr result (λ e. HasFault (tag_at of.entry.place name (attrs_of of.entry) ∷ []) e) }
+    ensures err { IfErr result (λ e. HasTagFault (tag_at of.entry.place name (attrs_of of.entry) ∷ []) e) }
 {
     let place = of.place;
     match is_repeated(alloc, of.attrs) {

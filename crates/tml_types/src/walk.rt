@@ -4,7 +4,7 @@ ghost use Rattle.tml_tree.specs.View.{node_of, tag_node};
 ghost use Rattle.tml_tree.specs.Walking.{elements};
 ghost use Rattle.tml_types.specs.Walking.{Adds};
 ghost use Rattle.tml_types.specs.Whole as whole;
-ghost use Rattle.tml_types.specs.Whole.{HasFault, IsAtLeastPlace, OfTree, Types};
+ghost use Rattle.tml_types.specs.Whole.{HasTagFault, IsAtLeastPlace, OfTree, Types};
 
 use crate::attributes::Attributes;
 use crate::typed::TypedTag;
@@ -25,24 +25,24 @@ pub struct Typed<'s> {
 impl<'s> Model for Typed<'s> {
     ghost use Rattle.std.specs.Prelude.{List as ListOf, map};
     ghost use Rattle.tml_types.specs.Content.{PlainTyped};
-    ghost use Rattle.tml_types.specs.Places.{ArePlaced};
+    ghost use Rattle.tml_types.specs.Places.{HaveRisingPlaces};
     ghost use Rattle.tml_types.specs.View.{typed_of};
 
     ghost Value = { ListOf PlainTyped };
 
     ghost view = { λ a. map typed_of a.tags };
 
-    ghost invariant = { λ a. ArePlaced (map typed_of a.tags) };
+    ghost invariant = { λ a. HaveRisingPlaces (map typed_of a.tags) };
 }
 
 impl<'s> Typed<'s> {
     ghost use Rattle.std.specs.Prelude.{map};
-    ghost use Rattle.tml_types.specs.Places.{ArePlaced};
+    ghost use Rattle.tml_types.specs.Places.{HaveRisingPlaces};
     ghost use Rattle.tml_types.specs.View.{typed_of};
 
     /// Typed tags in document order, at places that rise.
     pub(crate) fn new(tags: List<TypedTag<'s>>) -> Typed<'s>
-        requires { ArePlaced (map typed_of tags) }
+        requires { HaveRisingPlaces (map typed_of tags) }
         ensures { result ≡ map typed_of tags.entry }
     {
         Typed { tags }
@@ -51,7 +51,7 @@ impl<'s> Typed<'s> {
     /// The typed tags, in document order.
     pub fn as_slice(&self) -> &[TypedTag<'s>]
         ensures tags { map typed_of result.now ≡ self.now }
-        ensures placed { ArePlaced self.now }
+        ensures placed { HaveRisingPlaces self.now }
     {
         self.tags.as_slice()
     }
@@ -99,7 +99,7 @@ impl TypeFault {
 /// of `TypeFault`. `Memory` may come at any place.
 pub fn type_tags<'s>(alloc: Global, tree: &TagTree<'s>) -> Result<Typed<'s>, TypeFault>
     ensures ok { IfOk result (λ t. OfTree tree.now (λ tags. Types tags t)) }
-    ensures err { IfErr result (λ e. OfTree tree.now (λ tags. HasFault tags e)) }
+    ensures err { IfErr result (λ e. OfTree tree.now (λ tags. HasTagFault tags e)) }
     ensures least { IfErr result (λ e. OfTree tree.now (λ tags. IsAtLeastPlace tags e)) }
 {
     let mut typed = List::new(alloc);
@@ -115,7 +115,7 @@ fn type_tag<'s>(
     typed: &mut List<TypedTag<'s>>,
 ) -> Result<(), TypeFault>
     ensures ok { OnOk result (Adds (elements (tag_node tag.now)) typed.old typed.new) }
-    ensures err { IfErr result (λ e. HasFault (elements (tag_node tag.now)) e) }
+    ensures err { IfErr result (λ e. HasTagFault (elements (tag_node tag.now)) e) }
 {
     let of = Attributes {
         place: tag.span.start,
@@ -140,7 +140,7 @@ fn type_node<'s>(
     typed: &mut List<TypedTag<'s>>,
 ) -> Result<(), TypeFault>
     ensures ok { OnOk result (Adds (elements (node_of node.now)) typed.old typed.new) }
-    ensures err { IfErr result (λ e. HasFault (elements (node_of node.now)) e) }
+    ensures err { IfErr result (λ e. HasTagFault (elements (node_of node.now)) e) }
 {
     match node {
         Node::Text { .. } | Node::Comment { .. } => Ok(()),

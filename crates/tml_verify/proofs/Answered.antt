@@ -1,7 +1,7 @@
 -- What the rows of all words have.
 use Rattle.std.proofs.Common.{◌≡◌, ◌≤◌, ℕ, Bool, true, false, List, length, Option, None, Some}
 use Rattle.std.specs.Prelude.{MatchBool}
-use Rattle.answers.specs.Judged.{AreJudged}
+use Rattle.answers.proofs.Answering.{IsAnsweredByDocument}
 use Rattle.answers.proofs.Answered.{judged_answered_once}
 use Rattle.evidence_answers.specs.Confirmed.{OfConfirm}
 use Rattle.evidence_answers.specs.Files.{evidence_file}
@@ -41,7 +41,7 @@ one_text : (seconds : Bool) (doc : List ℕ) (contents : PlainDocument) → Says
 one_text true = confirm_judged.one_text
 one_text false = verify_judged.one_text
 
-either_judged : AreJudged max_evidence OfEither (λ contents bytes status. ⊥)
+either_judged : IsAnsweredByDocument max_evidence OfEither (λ contents bytes status. ⊥)
 either_judged = record {
   some = λ doc short contents says bytes. some (is_seconds bytes) doc short contents says bytes;
   one_status = λ doc contents says bytes. one_status (is_seconds bytes) doc contents says bytes;

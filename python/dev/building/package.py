@@ -76,7 +76,7 @@ def parser() -> argparse.ArgumentParser:
         "--output",
         default=".",
         metavar="FOLDER",
-        help="the folder for the package, which is made where it is not there (default: this one)",
+        help="the folder for the package, which is made if it is not there (default: this one)",
     )
     words.add_argument(
         "--maintainer", metavar="TEXT", help="who maintains the package, as `Name <address>` (default: the author of the last commit)"
@@ -177,7 +177,7 @@ def program_at(path: str) -> File:
     except OSError as problem:
         raise CannotMake(f"no program {path}: build it as README.md says, or name one ({problem.strerror})") from None
     if content[:5] != b"\x7fELF\x02" or content[18:20] != b"\x3e\0":
-        raise CannotMake(f"{path} is no program for amd64")
+        raise CannotMake(f"{path} is not a program for amd64")
     return File(content, 0o755)
 
 

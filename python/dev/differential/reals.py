@@ -15,9 +15,10 @@ from typing import Any
 
 from differential.cases import Case
 from differential.datetimes import bounds
-from differential.nets import BASE_RELATIONS, INVERSE, RELATIONS
+from differential.nets import INVERSE
 from differential.trees import DECODED, Node, tree_of
 from reference import Outcome
+from tml.statuses import BASE_RELATIONS, RELATIONS
 
 IS_THERE = importlib.util.find_spec("z3") is not None
 MOST_INTERVALS = 12
@@ -115,7 +116,7 @@ def complaint(case: Case, outcome: Outcome) -> str | None:
     if outcome.status == CLASH:
         return of_clash(reals, outcome.text)
     if not reals.can_be(reals.links):
-        return "By real numbers nothing fits, and the answer is no clash."
+        return "By real numbers nothing fits, and the answer is not a clash."
     if case.words[0] == b"relations":
         return of_relations(reals, outcome.text)
     if case.words[0] == b"matrix":

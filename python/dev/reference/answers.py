@@ -172,7 +172,7 @@ def wrong_evidence(net: Net, text: bytes) -> Evidence | str:
         return f"the text has {len(text)} bytes"
     claims = read_claims(text)
     if isinstance(claims, int):
-        return f"it is the text of no evidence: line {claims} is bad"
+        return f"it is not the text of evidence: line {claims} is bad"
     if text != printed(claims[0]):
         return "it is not the text of one claim, of version 2"
     refused = refusal(net, claims[0])
@@ -192,7 +192,7 @@ def wrong_clash(net: Net, text: bytes) -> str | None:
     if not isinstance(evidence, Clash):
         return "it is not the text of a clash"
     if not is_minimal_clash(net, evidence.cites):
-        return f"the links {evidence.cites} are no minimal clash"
+        return f"the links {evidence.cites} are not a minimal clash"
     for cite, spare in zip(evidence.cites, evidence.spares, strict=True):
         if spare != least_timeline(net, [other for other in evidence.cites if other != cite]):
             return f"the spare of link {cite} is not the least one"

@@ -111,7 +111,7 @@ def wrong_seconds(timed: Timed, has_placing: bool, text: bytes) -> str | None:
     """What is wrong with a text of `seconds`, of a document that has a placing or has none."""
     evidence = read_seconds(text)
     if isinstance(evidence, int):
-        return f"it is the text of no placing and no cycle: line {evidence} is bad"
+        return f"it is the text of neither a placing nor a cycle: line {evidence} is bad"
     if isinstance(evidence, Placing) != has_placing:
         return "it is the text of a cycle, and there is a placing" if has_placing else "it is the text of a placing, and there is none"
     if isinstance(evidence, Cycle) and len(evidence.lines) > timed.origin() + 1:

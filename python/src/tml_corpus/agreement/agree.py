@@ -14,7 +14,7 @@ from tml.results import Score
 from tml.statuses import TmlStatus
 
 from ..asking.program import ACCEPTED, CLASH, FAULT, CannotRun, Program, Reply
-from ..asking.room import room_for
+from ..asking.room import NO_MEMORY, room_for
 from ..clash.fitting import Fitting, fitting
 from ..command_line.statuses import ENDED
 from ..document.reduced import problem_of
@@ -60,7 +60,7 @@ def sides_of(documents: str, keys: str) -> Sides:
     """The two annotations at two paths."""
     are_folders = [os.path.isdir(place) for place in (documents, keys)]
     if any(are_folders) and not all(are_folders):
-        raise CannotRun(f"{documents} and {keys} are to be two folders, or two files")
+        raise CannotRun(f"{documents} and {keys} have to be two folders, or two files")
     return Sides(documents, keys, all(are_folders))
 
 
@@ -145,7 +145,7 @@ def compare(program: Program, sides: Sides, found: Found, wanted: Wanted) -> Pai
     except (CannotRead, CannotRun) as problem:
         report.not_counted = NotCounted(report.path, NOT_JUDGED, str(problem))
     except MemoryError:
-        report.not_counted = NotCounted(report.path, NOT_JUDGED, "no memory to take the document apart")
+        report.not_counted = NotCounted(report.path, NOT_JUDGED, NO_MEMORY)
     return report
 
 

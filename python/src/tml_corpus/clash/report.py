@@ -44,8 +44,8 @@ class PlacedLink(NamedTuple):
         return self.link.place
 
     def named(self) -> str:
-        """The link by its number and the names of its intervals."""
-        return f"link {self.link.number}: {self.link.left} {self.link.relation} {self.link.right}"
+        """The link by its lid, or by its number where it has none, and the names of its intervals."""
+        return f"{self.link.called()}: {self.link.left} {self.link.relation} {self.link.right}"
 
 
 class PlacedClash(NamedTuple):
@@ -84,7 +84,7 @@ class PlacedRepair(NamedTuple):
     all_choices: bool
     at_least: int
     changes: int
-    """So many links between dates that touch are to be mended besides."""
+    """How many links between dates that touch are to be mended besides."""
     is_of_dates: bool = False
     """Whether the clash rests on dates, of which one may be wrong in the place of a link."""
 
@@ -94,7 +94,7 @@ class PlacedRepair(NamedTuple):
         besides = [f"mend the {links} between dates that touch as said above"] if self.changes else []
         if not self.choices and self.at_least:
             return (
-                f"no set of links was found without which a timeline fits, in as many questions as are asked about one "
+                f"no set of links without which a timeline fits was found within the limit of questions about one "
                 f"document; {self.known()}"
             )
         if self.choices:
@@ -112,7 +112,7 @@ class PlacedRepair(NamedTuple):
         """What is known of the number of links."""
         if self.smallest:
             return "fewer will not do"
-        best = "this is the best set that was found in as many questions as are asked about one document, and " if self.choices else ""
+        best = "this is the best set found within the limit of questions about one document, and " if self.choices else ""
         return f"{best}fewer than {self.at_least} will not do"
 
 

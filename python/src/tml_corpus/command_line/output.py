@@ -24,7 +24,7 @@ from .statuses import Status
 
 INPUT, OUTPUT, ERROR = range(3)
 USUAL = 80
-"""So many characters are a line where it is not known how wide the terminal is."""
+"""How many characters are a line where it is not known how wide the terminal is."""
 
 TOOL = re.compile(r"\btools/[a-z0-9-]+")
 
@@ -115,7 +115,7 @@ class ProgramParser(Parser):
 
     def __init__(self, **options: Any) -> None:
         super().__init__(**options)
-        self.add_argument("--version", action="version", version=f"%(prog)s {VERSION}", help="print the version, and end")
+        self.add_argument("--version", action="version", version=f"%(prog)s {VERSION}", help="print the version and exit")
 
 
 def run(work: Callable[[list[str]], int], words: Sequence[str] | None = None) -> int:

@@ -15,10 +15,10 @@ from ..lint.kinds import NAMES
 
 NAME = "tml-corpus.toml"
 LIMIT = 16 * 1024
-"""So many bytes the file may have."""
+"""How many bytes the file may have."""
 
 MOST_JOBS = 4
-"""So many jobs for each processor the file may ask for; more of them are taken for so many."""
+"""How many jobs for each processor the file may ask for; more count as this many."""
 
 TEXT = r""""{3}(?:\\.|[^\\])*?(?:"{3,5}|\Z)|'{3}.*?(?:'{3,5}|\Z)|"(?:\\.|[^"\\\n])*+"?|'[^'\n]*+'?"""
 TEXT_OR_DOT = re.compile(rf"{TEXT}|#[^\n]*|(\.)", re.DOTALL)
@@ -146,7 +146,7 @@ def read_text(path: str) -> str:
     dot = next((found.start() for found in TEXT_OR_DOT.finditer(text) if found[1]), None)
     if dot is not None:
         line, column = line_and_column(text, dot)
-        raise CannotRun(f"{path}:{line}:{column}: a dot stands outside of texts, and no setting has one there")
+        raise CannotRun(f"{path}:{line}:{column}: there is a dot outside of a text, and no setting has one")
     return text
 
 
@@ -157,28 +157,28 @@ def line_and_column(text: str, offset: int) -> tuple[int, int]:
 
 def settings_of(path: str, table: dict[str, object]) -> Settings:
     """The settings of a table."""
-    from ..document.profile import TAGS
+    from tml.tags.profile import TAGS
 
     unknown = sorted(set(table) - {"wrappers", "ignore", "warn", "patterns", "jobs"})
     if unknown:
-        raise CannotRun(f"{path}: nothing is called {unknown[0]}: wrappers, ignore, warn, patterns and jobs are")
+        raise CannotRun(f"{path}: there is no setting {unknown[0]}: there are wrappers, ignore, warn, patterns and jobs")
     lists = {name: texts(path, name, table.get(name, [])) for name in ("wrappers", "ignore", "warn", "patterns")}
     for name in (*lists["ignore"], *lists["warn"]):
         if name not in NAMES:
-            raise CannotRun(f"{path}: no warning is called {name}: {', '.join(NAMES)} are")
+            raise CannotRun(f"{path}: there is no warning {name}: there are {', '.join(NAMES)}")
     for name in lists["wrappers"]:
         if not re.fullmatch(TAG_NAME, name):
             raise CannotRun(f"{path}: {name} is not the name of a tag")
         if name in TAGS:
-            raise CannotRun(f"{path}: {name} is a tag that tml knows, so it can be no wrapper of this corpus")
+            raise CannotRun(f"{path}: {name} is a tag that tml knows, so it cannot be a wrapper of this corpus")
     jobs = table.get("jobs")
     if jobs is not None and (type(jobs) is not int or jobs < 1):
-        raise CannotRun(f"{path}: jobs is a number from 1 on")
+        raise CannotRun(f"{path}: jobs has to be a number from 1 on")
     return Settings(path, jobs=min(jobs, MOST_JOBS * processors()) if isinstance(jobs, int) else None, **lists)
 
 
 def texts(path: str, name: str, value: object) -> tuple[str, ...]:
     """A list of texts."""
     if not isinstance(value, list) or not all(isinstance(one, str) for one in value):
-        raise CannotRun(f'{path}: {name} is a list of texts, as {name} = ["a", "b"]')
+        raise CannotRun(f'{path}: {name} has to be a list of texts, as {name} = ["a", "b"]')
     return tuple(value)

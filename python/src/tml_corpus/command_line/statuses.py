@@ -23,5 +23,5 @@ MEANINGS = {
 }
 """Why there is no judgement, where `tml` itself says so."""
 
-ENDED = "a process of this program that looked at it was ended from outside, or had no memory"
+ENDED = "the process that examined it was ended from outside, or ran out of memory"
 """What is said of a file with which a worker ended."""

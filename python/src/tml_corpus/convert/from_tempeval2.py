@@ -46,7 +46,7 @@ BASE = "base-segmentation.tab"
 OTHERS = ("event-extents.tab", "event-attributes.tab", "timex-extents.tab", "timex-attributes.tab", "dct.txt")
 
 MOST_BYTES = 16 * 1024 * 1024
-"""So many bytes all tables have together at most. What is known of a token takes up to some twenty times as much as its line."""
+"""How many bytes all tables have together at most. What is known of a token takes up to some twenty times as much as its line."""
 
 
 @dataclass
@@ -182,7 +182,7 @@ def check_name(name: Word, names: dict[str, str]) -> None:
         raise name.wrong(f"{text[:40]!r} is not a name for a file")
     other = names.setdefault(unicodedata.normalize("NFC", text.casefold()), text)
     if other != text:
-        raise name.wrong(f"{text[:40]!r} and {other[:40]!r} are one name where the case of letters does not count")
+        raise name.wrong(f"{text[:40]!r} and {other[:40]!r} differ only in the case of letters")
 
 
 def source_of(sources: dict[str, Source], name: Word) -> Source:
@@ -197,7 +197,7 @@ def read_extents(sources: dict[str, Source], folder: str, kind: str) -> None:
     for name, sentence, number, _, tag, *_ in table(folder, f"{kind}-extents.tab", 5, "document, sentence, token number, kind, name"):
         source, place = source_of(sources, name), (sentence.number(), number.number())
         if place not in source.tokens:
-            raise number.wrong(f"{tag.text} stands at a token that is not there: sentence {sentence.text}, token {number.text}")
+            raise number.wrong(f"{tag.text} is at a token that is not there: sentence {sentence.text}, token {number.text}")
         source.tags.setdefault(tag.text, Tag(kind, tag.text, tag)).tokens.append(place)
 
 
@@ -217,7 +217,7 @@ def convert(words: list[str]) -> int:
     """Writes the documents and answers the status."""
     parser = ProgramParser(description=__doc__, formatter_class=RawFormatter)
     parser.add_argument("tables", metavar="FOLDER", help="the folder with the tables")
-    parser.add_argument("out", metavar="OUT", help="the folder for the documents; it is made where it is not there")
+    parser.add_argument("out", metavar="OUT", help="the folder for the documents, which is made if it is not there")
     options = parser.parse_args(words)
     try:
         texts = {name: source.text() for name, source in sorted(read_tables(options.tables).items())}

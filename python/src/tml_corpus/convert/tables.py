@@ -69,7 +69,7 @@ def decoded(path: str, number: int, raw: bytes) -> str:
         raise wrong(path, number, column, f"the byte {raw[error.start]:02X} is not UTF-8") from None
     unknown = NOT_XML.search(line)
     if unknown is not None:
-        raise wrong(path, number, unknown.start() + 1, f"the character U+{ord(unknown[0]):04X} is none of XML")
+        raise wrong(path, number, unknown.start() + 1, f"the character U+{ord(unknown[0]):04X} is not allowed in XML")
     return line
 
 

@@ -27,17 +27,17 @@ from collections.abc import Callable, Iterable, Sequence
 from functools import partial
 from itertools import count
 
+from tml.explaining.faults import BAD_MARKUP, read_fault
 from tml.places import Places
 from tml.statuses import TmlStatus
+from tml.tags.cutting import units_of_whole
+from tml.tags.edits import Edit, applied, applied_in_order, with_spaces_before, with_value
+from tml.tags.units import Attribute, Unit, Units
 
 from ..asking.program import ACCEPTED, DOCUMENT_LIMIT, FAULT, MEANINGS, CannotRun, Program, find_program
-from ..check.faults import BAD_MARKUP, read_fault
 from ..clash.touching import Change, asks, touching_changes, with_changes
 from ..command_line.output import ProgramParser, RawFormatter, complain, run, standard_input
 from ..command_line.statuses import Status
-from ..document.cutting import units_of_whole
-from ..document.edits import Edit, applied, applied_in_order, with_spaces_before, with_value
-from ..document.units import Attribute, Unit, Units
 from ..document.words import Wording
 from ..files.finding import PATTERNS, CannotRead, Found, counted, find_files, read_document, shown
 from ..files.standard_input import STANDARD_INPUT
@@ -330,7 +330,7 @@ def parser() -> ProgramParser:
     """The words that are understood."""
     words = ProgramParser(description=__doc__, formatter_class=RawFormatter)
     words.add_argument("documents", nargs="+", metavar="DOC", help="the document, or a folder to search; - is standard input")
-    words.add_argument("--write", action="store_true", help="write the changed documents in the place of the files")
+    words.add_argument("--write", action="store_true", help="overwrite the files with the changed documents")
     words.add_argument("--glob", action="append", metavar="PATTERN", help=f"names to look for in folders (default {' '.join(PATTERNS)})")
     words.add_argument("--rename", type=renaming, action="append", default=[], metavar="OLD=NEW", help="give tags another name")
     words.add_argument(
@@ -395,7 +395,7 @@ def edit(words: list[str]) -> int:
     options = parser().parse_args(words)
     first, *others = options.documents
     if STANDARD_INPUT in options.documents and (others or options.write):
-        raise CannotRun("- goes alone, and without --write")
+        raise CannotRun("- has to be the only path, and goes without --write")
     program = Program(find_program(options.tml))
     if others or options.write or os.path.isdir(first):
         return edit_files(program, options)

@@ -5,13 +5,13 @@ from __future__ import annotations
 from collections.abc import Iterator
 from itertools import chain
 
-from ..asking.room import MANY_BYTES
-from ..check.wholeness import WITHOUT_BEGIN, first_conflict, name_of_bare, version_marks
-from ..document.edits import Edit
-from ..document.profile import CARRIED, ROOT, TABLE
-from ..document.similar import one_letter_apart
-from ..document.source import Source, Suspect, attribute_of, cut
-from ..document.units import END, START, TEXT, Attribute, Unit
+from tml.explaining.wholeness import WITHOUT_BEGIN, first_conflict, name_of_bare, version_marks
+from tml.statuses import MANY_BYTES
+from tml.tags.edits import Edit
+from tml.tags.profile import CARRIED, ROOT, TABLE
+from tml.tags.similar import one_letter_apart
+from tml.tags.source import Source, Suspect, attribute_of, cut
+from tml.tags.units import END, START, TEXT, Attribute, Unit
 
 KNOWN = {name: frozenset((*TABLE.get(name, ()), *CARRIED.get(name, ()))) for name in (ROOT, *TABLE)}
 AROUND_WORDS = ("EVENT", "TIMEX3")
@@ -84,7 +84,7 @@ def nested_tag(source: Source) -> Iterator[Suspect]:
             where = source.at(outer.start)
             yield Suspect(
                 tag,
-                f"this {tag.name} is inside the {outer.name} at {where}: see which words each is around, and "
+                f"this {tag.name} is inside the {outer.name} at {where}: see which words each belongs to, and "
                 f"whether one is too many",
             )
         if units.kinds[row] == START:
@@ -107,4 +107,4 @@ def tag_as_text(source: Source) -> Iterator[Suspect]:
         return
     for found in WITHOUT_BEGIN.finditer(source.document):
         edit = Edit(found.start(), found.start(), b"<")
-        yield Suspect(root, f"this is a text, since it has no <: write <{name_of_bare(found)}", found.span(), (edit,))
+        yield Suspect(root, f"this is text, since it has no <: write <{name_of_bare(found)}", found.span(), (edit,))

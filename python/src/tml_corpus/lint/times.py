@@ -4,11 +4,11 @@ from __future__ import annotations
 
 from collections.abc import Iterator
 
-from ..document.edits import Edit, encoded, with_value
-from ..document.invisible import first_invisible
-from ..document.source import Source, Suspect, attribute_of, cut
-from ..document.units import Unit
-from ..document.values import CALENDAR, DURATION, FISCAL, LOOKS_LIKE_DATE, PART_OF_DAY, RANGE, better, has_form
+from tml.tags.edits import Edit, encoded, with_value
+from tml.tags.invisible import first_invisible
+from tml.tags.source import Source, Suspect, attribute_of, cut
+from tml.tags.units import Unit
+from tml.tags.values import CALENDAR, DURATION, FISCAL, LOOKS_LIKE_DATE, PART_OF_DAY, RANGE, better, has_form
 from .said_dates import YEAR, contradiction, spoken_for, year_of
 
 DATED = ("DATE", "TIME")
@@ -50,8 +50,8 @@ def meant_value(source: Source, tag: Unit, value: str) -> tuple[str, Edit | None
         chosen, speaker, is_word = spoken
         other = next(reading for reading in readings if reading != chosen)
         if not is_word:
-            return f"{seen}; did you mean {chosen} or {other}? ({speaker} speaks for the first one)", None
-        hint = f"{seen}; did you mean {chosen}? ({speaker} speaks for it, and not for {other})"
+            return f"{seen}; did you mean {chosen} or {other}? ({speaker} suggests the first)", None
+        hint = f"{seen}; did you mean {chosen}? ({speaker} suggests it rather than {other})"
     return hint, with_value(attribute, source.document, encoded(chosen))
 
 
@@ -136,7 +136,7 @@ def two_creation_times(source: Source) -> Iterator[Suspect]:
         if attribute is not None:
             text = (
                 f"the TIMEX3 at {source.at(first.start)} is the creation time already: see which of the two is, and "
-                f"take this attribute from the other one"
+                f"remove this attribute from the other"
             )
             yield Suspect.of_attribute(tag, attribute, text)
 
@@ -148,9 +148,8 @@ def date_with_points(source: Source) -> Iterator[Suspect]:
         kind = values.get("type", "")
         attribute = attribute_of(tag, names[0]) if names and kind in DATED else None
         if attribute is not None:
-            text = (
-                f"{' and '.join(names)} of a {kind} {'say' if len(names) > 1 else 'says'} nothing of its time: only its value and links do"
-            )
+            say = "say" if len(names) > 1 else "says"
+            text = f"{' and '.join(names)} of a {kind} {say} nothing about its time: only its value and links do"
             yield Suspect.of_attribute(tag, attribute, text)
 
 

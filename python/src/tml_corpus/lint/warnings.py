@@ -5,15 +5,16 @@ from __future__ import annotations
 from collections.abc import Callable, Iterator
 from dataclasses import dataclass
 
+from tml.tags.edits import Edit
+from tml.tags.source import Source, Suspect, cut
+
 from ..asking.program import Program
 from ..document.dates import dates_of
-from ..document.edits import Edit
-from ..document.source import Source, Suspect, cut
 from . import links, tags, times
 from .kinds import Lint, is_mistake
 
 MOST_WARNINGS = 1000
-"""So many warnings on one document are reported, the first ones of its text."""
+"""How many warnings on one document are reported, the first ones of its text."""
 
 
 @dataclass(frozen=True)
@@ -79,8 +80,8 @@ def free_times(program: Program, source: Source) -> set[str]:
 
 KINDS: dict[str, WarningKind] = {
     "version-mark": WarningKind("a mark that version control left in the text", tags.version_mark),
-    "tag-as-text": WarningKind("a tag without its <, which is a text", tags.tag_as_text),
-    "nested-tag": WarningKind("an EVENT or TIMEX3 inside of an EVENT or TIMEX3", tags.nested_tag),
+    "tag-as-text": WarningKind("a tag without its <, so that it is text", tags.tag_as_text),
+    "nested-tag": WarningKind("an EVENT or TIMEX3 inside another", tags.nested_tag),
     "misspelled-attribute": WarningKind("an attribute whose name is one letter from a known one", tags.misspelled_attribute),
     "unknown-attribute": WarningKind("an attribute that neither tml nor TimeML knows; only with --warn", tags.unknown_attribute),
     "value-form": WarningKind("a value that is not a TIMEX3 value", times.value_form, of_free_times=True),
@@ -88,7 +89,7 @@ KINDS: dict[str, WarningKind] = {
     "contradicting-word": WarningKind("a weekday or month of the text that is not that of the value", times.contradicting_word),
     "far-date": WarningKind("a year far from the creation time, which the text does not name", times.far_date),
     "two-creation-times": WarningKind("a second creation time", times.two_creation_times),
-    "date-with-points": WarningKind("beginPoint or endPoint of a DATE or TIME, which say nothing of its time", times.date_with_points),
+    "date-with-points": WarningKind("beginPoint or endPoint of a DATE or TIME, which say nothing about its time", times.date_with_points),
     "empty-tag": WarningKind("an EVENT, SIGNAL or TIMEX3 without text that is not meant to be empty", tags.empty_tag),
     "self-link": WarningKind("a link from an interval to itself", links.self_link),
     "repeated-link": WarningKind("a TLINK that was given before", links.repeated_link),

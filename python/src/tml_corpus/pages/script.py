@@ -236,7 +236,7 @@ document.querySelectorAll(".walk").forEach((list) => {
   const made = document.createElement("p");
   const move = (by) => { at = (at + by + walk.length) % walk.length; goTo(walk, walk[at]); };
   made.className = "tools";
-  made.append(button("Next step", () => move(1)), button("Step before", () => move(at < 0 ? 0 : -1)));
+  made.append(button("Next step", () => move(1)), button("Previous step", () => move(at < 0 ? 0 : -1)));
   list.before(made);
   walk.forEach((step, place) => step.append(button("show", () => { at = place; goTo(walk, step); })));
   together(walk.map((step) => step.querySelector("button")));

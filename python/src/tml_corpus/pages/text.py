@@ -13,7 +13,7 @@ from itertools import groupby
 
 from tml.markup import NOTHING, Markup, element, harmless, tags, together
 
-from ..document.units import EMPTY, END, START, TEXT
+from tml.tags.units import EMPTY, END, START, TEXT
 from ..document.words import Wording
 from ..timeline.lettering import plain
 

@@ -60,14 +60,14 @@ FIRST = 0x100
 """The character of the first set of relations; that of a further one comes after it. There are 82 sets at most that `tml` prints."""
 
 POINT = (
-    "Point at a row, or go to it with the tabulator and the arrow keys, to see its links and what it can be to the others; a click, or "
-    "the enter key, keeps them here."
+    "Point at a row, or go to it with the Tab and arrow keys, to see its links and what it can be to the others; a click, or Enter, "
+    "keeps them here."
 )
 WITHOUT = element(
     "p",
-    "Without scripts a title beside the pointer has the links of a row and how far it can move. What it can be to the others ",
+    "Without scripts a title beside the pointer has the links of a row and how far it can move; ",
     element("code", "tml-corpus matrix"),
-    " prints.",
+    " prints what it can be to the others.",
 )
 
 

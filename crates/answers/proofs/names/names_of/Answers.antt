@@ -1,6 +1,6 @@
 use Rattle.std.proofs.Common.{◌++◌, ◌∷◌, [], ℕ, Bor, List, map, take, ap, sym, ◌∙◌, arith}
 use Rattle.std.proofs.lemmas.List.{map-append}
-use Rattle.tml_refs.specs.Documents.{name_of}
+use Rattle.tml_refs.specs.Documents.{interval_name}
 use Rattle.tml_refs.specs.View.{plain_interval}
 use Rattle.answers.proofs.NamedIntervals.{one_further}
 use Rattle.answers.proofs.names.names_of.Goals as goal
@@ -16,6 +16,6 @@ loop-i-preserved c =
       names = ap (map NameOf) c.in_ok-push.ensures.items
           ∙ map-append NameOf c.loop-i.names.items (c.name.result ∷ [])
           ∙ (λ k. c.loop-i.invariant.names k ++ c.name.ensures k ∷ [])
-          ∙ sym (map-append name_of (take i intervals) (interval ∷ []))
-          ∙ ap (map name_of) (sym (one_further intervals i interval c.interval.ensures));
+          ∙ sym (map-append interval_name (take i intervals) (interval ∷ []))
+          ∙ ap (map interval_name) (sym (one_further intervals i interval c.interval.ensures));
     }

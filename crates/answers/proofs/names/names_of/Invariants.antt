@@ -1,5 +1,5 @@
 use Rattle.std.proofs.Common.{◌≡◌, ◌≤◌, length, map, take}
-use Rattle.tml_refs.specs.Documents.{name_of}
+use Rattle.tml_refs.specs.Documents.{interval_name}
 use Rattle.answers.proofs.names.names_of.Given as goal
 
 -- the names of the intervals so far
@@ -7,5 +7,5 @@ abbrev pub invariant-loop-i : goal.invariant-loop-i
 invariant-loop-i l = record {
   end : l.i-end ≡ length l.document.intervals;
   within : l.i ≤ l.i-end;
-  names : map (λ name. name.now) l.names.items ≡ map name_of (take l.i l.document.intervals);
+  names : map (λ name. name.now) l.names.items ≡ map interval_name (take l.i l.document.intervals);
 }

@@ -8,8 +8,8 @@ use Rattle.net_core.specs.declared.list.Memory.{Memory}
 use Rattle.net_core.specs.declared.step.Step.{Step}
 use Rattle.net_core.specs.declared.walk.Walk.{Walk}
 use Rattle.net_core.proofs.WalkLaws.{round_more}
-use Rattle.clash.specs.Minimal.{IsRound, IsSpared, UpTo}
-use Rattle.clash.specs.declared.round.Round.{Round}
+use Rattle.clash.specs.Minimal.{IsMarkedWalk, IsSpared, UpTo}
+use Rattle.clash.specs.declared.closed_walk.ClosedWalk.{ClosedWalk}
 use Rattle.clash.proofs.Rounds.{first_clashes, first_spared, marked_chosen, some_round, spared_fewer}
 use Rattle.clash.proofs.minimal.first_round.Goals as goal
 use Rattle.clash.proofs.minimal.first_round.Goals.{After-round_over, In-Some}
@@ -35,8 +35,8 @@ unreachable-requires c =
     some_round net keep c.args.link c.links.ensures.net (first_spared net c.args.link keep (size here) (kept here) c.requires) (first_clashes net c.args.link keep (size here) (kept here) c.requires) none
 
 -- the links that the walk goes over are among those up to the first that clashes
-spared : (net : PlainNet) (keep : List Bool) (link : ℕ) (walk : Walk) (result : Result Round Memory) → IsSpared net (Kept keep) link → IsClosedWalk net (Kept keep) walk
-    → IfOk result (IsRound net) → IfOk result (λ round. round.walk ≡ walk) → IfOk result (λ round. IsSpared net (Kept round.over.items) link)
+spared : (net : PlainNet) (keep : List Bool) (link : ℕ) (walk : Walk) (result : Result ClosedWalk Memory) → IsSpared net (Kept keep) link → IsClosedWalk net (Kept keep) walk
+    → IfOk result (IsMarkedWalk net) → IfOk result (λ round. round.walk ≡ walk) → IfOk result (λ round. IsSpared net (Kept round.over.items) link)
 spared net keep link walk (Ok round) first goes is same =
     spared_fewer net (Kept keep) (Kept round.over.items) link (marked_chosen net (Kept keep) round is (subst (IsClosedWalk net (Kept keep)) (sym same) goes)) first
 spared net keep link walk (Err e) first goes is same = tt

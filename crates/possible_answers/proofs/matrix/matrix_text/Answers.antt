@@ -2,7 +2,7 @@ use Rattle.std.proofs.Common.{◌≡◌, ◌+◌, ◌<◌, ◌++◌, ℕ, Bor, L
 use Rattle.std.proofs.lemmas.List.{length-map}
 use Rattle.answers.specs.Names.{AreNames}
 use Rattle.possible_answers.specs.Matrix.{lines_from, matrix_lines}
-use Rattle.tml_refs.specs.Documents.{name_of}
+use Rattle.tml_refs.specs.Documents.{interval_name}
 use Rattle.possible_answers.proofs.Lines.{next_lines}
 use Rattle.possible_answers.proofs.matrix.matrix_text.Goals as goal
 
@@ -14,7 +14,7 @@ loop-a-preserved c =
     let n = length intervals in
     let a = c.loop-a.a in
     let are : AreNames intervals (map text_of given) = subst (λ (names : List (Bor (List ℕ))). AreNames intervals (map text_of names)) (sym c.deref.ensures.value) c.loop-a.invariant.names in
-    let many : length given ≡ n = sym (length-map given text_of) ∙ ap length are ∙ length-map intervals name_of in
+    let many : length given ≡ n = sym (length-map given text_of) ∙ ap length are ∙ length-map intervals interval_name in
     let la : a < n = omega (arith, c.loop-a-test.true, c.loop-a.invariant.end) in record {
       end = c.loop-a.invariant.end;
       names = c.loop-a.invariant.names;

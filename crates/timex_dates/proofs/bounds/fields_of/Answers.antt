@@ -1,6 +1,6 @@
 use Rattle.std.proofs.Common.{sym, subst}
 use Rattle.timex_value.specs.Values.{shape_of}
-use Rattle.timex_value.specs.Filling.{HasYear}
+use Rattle.timex_value.specs.Years.{HasYear}
 use Rattle.timex_dates.specs.Valid.{HasParts}
 use Rattle.timex_dates.proofs.Fillings.{has_year, has_parts}
 use Rattle.timex_dates.proofs.bounds.fields_of.Goals as goal

@@ -3,7 +3,7 @@ use Rattle.std.specs.List.{Contains}
 use Rattle.std.proofs.lemmas.Bool.{cases_lt}
 use Rattle.std.proofs.lemmas.List.Elements.{All-contains}
 use Rattle.std.proofs.lemmas.Option.{get_or_from_slice_get, slice_get_within}
-use Rattle.clash.proofs.LinkAtoms.{link_said}
+use Rattle.net_orders.proofs.LinkAtoms.{link_said}
 use Rattle.net_core.specs.Atoms.{Satisfies, atoms_in}
 use Rattle.net_core.specs.declared.atom.Atom.{Atom}
 use Rattle.tml_score.specs.Search.{Decides, basis_of}

@@ -1,5 +1,5 @@
 use Rattle.std.proofs.Common.{◌≡◌, arith}
-use Rattle.clash.specs.declared.orders.Order.{Order}
+use Rattle.net_orders.specs.declared.orders.Order.{Order}
 use Rattle.tml_score.specs.Ends.{end_of}
 use Rattle.tml_score.specs.Search.{basis_of}
 use Rattle.tml_score.proofs.TieLaws.{among_all, range_at}

@@ -1,7 +1,7 @@
 use Rattle.std.proofs.Common.{◌≡◌, ◌++◌, ◌∷◌, [], List, slice_index_or, ap, sym, subst, arith, rules}
 use Rattle.std.specs.List.{All, Contains}
 use Rattle.std.proofs.lemmas.List.Elements.{All-contains_itself, All-get_or, All-push}
-use Rattle.clash.specs.declared.orders.Order.{Order}
+use Rattle.net_orders.specs.declared.orders.Order.{Order}
 use Rattle.tml_score.specs.Search.{Basis, basis_of}
 use Rattle.tml_score.specs.Ties.{AreOrders}
 use Rattle.tml_score.specs.Tree.{no_order}

@@ -1,6 +1,6 @@
 use Rattle.std.proofs.Common.{◌≡◌, List, subst, arith, rules}
 use Rattle.std.specs.List.Sorted.{IsPermutation}
-use Rattle.clash.specs.declared.orders.Order.{Order}
+use Rattle.net_orders.specs.declared.orders.Order.{Order}
 use Rattle.tml_score.proofs.GraphLaws.{same_orders_of}
 use Rattle.tml_score.proofs.graph.Graph.new.Goals as goal
 

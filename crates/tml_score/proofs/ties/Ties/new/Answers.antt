@@ -1,6 +1,6 @@
 use Rattle.std.proofs.Common.{◌∙◌, List, subst}
 use Rattle.std.specs.List.Sorted.{IsPermutation}
-use Rattle.clash.specs.declared.orders.Order.{Order}
+use Rattle.net_orders.specs.declared.orders.Order.{Order}
 use Rattle.tml_score.specs.Search.{basis_of}
 use Rattle.tml_score.proofs.TieLaws.{orders_by}
 use Rattle.tml_score.proofs.ties.Ties.new.Goals as goal

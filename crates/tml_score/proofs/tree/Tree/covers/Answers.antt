@@ -1,6 +1,6 @@
 use Rattle.std.proofs.Common.{◌≡◌, ◌<◌, List, length, inr, sym, ap, subst, ◌∙◌}
 use Rattle.std.proofs.lemmas.Bool.{OnTrue_from, eqb-true}
-use Rattle.clash.specs.declared.orders.Order.{Order}
+use Rattle.net_orders.specs.declared.orders.Order.{Order}
 use Rattle.tml_score.specs.Ends.{far_end_of}
 use Rattle.tml_score.specs.Tree.{IsCovered, no_order, order_at}
 use Rattle.tml_score.proofs.tree.Tree.covers.Goals as goal

@@ -1,5 +1,5 @@
 use Rattle.std.proofs.Common.{◌≡◌, ℕ, ◌<◌, false}
-use Rattle.clash.specs.Orders.{is_of}
+use Rattle.net_orders.specs.Orders.{is_of}
 use Rattle.tml_score.specs.Tree.{order_at}
 use Rattle.tml_score.proofs.tree.Tree.first_of.Given as goal
 

@@ -1,5 +1,5 @@
 use Rattle.std.proofs.Common.{sym, subst}
-use Rattle.tml_span.specs.Reader.{Gives}
+use Rattle.tml_span.specs.Reader.{GivesUnit}
 use Rattle.tml_span.proofs.Dividing.{gives, still_reading}
 use Rattle.tml_span.proofs.unit_reader.UnitReader.pull.Goals as goal
 use Rattle.tml_span.proofs.unit_reader.UnitReader.pull.Goals.{in-Ok, in-Err}
@@ -11,8 +11,8 @@ pub returns : goal.returns
 returns c =
     let old = c.self.inside.cutter in
     let new = c.pull.new.self in
-    let given : Gives old new c.match-pull.result = elim c.match-pull.branch [
-      | in-Ok w ↦ subst (λ r. Gives old new r) (sym w.result-is) (gives old new c.self.invariant w.in-Ok.found w.in-Ok.ensures)
-      | in-Err w ↦ subst (λ r. Gives old new r) (sym w.result-is) w.in-Err.ensures.0
+    let given : GivesUnit old new c.match-pull.result = elim c.match-pull.branch [
+      | in-Ok w ↦ subst (λ r. GivesUnit old new r) (sym w.result-is) (gives old new c.self.invariant w.in-Ok.found w.in-Ok.ensures)
+      | in-Err w ↦ subst (λ r. GivesUnit old new r) (sym w.result-is) w.in-Err.ensures.0
     ] in
-    record { gives = subst (λ r. Gives r new c.match-pull.result) c.self.view_is given }
+    record { gives = subst (λ r. GivesUnit r new c.match-pull.result) c.self.view_is given }

@@ -1,6 +1,6 @@
 use Rattle.std.proofs.Common.{◌≡◌, ◌∷◌, ◌++◌, [], ap, ◌∙◌, arith}
 use Rattle.std.proofs.lemmas.Grind.{common_steps}
-use Rattle.tml_tree.specs.View.{names_of}
+use Rattle.tml_tree.specs.Building.{names_of}
 use Rattle.tml_tree.proofs.Endings.{closed_is, ends_innermost}
 use Rattle.tml_tree.proofs.Stacks.{frame_names_more}
 use Rattle.tml_tree.proofs.builder.Builder.end.Goals as goal

@@ -2,7 +2,7 @@ use Rattle.std.proofs.Common.{List}
 use Rattle.std.specs.Option.{option_to_list}
 use Rattle.tml_span.specs.View.{unit_of}
 use Rattle.tml_tree.specs.Walking.{PlainTag, tag_of}
-use Rattle.tml_types.specs.Whole.{HasFault}
+use Rattle.tml_types.specs.Whole.{HasTagFault}
 use Rattle.tml_types.proofs.Pulling.{cut_fault, fault_stays, reads_on, unclosed_read, unit_fault, whole_read}
 use Rattle.tml_types.proofs.tag_reader.TagReader.fault_with.Goals as goal
 
@@ -14,17 +14,17 @@ returns-in-Err-judge c = λ source read.
 pub loop-unit-preserved : goal.loop-unit-preserved
 loop-unit-preserved c = λ source read.
     let gives = rw c.in-Ok-Some.field-0-is at c.in-Ok-Some.ensures in
-    reads_on c.loop-unit.self (c.loop-unit.invariant source read) c.pull.new.self c.in-Ok-Some.unit gives (λ (tags : List PlainTag). HasFault tags c.args.fault) c.judge.new.nesting c.in_default.ensures.ok (fault_stays c.args.fault (option_to_list (tag_of (unit_of c.in-Ok-Some.unit))))
+    reads_on c.loop-unit.self (c.loop-unit.invariant source read) c.pull.new.self c.in-Ok-Some.unit gives (λ (tags : List PlainTag). HasTagFault tags c.args.fault) c.judge.new.nesting c.in_default.ensures.ok (fault_stays c.args.fault (option_to_list (tag_of (unit_of c.in-Ok-Some.unit))))
 
 pub loop-unit-preserved-in_default : goal.loop-unit-preserved-in_default
 loop-unit-preserved-in_default c = λ source read.
     let gives = rw c.in-Ok-Some.field-0-is at c.in-Ok-Some.ensures in
-    reads_on c.loop-unit.self (c.loop-unit.invariant source read) c.pull.new.self c.in-Ok-Some.unit gives (λ (tags : List PlainTag). HasFault tags c.args.fault) c.judge.new.nesting c.in_default.ensures.ok (fault_stays c.args.fault (option_to_list (tag_of (unit_of c.in-Ok-Some.unit))))
+    reads_on c.loop-unit.self (c.loop-unit.invariant source read) c.pull.new.self c.in-Ok-Some.unit gives (λ (tags : List PlainTag). HasTagFault tags c.args.fault) c.judge.new.nesting c.in_default.ensures.ok (fault_stays c.args.fault (option_to_list (tag_of (unit_of c.in-Ok-Some.unit))))
 
 pub loop-unit-preserved-in_default-2 : goal.loop-unit-preserved-in_default-2
 loop-unit-preserved-in_default-2 c = λ source read.
     let gives = rw c.in-Ok-Some.field-0-is at c.in-Ok-Some.ensures in
-    reads_on c.loop-unit.self (c.loop-unit.invariant source read) c.pull.new.self c.in-Ok-Some.unit gives (λ (tags : List PlainTag). HasFault tags c.args.fault) c.judge.new.nesting c.in_default.ensures.ok (fault_stays c.args.fault (option_to_list (tag_of (unit_of c.in-Ok-Some.unit))))
+    reads_on c.loop-unit.self (c.loop-unit.invariant source read) c.pull.new.self c.in-Ok-Some.unit gives (λ (tags : List PlainTag). HasTagFault tags c.args.fault) c.judge.new.nesting c.in_default.ensures.ok (fault_stays c.args.fault (option_to_list (tag_of (unit_of c.in-Ok-Some.unit))))
 
 pub returns-in-Ok : goal.returns-in-Ok
 returns-in-Ok c = λ source read.

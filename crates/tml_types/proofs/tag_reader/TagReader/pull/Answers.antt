@@ -3,7 +3,7 @@ use Rattle.tml_span.specs.View.{unit_of}
 use Rattle.tml_tree.specs.Walking.{PlainTag, tag_of}
 use Rattle.tml_types.specs.TagReader.{AreTypedSo, begun_tag}
 use Rattle.tml_types.specs.View.{typed_of}
-use Rattle.tml_types.specs.Whole.{HasFault}
+use Rattle.tml_types.specs.Whole.{HasTagFault}
 use Rattle.tml_types.proofs.Pulling.{fault_comes, fewer_left, given_placed, no_tag, reads_on, typed_more, typed_same, cut_fault, unclosed_read, unit_fault, whole_read}
 use Rattle.tml_types.proofs.tag_reader.TagReader.pull.Goals as goal
 use Rattle.tml_types.proofs.tag_reader.TagReader.pull.Goals.{in-Some+in-Ok-None-type_one, in_default}
@@ -44,7 +44,7 @@ returns-in-Err-type_one-clause-gives c = λ source typed given.
     let fault = c.in-Err-type_one.fault in
     let comes = fault_comes typed (begun_tag c.in-Some.tag) fault (tag_of (unit_of c.in-Ok-Some.unit)) begun c.in-Err-type_one.ensures.err in
     c.fault_with.ensures source
-    (reads_on c.loop-unit.self (c.loop-unit.invariant.stays source typed given) c.pull.new.self c.in-Ok-Some.unit gives (λ (tags : List PlainTag). HasFault tags fault) c.judge.new.nesting c.in-Ok-judge.ensures.ok comes)
+    (reads_on c.loop-unit.self (c.loop-unit.invariant.stays source typed given) c.pull.new.self c.in-Ok-Some.unit gives (λ (tags : List PlainTag). HasTagFault tags fault) c.judge.new.nesting c.in-Ok-judge.ensures.ok comes)
 
 pub loop-unit-preserved-after-begun : goal.loop-unit-preserved-after-begun
 loop-unit-preserved-after-begun c =

@@ -1,0 +1,53 @@
+-- The other links hold where all orders of a marked walk but those of one link are true.
+use Rattle.std.proofs.Common.{◌≡◌, ◌≢◌, ◌↔◌, ℕ, ◌<◌, List, length, get_or, Some, None, refl, sym, subst}
+use Rattle.std.specs.List.{Contains}
+use Rattle.std.proofs.lemmas.List.Elements.{All-contains, All-from_get_or, Contains-get_or}
+use Rattle.net_core.specs.Clashes.{Others}
+use Rattle.net_core.specs.Atoms.{Satisfies}
+use Rattle.net_core.specs.Fits.{FitsWith, KeepsLink}
+use Rattle.net_core.specs.Nets.{PlainNet}
+use Rattle.net_core.specs.Relations.{Timeline}
+use Rattle.net_core.specs.Steps.{atom_of, link_of}
+use Rattle.net_core.specs.declared.atom.Atom.{Atom}
+use Rattle.net_core.specs.declared.step.Step.{Step}
+use Rattle.net_core.specs.declared.step.Step.TheVariants.{Link, Span, Calendar}
+use Rattle.net_core.specs.Walks.{Kept}
+use Rattle.net_core.proofs.StepLaws.{step_kept}
+use Rattle.clash.specs.Minimal.{IsMarkedWalk}
+use Rattle.net_orders.specs.Orders.{AreFixed, FitsBut, HoldsBut}
+use Rattle.clash.specs.declared.closed_walk.ClosedWalk.{ClosedWalk}
+use Rattle.net_orders.proofs.StepsBut.{no_step}
+
+module _ (net : PlainNet) (round : ClosedWalk) (fixed : List Atom) (but : ℕ) (is : IsMarkedWalk net round) (are : AreFixed net fixed) where
+  -- what a step of the walk is over holds where the other links do
+  held : (t : Timeline) (step : Step) → FitsWith net (Others (Kept round.over.items) but) t → Contains round.walk step → HoldsBut net but step t
+  held t (Link k i) fits has = λ other within. fits.links k within ((is.over k within).1 (Link k i, has, refl), other)
+  held t (Span i) fits has = λ a e. step_kept net (Others (Kept round.over.items) but) t (Span i) a fits (e, tt)
+  held t (Calendar p q) fits has = λ a e. step_kept net (Others (Kept round.over.items) but) t (Calendar p q) a fits (e, tt)
+
+  -- a link that a step goes over holds where what the step is over does
+  link_held : (t : Timeline) (k : ℕ) (step : Step) → link_of step ≡ Some k → k ≢ but → k < length net.links → HoldsBut net but step t → KeepsLink net t k
+  link_held t k (Link j i) e other within holds =
+      let same : j ≡ k = cc in
+      subst (KeepsLink net t) same (subst (λ (n : ℕ). n ≢ but → n < length net.links → KeepsLink net t j) same holds other within)
+  link_held t k (Span i) e other within holds = absurd cc
+  link_held t k (Calendar p q) e other within holds = absurd cc
+
+  -- the other links hold exactly where all orders are true but those of one link
+  pub fits_but : (t : Timeline) → FitsWith net (Others (Kept round.over.items) but) t ↔ FitsBut round.orders fixed but t
+  fits_but t = (
+    λ fits. record {
+      held = (is.orders.exact but t).1 (All-from_get_or (λ (step : Step). HoldsBut net but step t) round.walk no_step (λ i lt.
+          held t (get_or round.walk i no_step) fits (Contains-get_or round.walk i no_step lt)));
+      kept = (are.exact t).1 (fits.order, fits.calendar);
+    },
+    λ all.
+        let both = (are.exact t).0 all.kept in
+        record {
+          order = both.0;
+          links = λ k within chosen.
+              let over = (is.over k within).0 chosen.0 in
+              link_held t k over.0 over.2 chosen.1 within (All-contains (λ (step : Step). HoldsBut net but step t) round.walk over.0 ((is.orders.exact but t).0 all.held) over.1);
+          calendar = both.1;
+        },
+  )

@@ -1,0 +1,13 @@
+use Rattle.std.proofs.Common.{◌≡◌, ℕ, ◌<◌, length}
+use Rattle.net_core.specs.Walks.{Kept}
+use Rattle.clash.specs.Minimal.{IsMarkedWalk, IsSpared}
+use Rattle.clash.proofs.closed_walk.thin.Given as goal
+
+-- the links so far that are still gone over are needed
+abbrev pub invariant-loop-link : goal.invariant-loop-link
+invariant-loop-link l = record {
+  end : l.link-end ≡ length l.net.links;
+  round : IsMarkedWalk l.net l.round;
+  spared : IsSpared l.net (Kept l.round.over.items) l.needed;
+  so_far : (k : ℕ) → k < l.link → Kept l.round.over.items k → IsSpared l.net (Kept l.round.over.items) k;
+}

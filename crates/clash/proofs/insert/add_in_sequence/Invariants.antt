@@ -1,7 +1,0 @@
-use Rattle.order_closure.specs.Tables.{SatisfiesAll}
-use Rattle.clash.specs.Steps.{AddsPart}
-use Rattle.clash.proofs.insert.add_in_sequence.Given as goal
-
--- orders so far are added
-abbrev pub invariant-loop-number : goal.invariant-loop-number
-invariant-loop-number l = AddsPart (SatisfiesAll l.orders) l.fn.table l.table

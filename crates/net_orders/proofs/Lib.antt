@@ -1,0 +1,10 @@
+pub mod DateOrders
+pub mod Steps
+pub mod CalendarOrders
+pub mod LinkAtoms
+pub mod Ordered
+pub mod StepsBut
+pub mod Rising
+pub mod Settled
+pub mod RankSums
+pub mod Measures

@@ -1,0 +1,9 @@
+use Rattle.std.proofs.Common.{◌≡◌, length}
+use Rattle.net_orders.specs.Sequence.{ArePoints}
+use Rattle.net_orders.proofs.rings.components_of.Given as goal
+
+abbrev pub invariant-loop-number : goal.invariant-loop-number
+invariant-loop-number l = record {
+  size : length l.components.items ≡ l.points;
+  met : ArePoints l.points l.met.items;
+}

@@ -1,0 +1,9 @@
+use Rattle.std.proofs.Common.{◌≡◌, length}
+use Rattle.net_orders.specs.Sequence.{ArePoints}
+use Rattle.net_orders.proofs.rings.flood.Given as goal
+
+abbrev pub invariant-flood : goal.invariant-flood
+invariant-flood l = record {
+  size : length l.components ≡ length l.fn.components;
+  met : ArePoints (length l.components) l.met.items;
+}

@@ -1,0 +1,5 @@
+pub mod Dates
+pub mod Orders
+pub mod Raising
+pub mod Sequence
+pub mod Steps

@@ -1,0 +1,19 @@
+//! The orders of points that a net is: those of its intervals, its calendar and its links. They are added to a table in a
+//! sequence that serves, have a closed walk or none, and raise ranks until all of them are true.
+#![tactic(auto)]
+
+mod calendar;
+mod insert;
+mod links;
+mod orders;
+mod raising;
+mod rings;
+mod sequence;
+mod settling;
+
+pub use insert::{add_in_sequence, add_orders};
+pub use links::{FirstClash, add_links, atoms_of_link, nth_order};
+pub use orders::{Order, all_orders, fixed_orders, orders_of};
+pub use rings::has_strict_cycle;
+pub use sequence::sequence_of;
+pub use settling::settle;

@@ -1,0 +1,144 @@
+//! Whether orders have a closed walk.
+ghost use Rattle.net_orders.specs.Sequence.{AreMet, ArePoints};
+ghost use Rattle.order_closure.specs.Tables.{AreInRange};
+ghost use Rattle.std.specs.List.{All};
+ghost use Rattle.std.specs.Prelude.{IfOk, OnOk, length, ◌<◌, ◌≡◌};
+
+use crate::sequence::Leaving;
+use net_core::{Atom, Memory};
+use std::alloc::Global;
+
+/// Whether a strict order leads from a point to one from which orders lead back, and so no timeline satisfies all orders. It
+/// is found by the strong components of the orders (Kosaraju and Sharir), in a time linear in them. Nothing rests on the
+/// answer but which way a closure is looked for first.
+///
+/// # Errors
+///
+/// Out of memory.
+pub fn has_strict_cycle(
+    alloc: Global,
+    points: u32,
+    orders: &[Atom],
+    sequence: &[usize],
+) -> Result<bool, Memory>
+    requires in_range { AreInRange points orders.now }
+    requires sequence { All (λ k. k < length orders.now) sequence.now }
+{
+    let components = components_of(alloc, points as usize, orders, sequence)?;
+    for order in orders {
+        let (from, to) = (order.from as usize, order.to as usize);
+        if order.strict && components[from].is_some() && components[from] == components[to] {
+            return Ok(true);
+        }
+    }
+    Ok(false)
+}
+
+/// For each point that an order leaves the strong component that it is in, by the first of its points that was met. In the
+/// sequence the orders of one point of a component, the one that is left last, come after those of all that it leads to.
+fn components_of(
+    alloc: Global,
+    points: usize,
+    orders: &[Atom],
+    sequence: &[usize],
+) -> Result<Vec<Option<usize>>, Memory>
+    requires in_range { AreInRange points orders.now }
+    requires sequence { All (λ k. k < length orders.now) sequence.now }
+    ensures { IfOk result (λ components. length components.items ≡ points) }
+{
+    let turned = turned(alloc, points, orders)?;
+    let entering = Leaving::new(alloc, points, &turned)?;
+    let Ok(mut components) = vec![in alloc; None; points] else {
+        return Err(Memory);
+    };
+    let mut met = Vec::new(alloc);
+    for number in sequence.iter().rev() {
+        let point = orders[*number].from as usize;
+        meet(&mut components, point, point, &mut met)?;
+        flood(&entering, &turned, point, &mut components, &mut met)?;
+    }
+    Ok(components)
+}
+
+/// The orders the other way round.
+fn turned(alloc: Global, points: usize, orders: &[Atom]) -> Result<Vec<Atom>, Memory>
+    requires { AreInRange points orders.now }
+    ensures in_range { IfOk result (λ turned. AreInRange points turned.items) }
+    ensures size { IfOk result (λ turned. length turned.items ≡ length orders.now) }
+{
+    let mut turned = Vec::new(alloc);
+    for order in orders {
+        let Atom { from, to, strict } = *order;
+        let other = Atom {
+            from: to,
+            to: from,
+            strict,
+        };
+        if turned.push(other).is_err() {
+            return Err(Memory);
+        }
+    }
+    Ok(turned)
+}
+
+/// Adds a point to a component, unless it is in one, and notes that it was met.
+fn meet(
+    components: &mut [Option<usize>],
+    point: usize,
+    component: usize,
+    met: &mut Vec<usize>,
+) -> Result<(), Memory>
+    requires point { point < length components.old }
+    requires met { ArePoints (length components.old) met.old.items }
+    ensures { OnOk result (ArePoints (length components.old) met.new.items) }
+{
+    if components[point].is_some() {
+        return Ok(());
+    }
+    components[point] = Some(component);
+    if met.push(point).is_err() {
+        return Err(Memory);
+    }
+    Ok(())
+}
+
+/// Adds all points that lead to those that were met to a component, unless they are in one. Each is met once.
+fn flood(
+    entering: &Leaving,
+    turned: &[Atom],
+    component: usize,
+    components: &mut [Option<usize>],
+    met: &mut Vec<usize>,
+) -> Result<(), Memory>
+    requires { AreMet (length components.old) entering.now turned.now met.old.items }
+    ensures { OnOk result (ArePoints (length components.old) met.new.items) }
+{
+    'flood: for _ in 0..components.len() {
+        let Some(point) = met.pop() else {
+            return Ok(());
+        };
+        spread(entering, turned, point, component, components, met)?;
+    }
+    Ok(())
+}
+
+/// Adds the points from which an order leads to this one to a component, unless they are in one.
+fn spread(
+    entering: &Leaving,
+    turned: &[Atom],
+    point: usize,
+    component: usize,
+    components: &mut [Option<usize>],
+    met: &mut Vec<usize>,
+) -> Result<(), Memory>
+    requires met { AreMet (length components.old) entering.now turned.now met.old.items }
+    requires point { point < length components.old }
+    ensures { OnOk result (ArePoints (length components.old) met.new.items) }
+{
+    let mut next = entering.last[point];
+    while let Some(k) = next {
+        meet(components, turned[k].to as usize, component, met)?;
+        next = entering.before[k];
+    }
+    Ok(())
+}

@@ -1,0 +1,171 @@
+//! A sequence of orders in which few rows of a table change.
+ghost use Rattle.net_orders.specs.Sequence.{AreLeaving, IsVisit};
+ghost use Rattle.order_closure.specs.Tables.{AreInRange};
+ghost use Rattle.std.specs.List.{All};
+ghost use Rattle.std.specs.Prelude.{IfOk, OnOk, length, ◌<◌, ◌≡◌};
+
+use net_core::{Atom, Memory};
+use std::alloc::Global;
+
+/// The numbers of orders, mostly in a sequence in which all orders that leave the second point of an order come before
+/// it: the row of that point is then whole when the order is added, and few other rows are to be raised by it. It is found
+/// by a search along the orders, depth first. What is added in whatever sequence has the same closure.
+///
+/// # Errors
+///
+/// Out of memory.
+pub fn sequence_of(alloc: Global, points: u32, orders: &[Atom]) -> Result<Vec<usize>, Memory>
+    requires { AreInRange points orders.now }
+    ensures { IfOk result (λ sequence. All (λ k. k < length orders.now) sequence.items) }
+{
+    let leaving = Leaving::new(alloc, points as usize, orders)?;
+    let Ok(mut seen) = vec![in alloc; false; points as usize] else {
+        return Err(Memory);
+    };
+    let mut path = Vec::new(alloc);
+    let mut sequence = Vec::new(alloc);
+    for point in 0..points as usize {
+        enter(&leaving, point, &mut seen, &mut path)?;
+        descend(&leaving, orders, &mut seen, &mut path, &mut sequence)?;
+    }
+    Ok(sequence)
+}
+
+/// The orders that leave each point, as lists by their numbers.
+#[derive(Drop)]
+pub struct Leaving {
+    /// For each point the last order that leaves it.
+    pub last: Vec<Option<usize>>,
+    /// For each order the one before it that leaves the same point.
+    pub before: Vec<Option<usize>>,
+}
+
+impl Leaving {
+    /// The lists of some orders.
+    ///
+    /// # Errors
+    ///
+    /// Out of memory.
+    pub fn new(alloc: Global, points: usize, orders: &[Atom]) -> Result<Leaving, Memory>
+        requires { AreInRange points orders.now }
+        ensures leaving { IfOk result AreLeaving }
+        ensures points { IfOk result (λ leaving. length leaving.last.items ≡ points) }
+        ensures orders { IfOk result (λ leaving. length leaving.before.items ≡ length orders.now) }
+    {
+        let Ok(mut last) = vec![in alloc; None; points] else {
+            return Err(Memory);
+        };
+        let mut before = Vec::new(alloc);
+        for (k, order) in orders.iter().enumerate() {
+            if before.push(last[order.from as usize]).is_err() {
+                return Err(Memory);
+            }
+            last[order.from as usize] = Some(k);
+        }
+        Ok(Leaving { last, before })
+    }
+}
+
+/// A point that the search entered, and the order by which it leaves it next.
+#[derive(Clone, Copy)]
+struct Visit {
+    point: usize,
+    next: Option<usize>,
+}
+
+/// Enters a point, unless it was entered.
+fn enter(
+    leaving: &Leaving,
+    point: usize,
+    seen: &mut [bool],
+    path: &mut Vec<Visit>,
+) -> Result<(), Memory>
+    requires leaving { AreLeaving leaving.now }
+    requires point { point < length leaving.now.last.items }
+    requires seen { length seen.old ≡ length leaving.now.last.items }
+    requires path { All (IsVisit leaving.now) path.old.items }
+    ensures { OnOk result (All (IsVisit leaving.now) path.new.items) }
+{
+    if seen[point] {
+        return Ok(());
+    }
+    seen[point] = true;
+    let next = leaving.last[point];
+    if path.push(Visit { point, next }).is_err() {
+        return Err(Memory);
+    }
+    Ok(())
+}
+
+/// Follows orders to points that were not entered, and back where a point has no more. A step leaves a point by an order,
+/// or for good: so there are no more steps than points and orders.
+fn descend(
+    leaving: &Leaving,
+    orders: &[Atom],
+    seen: &mut [bool],
+    path: &mut Vec<Visit>,
+    sequence: &mut Vec<usize>,
+) -> Result<(), Memory>
+    requires leaving { AreLeaving leaving.now }
+    requires orders { length leaving.now.before.items ≡ length orders.now }
+    requires in_range { AreInRange (length leaving.now.last.items) orders.now }
+    requires seen { length seen.old ≡ length leaving.now.last.items }
+    requires path { All (IsVisit leaving.now) path.old.items }
+    requires sequence { All (λ k. k < length orders.now) sequence.old.items }
+    ensures path { OnOk result (All (IsVisit leaving.now) path.new.items) }
+    ensures sequence { OnOk result (All (λ k. k < length orders.now) sequence.new.items) }
+{
+    let most = leaving.last.len() + orders.len();
+    'descent: for _ in 0..most {
+        let Some(visit) = path.pop() else {
+            return Ok(());
+        };
+        match visit.next {
+            Some(k) => follow(leaving, orders, visit.point, k, seen, path)?,
+            None => push_leaving(leaving, visit.point, sequence)?,
+        }
+    }
+    Ok(())
+}
+
+/// Follows an order from a point that the search stays in.
+fn follow(
+    leaving: &Leaving,
+    orders: &[Atom],
+    point: usize,
+    k: usize,
+    seen: &mut [bool],
+    path: &mut Vec<Visit>,
+) -> Result<(), Memory>
+    requires leaving { AreLeaving leaving.now }
+    requires orders { length leaving.now.before.items ≡ length orders.now }
+    requires in_range { AreInRange (length leaving.now.last.items) orders.now }
+    requires point { point < length leaving.now.last.items }
+    requires k { k < length orders.now }
+    requires seen { length seen.old ≡ length leaving.now.last.items }
+    requires path { All (IsVisit leaving.now) path.old.items }
+    ensures { OnOk result (All (IsVisit leaving.now) path.new.items) }
+{
+    let next = leaving.before[k];
+    if path.push(Visit { point, next }).is_err() {
+        return Err(Memory);
+    }
+    enter(leaving, orders[k].to as usize, seen, path)
+}
+
+/// Appends the orders that leave a point.
+fn push_leaving(leaving: &Leaving, point: usize, sequence: &mut Vec<usize>) -> Result<(), Memory>
+    requires leaving { AreLeaving leaving.now }
+    requires point { point < length leaving.now.last.items }
+    requires sequence { All (λ k. k < length leaving.now.before.items) sequence.old.items }
+    ensures { OnOk result (All (λ k. k < length leaving.now.before.items) sequence.new.items) }
+{
+    let mut next = leaving.last[point];
+    while let Some(k) = next {
+        if sequence.push(k).is_err() {
+            return Err(Memory);
+        }
+        next = leaving.before[k];
+    }
+    Ok(())
+}

@@ -1,4 +1,0 @@
-use Rattle.tml_accept.proofs.accepting.accepted_tree.Goals as goal
-
-pub returns-in-Err-typed_tags-clause-err : goal.returns-in-Err-typed_tags-clause-err
-returns-in-Err-typed_tags-clause-err c = rw c.in-Ok.ensures.ok at c.in-Err-typed_tags.ensures.err

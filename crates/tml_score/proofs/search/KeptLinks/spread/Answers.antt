@@ -1,0 +1,95 @@
+use Rattle.std.proofs.Common.{◌≡◌, ◌+◌, ◌<◌, Ok, ℕ, Bool, true, false, get_or, slice_index, sym, subst, ◌∙◌, arith}
+use Rattle.std.specs.List.{Contains}
+use Rattle.std.proofs.lemmas.List.Elements.{All-get_or, Contains-get_or}
+use Rattle.net_orders.specs.declared.orders.Order.{Order}
+use Rattle.tml_score.specs.Reached.{PlainReached}
+use Rattle.tml_score.specs.Search.{Extends, GoesOn, IsLed, IsPassed, IsSearch, IsThrough, IsWay, basis_of, remains}
+use Rattle.tml_score.specs.Tree.{no_order}
+use Rattle.tml_score.specs.declared.ends.End.TheVariants.{From}
+use Rattle.tml_score.proofs.GraphLaws.{at_end}
+use Rattle.tml_score.proofs.Spreading.{extends_none, extends_then, marked_link, passed_one}
+use Rattle.tml_score.proofs.search.KeptLinks.spread.Goals as goal
+use Rattle.tml_score.proofs.search.KeptLinks.spread.Goals.{else-remains-via-then-remains+in_ok-take+else-branch, else-remains-via-else-remains}
+
+pub of_point-order-items-requires : goal.of_point-order-items-requires
+of_point-order-items-requires c = omega (arith, c.point-point.ensures.room, c.requires.search.room, c.requires.ready.graph.onward_points)
+
+-- the order of this turn is one of the graph, and leaves the point
+here : (c : goal.In-loop-order) → let o = get_or c.of_point-order-items.result.now c.loop-order.order-index no_order in
+    Contains c.args.self.now.graph.now.onward.items o × (o.atom.from ≡ c.point-point.result)
+here c =
+    let items = c.of_point-order-items.result.now in
+    let o = get_or items c.loop-order.order-index no_order in
+    (at_end c.args.self.now.net.now c.args.self.now.graph.now c.requires.ready.graph From c.of_point-order-items.result.now c.point-point.result c.of_point-order-items.ensures o).0 (Contains-get_or items c.loop-order.order-index no_order c.loop-order-test.true)
+
+pub remains-requires : goal.remains-requires
+remains-requires c =
+    let o = get_or c.of_point-order-items.result.now c.loop-order.order-index no_order in
+    marked_link (basis_of c.args.self.now) c.requires.ready o (here c).0
+
+pub take-requires : goal.take-requires
+take-requires c =
+    let basis = basis_of c.args.self.now in
+    let items = c.of_point-order-items.result.now in
+    let o = get_or items c.loop-order.order-index no_order in
+    let both = (at_end c.args.self.now.net.now c.args.self.now.graph.now c.requires.ready.graph From c.of_point-order-items.result.now c.point-point.result c.of_point-order-items.ensures o).0 (Contains-get_or items c.loop-order.order-index no_order c.loop-order-test.true) in
+    let from : o.atom.from ≡ slice_index c.args.reached.now.points c.args.turn = both.1 ∙ c.point-point.ensures.point in
+    let through = All-get_or (IsThrough basis c.args.asked) c.args.reached.now.points c.args.turn 0 c.requires.turn c.requires.search.through in
+    record {
+      ready = c.requires.ready;
+      asked = c.requires.asked;
+      search = c.loop-order.invariant.search;
+      way = (both.0, sym c.if-remains.ensures);
+      led = subst (IsLed basis c.args.asked) (sym from) through.led;
+    }
+
+pub loop-order-init : goal.loop-order-init
+loop-order-init c = record { search = c.requires.search; extends = extends_none c.args.reached.now; passed = λ k d lt. absurd (omega arith) }
+
+pub loop-order-preserved : goal.loop-order-preserved
+loop-order-preserved c =
+    let basis = basis_of c.args.self.now in
+    let asked = c.args.asked in
+    let items = c.of_point-order-items.result.now in
+    let i = c.loop-order.order-index in
+    let o = get_or items i no_order in
+    let old = c.args.reached.now in
+    let mid = c.loop-order.reached in
+    let was = c.loop-order.invariant in
+    elim c.else-remains.branch [
+      | else-remains-via-then-remains+in_ok-take+else-branch w ↦
+          let next = w.take.new.reached in
+          let goes : GoesOn basis asked (λ x. x ≡ o) mid next (Ok false) = subst (λ (b : Bool). GoesOn basis asked (λ x. x ≡ o) mid next (Ok b)) w.if-branch.false w.in_ok-take.ensures in
+          subst (λ (r : PlainReached). record {
+            search : IsSearch basis asked r;
+            extends : Extends old r;
+            passed : (k : ℕ) (d : Order) → k < i + 1 → IsWay basis asked (get_or items k d) → IsPassed basis asked r.points (get_or items k d);
+          }) (sym w.reached-is) (record {
+            search = goes.0;
+            extends = extends_then old mid next was.extends goes.1;
+            passed = passed_one basis asked c.requires.ready c.requires.asked items i no_order mid next c.loop-order-test.true goes.1 was.passed goes.2;
+          })
+      | else-remains-via-else-remains w ↦
+          subst (λ (r : PlainReached). record {
+            search : IsSearch basis asked r;
+            extends : Extends old r;
+            passed : (k : ℕ) (d : Order) → k < i + 1 → IsWay basis asked (get_or items k d) → IsPassed basis asked r.points (get_or items k d);
+          }) (sym w.reached-is) (record {
+            search = was.search;
+            extends = was.extends;
+            passed = passed_one basis asked c.requires.ready c.requires.asked items i no_order mid mid c.loop-order-test.true (extends_none mid) was.passed (λ x way same.
+                absurd (let stays : remains basis asked o ≡ true = subst (λ (y : Order). remains basis asked y ≡ true) same way.1 in let goes : false ≡ remains basis asked o = w.if-remains.ensures in let both : false ≡ true = goes ∙ stays in cc));
+          })
+    ]
+
+pub returns : goal.returns
+returns c =
+    let basis = basis_of c.args.self.now in
+    let items = c.of_point-order-items.result.now in
+    let was = c.loop-order.invariant in (
+      was.search,
+      was.extends,
+      λ o way from.
+          let (k, lt, e) = (at_end c.args.self.now.net.now c.args.self.now.graph.now c.requires.ready.graph From c.of_point-order-items.result.now c.point-point.result c.of_point-order-items.ensures o).1 (way.0, from ∙ sym c.point-point.ensures.point) in
+          subst (IsPassed basis c.args.asked c.loop-order.reached.points) e (was.passed k o (omega (arith, lt, c.loop-order-test.false)) (subst (IsWay basis c.args.asked) (sym e) way)),
+    )
