@@ -1,7 +1,7 @@
 // Runs the script of a page of `tml-corpus timeline` over rows that stand for those of a browser: node page.js PAGE WORD ..
 // Each word is what is done to a row, as focus:3, pointermove:0, click:2 or, a key, Enter:1; or to what is above the rows, as
-// click:order, search:WORD or Enter:search. What the panel has then is printed as JSON; see:drawn, see:shifts and see:dim print
-// the names of the links that are drawn, how far rows were moved, and which rows were not found.
+// click:order, search:WORD or Enter:search. What the panel has then is printed as JSON; see:drawn, see:sequence and see:dim print
+// the names of the links that are drawn, the order of the rows, and which rows were not found.
 "use strict";
 const page = require("fs").readFileSync(process.argv[2], "utf8");
 const NAMES = { lt: "<", gt: ">", quot: '"', "#x27": "'", amp: "&" };
@@ -25,7 +25,8 @@ class Element {
   focus() { this.handlers.focus(); }
   setAttribute(name, value) { this.values[name] = value; }
   getAttribute(name) { return this.values[name] ?? null; }
-  append(...children) { this.children.push(...children); }
+  append(...children) { this.children = this.children.filter((one) => !children.includes(one)).concat(children); }
+  getBoundingClientRect() { return { left: 0, top: 0 }; }
   remove() {}
   scrollIntoView() {}
   replaceChildren(...children) { this.children = children; }
@@ -36,27 +37,30 @@ const part = (row, name) => {
   const found = row.match(new RegExp(`<rect class="${name}"[^>]*>`));
   return found && new Element("", values(found[0]));
 };
-const rows = [...page.matchAll(/<g class="row [^"]*"><title>([^]*?)<\/title>([^]*?)<\/g>/g)].map(([, title, row]) => {
-  const parts = { title: new Element(plain(title)), ".bar": part(row, "bar"), ".back": part(row, "back") };
-  const texts = [...row.matchAll(/<text[^>]*>([^]*?)<\/text>/g)].map((found) => new Element(plain(found[1].replace(/<[^>]*>/g, ""))));
-  return Object.assign(new Element(), { querySelector: (name) => parts[name], querySelectorAll: () => texts });
+const group = new Element();
+const rows = [...page.matchAll(/<div class="row [^"]*" id="row\d+">([^]*?)<\/svg><\/div>/g)].map(([, row]) => {
+  const title = new Element(plain(row.match(/<title>([^]*?)<\/title>/)[1]));
+  const parts = { title, ".bar": part(row, "bar"), ".bars": new Element() };
+  const texts = [...row.matchAll(/<span[^>]*>([^]*?)<\/span>/g)].map((found) => new Element(plain(found[1].replace(/<[^>]*>/g, ""))));
+  return Object.assign(new Element(), { parentNode: group, querySelector: (name) => parts[name], querySelectorAll: () => texts });
 });
+group.append(...rows);
 const others = { links: new Element(), search: new Element(), order: new Element(), count: new Element(), tools: new Element() };
-const svg = new Element();
+const inner = new Element();
 const data = (name) => new Element(page.match(new RegExp(`id="${name}">(.*?)</script>`))[1]);
 const script = page.match(/<script>([^]*?)<\/script>/)[1];
 new Function("document", script)({
   getElementById: (name) => others[name] || data(name),
-  querySelector: () => svg,
+  querySelector: () => inner,
   querySelectorAll: () => rows,
   createElement: () => new Element(),
   createElementNS: () => new Element(),
 });
-const drawn = () => svg.children[1].children.filter((one) => one.getAttribute("class") === "relation").map((one) => one.textContent);
+const drawn = () => inner.children[0].children[1].children.filter((one) => one.getAttribute("class") === "relation").map((one) => one.textContent);
 const seen = {
   links: () => others.links.children.map((line) => line.textContent),
   drawn,
-  shifts: () => rows.map((row) => row.getAttribute("transform")),
+  sequence: () => group.children.map((row) => rows.indexOf(row)),
   dim: () => rows.map((row) => row.names.has("dim")),
 };
 const act = (kind, place) => {

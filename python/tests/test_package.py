@@ -43,7 +43,8 @@ def expected_names() -> set[str]:
     names |= {f"usr/share/man/man1/{name}.1.gz" for name in ("tml", "tml-verify", "tml-tools", *SCRIPTS)}
     names |= {f"{DOCS}/{name}" for name in ("README.md", "CHANGELOG.md", "changelog.gz", "copyright")}
     names |= {f"{DOCS}/docs/{name}" for name in files_in("docs", ".md")}
-    return names | {f"{DOCS}/samples/{name}" for name in files_in("samples")}
+    folders = ("samples", "samples/first", "samples/second")
+    return names | {f"{DOCS}/{folder}/{name}" for folder in folders for name in files_in(folder)}
 
 
 @unittest.skipUnless(os.access(TML, os.X_OK), f"no program {TML}: build it as README.md says, or name one by TML=PROGRAM")

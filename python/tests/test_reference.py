@@ -8,6 +8,7 @@ import re
 import subprocess
 import unittest
 from collections.abc import Callable, Iterable, Iterator, Mapping, Sequence
+from pathlib import Path
 
 from corpus import EVENT, INSTANCE, TML, TOP, CorpusTest, document, needs_matrix, needs_score, of_type, text_at
 from reference import Free, Outcome, expected, judge, judge_failing
@@ -29,7 +30,8 @@ COMMANDS = ("spans", "check", "dates", "solve", "relations", "canon")
 
 def samples() -> dict[bytes, bytes]:
     """The files that the pages speak of: the samples, and what the tour makes of one of them."""
-    files = {f"samples/{name}".encode(): text_at(f"samples/{name}").encode() for name in os.listdir(os.path.join(TOP, "samples"))}
+    paths = [path for path in Path(TOP, "samples").rglob("*") if path.is_file()]
+    files = {path.relative_to(TOP).as_posix().encode(): path.read_bytes() for path in paths}
     lines = text_at("samples/port.xml").splitlines(keepends=True)
     mended = "".join(line.replace("DURING", "AFTER") if 'lid="l6"' in line else line for line in lines)
     return {**files, b"mended.xml": mended.encode()}

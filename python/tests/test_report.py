@@ -298,14 +298,16 @@ class InABrowser(ReportTest):
             browser.value("document.querySelector('#bar0').focus()")
             browser.press("ArrowDown", 40)
             self.assertEqual(
-                browser.value("document.activeElement.id + ' ' + document.activeElement.getAttribute('class')"), "bar1 leading on"
+                browser.value("document.activeElement.id + ' ' + document.activeElement.getAttribute('class')"), "bar1 leading row event on"
             )
             reached = set()
             browser.value("document.activeElement.blur()")
             for _ in range(40):
                 browser.press("Tab", 9)
                 reached.add(browser.value("document.activeElement.id || document.activeElement.textContent"))
-            self.assertLessEqual({"bar0", "bar3", "word0", "word3", "Draw all links", "draw"}, reached)
+            self.assertLessEqual({"word0", "Draw all links", "draw"}, reached)
+            for group in ("bar", "word"):
+                self.assertEqual(len([one for one in reached if one.startswith(group)]), 1, "one of a group is a stop of the tabulator")
             self.assertEqual(browser.said, [])
 
     def test_a_clash_is_walked_through(self) -> None:
@@ -392,7 +394,7 @@ class Parts(unittest.TestCase):
         self.assertIn("Report on 0 documents", index_of([], 0))
 
     def test_readable_texts(self) -> None:
-        from tml_corpus.pages.text import readable
+        from tml.markup import harmless
 
         rows = [
             ("a\r\nb\rc\td", "a\nb\nc d"),
@@ -403,7 +405,7 @@ class Parts(unittest.TestCase):
         ]
         for text, shown in rows:
             with self.subTest(text):
-                self.assertEqual(readable(text), shown)
+                self.assertEqual(harmless(text), shown)
 
 
 class Walks(unittest.TestCase):

@@ -218,7 +218,7 @@ class Strangers(TimelineTest):
             self.assertEqual((parsed.open, parsed.wrong), ([], []))
             self.assertEqual(parsed.names.count("script"), 5)
             self.assertEqual([tag.tag for tag in root], [XHTML + "head", XHTML + "body"])
-            self.assertEqual(len(list(root.iter(SVG + "svg"))), 1)
+            self.assertEqual(len([one for one in root.iter(SVG + "svg") if one.get("class") == "bars"]), len(self.titles(page)))
             for name in ("src", "href"):
                 self.assertFalse([tag for tag in root.iter() if tag.get(name)])
             self.assertIn("default-src 'none'", page)
@@ -229,7 +229,7 @@ class Strangers(TimelineTest):
         page = self.drawn(document(event(1) + event(2) + event(3) + links), "d.html")
         [partners] = re.findall(r'<script type="application/json" id="partners">(.*?)</script>', page)
         rows = [title.split(" ")[1] for title in self.titles(page)]
-        self.assertEqual((rows, partners), (["(i3):", "(i1):", "(i2):"], "[[1], [0, 2], [1]]"))
+        self.assertEqual((rows, partners), (["(i3):", "(i1):", "(i2):"], "[[1],[0,2],[1]]"))
 
     def test_long_texts_are_cut(self) -> None:
         for text in ("word " * 50, "W" * 300, "日" * 300, "e\u0301" * 300):
@@ -367,7 +367,7 @@ class NotDrawn(TimelineTest):
             (["d.xml", "-o", "same.svg"], "d.xml: not judged: the picture would be written over it"),
             (["d.xml", "-o", "gone/a.svg"], "tml-corpus: gone/a.svg cannot be written: no such file or directory"),
             (["d.xml", "-o", "dir.svg"], "tml-corpus: dir.svg cannot be written: is a directory"),
-            (["d.xml", "-o", "a.png"], "a.png ends neither in .svg nor in .html"),
+            (["d.xml", "-o", "a.png"], "a.png ends in none of .svg, .html, .pdf and .tex"),
             (["d.xml"], "required: -o/--output"),
         ]
         for words, printed in rows:

@@ -99,7 +99,7 @@ class Known(test_timeline.TimelineTest):
         picture = self.drawn(document("".join(map(event, range(1, 6))) + links))
         groups = self.groups(picture)
         counts = {name: sum(path.get("class") == "span" for path in group.iter(SVG + "path")) for name, group in groups.items()}
-        self.assertEqual(counts, {"i1": 0, "i2": 0, "i3": 0, "i4": 2, "i5": 2})
+        self.assertEqual(counts, {"i1": 0, "i2": 0, "i3": 0, "i4": 1, "i5": 1})
         told = next(title for title in self.titles(picture) if "(i4)" in title.split("\n")[0])
         self.assertIn("\nstart at rank 2, up to 4 within these ranks, elsewhere up to ", told)
         cores = [rect for rect in groups["i5"].iter(SVG + "rect") if rect.get("class") == "bar core"]
@@ -132,9 +132,8 @@ class Known(test_timeline.TimelineTest):
     def test_links_search_and_order_of_a_page(self) -> None:
         content = document(event(3, "fell") + ". " + event(1, "rose") + event(4) + event(2) + link(1, "BEFORE", 2) + link(2, "BEFORE", 3))
         self.assertEqual(self.shown(content, "focus:1", "see:drawn")[1], ["BEFORE", "BEFORE"])
-        moved = self.shown(content, "click:order", "see:shifts", "click:order", "see:shifts")
-        self.assertEqual(moved[1], ["translate(0 22)", "translate(0 22)", "translate(0 -44)", "translate(0 0)"])
-        self.assertEqual(set(moved[3]), {"translate(0 0)"})
+        moved = self.shown(content, "click:order", "see:sequence", "click:order", "see:sequence")
+        self.assertEqual((moved[1], moved[3]), ([2, 0, 1, 3], [0, 1, 2, 3]))
         found = self.shown(content, "search:FELL", "see:dim", "Enter:search", "search:", "see:dim")
         self.assertEqual((found[1], found[4]), ([True, True, False, True], [False] * 4))
         self.assertTrue(found[2][0].startswith("fell (i3): event"))

@@ -9,7 +9,7 @@ import re
 import tempfile
 from collections.abc import Iterator
 from dataclasses import dataclass
-from datetime import datetime, timezone
+from datetime import datetime, timedelta, timezone
 from email.utils import format_datetime
 
 from building.linking import CannotMake, run
@@ -73,12 +73,14 @@ def libc_of(program: bytes) -> str:
 
 
 def releases_of(text: str) -> list[Release]:
-    """The versions of CHANGELOG.md, the last one first."""
+    """The versions of CHANGELOG.md, the last one first. Of a day with several each is a minute after the one before it."""
     headings = re.findall(r"^## (.*)$", text, re.MULTILINE)
     found = [re.fullmatch(r"(\d+\.\d+\.\d+), (\d{4}-\d\d-\d\d)", heading) for heading in headings]
     if not found or None in found:
         raise CannotMake("CHANGELOG.md has a heading that is not `## VERSION, DATE`, or none")
-    return [Release(one[1], datetime.fromisoformat(one[2]).replace(tzinfo=timezone.utc)) for one in found if one]
+    days = [(one[1], datetime.fromisoformat(one[2]).replace(tzinfo=timezone.utc)) for one in found if one]
+    earlier = [sum(day == other for _, other in days[place + 1 :]) for place, (_, day) in enumerate(days)]
+    return [Release(version, day + timedelta(minutes=minutes)) for (version, day), minutes in zip(days, earlier, strict=True)]
 
 
 def change(package: str, release: Release, maintainer: str) -> str:

@@ -214,7 +214,8 @@ def manual_files() -> Tree:
 
 def document_files(releases: list[Release], maintainer: str) -> Tree:
     """The documentation, in folders as in the repository, so that its links lead somewhere."""
-    names = ["README.md", "CHANGELOG.md", *names_in("docs", ".md"), *names_in("samples")]
+    names = ["README.md", "CHANGELOG.md", *names_in("docs", ".md")]
+    names += [name for folder in ("samples", "samples/first", "samples/second") for name in names_in(folder)]
     tree: Tree = {f"{DOCS}/{name}": File(read(name)) for name in names}
     return {**tree, **notices(NAME, releases, maintainer)}
 

@@ -10,7 +10,7 @@ from ..check.judging import judge_document
 from ..command_line.statuses import Status
 from ..files.finding import Found, shown
 from . import formats
-from .report import Wanted
+from .report import PlacedClash, Wanted
 from .search import report_of
 from .touching import touching_copy
 
@@ -30,6 +30,11 @@ class Unfit:
 
     text: str
     status: int
+    clash: PlacedClash | None = None
+    """The first of its clashes, where there are such."""
+
+    document: bytes = b""
+    """The document that has this clash."""
 
 
 def fitting(program: Program, path: str, document: bytes, undone: str, touching: bool) -> Fitting | Unfit:
@@ -60,7 +65,8 @@ def links_of(program: Program, path: str, document: bytes, undone: str, touching
     report = report_of(program, Found(path), document, Wanted(touching=touching), reply)
     text = formats.Text(True).file(report)
     if report.clashes:
-        return Unfit(f"{text}{shown(path)}: not {undone}: no timeline fits, since these links clash\n", Status.FINDING)
+        said = f"{text}{shown(path)}: not {undone}: no timeline fits, since these links clash\n"
+        return Unfit(said, Status.FINDING, report.clashes[0], document)
     again = fitting(program, path, touching_copy(program, document), undone, False)
     return replace(again, text=text + again.text)
 

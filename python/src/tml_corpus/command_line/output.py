@@ -8,6 +8,7 @@ from __future__ import annotations
 
 import io
 import os
+import re
 import select
 import sys
 from argparse import ArgumentParser, HelpFormatter, RawDescriptionHelpFormatter
@@ -24,6 +25,8 @@ from .statuses import Status
 INPUT, OUTPUT, ERROR = range(3)
 USUAL = 80
 """How many characters are a line where it is not known how wide the terminal is."""
+
+TOOL = re.compile(r"\btools/[a-z0-9-]+")
 
 CLOSED: set[int] = set()
 """The streams that were closed when the program began."""
@@ -95,6 +98,16 @@ class Parser(ArgumentParser):
     def error(self, message: str) -> NoReturn:
         """Says what is wrong, and ends the program."""
         super().error(shown(message))
+
+    def format_help(self) -> str:
+        """The help, whose examples name the program as it was called."""
+        return as_called(super().format_help(), sys.argv[0])
+
+
+def as_called(text: str, program: str) -> str:
+    """A text that names the file of a program in tools/ of this repository: by the name of the command, where that was called."""
+    folder, name = os.path.split(program)
+    return text if os.path.basename(os.path.abspath(folder)) == "tools" else TOOL.sub(lambda _: name, text)
 
 
 class ProgramParser(Parser):

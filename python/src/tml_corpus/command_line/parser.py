@@ -81,14 +81,24 @@ def timeline_words(words: Parser) -> None:
         "Draws the least timeline of a document, once tml verify has accepted it. If links clash it names them, and if the document "
         "has a fault it names that; the status is then 1, and no file is written."
     )
-    words.epilog = "Example: tools/tml-corpus timeline samples/rates.xml -o rates.html"
+    words.formatter_class = RawFormatter
+    words.epilog = (
+        "Example: tools/tml-corpus timeline samples/rates.xml -o rates.html\n"
+        "         tools/tml-corpus timeline --bare --width 84mm samples/rates.xml -o rates.pdf"
+    )
     document_words(words)
-    picture = "the picture: FILE.svg, or FILE.html with the links of each row"
+    picture = "the picture: FILE.svg, or FILE.html with the links of each row; with --bare .svg, .pdf or .tex; - is SVG on standard output"
     words.add_argument("-o", "--output", type=picture_name, required=True, metavar="FILE", help=picture)
     touching_words(words)
     words.add_argument("--seconds", action="store_true", help="draw a placing in whole seconds, true to scale, as tml seconds has it")
     words.add_argument("--asserted", action="store_true", help="leave out the events that the document does not assert, and their links")
     words.add_argument("--text-order", action="store_true", help="order the rows as in the text")
+    bare = "draw a small picture for a paper: bars in lanes, and the links that do not follow from others; of links that clash a ring"
+    words.add_argument("--bare", action="store_true", help=bare)
+    words.add_argument("--width", type=figure_width, metavar="WIDTH", help="the width of such a picture, as 84mm or 3.3in (84mm)")
+    words.add_argument("--rows", metavar="NAMES", help="draw these intervals alone, as ei1,ei2,t1")
+    without = "leave out the words around events"
+    words.add_argument("--no-context", action="store_false", dest="context", help=without)
     shared_words(words)
 
 
@@ -254,6 +264,16 @@ def number_from_zero(text: str) -> int:
     if number < 0:
         raise ValueError(text)
     return number
+
+
+def figure_width(text: str) -> float:
+    """A width of a picture for a paper."""
+    from ..figure.draw import width_of
+
+    try:
+        return width_of(text)
+    except ValueError as problem:
+        raise argparse.ArgumentTypeError(shown(str(problem))) from None
 
 
 def picture_name(text: str) -> str:

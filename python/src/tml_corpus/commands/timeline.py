@@ -5,8 +5,13 @@ from __future__ import annotations
 import sys
 from typing import NamedTuple
 
+from ..asking.program import CannotRun
 from ..command_line.run import Run
-from ..timeline.timeline import Choices, draw, draw_placing, write_picture
+from ..figure.draw import Paper
+from ..timeline.timeline import STANDARD_OUTPUT, Choices, draw, draw_placing, form_of, write_picture
+
+COLUMN = "84mm"
+"""How broad a picture for a paper is, unless another width is asked for: a column of a page with two of them."""
 
 
 class Options(NamedTuple):
@@ -18,13 +23,36 @@ class Options(NamedTuple):
     seconds: bool
     asserted: bool
     text_order: bool
+    bare: bool
+    width: float | None
+    rows: str | None
+    context: bool
 
 
 def command(run: Run, options: Options) -> int:
     """Draws the timeline of a document, and answers the status."""
-    choices = Choices(options.touching, options.asserted, options.text_order)
+    rows = tuple(name for name in (options.rows or "").split(",") if name)
+    choices = Choices(options.touching, options.asserted, options.text_order, rows, options.context, paper_of(options))
     drawn = (draw_placing if options.seconds else draw)(run.program, options.document, options.output, choices)
     if drawn.picture is not None and not run.is_interrupted():
         write_picture(options.output, drawn.picture)
-    sys.stdout.write(drawn.text)
+    (sys.stderr if options.output == STANDARD_OUTPUT else sys.stdout).write(drawn.text)
     return drawn.status
+
+
+def paper_of(options: Options) -> Paper | None:
+    """How a picture for a paper is wanted, where it is; what does not go together is refused."""
+    from ..figure.draw import FORMS, width_of
+
+    form = form_of(options.output)
+    if not options.bare:
+        if options.width is not None:
+            raise CannotRun("--width goes with --bare")
+        if form in (".pdf", ".tex"):
+            raise CannotRun(f"a picture in {form} is one for a paper: add --bare")
+        return None
+    if form not in FORMS:
+        raise CannotRun("--bare draws .svg, .pdf or .tex")
+    if options.seconds or options.text_order:
+        raise CannotRun("--bare goes neither with --seconds nor with --text-order")
+    return Paper(form, options.width if options.width is not None else width_of(COLUMN))

@@ -11,12 +11,13 @@ import os
 import unicodedata
 from collections.abc import Callable, Iterator, Mapping, Sequence
 
+from tml.markup import DOCTYPE, Markup, element, lined, raw, tags
 from tml.matrices import Matrix, Relations
 from tml.statuses import BASE_RELATIONS
 
 from ..document.words import Wording
 from ..files.finding import counted, shown
-from ..timeline.lettering import escaped, plain
+from ..timeline.lettering import plain
 
 SYMBOLS = dict(zip(BASE_RELATIONS, ("<", ">", "di", "d", "=", "m", "mi", "s", "si", "f", "fi", "o", "oi"), strict=True))
 """The signs that Allen gave the relations in 1983."""
@@ -37,25 +38,10 @@ td{color:#111;background:#fff2cc}.one{background:#fff}.any{background:#fbe3d0}.s
 
 POLICY = "default-src 'none'; style-src 'unsafe-inline'"
 
-HEAD = """<!DOCTYPE html>
-<html xmlns="http://www.w3.org/1999/xhtml" lang="en">
-<head>
-<meta charset="utf-8"/>
-<meta http-equiv="Content-Security-Policy" content="{policy}"/>
-<title>{title}</title>
-<style>{style}</style>
-</head>
-<body>
-<h1>{title}</h1>
-<p>What the interval of a row can be to that of a column, by the links and dates: one relation, which then follows; several, by their
-signs; or any. {signs}.</p>
-<main tabindex="0" aria-label="Table">
-<table>
-<thead>
-<tr><td class="self"></td>{columns}</tr>
-</thead>
-<tbody>
-"""
+EXPLAINED = (
+    "What the interval of a row can be to that of a column, by the links and dates: one relation, which then follows; several, by their "
+    "signs; or any."
+)
 
 
 def labels_of(wording: Wording) -> list[str]:
@@ -106,25 +92,49 @@ def harmless(words: str) -> str:
 
 def table(path: str, wording: Wording, matrix: Matrix) -> Iterator[str]:
     """A page with one row and one column for each interval. It loads nothing and has no scripts."""
-    labels = [escaped(label) for label in labels_of(wording)]
-    signs = ", ".join(f"{escaped(sign)} is {relation}" for relation, sign in SYMBOLS.items())
-    columns = "".join(f'<th scope="col">{label}</th>' for label in labels)
-    heading = escaped(plain(f"Relations of {os.path.basename(path)}"))
-    yield HEAD.format(policy=POLICY, title=heading, style=STYLE, signs=signs, columns=columns)
-    made: dict[Relations, str] = {}
+    labels = labels_of(wording)
+    whole = page(plain(f"Relations of {os.path.basename(path)}"), labels)
+    yield DOCTYPE
+    yield from (opening.text for opening, _ in whole)
+    itself = element("td", class_="self")
+    made: dict[Relations, Markup] = {}
     for place, label in enumerate(labels):
-        before = "".join(cell(matrix.between(place, other), made) for other in range(place))
-        after = "".join(cell(matrix.between(place, other), made) for other in range(place + 1, len(labels)))
-        yield f'<tr><th scope="row">{label}</th>{before}<td class="self"></td>{after}</tr>\n'
-    yield "</tbody>\n</table>\n</main>\n</body>\n</html>\n"
+        before = [cell(matrix.between(place, other), made) for other in range(place)]
+        after = [cell(matrix.between(place, other), made) for other in range(place + 1, len(labels))]
+        yield lined(element("tr", element("th", label, scope="row"), before, itself, after)).text
+    yield from (f"{closing.text}\n" for _, closing in reversed(whole))
 
 
-def cell(relations: Relations, made: dict[Relations, str]) -> str:
+def page(title: str, labels: Sequence[str]) -> list[tuple[Markup, Markup]]:
+    """What stands before the rows of a page and after them, from the outside in."""
+    head = lined(
+        element("meta", charset="utf-8"),
+        element("meta", http_equiv="Content-Security-Policy", content=POLICY),
+        element("title", title),
+        raw("style", STYLE),
+    )
+    signs = ", ".join(f"{sign} is {relation}" for relation, sign in SYMBOLS.items())
+    columns = element("tr", element("td", class_="self"), *(element("th", label, scope="col") for label in labels))
+    return [
+        parts("html", element("head", "\n", head), xmlns="http://www.w3.org/1999/xhtml", lang="en"),
+        parts("body", element("h1", title), element("p", f"{EXPLAINED} {signs}.")),
+        parts("main", tabindex="0", aria_label="Table"),
+        parts("table", element("thead", "\n", lined(columns))),
+        parts("tbody"),
+    ]
+
+
+def parts(name: str, *content: Markup, **attributes: str) -> tuple[Markup, Markup]:
+    """The two tags of an element, the first with what comes after it."""
+    opening, closing = tags(name, **attributes)
+    return lined(opening, *content), closing
+
+
+def cell(relations: Relations, made: dict[Relations, Markup]) -> Markup:
     """The cell of two intervals, which is made once for each set of relations."""
     if relations not in made:
-        kind = {1: ' class="one"', len(BASE_RELATIONS): ' class="any"'}.get(len(relations), "")
-        words = in_words(relations) if kind else " ".join(map(SYMBOLS.__getitem__, relations))
-        made[relations] = f"<td{kind}>{escaped(words)}</td>"
+        kind = {1: "one", len(BASE_RELATIONS): "any"}.get(len(relations))
+        made[relations] = element("td", in_words(relations) if kind else " ".join(map(SYMBOLS.__getitem__, relations)), class_=kind)
     return made[relations]
 
 

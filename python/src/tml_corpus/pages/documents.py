@@ -29,6 +29,9 @@ class Counts:
     intervals: int
     links: int
     free_dates: int
+    relations: Counter[str] = field(default_factory=Counter)
+    """Of each relation how many links have it."""
+
     pairs: int | None = None
     decided: int | None = None
 
@@ -99,7 +102,8 @@ def touching_timeline(program: Program, path: str, document: bytes) -> Timeline:
 
 def with_counts(report: ClashReport, wording: Wording) -> Examined:
     """An accepted document with what can be counted without a timeline."""
-    return Examined(report, wording, Counts(len(wording.intervals), len(wording.link_tags), len(free_dates(wording))))
+    relations = Counter(relation for _, relation, _ in wording.source.links)
+    return Examined(report, wording, Counts(len(wording.intervals), len(wording.link_tags), len(free_dates(wording)), relations))
 
 
 def with_timeline(examined: Examined, timeline: Timeline) -> Examined:

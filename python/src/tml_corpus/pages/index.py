@@ -2,12 +2,17 @@
 
 from __future__ import annotations
 
+import re
 from collections import Counter
-from collections.abc import Iterable, Sequence
+from collections.abc import Callable, Sequence
 
+from tml.markup import NOTHING, Markup, element, lined
+
+from ..clash.report import TOUCHING
 from ..files.finding import counted
+from ..timeline.lettering import plain
 from .documents import Entry
-from .page import END, head, isolated, said
+from .frame import coded, framed, isolated
 
 WITHOUT_PLACE = "dates without a calendar place"
 
@@ -27,6 +32,14 @@ COLUMNS = (
 )
 """The columns, and how they are sorted."""
 
+LONGEST = 120
+"""So long is the bar of the greatest of some counts."""
+
+SHAPES = {"accepted": "good", "clash": "clash", "fault": "fault", TOUCHING: "touch"}
+"""The verdicts with a shape of their own; the others share one."""
+
+FOLDERS = re.compile("(?<=[/_-])")
+
 EXPLAINED = (
     "Each verdict is one of tml. A clash is a set of links that cannot all be true. Dates that touch leave no gap where a link "
     "between them asks for one. Dates include times of day. A pair is decided when only one relation is possible."
@@ -34,25 +47,29 @@ EXPLAINED = (
 
 
 def index_of(entries: Sequence[Entry], expected: int) -> str:
-    """The whole page. Where not all documents were looked at it says so."""
+    """The whole page, as a file. Where not all documents were looked at it says so."""
     title = f"Report on {counted(len(entries), 'document')}"
-    missing = (
-        f"<p><strong>Interrupted: {len(entries)} of {counted(expected, 'document')} were looked at.</strong></p>\n"
-        if len(entries) < expected
-        else ""
+    missing = f"Interrupted: {len(entries):,} of {counted(expected, 'document')} were looked at."
+    heads = element("tr", *(element("th", name, scope="col", data_kind=kind) for name, kind in COLUMNS))
+    table = element(
+        "table",
+        "\n",
+        lined(element("thead", "\n", lined(heads)), element("tbody", "\n", lined(*map(row_of, entries)))),
+        id="documents",
     )
-    rows = "".join(map(row_of, entries))
-    heads = "".join(f'<th scope="col" data-kind="{kind}">{name}</th>' for name, kind in COLUMNS)
-    return (
-        f"{head(title, 'index.js')}<h1>{title}</h1>\n{missing}{totals(entries)}<p class=\"explained\">{EXPLAINED}</p>\n"
-        '<div id="search"></div>\n'
-        f'<div class="wide" tabindex="0" role="region" aria-label="Documents">\n<table '
-        f'id="documents">\n<thead>\n<tr>{heads}</tr>\n</thead>\n'
-        f"<tbody>\n{rows}</tbody>\n</table>\n</div>\n{END}"
+    return framed(
+        title,
+        "index.js",
+        element("h1", title),
+        element("p", element("strong", missing)) if len(entries) < expected else NOTHING,
+        totals(entries),
+        element("p", EXPLAINED, class_="explained"),
+        element("div", id="search"),
+        element("div", "\n", lined(table), class_="wide", tabindex="0", role="region", aria_label="Documents"),
     )
 
 
-def totals(entries: Sequence[Entry]) -> str:
+def totals(entries: Sequence[Entry]) -> Markup:
     """What became of the documents, the kinds of faults and warnings, and the sums."""
     counts = [entry.counts for entry in entries if entry.counts is not None]
     pairs, decided = (sum(getattr(one, name) or 0 for one in counts) for name in ("pairs", "decided"))
@@ -62,33 +79,61 @@ def totals(entries: Sequence[Entry]) -> str:
     sums[WITHOUT_PLACE] = sum(one.free_dates for one in counts)
     sums["pairs of intervals"], sums["decided pairs"] = pairs, decided
     faults = Counter(entry.said for entry in entries if entry.verdict == "fault")
-    warnings: Counter[str] = Counter()
+    warnings, relations = Counter[str](), Counter[str]()
     for entry in entries:
         warnings.update(entry.warnings)
+        relations.update(entry.counts.relations if entry.counts is not None else ())
     tables = [
-        listed("Verdicts", Counter(entry.verdict for entry in entries).most_common()),
+        listed("Verdicts", Counter(entry.verdict for entry in entries).most_common(), verdict),
         listed("Faults, by the first one of each document", sorted(faults.items(), key=lambda item: int(item[0].split(" ")[0]))),
+        listed("Relations of links", relations.most_common(), is_searched=False),
         listed("Warnings", warnings.most_common()),
-        listed("Sums", list(sums.items())),
+        listed("Sums", list(sums.items()), is_searched=False, is_drawn=False),
     ]
-    return f'<div class="totals">\n{"".join(tables)}</div>\n'
+    return element("div", "\n", lined(*tables), class_="totals")
 
 
-def listed(title: str, counts: Iterable[tuple[str, int]]) -> str:
-    """A small table of counts; nothing where there are none."""
-    rows = "".join(
-        f'<tr><th scope="row" data-search="{said(name)}">{said(name)}</th><td class="number">{count}</td></tr>\n' for name, count in counts
-    )
-    return f"<table>\n<caption>{title}</caption>\n<tbody>\n{rows}</tbody>\n</table>\n" if rows else ""
+def listed(
+    title: str,
+    counts: Sequence[tuple[str, int]],
+    shown: Callable[[str], Markup] = isolated,
+    *,
+    is_searched: bool = True,
+    is_drawn: bool = True,
+) -> Markup:
+    """A small table of counts, with a bar for each as long as it is great; nothing where there are none."""
+    most = max((count for _, count in counts), default=0)
+    rows = []
+    for name, count in counts:
+        heading = element("th", shown(name), scope="row", data_search=plain(name) if is_searched else None)
+        bar = element("td", drawn(count, most), class_="drawn") if is_drawn else NOTHING
+        rows.append(element("tr", heading, number_cell(count), bar))
+    return element("table", "\n", lined(element("caption", title), element("tbody", "\n", lined(*rows)))) if rows else NOTHING
 
 
-def row_of(entry: Entry) -> str:
+def drawn(count: int, most: int) -> Markup:
+    """The bar of a count: of something there is always something to be seen."""
+    bar = element("rect", width=float(max(LONGEST * count / most, 1)), height=10) if count else NOTHING
+    return element("svg", bar, width=LONGEST, height=10, aria_hidden="true")
+
+
+def verdict(name: str) -> Markup:
+    """A verdict, which has a shape and a colour of its own."""
+    return element("span", plain(name), class_=f"verdict {SHAPES.get(name, 'unknown')}")
+
+
+def row_of(entry: Entry) -> Markup:
     """The line of a document. It can be searched for the kinds of its warnings too."""
-    name = f'<a href="documents/{said(entry.page)}">{isolated(entry.path)}</a>' if entry.page else isolated(entry.path)
-    cells = [f"<td>{said(entry.verdict)}</td>", f"<td>{isolated(entry.said)}</td>" if entry.said else "<td></td>"]
-    cells += [number_cell(count) for count in numbers_of(entry)]
-    kinds = said(" ".join(sorted(entry.warnings)))
-    return f'<tr data-kinds="{kinds}"><th scope="row">{name}</th>{"".join(cells)}</tr>\n'
+    path = breakable(entry.path)
+    name = element("a", path, href=f"documents/{entry.page}") if entry.page else path
+    cells = [element("td", verdict(entry.verdict)), element("td", coded(entry.said) if entry.said else None)]
+    cells += map(number_cell, numbers_of(entry))
+    return element("tr", element("th", name, scope="row"), *cells, data_kinds=" ".join(sorted(entry.warnings)))
+
+
+def breakable(path: str) -> Markup:
+    """A path, in which a line may end after each folder."""
+    return element("bdi", [(element("wbr"), part) if place else part for place, part in enumerate(FOLDERS.split(plain(path)))])
 
 
 def numbers_of(entry: Entry) -> list[int | None]:
@@ -102,6 +147,6 @@ def numbers_of(entry: Entry) -> list[int | None]:
     return [*shared, counts.pairs, counts.decided, 100 * counts.decided // counts.pairs if counts.pairs else None]
 
 
-def number_cell(number: int | None) -> str:
+def number_cell(number: int | None) -> Markup:
     """A cell with a number, or an empty one."""
-    return f'<td class="number">{"" if number is None else number}</td>'
+    return element("td", None if number is None else f"{number:,}", class_="number")

@@ -1,13 +1,11 @@
-"""The page of one document in a report: its text beside its timeline, its links, its clashes step by step, faults and warnings.
-
-All names and texts come from strangers. They are escaped, and what could turn a line around or act on a terminal is taken out.
-"""
+"""The page of one document in a report: its text beside its timeline, its links, its clashes step by step, faults and warnings."""
 
 from __future__ import annotations
 
 import os
 from collections.abc import Iterable, Iterator
 
+from tml.markup import NOTHING, Markup, Value, element, lined, together
 from tml.places import Place
 
 from ..check.formats import CONSEQUENCE
@@ -15,195 +13,166 @@ from ..check.judgement import Mark, PlacedFault, PlacedWarning
 from ..clash.report import PlacedClash, PlacedLink
 from ..clash.walk_words import WalkStep, steps_in_words
 from ..document.words import Wording
+from ..figure.of_clash import figure_of
+from ..figure.svg_form import drawing
 from ..files.finding import counted
-from ..timeline.lettering import escaped, plain
-from ..timeline.picture import drawing
-from ..timeline.rows import Timeline
+from ..timeline.html_rows import LEFT, explained, in_rows
+from ..timeline.lettering import plain
+from ..timeline.plot import Ranks
+from ..timeline.rows import Row, Timeline
 from .documents import Entry, Examined, entry_of, free_dates
+from .frame import coded, framed, isolated, listed, section
 from .text import Words, marked_text
 
-POLICY = "default-src 'none'; style-src 'self'; script-src 'self'; base-uri 'none'; form-action 'none'"
-"""Styles and scripts of files beside the page alone."""
 
-HEAD = """<!DOCTYPE html>
-<html xmlns="http://www.w3.org/1999/xhtml" lang="en">
-<head>
-<meta charset="utf-8"/>
-<meta http-equiv="Content-Security-Policy" content="{policy}"/>
-<meta name="viewport" content="width=device-width, initial-scale=1"/>
-<title>{title}</title>
-<link rel="stylesheet" href="{top}report.css"/>
-<script src="{top}{script}" defer=""></script>
-</head>
-<body>
-"""
-
-END = "</body>\n</html>\n"
-
-
-def head(title: str, script: str, top: str = "") -> str:
-    """The beginning of a page."""
-    return HEAD.format(policy=POLICY, title=said(title), script=script, top=top)
-
-
-def said(text: str) -> str:
-    """A text as it stands in a page: harmless, on one line, and escaped."""
-    return escaped(plain(text))
-
-
-def isolated(text: str) -> str:
-    """The same, so that its direction matters to nothing around it."""
-    return f"<bdi>{said(text)}</bdi>"
+RING = 240.0
+"""How broad the ring of a clash is, in points."""
 
 
 def page_of(examined: Examined) -> str:
-    """The whole page of a document."""
+    """The whole page of a document, as a file."""
     entry = entry_of(examined, None)
     title = os.path.basename(entry.path) or entry.path
-    parts = [head(title, "document.js", "../"), '<p class="back"><a href="../index.html">All documents</a></p>\n']
-    parts.append(f'<h1>{isolated(title)}</h1>\n<p class="path">{isolated(entry.path)}</p>\n{summary(entry)}')
-    parts += sections(examined)
-    return "".join(parts) + END
+    back = element("p", element("a", "All documents", href="../index.html"), class_="back")
+    heading = [element("h1", isolated(title)), element("p", isolated(entry.path), class_="path"), summary(entry)]
+    return framed(title, "document.js", back, *heading, *sections(examined), top="../")
 
 
-def summary(entry: Entry) -> str:
+def summary(entry: Entry) -> Markup:
     """What became of the document, and its counts, in one paragraph."""
-    words = [f"<strong>{said(entry.verdict)}</strong>" + (f": {isolated(entry.said)}" if entry.said else "")]
+    words: list[Markup | str] = [together(element("strong", entry.verdict), (": ", isolated(entry.said)) if entry.said else None)]
     counts = entry.counts
     if counts is not None:
         words += [counted(counts.intervals, "interval"), counted(counts.links, "link")]
         words.append(f"{counted(counts.free_dates, 'date')} without a calendar place")
     if counts is not None and counts.pairs is not None:
-        words.append(f"{counts.decided} of {counted(counts.pairs, 'pair')} decided")
+        words.append(f"{counts.decided:,} of {counted(counts.pairs, 'pair')} decided")
     words.append(counted(entry.warnings.total(), "warning"))
-    return f'<p class="summary">{", ".join(words)}</p>\n'
+    return element("p", words[0], *((", ", word) for word in words[1:]), class_="summary")
 
 
-def sections(examined: Examined) -> Iterator[str]:
+def sections(examined: Examined) -> Iterator[Markup]:
     """The sections that there are."""
     report, wording = examined.report, examined.wording
     if report.judgement.problem is not None:
-        yield section("faults", "Not judged", f"<p>{isolated(report.judgement.problem)}</p>\n")
-    yield section("faults", "Faults", "".join(map(fault_part, report.judgement.faults)))
+        yield section("faults", "Not judged", element("p", isolated(report.judgement.problem)))
+    yield section("faults", "Faults", *map(fault_part, report.judgement.faults))
     if wording is not None:
         words = Words(wording)
         yield section("touching", "Dates that touch", touching_part(examined))
         yield reading(examined, wording, words)
         yield section("links", "Links", links_part(wording, words, notes_on_links(examined)))
-        free = "".join(f"<li>{isolated(f'{wording.text_of(name)} ({name})')}</li>\n" for name in free_dates(wording))
-        yield section("free", "Dates without a calendar place", free and f"<ul>\n{free}</ul>\n")
-    yield section("warnings", "Warnings", "".join(map(warning_part, report.judgement.warnings)))
+        free = (element("li", isolated(f"{wording.text_of(name)} ({name})")) for name in free_dates(wording))
+        yield section("free", "Dates without a calendar place", listed(*free))
+    yield section("warnings", "Warnings", *map(warning_part, report.judgement.warnings))
 
 
-def section(name: str, title: str, content: str) -> str:
-    """A section with its heading; nothing where it has no content."""
-    return f'<section id="{name}" aria-label="{title}">\n<h2>{title}</h2>\n{content}</section>\n' if content else ""
-
-
-def source_part(lines: Iterable[str]) -> str:
+def source_part(lines: Iterable[str]) -> Markup:
     """Lines of the document as they are written, with a mark below; their columns stay."""
     shown = "\n".join("".join(" " if character.isspace() else character for character in line) for line in lines)
-    return f'<pre dir="ltr">{escaped(shown)}</pre>\n'
+    return element("pre", shown, dir="ltr")
 
 
-def at(place: Place) -> str:
+def at(place: Place) -> Markup:
     """A place in the document."""
-    return f'<span class="place">line {place.line}, column {place.column}</span>'
+    return element("span", f"line {place.line:,}, column {place.column:,}", class_="place")
 
 
-def marked_part(kind: str, text: str, mark: Mark) -> str:
+def marked_part(kind: str, text: Markup, mark: Mark) -> Markup:
     """A sentence on a stretch of the document, and that stretch."""
-    return f'<p class="{kind}">{at(mark.start)}: {text}</p>\n{source_part(mark.source)}'
+    return lined(element("p", at(mark.start), ": ", text, class_=kind), source_part(mark.source))
 
 
-def fault_part(fault: PlacedFault) -> str:
+def fault_part(fault: PlacedFault) -> Markup:
     """A fault, what it is about, and the notes on it."""
-    perhaps = f" {CONSEQUENCE}" if fault.perhaps_consequence else ""
-    text = f"<strong>{said(fault.fault.title())}</strong>: {isolated(fault.text)}{perhaps}"
-    meaning = "" if fault.text == fault.fault.sentence() else f'<p class="meaning">{said(fault.fault.sentence())}</p>\n'
-    notes = "".join(f"<li>{at(note.place)}: {isolated(note.text)}</li>\n" for note in fault.notes)
-    return marked_part("fault", text, fault.mark) + meaning + (f"<ul>\n{notes}</ul>\n" if notes else "")
+    perhaps = f" {CONSEQUENCE}" if fault.perhaps_consequence else None
+    text = together(element("strong", plain(fault.fault.title())), ": ", coded(fault.text), perhaps)
+    sentence = fault.fault.sentence()
+    meaning = NOTHING if fault.text == sentence else element("p", coded(sentence), class_="meaning")
+    notes = (element("li", at(note.place), ": ", coded(note.text)) for note in fault.notes)
+    return lined(marked_part("fault", text, fault.mark), meaning, listed(*notes))
 
 
-def warning_part(warning: PlacedWarning) -> str:
+def warning_part(warning: PlacedWarning) -> Markup:
     """A warning and what it is about."""
-    return marked_part("warning", f"{isolated(warning.text)} <code>{said(warning.name)}</code>", warning.mark)
+    return marked_part("warning", together(coded(warning.text), " ", element("code", warning.name)), warning.mark)
 
 
-def clash_part(wording: Wording, words: Words, clash: PlacedClash, number: int) -> str:
+def clash_part(wording: Wording, words: Words, clash: PlacedClash, number: int) -> Markup:
     """A clash: its links, what is known of them besides, and the walk from a point to itself."""
-    title = "These links cannot all be true" if len(clash.links) > 1 else "This link cannot be true"
-    links = "".join(f"<li>{link_reference(link)}{source_part(link.source)}</li>\n" for link in clash.links)
-    notes = "".join(f"<li>{at(note.place)}: {isolated(note.text)}</li>\n" for note in clash.calendar + clash.dates + clash.cures)
+    is_one = len(clash.links) == 1
+    title = "This link cannot be true" if is_one else "These links cannot all be true"
+    cure = "This link is wrong" if is_one else "Any one of these links, left out, lets the others be true; one of them is wrong"
+    notes = (element("li", at(note.place), ": ", coded(note.text)) for note in clash.calendar + clash.dates + clash.cures)
     steps = steps_in_words(wording, clash.walk)
-    walk = "".join(step_part(wording, words, step) for step in steps)
     first = point_part(wording, steps[0].first)
-    cure = (
-        "Any one of these links, left out, lets the others be true; one of them is wrong" if len(clash.links) > 1 else "This link is wrong"
+    content = lined(
+        element("h3", f"Clash {number}: {title}"),
+        listed(*(element("li", link_reference(link), source_part(link.source)) for link in clash.links), kind="cited"),
+        listed(*notes),
+        element("p", "Why: each step leads to a point that cannot be earlier.", class_="why"),
+        element("div", drawing(figure_of(title, wording, steps, RING, has_lines=False)), class_="ring"),
+        element("ol", "\n", lined(*(step_part(wording, words, step) for step in steps)), class_="walk"),
+        element("p", "So ", first, f" would be before itself, which cannot be. {cure}, or a date that a step goes by is.", class_="end"),
     )
-    return (
-        f'<div class="clash" id="clash{number}">\n<h3>Clash {number}: {title}</h3>\n<ul class="cited">\n{links}</ul>\n'
-        + (f"<ul>\n{notes}</ul>\n" if notes else "")
-        + f'<p>Why: each step leads to a point that cannot be earlier.</p>\n<ol class="walk">\n{walk}</ol>\n'
-        f'<p class="end">So {first} would be before itself, which cannot be. {cure}, or a date that a step goes by is.</p>\n</div>\n'
-    )
+    return element("div", "\n", content, class_="clash", id=f"clash{number}")
 
 
-def link_reference(link: PlacedLink) -> str:
+def link_reference(link: PlacedLink) -> Markup:
     """A link in words, which leads to it in the list of all links."""
-    return f'<a href="#link{link.link.number}">{isolated(link.text)}</a> {at(link.place())}'
+    return together(element("a", isolated(link.text), href=f"#link{link.link.number}"), " ", at(link.place()))
 
 
-def step_part(wording: Wording, words: Words, step: WalkStep) -> str:
+def step_part(wording: Wording, words: Words, step: WalkStep) -> Markup:
     """One step of a walk."""
-    ends = [words.identifier(wording.intervals[point // 2]) for point in (step.first, step.second)]
-    verb = "is before" if step.strict else "is no later than"
-    sentence = f"{point_part(wording, step.first)} {verb} {point_part(wording, step.second)}, {isolated(step.reason)}"
-    return f'<li data-left="{ends[0]}" data-right="{ends[1]}" data-relation="{said(step.relation)}">{sentence}</li>\n'
+    left, right = (words.identifier(wording.intervals[point // 2]) for point in (step.first, step.second))
+    verb = " is before " if step.strict else " is no later than "
+    sentence = (point_part(wording, step.first), verb, point_part(wording, step.second), ", ", isolated(step.reason))
+    return element("li", *sentence, data_left=left, data_right=right, data_relation=step.relation)
 
 
-def point_part(wording: Wording, point: int) -> str:
+def point_part(wording: Wording, point: int) -> Markup:
     """The start or the end of an interval, by its text and its name."""
     name = wording.intervals[point // 2]
-    return f'the {"end" if point % 2 else "start"} of <em>{isolated(wording.text_of(name))}</em> <span class="place">{said(name)}</span>'
+    end = f'the {"end" if point % 2 else "start"} of '
+    return together(end, element("em", isolated(wording.text_of(name))), " ", element("span", plain(name), class_="place"))
 
 
-def touching_part(examined: Examined) -> str:
+def touching_part(examined: Examined) -> Markup:
     """The links between dates that touch, each with its cure."""
     changes = examined.report.touching
-    items = "".join(f"<li>{link_reference(one.link)}: {isolated(one.cure())}{source_part(one.link.source)}</li>\n" for one in changes)
-    return f"<ul>\n{items}</ul>\n" if items else ""
+    return listed(*(element("li", link_reference(one.link), ": ", coded(one.cure()), source_part(one.link.source)) for one in changes))
 
 
-def reading(examined: Examined, wording: Wording, words: Words) -> str:
+def reading(examined: Examined, wording: Wording, words: Words) -> Markup:
     """The text, and beside it the timeline, or the clashes where no timeline fits."""
     timeline = examined.timeline
     bars = {row.name: place for place, row in enumerate(timeline.rows)} if timeline else {}
-    text = marked_text(wording, words, bars)
-    legend = '<p class="legend">In the text: <span class="mark event">an event</span>, <span class="mark time">a date or time</span>, '
-    legend += '<span class="mark signal">a signal</span>.</p>\n'
-    left = f'<section id="text" aria-label="Text">\n<h2>Text</h2>\n{legend}<div class="text" dir="auto">{text}</div>\n</section>\n'
+    signs = (("an event", "event"), ("a date or time", "time"), ("a signal", "signal"))
+    named = [(", ", element("span", name, class_=f"mark {kind}")) for name, kind in signs]
+    legend = element("p", "In the text: ", named[0][1], *named[1:], ".", class_="legend")
+    text = section("text", "Text", legend, element("div", marked_text(wording, words, bars), class_="text", dir="auto"))
     if timeline is None:
         clashes = enumerate(examined.report.shown_clashes(), 1)
-        right = section("clashes", "Clashes", "".join(clash_part(wording, words, clash, number) for number, clash in clashes))
+        beside = section("clashes", "Clashes", *(clash_part(wording, words, clash, number) for number, clash in clashes))
     else:
-        right = timeline_part(timeline, words, bool(examined.report.touching))
-    return f'<div class="reading">\n{left}{right}</div>\n'
+        beside = timeline_part(timeline, words, bool(examined.report.touching))
+    return element("div", "\n", lined(text, beside), class_="reading")
 
 
-def timeline_part(timeline: Timeline, words: Words, touching: bool) -> str:
+def timeline_part(timeline: Timeline, words: Words, touching: bool) -> Markup:
     """The timeline, of which each row leads to its word."""
-    note = "<p>Links between dates that touch are read here as the relation that holds.</p>\n" if touching else ""
-    picture = drawing(timeline, lambda place, row: barred(timeline, words, place, row), style="")
-    return section("timeline", "Timeline", f'{note}<div class="picture">{picture}</div>\n')
+    note = element("p", "Links between dates that touch are read here as the relation that holds.") if touching else NOTHING
+    axis = Ranks.of(timeline, LEFT)
+    rows = in_rows(timeline, axis, "a", lambda place, row: leading(words, place, row))
+    return section("timeline", "Timeline", note, explained(timeline, axis), element("div", rows, class_="picture"))
 
 
-def barred(timeline: Timeline, words: Words, place: int, row: str) -> str:
-    """A row of the timeline, which leads to its word in the text."""
-    one = timeline.rows[place]
-    label = said(one.description().split("\n", 1)[0])
-    word = words.identifier(one.name)
-    return f'<a id="bar{place}" class="leading" href="#{word}" data-word="{word}" aria-label="{label}">{row}</a>'
+def leading(words: Words, place: int, row: Row) -> dict[str, Value]:
+    """What makes a row of the timeline lead to its word in the text."""
+    word = words.identifier(row.name)
+    leads = {"class_": "leading", "href": f"#{word}", "data_word": word}
+    return {"id": f"bar{place}", **leads, "data_links": len(row.linked()), "aria_label": plain(row.description().split("\n", 1)[0])}
 
 
 def notes_on_links(examined: Examined) -> dict[int, list[str]]:
@@ -217,25 +186,21 @@ def notes_on_links(examined: Examined) -> dict[int, list[str]]:
     return found
 
 
-def links_part(wording: Wording, words: Words, notes: dict[int, list[str]]) -> str:
-    """All links, numbered as `tml check` does."""
-    items = (link_part(wording, words, number, notes.get(number, [])) for number in range(len(wording.link_tags)))
-    listed = "".join(items)
-    return f'<ol start="0" class="links">\n{listed}</ol>\n' if listed else ""
+def links_part(wording: Wording, words: Words, notes: dict[int, list[str]]) -> Markup:
+    """All links, in their order."""
+    return listed(*(link_part(wording, words, number, notes.get(number, [])) for number in range(len(wording.link_tags))), kind="links")
 
 
-def link_part(wording: Wording, words: Words, number: int, notes: list[str]) -> str:
-    """One link, of which each end leads to its word."""
+def link_part(wording: Wording, words: Words, number: int, notes: list[str]) -> Markup:
+    """One link by its name, of which each end leads to its word."""
     link = wording.link(number)
     ends = [words.identifier(name) for name in (link.left, link.right)]
     left, right = (
-        f'<a href="#{word}">{isolated(wording.text_of(name))}</a>' for word, name in zip(ends, (link.left, link.right), strict=True)
+        element("a", isolated(wording.text_of(name)), href=f"#{word}") for word, name in zip(ends, (link.left, link.right), strict=True)
     )
-    called = wording.source.value(wording.link_tags[number], "lid")
-    names = (f"{called}: " if called else "") + f"{link.left}, {link.right}; line {link.place.line}"
-    noted = "".join(f' <strong class="noted">{said(note)}</strong>' for note in notes)
-    return (
-        f'<li id="link{number}" data-left="{ends[0]}" data-right="{ends[1]}" data-relation="{said(link.relation)}">{left} '
-        f'{said(link.relation)} {right} '
-        f'<span class="place">({said(names)})</span>{noted}</li>\n'
-    )
+    called = wording.name_of(link, False)
+    names = element("span", plain(f"({link.left}, {link.right}; line {link.place.line:,})"), class_="place")
+    noted = [together(" ", element("strong", note, class_="noted")) for note in notes]
+    sentence = together(left, " ", link.relation, " ", right, " ", names, noted)
+    shared = {"data_left": ends[0], "data_right": ends[1], "data_relation": link.relation}
+    return element("li", element("span", isolated(called), ": ", class_="called"), sentence, id=f"link{number}", **shared)

@@ -2,6 +2,8 @@
 
 from __future__ import annotations
 
+from .arcs_script import ARCS
+
 INDEX_SCRIPT = """
 "use strict";
 const table = document.getElementById("documents");
@@ -13,7 +15,7 @@ const words = new Map(rows.map((row) => [row, [...row.cells].slice(0, 3).map((ce
 const collator = new Intl.Collator(undefined, { numeric: true });
 const valueOf = (row, column, kind) => {
   const text = row.cells[column].textContent;
-  return kind === "number" ? (text === "" ? null : Number(text)) : text;
+  return kind === "number" ? (text === "" ? null : Number(text.replaceAll(",", ""))) : text;
 };
 const compared = (first, second) => {
   if (first === second) return 0;
@@ -53,7 +55,7 @@ const look = () => {
     row.hidden = !wanted.every((word) => text.includes(word));
     count += !row.hidden;
   });
-  found.textContent = ` ${count} of ${rows.length}`;
+  found.textContent = ` ${count.toLocaleString("en")} of ${rows.length.toLocaleString("en")}`;
 };
 field.type = "search";
 field.placeholder = "Search names, verdicts, faults, warnings";
@@ -62,10 +64,9 @@ field.addEventListener("input", look);
 found.setAttribute("role", "status");
 document.getElementById("search").append(field, found);
 document.querySelectorAll("[data-search]").forEach((head) => {
-  if (head.closest("table").caption.textContent === "Sums") return;
   const button = document.createElement("button");
   button.type = "button";
-  button.textContent = head.textContent;
+  button.append(...head.childNodes);
   button.addEventListener("click", () => {
     field.value = head.dataset.search;
     look();
@@ -115,8 +116,8 @@ const named = (word) => {
 };
 const tell = (word, only) => {
   const shown = only ? [only] : barsOf(word);
-  const known = shown.flatMap((bar) => titles[bars.indexOf(bar)].filter((one) => !/ \\(link \\d+: [^)]*\\)$/.test(one) && one !== "no links"));
-  const told = (ofWord.get(word.id) || []).map((link) => `link ${links.indexOf(link)}: ${sentence(link)}`);
+  const known = shown.flatMap((bar) => titles[bars.indexOf(bar)].slice(0, -Number(bar.dataset.links)));
+  const told = (ofWord.get(word.id) || []).map(sentence);
   panel.replaceChildren(...(known.length ? known : [named(word)]).map(line), ...told.map(line));
 };
 const show = (word, bar) => {
@@ -136,7 +137,8 @@ const keep = (word, bar) => {
 const near = (one) => { if (one) one.scrollIntoView({ block: "nearest", inline: "nearest" }); };
 
 const both = (word, bar, one, other) => {
-  one.addEventListener("pointerenter", () => { if (pinned === null) show(word, bar); });
+  one.addEventListener("pointerenter", () => { onlyOf(word); if (pinned === null) show(word, bar); });
+  one.addEventListener("pointerleave", () => only(null));
   one.addEventListener("focus", () => { if (pinned === null) show(word, bar); });
   one.addEventListener("click", (event) => {
     event.preventDefault();
@@ -145,19 +147,29 @@ const both = (word, bar, one, other) => {
     near(other());
   });
 };
-document.querySelectorAll(".text .mark[data-intervals]").forEach((word) => {
-  if (word.dataset.intervals !== "") both(word, null, word, () => barsOf(word)[0]);
-});
-bars.forEach((bar, place) => {
+const reached = (group, one) => group.forEach((other) => other.setAttribute("tabindex", other === one ? "0" : "-1"));
+const KEYS = { ArrowUp: -1, ArrowLeft: -1, ArrowDown: 1, ArrowRight: 1 };
+// One of a group is reached by the tabulator, and the others by the arrow keys.
+const together = (group) => {
+  if (group.length) reached(group, group[0]);
+  group.forEach((one, place) => {
+    one.addEventListener("focus", () => reached(group, one));
+    one.addEventListener("keydown", (event) => {
+      const other = { Home: group[0], End: group[group.length - 1] }[event.key] || group[place + KEYS[event.key]];
+      if (!other) return;
+      event.preventDefault();
+      other.focus();
+    });
+  });
+};
+const words = Array.from(document.querySelectorAll(".text .mark[data-intervals]")).filter((word) => word.dataset.intervals !== "");
+words.forEach((word) => both(word, null, word, () => barsOf(word)[0]));
+together(words);
+together(bars);
+bars.forEach((bar) => {
   const word = byId(bar.dataset.word);
   bar.querySelector("title").remove();
   both(word, bar, bar, () => word);
-  bar.addEventListener("keydown", (event) => {
-    const other = bars[place + { ArrowUp: -1, ArrowDown: 1 }[event.key]];
-    if (!other) return;
-    event.preventDefault();
-    other.focus();
-  });
 });
 document.addEventListener("keydown", (event) => {
   if (event.key !== "Escape") return;
@@ -167,33 +179,10 @@ document.addEventListener("keydown", (event) => {
   panel.replaceChildren();
 });
 
-const arcs = document.createElementNS(SVG, "svg");
-const part = (name, attributes) => {
-  const made = document.createElementNS(SVG, name);
-  Object.entries(attributes).forEach(([key, value]) => made.setAttribute(key, value));
-  return made;
-};
-const placeOf = (name, frame) => {
-  const box = byId(name).getClientRects()[0];
-  return [box.left + box.width / 2 - frame.left + text.scrollLeft, box.top - frame.top + text.scrollTop];
-};
-const drawLink = ([[x, y], [endX, endY]], relation) => {
-  const height = Math.min(46, 12 + Math.abs(endX - x) / 8);
-  const name = part("text", { x: (x + endX) / 2, y: (y + endY) / 2 - 0.75 * height - 2 });
-  name.textContent = relation;
-  return [
-    part("path", { d: `M${x} ${y}C${x} ${y - height} ${endX} ${endY - height} ${endX} ${endY}` }),
-    part("path", { class: "head", d: `M${endX - 4} ${endY - 7}L${endX} ${endY}L${endX + 4} ${endY - 7}Z` }),
-    name,
-  ];
-};
-// All places are asked for before anything is drawn: each question after a change lays the text out anew.
+""" + ARCS + """
 const draw = () => {
   const ofPinned = pinned ? ofWord.get(pinned.id) || [] : [];
-  const wanted = [...new Set([...drawn, ...ofPinned])].filter((link) => byId(link.dataset.left) && byId(link.dataset.right));
-  const frame = text.getBoundingClientRect();
-  const ends = wanted.map((link) => [placeOf(link.dataset.left, frame), placeOf(link.dataset.right, frame)]);
-  arcs.replaceChildren(...wanted.flatMap((link, place) => drawLink(ends[place], link.dataset.relation || "")));
+  drawArcs([...new Set([...drawn, ...ofPinned])].filter((link) => byId(link.dataset.left) && byId(link.dataset.right)));
 };
 const button = (words, action) => {
   const made = document.createElement("button");
@@ -227,6 +216,8 @@ if (text) {
   new ResizeObserver(draw).observe(text);
   links.forEach((link) => link.append(button("draw", () => { turn(link, !drawn.has(link)); draw(); })));
   if (links.length) document.querySelector(".links").before(tools());
+  together(links.map((link) => link.querySelector("button")));
+  together(Array.from(document.querySelectorAll(".links a")));
 }
 const goTo = (walk, step) => {
   pinned = null;
@@ -248,5 +239,6 @@ document.querySelectorAll(".walk").forEach((list) => {
   made.append(button("Next step", () => move(1)), button("Previous step", () => move(at < 0 ? 0 : -1)));
   list.before(made);
   walk.forEach((step, place) => step.append(button("show", () => { at = place; goTo(walk, step); })));
+  together(walk.map((step) => step.querySelector("button")));
 });
 """

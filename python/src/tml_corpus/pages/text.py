@@ -7,12 +7,15 @@ from __future__ import annotations
 
 import html
 import re
-from collections.abc import Iterator, Mapping
+from collections.abc import Iterable, Iterator, Mapping
 from dataclasses import dataclass
+from itertools import groupby
+
+from tml.markup import NOTHING, Markup, element, harmless, tags, together
 
 from tml.tags.units import EMPTY, END, START, TEXT
 from ..document.words import Wording
-from ..timeline.lettering import escaped, plain, printed
+from ..timeline.lettering import plain
 
 MARKED = {"EVENT": "event", "TIMEX3": "time", "SIGNAL": "signal"}
 BLOCKS = frozenset(("P", "p", "TEXT", "BODY", "TITLE", "HEADLINE", "DOCID", "DOCNO", "DCT", "EXTRAINFO"))
@@ -55,60 +58,77 @@ class Words:
         return word.identifier() if word else ""
 
 
-def marked_text(wording: Wording, words: Words, bars: Mapping[str, int]) -> str:
+def marked_text(wording: Wording, words: Words, bars: Mapping[str, int]) -> Markup:
     """The text, with at most one empty line between two lines."""
-    return MOST_LINES.sub("\n\n", "".join(parts_of(wording, words, bars))).strip("\n")
+    grouped = groupby(parts_of(wording, words, bars), lambda part: isinstance(part, str))
+    parts = [few_lines(group) if is_text else together(group) for is_text, group in grouped]
+    for place, strip in ((0, str.lstrip), (-1, str.rstrip)):
+        if parts and isinstance(parts[place], str):
+            parts[place] = strip(str(parts[place]), "\n")
+    return together(parts)
 
 
-def parts_of(wording: Wording, words: Words, bars: Mapping[str, int]) -> Iterator[str]:
+def few_lines(texts: Iterable[Markup | str]) -> Markup | str:
+    """Texts as one, with at most one empty line between two lines."""
+    return MOST_LINES.sub("\n\n", "".join(map(str, texts)))
+
+
+def parts_of(wording: Wording, words: Words, bars: Mapping[str, int]) -> Iterator[Markup | str]:
     """The text in parts. No mark that leads elsewhere stands within another one."""
     units, document = wording.units, wording.document
-    open_tags: list[str] = []
+    open_tags: list[Mark] = []
     leading = 0
     for row in units.rows:
         kind, start = units.kinds[row], units.starts[row]
         if kind == TEXT:
-            yield escaped(readable(html.unescape(document[start : units.ends[row]].decode("utf-8", "surrogateescape"))))
+            yield harmless(html.unescape(document[start : units.ends[row]].decode("utf-8", "surrogateescape")))
         elif kind == END and open_tags:
-            leading -= open_tags[-1].endswith("</a>")
-            yield open_tags.pop()
+            closed = open_tags.pop()
+            leading -= closed.is_leading
+            yield closed.after
         elif kind in (START, EMPTY):
-            opening, closing = mark(wording, words.by_start.get(start), units.words[units.names[row]], bars, leading)
-            yield opening
+            made = mark(wording, words.by_start.get(start), units.words[units.names[row]], bars, leading)
+            yield made.before
             if kind == START:
-                open_tags.append(closing)
-                leading += closing.endswith("</a>")
+                open_tags.append(made)
+                leading += made.is_leading
             else:
-                yield empty_text(wording, words.by_start.get(start)) + closing
+                yield empty_text(wording, words.by_start.get(start))
+                yield made.after
 
 
-def mark(wording: Wording, word: Word | None, name: str, bars: Mapping[str, int], leading: int) -> tuple[str, str]:
-    """What stands before and after a tag."""
+@dataclass(frozen=True)
+class Mark:
+    """What stands before and after the text in a tag, and whether it leads elsewhere."""
+
+    before: Markup | str = ""
+    after: Markup | str = ""
+    is_leading: bool = False
+
+
+def mark(wording: Wording, word: Word | None, name: str, bars: Mapping[str, int], leading: int) -> Mark:
+    """How a tag is marked."""
     if word is None:
-        return ("\n", "\n") if name in BLOCKS else ("", "")
-    named = f'<sup class="name">{escaped(plain(" ".join(word.intervals)))}</sup>' if word.intervals else ""
+        return Mark("\n", "\n") if name in BLOCKS else Mark()
+    named = element("sup", plain(" ".join(word.intervals)), class_="name", aria_hidden="true") if word.intervals else NOTHING
     rows = [bars[one] for one in word.intervals if one in bars]
     date = wording.dates.get(word.intervals[0], []) if word.intervals else []
-    kind = f"{word.kind} {date[0]}" if date else word.kind
-    shared = f'class="mark {kind}" id="{word.identifier()}" data-intervals="{escaped(" ".join(word.intervals))}"'
-    if rows and not leading:
-        return f'<a {shared} data-bars="{" ".join(map(str, rows))}" href="#bar{rows[0]}">', f"{named}</a>"
-    places = f' data-bars="{" ".join(map(str, rows))}"' if rows else ""
-    focus = ' tabindex="0"' if word.intervals else ""
-    return f"<span {shared}{places}{focus}>", f"{named}</span>"
+    is_leading = bool(rows) and not leading
+    before, after = tags(
+        "a" if is_leading else "span",
+        class_=" ".join(["mark", word.kind, *date[:1]]),
+        id=word.identifier(),
+        data_intervals=" ".join(word.intervals),
+        data_bars=" ".join(map(str, rows)) if rows else None,
+        href=f"#bar{rows[0]}" if is_leading else None,
+        tabindex="0" if word.intervals and not is_leading else None,
+    )
+    return Mark(before, together(named, after), is_leading)
 
 
-def empty_text(wording: Wording, word: Word | None) -> str:
+def empty_text(wording: Wording, word: Word | None) -> Markup | str:
     """What stands for a marked word without text: the value of a time, or a dot."""
     if word is None:
         return ""
     value = wording.text_of(word.intervals[0]) if word.intervals and word.kind == "time" else ""
-    return f'<span class="empty">[{escaped(plain(value)) or "·"}]</span>'
-
-
-def readable(text: str) -> str:
-    """A text with its lines; what cannot be printed is the replacement character, and what could turn it around is left out."""
-    if text.isprintable():
-        return text
-    lines = text.replace("\r\n", "\n").replace("\r", "\n").replace("\t", " ").split("\n")
-    return "\n".join(line if line.isprintable() else "".join(map(printed, line)) for line in lines)
+    return element("span", f"[{plain(value) or '·'}]", class_="empty")

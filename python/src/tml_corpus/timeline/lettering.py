@@ -2,11 +2,21 @@
 
 from __future__ import annotations
 
-import html
 import unicodedata
 
-JOINERS = "\u200c\u200d"
-"""Format characters that some scripts need; the others are left out, since they could turn the texts around."""
+from tml.markup import JOINERS, printed
+
+BROAD = (
+    (0x0E00, 0x0FFF, 0.85),
+    (0x1000, 0x1CFF, 1.5),
+    (0x0900, 0x0DFF, 1.45),
+    (0x1E00, 0x1FFF, 0.95),
+    (0x2000, 0x206F, 1.0),
+    (0xFDFA, 0xFDFD, 12.0),
+    (0x12000, 0x1254F, 2.5),
+    (0x1F000, 0x1FAFF, 1.4),
+)
+"""Of some stretches of characters how much room each takes at most; of others beyond Arabic it is about the size of the font."""
 
 NARROW = set(" .,:;'|!()[]/\\-ijlftrI")
 
@@ -14,18 +24,6 @@ NARROW = set(" .,:;'|!()[]/\\-ijlftrI")
 def plain(text: str) -> str:
     """The text with single spaces and without format characters; what cannot be printed is the replacement character."""
     return "".join(character for character in map(printed, " ".join(text.split())))
-
-
-def printed(character: str) -> str:
-    """A character as it may stand in a picture, and in XML."""
-    if character.isprintable() or character in JOINERS:
-        return character
-    return "" if unicodedata.category(character) == "Cf" else "\ufffd"
-
-
-def escaped(text: str) -> str:
-    """A text as it stands in XML and HTML, between tags and in values."""
-    return html.escape(text, quote=True)
 
 
 def measured(text: str, size: float) -> float:
@@ -37,8 +35,8 @@ def share(character: str) -> float:
     """The room of one character, in parts of the size of the font."""
     if unicodedata.combining(character) or character in JOINERS:
         return 0.0
-    if unicodedata.east_asian_width(character) in "WF":
-        return 1.05
+    if character > "\u08ff":
+        return next((room for first, last, room in BROAD if first <= ord(character) <= last), 1.05)
     if character in NARROW:
         return 0.4
     return 0.95 if character in "mwMW@%\u2026" else 0.75 if character.isupper() else 0.64

@@ -1,50 +1,31 @@
-"""A timeline as SVG: a row for each interval over an axis of ranks. It can be read in black and white.
-
-What is known looks different from what is merely earliest: a bar is drawn solid as far as the interval reaches in each of the timelines
-with no higher rank, dotted where it stands in the least of them, and beside it lie the spans within which its ends can move.
-"""
+"""A timeline as a file of SVG: a row for each interval over an axis, below a heading that says what it means."""
 
 from __future__ import annotations
 
 from collections.abc import Callable
 from dataclasses import dataclass
 
-from .lettering import escaped, fitted, in_lines, measured, plain
-from .rows import KINDS, NOT_ASSERTED, Row, Timeline
+from tml.markup import NOTHING, Markup, element, lined, number, raw, svg_file, together
 
-ROW, BAR, THIN, MARGIN, GAP = 22, 12, 5, 16, 16
-"""The heights of a row, of a bar, and of the bar of an event that is not asserted; and what is left free at edges and between columns."""
+from ..pages.colours import in_light
+from . import bars, plot
+from .bars import BAR, GAP, HATCH, ROW, kinds_of, sign, states_of
+from .lettering import fitted, in_lines, measured, plain
+from .plot import LANE, SMALL, Plot, Ranks, drawn_bands, lanes_of, right_of, upright
+from .rows import Row, Timeline
 
-TEXT, SMALL, HEAD = 13, 12, 17
-MOST_LABEL, MOST_NAME, MOST_AROUND, LEAST_WIDTH = 300, 120, 380, 680
-PLOT, WIDEST_STEP, NARROWEST_STEP, FAR = 720, 30, 4, 480
-"""The ranks together are about so broad, and each of them between so much. Where they are broader than the last, bars have texts."""
+MARGIN, TEXT, HEAD = 16, 13, 17
+MOST_LABEL, MOST_NAME, MOST_AROUND, LEAST_WIDTH, FAR = 300, 120, 380, 680, 480
+"""How broad things are at most. Where the axis is broader than the last, bars have texts."""
 
-CAPTION = (
-    "An axis of ranks, which have no lengths: each start and end stands as early as the links and dates allow. Equal ranks are at the "
-    "same time as far as is known. What stands farther left here need not come first in every timeline that fits: where an end can move, "
-    "below the same highest rank, the line above a bar is the span of its start, and the line below it that of its end. A solid bar is "
-    "known: so far it reaches in each of these timelines; a dotted one is merely the earliest."
-)
 APART = "Order not known: no link or date ties these to anything."
-MOVING = "merely the earliest, with the spans of its ends"
 NO_INTERVAL = "There is no interval: the document has no event instance and no time."
 
 STYLE = (
-    'text{font:13px "DejaVu Sans",Verdana,Helvetica,Arial,sans-serif;fill:#111}'
-    "text.small{font-size:12px}text.head{font-size:17px;font-weight:bold}text.apart{font-weight:bold}.name{fill:#555}.small{fill:#333}"
-    ".number{text-anchor:middle}.around tspan{font-weight:bold}"
-    ".odd{fill:#eef1f4}.grid{stroke:#c3cad1;fill:none}.axis{stroke:#333;fill:none}.back{fill:#f6b800;fill-opacity:0}"
-    ".bar{fill:#fff;stroke:#16324f;stroke-width:1.5}.exact .bar{fill:#16324f}.within .bar{fill:url(#hatch)}"
-    ".free .bar{stroke-dasharray:4 2.5}.moving "
-    ".bar:not(.core){fill-opacity:.18;stroke-width:1;stroke-dasharray:1 2.2}.span{stroke:#a34b00;stroke-width:1.5;fill:none}"
-    ".anywhere{stroke:#777;stroke-dasharray:1 5;fill:none}"
-    ".unasserted text{font-style:italic}.unasserted .bar{stroke:#777;fill:#ddd}"
-)
-
-HATCH = (
-    '<defs><pattern id="hatch" width="5" height="5" patternUnits="userSpaceOnUse" patternTransform="rotate(45)">'
-    '<rect width="5" height="5" fill="#fff"/><rect width="2" height="5" fill="#16324f"/></pattern></defs>'
+    'text{font:13px "DejaVu Sans",Verdana,Helvetica,Arial,sans-serif;fill:var(--ink)}'
+    "text.small{font-size:12px}text.head{font-size:17px;font-weight:bold}text.apart{font-weight:bold}.name{fill:var(--soft)}"
+    "tspan{unicode-bidi:isolate}.number{text-anchor:middle}.around .word{font-weight:bold}.paper{fill:var(--paper)}.odd{fill:var(--odd)}"
+    f".back{{fill-opacity:0}}{bars.STYLE}{plot.STYLE}"
 )
 
 
@@ -72,55 +53,36 @@ class Lines:
         """Where all rows end."""
         return self.top + ROW * max(self.rows + self.apart(), 1)
 
-    def striped(self, width: float) -> str:
+    def striped(self, width: float) -> Markup:
         """Every other row darker."""
         odd = "".join(f"M0 {number(self.y(place))}h{number(width)}v{ROW}H0z" for place in range(1, self.rows, 2))
-        return f'<path class="odd" d="{odd}"/>\n' if odd else ""
+        return element("path", class_="odd", d=odd) if odd else NOTHING
 
-    def heading(self) -> str:
+    def heading(self) -> Markup:
         """What stands above the rows that nothing ties."""
-        return words(MARGIN, self.y(self.tied) - 7, APART, "apart") + "\n" if self.apart() else ""
+        return words(MARGIN, self.y(self.tied) - 7, APART, "apart") if self.apart() else NOTHING
 
 
 @dataclass(frozen=True)
-class Layout:
-    """Where things stand: the width of the columns of texts and dates, how broad a rank is, and how many of these there are."""
+class Columns:
+    """How broad the columns of labels and of dates and words around events are."""
 
     labels: float
-    dates: float
-    step: float
-    ranks: int
+    beside: float
+
+    @classmethod
+    def of(cls, timeline: Timeline) -> Columns:
+        """The columns that a timeline needs."""
+        labels = max((measured(" ".join(label(row)), TEXT) for row in timeline.rows), default=0.0)
+        return cls(labels, max((measured("".join(beside_label(row)), SMALL) for row in timeline.rows), default=0.0))
+
+    def second(self) -> float:
+        """Where the second column begins."""
+        return MARGIN + self.labels + GAP
 
     def plot(self) -> float:
-        """Where rank 0 stands."""
-        return MARGIN + self.labels + GAP + (self.dates + GAP if self.dates else 0)
-
-    def x(self, rank: int) -> float:
-        """Where a rank stands."""
-        return self.plot() + rank * self.step
-
-    def width(self) -> float:
-        """The width of the picture."""
-        return max(LEAST_WIDTH, self.x(self.ranks) + MARGIN + GAP)
-
-    def numbered(self) -> list[int]:
-        """The ranks with a number on the axis: as many as have room."""
-        room = measured("0" * (len(str(self.ranks)) + 1), SMALL)
-        every = next(count for power in range(9) for digit in (1, 2, 5) if (count := digit * 10**power) * self.step >= room)
-        return list(range(0, self.ranks + 1, every))
-
-
-def columns_of(timeline: Timeline) -> tuple[float, float]:
-    """How broad the columns of labels and of dates and words around events are."""
-    labels = max((measured(" ".join(label(row)), TEXT) for row in timeline.rows), default=0.0)
-    return labels, max((measured("".join(beside_label(row)), SMALL) for row in timeline.rows), default=0.0)
-
-
-def layout_of(timeline: Timeline) -> Layout:
-    """The layout that a timeline needs."""
-    ranks = timeline.greatest()
-    step = min(WIDEST_STEP, max(NARROWEST_STEP, PLOT // max(ranks, 1)))
-    return Layout(*columns_of(timeline), step, ranks)
+        """Where the axis begins."""
+        return self.second() + (self.beside + GAP if self.beside else 0)
 
 
 def beside_label(row: Row) -> tuple[str, str, str]:
@@ -143,174 +105,95 @@ def label(row: Row) -> tuple[str, str]:
 
 
 def svg(timeline: Timeline) -> str:
-    """The picture as a file of its own."""
-    return '<?xml version="1.0" encoding="UTF-8"?>\n' + drawing(timeline)
+    """The picture as a file of its own, over an axis of ranks."""
+    return picture(timeline, Ranks.of)
 
 
-def alone(place: int, row: str) -> str:
-    """A row as it is drawn."""
-    del place
-    return row
+def picture(timeline: Timeline, plot_of: Callable[[Timeline, float], Plot]) -> str:
+    """The picture as a file of its own, over an axis of some kind."""
+    columns = Columns.of(timeline)
+    axis = plot_of(timeline, columns.plot())
+    width = max(LEAST_WIDTH, right_of(axis) + MARGIN + GAP)
+    head, y = heading(timeline, axis, width)
+    lines = Lines(len(timeline.rows), timeline.tied(), y + 2 * GAP + LANE * lanes_of(axis.bands()))
+    rows = lined(*(drawn_row(row, columns, axis, lines.y(place), width) for place, row in enumerate(timeline.rows)))
+    inside = rows or lined(words(MARGIN, lines.top + BAR, NO_INTERVAL))
+    broad, high = number(width), number(lines.end() + 2 * GAP)
+    paper = element("rect", class_="paper", width=broad, height=high)
+    behind = drawn_axis(axis, lines) if lines.tied else NOTHING
+    content = [raw("style", in_light(STYLE)), HATCH, paper]
+    shown = together(lined(*content), head, lined(lines.striped(width)), behind, lined(lines.heading()), inside)
+    named = {"role": "img", "aria_label": f"{axis.title}{plain(timeline.title)}"}
+    size = {"width": broad, "height": high, "viewBox": f"0 0 {broad} {high}"}
+    return svg_file(element("svg", "\n", shown, **size, **named))
 
 
-def drawing(timeline: Timeline, wrapped: Callable[[int, str], str] = alone, style: str = f"<style>{STYLE}</style>\n") -> str:
-    """The picture as an element. Each row may stand in something else, and the style elsewhere."""
-    layout = layout_of(timeline)
-    head, y = heading(timeline, layout.width())
-    lines = Lines(len(timeline.rows), timeline.tied(), y + 2 * GAP)
-    rows = "".join(wrapped(place, drawn_row(row, layout, lines.y(place))) for place, row in enumerate(timeline.rows))
-    behind = axis(layout, lines) if lines.tied else ""
-    return framed(layout.width(), lines, f"{style}{HATCH}\n", head, behind, rows)
-
-
-def framed(width: float, lines: Lines, style: str, head: str, behind: str, rows: str) -> str:
-    """The element of a picture: its style, its heading, what lies behind the rows, and these."""
-    inside = rows or words(MARGIN, lines.top + BAR, NO_INTERVAL) + "\n"
-    size = number(width), number(lines.end() + 2 * GAP)
-    opening = f'<svg xmlns="http://www.w3.org/2000/svg" width="{size[0]}" height="{size[1]}" viewBox="0 0 {size[0]} {size[1]}">\n'
-    paper = f'<rect width="{size[0]}" height="{size[1]}" fill="#fff"/>\n'
-    return f"{opening}{style}{paper}{head}\n{lines.striped(width)}{behind}{lines.heading()}{inside}</svg>\n"
-
-
-def heading(timeline: Timeline, width: float, title: str = "Timeline of ", caption: str = CAPTION) -> tuple[str, float]:
+def heading(timeline: Timeline, axis: Plot, width: float) -> tuple[Markup, float]:
     """The title, what the axis means, and the kinds of bars that there are; and how far down they reach."""
     room, y = width - 2 * MARGIN, float(MARGIN + HEAD)
-    parts = [words(MARGIN, y, fitted(title + plain(timeline.title), room, HEAD * 1.1), "head")]
-    for line in in_lines(caption, room, SMALL):
+    parts = [words(MARGIN, y, fitted(axis.title + plain(timeline.title), room, HEAD * 1.1), "head")]
+    for line in in_lines(axis.caption, room, SMALL):
         y += 18 if len(parts) > 1 else 24
         parts.append(words(MARGIN, y, line, "small"))
     signs, y = legend(timeline, width, y + 26)
-    return "\n".join(parts + signs), y
+    return lined(*parts, *signs), y
 
 
-def legend(timeline: Timeline, width: float, y: float) -> tuple[list[str], float]:
+def legend(timeline: Timeline, width: float, y: float) -> tuple[list[Markup], float]:
     """The kinds of bars that there are, in lines from a height on; and how far down they reach."""
-    kinds = [(kind, KINDS[kind]) for kind in KINDS if any(row.kind == kind for row in timeline.rows)]
-    kinds += [("event unasserted", NOT_ASSERTED)] if any(row.unasserted for row in timeline.rows) else []
-    kinds += [("event moving", MOVING)] if any(is_moving(row) for row in timeline.rows) else []
     parts, x = [], float(MARGIN)
-    for kind, said in kinds:
+    for kind, said in kinds_of(timeline):
         broad = 36 + measured(said, SMALL) + GAP
         if x + broad > width and x > MARGIN:
             x, y = float(MARGIN), y + 20
-        parts.append(f'<g class="{kind}">{sign(kind, x, y - 4)}{words(x + 36, y, said, "small")}</g>')
+        parts.append(element("g", sign(kind, x, y - 4), words(x + 36, y, said, "small"), class_=kind))
         x += broad
     return parts, y
 
 
-def sign(kind: str, x: float, middle: float) -> str:
-    """The sign of a kind of bars."""
-    height = THIN if kind.endswith("unasserted") else BAR
-    if not kind.endswith("moving"):
-        return bar(kind.split(" ", 1)[0], x, middle - height / 2, 28, height)
-    lines = span(x, x + 12, middle - 8) + span(x + 20, x + 28, middle + 8)
-    return bar("event", x, middle - height / 2, 20) + bar("event", x + 12, middle - height / 2, 8, called="bar core") + lines
-
-
-def axis(layout: Layout, lines: Lines) -> str:
-    """What lies behind the rows: a line at the ranks that have a number, which stands above and below."""
-    left, right, top, bottom = layout.x(0), layout.x(layout.ranks), lines.top, lines.axis_end()
-    upright = "".join(f"M{number(layout.x(rank))} {number(top)}V{number(bottom)}" for rank in layout.numbered())
-    ends = f"M{number(left)} {number(top)}H{number(right)}M{number(left)} {number(bottom)}H{number(right)}"
-    parts = [f'<path class="grid" d="{upright}"/>\n<path class="axis" d="{ends}"/>\n']
+def drawn_axis(axis: Plot, lines: Lines) -> Markup:
+    """What lies behind the rows: lines, with what stands at them above and below; and above it the dates."""
+    (left, right), top, bottom, dates = axis.ends(), lines.top, lines.axis_end(), axis.bands()
+    across = f"M{number(left)} {number(top)}H{number(right)}M{number(left)} {number(bottom)}H{number(right)}"
+    parts = [upright(axis, dates, top, bottom), lined(element("path", class_="axis", d=across))]
     for y in (top - 6, bottom + 15):
-        numbers = "".join(words(layout.x(rank), y, str(rank), "small number") for rank in layout.numbered())
-        parts.append(f'{numbers}<text class="small" x="{number(left - GAP)}" y="{number(y)}" text-anchor="end">ranks</text>\n')
-    return "".join(parts)
+        parts.append(lined(together([words(x, y, text, "small number") for x, text in axis.marks()])))
+    return together(parts, lined(*drawn_bands(dates, top - GAP - 5)))
 
 
-def drawn_row(row: Row, layout: Layout, y: float) -> str:
-    """One interval: its text and name, its dates, its bar, and what is shown where it is pointed at."""
-    parts = [opened(row, y, layout.width(), layout.labels)]
-    if not row.is_tied:
-        return "".join([*parts, anywhere(layout.x(0), layout.x(layout.ranks), y)]) + "</g>\n"
-    parts.append(bar_of(row, layout.x(row.start), y, layout.x(row.finish) - layout.x(row.start)))
-    if is_moving(row):
-        parts += moving(row, layout, y)
-    if layout.ranks * layout.step > FAR:
-        parts.append(beside(row, layout, y + 15))
-    return "".join(parts) + "</g>\n"
-
-
-def is_moving(row: Row) -> bool:
-    """Whether an end of an interval can move below the same highest rank."""
-    return row.is_tied and row.latest not in (None, (row.start, row.finish))
-
-
-def opened(row: Row, y: float, width: float, labels: float) -> str:
-    """The beginning of a row: what is shown where it is pointed at, its label, and its dates or the words around it."""
+def drawn_row(row: Row, columns: Columns, axis: Plot, y: float, width: float) -> Markup:
+    """One interval: its text and name, its dates or the words around it, its bar, and what is shown where it is pointed at."""
     text, name = label(row)
-    called = f' <tspan class="name">{escaped(name)}</tspan>' if name else ""
-    states = {"unasserted": bool(row.unasserted), "moving": is_moving(row), "untied": not row.is_tied}
-    kinds = " ".join([row.kind, *(name for name, is_so in states.items() if is_so)])
-    parts = [
-        f'<g class="row {kinds}"><title>{escaped(row.description())}</title>',
-        f'<rect class="back" y="{number(y)}" width="{number(width)}" height="{ROW}"/>',
-        f'<text x="{MARGIN}" y="{number(y + 15)}">{escaped(text)}{called}</text>',
-    ]
+    called = (" ", element("tspan", name, class_="name")) if name else None
     before, word, after = beside_label(row)
-    x = MARGIN + labels + GAP
-    if word:
-        words_around = f"{escaped(before)}<tspan>{escaped(word)}</tspan>{escaped(after)}"
-        parts.append(f'<text class="small around" x="{number(x)}" y="{number(y + 15)}">{words_around}</text>')
-    elif before:
-        parts.append(words(x, y + 15, before, "small"))
-    return "".join(parts)
+    around = (before, element("tspan", word, class_="word"), after)
+    beside = element("text", *around, class_="small around", x=columns.second(), y=float(y + 15))
+    parts = [
+        element("title", row.description()),
+        element("rect", class_="back", y=float(y), width=float(width), height=ROW),
+        element("text", element("tspan", text), called, x=MARGIN, y=float(y + 15)),
+        beside if word else words(columns.second(), y + 15, before, "small") if before else NOTHING,
+        *axis.bars(row, y),
+        after_bar(row, axis, y + 15, width),
+    ]
+    return element("g", *parts, class_=states_of(row))
 
 
-def anywhere(left: float, right: float, y: float) -> str:
-    """The line of an interval that may be anywhere."""
-    return f'<path class="anywhere" d="M{number(left)} {number(y + ROW / 2)}H{number(right)}"/>'
-
-
-def moving(row: Row, layout: Layout, y: float) -> list[str]:
-    """How far the ends of an interval can move, above its bar and below it; and what is solid, where it reaches in any case."""
-    latest = row.latest or (row.start, row.finish)
-    parts = []
-    if latest[0] < row.finish:
-        parts.append(bar_of(row, layout.x(latest[0]), y, layout.x(row.finish) - layout.x(latest[0]), "bar core"))
-    for first, last, height in ((row.start, latest[0], y + 3), (row.finish, latest[1], y + ROW - 3)):
-        if first < last:
-            parts.append(span(layout.x(first), layout.x(last), height))
-    return parts
-
-
-def span(left: float, right: float, y: float) -> str:
-    """The line of a span within which an end can move."""
-    begin, end, caps = number(left), number(right), number(y - 2)
-    return f'<path class="span" d="M{begin} {number(y)}H{end}M{begin} {caps}v4M{end} {caps}v4"/>'
-
-
-def beside(row: Row, layout: Layout, y: float) -> str:
-    """The text and name of a row after its bar, or before it where there is no room; nothing where there is none at all."""
+def after_bar(row: Row, axis: Plot, y: float, width: float) -> Markup:
+    """The text and name of a row after its bar, or before it where there is no room; nothing where there is none, or the axis is short."""
+    left, right = axis.ends()
+    if not isinstance(axis, Ranks) or not row.is_tied or right - left <= FAR:
+        return NOTHING
     text = " ".join(label(row)).strip()
     room = measured(text, SMALL) + 8
-    right = layout.x(max(row.finish, row.latest[1]) if row.latest else row.finish)
-    if right + room <= layout.width():
-        return words(right + 8, y, text, "small")
-    if layout.x(row.start) - room >= layout.x(0):
-        return f'<text class="small" x="{number(layout.x(row.start) - 8)}" y="{number(y)}" text-anchor="end">{escaped(text)}</text>'
-    return ""
+    end = axis.x(max(row.finish, row.latest[1]) if row.latest else row.finish)
+    if end + room <= width:
+        return words(end + 8, y, text, "small")
+    if axis.x(row.start) - room >= left:
+        return element("text", text, class_="small", x=float(axis.x(row.start) - 8), y=float(y), text_anchor="end")
+    return NOTHING
 
 
-def bar_of(row: Row, x: float, y: float, width: float, called: str = "bar") -> str:
-    """The bar of a row that begins at a height; that of an event which is not asserted is thin."""
-    height = THIN if row.unasserted else BAR
-    return bar(row.kind, x, y + (ROW - height) / 2, width, height, called)
-
-
-def bar(kind: str, x: float, y: float, width: float, height: float = BAR, called: str = "bar") -> str:
-    """A bar: events have round ends."""
-    round_ends = f' rx="{number(min(height / 2, width / 2))}"' if kind == "event" else ""
-    return f'<rect class="{called}" x="{number(x)}" y="{number(y)}" width="{number(width)}" height="{number(height)}"{round_ends}/>'
-
-
-def words(x: float, y: float, text: str, kind: str = "") -> str:
+def words(x: float, y: float, text: str, kind: str | None = None) -> Markup:
     """A text at a place."""
-    kind = f' class="{kind}"' if kind else ""
-    return f'<text{kind} x="{number(x)}" y="{number(y)}">{escaped(text)}</text>'
-
-
-def number(value: float) -> str:
-    """A number as SVG has it, with one decimal at most."""
-    return f"{value:.1f}".removesuffix(".0")
+    return element("text", text, class_=kind, x=float(x), y=float(y))

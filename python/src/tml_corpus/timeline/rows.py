@@ -113,6 +113,9 @@ class Timeline:
     ends: tuple[tuple[int, str, int], ...] = ()
     """Of each link the rows of its ends, and between them its relation."""
 
+    numbers: tuple[int, ...] = ()
+    """The numbers of these links."""
+
     def greatest(self) -> int:
         """The greatest rank."""
         return max((row.finish for row in self.rows), default=0)

@@ -1,49 +1,22 @@
-"""A placing in whole seconds as SVG, and as a page: a row for each interval over an axis of time that is true to scale."""
+"""A placing in whole seconds: rows over an axis of time that is true to scale."""
 
 from __future__ import annotations
 
 from dataclasses import dataclass, fields, replace
 
+from tml.markup import Markup, element
+
 from ..seconds.civil import civil, length
 from ..seconds.formats import span
 from ..seconds.placed import Placed, PlacedInterval
-from .axis import Mark, extent, marks
+from .axis import extent, marks
+from .bars import BAR, ROW, anywhere, bar_of
 from .lettering import measured
-from .page import page
-from .picture import (
-    BAR,
-    GAP,
-    HATCH,
-    LEAST_WIDTH,
-    MARGIN,
-    ROW,
-    SMALL,
-    STYLE,
-    Lines,
-    anywhere,
-    bar_of,
-    columns_of,
-    framed,
-    heading,
-    number,
-    opened,
-    words,
-)
+from .picture import picture
+from .plot import PLOT, SMALL, Band
 from .rows import NOT_KNOWN, Row, Timeline
 
-PLOT, NARROWEST_BAR = 720, 2.0
-
-CAPTION = (
-    "An axis of time in whole seconds. Bars stand where tml seconds placed them and tml confirm confirmed it: all links, dates and "
-    "lengths are met. Where an interval can start earlier or end later its end fades, as far as that goes; to the edge, where there is no "
-    "limit or it is farther."
-)
-
-FADES = (
-    '<defs><linearGradient id="before"><stop offset="0" stop-color="#16324f" stop-opacity="0"/><stop offset="1" stop-color="#16324f" '
-    'stop-opacity=".35"/></linearGradient><linearGradient id="after"><stop offset="0" stop-color="#16324f" stop-opacity=".35"/>'
-    '<stop offset="1" stop-color="#16324f" stop-opacity="0"/></linearGradient></defs>'
-)
+NARROWEST_BAR = 2.0
 
 
 @dataclass(frozen=True)
@@ -65,41 +38,67 @@ class ScaledRow(Row):
 
 
 @dataclass(frozen=True)
-class Scale:
-    """Where things stand: the width of the columns of texts and dates, and the seconds at the edges of the axis."""
+class Seconds:
+    """An axis of seconds: where it begins in the picture, and the seconds at its edges."""
 
-    labels: float
-    dates: float
+    left: float
     first: int
     last: int
+    title: str = "Placing of "
+    caption: str = (
+        "An axis of time in whole seconds. Bars stand where tml seconds placed them and tml confirm confirmed it: all links, dates and "
+        "lengths are met. Where an interval can start earlier or end later its end fades, as far as that goes; to the edge, where there "
+        "is no limit or it is farther."
+    )
 
-    def plot(self) -> float:
-        """Where the axis begins."""
-        return MARGIN + self.labels + GAP + (self.dates + GAP if self.dates else 0)
+    @classmethod
+    def of(cls, timeline: Timeline, left: float) -> Seconds:
+        """The axis that a placing needs."""
+        first, last = extent([second for row in timeline.rows if row.is_tied for second in (row.start, row.finish)] or [0])
+        return cls(left, first, last)
 
     def x(self, second: int) -> float:
         """Where a second stands; one beyond an edge at that edge."""
         inside = min(max(second, self.first), self.last)
-        return self.plot() + (inside - self.first) * PLOT / (self.last - self.first)
+        return self.left + (inside - self.first) * PLOT / (self.last - self.first)
 
-    def width(self) -> float:
-        """The width of the picture."""
-        return max(LEAST_WIDTH, self.plot() + PLOT + MARGIN + GAP)
+    def ends(self) -> tuple[float, float]:
+        """Where the axis begins and ends."""
+        return self.left, self.left + PLOT
 
-    def marks(self) -> list[Mark]:
+    def marks(self) -> list[tuple[float, str]]:
         """The marks of the axis, as many as have room."""
-        return marks(self.first, self.last, int(PLOT // (measured("0000-00-00 ", SMALL) + 8)))
+        most = int(PLOT // (measured("0000-00-00 ", SMALL) + 8))
+        return [(self.x(mark.second), mark.text) for mark in marks(self.first, self.last, most)]
+
+    def bands(self) -> list[Band]:
+        """No dates beside those of the axis itself."""
+        return []
+
+    def bars(self, row: Row, y: float) -> list[Markup]:
+        """The bar of a row with what fades beside it."""
+        if not row.is_tied:
+            return [anywhere(*self.ends(), y)]
+        start, finish = self.x(row.start), self.x(row.finish)
+        fading = self.faded(row, y + (ROW - BAR) / 2) if isinstance(row, ScaledRow) else []
+        return [*fading, bar_of(row, start, y, max(finish - start, NARROWEST_BAR))]
+
+    def faded(self, row: ScaledRow, y: float) -> list[Markup]:
+        """What fades before a bar that can start earlier, and after one that can end later."""
+        earliest, latest = row.starts[0], row.ends[1]
+        left = self.x(self.first if earliest is None else earliest)
+        right = self.x(self.last if latest is None else latest)
+        parts = [("before", left, self.x(row.start)), ("after", self.x(row.finish), right)]
+        return [
+            element("rect", class_=name, fill=f"url(#{name})", x=float(begin), y=float(y), width=float(end - begin), height=BAR)
+            for name, begin, end in parts
+            if end - begin >= 1
+        ]
 
 
 def scaled_row(row: Row, one: PlacedInterval) -> Row:
     """A row with how far it can move."""
     return ScaledRow(**{field.name: getattr(row, field.name) for field in fields(Row)}, starts=one.starts, ends=one.ends)
-
-
-def scale_of(timeline: Timeline) -> Scale:
-    """The scale that a placing needs."""
-    first, last = extent([second for row in timeline.rows if row.is_tied for second in (row.start, row.finish)] or [0])
-    return Scale(*columns_of(timeline), first, last)
 
 
 def with_ranges(timeline: Timeline, found: Placed) -> Timeline:
@@ -111,56 +110,11 @@ def with_ranges(timeline: Timeline, found: Placed) -> Timeline:
 
 def scaled_svg(timeline: Timeline) -> str:
     """The picture as a file of its own."""
-    return '<?xml version="1.0" encoding="UTF-8"?>\n' + scaled_drawing(timeline)
+    return picture(timeline, Seconds.of)
 
 
 def scaled_page(timeline: Timeline) -> str:
     """The picture as a page, with the links of the row that is pointed at."""
-    return page(timeline, scaled_drawing)
+    from .page import page
 
-
-def scaled_drawing(timeline: Timeline) -> str:
-    """The picture as an element."""
-    scale = scale_of(timeline)
-    head, y = heading(timeline, scale.width(), "Placing of ", CAPTION)
-    lines = Lines(len(timeline.rows), timeline.tied(), y + 2 * GAP)
-    rows = "".join(drawn_row(row, scale, lines.y(place)) for place, row in enumerate(timeline.rows))
-    behind = axis(scale, lines) if lines.tied else ""
-    return framed(scale.width(), lines, f"<style>{STYLE}</style>\n{HATCH}{FADES}\n", head, behind, rows)
-
-
-def axis(scale: Scale, lines: Lines) -> str:
-    """What lies behind the rows: a line at each mark, which is written above and below."""
-    left, right, top, bottom = number(scale.plot()), number(scale.plot() + PLOT), lines.top, lines.axis_end()
-    found = scale.marks()
-    upright = "".join(f"M{number(scale.x(mark.second))} {number(top)}V{number(bottom)}" for mark in found)
-    ends = f"M{left} {number(top)}H{right}M{left} {number(bottom)}H{right}"
-    parts = [f'<path class="grid" d="{upright}"/>\n<path class="axis" d="{ends}"/>\n']
-    for y in (top - 6, bottom + 15):
-        parts.append("".join(words(scale.x(mark.second), y, mark.text, "small number") for mark in found) + "\n")
-    return "".join(parts)
-
-
-def drawn_row(row: Row, scale: Scale, y: float) -> str:
-    """One interval: its text and name, its dates, its bar with the ends that can move, and what is shown where it is pointed at."""
-    parts = [opened(row, y, scale.width(), scale.labels)]
-    if not row.is_tied:
-        return "".join([*parts, anywhere(scale.plot(), scale.plot() + PLOT, y)]) + "</g>\n"
-    if isinstance(row, ScaledRow):
-        parts += faded(row, scale, y + (ROW - BAR) / 2)
-    start, finish = scale.x(row.start), scale.x(row.finish)
-    parts.append(bar_of(row, start, y, max(finish - start, NARROWEST_BAR)))
-    return "".join(parts) + "</g>\n"
-
-
-def faded(row: ScaledRow, scale: Scale, y: float) -> list[str]:
-    """What fades before a bar that can start earlier, and after one that can end later."""
-    earliest, latest = row.starts[0], row.ends[1]
-    left = scale.x(scale.first if earliest is None else earliest)
-    right = scale.x(scale.last if latest is None else latest)
-    parts = [("before", left, scale.x(row.start)), ("after", scale.x(row.finish), right)]
-    return [
-        f'<rect class="{name}" fill="url(#{name})" x="{number(begin)}" y="{number(y)}" width="{number(end - begin)}" height="{BAR}"/>'
-        for name, begin, end in parts
-        if end - begin >= 1
-    ]
+    return page(timeline, Seconds.of)

@@ -8,6 +8,7 @@ from __future__ import annotations
 
 import os
 import re
+import sys
 from collections.abc import Callable, Collection, Mapping, Sequence
 from dataclasses import dataclass, replace
 
@@ -22,6 +23,8 @@ from ..command_line.statuses import Status
 from ..document.around import Around, Text, text_around
 from ..document.asserted import AssertedCopy, asserted_copy, unasserted
 from ..document.words import Wording
+from ..figure.draw import FORMS as BARE_FORMS
+from ..figure.draw import Paper, clash_picture, timeline_picture
 from ..files.finding import CannotRead, counted, read_document, reason, shown
 from ..files.replacing import written
 from ..matrix.reading import matrix_of
@@ -36,6 +39,8 @@ from .rows import Row, Timeline
 FORMS: Mapping[str, Callable[[Timeline], str]] = {".svg": svg, ".html": page, ".htm": page}
 """How a timeline is drawn, by the end of the file's name."""
 
+STANDARD_OUTPUT = "-"
+
 
 @dataclass(frozen=True)
 class Choices:
@@ -44,6 +49,14 @@ class Choices:
     touching: bool = False
     asserted: bool = False
     in_text_order: bool = False
+    rows: tuple[str, ...] = ()
+    """The names of the intervals that are drawn; none are all."""
+
+    context: bool = True
+    """Whether the words around events stand beside them."""
+
+    paper: Paper | None = None
+    """How a picture for a paper is wanted, where it is."""
 
 
 @dataclass(frozen=True)
@@ -52,14 +65,14 @@ class Drawn:
 
     text: str
     status: int
-    picture: str | None = None
+    picture: str | bytes | None = None
 
 
 def form_of(target: str) -> str:
-    """The end of a file's name that says how to draw; other ends are refused."""
-    end = os.path.splitext(target)[1].lower()
-    if end not in FORMS:
-        raise ValueError(f"{target} ends neither in .svg nor in .html")
+    """The end of a file's name that says how to draw; other ends are refused. Standard output is SVG."""
+    end = os.path.splitext(target)[1].lower() if target != STANDARD_OUTPUT else ".svg"
+    if end not in {*FORMS, *BARE_FORMS}:
+        raise ValueError(f"{target} ends in none of .svg, .html, .pdf and .tex")
     return end
 
 
@@ -109,7 +122,7 @@ def picture_of_placing(program: Program, path: str, target: str, found: Placed, 
     seconds = dict(zip(found.order, ((one.start, one.end) for one in found.intervals), strict=True))
     ranks = [seconds[number] for number in range(len(seconds))]
     timeline = with_ranges(in_rows(os.path.basename(path), found.wording, ranks, untied(matrix)), found)
-    timeline = ordered(replace(timeline, matrix=matrix), choices)
+    timeline = ordered(narrowed(replace(timeline, matrix=matrix), choices), choices)
     return scaled_svg(timeline) if form_of(target) == ".svg" else scaled_page(timeline)
 
 
@@ -118,11 +131,39 @@ def draw_document(program: Program, path: str, document: bytes, target: str, cho
     document, copy = chosen(program, document, choices)
     found = fitting(program, path, document, "drawn", choices.touching)
     if isinstance(found, Unfit):
-        return undrawn(found)
-    timeline = ordered(verified(program, path, found.document, found.reply, is_open=True), choices)
+        return drawn_clash(program, path, target, found, choices)
+    timeline = ordered(narrowed(verified(program, path, found.document, found.reply, is_open=True), choices), choices)
     counts = f"{counted(len(timeline.rows), 'interval')}, {counted(timeline.links, 'link')}, ranks 0 to {timeline.greatest()}"
-    picture = FORMS[form_of(target)](timeline)
+    if choices.paper is not None:
+        picture: str | bytes = timeline_picture(program, found.document, timeline, choices.paper)
+    else:
+        picture = FORMS[form_of(target)](timeline)
     return Drawn(found.text + drawn_line(path, target, counts, copy), Status.SUCCESS, picture)
+
+
+def drawn_clash(program: Program, path: str, target: str, unfit: Unfit, choices: Choices) -> Drawn:
+    """What there is of a document that no timeline fits: the ring of its first clash, where a picture for a paper is wanted."""
+    if choices.paper is None or unfit.clash is None:
+        return undrawn(unfit)
+    picture = clash_picture(program, os.path.basename(path), unfit.document, unfit.clash, choices.paper)
+    return Drawn(unfit.text + f"{shown(path)}: its first clash is drawn in {shown(target)}\n", unfit.status, picture)
+
+
+def narrowed(timeline: Timeline, choices: Choices) -> Timeline:
+    """The same timeline with the rows that were chosen, and with the words around events or without."""
+    rows = timeline.rows if choices.context else [replace(row, around=Around()) for row in timeline.rows]
+    if not choices.rows:
+        return replace(timeline, rows=rows)
+    wanted = set(choices.rows)
+    unknown = sorted(wanted - {row.name for row in rows})
+    if unknown:
+        raise CannotRun(f"no interval is called {', '.join(unknown)}, as --rows has it")
+    new = {place: number for number, place in enumerate(place for place, row in enumerate(rows) if row.name in wanted)}
+    kept = [number for number, (left, _, right) in enumerate(timeline.ends) if left in new and right in new]
+    found = [replace(rows[place], partners=[new[other] for other in rows[place].partners if other in new]) for place in new]
+    ends = tuple((new[timeline.ends[one][0]], timeline.ends[one][1], new[timeline.ends[one][2]]) for one in kept)
+    order, numbers = tuple(timeline.order[place] for place in new), tuple(timeline.numbers[one] for one in kept)
+    return replace(timeline, rows=found, links=len(kept), order=order, ends=ends, numbers=numbers)
 
 
 def chosen(program: Program, document: bytes, choices: Choices) -> tuple[bytes, AssertedCopy | None]:
@@ -190,7 +231,7 @@ def in_rows(title: str, wording: Wording, ranks: Sequence[Ranks], loose: Collect
         for place, other in {left: right, right: left}.items():
             rows[place].links.append(words)
             rows[place].partners.append(other)
-    return Timeline(title, rows, len(wording.link_tags), order=tuple(order), ends=tuple(ends))
+    return Timeline(title, rows, len(wording.link_tags), order=tuple(order), ends=tuple(ends), numbers=tuple(range(len(ends))))
 
 
 def sorting(row: Row, number: int) -> tuple[bool, int, int, int]:
@@ -242,10 +283,15 @@ def row_of(wording: Wording, number: int, ranks: Ranks) -> Row:
     return Row(name, wording.whole_text_of(name), kind, *ranks, civil=tuple(numbers[2:]))
 
 
-def write_picture(target: str, text: str) -> None:
+def write_picture(target: str, picture: str | bytes) -> None:
     """Writes a picture."""
+    content = picture.encode("utf-8") if isinstance(picture, str) else picture
+    if target == STANDARD_OUTPUT:
+        sys.stdout.flush()
+        sys.stdout.buffer.write(content)
+        return
     try:
         with written(target) as file:
-            file.write(text.encode("utf-8"))
+            file.write(content)
     except (OSError, ValueError) as error:
         raise CannotRun(f"{target} cannot be written: {reason(error)}") from None

@@ -1,0 +1,1 @@
+"""`timeline --bare`: a picture for a paper, of a timeline or of a clash."""

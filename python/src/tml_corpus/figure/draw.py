@@ -1,0 +1,78 @@
+"""A picture for a paper as a file: the forms that there are, and what is asked of `tml` for one."""
+
+from __future__ import annotations
+
+import re
+from collections.abc import Callable, Mapping
+from dataclasses import dataclass
+
+from ..asking.program import CannotRun, Program
+from ..clash.report import PlacedClash
+from ..clash.walk_words import steps_in_words
+from ..document.reduced import ask_reduced
+from ..document.words import Wording
+from ..timeline.rows import Timeline
+from . import of_clash, of_timeline
+from .shapes import Figure
+
+UNITS = {"mm": 72 / 25.4, "cm": 720 / 25.4, "in": 72.0, "pt": 72 / 72.27, "bp": 1.0}
+NARROWEST, BROADEST = 40 * UNITS["mm"], 1000 * UNITS["mm"]
+WIDTH = re.compile(r"([0-9]{1,4}(?:\.[0-9]{1,3})?)(mm|cm|in|pt|bp)")
+
+
+def width_of(text: str) -> float:
+    """A width in points of 1/72 inch, as `84mm`; what is none, or would be too narrow or broad, is refused."""
+    found = WIDTH.fullmatch(text)
+    width = float(found[1]) * UNITS[found[2]] if found else 0.0
+    if not NARROWEST <= width <= BROADEST:
+        raise ValueError(f"{text} is no width from 40mm to 1000mm, in mm, cm, in, pt or bp")
+    return width
+
+
+def as_svg(figure: Figure) -> bytes:
+    """SVG."""
+    from .svg_form import svg
+
+    return svg(figure).encode("utf-8")
+
+
+def as_pdf(figure: Figure) -> bytes:
+    """PDF."""
+    from .pdf_form import pdf
+
+    return pdf(figure)
+
+
+def as_tex(figure: Figure) -> bytes:
+    """TeX."""
+    from .tikz_form import tikz
+
+    return tikz(figure).encode("utf-8")
+
+
+FORMS: Mapping[str, Callable[[Figure], bytes]] = {".svg": as_svg, ".pdf": as_pdf, ".tex": as_tex}
+"""The forms, by the end of the file's name."""
+
+
+@dataclass(frozen=True)
+class Paper:
+    """The form in which a picture for a paper is wanted, and its width in points."""
+
+    form: str
+    width: float
+
+
+def timeline_picture(program: Program, document: bytes, timeline: Timeline, paper: Paper) -> bytes:
+    """The picture of a timeline, with the links that `tml reduce` keeps."""
+    kept = {link.number for link in ask_reduced(program, Wording(program, document)).kept}
+    # The links of a timeline are in the order of their numbers; those whose rows were not chosen are not among its ends.
+    ends = [end for number, end in zip(timeline.numbers, timeline.ends, strict=True) if number in kept]
+    return FORMS[paper.form](of_timeline.figure_of(timeline, ends, paper.width))
+
+
+def clash_picture(program: Program, title: str, document: bytes, clash: PlacedClash, paper: Paper) -> bytes:
+    """The picture of a clash."""
+    if not clash.walk:
+        raise CannotRun("tml printed no walk of this clash")
+    wording = Wording(program, document)
+    return FORMS[paper.form](of_clash.figure_of(title, wording, steps_in_words(wording, clash.walk), paper.width))

@@ -1,0 +1,108 @@
+"""A picture for a paper as SVG."""
+
+from __future__ import annotations
+
+from collections.abc import Callable, Mapping
+
+from tml.markup import Markup, element, lined, svg_file
+
+from .shapes import FILLINGS, Box, Figure, Line, Shape
+
+FONT = "Helvetica,Arial,'Liberation Sans',sans-serif"
+POINTS_OF_MILLIMETRE = 72 / 25.4
+
+
+def svg(figure: Figure) -> str:
+    """The picture as a file, as broad on paper as it was asked for."""
+    return svg_file(drawing(figure))
+
+
+def drawing(figure: Figure) -> Markup:
+    """The picture as an element."""
+    broad, high = two(figure.width), two(figure.height)
+    content = lined(element("title", figure.title), *(drawn(shape, number) for number, shape in enumerate(figure.shapes)))
+    size = {"width": f"{figure.width / POINTS_OF_MILLIMETRE:.2f}mm", "height": f"{figure.height / POINTS_OF_MILLIMETRE:.2f}mm"}
+    shared = {"viewBox": f"0 0 {broad} {high}", "role": "img", "font_family": FONT}
+    return element("svg", "\n", content, **size, **shared)
+
+
+def drawn(shape: Shape, number: int) -> Markup:
+    """A shape as an element. Its number tells it from others."""
+    if isinstance(shape, Box):
+        return drawn_box(shape, f"box{number}")
+    if isinstance(shape, Line):
+        return drawn_line(shape)
+    halo = {"stroke": "#ffffff", "stroke_width": "2", "paint_order": "stroke", "stroke_linejoin": "round"} if shape.halo else {}
+    style = {"font_size": two(shape.size), "font_weight": "bold" if shape.bold else None, "fill": shape.colour}
+    anchor = None if shape.anchor == "start" else shape.anchor
+    return element("text", shape.text, x=two(shape.x), y=two(shape.y), text_anchor=anchor, **style, **halo)
+
+
+def drawn_box(box: Box, name: str) -> Markup:
+    """A rectangle: its filling, its texture, and its frame."""
+    colour, texture = FILLINGS[box.filling]
+    places = {"x": two(box.x), "y": two(box.y), "width": two(box.width), "height": two(box.height)}
+    places |= {"rx": two(box.round)} if box.round else {}
+    frame = {"stroke": "#000000", "stroke_width": "0.5", "stroke_dasharray": "2 1.2" if box.dashed else None}
+    if not texture:
+        return element("rect", **places, fill=colour, **frame)
+    clip = element("clipPath", element("rect", **places), id=name)
+    ink = {"stroke": "#808080" if colour == "#FFFFFF" else "#FFFFFF", "stroke_width": "1.1" if texture == "dots" else "0.5"}
+    marks = element("path", d=TEXTURES[texture](box), clip_path=f"url(#{name})", fill="none", stroke_linecap="round", **ink)
+    return element("g", clip, element("rect", **places, fill=colour), marks, element("rect", **places, fill="none", **frame))
+
+
+def steps(first: float, last: float, by: float) -> list[float]:
+    """Numbers from one to another."""
+    return [first + by * number for number in range(1 + int((last - first) / by))]
+
+
+# Patterns of SVG would be made of dots where a browser prints, so textures are lines.
+def lines(box: Box) -> str:
+    """Lines that lie."""
+    return "".join(f"M{two(box.x)} {two(y)}h{two(box.width)}" for y in steps(box.y + 1.5, box.y + box.height, 3))
+
+
+def strokes(box: Box) -> str:
+    """Lines that lean."""
+    bottom, way = two(box.y + box.height), f"l{two(box.height)} {two(-box.height)}"
+    return "".join(f"M{two(x)} {bottom}{way}" for x in steps(box.x - box.height, box.x + box.width, 2.5))
+
+
+def dots(box: Box) -> str:
+    """Dots, which are lines without a length and with round ends."""
+    rows = steps(box.y + 1.5, box.y + box.height, 3)
+    return "".join(f"M{two(x)} {two(y)}h0" for y in rows for x in steps(box.x + 1.5, box.x + box.width, 3))
+
+
+TEXTURES: Mapping[str, Callable[[Box], str]] = {"lines": lines, "strokes": strokes, "dots": dots}
+
+
+def drawn_line(line: Line) -> Markup:
+    """A line, with a head or a dot at its end."""
+    first, *others = (f"{two(x)} {two(y)}" for x, y in line.points)
+    way = f"M{first}C{' '.join(others)}" if line.bent else f"M{first}L{' '.join(others)}"
+    dashes = "1.6 1.2" if line.dashed else None
+    parts = [element("path", d=way, fill="none", stroke=line.colour, stroke_width=two(line.width), stroke_dasharray=dashes)]
+    if line.arrow:
+        tip, left, right = head(line)
+        parts.append(element("path", d="M{}L{}L{}Z".format(*(f"{two(x)} {two(y)}" for x, y in (tip, left, right))), fill=line.colour))
+    if line.dot:
+        x, y = line.points[-1]
+        parts.append(element("circle", cx=two(x), cy=two(y), r="1.2", fill=line.colour))
+    return element("g", *parts) if len(parts) > 1 else parts[0]
+
+
+def head(line: Line) -> tuple[tuple[float, float], ...]:
+    """The head of an arrow: its tip, and the two points behind it."""
+    length, half = 2.6 + 1.6 * line.width, 0.9 + line.width
+    (x, y), (to_x, to_y) = line.points[-2:]
+    far = max(((to_x - x) ** 2 + (to_y - y) ** 2) ** 0.5, 0.01)
+    along, across = (to_x - x) / far, (to_y - y) / far
+    back = to_x - along * length, to_y - across * length
+    return (to_x, to_y), (back[0] - across * half, back[1] + along * half), (back[0] + across * half, back[1] - along * half)
+
+
+def two(value: float) -> str:
+    """A number with two decimals at most."""
+    return f"{value:.2f}".rstrip("0").rstrip(".").replace("-0", "0") if abs(value) < 0.005 else f"{value:.2f}".rstrip("0").rstrip(".")

@@ -1,0 +1,66 @@
+"""The colours of pages and pictures, for light and for dark screens, and which stand on which: a test reads that each pair has contrast."""
+
+from __future__ import annotations
+
+import re
+
+LIGHT = {
+    "paper": "#ffffff",
+    "odd": "#eef1f4",
+    "ink": "#111111",
+    "soft": "#505860",
+    "line": "#c3cad1",
+    "strong": "#16324f",
+    "known": "#2a6496",
+    "doubt": "#5f6b76",
+    "mark": "#f6b800",
+    "near": "#fdeebf",
+    "wrong": "#a40000",
+    "good": "#00633a",
+    "touch": "#7a4400",
+    "link": "#8a1c5c",
+}
+DARK = {
+    "paper": "#15181c",
+    "odd": "#1f242a",
+    "ink": "#e8e8e8",
+    "soft": "#a8b0b8",
+    "line": "#4a525a",
+    "strong": "#a9cdf0",
+    "known": "#7fb2e5",
+    "doubt": "#a3adb8",
+    "mark": "#6b4e00",
+    "near": "#453a17",
+    "wrong": "#ff9c8f",
+    "good": "#7fd1a2",
+    "touch": "#f0b95c",
+    "link": "#f09cc8",
+}
+
+GROUNDS = ("paper", "odd", "near", "mark")
+"""What others stand on."""
+
+PAIRS = tuple(
+    (colour, ground)
+    for ground, colours in (
+        ("paper", ("ink", "soft", "strong", "known", "doubt", "wrong", "good", "touch", "link")),
+        ("odd", ("ink", "soft", "strong", "known", "doubt", "wrong", "good", "touch", "link")),
+        ("near", ("ink", "soft", "strong", "known", "doubt", "wrong", "link")),
+        ("mark", ("ink", "strong")),
+    )
+    for colour in colours
+)
+"""Which colours stand on which. Lines that part things and carry no meaning are not among them."""
+
+NAMED = re.compile(r"var\(--([a-z]+)\)")
+
+
+def variables() -> str:
+    """The colours by their names, as a style begins."""
+    light, dark = ("".join(f"--{name}:{colour};" for name, colour in colours.items()) for colours in (LIGHT, DARK))
+    return f":root{{color-scheme:light dark;{light}}}\n@media screen and (prefers-color-scheme:dark){{:root{{{dark}}}}}\n"
+
+
+def in_light(style: str) -> str:
+    """A style with the colours in the place of their names, for programs that know no variables."""
+    return NAMED.sub(lambda found: LIGHT[found[1]], style)

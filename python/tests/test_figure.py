@@ -1,0 +1,278 @@
+"""`tml-corpus timeline --bare`: pictures for a paper of timelines and of clashes, as SVG, TeX and PDF; in colour, and in grey."""
+
+from __future__ import annotations
+
+import itertools
+import os
+import re
+import shutil
+import subprocess
+import unittest
+import xml.etree.ElementTree as ElementTree
+from unittest import mock
+
+from browser import CHROMIUM
+from corpus import TML, TOP, CorpusTest, document, needs_matrix, needs_score
+from looking import contrast, luminance
+from test_timeline_page import event, link, mended
+from tml_corpus.asking.program import CannotRun
+from tml_corpus.figure.draw import width_of
+from tml_corpus.figure.layout import packed, spread
+from tml_corpus.figure.pdf_form import MISSING, pdf
+from tml_corpus.figure.shapes import BLACK, FILLINGS, GREY, Figure
+from tml_corpus.figure.tikz_form import escaped
+
+SVG = "{http://www.w3.org/2000/svg}"
+
+SIGHTS = {
+    "protanopia": ((0.152, 1.053, -0.205), (0.115, 0.786, 0.099), (-0.004, -0.048, 1.052)),
+    "deuteranopia": ((0.367, 0.861, -0.228), (0.280, 0.673, 0.047), (-0.012, 0.043, 0.969)),
+    "tritanopia": ((1.256, -0.077, -0.179), (-0.078, 0.931, 0.148), (0.005, 0.691, 0.304)),
+    "all colours": ((1.0, 0.0, 0.0), (0.0, 1.0, 0.0), (0.0, 0.0, 1.0)),
+}
+"""How colours look to those who lack a kind of cones, by Machado, Oliveira and Fernandes (2009)."""
+
+
+@needs_matrix
+@needs_score
+class FigureTest(CorpusTest):
+    def made(self, content: str, name: str = "d.svg", *words: str, status: int = 0) -> str:
+        """The picture of a document, as text."""
+        self.write("d.xml", content)
+        printed, lines, error = self.run_it("timeline", "--bare", "d.xml", "-o", name, *words)
+        self.assertEqual((printed, error), (status, ""), lines)
+        with open(self.path(name), encoding="utf-8", errors="replace") as file:
+            return file.read()
+
+    def texts(self, picture: str) -> list[str]:
+        """The texts of a picture."""
+        return [one.text or "" for one in ElementTree.fromstring(picture.encode()).iter(SVG + "text")]
+
+    def boxes(self, picture: str, height: str = "10") -> list[tuple[float, float, float]]:
+        """The left and right edges and the tops of the bars and dates."""
+        rects = ElementTree.fromstring(picture.encode()).iter(SVG + "rect")
+        found = [{key: float(one.get(key, "0")) for key in ("x", "y", "width")} for one in rects if one.get("height") == height]
+        return [(one["x"], one["x"] + one["width"], one["y"]) for one in found]
+
+
+class Timelines(FigureTest):
+    def test_it_is_as_broad_as_it_was_asked_for(self) -> None:
+        for words, width in (((), "84.00mm"), (("--width", "174mm"), "174.00mm"), (("--width", "3in"), "76.20mm")):
+            root = ElementTree.fromstring(self.made(mended(), "d.svg", *words).encode())
+            self.assertEqual(root.get("width"), width)
+            right = float(root.get("viewBox", "").split(" ")[2])
+            self.assertTrue(all(0 <= left < end <= right for left, end, _ in self.boxes(self.made(mended(), "d.svg", *words))))
+
+    def test_bars_do_not_overlap(self) -> None:
+        for one, other in itertools.combinations(self.boxes(self.made(mended())), 2):
+            self.assertTrue(one[2] != other[2] or one[1] <= other[0] + 0.02 or other[1] <= one[0] + 0.02, (one, other))
+
+    def test_texts_and_dates_with_their_breaks(self) -> None:
+        picture = self.made(mended())
+        shown = self.texts(picture)
+        words = "warned failed walked closed called waited agreed turned reopened said".split()
+        self.assertLessEqual({*words, "9 March 1998", "11 March"}, {*shown})
+        self.assertTrue({"12 March", "12 Mar"} & {*shown})
+        lines = re.findall(r'<path d="M([\d.]+) ([\d.]+)L([\d.]+) ([\d.]+)" fill="none" stroke="#000000" stroke-width="0.6"/>', picture)
+        breaks = [x for x, y, to_x, to_y in lines if x != to_x and y != to_y]
+        self.assertEqual(len(breaks), 2, "two strokes of one break, between the ninth and the eleventh")
+        dates = sorted(self.boxes(picture))
+        tops = min(top for _, _, top in dates)
+        nine, eleven, _ = (one for one in dates if one[2] == tops)
+        self.assertTrue(all(nine[1] - 3 < float(x) < eleven[0] + 3 for x in breaks))
+
+    def test_only_links_that_do_not_follow_are_drawn(self) -> None:
+        content = mended().replace("</TimeML>", link(0, "BEFORE", 0).replace("i0", "ei2", 1).replace("i0", "ei10") + "</TimeML>")
+        picture = self.made(content)
+        reduced = subprocess.run([TML, "reduce", self.path("d.xml")], capture_output=True, text=True, check=True).stdout.splitlines()[1:]
+        relations = [line.split(" ")[3] for line in reduced]
+        before = sum(one in ("BEFORE", "AFTER", "IBEFORE", "IAFTER") for one in relations)
+        self.assertEqual(len(relations), 13, "the fourteenth follows from the others")
+        self.assertEqual(len(re.findall(r' d="M[\d. -]+C', picture)), before)
+        self.assertEqual(picture.count("<circle") - 1, len(relations) - before, "a dot for each other link, and one in the legend")
+
+    def test_chosen_rows(self) -> None:
+        picture = self.made(mended(), "d.svg", "--rows", "ei4,ei5,t1")
+        self.assertEqual(self.texts(picture)[:3], ["9 March 1998", "closed", "waited"])
+        self.assertNotIn("walked", picture)
+        self.write("d.xml", mended())
+        for name in ("d.svg", "d.html"):
+            self.assertEqual(self.run_it("timeline", "d.xml", "--rows", "ei4,ei5,t1", "-o", name)[0], 0)
+        status, lines, _ = self.run_it("timeline", "d.xml", "--rows", "ei4,nobody", "-o", "d.svg")
+        self.assertEqual((status, lines), (2, ["d.xml: not judged: no interval is called nobody, as --rows has it"]))
+
+    def test_without_the_words_around(self) -> None:
+        self.write("d.xml", mended())
+        for words, is_there in (((), True), (("--no-context",), False)):
+            self.assertEqual(self.run_it("timeline", "d.xml", "-o", "d.svg", *words)[0], 0)
+            with open(self.path("d.svg"), encoding="utf-8") as file:
+                self.assertEqual("The port" in file.read(), is_there)
+
+    def test_standard_output(self) -> None:
+        self.write("d.xml", mended())
+        for words in ((), ("--bare",)):
+            status, lines, error = self.run_it("timeline", "d.xml", "-o", "-", *words)
+            self.assertEqual((status, error), (0, "d.xml: drawn in -: 13 intervals, 13 links, ranks 0 to 16\n"))
+            ElementTree.fromstring("\n".join(lines).encode())
+
+    def test_documents_of_all_kinds(self) -> None:
+        times = '<TIMEX3 tid="a" type="DATE" value="1998"/><TIMEX3 tid="b" type="DATE" value="1998-01-XX"/><TIMEX3 tid="c" type="SET"/>'
+        negated = '<EVENT eid="e9" class="STATE">went</EVENT><MAKEINSTANCE eiid="i9" eventID="e9" polarity="NEG"/>'
+        contents = ["", event(1), times, event(1) + times + negated + link(1, "BEFORE", 9), "".join(map(event, range(300)))]
+        contents.append("".join(map(event, range(300))) + "".join(link(number, "BEFORE", number + 1) for number in range(299)))
+        for content in contents:
+            with self.subTest(content[:60]):
+                picture = self.made(document(content))
+                ElementTree.fromstring(picture.encode())
+                self.assertNotIn("<pattern", picture, "a browser prints patterns as dots")
+                self.assertEqual("clipPath" in picture, "TIMEX3" in content)
+
+    def test_what_does_not_go_together(self) -> None:
+        self.write("d.xml", mended())
+        rows = [
+            (("--width", "84mm", "-o", "d.svg"), "--width goes with --bare"),
+            (("-o", "d.pdf"), "a picture in .pdf is one for a paper: add --bare"),
+            (("--bare", "-o", "d.html"), "--bare draws .svg, .pdf or .tex"),
+            (("--bare", "--seconds", "-o", "d.svg"), "--bare goes neither with --seconds nor with --text-order"),
+            (("--bare", "--width", "1mm", "-o", "d.svg"), "1mm is no width from 40mm to 1000mm"),
+            (("--bare", "--width", "84", "-o", "d.svg"), "84 is no width"),
+        ]
+        for words, said in rows:
+            status, lines, error = self.run_it("timeline", "d.xml", *words)
+            self.assertEqual(status, 2)
+            self.assertIn(said, "\n".join(lines) + error)
+        self.assertEqual(os.listdir(self.folder), ["d.xml"])
+
+
+class Clashes(FigureTest):
+    def test_a_ring_of_points_and_a_line_for_each_step(self) -> None:
+        with open(os.path.join(TOP, "samples", "port.xml"), encoding="utf-8") as file:
+            content = file.read()
+        picture = self.made(content, status=1)
+        points = [one for one in ElementTree.fromstring(picture.encode()).iter(SVG + "rect") if one.get("height") == "4.4"]
+        self.assertEqual(len(points), 5)
+        shown = self.texts(picture)
+        for text in ("end of waited", "end of closed", "end of Monday", "start of Wednesday", "start of reopened"):
+            self.assertIn(text, shown)
+        said = " ".join(shown)
+        self.assertIn("1 end of waited is no later than end of closed, since waited DURING closed (l6: ei5 DURING ei4)", said)
+        self.assertIn("So the end of waited would be before itself.", said)
+        self.assertEqual(picture.count('stroke-dasharray="1.6 1.2"'), 2)
+        self.assertEqual(self.run_it("timeline", "--bare", "d.xml", "-o", "d.svg")[1][-1], "d.xml: its first clash is drawn in d.svg")
+
+    def test_one_link_and_many(self) -> None:
+        ring = "".join(link(number, "BEFORE", (number + 1) % 40) for number in range(40))
+        for content, count in ((event(1) + link(1, "BEFORE", 1), 2), ("".join(map(event, range(40))) + ring, 80)):
+            picture = self.made(document(content), status=1)
+            self.assertEqual(picture.count('height="4.4"'), count)
+
+    def test_a_fault_has_no_picture(self) -> None:
+        self.write("d.xml", "<TimeML><EVENT/></TimeML>")
+        self.assertEqual(self.run_it("timeline", "--bare", "d.xml", "-o", "d.svg")[0], 1)
+        self.assertEqual(os.listdir(self.folder), ["d.xml"])
+
+
+class Samples(FigureTest):
+    """That the pictures of the pages are those of the command."""
+
+    def test_they_are_what_is_drawn(self) -> None:
+        for name, picture in (("ferry.xml", "ferry-bare.svg"), ("port.xml", "port-clash.svg")):
+            self.run_it("timeline", "--bare", os.path.join(TOP, "samples", name), "-o", "made.svg")
+            with open(self.path("made.svg"), "rb") as made, open(os.path.join(TOP, "samples", picture), "rb") as kept:
+                self.assertEqual(made.read(), kept.read(), name)
+
+
+class Forms(FigureTest):
+    HOSTILE = r"\input{/etc/passwd} $x$ #1 %&_^~{}" + "\"<>|`"
+
+    def test_tex(self) -> None:
+        text = self.HOSTILE.replace("&", "&amp;").replace("<", "&lt;")
+        made = self.made(document(event(1, text) + event(2) + link(1, "BEFORE", 2)), "d.tex", "--width", "174mm")
+        self.assertIn(r"\documentclass[border=0pt]{standalone}", made)
+        self.assertEqual(made.replace(r"\{", "").count("{"), made.replace(r"\}", "").count("}"))
+        self.assertFalse(re.search(r"\\(input|include|includegraphics|write|openin)\b(?!enc)", made))
+        self.assertEqual(made.count(r"\begin"), made.count(r"\end"))
+        for line in made.split(r"\begin{tikzpicture}")[1].splitlines()[1:-2]:
+            self.assertRegex(line, r"^\\(useasboundingbox|fill|draw|node)\b.*;$")
+
+    def test_signs_of_tex(self) -> None:
+        self.assertEqual(escaped(r"\a{"), r"\textbackslash{}a\{")
+        self.assertEqual(escaped("50% & x_1 -- #"), r"50\% \& x\_1 {-}{-} \#")
+
+    @unittest.skipUnless(shutil.which("pdflatex"), "no program pdflatex")
+    def test_tex_can_be_compiled(self) -> None:
+        for name, content, status in (("a", mended(), 0), ("b", mended().replace('relType="AFTER"', 'relType="BEFORE"'), 1)):
+            self.made(content, f"{name}.tex", status=status)
+            words = ["pdflatex", "-interaction=batchmode", f"{name}.tex"]
+            done = subprocess.run(words, cwd=self.folder, stdin=subprocess.DEVNULL, check=False)
+            self.assertEqual(done.returncode, 0)
+
+    @unittest.skipUnless(CHROMIUM and shutil.which("pdftotext"), "no program chromium, or no pdftotext")
+    def test_pdf(self) -> None:
+        self.made(mended(), "d.pdf")
+        said = subprocess.run(["pdftotext", self.path("d.pdf"), "-"], capture_output=True, text=True, check=True).stdout
+        self.assertIn("waited", said)
+        self.assertEqual(said.count("\f"), 1)
+        with open(self.path("d.pdf"), "rb") as file:
+            box = re.search(rb"/MediaBox\s*\[0 0 ([\d.]+) ([\d.]+)\]", file.read())
+        assert box is not None
+        self.assertAlmostEqual(float(box[1]), 84 * 72 / 25.4, delta=1)
+
+    def test_the_library_is_asked_first(self) -> None:
+        library = mock.Mock()
+        library.svg2pdf.return_value = b"%PDF"
+        with mock.patch("importlib.import_module", return_value=library), mock.patch("subprocess.run", side_effect=AssertionError):
+            self.assertEqual(pdf(Figure(100, "x")), b"%PDF")
+        ElementTree.fromstring(library.svg2pdf.call_args.kwargs["bytestring"])
+
+    def test_where_nothing_makes_a_pdf(self) -> None:
+        with mock.patch("shutil.which", return_value=None), mock.patch("importlib.import_module", side_effect=ImportError):
+            with self.assertRaisesRegex(CannotRun, re.escape(MISSING)):
+                pdf(Figure(100, "x"))
+
+
+class Parts(unittest.TestCase):
+    def test_widths(self) -> None:
+        self.assertEqual([round(width_of(text), 2) for text in ("84mm", "8.4cm", "3in", "240pt")], [238.11, 238.11, 216.0, 239.1])
+        for text in ("", "84", "-84mm", "84 mm", "1e9mm", "nan", "99999mm", "\u0668\u0664mm"):
+            with self.subTest(text), self.assertRaises(ValueError):
+                width_of(text)
+
+    def test_lanes(self) -> None:
+        self.assertEqual(packed([(0, 10), (5, 8), (8, 12), (10, 11)]), [0, 1, 1, 0])
+        self.assertEqual(packed([]), [])
+
+    def test_places(self) -> None:
+        self.assertEqual(spread([(0, 2, 30.0)], 4, 5.0, 1.0), [0.0, 5.0, 30.0, 35.0])
+        self.assertEqual(spread([(0, 2, 30.0)], 4, 5.0, 0.0), [0.0, 5.0, 10.0, 15.0])
+
+
+class Colours(unittest.TestCase):
+    """That kinds of bars differ in grey and to those who see few colours, by brightness, colour or texture."""
+
+    KINDS = ("event", "unasserted", "exact", "within", "free")
+
+    def seen(self, colour: str, sight: str) -> tuple[float, ...]:
+        """A colour as it looks, in its parts from 0 to 1."""
+        parts = [int(colour[place : place + 2], 16) / 255 for place in (1, 3, 5)]
+        linear = [part / 12.92 if part <= 0.04045 else ((part + 0.055) / 1.055) ** 2.4 for part in parts]
+        mixed = [min(max(sum(share * part for share, part in zip(row, linear, strict=True)), 0.0), 1.0) for row in SIGHTS[sight]]
+        return tuple(float(one ** (1 / 2.4)) for one in mixed)
+
+    def test_labels_can_be_read(self) -> None:
+        for kind in self.KINDS:
+            self.assertGreaterEqual(contrast(BLACK, FILLINGS[kind][0].lower()), 4.5, kind)
+        self.assertGreaterEqual(contrast(GREY, "#ffffff"), 4.5)
+
+    def test_kinds_differ(self) -> None:
+        for one, other in itertools.combinations(self.KINDS, 2):
+            (first, texture), (second, other_texture) = FILLINGS[one], FILLINGS[other]
+            with self.subTest(f"{one}, {other}"):
+                self.assertTrue(texture != other_texture or abs(luminance(first) - luminance(second)) > 0.2)
+                for sight in SIGHTS:
+                    pairs = zip(self.seen(first, sight), self.seen(second, sight), strict=True)
+                    self.assertTrue(texture != other_texture or sum((a - b) ** 2 for a, b in pairs) ** 0.5 > 0.25, sight)
+
+
+if __name__ == "__main__":
+    unittest.main()

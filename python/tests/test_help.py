@@ -1,0 +1,37 @@
+"""The help of the programs: its examples name what was called, be it a file of tools/ or an installed command."""
+
+import os
+import subprocess
+import sys
+import tempfile
+import unittest
+
+from building.package import SCRIPTS
+from corpus import TOOLS
+
+
+class Help(unittest.TestCase):
+    def said(self, program: str, *words: str) -> str:
+        """What a program prints."""
+        command, environment = [sys.executable, program, *words], {**os.environ, "PYTHONDONTWRITEBYTECODE": "1"}
+        return subprocess.run(command, capture_output=True, text=True, check=True, env=environment).stdout
+
+    def test_the_installed_command_is_named(self) -> None:
+        with tempfile.TemporaryDirectory() as folder:
+            for name, called in SCRIPTS.items():
+                link = os.path.join(folder, called)
+                os.symlink(os.path.join(TOOLS, name), link)
+                for words in (["timeline", "--help"], ["check", "--help"]) if name == "tml-corpus" else (["--help"],):
+                    with self.subTest(called, words=words):
+                        text = self.said(link, *words)
+                        self.assertNotIn("tools/", text)
+                        self.assertIn(f"{called} ", text.split("xample", 1)[-1])
+
+    def test_in_the_repository_the_file_is_named(self) -> None:
+        for name in SCRIPTS:
+            words = ["timeline", "--help"] if name == "tml-corpus" else ["--help"]
+            self.assertIn(f"tools/{name} ", self.said(os.path.join(TOOLS, name), *words))
+
+
+if __name__ == "__main__":
+    unittest.main()

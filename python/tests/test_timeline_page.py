@@ -1,0 +1,170 @@
+"""The page of a timeline in a browser: what stays in sight, keys, names for those who do not see, contrast, and print."""
+
+from __future__ import annotations
+
+import base64
+import os
+import re
+import shutil
+import subprocess
+import unicodedata
+import unittest
+from typing import Any
+
+from browser import needs_browser
+from corpus import TOP, CorpusTest, document, needs_matrix
+from looking import contrasts, darkened, opened, resized
+from tml_corpus.timeline.lettering import measured
+
+
+def event(number: int, text: str = "x") -> str:
+    """An event and its instance."""
+    return f'<EVENT eid="e{number}" class="STATE">{text}</EVENT><MAKEINSTANCE eiid="i{number}" eventID="e{number}"/>\n'
+
+
+def link(left: int, relation: str, right: int) -> str:
+    """A TLINK between two instances."""
+    return f'<TLINK eventInstanceID="i{left}" relatedToEventInstance="i{right}" relType="{relation}"/>\n'
+
+
+def mended() -> str:
+    """The sample of the port, whose clash is mended."""
+    with open(os.path.join(TOP, "samples", "port.xml"), encoding="utf-8") as file:
+        return file.read().replace("DURING", "AFTER")
+
+
+@needs_matrix
+class PageTest(CorpusTest):
+    def made(self, content: str, name: str = "d.html", *words: str) -> str:
+        """The path of the picture of a document."""
+        self.write("d.xml", content)
+        status, lines, error = self.run_it("timeline", "d.xml", "-o", name, *words)
+        self.assertEqual((status, error), (0, ""), lines)
+        return self.path(name)
+
+
+@needs_browser
+class InABrowser(PageTest):
+    def test_axis_and_names_stay_in_sight(self) -> None:
+        events = "".join(event(number) for number in range(1024))
+        page = self.made(document(events + "".join(link(number, "BEFORE", number + 1) for number in range(1023))))
+        with opened() as browser:
+            browser.open(page)
+            browser.value("document.querySelector('main').scrollTo(5000, 12000)")
+            place = "(() => { const box = document.querySelector(SELECTOR).getBoundingClientRect(); return [box.left, box.top]; })()"
+            main = browser.value(place.replace("SELECTOR", "'main'"))
+            self.assertEqual(browser.value(place.replace("SELECTOR", "'.head'"))[1], main[1])
+            label = browser.value(place.replace("SELECTOR", "'#row560 .label'"))
+            self.assertEqual(label[0], main[0])
+            self.assertTrue(browser.value("document.querySelector('main').scrollTop") > 9000)
+            there = "document.elementFromPoint(20, document.querySelector('#row560').getBoundingClientRect().top + 11)"
+            self.assertIn("(i560)", browser.value(f"{there}.closest('.label').textContent"))
+            self.assertEqual(browser.said, [])
+
+    def test_one_stop_of_the_tabulator_and_arrow_keys(self) -> None:
+        with opened() as browser:
+            browser.open(self.made(mended()))
+            self.assertEqual(browser.value("document.querySelectorAll('.row[tabindex=\"0\"]').length"), 1)
+            browser.value("document.querySelector('#row0').focus()")
+            for key, code, place in (("ArrowDown", 40, "row1"), ("End", 35, "row12"), ("ArrowUp", 38, "row11"), ("Home", 36, "row0")):
+                browser.press(key, code)
+                self.assertEqual(browser.value("document.activeElement.id"), place)
+            self.assertEqual(browser.value("document.querySelectorAll('.row[tabindex=\"0\"]').length"), 1)
+            self.assertEqual(browser.said, [])
+
+    def test_names_for_those_who_do_not_see(self) -> None:
+        with opened() as browser:
+            browser.open(self.made(mended()))
+            tree = browser.ask("Accessibility.getFullAXTree")["nodes"]
+            said = [(node["role"]["value"], node.get("name", {}).get("value", "")) for node in tree if not node.get("ignored")]
+            self.assertIn(("main", "Timeline of d.xml"), said)
+            self.assertIn(("button", "waited (ei5): event, ranks 8 to 11"), said)
+            self.assertEqual([name for role, name in said if role in ("button", "main", "textbox", "group") and not name], [])
+
+    def test_contrast(self) -> None:
+        times = '<TIMEX3 tid="a" type="DATE" value="1998"/><TIMEX3 tid="b" type="DATE" value="1998-01-XX"/><TIMEX3 tid="c" type="SET"/>'
+        negated = '<EVENT eid="e9" class="STATE">went</EVENT><MAKEINSTANCE eiid="i9" eventID="e9" polarity="NEG"/>'
+        links = link(1, "BEFORE", 2) + link(9, "BEFORE", 2) + link(1, "BEFORE", 3)
+        page = self.made(document(". ".join(map(event, range(1, 5))) + times + negated + links))
+        with opened() as browser:
+            browser.open(page)
+            browser.value("document.querySelector('#row1').click()")
+            for is_dark in (False, True):
+                darkened(browser, is_dark)
+                found, weak = contrasts(browser)
+                self.assertGreater(found, 10)
+                self.assertEqual(weak, [], f"dark: {is_dark}")
+
+    def test_directions_do_not_mix(self) -> None:
+        for name in ("d.html", "d.svg"):
+            with opened() as browser:
+                browser.open(self.made(document(event(1, "\u05d0\u05d1\u05d2") + event(2) + link(1, "BEFORE", 2)), name))
+                edge = "(() => { const box = document.querySelector('SELECTOR').getBoundingClientRect(); return [box.left, box.right]; })()"
+                first, second = (".label bdi", ".label .name") if name == "d.html" else (".row text tspan", ".row text tspan.name")
+                text, named = (browser.value(edge.replace("SELECTOR", one)) for one in (first, second))
+                self.assertLessEqual(text[1], named[0] + 0.5)
+                shown = browser.value(f"document.querySelector('{second}').textContent")
+                self.assertEqual(shown, "(i1)")
+
+    @unittest.skipUnless(shutil.which("pdftotext"), "no program pdftotext")
+    def test_no_heading_is_stranded_on_paper(self) -> None:
+        events = "".join(event(number) for number in range(90))
+        page = self.made(document(events + "".join(link(number, "BEFORE", number + 1) for number in range(40))))
+        with opened() as browser:
+            browser.open(page)
+            printed = browser.ask("Page.printToPDF", landscape=True)["data"]
+        self.write("d.pdf", base64.b64decode(printed))
+        text = subprocess.run(["pdftotext", "-layout", self.path("d.pdf"), "-"], capture_output=True, text=True, check=True).stdout
+        pages = [lines for one in text.split("\f") if (lines := [line.strip() for line in one.splitlines() if line.strip()])]
+        self.assertGreater(len(pages), 1)
+        for lines in pages:
+            self.assertFalse(re.match("Order not known|Timeline of|How to read", lines[-1]), lines[-1])
+
+    def test_what_is_measured_has_room(self) -> None:
+        texts = ["waited", "WWWWMMMM", "日本語日本語", "नमस्ते दुनिया", "สวัสดีชาวโลก", "မြန်မာဘာသာ", "தமிழ்மொழி", "മലയാളം"]
+        texts += ["\u0421\u043b\u043e\u0432\u043e", "السلام", "\ufdfd", "😀😀", "e\u0301"]
+        with opened() as browser:
+            self.write("t.svg", f'<svg xmlns="http://www.w3.org/2000/svg" width="900" height="900">{"".join(map(placed, texts))}</svg>')
+            browser.open(self.path("t.svg"))
+            widths = browser.value("[...document.querySelectorAll('text')].map((one) => one.getComputedTextLength())")
+        for text, width in zip(texts, widths, strict=True):
+            with self.subTest(text, name=unicodedata.name(text[0])):
+                self.assertLessEqual(width, 13 * 0.02 + measured(text, 13))
+
+    def test_narrow(self) -> None:
+        with opened() as browser:
+            resized(browser, 400)
+            browser.open(self.made(mended()))
+            bars: Any = browser.value("document.querySelector('#row0 .bars').getBoundingClientRect().left")
+            self.assertLess(bars, 250)
+            self.assertLessEqual(browser.value("document.documentElement.scrollWidth"), 400)
+
+
+def placed(text: str) -> str:
+    """A text in the font of pictures."""
+    return f'<text y="50" style="font:13px \'DejaVu Sans\',Verdana,Helvetica,Arial,sans-serif">{text}</text>'
+
+
+class Pictures(PageTest):
+    def test_dates_stand_on_the_axis_by_their_names(self) -> None:
+        for name in ("d.svg", "d.html"):
+            with open(self.made(mended(), name), encoding="utf-8") as file:
+                picture = file.read()
+            line = r'<path class="band" d="M([\d.]+) [\d.]+H([\d.]+)"/>'
+            bands = re.findall(line + r'<text class="small" x="([\d.]+)" y="[\d.]+">([^<]*)<', picture)
+            self.assertEqual([text for *_, text in bands], ["9 March 1998", "11 March 1998", "12 March 1998"])
+            self.assertTrue(all(left == x and float(left) < float(right) for left, right, x, _ in bands))
+
+    def test_what_is_known_is_louder_than_what_is_not(self) -> None:
+        with open(self.made(mended(), "d.svg"), encoding="utf-8") as file:
+            picture = file.read()
+        self.assertIn(".moving .bar:not(.core){fill:#ffffff;stroke:#5f6b76", picture)
+        rows = dict(re.findall(r'<g class="row ([^"]*)"><title>([a-z]+) ', picture))
+        self.assertTrue(rows)
+        for row in re.findall(r'<g class="row [^"]*">.*?</g>', picture, re.DOTALL):
+            self.assertLessEqual(row.count('class="span"'), 1)
+            self.assertEqual('class="span"' in row or "core" in row, "moving" in row.split(">")[0], row[:60])
+
+
+if __name__ == "__main__":
+    unittest.main()
