@@ -291,7 +291,7 @@ class Protocol(ServeTest):
                 self.assertTrue(self.changed(client, text, version))
                 for line, character in ((0, 0), (0, len(text)), (1, 9), (2**31, 2**31), (0, 17)):
                     where = {"line": line, "character": character}
-                    for method in ("hover", "definition", "completion", "references", "documentSymbol", "codeAction"):
+                    for method in ("hover", "definition", "completion", "references", "documentSymbol", "codeAction", "prepareRename"):
                         given = {"position": where, "context": {}, "range": {"start": where, "end": where}, "textDocument": {"uri": self.uri()}}
                         client.send(client.request(f"textDocument/{method}", given))
                         self.assertNotIn("error", client.answer(client.number), method)
