@@ -42,5 +42,16 @@ vim.api.nvim_win_set_cursor(0, { 2, 12 })
 print("refused: " .. ask("textDocument/rename", { newName = "a b" }).error.message)
 apply(ask("textDocument/rename", { newName = "e7" }).result)
 print("renamed: " .. vim.fn.getline(2))
+vim.fn.cursor(2, vim.fn.getline(2):find("word"))
+vim.cmd("normal! viw\27")
+vim.ui.select = function(items, _, choose)
+  for _, item in ipairs(items) do
+    if item[2].title:find("MAKEINSTANCE") then choose(item) end
+  end
+end
+vim.lsp.buf.range_code_action()
+wait(function() return vim.fn.getline(2):find("OCCURRENCE") ~= nil end)
+print("annotated: " .. vim.fn.getline(2))
+print("instance: " .. vim.fn.getline(3))
 vim.lsp.stop_client(id)
 print("stopped: " .. tostring(wait(function() return vim.lsp.client_is_stopped(id) end)))

@@ -291,7 +291,7 @@ class Protocol(ServeTest):
                 self.assertTrue(self.changed(client, text, version))
                 for line, character in ((0, 0), (0, len(text)), (1, 9), (2**31, 2**31), (0, 17)):
                     where = {"line": line, "character": character}
-                    for method in ("hover", "definition", "completion", "references", "documentSymbol", "codeAction"):
+                    for method in ("hover", "definition", "completion", "references", "documentSymbol", "codeAction", "prepareRename"):
                         given = {"position": where, "context": {}, "range": {"start": where, "end": where}, "textDocument": {"uri": self.uri()}}
                         client.send(client.request(f"textDocument/{method}", given))
                         self.assertNotIn("error", client.answer(client.number), method)
@@ -320,7 +320,7 @@ class Editors(CorpusTest):
     def run_editor(self, *words, path=os.environ["PATH"]):
         """What an editor prints that is started with a document with one fault; `tml-corpus` is on its path."""
         for name in ("d.xml", "d.tml", "e.tml"):
-            self.write(name, document('<EVENT eid="e1" class="State">x</EVENT>\n'))
+            self.write(name, document('<EVENT eid="e1" class="State">x</EVENT> word\n'))
         self.write("bin/tml-corpus", f'#!/bin/sh\nexec {sys.executable} {COMPANION} "$@" --tml {TML}\n')
         os.chmod(self.path("bin/tml-corpus"), 0o755)
         done = subprocess.run(
@@ -363,11 +363,13 @@ class Editors(CorpusTest):
             "attached: true true",
             'said: class="State" is not a class: .*did you mean STATE',
             r"offered: Mend values \(1 change\)",
-            'line: <EVENT eid="e1" class="STATE">x</EVENT>',
+            'line: <EVENT eid="e1" class="STATE">x</EVENT> word',
             "then: the document has no creation time",
             r"hover: \*\*x \(e1, STATE\)",
             "refused: .*is not an identifier",
-            'renamed: <EVENT eid="e7" class="STATE">x</EVENT>',
+            'renamed: <EVENT eid="e7" class="STATE">x</EVENT> word',
+            'annotated: .* <EVENT eid="e2" class="OCCURRENCE">word</EVENT>',
+            'instance: <MAKEINSTANCE eiid="ei1" eventID="e2"/>',
             "stopped: true",
         )
         self.assertNotRegex(printed, "Error|traceback")

@@ -71,6 +71,7 @@ class Selection(CorpusTest):
             with self.subTest(words):
                 self.assertEqual(selected(state, words), [])
         self.assertEqual(selected(state_of("<TimeML>a < b</TimeML>"), "b"), [])
+        self.assertEqual(selected(state_of("<TimeML>a" + " b" * 2_100_000 + "</TimeML>"), "b"), [])
         self.assertEqual(selected(state_of("a <TimeML>b</TimeML>"), "a"), [])
 
     def test_a_document_with_a_fault_keeps_it(self) -> None:

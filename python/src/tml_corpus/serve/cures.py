@@ -36,13 +36,18 @@ def cures(document: OpenDocument, lines: tuple[int, int]) -> Iterator[Json]:
     seen: set[tuple[Edit, ...]] = set()
     titles: set[str] = set()
     found = chain(of_first_fault(document, lines, seen), of_faults(document, lines, seen), of_warnings(document, lines, seen))
-    for one in islice(found, max(min(MOST_OFFERED, MOST_BYTES // max(len(document.text), 1)), LEAST_OFFERED)):
+    for one in islice(found, most_for(document)):
         if one["title"] in titles:
             start = one["edit"]["changes"][document.uri][0]["range"]["start"]
             one["title"] += f", at {start['line'] + 1}:{start['character'] + 1}"
         if one["title"] not in titles:
             titles.add(one["title"])
             yield one
+
+
+def most_for(document: OpenDocument) -> int:
+    """How many edits of a document `tml` is asked about."""
+    return max(min(MOST_OFFERED, MOST_BYTES // max(len(document.text), 1)), LEAST_OFFERED)
 
 
 def of_first_fault(document: OpenDocument, lines: tuple[int, int], seen: set[tuple[Edit, ...]]) -> Iterator[Json]:
@@ -73,7 +78,7 @@ def of_fault(
 ) -> Iterator[Json]:
     """What the sentence on a fault names: its one cure, or what a person has to choose, in the order in which it is likely to help."""
     sure = tuple(found.edits)
-    ways = [way for way in dict.fromkeys([sure, *found.choices()]) if way and way not in seen]
+    ways = [way for way in dict.fromkeys([sure, *found.choices()]) if way and way not in seen][: most_for(document)]
     seen.update(ways)
     reached = {way: how_far(document.program, found.document, fault, way) for way in ways}
     helping = [way for way in ways if reached[way] is not None and (way != sure or reached[way] == BEYOND)]

@@ -29,7 +29,8 @@ def annotated(document: OpenDocument, start: int, end: int) -> Iterator[Json]:
     """What can be made of a selection; nothing where it is empty, or is not a piece of the text with whole tags."""
     fault, raw = document.fault, document.text[start:end]
     start, end = start + len(raw) - len(raw.lstrip()), end - (len(raw) - len(raw.rstrip()))
-    if start >= end or (fault is not None and fault.number <= BAD_MARKUP) or not is_free(document, start, end):
+    is_cut = document.is_accepted() if fault is None else fault.number > BAD_MARKUP
+    if start >= end or not is_cut or not is_free(document, start, end):
         return
     words = " ".join(re.sub("<[^<>]*>", "", document.text[start:end].decode("utf-8", "replace")).split())
     called = words if len(words) <= LONGEST else words[: LONGEST - 3] + "..."
