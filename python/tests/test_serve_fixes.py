@@ -29,7 +29,7 @@ TABLES: Any = test_mistakes
 DOING: Any = advice.DOING
 WITHOUT_A_CURE = (
     "a second document begins here", "put the tag around its words", "only links can order it",
-    "say nothing of its time", "says nothing of its time", "see which words each is around", "and this day is a",
+    "nothing about its time", "see which words each belongs to", "and this day is a",
     "is far from the creation time", "see whether one of the two instances was pasted", "so nothing orders it: add a TLINK",
     "February 1999 has 28 days", "the halves of a year",
 )  # fmt: skip

@@ -9,7 +9,7 @@ from __future__ import annotations
 from collections.abc import Iterator
 from itertools import chain, islice
 
-from tml.explaining.faults import Fault
+from tml.explaining.faults import BAD_MARKUP, Fault
 from tml.statuses import RELATIONS
 from tml.tags.edits import Edit
 from tml.tags.profile import LEFT, RIGHT
@@ -62,10 +62,14 @@ def of_first_fault(document: OpenDocument, lines: tuple[int, int], seen: set[tup
 
 
 def of_faults(document: OpenDocument, lines: tuple[int, int], seen: set[tuple[Edit, ...]]) -> Iterator[Json]:
-    """What the sentences on the faults name."""
+    """What the sentences on the faults name. Each sign of a mark of version control is a fault, of which only the first is told."""
+    marked = 0
     for fault, found, perhaps in document.explained + document.further:
-        if not perhaps and is_near(lines, fault.offset, found.start, *(edit.start for edit in found.edits)):
+        is_part = fault.number == BAD_MARKUP and fault.offset < marked
+        if not perhaps and not is_part and is_near(lines, fault.offset, found.start, *(edit.start for edit in found.edits)):
             yield from of_fault(document, fault, found, lines, seen)
+        if fault.number == BAD_MARKUP:
+            marked = max(marked, found.end)
 
 
 def is_near(lines: tuple[int, int], *places: int) -> bool:
