@@ -99,7 +99,7 @@ class Session(ServeTest):
         self.write("bad/tml-corpus.toml", "ignore = 1\n")
         client = self.client()
         self.assertEqual(self.opened(client, document("<q>x</q>")), [])
-        self.assertIn("ignore is a list of texts", self.opened(client, document("x"), "bad/d.xml")[0]["message"])
+        self.assertIn("ignore has to be a list of texts", self.opened(client, document("x"), "bad/d.xml")[0]["message"])
 
     def test_settings_are_read_once_for_each_change_of_them(self):
         server, about = Server(TML, None, io.BytesIO()), Message("textDocument/didChange", {}, uri=self.uri())

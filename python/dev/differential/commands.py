@@ -53,7 +53,7 @@ def parsed(words: Sequence[str]) -> argparse.Namespace:
     asked.add_argument("--no-library", action="store_true", help="ask no library")
     parser.add_argument("--keep", type=Path, help="the folder for differences (a new one)")
     parser.add_argument("--small", type=int, default=3, metavar="N", help="how many differences are reduced at once (3)")
-    parser.add_argument("--reduce", type=Path, metavar="FOLDER", help="reduce the difference that is kept in this folder, and no more")
+    parser.add_argument("--reduce", type=Path, metavar="FOLDER", help="only reduce the difference that is kept in this folder")
     return parser.parse_args(words)
 
 

@@ -10,13 +10,13 @@ The tables have a line for each token or value, with tabs between the columns:
   dct.txt                 document, date of creation, as 1998-01-08 or 19980108
   tlinks-*.tab            document, event or time, event or time, relation
 
-Only the first one must be there; what is there has to be regular files, of at most 16 MiB together. Each document is written to
-OUT/DOCUMENT.xml; files that are there are overwritten. So the name of a document is one for a file, and no two differ in the case
-of letters alone.
+Only the first file is required; all have to be regular files, of at most 16 MiB together. Each document is written to
+OUT/DOCUMENT.xml, over a file of that name. So the name of a document has to be one for a file, and no two may differ only in the
+case of letters.
 
 Example: tools/from-tempeval2 english/data timeml
 
-Status 0 says that all was written, 1 that a table cannot be read as said above, with its file, line and column on standard
+Status 0 says that all was written, 1 that a table has another form, with its file, line and column on standard
 error, and 2 that the words are of no known form or that a file could not be read or written.
 """
 

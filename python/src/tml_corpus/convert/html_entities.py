@@ -1,7 +1,7 @@
-"""Puts characters for the named entities of HTML, as &nbsp; and &eacute;, from standard input to standard output.
+"""Replaces the named entities of HTML, as &nbsp; and &eacute;, by characters, from standard input to standard output.
 
-The five names that XML has (lt, gt, amp, quot, apos) stay, and so do names that HTML has not. The document has to be UTF-8, and may
-have twice as many bytes as one that `tml` takes.
+The five names of XML (lt, gt, amp, quot, apos) stay, and so do names that HTML does not have. The document has to be UTF-8, and
+may have twice as many bytes as one that `tml` takes.
 
 Example: tools/html-entities < old.xml > new.xml
 

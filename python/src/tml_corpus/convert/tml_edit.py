@@ -2,8 +2,8 @@
 
 The changes are made in the order of the options below, whatever their order on the command line: --rename, --unwrap,
 --value, --iso, --instances, --links, --drop-links, --overlaps, --touching-dates. The changed document goes to standard
-output; of a folder or several files the changes are printed, and --write puts the changed documents in the place of the
-files. Whether they are accepted is for `tml check` to say. --touching-dates asks for a document that is accepted by then,
+output; of a folder or several files the changes are printed, and --write overwrites the files with the changed documents.
+Whether they are accepted is for `tml check` to say. --touching-dates needs a document that is accepted by then,
 and lists what it changes on standard error.
 
 Examples:
@@ -332,9 +332,9 @@ def parser() -> ProgramParser:
     words.add_argument("documents", nargs="+", metavar="DOC", help="the document, or a folder to search; - is standard input")
     words.add_argument("--write", action="store_true", help="overwrite the files with the changed documents")
     words.add_argument("--glob", action="append", metavar="PATTERN", help=f"names to look for in folders (default {' '.join(PATTERNS)})")
-    words.add_argument("--rename", type=renaming, action="append", default=[], metavar="OLD=NEW", help="give tags another name")
+    words.add_argument("--rename", type=renaming, action="append", default=[], metavar="OLD=NEW", help="rename tags")
     words.add_argument(
-        "--unwrap", type=names_of, action="extend", default=[], metavar="NAMES", help="take tags out, and leave what they hold"
+        "--unwrap", type=names_of, action="extend", default=[], metavar="NAMES", help="remove tags, and keep what they hold"
     )
     words.add_argument(
         "--value",
@@ -343,7 +343,7 @@ def parser() -> ProgramParser:
         action="append",
         default=[],
         metavar=("TAG", "ATTRIBUTE", "OLD", "NEW"),
-        help="give an attribute another value; * as OLD is any value, and an empty NEW takes the attribute out",
+        help="give an attribute another value; * as OLD stands for any value, and an empty NEW removes the attribute",
     )
     words.add_argument("--iso", action="store_true", help="xml:id becomes eid, tid, sid, lid, and #e1 becomes e1; then as --instances")
     words.add_argument("--instances", action="store_true", help="make a MAKEINSTANCE for each EVENT without one, and let links refer to it")
@@ -357,9 +357,9 @@ def parser() -> ProgramParser:
         action="extend",
         default=[],
         metavar="RELATIONS",
-        help="take links out by their relType; an empty name is that of links without one",
+        help="drop links by their relType; an empty name means links without one",
     )
-    words.add_argument("--overlaps", action="store_true", help=f"say {', '.join(OVERLAPS)} by TIMEX3 tags that lie within")
+    words.add_argument("--overlaps", action="store_true", help=f"express {', '.join(OVERLAPS)} by TIMEX3 tags that lie within")
     words.add_argument(
         "--touching-dates", action="store_true", help="give links between dates that touch the relation that holds, as IBEFORE for BEFORE"
     )
