@@ -32,12 +32,12 @@ MOST_BYTES = 64 * 1024 * 1024
 
 
 def cures(document: OpenDocument, lines: tuple[int, int]) -> Iterator[Json]:
-    """What mends the faults and the warnings in some lines."""
+    """What mends the faults and the warnings in some lines. Of the same slip in one line the first one is mended first."""
     seen: set[tuple[Edit, ...]] = set()
     titles: set[str] = set()
     found = chain(of_first_fault(document, lines, seen), of_faults(document, lines, seen), of_warnings(document, lines, seen))
     for one in islice(found, most_for(document)):
-        if one["title"] in titles:
+        if one["title"] in titles and not one["isPreferred"]:
             start = one["edit"]["changes"][document.uri][0]["range"]["start"]
             one["title"] += f", at {start['line'] + 1}:{start['character'] + 1}"
         if one["title"] not in titles:
