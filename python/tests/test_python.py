@@ -82,8 +82,9 @@ class Questions(unittest.TestCase):
             tml.check, tml.dates, tml.solve, tml.clash, tml.relations, tml.matrix, tml.reduce, tml.seconds, tml.canon
         )  # fmt: skip
         for ask in asks:
-            self.assertEqual(ask(FAULTY, self.by), fault)
-        self.assertEqual(str(fault), "2:2: 10 MissingAttribute: this EVENT has no text: delete it, or add eid and class if it is meant")
+            found = of_type(tml.Fault, ask(FAULTY, self.by))
+            self.assertEqual(found, fault)
+            self.assertEqual(str(found), "2:2: 10 MissingAttribute: this EVENT has no text: delete it, or add eid and class if it is meant")
         self.assertEqual(of_type(tml.Fault, tml.spans(b"<TimeML>&", by=self.by)).name, "BadReference")
         self.assertEqual(tml.verify(FAULTY, b"", by=self.by), fault)
         self.assertEqual(tml.confirm(FAULTY, b"", by=self.by), fault)
