@@ -8,7 +8,7 @@ from dataclasses import dataclass
 from ..timeline.rows import Row
 from .shapes import LABEL, room
 
-LEAST_GAP, MOST_GAP, PADDING = 3.0, 5.0, 4.0
+MOST_GAP, PADDING = 5.0, 4.0
 """How far apart two ranks are at least, where there is room; and what is free beside a label in a bar."""
 
 

@@ -37,9 +37,6 @@ DARK = {
     "link": "#f09cc8",
 }
 
-GROUNDS = ("paper", "odd", "near", "mark")
-"""What others stand on."""
-
 PAIRS = tuple(
     (colour, ground)
     for ground, colours in (
