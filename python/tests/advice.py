@@ -1,7 +1,7 @@
 """Does what is printed of a document, word for word and without a thought, and says what came of it.
 
-A slip is made in a clean document, and what is printed first of it is done, again and again: by what `fix` does, or where `fix` leaves it by
-the words of the sentence. At each step the document has to be the clean one, or something has still to be reported of it.
+A slip is made in a clean document, and what is printed first of it is done, again and again: by what `fix` does, or where `fix` leaves it
+by the words of the sentence. At each step the document has to be the clean one, or something has still to be reported of it.
 
 `python3 python/tests/advice.py 5000 7` makes so many slips, with the seed 7, and prints what came of each group of kinds and of each kind.
 """
@@ -11,11 +11,14 @@ from __future__ import annotations
 import re
 import sys
 from collections import Counter
+from collections.abc import Callable
 from enum import Enum
 from functools import lru_cache
 from itertools import cycle, islice
 from random import Random
 
+from corpus import of_type
+from reference import Outcome as Answered
 from reference import expected
 from slips import GROUPS, SLIPS, Slip
 from stories import Story
@@ -27,7 +30,7 @@ from tml_corpus.lint.kinds import chosen
 
 LINT = chosen((), ())
 MOST_STEPS, MOST_STORIES = 4, 20
-"""So many steps are done at most, and so many stories are looked at for a place for a slip."""
+"""How many steps are done at most, and how many stories are looked at for a place for a slip."""
 
 
 class Outcome(Enum):
@@ -55,7 +58,7 @@ class Reference(Program):
 @lru_cache(maxsize=8)
 def answer(command: str, document: bytes) -> Reply:
     """What the reference answers; `fix` and `check` ask about the same documents."""
-    answered = expected([command.encode(), b"-"], {b"-": document})
+    answered = of_type(Answered, expected([command.encode(), b"-"], {b"-": document}))
     return Reply(int(answered.status), answered.text, command, len(document))
 
 
@@ -106,7 +109,10 @@ def said_by(document: bytes) -> list[object]:
             found += re.findall(r"\S+", piece)
             continue
         values = {name: first or second for name, first, second in re.findall(r"(\w+)\s*=\s*(?:\"([^\"]*)\"|'([^']*)')", tag[2])}
-        numbered = {name: names.setdefault(value, len(names)) if re.search("(?:id|ID|Instance|relatedToTime|Point)$", name) else value for name, value in values.items()}
+        numbered = {
+            name: names.setdefault(value, len(names)) if re.search("(?:id|ID|Instance|relatedToTime|Point)$", name) else value
+            for name, value in values.items()
+        }
         found.append((tag[1], sorted(numbered.items(), key=str)))
     return found
 
@@ -141,17 +147,25 @@ def new_value(document: bytes, start: int, end: int, value: str) -> bytes:
     return put(document, start, end, value)
 
 
+def with_attribute(document: bytes, start: int, attribute: str) -> bytes:
+    """A further attribute of the tag that begins here."""
+    return document[:start] + re.sub(rb"<\w+", lambda tag: tag[0] + attribute.encode(), document[start:], count=1)
+
+
 def at_the_end(document: bytes, tag: str) -> bytes:
     """A tag on a line of its own, after the other ones."""
     place = document.rindex(b"</TimeML>")
     return put(document, place, place, tag + "\n")
 
 
-DOING = [
+DOING: list[tuple[str, Callable[[bytes, int, int, re.Match[str]], bytes]]] = [
     (r"`head -c (\d+) FILE", lambda document, start, end, found: document[: int(found[1])]),
     (r"did you mean ([^\s?]+)\?(?! \()", lambda document, start, end, found: new_value(document, start, end, found[1])),
     (r": write another one here, such as (\S+)", lambda document, start, end, found: new_value(document, start, end, found[1])),
-    (r"^(\w+) is missing: an identifier that no other tag has, such as (\S+)", lambda document, start, end, found: document[:start] + re.sub(rb"<\w+", lambda tag: tag[0] + f' {found[1]}="{found[2]}"'.encode(), document[start:], count=1)),
+    (
+        r"^(\w+) is missing: an identifier that no other tag has, such as (\S+)",
+        lambda document, start, end, found: with_attribute(document, start, f' {found[1]}="{found[2]}"'),
+    ),
     (r"add (<MAKEINSTANCE [^<>]*/>)", lambda document, start, end, found: at_the_end(document, found[1])),
     (r"delete what is before it", lambda document, start, end, found: document[start:]),
     (r": delete it(?! or move)", lambda document, start, end, found: document[:start] + document[end:]),

@@ -7,6 +7,7 @@ neither.
 
 import os
 import sys
+from collections.abc import Sequence
 from concurrent.futures import ProcessPoolExecutor, as_completed
 from multiprocessing import get_context
 from pathlib import Path
@@ -20,7 +21,7 @@ LONGEST = (
 """The files of tests that take longest."""
 
 
-def chosen(words):
+def chosen(words: Sequence[str]) -> list[str]:
     """The files of tests that words name, or all of them; those that take longest come first."""
     present = {path.stem for path in Path(__file__).resolve().parent.glob("test_*.py")}
     names = {Path(word).stem for word in words} or present
@@ -29,9 +30,11 @@ def chosen(words):
     return sorted(names, key=lambda name: (LONGEST.index(name) if name in LONGEST else len(LONGEST), name))
 
 
-def main(words):
+def main(words: Sequence[str]) -> int:
     """Runs the tests and answers the status."""
-    names, (passed, failed, skipped) = chosen(words), (0, set(), [])
+    names, passed = chosen(words), 0
+    failed: set[str] = set()
+    skipped: list[str] = []
     with ProcessPoolExecutor(len(os.sched_getaffinity(0)), get_context("spawn"), max_tasks_per_child=1) as pool:
         running = {pool.submit(run, name): name for name in names}
         for future in as_completed(running):

@@ -1,5 +1,7 @@
 """A browser for the tests of pages: headless Chromium, told over two pipes what to do. Nothing else is needed for it."""
 
+from __future__ import annotations
+
 import base64
 import contextlib
 import json
@@ -9,13 +11,22 @@ import shutil
 import subprocess
 import tempfile
 import unittest
+from typing import Any
 
-CHROMIUM = next(filter(None, map(shutil.which, ("chromium", "chromium-browser", "google-chrome"))), None)
+from corpus import needed
+
+Json = dict[str, Any]
+"""An object of JSON, whose form is the business of the browser."""
+
+CHROMIUM: str | None = next(filter(None, map(shutil.which, ("chromium", "chromium-browser", "google-chrome"))), None)
 needs_browser = unittest.skipUnless(CHROMIUM, "no program chromium")
 
-WORDS = ("--headless", "--no-sandbox", "--disable-gpu", "--disable-dev-shm-usage", "--no-first-run", "--disable-extensions", "--hide-scrollbars")
+WORDS = (
+    "--headless", "--no-sandbox", "--disable-gpu", "--disable-dev-shm-usage", "--no-first-run", "--disable-extensions",
+    "--hide-scrollbars",
+)  # fmt: skip
 PATIENCE = 60
-"""So many seconds the browser may say nothing where it is waited for."""
+"""How many seconds the browser may say nothing where it is waited for."""
 
 IN_PIPES = 'exec "$@" 3<&0 4>&1 </dev/null >/dev/null 2>&1'
 
@@ -23,51 +34,56 @@ IN_PIPES = 'exec "$@" 3<&0 4>&1 </dev/null >/dev/null 2>&1'
 class Browser:
     """One browser with one page. What the page says on the console, and what the browser says of it, is in `said`."""
 
-    def __init__(self, width=1400, height=900):
+    def __init__(self, width: int = 1400, height: int = 900) -> None:
         self.folder = tempfile.TemporaryDirectory(ignore_cleanup_errors=True)
-        program = [CHROMIUM, *WORDS, "--remote-debugging-pipe", f"--user-data-dir={self.folder.name}", f"--window-size={width},{height}", "about:blank"]
+        own = ["--remote-debugging-pipe", f"--user-data-dir={self.folder.name}", f"--window-size={width},{height}"]
+        program = [needed(CHROMIUM), *WORDS, *own, "about:blank"]
         self.child = subprocess.Popen(["sh", "-c", IN_PIPES, "sh", *program], stdin=subprocess.PIPE, stdout=subprocess.PIPE)
-        self.number, self.session, self.said, self.loaded, self.received = 0, None, [], False, bytearray()
+        self.input, self.output = needed(self.child.stdin), needed(self.child.stdout)
+        self.number, self.loaded, self.received = 0, False, bytearray()
+        self.session: str | None = None
+        self.said: list[str] = []
         [page] = [one for one in self.ask("Target.getTargets")["targetInfos"] if one["type"] == "page"][:1]
         self.session = self.ask("Target.attachToTarget", targetId=page["targetId"], flatten=True)["sessionId"]
         for domain in ("Page", "Runtime", "Log"):
             self.ask(f"{domain}.enable")
 
-    def __enter__(self):
+    def __enter__(self) -> Browser:
         return self
 
-    def __exit__(self, *error):
+    def __exit__(self, *error: object) -> None:
         self.session = None
         with contextlib.suppress(OSError):
             self.send("Browser.close", {})
-        self.child.stdin.close()
+        self.input.close()
         try:
             self.child.wait(PATIENCE)
         except subprocess.TimeoutExpired:
             self.child.kill()
             self.child.wait()
-        self.child.stdout.close()
+        self.output.close()
         self.folder.cleanup()
 
-    def send(self, method, words):
+    def send(self, method: str, words: Json) -> None:
         """Sends one message."""
         self.number += 1
         message = {"id": self.number, "method": method, "params": words} | ({"sessionId": self.session} if self.session else {})
-        self.child.stdin.write(json.dumps(message).encode() + b"\0")
-        self.child.stdin.flush()
+        self.input.write(json.dumps(message).encode() + b"\0")
+        self.input.flush()
 
-    def receive(self):
+    def receive(self) -> Json:
         """The next message of the browser."""
         while b"\0" not in self.received:
-            ready, _, _ = select.select([self.child.stdout], [], [], PATIENCE)
-            part = os.read(self.child.stdout.fileno(), 65536) if ready else b""
+            ready, _, _ = select.select([self.output], [], [], PATIENCE)
+            part = os.read(self.output.fileno(), 65536) if ready else b""
             if not part:
                 raise EOFError("the browser has ended, or says nothing")
             self.received += part
         message, _, self.received = self.received.partition(b"\0")
-        return json.loads(message)
+        received: Json = json.loads(message)
+        return received
 
-    def ask(self, method, **words):
+    def ask(self, method: str, **words: object) -> Json:
         """What the browser answers; events are noted on the way."""
         self.send(method, words)
         while True:
@@ -75,10 +91,11 @@ class Browser:
             if message.get("id") == self.number:
                 if "error" in message:
                     raise RuntimeError(message["error"])
-                return message["result"]
+                result: Json = message["result"]
+                return result
             self.note(message)
 
-    def note(self, message):
+    def note(self, message: Json) -> None:
         """Takes an event into account."""
         words = message.get("params", {})
         if message.get("method") == "Page.loadEventFired":
@@ -92,33 +109,34 @@ class Browser:
         elif message.get("method") == "Page.javascriptDialogOpening":
             self.said.append("dialog: " + words["message"])
 
-    def open(self, path):
+    def open(self, path: str) -> None:
         """Opens a file, and waits until all of it is there."""
         self.loaded = False
         self.ask("Page.navigate", url="file://" + os.path.abspath(path))
         while not self.loaded:
             self.note(self.receive())
 
-    def value(self, expression):
+    def value(self, expression: str) -> Any:
         """The value of an expression in the page."""
         answer = self.ask("Runtime.evaluate", expression=expression, returnByValue=True)
         if "exceptionDetails" in answer:
             raise RuntimeError(answer["exceptionDetails"])
         return answer["result"].get("value")
 
-    def click(self, selector):
+    def click(self, selector: str) -> None:
         """Clicks with the mouse into the middle of the first element that is found."""
-        find = f"(() => {{ const one = document.querySelector({json.dumps(selector)}); one.scrollIntoView({{block: 'center'}});"
-        x, y = self.value(find + "const box = one.getBoundingClientRect(); return [box.left + box.width / 2, box.top + box.height / 2]; })()")
+        find = f"const one = document.querySelector({json.dumps(selector)}); one.scrollIntoView({{block: 'center'}});"
+        middle = "const box = one.getBoundingClientRect(); return [box.left + box.width / 2, box.top + box.height / 2];"
+        x, y = self.value(f"(() => {{ {find} {middle} }})()")
         for kind in ("mouseMoved", "mousePressed", "mouseReleased"):
             self.ask("Input.dispatchMouseEvent", type=kind, x=x, y=y, button="none" if kind == "mouseMoved" else "left", clickCount=1)
 
-    def press(self, key, code=0):
+    def press(self, key: str, code: int = 0) -> None:
         """Presses a key."""
         for kind in ("keyDown", "keyUp"):
             self.ask("Input.dispatchKeyEvent", type=kind, key=key, code=key, windowsVirtualKeyCode=code)
 
-    def picture(self, path):
+    def picture(self, path: str) -> None:
         """Writes a picture of what is seen."""
         with open(path, "wb") as file:
             file.write(base64.b64decode(self.ask("Page.captureScreenshot")["data"]))

@@ -1,11 +1,19 @@
 """What the tests share: a folder for documents, and runs of `tml-corpus` over it with the real program."""
 
 import os
+import re
 import signal
+import stat
 import subprocess
 import sys
 import tempfile
 import unittest
+from pathlib import Path
+from typing import TypeVar
+
+from tml.statuses import DOCUMENT_LIMIT
+
+Value = TypeVar("Value")
 
 TOP = os.path.dirname(os.path.dirname(os.path.dirname(os.path.abspath(__file__))))
 TESTS = os.path.join(TOP, "python", "tests")
@@ -19,6 +27,9 @@ signal.signal(signal.SIGHUP, signal.SIG_DFL)
 COMPANION = os.path.join(TOOLS, "tml-corpus")
 TML = os.environ.get("TML") or os.path.join(TOP, "crates", "tml", "out", "tml")
 EVENT = '<EVENT eid="e1" class="STATE">x</EVENT>'
+TOO_LONG = b" " * (DOCUMENT_LIMIT + 1)
+"""A document with one byte more than `tml` takes."""
+
 INSTANCE = '<MAKEINSTANCE eiid="i1" eventID="e1"/>'
 
 
@@ -40,6 +51,33 @@ def document(inner: str) -> str:
     return f"<TimeML>\n{inner}</TimeML>\n"
 
 
+def text_at(*names: str) -> str:
+    """The text of a file of the repository, or of a file with a path of its own."""
+    return Path(TOP, *names).read_text(encoding="utf-8")
+
+
+def needed(value: Value | None) -> Value:
+    """A value that has to be there: an element, a match, a stream of a process."""
+    if value is None:
+        raise AssertionError("a value that is needed is not there")
+    return value
+
+
+def of_type(kind: type[Value], value: object) -> Value:
+    """A value that has to be of a type: one of several answers."""
+    if not isinstance(value, kind):
+        raise AssertionError(f"no {kind.__name__}, but {value!r}")
+    return value
+
+
+def match_in(pattern: str, text: str, flags: int = 0) -> re.Match[str]:
+    """The first place where a text has a pattern, which it has to have."""
+    found = re.search(pattern, text, flags)
+    if found is None:
+        raise AssertionError(f"{pattern} is not in the text: {text[:1000]}")
+    return found
+
+
 @unittest.skipUnless(os.access(TML, os.X_OK), f"no program {TML}: build it as README.md says, or name one by TML=PROGRAM")
 class CorpusTest(unittest.TestCase):
     """A test with a folder of its own, which is the current one of each run."""
@@ -57,6 +95,18 @@ class CorpusTest(unittest.TestCase):
         os.makedirs(os.path.dirname(path), exist_ok=True)
         with open(path, "wb") as file:
             file.write(content if isinstance(content, bytes) else content.encode())
+
+    def read_text(self, name: str) -> str:
+        return text_at(self.path(name))
+
+    def read_bytes(self, name: str) -> bytes:
+        return Path(self.path(name)).read_bytes()
+
+    def fake(self, body: str) -> str:
+        """The path of a program in the place of `tml`: a shell script."""
+        self.write("fake", f"#!/bin/sh\n{body}\n")
+        os.chmod(self.path("fake"), stat.S_IRWXU)
+        return self.path("fake")
 
     def start(self, *words: str, tml: str = TML, python: str = sys.executable) -> subprocess.Popen[bytes]:
         command, *rest = words

@@ -38,7 +38,8 @@ TRAIT = re.compile(r"^(?:pub )?trait .*?^\}", re.MULTILINE | re.DOTALL)
 ERROR = re.compile(r"Result<.*[,\s](\w+)(?:<.*>)?,?\s*>|(\w+)", re.DOTALL)
 BLOCK = re.compile(r"^impl(?:<.*?>)? (?:([\w:]+)(?:<.*?>)? for )?(\w+)", re.MULTILINE)
 FUNCTION = re.compile(
-    r"^(?P<indent> *)(?P<public>pub )?(?:const )?fn (?P<name>\w+)(?P<rest>[^\n]*\{\}$|.*?\n(?P=indent)(?:\}|\{\})$)", re.MULTILINE | re.DOTALL
+    r"^(?P<indent> *)(?P<public>pub )?(?:const )?fn (?P<name>\w+)(?P<rest>[^\n]*\{\}$|.*?\n(?P=indent)(?:\}|\{\})$)",
+    re.MULTILINE | re.DOTALL,
 )
 RESULT = re.compile(r"\)\s*->\s*(.*?)\s*(?=\n *(?:requires|ensures|where)\b|\n? *\{)", re.DOTALL)
 BODY = re.compile(r"(?:^|(?<=\s))\{(?=\n)", re.MULTILINE)

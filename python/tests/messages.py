@@ -21,14 +21,17 @@ LIST = Path(__file__).with_name("messages.txt")
 WORD = r"(?:-{0,2}[A-Za-z][A-Za-z'-]*[A-Za-z]|a|I|\{\})"
 SIDE_BY_SIDE = re.compile(rf"(?<![\w.<&-]){WORD}[,;:.?!)\"'`]*\s+[(\"'`<]*{WORD}(?![\w=-])")
 SMALL_LETTERS = re.compile(r"(?<![\w.&<\\])[a-z]{2,}(?![\w=(])")
-TAGS = "a|body|button|div|em|h[1-3]|head|html|label|li|ol|output|p|path|pre|rect|section|span|style|sup|svg|table|td|text|th|title|tr|tspan|ul"
+TAGS = (
+    "a|body|button|div|em|h[1-3]|head|html|label|li|ol|output|p|path|pre|rect|section|span|style|sup|svg|table|td|text|th|title|tr|tspan|ul"
+)
 HTML = re.compile(rf"<(?:!DOCTYPE html|\?xml version|/?(?:{TAGS})\b)")
 TITLES = re.compile(r"(?:aria-label|title|placeholder)=\"([^\"]*)\"")
 SCRIPT = '"use strict"'
 SCRIPT_TEXT = re.compile(r"\"((?:[^\"\\\n]|\\.)*)\"|`((?:[^`\\]|\\.)*)`")
 STYLE = re.compile(r"\{[^{}]*:[^{}]*[;}]")
 NO_MESSAGES = re.compile(
-    r"\\[dws(]|^[A-Z_\s]+$|^<[A-Z0-9]+ [^>]*/?>(?:</[A-Z0-9]+>)?$|-src '|class=\"|^use strict$|^(?:bar|event|small) (?:core|moving|number|unasserted)$"
+    r"\\[dws(]|^[A-Z_\s]+$|^<[A-Z0-9]+ [^>]*/?>(?:</[A-Z0-9]+>)?$|-src '|class=\"|^use strict$|^(?:bar|event|small) "
+    r"(?:core|moving|number|unasserted)$"
 )
 FORMATS = ("python/src/tml/longest.py",)
 """Sources without messages, but with lines as `tml` prints them."""

@@ -20,15 +20,16 @@ class Counted(unittest.TextTestResult):
 
     passed = 0
 
-    def addSuccess(self, test):
+    def addSuccess(self, test: unittest.TestCase) -> None:
         super().addSuccess(test)
         self.passed += 1
 
 
-def run(name):
+def run(name: str) -> Ran:
     """Runs the file of tests with this name."""
     printed = io.StringIO()
     result = unittest.TextTestRunner(stream=printed, resultclass=Counted).run(unittest.defaultTestLoader.loadTestsFromName(name))
+    assert isinstance(result, Counted)
     # A subtest that failed counts as its test.
     failed = {getattr(test, "test_case", test).id() for test, _ in result.failures + result.errors}
     return Ran(printed.getvalue(), result.passed, frozenset(failed), tuple(f"{test}: {reason}" for test, reason in result.skipped))

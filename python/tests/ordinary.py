@@ -32,7 +32,9 @@ class Item:
     def __init__(self, number: int) -> None:
         self.random = Random(number)
         self.created = date(1998, 1, 8) + timedelta(days=self.random.randrange(340))
-        self.days = [self.created - timedelta(days=back) for back in sorted(self.random.sample(range(1, 7), self.random.randint(1, 4)), reverse=True)]
+        self.days = [
+            self.created - timedelta(days=back) for back in sorted(self.random.sample(range(1, 7), self.random.randint(1, 4)), reverse=True)
+        ]
         self.random.shuffle(self.days)
         self.text: list[str] = []
         self.instances: list[str] = []
@@ -66,7 +68,9 @@ class Item:
         for place, event in enumerate(order):
             noun, verb = self.random.choice(NOUNS), self.random.choice(VERBS)
             self.text[happened[event]] += f' the {noun} <EVENT eid="e{place}" class="OCCURRENCE">{verb}</EVENT>,'
-            self.instances.append(f'<MAKEINSTANCE eiid="ei{place}" eventID="e{place}" tense="PAST" aspect="NONE" pos="VERB" polarity="POS"/>')
+            self.instances.append(
+                f'<MAKEINSTANCE eiid="ei{place}" eventID="e{place}" tense="PAST" aspect="NONE" pos="VERB" polarity="POS"/>'
+            )
             self.link(f"ei{place}", f"t{happened[event] + 1}", "IS_INCLUDED")
             if place:
                 relation = "BEFORE" if order[place - 1] < event else "AFTER"
@@ -77,7 +81,10 @@ class Item:
         if self.chance(4):
             number = self.random.randint(1, 12)
             value = f"1998-{number:02}" if self.chance(2) else f"1998-Q{(number + 2) // 3}"
-            self.text.append(f'In <TIMEX3 tid="t8" type="DATE" value="{value}">that time</TIMEX3> of <TIMEX3 tid="t9" type="DATE" value="1998">the year</TIMEX3>')
+            self.text.append(
+                f'In <TIMEX3 tid="t8" type="DATE" value="{value}">that time</TIMEX3> of <TIMEX3 tid="t9" type="DATE" value="1998">the '
+                'year</TIMEX3>'
+            )
             self.link("t8", "t9", "IS_INCLUDED")
 
     def document(self) -> str:

@@ -37,7 +37,9 @@ DATES = (
     '<TIMEX3 tid="t" type="DATE" value="1998-01-08">x</TIMEX3><TIMEX3 tid="u" type="DATE" value="1998-01-09" mod="MID"/>'
     '<TIMEX3 tid="v" type="SET"/>'
 )
-AB, BC, CA, AC = (f'<TLINK eventInstanceID="{x}" relatedToEventInstance="{y}" relType="BEFORE"/>' for x, y in zip("abca", "bcac", strict=True))
+AB, BC, CA, AC = (
+    f'<TLINK eventInstanceID="{x}" relatedToEventInstance="{y}" relType="BEFORE"/>' for x, y in zip("abca", "bcac", strict=True)
+)
 UNITS = "<?xml version='1.0'?><!DOCTYPE TimeML><!-- a --><TimeML b='\"' a=\"&amp;\">x<P></P ><!-- b --></TimeML>\n"
 FAULTY = {
     "NotUtf8": b"<TimeML>\xff</TimeML>",

@@ -9,8 +9,20 @@ from random import Random
 Slip = Callable[[Random, str], "str | bytes | None"]
 
 LISTED = ("class", "tense", "pos", "polarity", "type", "relType", "functionInDocument")
-REFERENCES = ("eventID", "eventInstanceID", "relatedToEventInstance", "timeID", "relatedToTime", "signalID", "anchorTimeID", "subordinatedEventInstance")
+REFERENCES = (
+    "eventID", "eventInstanceID", "relatedToEventInstance", "timeID", "relatedToTime", "signalID", "anchorTimeID",
+    "subordinatedEventInstance",
+)  # fmt: skip
 MARKED = "EVENT|TIMEX3|SIGNAL"
+OF_ANOTHER_SCHEME = {
+    "SIMULTANEOUS": "EQUAL",
+    "INCLUDES": "CONTAINS",
+    "IBEFORE": "MEETS",
+    "IAFTER": "MET_BY",
+    "BEGINS": "STARTS",
+    "IS_INCLUDED": "INCLUDED",
+}
+"""What relations are called elsewhere."""
 LINKS = "TLINK|ALINK|SLINK|MAKEINSTANCE"
 
 
@@ -103,7 +115,12 @@ def in_itself(random: Random, text: str) -> str | None:
 def in_another(random: Random, text: str) -> str | None:
     """The end tag of a tag of the text is put behind the next one."""
     found = one(random, r"<(EVENT|TIMEX3) [^<>]*>[^<>]*(</\1>)[^<>]*<(EVENT|TIMEX3) [^<>]*>[^<>]*</\3>", text)
-    return put(text, found, lambda found: found[0].replace(found[2], "", 1) + found[2] if found[1] != found[3] else found[0][: found.start(2) - found.start()] + found[0][found.end(2) - found.start() :] + found[2])
+
+    def moved(found: re.Match[str]) -> str:
+        start, end = (place - found.start() for place in found.span(2))
+        return found[0][:start] + found[0][end:] + found[2]
+
+    return put(text, found, moved)
 
 
 def cut_off(random: Random, text: str) -> str:
@@ -134,7 +151,9 @@ def both_versions(random: Random, text: str) -> str:
     """A merge that was not finished: two versions of a line with the marks of version control."""
     lines = text.splitlines(keepends=True)
     at = random.randrange(len(lines))
-    other = re.sub(r"PAST|BEFORE|POS|1998", lambda found: {"PAST": "PRESENT", "BEFORE": "AFTER", "POS": "NEG", "1998": "1997"}[found[0]], lines[at])
+    other = re.sub(
+        r"PAST|BEFORE|POS|1998", lambda found: {"PAST": "PRESENT", "BEFORE": "AFTER", "POS": "NEG", "1998": "1997"}[found[0]], lines[at]
+    )
     marked = ["<<<<<<< HEAD\n", lines[at], "=======\n", other, ">>>>>>> branch\n"]
     keep = random.choice((marked, marked[1:], marked[:3] + marked[4:], marked[2:]))
     return "".join(lines[:at] + keep + lines[at + 1 :])
@@ -184,7 +203,9 @@ def to_itself(random: Random, text: str) -> str | None:
 
 def opposed(random: Random, text: str) -> str | None:
     """An instance of an event is pasted with another name, and a link of it is written the other way round for that."""
-    links = [link for link in re.finditer(r'^<TLINK [^<>]*?eventInstanceID="([^"]*)"[^<>]*relType="(BEFORE|AFTER)"/>\n', text, re.MULTILINE)]
+    links = [
+        link for link in re.finditer(r'^<TLINK [^<>]*?eventInstanceID="([^"]*)"[^<>]*relType="(BEFORE|AFTER)"/>\n', text, re.MULTILINE)
+    ]
     link = random.choice(links) if links else None
     instance = re.search(rf'^<MAKEINSTANCE eiid="{link[1]}".*\n', text, re.MULTILINE) if link else None
     if link is None or instance is None:
@@ -197,7 +218,9 @@ def opposed(random: Random, text: str) -> str | None:
 
 def invisible(pattern: str) -> Slip:
     """A letter that nobody sees at the place where a pattern matches."""
-    return lambda random, text: put(text, one(random, pattern, text), lambda found: found[0] + random.choice("\u00a0\u200b\u2060\ufeff\u00ad"))
+    return lambda random, text: put(
+        text, one(random, pattern, text), lambda found: found[0] + random.choice("\u00a0\u200b\u2060\ufeff\u00ad")
+    )
 
 
 TAG_OF_TEXT = rf"<(?:{MARKED}) "
@@ -240,16 +263,21 @@ GROUPS: dict[str, dict[str, Slip]] = {
     },
     "values of a list": {
         "value of a list mistyped": typing(rf'\b(?:{"|".join(LISTED)})="(\w+)"'),
-        "value of a list in small letters": replaced(rf'\b(?:{"|".join(LISTED)})="\w+"', lambda found: found[0].split("=")[0] + "=" + found[0].split("=")[1].lower()),
+        "value of a list in small letters": replaced(
+            rf'\b(?:{"|".join(LISTED)})="\w+"', lambda found: found[0].split("=")[0] + "=" + found[0].split("=")[1].lower()
+        ),
         "relation of another scheme": replaced(
-            r'relType="(SIMULTANEOUS|INCLUDES|IBEFORE|IAFTER|BEGINS|IS_INCLUDED)"',
-            lambda found: 'relType="' + {"SIMULTANEOUS": "EQUAL", "INCLUDES": "CONTAINS", "IBEFORE": "MEETS", "IAFTER": "MET_BY", "BEGINS": "STARTS", "IS_INCLUDED": "INCLUDED"}[found[1]] + '"',
+            rf'relType="({"|".join(OF_ANOTHER_SCHEME)})"',
+            lambda found: f'relType="{OF_ANOTHER_SCHEME[found[1]]}"',
         ),
     },
     "identifiers mistyped or pasted": {
         "reference mistyped": typing(rf'\b(?:{"|".join(REFERENCES)})="([^"]*)"'),
         "identifier mistyped": typing(r'\b(?:eid|eiid|tid|sid|lid)="([^"]*)"'),
-        "letter for a digit in a reference": replaced(rf'\b({"|".join(REFERENCES)})="([a-z]+)([01]\d*)"', lambda found: f'{found[1]}="{found[2]}{found[3].replace("0", "O").replace("1", "l")}"'),
+        "letter for a digit in a reference": replaced(
+            rf'\b({"|".join(REFERENCES)})="([a-z]+)([01]\d*)"',
+            lambda found: f'{found[1]}="{found[2]}{found[3].replace("0", "O").replace("1", "l")}"',
+        ),
         "identifier pasted": pasted_identifier,
         "two identifiers in one attribute": twice_in_one,
     },
@@ -324,7 +352,9 @@ GROUPS: dict[str, dict[str, Slip]] = {
     },
     "what stands outside of the root": {
         "start tag of the root twice": replaced(r"<TimeML>\n", "<TimeML>\n<TimeML>\n"),
-        "end tag of the root early": lambda random, text: put(text.replace("</TimeML>\n", ""), one(random, r"^<TLINK .*\n", text), lambda found: "</TimeML>\n" + found[0]),
+        "end tag of the root early": lambda random, text: put(
+            text.replace("</TimeML>\n", ""), one(random, r"^<TLINK .*\n", text), lambda found: "</TimeML>\n" + found[0]
+        ),
         "text after the root": lambda random, text: text + "The end.\n",
         "text before the root": lambda random, text: "From: desk\n" + text,
         "empty line before the prolog": lambda random, text: "\n" + text if text.startswith("<?xml") else None,

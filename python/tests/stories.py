@@ -11,7 +11,10 @@ from datetime import date, timedelta
 from random import Random
 
 VERBS = ("fell", "rose", "closed", "opened", "met", "voted", "signed", "left", "struck", "paid", "sold", "ruled", "came back", "said")
-PEOPLE = ("the bank", "the port", "the union", "Ms. Brontë", "the court", "AT&amp;T", "the café", "S&amp;P", "the board", "an owner", "a stake of &lt; 5%")
+PEOPLE = (
+    "the bank", "the port", "the union", "Ms. Brontë", "the court", "AT&amp;T", "the café", "S&amp;P", "the board", "an owner",
+    "a stake of &lt; 5%",
+)  # fmt: skip
 CLASSES = ("OCCURRENCE", "REPORTING", "STATE", "I_ACTION", "PERCEPTION")
 TENSES = ("PAST", "PRESENT", "PASTPART", "NONE")
 RELATIONS = ("BEFORE", "AFTER", "IBEFORE", "IAFTER", "SIMULTANEOUS", "INCLUDES", "IS_INCLUDED", "BEGINS", "ENDED_BY", "OVERLAPS", "DURING")
@@ -51,7 +54,9 @@ class Story:
         """An instance of an event."""
         self.instance_names.append(name)
         tense = self.random.choice(TENSES)
-        self.instances.append(f'<MAKEINSTANCE eiid="{name}" eventID="e{number}" tense="{tense}" aspect="NONE" pos="VERB" polarity="{polarity}"/>')
+        self.instances.append(
+            f'<MAKEINSTANCE eiid="{name}" eventID="e{number}" tense="{tense}" aspect="NONE" pos="VERB" polarity="{polarity}"/>'
+        )
 
     def time(self) -> str:
         """The next time: a month, a duration, a time of a day, a quarter, or a day."""
@@ -96,8 +101,12 @@ class Story:
         """Links of the other kinds, and of each interval that has none yet."""
         first, *others = self.instance_names
         if others and self.chance(2):
-            kind, relation, name = self.random.choice((("SLINK", "MODAL", "subordinatedEventInstance"), ("ALINK", "INITIATES", "relatedToEventInstance")))
-            self.links.append(f'<{kind} lid="l{len(self.links) + 1}" eventInstanceID="{first}" {name}="{others[-1]}" relType="{relation}"/>')
+            kind, relation, name = self.random.choice(
+                (("SLINK", "MODAL", "subordinatedEventInstance"), ("ALINK", "INITIATES", "relatedToEventInstance"))
+            )
+            self.links.append(
+                f'<{kind} lid="l{len(self.links) + 1}" eventInstanceID="{first}" {name}="{others[-1]}" relType="{relation}"/>'
+            )
         for name in self.instance_names:
             if not any(f'"{name}"' in link for link in self.links):
                 self.link(name, "t0", self.random.choice(RELATIONS))

@@ -33,17 +33,25 @@ import subprocess
 import sys
 import time
 import unittest
+from collections.abc import Callable, Sequence
 from dataclasses import dataclass
 from functools import partial
+from typing import IO, TypeVar
 from unittest import mock
 
 import tomllib  # noqa: F401
 
 from corpus import TML, TOOLS, TOP, CorpusTest, document
+from processes import is_running, until
 from tml.process import Process
+from tml.statuses import DOCUMENT_LIMIT
 from tml_corpus.asking.pool import Interruption, processors
 from tml_corpus.command_line import main as command_line
+from tml_corpus.command_line.parser import parser
 from tml_corpus.command_line.settings import settings_for
+
+Answer = TypeVar("Answer")
+Stream = int | IO[bytes] | None
 
 ENVIRONMENT = {**os.environ, "PYTHONIOENCODING": "utf-8", "PYTHONDONTWRITEBYTECODE": "1"}
 CLASH = '<TIMEX3 tid="a" type="SET"/><TLINK timeID="a" relatedToTime="a" relType="BEFORE"/>'
@@ -71,7 +79,9 @@ OTHER_COMMANDS = ("html-entities", "from-tempeval2 --help", "tml-corpus --help",
 OUTPUTS = {"full": "no space left on device", "gone": None, "closed": "standard output is closed"}
 """What standard output may be, and what is said of it: nothing where its reader has ended."""
 
-PROGRAMS = ("exit 0", "exit 1", "yes", "cat", "echo accepted", "echo fault 10 MissingAttribute 99999; exit 1", "echo fault 10 BadValue 0; exit 1")
+PROGRAMS = (
+    "exit 0", "exit 1", "yes", "cat", "echo accepted", "echo fault 10 MissingAttribute 99999; exit 1", "echo fault 10 BadValue 0; exit 1"
+)
 """Programs that are not `tml`."""
 
 
@@ -97,68 +107,89 @@ class Ended:
 
 
 class AttackTest(CorpusTest):
-    def setUp(self):
+    def setUp(self) -> None:
         super().setUp()
         self.write("a.xml", document(CLASH + "<EVENT/>"))
         self.write("good.xml", document(CLASH.replace("BEFORE", "IDENTITY")))
         self.write("clash.xml", document(CLASH))
 
-    def fake(self, body):
-        """A program in the place of `tml`."""
-        self.write("fake", f"#!/bin/sh\n{body}\n")
-        os.chmod(self.path("fake"), stat.S_IRWXU)
-        return self.path("fake")
-
-    def start(self, command, tml=TML, before=(), **options):
+    def begin(
+        self,
+        command: str,
+        tml: str = TML,
+        before: Sequence[str] = (),
+        *,
+        stdin: Stream = subprocess.DEVNULL,
+        stdout: Stream = subprocess.PIPE,
+        stderr: Stream = subprocess.PIPE,
+        preexec_fn: Callable[[], object] | None = None,
+        umask: int = -1,
+    ) -> subprocess.Popen[bytes]:
         """Starts a command of a table in the folder, behind the words of a program that starts it, if there are some."""
         name, *words = [os.path.abspath(tml) if word == "TML" else word for word in command.split(" ")]
-        streams = {"stdin": subprocess.DEVNULL, "stdout": subprocess.PIPE, "stderr": subprocess.PIPE}
-        words = [*before, sys.executable, os.path.join(TOOLS, name), *words]
-        return subprocess.Popen(words, cwd=self.folder, env=ENVIRONMENT, **{**streams, **options})
+        return subprocess.Popen(
+            [*before, sys.executable, os.path.join(TOOLS, name), *words],
+            cwd=self.folder,
+            env=ENVIRONMENT,
+            stdin=stdin,
+            stdout=stdout,
+            stderr=stderr,
+            preexec_fn=preexec_fn,
+            umask=umask,
+        )
 
-    def ended(self, command, tml=TML, **options):
+    def ended(
+        self,
+        command: str,
+        tml: str = TML,
+        *,
+        stdin: Stream = subprocess.DEVNULL,
+        stderr: Stream = subprocess.PIPE,
+        preexec_fn: Callable[[], object] | None = None,
+        umask: int = -1,
+    ) -> Ended:
         """Runs a command of a table. Its output is read from files, so that what it took is known from its end."""
         used = self.path("used")
-        before = () if "preexec_fn" in options else (sys.executable, "-ISc", MEASURING, used)
-        with open(self.path("out"), "wb+") as out, open(self.path("error"), "wb+") as error:
-            child = self.start(command, tml, before, **{"stdout": out, "stderr": error, **options})
-            status = child.wait()
-            texts = []
-            for file in (out, error):
-                file.seek(0)
-                texts.append(file.read().decode("utf-8", "replace"))
-        for name in ("out", "error"):
-            os.unlink(self.path(name))
+        before = () if preexec_fn else (sys.executable, "-ISc", MEASURING, used)
+        with open(self.path("out"), "wb") as out, open(self.path("error"), "wb") as error:
+            said = error if stderr == subprocess.PIPE else stderr
+            child = self.begin(command, tml, before, stdin=stdin, stdout=out, stderr=said, preexec_fn=preexec_fn, umask=umask)
+            ended = child.wait()
+        printed, complained = (self.taken(name).decode("utf-8", "replace") for name in ("out", "error"))
         if not before:
-            return Ended(status, *texts)
-        with open(used, encoding="ascii") as lines:
-            status, seconds, kibibytes = lines.read().split()
-        os.unlink(used)
-        return Ended(int(status), *texts, float(seconds), int(kibibytes) / 1024)
+            return Ended(ended, printed, complained)
+        status, seconds, kibibytes = self.taken("used").split()
+        return Ended(int(status), printed, complained, float(seconds), int(kibibytes) / 1024)
+
+    def taken(self, name: str) -> bytes:
+        """The content of a file, which is taken away."""
+        content = self.read_bytes(name)
+        os.unlink(self.path(name))
+        return content
 
 
 class Outputs(AttackTest):
-    def with_output(self, command, output):
+    def with_output(self, command: str, output: str) -> tuple[int, str]:
         """The status and standard error of a command whose standard output takes nothing. It reads a document."""
         with open(self.path("a.xml"), "rb") as given:
             return self.with_input(command, output, given)
 
-    def with_input(self, command, output, given):
+    def with_input(self, command: str, output: str, given: IO[bytes]) -> tuple[int, str]:
         """The same with something to read."""
         if output == "full":
             with open("/dev/full", "wb") as full:
-                child = self.start(command, stdin=given, stdout=full)
+                child = self.begin(command, stdin=given, stdout=full)
         elif output == "closed":
-            child = self.start(command, stdin=given, stdout=None, preexec_fn=lambda: os.close(1))
+            child = self.begin(command, stdin=given, stdout=None, preexec_fn=lambda: os.close(1))
         else:
             reading, writing = os.pipe()
             os.close(reading)
-            child = self.start(command, stdin=given, stdout=writing)
+            child = self.begin(command, stdin=given, stdout=writing)
             os.close(writing)
         _, error = child.communicate(timeout=120)
         return child.returncode, error.decode()
 
-    def test_output_that_fails_is_no_judgement(self):
+    def test_output_that_fails_is_no_judgement(self) -> None:
         for command in COMMANDS + OTHER_COMMANDS:
             for output, reason in OUTPUTS.items():
                 with self.subTest(command=command, output=output):
@@ -169,14 +200,14 @@ class Outputs(AttackTest):
                     name = command.split(" ", 1)[0]
                     self.assertTrue(error.startswith(f"{name}: standard output ") and error.endswith(reason + "\n"), error)
 
-    def test_standard_error_that_fails_changes_nothing(self):
+    def test_standard_error_that_fails_changes_nothing(self) -> None:
         with open("/dev/full", "wb") as full:
             for command in COMMANDS[:4]:
                 with self.subTest(command):
                     self.assertEqual(self.ended(command, stderr=full).status, 1)
                     self.assertEqual(self.ended(command, stderr=None, preexec_fn=lambda: os.close(2)).status, 1)
 
-    def test_standard_input_that_is_closed(self):
+    def test_standard_input_that_is_closed(self) -> None:
         for command in ("html-entities", "tml-edit --tml TML -"):
             with self.subTest(command):
                 ended = self.ended(command, stdin=None, preexec_fn=lambda: os.close(0))
@@ -188,13 +219,13 @@ STRANGER = 65534
 """The number of another user, who owns nothing."""
 
 
-def as_stranger(work):
+def as_stranger(work: Callable[[], Answer]) -> Answer:
     """What some work answers in a process of that user; the modules that it needs were imported before."""
     with multiprocessing.get_context("fork").Pool(1, become_stranger) as pool:
         return pool.apply(work)
 
 
-def become_stranger():
+def become_stranger() -> None:
     """Has this process go on as that user."""
     os.setgroups([])
     os.setgid(STRANGER)
@@ -216,7 +247,7 @@ SETTINGS = {
 
 
 class Settings(AttackTest):
-    def test_work_and_memory_are_in_proportion(self):
+    def test_work_and_memory_are_in_proportion(self) -> None:
         for name, content in SETTINGS.items():
             with self.subTest(name):
                 self.write("tml-corpus.toml", content)
@@ -226,18 +257,18 @@ class Settings(AttackTest):
                 self.assertLess(ended.seconds, 3)
                 self.assertLess(ended.mebibytes, 60)
 
-    def test_very_many_jobs_are_not_forked(self):
+    def test_very_many_jobs_are_not_forked(self) -> None:
         self.write("tml-corpus.toml", "jobs = 1000000")
         for number in range(300):
             self.write(f"d/{number}.xml", document(""))
         with mock.patch.object(os, "fork", wraps=os.fork) as fork, contextlib.redirect_stdout(io.StringIO()):
-            read = command_line.parser("check").parse_args(["check", "--tml", TML, "--no-library", self.path("d")], command_line.Words())
+            read = parser("check").parse_args(["check", "--tml", TML, "--no-library", self.path("d")], command_line.Words())
             with Interruption() as stop, command_line.prepared(read, command_line.settings_of(read), stop) as made:
                 self.assertEqual(command_line.run_command(read, made), 0)
         self.assertEqual(fork.call_count, 4 * processors())
 
     @needs_root
-    def test_those_of_a_stranger_above_are_not_read(self):
+    def test_those_of_a_stranger_above_are_not_read(self) -> None:
         self.write("c/d/a.xml", document("<own/>"))
         self.write("c/tml-corpus.toml", 'wrappers = ["own"]')
         place = os.path.realpath(self.path("c/tml-corpus.toml"))
@@ -249,7 +280,7 @@ class Settings(AttackTest):
                 self.assertEqual((ended.status, ended.error), (status, error), ended)
 
     @needs_root
-    def test_those_of_root_above_a_strangers_are_not_read_by_that(self):
+    def test_those_of_root_above_a_strangers_are_not_read_by_that(self) -> None:
         self.write("c/d/a.xml", "")
         self.write("c/tml-corpus.toml", 'wrappers = ["own"]')
         os.chmod(self.folder, 0o755)
@@ -259,7 +290,7 @@ class Settings(AttackTest):
             self.assertEqual((chosen.settings.wrappers, len(chosen.remarks)), (wrappers, 1 - len(wrappers)))
 
     @needs_root
-    def test_those_above_a_strangers_are_read(self):
+    def test_those_above_a_strangers_are_read(self) -> None:
         self.write("c/d/e/a.xml", document("<own/>"))
         self.write("c/tml-corpus.toml", 'wrappers = ["own"]')
         self.write("c/d/tml-corpus.toml", "x = 1")
@@ -285,7 +316,7 @@ OF_HASHLIB = re.compile(r"ERROR:root:code for hash .*?\nValueError: unsupported 
 
 
 class LittleRoom(AttackTest):
-    def test_every_launcher_ends_with_a_line(self):
+    def test_every_launcher_ends_with_a_line(self) -> None:
         for command in (COMMANDS[0], COMMANDS[7], COMMANDS[8], *OTHER_COMMANDS[:2]):
             name = command.split(" ")[0]
             for limit, most in LITTLE:
@@ -301,18 +332,21 @@ class LittleRoom(AttackTest):
                         self.assertEqual(error.count("\n"), 1, ended)
                         self.assertTrue(error.startswith(f"{name}: "), ended)
 
-    def test_no_memory_while_a_worker_begins_is_not_waited_for(self):
+    def test_no_memory_while_a_worker_begins_is_not_waited_for(self) -> None:
         # Where the room for a worker ends depends on the machine: all sizes around it are tried.
         for kibibytes in range(18_000, 26_000, 800):
             with self.subTest(kibibytes):
                 begun = time.monotonic()
-                ended = self.ended("tml-corpus check --jobs 2 --tml TML good.xml clash.xml", preexec_fn=partial(resource.setrlimit, resource.RLIMIT_AS, (kibibytes << 10,) * 2))
+                ended = self.ended(
+                    "tml-corpus check --jobs 2 --tml TML good.xml clash.xml",
+                    preexec_fn=partial(resource.setrlimit, resource.RLIMIT_AS, (kibibytes << 10,) * 2),
+                )
                 self.assertNotEqual(ended.status, 1, ended)
                 self.assertLess(time.monotonic() - begun, 90)
 
 
 class Programs(AttackTest):
-    def test_what_is_not_tml_judges_nothing(self):
+    def test_what_is_not_tml_judges_nothing(self) -> None:
         for number, body in enumerate(PROGRAMS):
             fake = self.fake(body)
             # Every command meets the first program, and the others meet some of them.
@@ -321,23 +355,29 @@ class Programs(AttackTest):
                     ended = self.ended(command, tml=fake)
                     self.assertEqual(ended.status, 2, ended)
                     self.assertNotIn("Traceback", ended.error)
-                    self.assertRegex(ended.out + ended.error, r"tml (answered status \d+ to `(check|solve|spans|reduce|score|seconds)`|printed more than [\d,]+ bytes)")
+                    self.assertRegex(
+                        ended.out + ended.error,
+                        r"tml (answered status \d+ to `(check|solve|spans|reduce|score|seconds)`|printed more than [\d,]+ bytes)",
+                    )
                     self.assertLess(ended.mebibytes, 400)
         self.assertFalse(os.path.exists(self.path("good.svg")))
 
-    def test_a_long_answer_that_the_library_would_give_is_believed(self):
+    def test_a_long_answer_that_the_library_would_give_is_believed(self) -> None:
         line, count = " ".join(("n" * 64, "SIMULTANEOUS", "m" * 64)), 500_000
         fake = self.fake(f"yes {line} | head -n {count}")
         self.assertEqual(len(Process(fake).answer("relations", [b""])[1]), count * (len(line) + 1))
 
-    def test_replies_that_belong_to_another_question(self):
+    def test_replies_that_belong_to_another_question(self) -> None:
         rows = [
             ("reduce", "relations", "redundant-links --tml TML a.xml"),
             ("score", "reduce", "tml-corpus agree --tml TML a.xml a.xml"),
             ("check", "solve", "tml-corpus check --lint --tml TML a.xml"),
             ("dates", "check", "tml-corpus timeline --tml TML a.xml -o good.svg"),
         ]
-        self.write("a.xml", document('<TIMEX3 tid="a" type="SET"/><TIMEX3 tid="b" type="SET"/><TLINK timeID="a" relatedToTime="b" relType="AFTER"/>'))
+        self.write(
+            "a.xml",
+            document('<TIMEX3 tid="a" type="SET"/><TIMEX3 tid="b" type="SET"/><TLINK timeID="a" relatedToTime="b" relType="AFTER"/>'),
+        )
         for question, other, command in rows:
             with self.subTest(question):
                 fake = self.fake(f'if [ $1 = {question} ]; then exec {TML} {other} -; fi\nexec {TML} "$@"')
@@ -345,7 +385,7 @@ class Programs(AttackTest):
                 self.assertEqual(ended.status, 2, ended)
                 self.assertIn(f"tml answered status 0 to `{question}`, and a text that does not go with it", ended.out)
 
-    def test_a_number_that_cannot_be_read_is_about_one_document_alone(self):
+    def test_a_number_that_cannot_be_read_is_about_one_document_alone(self) -> None:
         self.write("liar.xml", document(CLASH.replace("BEFORE", "IDENTITY") + '<SIGNAL sid="liar"/>'))
         self.write("lying-clash.xml", document(CLASH + '<SIGNAL sid="liar"/>'))
         for question, word, command in (
@@ -364,14 +404,14 @@ class Programs(AttackTest):
                 self.assertRegex(ended.out, r"(?m)^2 files(: 1 accepted|: 0 with a clash, 1 without|, 1 skipped)")
                 self.assertIn("and a text that does not go with it", ended.out)
 
-    def test_a_program_that_hangs_is_ended_with_the_second_interruption(self):
+    def test_a_program_that_hangs_is_ended_with_the_second_interruption(self) -> None:
         fake = self.fake(f'echo $$ >> "{self.path("asked")}"\ncat >/dev/null; sleep 300')
         for command in (COMMANDS[0], COMMANDS[4], COMMANDS[6], COMMANDS[7]):
             with self.subTest(command):
                 if os.path.exists(self.path("asked")):
                     os.unlink(self.path("asked"))
-                child = self.start(command, tml=fake)
-                self.until(lambda: os.path.exists(self.path("asked")))
+                child = self.begin(command, tml=fake)
+                until(lambda: os.path.exists(self.path("asked")), 30)
                 child.send_signal(signal.SIGINT)
                 time.sleep(0.3)
                 self.assertIsNone(child.poll())
@@ -380,65 +420,49 @@ class Programs(AttackTest):
                 child.communicate(timeout=60)
                 self.assertLess(time.monotonic() - begun, 3)
                 self.assertEqual(child.returncode, -signal.SIGINT)
-                with open(self.path("asked"), encoding="utf-8") as file:
-                    asked = [int(number) for number in file.read().split()]
-                self.until(lambda: not any(map(is_running, asked)))
+                asked = [int(number) for number in self.read_text("asked").split()]
+                until(lambda: not any(map(is_running, asked)), 30)
 
-    def test_tml_edit_ends_with_the_first_interruption(self):
-        child = self.start(COMMANDS[8], tml=self.fake(f'echo $$ > "{self.path("asked")}"\nsleep 300'))
-        self.until(lambda: os.path.exists(self.path("asked")))
+    def test_tml_edit_ends_with_the_first_interruption(self) -> None:
+        child = self.begin(COMMANDS[8], tml=self.fake(f'echo $$ > "{self.path("asked")}"\nsleep 300'))
+        until(lambda: os.path.exists(self.path("asked")), 30)
         time.sleep(0.2)
         child.send_signal(signal.SIGINT)
         self.assertEqual((child.communicate(timeout=60), child.returncode), ((b"", b""), 130))
 
-    def until(self, happens):
-        """Waits for something."""
-        late = time.monotonic() + 30
-        while not happens():
-            self.assertLess(time.monotonic(), late)
-            time.sleep(0.02)
 
-
-def is_running(number):
-    """Whether a process is there and not only waited for."""
-    try:
-        with open(f"/proc/{number}/stat", encoding="utf-8") as file:
-            return file.read().rsplit(") ", 1)[1][0] != "Z"
-    except OSError:
-        return False
-
-
-LIMIT = 4_194_304
 INSTANCES = b"".join(b'<MAKEINSTANCE eiid="i%d" eventID="e%d"/>' % (number, number % 30) for number in range(1024))
 LINK = b'<TLINK eventInstanceID="i%d" relatedToEventInstance="i%d" relType="%s"/>'
 LINKS = b"".join(LINK % (number % 1024, number * 7 % 1024, b"SIMULTANEOUS") for number in range(4096))
 CIRCLE = b"".join(LINK % (number, (number + 1) % 1024, b"BEFORE") for number in range(1024))
 TOUCHING = (
-    b'<TimeML><TIMEX3 tid="a" type="DATE" value="1998"/><TIMEX3 tid="b" type="DATE" value="1999"/><TLINK timeID="a" relatedToTime="b" relType="BEFORE"/>'
+    b'<TimeML><TIMEX3 tid="a" type="DATE" value="1998"/><TIMEX3 tid="b" type="DATE" value="1999"/><TLINK timeID="a" relatedToTime="b" '
+    b'relType="BEFORE"/>'
 )
 FREE_DATES = b"".join(b'<TIMEX3 tid="t%d" type="DATE" value="XXXX-12-25"/>' % number for number in range(1024))
 NESTED = b"".join(b'<EVENT eid="e%d" class="STATE">' % number for number in range(30))
 
 
-def filled(before, part, after):
+def filled(before: bytes, part: bytes, after: bytes) -> bytes:
     """As much of a part as a document may have between what stands before and after it."""
-    return before + part * ((LIMIT - len(before) - len(after)) // len(part)) + after
+    return before + part * ((DOCUMENT_LIMIT - len(before) - len(after)) // len(part)) + after
 
 
-def one_event(links):
+def one_event(links: bytes) -> bytes:
     """One event with 1,024 instances and a text of some million characters."""
     instances = re.sub(b'eventID="e[0-9]+"', b'eventID="e0"', INSTANCES)
     return filled(b'<TimeML><EVENT eid="e0" class="STATE">', b"word ", b"</EVENT>" + instances + links + b"</TimeML>\n")
 
 
-def nested(part):
+def nested(part: bytes) -> bytes:
     """Thirty events in each other, with instances, and something very often within."""
     return filled(b"<TimeML>" + NESTED, part, b"</EVENT>" * 30 + INSTANCES + CIRCLE.replace(b"BEFORE", b"IDENTITY") + b"</TimeML>\n")
 
 
-def numbered(before, part, after):
+def numbered(before: bytes, part: bytes, after: bytes) -> bytes:
     """The same where each part has its number."""
-    parts, room = [], LIMIT - len(before) - len(after)
+    parts: list[bytes] = []
+    room = DOCUMENT_LIMIT - len(before) - len(after)
     while room >= len(part) + 8:
         parts.append(part % len(parts))
         room -= len(parts[-1])
@@ -448,7 +472,7 @@ def numbered(before, part, after):
 CHECK, LINT, FIX = "tml-corpus check --tml TML d.xml", "tml-corpus check --lint --clashes --tml TML d.xml", "tml-corpus fix --tml TML d.xml"
 TIMELINE, TAGS = "tml-corpus timeline --tml TML d.xml -o d.svg", "tml-corpus tags --tml TML d.xml"
 REPORT = "tml-corpus report --tml TML d.xml -o pages"
-DOCUMENTS = {
+DOCUMENTS: dict[str, tuple[str, int, Callable[[], bytes]]] = {
     "one long text of many instances": (TIMELINE, 0, lambda: one_event(LINKS)),
     "one long text in a clash": ("tml-corpus clashes --tml TML d.xml", 1, lambda: one_event(CIRCLE)),
     "nested events with tags": (TIMELINE, 0, lambda: nested(b"<P/>")),
@@ -466,21 +490,31 @@ DOCUMENTS = {
         0,
         lambda: filled(b"<TimeML>", b'<TLINK relType="VAGUE"></TLINK>', b"</TimeML>\n"),
     ),
-    "one long line with a fault": ("tml-corpus check --format json --tml TML d.xml", 1, lambda: filled(b"<TimeML>", "é".encode(), b"<EVENT/></TimeML>\n")),
+    "one long line with a fault": (
+        "tml-corpus check --format json --tml TML d.xml", 1, lambda: filled(b"<TimeML>", "é".encode(), b"<EVENT/></TimeML>\n")
+    ),
     "very many suspect events": (LINT, 0, lambda: numbered(b"<TimeML>", b'<EVENT eid="e%d" class="STATE"/>', b"</TimeML>\n")),
-    "very many attributes of a tag that lacks one": (CHECK, 1, lambda: numbered(b'<TimeML><EVENT eid="e"', b' a%d=""', b">x</EVENT></TimeML>\n")),
+    "very many attributes of a tag that lacks one": (
+        CHECK, 1, lambda: numbered(b'<TimeML><EVENT eid="e"', b' a%d=""', b">x</EVENT></TimeML>\n")
+    ),
     "a tag with a very long name": (CHECK, 1, lambda: filled(b"<TimeML><", b"a", b"/></TimeML>\n")),
     "very many names in other letters": (FIX, 1, lambda: filled(b"<TimeML>", b"<Event/>", b"</TimeML>\n")),
-    "very many attributes of one name": ("tml-corpus check --more 100 --tml TML d.xml", 1, lambda: filled(b"<TimeML><EVENT", b' a=""', b"/></TimeML>\n")),
+    "very many attributes of one name": (
+        "tml-corpus check --more 100 --tml TML d.xml", 1, lambda: filled(b"<TimeML><EVENT", b' a=""', b"/></TimeML>\n")
+    ),
     "very many unknown attributes": (
         "tml-corpus check --lint --warn unknown-attribute --tml TML d.xml",
         0,
         lambda: numbered(b"<TimeML", b" a%d=''", b"></TimeML>\n"),
     ),
-    "dates that touch among very many units": ("tml-edit --touching-dates --tml TML d.xml", 0, lambda: filled(TOUCHING, b"<p/>\n", b"</TimeML> \n")),
+    "dates that touch among very many units": (
+        "tml-edit --touching-dates --tml TML d.xml", 0, lambda: filled(TOUCHING, b"<p/>\n", b"</TimeML> \n")
+    ),
     "a tag with a very long name that is counted": (TAGS, 1, lambda: filled(b"<TimeML><", b"a", b"/></TimeML>\n")),
     "very many tags to take out": ("tml-edit --tml TML --unwrap p d.xml", 0, lambda: filled(b"<TimeML>", b"<p/>", b"</TimeML>\n")),
-    "very many tags with another name": ("tml-edit --tml TML --rename p=s d.xml", 0, lambda: filled(b"<TimeML>", b"<p/>\n", b"</TimeML>\n")),
+    "very many tags with another name": (
+        "tml-edit --tml TML --rename p=s d.xml", 0, lambda: filled(b"<TimeML>", b"<p/>\n", b"</TimeML>\n")
+    ),
     "very many free dates": ("tml-corpus open --limit 1 --jobs 1 --tml TML d.xml", 0, lambda: b"<TimeML>" + FREE_DATES + b"</TimeML>\n"),
     "very many lines": ("tml-corpus check --tml TML d.xml", 1, lambda: filled(b"<TimeML>", b"\n", b"<EVENT/></TimeML>\n")),
 }
@@ -488,7 +522,7 @@ DOCUMENTS = {
 
 
 class Documents(AttackTest):
-    def test_work_and_memory_are_in_proportion(self):
+    def test_work_and_memory_are_in_proportion(self) -> None:
         # The aim is 5 seconds on a machine with nothing else to do. Here it is processor time, with room for a machine that is busy.
         for name, (command, status, make) in DOCUMENTS.items():
             with self.subTest(name):
@@ -500,17 +534,17 @@ class Documents(AttackTest):
                 self.assertLess(max(map(len, ended.out.splitlines())), 2000)
 
 
-def small_files(size=0):
+def small_files(size: int) -> Callable[[], None]:
     """Lets no file of the child grow beyond a size, as on a disk that is full."""
     return lambda: resource.setrlimit(resource.RLIMIT_FSIZE, (size, size))
 
 
 class Files(AttackTest):
-    def left(self, folder="."):
+    def left(self, folder: str) -> list[str]:
         """The files that are left, besides those that were there."""
         return sorted(set(os.listdir(self.path(folder))) - {"a.xml", "good.xml", "clash.xml", "fake", "in", "out", "error"})
 
-    def test_nothing_is_left_where_a_disk_is_full(self):
+    def test_nothing_is_left_where_a_disk_is_full(self) -> None:
         self.write("in/base-segmentation.tab", "a\t0\t0\tx\nb\t0\t0\ty\n")
         os.makedirs(self.path("kept"))
         os.makedirs(self.path("made"))
@@ -522,12 +556,12 @@ class Files(AttackTest):
         ]
         for command, folder, size, said in rows:
             with self.subTest(command):
-                child = self.start(command, preexec_fn=small_files(size))
+                child = self.begin(command, preexec_fn=small_files(size))
                 out, error = child.communicate(timeout=120)
                 self.assertEqual((child.returncode, self.left(folder)), (2, []))
                 self.assertIn(said, (out + error).decode())
 
-    def test_evidence_has_the_mode_of_the_mask(self):
+    def test_evidence_has_the_mode_of_the_mask(self) -> None:
         for mask, mode in ((0o022, 0o644), (0o077, 0o600), (0o002, 0o664)):
             with self.subTest(oct(mask)):
                 shutil.rmtree(self.path("kept"), ignore_errors=True)
@@ -542,10 +576,12 @@ COLLIDING = ("c/13683769/d.xml", "c/13684653/d.xml")
 
 
 class Digests(AttackTest):
-    def test_no_two_documents_have_one_page_or_one_file_of_evidence(self):
+    def test_no_two_documents_have_one_page_or_one_file_of_evidence(self) -> None:
         for path in COLLIDING:
             self.write(path, document(CLASH))
-        for command, folder in (("tml-corpus report --tml TML c -o pages", "pages/documents"), ("tml-corpus clashes --tml TML --evidence kept c", "kept")):
+        for command, folder in (
+            ("tml-corpus report --tml TML c -o pages", "pages/documents"), ("tml-corpus clashes --tml TML --evidence kept c", "kept")
+        ):
             with self.subTest(command):
                 self.assertEqual(self.ended(command).status, 1)
                 names = os.listdir(self.path(folder))
@@ -562,7 +598,7 @@ COMMANDS_OF_LOGS = "##[error] ##vso[x] ##teamcity[y]"
 
 
 class Names(AttackTest):
-    def test_names_are_neither_commands_nor_lines(self):
+    def test_names_are_neither_commands_nor_lines(self) -> None:
         for number, name in enumerate(NAMES):
             self.write(f"d/{name}.xml", document(COMMANDS_OF_LOGS + "<EVENT/>" if number % 2 else CLASH))
             self.write(f"{name}.xml", document(CLASH if number % 2 else COMMANDS_OF_LOGS + "<EVENT/>"))
@@ -571,7 +607,7 @@ class Names(AttackTest):
             with self.subTest(command):
                 self.harmless(command.rsplit(" ", 1)[0], "d", *(f"{name}.xml" for name in NAMES), *NAMES)
 
-    def test_names_of_pairs(self):
+    def test_names_of_pairs(self) -> None:
         for name in NAMES:
             for folder, content in (("d", CLASH), ("e", "<EVENT/>"), ("f", ""), ("g", "")):
                 self.write(f"{folder}/{name}.xml", document(content))
@@ -580,13 +616,13 @@ class Names(AttackTest):
             with self.subTest(form=form, folders=folders):
                 self.harmless(f"tml-corpus agree --format {form} --tml TML", *folders)
 
-    def test_names_in_what_standard_error_says(self):
+    def test_names_in_what_standard_error_says(self) -> None:
         for name in NAMES[:1] + NAMES[2:7]:
             for command in ("tml-edit --tml TML", "tml-corpus timeline --tml TML a.xml -o", "tml-corpus check --tml", "from-tempeval2 out"):
                 with self.subTest(name=name, command=command):
                     self.harmless(command, name)
 
-    def harmless(self, command, *names):
+    def harmless(self, command: str, *names: str) -> None:
         """Runs a command on some names, and looks at each line that it prints."""
         script, *words = command.split(" ")
         words = [os.path.abspath(TML) if word == "TML" else word for word in words]
@@ -602,7 +638,7 @@ class Names(AttackTest):
                 self.assertRegex(line, r"^::error file=[^,:]*(,line=\d+,col=\d+(,endColumn=\d+)?,title=[^,:]*)?::")
 
 
-TABLES = (
+TABLES: tuple[tuple[str, str, str | bytes, str], ...] = (
     ("from-tempeval2", "base-segmentation.tab", "a\t0\t0\tx\na\t0\n", "2:4: 2 of 4 columns: document, sentence, token number, token"),
     ("from-tempeval2", "base-segmentation.tab", b"a\t0\t0\tx\na\t0\t\xff\ty\n", "2:5: the byte FF is not UTF-8"),
     ("from-tempeval2", "base-segmentation.tab", "a\tx\t0\ty\n", "1:3: 'x' is not a number of at most 9 digits"),
@@ -615,7 +651,8 @@ TABLES = (
     ("from-tempeval2", "base-segmentation.tab", "a\x01\t0\t0\tx\n", "1:2: the character U+0001 is not allowed in XML"),
     ("from-tempeval2", "base-segmentation.tab", "É\t0\t0\tx\né\t0\t0\ty\n", "2:1: 'é' and 'É' differ only in the case of letters"),
     ("from-tempeval2", "base-segmentation.tab", "a\t0\t0\tx\na\t0\t1\t" + "y" * 70_000, "2:1: the line has more than 65,536 bytes"),
-    ("from-tempeval2", "timex-attributes.tab", "a\t0\t0\ttimex3\tt1\t1\ttype\t\uffff\n", "1:24: the character U+FFFF is not allowed in XML"),
+    ("from-tempeval2", "timex-attributes.tab", "a\t0\t0\ttimex3\tt1\t1\ttype\t\uffff\n",
+     "1:24: the character U+FFFF is not allowed in XML"),
     ("from-tempeval2", "event-extents.tab", "b\t0\t0\tevent\te1\t1\n", "1:1: 'b' is not a document of base-segmentation.tab"),
     ("from-tempeval2", "event-extents.tab", "a\t0\t7\tevent\te1\t1\n", "1:5: e1 is at a token that is not there"),
     ("from-tempeval2", "event-attributes.tab", "a\t0\t0\tevent\te1\t1\tclass\tSTATE\n", "1:13: e1 has attributes and no extent"),
@@ -629,25 +666,28 @@ TABLES = (
 
 
 class Tables(AttackTest):
-    def of(self, script):
+    def begin_anew(self) -> None:
+        """Leaves nothing but a table of one word."""
+        shutil.rmtree(self.path("in"), ignore_errors=True)
+        self.write("in/base-segmentation.tab", "a\t0\t0\tx\n")
+
+    def of(self, script: str) -> str:
         """The command that reads tables."""
         return "from-tempeval2 in made" if script == "from-tempeval2" else "tml-edit --tml TML --links in/table good.xml"
 
-    def test_what_is_wrong_is_said_with_its_place(self):
+    def test_what_is_wrong_is_said_with_its_place(self) -> None:
         for script, table, content, said in TABLES:
             with self.subTest(said):
-                shutil.rmtree(self.path("in"), ignore_errors=True)
-                self.write("in/base-segmentation.tab", "a\t0\t0\tx\n")
+                self.begin_anew()
                 self.write(f"in/{table}", content)
                 ended = self.ended(self.of(script))
                 self.assertEqual((ended.status, ended.out, ended.error.count("\n")), (1, "", 1), ended)
                 self.assertTrue(ended.error.startswith(f"{script}: in/{table}:{said}"), ended.error)
 
-    def test_a_pipe_is_not_waited_for(self):
+    def test_a_pipe_is_not_waited_for(self) -> None:
         for script, table in (("from-tempeval2", "base-segmentation.tab"), ("from-tempeval2", "dct.txt"), ("tml-edit", "table")):
             with self.subTest(table):
-                shutil.rmtree(self.path("in"), ignore_errors=True)
-                self.write("in/base-segmentation.tab", "a\t0\t0\tx\n")
+                self.begin_anew()
                 if os.path.exists(self.path(f"in/{table}")):
                     os.unlink(self.path(f"in/{table}"))
                 os.mkfifo(self.path(f"in/{table}"))
@@ -655,12 +695,17 @@ class Tables(AttackTest):
                 self.assertEqual((ended.status, ended.out, ended.error.count("\n")), (2, "", 1))
                 self.assertIn(f"in/{table}: is not a regular file", ended.error)
 
-    def test_input_without_an_end_is_not_read(self):
+    def test_input_without_an_end_is_not_read(self) -> None:
         rows = [
             ("html-entities", "given", 2, "html-entities: standard input has more than 8,388,608 bytes\n"),
             ("from-tempeval2 in made", "in/base-segmentation.tab", 1, "from-tempeval2: in: the tables have more than 16,777,216 bytes\n"),
             ("from-tempeval2 in made", "in/tlinks-x.tab", 1, "from-tempeval2: in: the tables have more than 16,777,216 bytes\n"),
-            ("tml-edit --tml TML --links in/table good.xml", "in/table", 1, "tml-edit: in/table:1:1: the line has more than 65,536 bytes\n"),
+            (
+                "tml-edit --tml TML --links in/table good.xml",
+                "in/table",
+                1,
+                "tml-edit: in/table:1:1: the line has more than 65,536 bytes\n",
+            ),
         ]
         for command, name, status, said in rows:
             with self.subTest(command=command, name=name):
@@ -672,14 +717,14 @@ class Tables(AttackTest):
                 self.assertEqual((ended.status, ended.out, ended.error), (status, "", said))
                 self.assertLess(ended.mebibytes, 100)
 
-    def test_very_many_tags_at_one_token(self):
+    def test_very_many_tags_at_one_token(self) -> None:
         self.write("in/base-segmentation.tab", "a\t0\t0\tx\n")
         self.write("in/event-extents.tab", "".join(f"a\t0\t0\tevent\te{number}\t1\n" for number in range(50_000)))
         ended = self.ended(self.of("from-tempeval2"))
         self.assertEqual(ended.status, 0, ended.error)
         self.assertLess(ended.seconds, 10)
 
-    def test_attributes_of_tables_are_no_tags(self):
+    def test_attributes_of_tables_are_no_tags(self) -> None:
         self.write("in/base-segmentation.tab", "a\t0\t0\tx\n")
         self.write("in/timex-extents.tab", "a\t0\t0\ttimex3\tt1\t1\n")
         self.write("in/timex-attributes.tab", 'a\t0\t0\ttimex3\tt1\t1\tx="1"><P\ty\n')
@@ -689,7 +734,7 @@ class Tables(AttackTest):
 
 
 class WhereItLies(AttackTest):
-    def test_the_sample_is_judged(self):
+    def test_the_sample_is_judged(self) -> None:
         """What the attacks are measured against: the real program, and all as it should be."""
         for command, status in zip(COMMANDS, (1, 1, 1, 1, 1, 0, 0, 1, 0, 1, 1, 0, 0, 1), strict=True):
             with self.subTest(command):

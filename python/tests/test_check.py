@@ -4,12 +4,12 @@ import json
 import os
 import re
 import signal
-import stat
 import time
 import unittest
 import xml.etree.ElementTree as ElementTree
 
-from corpus import EVENT, TML, TOP, CorpusTest, document
+from corpus import EVENT, TML, TOO_LONG, CorpusTest, document, match_in, needed, text_at
+from tml.statuses import DOCUMENT_LIMIT
 
 GOOD = document(EVENT)
 BAD = document("<EVENT/>")
@@ -17,13 +17,12 @@ NO_TEXT = "this EVENT has no text: delete it, or add eid and class if it is mean
 
 
 class Sentences(unittest.TestCase):
-    def test_are_the_first_ones_of_the_page(self):
-        from tml_corpus.check.faults import SENTENCES
+    def test_are_the_first_ones_of_the_page(self) -> None:
+        from tml.explaining.faults import SENTENCES
 
-        with open(os.path.join(TOP, "docs", "FAULTS.md"), encoding="utf-8") as file:
-            page = file.read()
+        page = text_at("docs/FAULTS.md")
         for number, sentence in SENTENCES.items():
-            paragraph = re.search(rf"^\*\*{number} \w+\.\*\* (.*?)(?:\nSmallest|\n\n)", page, re.MULTILINE | re.DOTALL)
+            paragraph = match_in(rf"^\*\*{number} \w+\.\*\* (.*?)(?:\nSmallest|\n\n)", page, re.MULTILINE | re.DOTALL)
             self.assertTrue(" ".join(paragraph[1].split()).startswith(sentence), sentence)
             self.assertNotRegex(sentence[:-1], r"\. ")
             self.assertEqual(sentence[-1], ".")
@@ -31,7 +30,7 @@ class Sentences(unittest.TestCase):
 
 
 class Statuses(CorpusTest):
-    def test_statuses(self):
+    def test_statuses(self) -> None:
         self.write("good.xml", GOOD)
         self.write("bad.xml", BAD)
         os.mkdir(self.path("empty"))
@@ -47,12 +46,12 @@ class Statuses(CorpusTest):
             with self.subTest(words):
                 self.assertEqual(self.run_it("check", *words)[0], status)
 
-    def test_no_program(self):
+    def test_no_program(self) -> None:
         self.write("good.xml", GOOD)
         status, _, error = self.run_it("check", "good.xml", tml="/no/such/tml")
         self.assertEqual((status, error), (2, "tml-corpus: no program /no/such/tml\n"))
 
-    def test_order_is_that_of_the_files(self):
+    def test_order_is_that_of_the_files(self) -> None:
         for number in range(60):
             self.write(f"{'ab'[number % 2]}/{number:02}.tml", document("<P>x</P>" * (600 * (number % 3))) if number % 2 else BAD)
         runs = [self.run_it("check", "--jobs", jobs, "b", "a") for jobs in ("1", "9")]
@@ -60,9 +59,9 @@ class Statuses(CorpusTest):
         places = [line.split(":")[0] for line in runs[0][1] if "error" in line]
         self.assertEqual(places, [f"a/{number:02}.tml" for number in range(0, 60, 2)])
 
-    def test_files_that_cannot_be_judged_are_named_and_end_nothing(self):
-        self.write("a.xml", b" " * 4_194_305)
-        self.write("b.xml", b" " * 4_194_304)
+    def test_files_that_cannot_be_judged_are_named_and_end_nothing(self) -> None:
+        self.write("a.xml", TOO_LONG)
+        self.write("b.xml", b" " * DOCUMENT_LIMIT)
         os.symlink("nowhere", self.path("c.xml"))
         os.mkfifo(self.path("d.xml"))
         os.symlink(".", self.path("loop"))
@@ -77,7 +76,7 @@ class Statuses(CorpusTest):
         self.assertTrue(lines[4].startswith("./z.xml:2:1: error: 10 MissingAttribute: "), lines[4])
         self.assertEqual(lines[5], "5 files: 0 accepted, 2 with a fault, 3 not judged")
 
-    def test_a_file_that_vanishes_after_the_search(self):
+    def test_a_file_that_vanishes_after_the_search(self) -> None:
         from tml_corpus.asking.program import Program
         from tml_corpus.check.first import judge
         from tml_corpus.files.finding import find_files
@@ -87,7 +86,7 @@ class Statuses(CorpusTest):
         os.unlink(found.path)
         self.assertEqual(judge(Program(TML), found, True, 1).problem, "no such file or directory")
 
-    def test_statuses_of_tml(self):
+    def test_statuses_of_tml(self) -> None:
         self.write("a.xml", GOOD)
         rows = [
             (4, "echo read fault", "tml cannot read the file"),
@@ -99,12 +98,11 @@ class Statuses(CorpusTest):
         ]
         for status, answer, words in rows:
             with self.subTest(status):
-                self.script(f"{answer}; exit {status}")
-                printed, lines, _ = self.run_it("check", "a.xml", tml=self.path("fake"))
+                printed, lines, _ = self.run_it("check", "a.xml", tml=self.fake(f"{answer}; exit {status}"))
                 self.assertEqual(printed, 2)
                 self.assertIn(words, lines[0])
 
-    def test_answers_that_cannot_be_read(self):
+    def test_answers_that_cannot_be_read(self) -> None:
         rows = [
             ("echo fault 10 MissingAttribute x; exit 1", BAD),
             ("echo fault 10 MissingAttribute 999; exit 1", BAD),
@@ -115,39 +113,32 @@ class Statuses(CorpusTest):
         for answer, content in rows:
             with self.subTest(answer):
                 self.write("a.xml", content)
-                self.script(answer)
-                status, lines, error = self.run_it("check", "--explain", "a.xml", tml=self.path("fake"))
+                status, lines, error = self.run_it("check", "--explain", "a.xml", tml=self.fake(answer))
                 self.assertEqual((status, error), (2, ""))
                 self.assertTrue(lines[0].startswith("a.xml: not judged: "), lines[0])
 
-    def script(self, body):
-        self.write("fake", f"#!/bin/sh\n{body}\n")
-        os.chmod(self.path("fake"), stat.S_IRWXU)
-
-    def test_a_worker_that_is_ended(self):
+    def test_a_worker_that_is_ended(self) -> None:
         for number in range(12):
             self.write(f"{number:02}.xml", "<TimeML/>\n" if number != 5 else "<TimeML/>\n<!--end-->\n")
         # A program that ends the process that asks it, where the document has a word in it.
-        self.write("fake", f"#!/bin/sh\ntext=$(cat)\ncase $text in *end*) kill -9 $PPID; sleep 1;; esac\nprintf '%s\\n' \"$text\" | {TML} \"$@\"\n")
-        os.chmod(self.path("fake"), 0o700)
-        status, lines, _ = self.run_it("check", "--jobs", "3", ".", tml=self.path("fake"))
+        fake = self.fake(f"text=$(cat)\ncase $text in *end*) kill -9 $PPID; sleep 1;; esac\nprintf '%s\\n' \"$text\" | {TML} \"$@\"")
+        status, lines, _ = self.run_it("check", "--jobs", "3", ".", tml=fake)
         self.assertEqual(status, 2)
-        self.assertTrue(lines[0].startswith("./05.xml: not judged: a process of this program"), lines)
+        self.assertTrue(lines[0].startswith("./05.xml: not judged: the process that examined it"), lines)
         self.assertEqual(lines[1], "12 files: 11 accepted, 0 with a fault, 1 not judged")
 
-    def test_interrupted(self):
+    def test_interrupted(self) -> None:
         for number in range(400):
             self.write(f"{number:03}.xml", BAD)
-        self.script(f'echo >> "{self.path("asked")}"\nsleep 0.05\nexec {TML} "$@"')
-        child = self.start("check", "--jobs", "2", ".", tml=self.path("fake"))
+        fake = self.fake(f'echo >> "{self.path("asked")}"\nsleep 0.05\nexec {TML} "$@"')
+        child = self.start("check", "--jobs", "2", ".", tml=fake)
         while child.poll() is None and not (os.path.exists(self.path("asked")) and os.path.getsize(self.path("asked")) > 20):
             time.sleep(0.02)
         child.send_signal(signal.SIGINT)
         out, _ = child.communicate(timeout=60)
         lines = out.decode().splitlines()
         self.assertEqual(child.returncode, 130)
-        printed = re.fullmatch(r"interrupted: (\d+) of 400 files were looked at", lines[-1])
-        self.assertIsNotNone(printed, lines[-1:])
+        printed = match_in(r"^interrupted: (\d+) of 400 files were looked at$", lines[-1])
         named = [line.split(":")[0] for line in lines if "error" in line]
         self.assertEqual(named, [f"./{number:03}.xml" for number in range(int(printed[1]))])
         self.assertLess(0, len(named))
@@ -155,8 +146,8 @@ class Statuses(CorpusTest):
 
 
 class PlacesOfFaults(CorpusTest):
-    def test_columns(self):
-        rows = [
+    def test_columns(self) -> None:
+        rows: list[tuple[str, str | bytes, str]] = [
             ("after characters of several bytes", "<TimeML>\n<P>é日𝄞</P><EVENT/></TimeML>", "2:11"),
             ("after a tab", "<TimeML>\n\t<EVENT/></TimeML>", "2:2"),
             ("after a byte order mark", "\ufeff<TimeML><EVENT/></TimeML>", "1:9"),
@@ -173,18 +164,29 @@ class PlacesOfFaults(CorpusTest):
                 self.write("d.xml", content)
                 self.assertTrue(self.run_it("check", "d.xml")[1][0].startswith(f"d.xml:{place}: error: "))
 
-    def test_names(self):
-        rows = [("new\nline.xml", "./new\\x0aline.xml"), ("-x.xml", "./-x.xml"), ("-", "./-"), ("caf\udce9.xml", "./caf\\xe9.xml"), ("\x1b[1m.xml", "./\\x1b[1m.xml")]
+    def test_names(self) -> None:
+        rows = [
+            ("new\nline.xml", "./new\\x0aline.xml"),
+            ("-x.xml", "./-x.xml"),
+            ("-", "./-"),
+            ("caf\udce9.xml", "./caf\\xe9.xml"),
+            ("\x1b[1m.xml", "./\\x1b[1m.xml"),
+        ]
         for name, shown in rows:
             with self.subTest(shown):
                 self.write(name, BAD)
                 status, lines, _ = self.run_it("check", "./" + name)
                 self.assertEqual((status, lines[0].split(": ")[0]), (1, f"{shown}:2:1"))
 
-    def test_source_line_and_caret(self):
+    def test_source_line_and_caret(self) -> None:
         from tml.places import Places, caret_lines
 
-        rows = [("\té<EVENT/>", 3, "     é<EVENT/>", 6), ("日<", 2, "    日<", 6), ("e\u0301<", 3, "    e\u0301<", 5), ("\x1b<", 2, "    \ufffd<", 5)]
+        rows = [
+            ("\té<EVENT/>", 3, "     é<EVENT/>", 6),
+            ("日<", 2, "    日<", 6),
+            ("e\u0301<", 3, "    e\u0301<", 5),
+            ("\x1b<", 2, "    \ufffd<", 5),
+        ]
         for text, column, line, before in rows:
             with self.subTest(text):
                 self.assertEqual(caret_lines(text, column), [line, " " * before + "^"])
@@ -202,13 +204,13 @@ class PlacesOfFaults(CorpusTest):
 
 
 class Formats(CorpusTest):
-    def setUp(self):
+    def setUp(self) -> None:
         super().setUp()
         self.write("a.xml", GOOD)
         self.write("b,%.xml", BAD)
         self.paths = ("a.xml", "b,%.xml", "c.xml")
 
-    def test_text(self):
+    def test_text(self) -> None:
         _, lines, _ = self.run_it("check", *self.paths)
         self.assertEqual(
             lines,
@@ -222,42 +224,52 @@ class Formats(CorpusTest):
             ],
         )
 
-    def test_json(self):
+    def test_json(self) -> None:
         lines = self.run_it("check", "--format", "json", *self.paths)[1]
-        self.assertEqual(json.loads("\n".join(lines)), [json.loads(line) for line in self.run_it("check", "--format", "jsonl", *self.paths)[1]])
+        self.assertEqual(
+            json.loads("\n".join(lines)), [json.loads(line) for line in self.run_it("check", "--format", "jsonl", *self.paths)[1]]
+        )
         _, lines, error = self.run_it("check", "--format", "jsonl", *self.paths)
         one, two, three = (json.loads(line) for line in lines)
         self.assertEqual(one, {"path": "a.xml", "verdict": "accepted", "faults": [], "warnings": []})
         self.assertEqual((three["verdict"], three["problem"]), ("not judged", "no such file or directory"))
         [fault] = two["faults"]
-        self.assertEqual([fault[key] for key in ("number", "name", "offset", "line", "column", "perhapsConsequence")], [10, "MissingAttribute", 9, 2, 1, False])
+        self.assertEqual(
+            [fault[key] for key in ("number", "name", "offset", "line", "column", "perhapsConsequence")],
+            [10, "MissingAttribute", 9, 2, 1, False],
+        )
         self.assertEqual((fault["message"], fault["notes"]), (NO_TEXT, []))
         self.assertEqual(fault["meaning"], "A tag lacks a required attribute, or has it with an empty value.")
         self.assertEqual((fault["start"], fault["end"]), ({"offset": 9, "line": 2, "column": 1}, {"offset": 17, "line": 2, "column": 9}))
         self.assertTrue(error.startswith("3 files: "))
 
-    def test_junit(self):
+    def test_junit(self) -> None:
         _, lines, _ = self.run_it("check", "--format", "junit", *self.paths)
         root = ElementTree.fromstring("\n".join(lines).encode())
         self.assertEqual(root.attrib, {"tests": "3", "failures": "1", "errors": "1"})
         cases = {case.get("name"): [child.tag for child in case] for case in root.iter("testcase")}
         self.assertEqual(cases, {"a.xml": [], "b,%.xml": ["failure"], "c.xml": ["error"]})
-        self.assertEqual(root.find(".//failure").get("message"), f"b,%.xml:2:1: 10 MissingAttribute: {NO_TEXT} [byte 9]")
-        self.assertIn("    ^~~~~~~~", root.find(".//failure").text)
+        failure = needed(root.find(".//failure"))
+        self.assertEqual(failure.get("message"), f"b,%.xml:2:1: 10 MissingAttribute: {NO_TEXT} [byte 9]")
+        self.assertIn("    ^~~~~~~~", needed(failure.text))
 
-    def test_github(self):
+    def test_github(self) -> None:
         _, lines, _ = self.run_it("check", "--format", "github", *self.paths)
-        self.assertEqual(lines[0], f"::error file=b%2C%25.xml,line=2,col=1,endColumn=8,title=10 MissingAttribute::10 MissingAttribute: {NO_TEXT} [byte 9]")
+        self.assertEqual(
+            lines[0],
+            f"::error file=b%2C%25.xml,line=2,col=1,endColumn=8,title=10 MissingAttribute::10 MissingAttribute: {NO_TEXT} [byte 9]",
+        )
         self.assertEqual(lines[1], "::error file=c.xml::not judged: no such file or directory")
 
-    def test_the_number_the_name_and_the_byte_are_in_every_form(self):
+    def test_the_number_the_name_and_the_byte_are_in_every_form(self) -> None:
         for form in ("text", "json", "jsonl", "junit", "github"):
-            for words in ([], ["--no-explain"]):
+            for words in (), ("--no-explain",):
                 with self.subTest(form=form, words=words):
                     text = "\n".join(self.run_it("check", "--format", form, *words, "b,%.xml")[1])
-                    self.assertRegex(text, '"number": 10, "name": "MissingAttribute", "offset": 9,' if form in ("json", "jsonl") else r"10 MissingAttribute: .* \[byte 9\]")
+                    of_json = '"number": 10, "name": "MissingAttribute", "offset": 9,'
+                    self.assertRegex(text, of_json if form in ("json", "jsonl") else r"10 MissingAttribute: .* \[byte 9\]")
 
-    def test_bytes_of_a_document_are_escaped(self):
+    def test_bytes_of_a_document_are_escaped(self) -> None:
         self.write("d.xml", document('<SIGNAL sid="\x1b[2J&#10;\x07"/>'))
         for form in ("text", "json", "jsonl", "junit", "github"):
             with self.subTest(form):

@@ -9,6 +9,7 @@ what its head says: the file, or the function too.
 import re
 import unittest
 from collections import defaultdict
+from collections.abc import Collection, Iterable, Iterator
 from dataclasses import dataclass, field, replace
 from functools import cache
 from pathlib import Path
@@ -47,12 +48,13 @@ class Item:
     is_law: bool = False
 
 
-def items_of(file, text):
+def items_of(file: str, text: str) -> dict[str, Item]:
     """The public items in the text of a source, by their names, those of a type or a trait after its own: `Type::name`."""
-    items, kind, owner, item = {}, None, "", Item(file)
+    items: dict[str, Item] = {}
+    kind, owner, item = "", "", Item(file)
     for line in text.splitlines():
         if line.startswith("}"):
-            kind, owner = None, ""
+            kind, owner = "", ""
         elif block := re.match(r"(?:pub )?(impl|trait|enum|struct|const|type)\b(?:<[^>]*>)? ?(\w+(?:<.*?>)? for )?(\w+)", line):
             if line.startswith("pub "):
                 items[block[3]] = Item(file, {""})
@@ -74,7 +76,7 @@ def items_of(file, text):
 
 
 @cache
-def public_items(crate):
+def public_items(crate: str) -> dict[str, Item]:
     """The public items of a crate, by their names: those that its `lib.rt` has, or takes from its modules, and of a program all."""
     sources = CRATES / crate / "src"
     is_program = (sources / "main.rt").is_file()
@@ -95,12 +97,13 @@ def public_items(crate):
 
 
 @cache
-def definitions(crate, file):
+def definitions(crate: str, file: str) -> set[str]:
     """The names that a file of definitions defines."""
     path = CRATES / crate / "specs" / f"{file}.antt"
     if not path.is_file():
         raise NotThere(f"no file `{crate}/specs/{file}`")
-    names, together = set(), False
+    names: set[str] = set()
+    together = False
     for line in path.read_text(encoding="utf-8").splitlines():
         if re.match(r"\w", line):
             together = line == "abbrev mutual"
@@ -111,11 +114,11 @@ def definitions(crate, file):
 
 
 @cache
-def known_names():
+def known_names() -> set[str]:
     """The names of all definitions and public items that cannot be words of a text: they have a capital or an underscore."""
     specs = [definitions(path.parts[-3], path.stem) for path in CRATES.glob("*/specs/*.antt")]
     items = [public_items(path.parts[-3]) for path in CRATES.glob("*/src/lib.rt")]
-    return {name for name in set().union(*specs, *items) if re.search(r"[A-Z_]", name)}
+    return {name for name in set[str]().union(*specs, *items) if re.search(r"[A-Z_]", name)}
 
 
 # The pages.
@@ -131,19 +134,21 @@ class Block:
     is_column: bool = False
     homes: tuple[tuple[str | None, str], ...] = ()
 
-    def line_at(self, place):
+    def line_at(self, place: int) -> int:
         """The line of a place in the text."""
         return self.line + self.text.count("\n", 0, place)
 
 
-def names_in(text):
+def names_in(text: str | None) -> tuple[str, ...]:
     """The names that stand in code."""
     return tuple(re.findall(r"`([\w:]+)`", text or ""))
 
 
-def blocks_of(page):
+def blocks_of(page: str) -> Iterator[Block]:
     """The paragraphs and the cells of a page."""
-    crate, heads, paragraph = None, None, []
+    crate: str | None = None
+    heads: list[str] | None = None
+    paragraph: list[str] = []
     for number, line in enumerate([*page.splitlines(), ""], 1):
         if paragraph and (not line or line.startswith(("|", "#", "- "))):
             yield Block(number - len(paragraph), "\n".join(paragraph), crate)
@@ -166,15 +171,16 @@ def blocks_of(page):
 # What they cite.
 
 
-def crate_and_file(path, folder, crate):
+def crate_and_file(path: str, folder: str, crate: str | None) -> tuple[str, str]:
     """The crate and the file of a path over a folder of a crate; a path without a crate is one of this crate."""
     before, _, file = path.rpartition(f"{folder}/")
-    if not before and crate is None:
+    found = before.rstrip("/") or crate
+    if found is None:
         raise NotThere(f"no crate with `{path}`")
-    return before.rstrip("/") or crate, file
+    return found, file
 
 
-def check_items(crate, names, clauses, is_law=False, file=None):
+def check_items(crate: str, names: Iterable[str], clauses: Collection[str], is_law: bool = False, file: str | None = None) -> None:
     """Checks that public items of a crate are there, with these clauses, and in this file where one is given."""
     for name in names:
         item = public_items(crate).get(name)
@@ -187,7 +193,7 @@ def check_items(crate, names, clauses, is_law=False, file=None):
                 raise NotThere(f"`{name}` has no clause `{clause}`" if clause else f"`{name}` has no clause without a name")
 
 
-def cite_calls(block, calls, function, path):
+def cite_calls(block: Block, calls: str, function: str | None, path: str) -> Iterator[tuple[str, str]]:
     """Checks clauses of functions in a file, or of a function that the citations leave out, and answers each function with its crate."""
     crate, file = crate_and_file(path, "src", block.crate)
     if not (CRATES / crate / "src" / file).is_file():
@@ -200,7 +206,7 @@ def cite_calls(block, calls, function, path):
         yield from ((function, crate) for function in functions)
 
 
-def cite_definitions(block, path, names):
+def cite_definitions(block: Block, path: str, names: Iterable[str]) -> Iterator[tuple[str, str]]:
     """Checks definitions in a file, and answers each with its place; or checks files in a folder."""
     crate, file = crate_and_file(path if "specs/" in path else f"{path}/", "specs", block.crate)
     for name in names:
@@ -212,7 +218,7 @@ def cite_definitions(block, path, names):
             raise NotThere(f"no `{name}` in `{crate}/specs/{file}`")
 
 
-def cite_items(block, items, crate, is_law):
+def cite_items(block: Block, items: str, crate: str | None, is_law: bool) -> list[tuple[str, str]]:
     """Checks public items of a crate, and answers each with its place."""
     if crate is None:
         raise NotThere(f"no crate with {items}")
@@ -221,7 +227,7 @@ def cite_items(block, items, crate, is_law):
     return [(name, crate) for name in names]
 
 
-def cite(block, found):
+def cite(block: Block, found: re.Match[str]) -> Iterable[tuple[str, str]]:
     """Checks a citation, and answers the names that it cites, each with its place."""
     if found["specs"]:
         return cite_definitions(block, found["specs"], names_in(found["definitions"]))
@@ -229,7 +235,7 @@ def cite(block, found):
         return cite_items(block, found["laws"], found["crate_of_laws"] or block.crate, is_law=True)
     if found["items"]:
         return cite_items(block, found["items"], found["crate_of_items"], is_law=False)
-    homes = [("", found["file"])] if found["file"] else block.homes
+    homes: Iterable[tuple[str | None, str]] = [("", found["file"])] if found["file"] else block.homes
     if not homes:
         raise NotThere(f"no file with {found[0]}")
     return [cited for function, path in homes for cited in cite_calls(block, found["calls"], function, path)]
@@ -238,19 +244,19 @@ def cite(block, found):
 class Citations:
     """The citations of a page."""
 
-    def __init__(self, page=""):
-        self.wrong = []
+    def __init__(self, page: str = "") -> None:
+        self.wrong: list[tuple[int, str]] = []
         """What is wrong, each with its line."""
-        self.rows = set()
+        self.rows: set[int] = set()
         """The lines of rows with citations."""
-        self.places = defaultdict(set)
+        self.places: defaultdict[str, set[str]] = defaultdict(set)
         """The places of each name that is cited: a crate, or a file of definitions."""
-        self.left = []
+        self.left: list[tuple[int, str]] = []
         """The names in code that stand in no citation, each with its line."""
         for block in blocks_of(page):
             self.take(block)
 
-    def take(self, block):
+    def take(self, block: Block) -> None:
         """Takes the citations of a block."""
         pattern = IN_COLUMN if block.is_column else IN_TEXT
         text = block.text.replace("\n", " ")
@@ -271,7 +277,7 @@ class Citations:
                 self.wrong.append((block.line, f"no citation: {' '.join(words)}"))
             self.rows.add(block.line)
 
-    def unclear(self):
+    def unclear(self) -> Iterator[tuple[int, str]]:
         """The names of the crates that stand in no citation, and are cited nowhere else on the page or in several places, with their lines.
         A name of a type or a trait, `Type::name`, is cited where the type is."""
         for line, name in self.left:
@@ -285,18 +291,18 @@ class Citations:
 # The tests.
 
 
-def with_lines(name, problems):
+def with_lines(name: str, problems: Iterable[tuple[int, str]]) -> list[str]:
     """Problems of a page, as they are printed."""
     return [f"docs/{name}:{line}: {problem}" for line, problem in problems]
 
 
 class Pages(unittest.TestCase):
-    def test_what_is_cited_is_there(self):
+    def test_what_is_cited_is_there(self) -> None:
         for name, page in PAGES.items():
             with self.subTest(name):
                 self.assertEqual(with_lines(name, Citations(page).wrong), [])
 
-    def test_each_row_of_what_is_proved_has_a_citation(self):
+    def test_each_row_of_what_is_proved_has_a_citation(self) -> None:
         count = 0
         for name, head in (("PROVED.md", ""), ("COMMANDS.md", r"\| definition \|")):
             tables = re.findall(rf"^\|.*{head}\n\|---.*\n((?:\|.*\n)+)", PAGES[name], re.MULTILINE)
@@ -305,12 +311,12 @@ class Pages(unittest.TestCase):
             count += len(rows)
         self.assertGreater(count, 200)
 
-    def test_names_of_the_checker_are_clear(self):
+    def test_names_of_the_checker_are_clear(self) -> None:
         self.assertEqual(with_lines("CHECKER.md", Citations(PAGES["CHECKER.md"]).unclear()), [])
 
 
 class Sources(unittest.TestCase):
-    def test_all_that_a_crate_takes_from_its_modules_is_read(self):
+    def test_all_that_a_crate_takes_from_its_modules_is_read(self) -> None:
         for path in CRATES.glob("*/src/lib.rt"):
             top = path.read_text(encoding="utf-8")
             taken = {
@@ -325,17 +331,17 @@ class Sources(unittest.TestCase):
 class WrongCitations(unittest.TestCase):
     """What is not there is found, with its line."""
 
-    def wrong(self, text):
+    def wrong(self, text: str) -> list[tuple[int, str]]:
         """What is wrong in a page."""
         return Citations(text).wrong
 
-    def assert_wrong(self, cell, problem, head="clause"):
+    def assert_wrong(self, cell: str, problem: str, head: str = "clause") -> None:
         """Checks what is wrong with the second row of a table, of which the first one is right."""
         table = f"# A page\n\n| claim | {head} |\n|---|---|\n| right | law `one_verdict` of `evidence_check` |\n| wrong | {cell} |\n"
         with self.subTest(cell):
             self.assertEqual(self.wrong(table), [(6, problem)])
 
-    def test_functions_and_clauses(self):
+    def test_functions_and_clauses(self) -> None:
         self.assert_wrong("`verify`: `ok`, `sond` in `evidence_check/src/checker.rt`", "`verify` has no clause `sond`")
         self.assert_wrong("`verify` in `evidence_check/src/checker.rt`", "`verify` has no clause without a name")
         self.assert_wrong("`verify`: `ok` in `evidence_check/src/body.rt`", "no `verify` in `evidence_check/src/body.rt`")
@@ -345,12 +351,12 @@ class WrongCitations(unittest.TestCase):
         self.assert_wrong("`verify`: `ok`", "no file with `verify`: `ok`")
         self.assert_wrong("`Closed::copi` in `order_closure/src/table.rt`", "no public item `Closed::copi` in `order_closure`")
 
-    def test_functions_that_are_not_public(self):
+    def test_functions_that_are_not_public(self) -> None:
         self.assert_wrong("`reply_to`: `reply` in `tml_tool/src/top.rt`", "no public item `reply_to` in `tml_tool`")
         self.assert_wrong("`components_of` in `net_orders/src/rings.rt`", "no public item `components_of` in `net_orders`")
         self.assert_wrong("`BaseSet::none` in `tml_possible/src/base_set.rt`", "no public item `BaseSet::none` in `tml_possible`")
 
-    def test_columns_that_name_a_function_or_a_file(self):
+    def test_columns_that_name_a_function_or_a_file(self) -> None:
         head = "clause of `verify` in `evidence_check/src/checker.rt`"
         self.assert_wrong("`ok`, `sond`", "`verify` has no clause `sond`", head)
         self.assert_wrong("`verify`: `ok`", "`verify` has no clause `verify`", head)
@@ -359,7 +365,7 @@ class WrongCitations(unittest.TestCase):
         both = "clause of `verify_body` in `evidence_check/src/body.rt` and of `verify` in `evidence_check/src/checker.rt`"
         self.assert_wrong("`follows`", "`verify_body` has no clause `follows`", both)
 
-    def test_laws_and_other_items(self):
+    def test_laws_and_other_items(self) -> None:
         self.assert_wrong("law `one_verdicts` of `evidence_check`", "no public law `one_verdicts` in `evidence_check`")
         self.assert_wrong("law `verify` of `evidence_check`", "no public law `verify` in `evidence_check`")
         self.assert_wrong("laws `one_verdict`, `one_cut` of `evidence_check`", "no public law `one_cut` in `evidence_check`")
@@ -368,26 +374,26 @@ class WrongCitations(unittest.TestCase):
         self.assert_wrong("`Claims` of `evidence_check`", "no public item `Claims` in `evidence_check`")
         self.assert_wrong("`Claim` of `evidence`", "no crate `evidence`")
 
-    def test_definitions(self):
+    def test_definitions(self) -> None:
         self.assert_wrong("`evidence_check/specs/Claims`: `claim_of`, `ShowTruth`", "no `ShowTruth` in `evidence_check/specs/Claims`")
         self.assert_wrong("`evidence_check/specs/Claim`: `ShowsTruth`", "no file `evidence_check/specs/Claim`")
         self.assert_wrong("`evidence_check/specs`: `Claims` 10, `Claim` 2", "no file `evidence_check/specs/Claim`")
         self.assert_wrong("`specs/Claims`: `ShowsTruth`", "no crate with `specs/Claims`")
 
-    def test_cells_without_a_citation(self):
+    def test_cells_without_a_citation(self) -> None:
         self.assert_wrong("", "no citation: ")
         self.assert_wrong("its clause", "no citation: its clause")
         self.assert_wrong("the same, and more", "no citation: the same, and more")
         self.assert_wrong("law `one_verdict` of `evidence_check`, and more", "no citation: , and more")
         self.assertEqual(self.wrong("| claim | law |\n|---|---|\n| x | the same |\n"), [(3, "no citation: the same")])
 
-    def test_text(self):
+    def test_text(self) -> None:
         text = "# A page\n\n- The law\n  `one_verdicts` of\n  `evidence_check`.\n- And `evidence_check/src/check.rt`.\n"
         self.assertEqual(
             self.wrong(text), [(3, "no public law `one_verdicts` in `evidence_check`"), (6, "no file `evidence_check/src/check.rt`")]
         )
 
-    def test_names_that_are_not_clear(self):
+    def test_names_that_are_not_clear(self) -> None:
         text = "`net_core/specs/Fits`: `KeepsLink`\n`KeepsLink` `Claim` `ShowsTruth`\n`Claim` of `evidence_check`, `Claim::Fitz`\n"
         self.assertEqual(
             list(Citations(text).unclear()), [(2, "`ShowsTruth` is cited in 0 places"), (3, "no `Claim::Fitz` in any crate")]
@@ -395,7 +401,7 @@ class WrongCitations(unittest.TestCase):
         again = f"{text}`seconds_core/specs/Placed`: `KeepsLink`\n"
         self.assertIn((2, "`KeepsLink` is cited in 2 places"), Citations(again).unclear())
 
-    def test_each_name_in_a_citation_counts(self):
+    def test_each_name_in_a_citation_counts(self) -> None:
         """Whichever name in a citation on the pages is another one, that is found."""
         for name, page in PAGES.items():
             for block in blocks_of(page):

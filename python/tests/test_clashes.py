@@ -2,22 +2,18 @@
 
 import glob
 import os
-import stat
 import subprocess
 import unittest
 
-from corpus import EVENT, TML, TOP, CorpusTest, document
-
-SAMPLES = os.path.join(TOP, "samples")
+from corpus import EVENT, TML, CorpusTest, document, text_at
 
 
 class Clashes(CorpusTest):
-    def sample(self, name):
-        with open(os.path.join(SAMPLES, name), "rb") as file:
-            self.write(name, file.read())
+    def sample(self, name: str) -> None:
+        self.write(name, text_at("samples", name))
 
-    def test_samples_in_words(self):
-        rows = {
+    def test_samples_in_words(self) -> None:
+        rows: dict[str, list[str]] = {
             "talks.xml": [
                 "7:1: error: clash, 1 of 3: ended IS_INCLUDED 9 January (l1: ei1 IS_INCLUDED t1)",
                 "8:1: error: clash, 2 of 3: left AFTER ended (l2: ei2 AFTER ei1)",
@@ -47,22 +43,25 @@ class Clashes(CorpusTest):
                 self.assertEqual(status, 1 if printed else 0)
                 # Each place is that of the mark below it.
                 marks = [(line, mark) for first, line, mark in zip(lines, lines[1:], lines[2:], strict=False) if " error: " in first]
-                self.assertEqual([(line[4:10], mark) for line, mark in marks], [("<TLINK", "    ^" + "~" * (len(line) - 5)) for line, _ in marks])
+                self.assertEqual(
+                    [(line[4:10], mark) for line, mark in marks], [("<TLINK", "    ^" + "~" * (len(line) - 5)) for line, _ in marks]
+                )
 
-    def test_a_link_has_its_number_beside_evidence(self):
+    def test_a_link_has_its_number_beside_evidence(self) -> None:
         self.sample("cut.xml")
         _, lines, _ = self.run_it("clashes", "--evidence", "kept", "cut.xml")
         self.assertTrue(lines[0].endswith("cut IS_INCLUDED meeting (l1, link 0: ei1 IS_INCLUDED ei2)"), lines[0])
 
-    def test_texts_of_many_kinds(self):
-        times = '<TIMEX3 tid="a" type="DATE" value="199X">\n the <!-- x -->\n1990s&amp; </TIMEX3><TIMEX3 tid="b" type="DATE" value="1980-Q1"/>'
+    def test_texts_of_many_kinds(self) -> None:
+        times = '<TIMEX3 tid="a" type="DATE" value="199X">\n the <!-- x -->\n1990s&amp; </TIMEX3>'
+        times += '<TIMEX3 tid="b" type="DATE" value="1980-Q1"/>'
         self.write("d.xml", document(times + '<TLINK timeID="a" relatedToTime="b" relType="BEFORE"/>'))
         _, lines, _ = self.run_it("clashes", "d.xml")
         self.assertTrue(lines[0].endswith(": the 1990s& BEFORE 1980-Q1 (link 0: a BEFORE b)"), lines[0])
         said = "by the calendar 1980-Q1 starts at 1980-01-01T00:00:00, and the 1990s& starts no earlier than 1990-01-01T00:00:00"
         self.assertTrue(lines[3].endswith(said), lines[3])
 
-    def test_evidence_is_kept_and_verified(self):
+    def test_evidence_is_kept_and_verified(self) -> None:
         for name in ("talks.xml", "plant.xml", "rates.xml"):
             self.sample(name)
         self.sample("cut.xml")
@@ -77,15 +76,14 @@ class Clashes(CorpusTest):
         self.assertEqual(len(glob.glob(self.path("kept/here/*"))), 3)
         self.assertEqual(lines[-1], "4 files: 3 with a clash, 1 without, 0 with a fault, 0 not judged")
 
-    def test_evidence_that_is_refused_is_not_reported(self):
+    def test_evidence_that_is_refused_is_not_reported(self) -> None:
         self.sample("plant.xml")
-        self.write("fake", f'#!/bin/sh\nif [ $1 = solve ]; then {TML} "$@" | sed "s/^span 1$/span 2/"; exit 2; fi\nexec {TML} "$@"\n')
-        os.chmod(self.path("fake"), stat.S_IRWXU)
-        status, lines, _ = self.run_it("clashes", "plant.xml", tml=self.path("fake"))
+        fake = self.fake(f'if [ $1 = solve ]; then {TML} "$@" | sed "s/^span 1$/span 2/"; exit 2; fi\nexec {TML} "$@"')
+        status, lines, _ = self.run_it("clashes", "plant.xml", tml=fake)
         self.assertEqual(status, 2)
         self.assertEqual(lines[0], "plant.xml: not judged: tml verify refused the evidence of tml solve: evidence claim 0 part 1 Step 3")
 
-    def test_faults_and_files_that_are_not_there(self):
+    def test_faults_and_files_that_are_not_there(self) -> None:
         self.write("a.xml", document(EVENT + "<EVENT/>"))
         status, lines, _ = self.run_it("clashes", "a.xml", "b.xml")
         self.assertEqual(status, 2)

@@ -7,112 +7,38 @@ import glob
 import os
 import signal
 import socket
-import stat
 import subprocess
 import sys
-import tempfile
 import time
 import unittest
 
-from corpus import EVENT, INSTANCE, TML, TOP, CorpusTest, document
+from corpus import EVENT, INSTANCE, TML, TOO_LONG, TOP, CorpusTest, document, needed, text_at
+from daemons import PYTHON, ClusterTest, needs_distributed
+from processes import until
 
-
-def python_with_distributed():
-    """An interpreter that has the module, or None."""
-    for python in (sys.executable, "/usr/bin/python3"):
-        words = [python, "-c", "import sys, distributed; sys.exit(sys.version_info < (3, 11))"]
-        if os.access(python, os.X_OK) and subprocess.run(words, stderr=subprocess.DEVNULL, check=False).returncode == 0:
-            return python
-    return None
-
-
-PYTHON = python_with_distributed()
-
-
-class Daemons:
-    """A scheduler and workers, which stay in a folder of theirs; a worker sees `tml-of-workers` on its PATH."""
-
-    def __init__(self):
-        self.held = tempfile.TemporaryDirectory()
-        self.folder = self.held.name
-        self.children = []
-        os.symlink(os.path.abspath(TML), os.path.join(self.folder, "tml-of-workers"))
-        self.file = os.path.join(self.folder, "scheduler.json")
-        self.start("scheduler", "--port", "0", "--host", "127.0.0.1", "--dashboard-address", "127.0.0.1:0")
-
-    def start(self, kind, *words):
-        environment = {
-            **os.environ,
-            "DASK_DISTRIBUTED__SCHEDULER__ALLOWED_FAILURES": "1",
-            "PATH": self.folder + os.pathsep + os.environ["PATH"],
-            "PYTHONDONTWRITEBYTECODE": "1",
-        }
-        log = os.path.join(self.folder, f"{len(self.children)}.log")
-        with open(log, "wb") as file:
-            child = subprocess.Popen(
-                [PYTHON, "-m", f"distributed.cli.dask_{kind}", "--scheduler-file", self.file, *words],
-                cwd=self.folder,
-                env=environment,
-                stdin=subprocess.DEVNULL,
-                stdout=file,
-                stderr=file,
-            )
-        self.children.append(child)
-        return child, log
-
-    def workers(self, number, *words):
-        """Starts workers, and waits until the scheduler knows them."""
-        begun = [self.start("worker", "--host", "127.0.0.1", "--nthreads", "1", "--no-dashboard", *words) for _ in range(number)]
-        until(lambda: all("Registered to" in text_of(log) for _, log in begun), 60)
-        return [child for child, _ in begun]
-
-    def address(self):
-        until(lambda: os.path.exists(self.file) and text_of(self.file).endswith("}"), 30)
-        return next(line.split('"')[3] for line in text_of(self.file).splitlines() if '"address"' in line)
-
-    def end(self):
-        """Ends the workers and then the scheduler, by their own ids."""
-        for child in reversed(self.children):
-            child.terminate()
-            try:
-                child.wait(10)
-            except subprocess.TimeoutExpired:
-                child.kill()
-                child.wait()
-        self.held.cleanup()
-
-
-def until(happens, seconds):
-    """Waits for something."""
-    late = time.monotonic() + seconds
-    while not happens():
-        if time.monotonic() > late:
-            raise TimeoutError(f"not within {seconds} seconds")
-        time.sleep(0.05)
-
-
-def text_of(path):
-    with open(path, encoding="utf-8") as file:
-        return file.read()
+Streams = tuple[int, bytes, bytes]
+"""The status and both streams of a program."""
 
 
 class NoCluster(CorpusTest):
-    def test_no_module(self):
+    def test_no_module(self) -> None:
         self.write("distributed.py", "raise ImportError\n")
         words = [sys.executable, os.path.join(TOP, "tools", "tml-corpus"), "check", "--tml", TML, "--cluster", "tcp://127.0.0.1:1", "."]
-        done = subprocess.run(words, cwd=self.folder, env={**os.environ, "PYTHONPATH": self.folder}, capture_output=True, timeout=60, check=False)
+        done = subprocess.run(
+            words, cwd=self.folder, env={**os.environ, "PYTHONPATH": self.folder}, capture_output=True, timeout=60, check=False
+        )
         self.assertEqual((done.returncode, done.stdout), (2, b""))
         self.assertIn(b"--cluster needs the module distributed", done.stderr)
 
-    @unittest.skipUnless(PYTHON, "no module distributed")
-    def test_nobody_listens(self):
+    @needs_distributed
+    def test_nobody_listens(self) -> None:
         with socket.socket() as taken:
             taken.bind(("127.0.0.1", 0))
             rows = [f"tcp://127.0.0.1:{taken.getsockname()[1]}", "nothing", "foo://127.0.0.1:1"]
             for address in rows:
                 with self.subTest(address):
                     begun = time.monotonic()
-                    child = self.start("check", "--cluster", address, ".", python=PYTHON)
+                    child = self.start("check", "--cluster", address, ".", python=needed(PYTHON))
                     out, err = child.communicate(timeout=60)
                     self.assertEqual((child.returncode, out), (2, b""))
                     self.assertTrue(err.decode().startswith(f"tml-corpus: no scheduler of a Dask cluster answers at {address}: "), err)
@@ -120,16 +46,8 @@ class NoCluster(CorpusTest):
                     self.assertLess(time.monotonic() - begun, 20)
 
 
-@unittest.skipUnless(PYTHON, "no module distributed: install python3-distributed")
-class OnACluster(CorpusTest):
-    @classmethod
-    def setUpClass(cls):
-        cls.daemons = Daemons()
-        cls.addClassCleanup(cls.daemons.end)
-        cls.address = cls.daemons.address()
-        cls.daemons.workers(2)
-
-    def files(self, count):
+class OnACluster(ClusterTest):
+    def files(self, count: int) -> None:
         """Files that are accepted, that have faults, and that cannot be read; a tenth has a clash."""
         for number in range(count):
             inner = [EVENT, "<EVENT/>", EVENT + '<MAKEINSTANCE eiid="i1" eventID="e2"/>', EVENT + INSTANCE, EVENT][number % 5]
@@ -139,27 +57,28 @@ class OnACluster(CorpusTest):
         os.symlink("nowhere", self.path("d/3/link.xml"))
         os.mkfifo(self.path("d/4/pipe.xml"))
         self.write("d/5/caf\udce9\n.xml", b"\xff")
-        self.write("d/6/long.xml", b" " * 4_194_305)
+        self.write("d/6/long.xml", TOO_LONG)
 
-    def script(self, body):
+    def script(self, body: str) -> str:
         """A program that does something and then is `tml`."""
-        self.write("fake", f'#!/bin/sh\n{body}\nexec {os.path.abspath(TML)} "$@"\n')
-        os.chmod(self.path("fake"), stat.S_IRWXU)
+        self.fake(f'{body}\nexec {os.path.abspath(TML)} "$@"')
         return "./fake"
 
-    def bytes_of(self, *words, tml=TML):
+    def bytes_of(self, *words: str, tml: str = TML) -> Streams:
         """The status and the bytes of both streams."""
-        child = self.start(*words, tml=tml, python=PYTHON)
+        child = self.start(*words, tml=tml, python=needed(PYTHON))
         out, err = child.communicate(timeout=120)
         return child.returncode, out, err
 
-    def both(self, *words, tml=TML):
+    def both(self, *words: str, tml: str = TML) -> tuple[Streams, Streams]:
         """The same on one machine and on the cluster."""
         return self.bytes_of(*words), self.bytes_of(*words, "--cluster", self.address, tml=tml)
 
-    def test_same_bytes(self):
+    def test_same_bytes(self) -> None:
         self.files(100)
-        rows = [("text", ["--more", "1"], TML), ("jsonl", ["--explain"], TML), ("junit", [], "tml-of-workers")]
+        rows: list[tuple[str, list[str], str]] = [
+            ("text", ["--more", "1"], TML), ("jsonl", ["--explain"], TML), ("junit", [], "tml-of-workers")
+        ]
         for form, words, program in rows:
             with self.subTest(form):
                 one, two = self.both("check", "--format", form, *words, "d", "gone.xml", tml=program)
@@ -168,14 +87,14 @@ class OnACluster(CorpusTest):
                 self.assertIn(b"no such file or directory", one[1])
         # The names and bytes of evidence are the same too.
         one = self.bytes_of("clashes", "--evidence", "kept", "d")
-        before = {name: text_of(name) for name in glob.glob(self.path("kept/*"))}
+        before = {name: text_at(name) for name in glob.glob(self.path("kept/*"))}
         for name in before:
             os.unlink(name)
         self.assertEqual(one, self.bytes_of("clashes", "--evidence", "kept", "d", "--cluster", self.address))
-        self.assertEqual(before, {name: text_of(name) for name in glob.glob(self.path("kept/*"))})
+        self.assertEqual(before, {name: text_at(name) for name in glob.glob(self.path("kept/*"))})
         self.assertEqual(len(before), 10)
 
-    def test_statuses(self):
+    def test_statuses(self) -> None:
         self.write("good.xml", document(EVENT))
         self.write("bad.xml", document("<EVENT/>"))
         for status, words in ((0, ["good.xml"]), (1, ["."])):
@@ -187,37 +106,40 @@ class OnACluster(CorpusTest):
         self.assertEqual((status, out), (2, b""))
         self.assertTrue(err.startswith(b"tml-corpus: no program /no/such/tml at 2 of 2 workers, such as tcp://"), err)
 
-    def test_a_worker_killed_in_the_middle(self):
+    def test_a_worker_killed_in_the_middle(self) -> None:
         self.files(250)
         one = self.bytes_of("check", "d")
         asked = self.path("asked")
         # Each question leaves the number of the worker that asked it.
         program = self.script(f'echo $PPID >> "{asked}"\nsleep 0.01')
         [victim] = self.daemons.workers(1, "--no-nanny")
-        child = self.start("check", "--cluster", self.address, "d", tml=program, python=PYTHON)
-        until(lambda: os.path.exists(asked) and text_of(asked).split().count(str(victim.pid)) > 20, 60)
+        child = self.start("check", "--cluster", self.address, "d", tml=program, python=needed(PYTHON))
+        until(lambda: os.path.exists(asked) and text_at(asked).split().count(str(victim.pid)) > 20, 60)
         victim.kill()
         self.assertIsNone(child.poll())
         out, err = child.communicate(timeout=120)
         self.assertEqual((child.returncode, out, err), one)
         self.assertEqual(victim.wait(10), -signal.SIGKILL)
 
-    def test_a_file_that_ends_its_worker(self):
+    def test_a_file_that_ends_its_worker(self) -> None:
         for number in range(40):
             self.write(f"{number:02}.xml", "<TimeML/>\n" + "<!--end-->\n" * (number == 20))
-        program = self.script(f"text=$(cat)\ncase $text in *end*) kill -9 $PPID; sleep 1;; esac\nprintf '%s\\n' \"$text\" | {os.path.abspath(TML)} \"$@\"\nexit")
+        program = self.script(
+            "text=$(cat)\ncase $text in *end*) kill -9 $PPID; sleep 1;; esac\n"
+            f"printf '%s\\n' \"$text\" | {os.path.abspath(TML)} \"$@\"\nexit"
+        )
         status, out, _ = self.bytes_of("check", "--cluster", self.address, ".", tml=program)
         lines = out.decode().splitlines()
         self.assertEqual(status, 2)
-        self.assertTrue(lines[0].startswith("./20.xml: not judged: a process of this program"), lines)
+        self.assertTrue(lines[0].startswith("./20.xml: not judged: the process that examined it"), lines)
         self.assertEqual(lines[1], "40 files: 39 accepted, 0 with a fault, 1 not judged")
 
-    def test_interrupted(self):
+    def test_interrupted(self) -> None:
         for number in range(300):
             self.write(f"{number:03}.xml", document("<EVENT/>"))
         asked = self.path("asked")
         program = self.script(f'echo >> "{asked}"\nsleep 0.03')
-        child = self.start("check", "--cluster", self.address, ".", tml=program, python=PYTHON)
+        child = self.start("check", "--cluster", self.address, ".", tml=program, python=needed(PYTHON))
         until(lambda: os.path.exists(asked) and os.path.getsize(asked) > 150, 60)
         child.send_signal(signal.SIGINT)
         out, err = child.communicate(timeout=30)

@@ -6,7 +6,8 @@ import subprocess
 import unittest
 
 from corpus import TML, TOOLS, CorpusTest, document
-from test_scripts import RELATIONS, A, B
+from test_scripts import A, B
+from tml.statuses import RELATIONS
 
 SOURCE = os.path.join(TOOLS, "completion", "tml.bash")
 CALL = """
@@ -24,7 +25,7 @@ NO_FILES = "compopt +o bashdefault +o default"
 
 @unittest.skipUnless(shutil.which("bash"), "no program bash")
 class Completion(CorpusTest):
-    def bash(self, script, *words):
+    def bash(self, script: str, *words: str) -> list[str]:
         """The lines that bash prints; it says nothing on standard error."""
         done = subprocess.run(
             ["bash", "--norc", "--noprofile", "-c", script, "bash", *words],
@@ -39,18 +40,18 @@ class Completion(CorpusTest):
         self.assertEqual(done.stderr, "")
         return done.stdout.splitlines()
 
-    def offered(self, *words, function="_tml"):
+    def offered(self, *words: str, function: str = "_tml") -> tuple[list[str], bool]:
         """The words that are offered for the last of some words, and whether the names of files are too."""
         lines = self.bash(CALL, SOURCE, function, *words)
         return [line.removeprefix("offered ") for line in lines if line.startswith("offered ")], NO_FILES not in lines
 
-    def test_is_registered(self):
+    def test_is_registered(self) -> None:
         tools = ("tml-edit", "tml-redundant-links", "tml-from-tempeval2", "tml-html-entities")
         lines = self.bash('. "$1"; shift; complete -p "$@"', SOURCE, "tml", "tml-corpus", *tools)
         names = ["_tml tml", "_tml_corpus tml-corpus", *(f"_tml_tools {name}" for name in tools)]
         self.assertEqual(lines, [f"complete -o bashdefault -o default -F {name}" for name in names])
 
-    def test_the_small_programs(self):
+    def test_the_small_programs(self) -> None:
         from tml_corpus.convert import redundant_links, tml_edit
 
         for name, module in (("tml-edit", tml_edit), ("tml-redundant-links", redundant_links)):
@@ -62,7 +63,7 @@ class Completion(CorpusTest):
         self.assertEqual(self.offered("tml-edit", "", function="_tml_tools"), ([], True))
         self.assertEqual(self.offered("tml-html-entities", "-", function="_tml_tools"), (["--help", "--version"], False))
 
-    def test_commands_are_those_of_the_usage_text(self):
+    def test_commands_are_those_of_the_usage_text(self) -> None:
         usage = subprocess.run([TML, "no", "such"], capture_output=True, text=True, check=False).stdout
         commands = [line.split()[1] for line in usage.splitlines()[1:]]
         self.assertEqual(self.offered("tml", ""), (commands, False))
@@ -76,18 +77,18 @@ class Completion(CorpusTest):
                     self.assertEqual(files, name in ("DOC", "EVIDENCE", "SECOND", "KEY", "SECONDS"))
             self.assertEqual(self.offered(TML, command, *["gone"] * len(names), ""), ([], False))
 
-    def test_relations(self):
-        self.assertEqual(self.offered("tml", "ask", "gone.xml", "a", ""), (RELATIONS, False))
+    def test_relations(self) -> None:
+        self.assertEqual(self.offered("tml", "ask", "gone.xml", "a", ""), (list(RELATIONS), False))
         self.assertEqual(self.offered("tml", "ask", "gone.xml", "a", "BEG"), (["BEGINS", "BEGUN_BY"], False))
 
-    def test_intervals(self):
+    def test_intervals(self) -> None:
         self.write("a b's.xml", document(A + B + '<TIMEX3 tid="bb" type="SET"/>'))
         for name in ("a\\ b\\'s.xml", '"a b\'s.xml"', "'a b'\\''s.xml'", "~/a\\ b\\'s.xml", "./a' b'\"'\"s.xml"):
             with self.subTest(name):
                 self.assertEqual(self.offered(TML, "ask", name, ""), (["a", "b", "bb"], False))
         self.assertEqual(self.offered(TML, "ask", '"a b\'s.xml"', "a", "ENDS", "b"), (["b", "bb"], False))
 
-    def test_no_intervals(self):
+    def test_no_intervals(self) -> None:
         self.write("fault.xml", document(A + "<EVENT/>"))
         self.write("$(touch made).xml", "<TimeML")
         os.mkfifo(self.path("pipe"))
@@ -97,7 +98,7 @@ class Completion(CorpusTest):
         self.assertEqual(self.offered("/no/such/tml", "ask", "fault.xml", ""), ([], False))
         self.assertFalse(os.path.exists(self.path("made")))
 
-    def test_the_companion(self):
+    def test_the_companion(self) -> None:
         from tml_corpus.command_line.parser import parser
         from tml_corpus.lint.warnings import KINDS
 

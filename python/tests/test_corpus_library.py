@@ -5,7 +5,6 @@ which `cc` compiles and which accepts all documents; so it is seen who answered.
 """
 
 import os
-import re
 import shutil
 import signal
 import subprocess
@@ -14,13 +13,15 @@ import tempfile
 import time
 import unittest
 import zipfile
+from collections.abc import Mapping
 from pathlib import Path
 
-from corpus import EVENT, INSTANCE, SOURCES, TESTS, TML, TOOLS, TOP, CorpusTest, document
-from test_cluster import PYTHON, Daemons, until
+from corpus import EVENT, INSTANCE, SOURCES, TESTS, TML, TOOLS, TOO_LONG, TOP, CorpusTest, document, match_in
+from daemons import PYTHON, ClusterTest
+from processes import is_running, until
 from tml import finding
-from tml_corpus.asking.archive import archive
-from tml_corpus.asking.libraries import AtPath, library_of
+from tml_corpus.asking.archive import Sent, archive
+from tml_corpus.asking.libraries import AtPath, Loadable, library_of
 
 LIBRARY = os.path.abspath(os.environ.get("TML_LIBRARY") or finding.BUILT_LIBRARY)
 COMPANION = [sys.executable, os.path.join(TOOLS, "tml-corpus")]
@@ -33,27 +34,32 @@ TOUCHING = (
 )
 SUSPECT = '<TIMEX3 tid="a" type="DATE" value="1998-1-7">x</TIMEX3><SIGNAL sid="s"/>'
 
+Streams = tuple[int, bytes, bytes]
+"""The status and both streams of a program."""
+
 needs_library = unittest.skipUnless(os.path.isfile(LIBRARY), f"no library {LIBRARY}: name one by TML_LIBRARY=")
 needs_cc = unittest.skipUnless(shutil.which("cc"), "no program cc")
 
 
-BYTECODE = {}
+BYTECODE: dict[str, str] = {}
 """The folder in which all runs find the compiled modules of the tools, so that they are compiled once."""
 
 
-def setUpModule():
+def setUpModule() -> None:
     held = tempfile.TemporaryDirectory()
     unittest.addModuleCleanup(held.cleanup)
     BYTECODE["PYTHONPYCACHEPREFIX"] = held.name
 
 
 class LibraryTest(CorpusTest):
-    def run_bytes(self, command, *words, tml=TML, tools=TOOLS, python=sys.executable, **variables):
+    def run_bytes(
+        self, command: str, *words: str, tml: str | None = TML, tools: str = TOOLS, python: str | None = None, **variables: str
+    ) -> Streams:
         """The status and the bytes of both streams; no program is named where that is None."""
         chosen = [] if tml is None else ["--tml", os.path.abspath(tml)]
         environment = {name: value for name, value in os.environ.items() if name not in ("TML_LIBRARY", "PYTHONDONTWRITEBYTECODE")}
         done = subprocess.run(
-            [python, os.path.join(tools, "tml-corpus"), command, *chosen, *words],
+            [python or sys.executable, os.path.join(tools, "tml-corpus"), command, *chosen, *words],
             cwd=self.folder,
             stdin=subprocess.DEVNULL,
             capture_output=True,
@@ -63,14 +69,14 @@ class LibraryTest(CorpusTest):
         )
         return done.returncode, done.stdout, done.stderr
 
-    def stand_in(self, name="stand-in.so"):
+    def stand_in(self, name: str = "stand-in.so") -> str:
         """The stand-in, compiled."""
         path = self.path(name)
         os.makedirs(os.path.dirname(path), exist_ok=True)
         subprocess.run(["cc", "-shared", "-fPIC", "-O1", "-o", path, STAND_IN], check=True)
         return path
 
-    def tools(self, library=True):
+    def tools(self, library: bool = True) -> str:
         """A copy of the tools, with a program and the stand-in built beside it; answers its folder."""
         shutil.copytree(SOURCES, self.path("copy/python/src"), ignore=shutil.ignore_patterns("__pycache__"))
         os.mkdir(self.path("copy/tools"))
@@ -81,7 +87,7 @@ class LibraryTest(CorpusTest):
             self.stand_in("copy/crates/tml_c/out/libtml.so")
         return self.path("copy/tools")
 
-    def files(self, folder="d"):
+    def files(self, folder: str = "d") -> None:
         """Documents that are accepted, faulty, suspect, that clash, that are too long or cannot be read."""
         fits, faults = EVENT + INSTANCE + CLASH.replace("BEFORE", "IDENTITY"), EVENT + "<EVENT/>" * 3 + "<P>&</P>"
         contents = [EVENT, "<EVENT/>", EVENT + INSTANCE, CLASH, faults, TOUCHING, SUSPECT, fits]
@@ -93,14 +99,14 @@ class LibraryTest(CorpusTest):
         self.write(f"{folder}/wrapped.xml", document(f"<TXT>{CLASH}</TXT>"))
         self.write(f"{folder}/latin.xml", "<TimeML>é</TimeML>".encode("latin-1"))
         self.write(f"{folder}/empty.xml", "")
-        self.write(f"{folder}/long.xml", b" " * 4_194_305)
+        self.write(f"{folder}/long.xml", TOO_LONG)
         self.write(f"{folder}/caf\udce9\n.xml", b"\xff")
         os.symlink("nowhere", self.path(f"{folder}/link.xml"))
         os.symlink(".", self.path(f"{folder}/loop"))
         os.mkfifo(self.path(f"{folder}/pipe.xml"))
         os.mkdir(self.path(f"{folder}/folder.xml"))
 
-    def contents(self, folder):
+    def contents(self, folder: str) -> dict[str, bytes]:
         """The files below a folder, with what they hold; they are taken away."""
         found = {str(path.relative_to(self.folder)): path.read_bytes() for path in Path(self.path(folder)).rglob("*") if path.is_file()}
         shutil.rmtree(self.path(folder), ignore_errors=True)
@@ -109,16 +115,16 @@ class LibraryTest(CorpusTest):
 
 @needs_library
 class SameAnswers(LibraryTest):
-    def same(self, *words, made=None):
+    def same(self, *words: str, made: str | None = None) -> Streams:
         """The same by the library and by processes: status, both streams, and the files that were made."""
         found = []
         for option in (["--no-library"], ["--library", LIBRARY]):
-            found.append((self.run_bytes(*words, *option), made and self.contents(made)))
+            found.append((self.run_bytes(*words, *option), self.contents(made) if made else {}))
         self.assertEqual(found[0], found[1])
-        self.assertTrue(made is None or found[0][1])
+        self.assertEqual(bool(found[0][1]), made is not None)
         return found[0][0]
 
-    def test_check(self):
+    def test_check(self) -> None:
         self.files()
         rows = ["", "--lint", "--more 3", "--lint --strict --format json", "--format junit", "--format github --no-explain"]
         for words in map(str.split, rows):
@@ -129,14 +135,14 @@ class SameAnswers(LibraryTest):
         status, out, _ = self.same("check", "--lint", "--clashes", "--more", "2", "d")
         self.assertRegex(out.decode(), r"\d+ files: \d+ accepted, 14 with a clash")
 
-    def test_clashes(self):
+    def test_clashes(self) -> None:
         self.files()
-        for words in ([], ["--touching"], ["--repair", "--more", "2"], ["--format", "json"], ["--format", "junit"]):
+        for words in "", "--touching", "--repair --more 2", "--format json", "--format junit":
             with self.subTest(words):
-                self.assertEqual(self.same("clashes", *words, "d")[0], 2)
+                self.assertEqual(self.same("clashes", *words.split(), "d")[0], 2)
         self.same("clashes", "--evidence", "kept", "d", made="kept")
 
-    def test_other_commands(self):
+    def test_other_commands(self) -> None:
         self.files()
         self.files("e")
         self.assertIn(b"can be mended", self.same("fix", "d")[1])
@@ -150,7 +156,7 @@ class SameAnswers(LibraryTest):
             found.append((self.run_bytes("fix", "--write", option, "f"), self.contents("f")))
         self.assertEqual(found[0], found[1])
 
-    def test_with_wrappers_of_a_corpus(self):
+    def test_with_wrappers_of_a_corpus(self) -> None:
         self.files()
         self.write("d/tml-corpus.toml", 'wrappers = ["TXT", "FILEID"]\n')
         rows = [["check", "--clashes", "--lint", "d"], ["clashes", "--repair", "d"], ["agree", "--links", "d/wrapped.xml", "d/wrapped.xml"]]
@@ -159,7 +165,7 @@ class SameAnswers(LibraryTest):
                 self.assertIn(b"wrapped.xml", self.same(*words)[1])
         self.assertNotIn(b"wrapped.xml", self.same("check", "--more", "2", "d")[1])
 
-    def test_standard_input(self):
+    def test_standard_input(self) -> None:
         self.write("a.xml", document(CLASH))
         for option in (["--no-library"], ["--library", LIBRARY]):
             with open(self.path("a.xml"), "rb") as given:
@@ -173,15 +179,15 @@ class SameAnswers(LibraryTest):
 class WhichLibrary(LibraryTest):
     """Who is asked. The stand-in accepts what `tml` does not."""
 
-    def by_whom(self, *words, **options):
+    def by_whom(self, *words: str, tml: str | None = TML, tools: str = TOOLS, **variables: str) -> str:
         """Who judged a document that has a fault."""
         self.write("bad.xml", FAULTY)
-        status, out, error = self.run_bytes("check", *words, "bad.xml", **options)
+        status, out, error = self.run_bytes("check", *words, "bad.xml", tml=tml, tools=tools, **variables)
         self.assertEqual(error, b"")
         self.assertIn(status, (0, 1), out)
         return "program" if status else "library"
 
-    def test_where_nothing_is_said(self):
+    def test_where_nothing_is_said(self) -> None:
         tools = self.tools()
         self.assertEqual(self.by_whom(tml=None, tools=tools), "library")
         self.assertEqual(self.by_whom("--no-library", tml=None, tools=tools), "program")
@@ -191,7 +197,7 @@ class WhichLibrary(LibraryTest):
         os.utime(self.path("copy/crates/tml_c/out/libtml.so"), (1, 1))
         self.assertEqual(self.by_whom(tml=None, tools=tools), "program")
 
-    def test_by_the_environment(self):
+    def test_by_the_environment(self) -> None:
         tools, other = self.tools(library=False), self.stand_in()
         self.assertEqual(self.by_whom(tml=None, tools=tools), "program")
         self.assertEqual(self.by_whom(tml=None, tools=tools, TML_LIBRARY=other), "library")
@@ -199,12 +205,12 @@ class WhichLibrary(LibraryTest):
         self.assertEqual(self.by_whom(tools=tools, TML_LIBRARY=other), "program")
         self.assertEqual(self.by_whom(tml=None, tools=self.path("copy/tools"), TML_LIBRARY=""), "program")
 
-    def test_one_that_is_found_and_cannot_be_loaded(self):
+    def test_one_that_is_found_and_cannot_be_loaded(self) -> None:
         tools = self.tools(library=False)
         self.write("copy/crates/tml_c/out/libtml.so", b"\x7fELF, and nothing else")
         self.assertEqual(self.by_whom(tml=None, tools=tools), "program")
 
-    def test_one_that_is_named_and_cannot_be_loaded(self):
+    def test_one_that_is_named_and_cannot_be_loaded(self) -> None:
         self.write("good.xml", document(EVENT))
         self.write("wrong.so", "no library")
         empty = self.path("empty.so")
@@ -212,7 +218,7 @@ class WhichLibrary(LibraryTest):
         os.mkdir(self.path("bin"))
         os.symlink(os.path.abspath(TML), self.path("bin/tml"))
         by_environment = {"TML_LIBRARY": "gone.so", "PATH": self.path("bin") + os.pathsep + os.environ["PATH"]}
-        rows = [("gone.so", {}), ("./wrong.so", {}), (empty, {}), (None, by_environment)]
+        rows: list[tuple[str | None, dict[str, str]]] = [("gone.so", {}), ("./wrong.so", {}), (empty, {}), (None, by_environment)]
         for name, variables in rows:
             for command in ("check", "clashes", "fix", "tags"):
                 with self.subTest(name=name, command=command):
@@ -221,18 +227,18 @@ class WhichLibrary(LibraryTest):
                     self.assertEqual((status, out), (2, b""))
                     self.assertRegex(error.decode(), r"^tml-corpus: the library \S+ cannot be loaded: .*\n$")
 
-    def test_redundant_links(self):
+    def test_redundant_links(self) -> None:
         self.write("good.xml", document(EVENT))
         os.mkdir(self.path("bin"))
         os.symlink(os.path.abspath(TML), self.path("bin/tml"))
         variables = {**os.environ, "PATH": self.path("bin") + os.pathsep + os.environ["PATH"], "TML_LIBRARY": self.stand_in()}
-        for chosen, status in (([], 2), (["--tml", "tml"], 0)):
-            words = [sys.executable, os.path.join(TOOLS, "redundant-links"), *chosen, "good.xml"]
+        for chosen, status in (("", 2), ("--tml tml", 0)):
+            words = [sys.executable, os.path.join(TOOLS, "redundant-links"), *chosen.split(), "good.xml"]
             done = subprocess.run(words, cwd=self.folder, env=variables, capture_output=True, check=False, timeout=60)
             self.assertEqual((done.returncode, done.stderr), (status, b""))
             self.assertEqual(b"a text that does not go with it" in done.stdout, status == 2)
 
-    def test_words(self):
+    def test_words(self) -> None:
         self.assertEqual(library_of(None, TML, is_chosen=True), None)
         self.assertEqual(library_of("", None, is_chosen=False), None)
         self.assertEqual(library_of("libtml.so.0", TML, is_chosen=True), AtPath("libtml.so.0", is_named=True))
@@ -248,16 +254,16 @@ class WhichLibrary(LibraryTest):
 
 @needs_cc
 class WrongLibrary(LibraryTest):
-    def setUp(self):
+    def setUp(self) -> None:
         super().setUp()
         self.library = self.stand_in()
 
-    def marked(self, count, marks):
-        """So many files, of which some have a word for the stand-in."""
+    def marked(self, count: int, marks: Mapping[int, str]) -> None:
+        """This number of files, some of which have a word for the stand-in."""
         for number in range(count):
             self.write(f"d/{number:04}.xml", f"<TimeML/>\n<!--{marks[number]}-->\n" if number in marks else "<TimeML/>\n")
 
-    def test_a_file_that_ends_its_process_is_the_only_one_lost(self):
+    def test_a_file_that_ends_its_process_is_the_only_one_lost(self) -> None:
         self.marked(1000, {5: "crash", 100: "exit", 101: "crash", 640: "memory", 998: "crash"})
         for command in ("check", "clashes"):
             for jobs in ("1", "3"):
@@ -270,7 +276,7 @@ class WrongLibrary(LibraryTest):
                     self.assertIn("d/0640.xml: not judged: tml ran out of memory", lines)
                     self.assertRegex(lines[-1], r"^1000 files: (995 accepted|0 with a clash, 995 without), 0 with a fault, 5 not judged$")
 
-    def started(self, *words):
+    def started(self, *words: str) -> tuple[subprocess.Popen[bytes], Path]:
         """A run of `check` that is under way, and the file in which each call leaves the number of its process."""
         asked = self.path("asked")
         child = subprocess.Popen(
@@ -285,14 +291,14 @@ class WrongLibrary(LibraryTest):
         self.addCleanup(child.kill)
         return child, Path(asked)
 
-    def callers(self, asked):
+    def callers(self, asked: Path) -> list[int]:
         """The processes that called, once no more is called."""
         size = -1
         while size != (size := asked.stat().st_size if asked.exists() else -1) or size < 0:
             time.sleep(0.7)
         return [int(number) for number in asked.read_text(encoding="utf-8").split()]
 
-    def test_the_program_never_calls_it(self):
+    def test_the_program_never_calls_it(self) -> None:
         self.marked(300, {})
         child, asked = self.started("--jobs", "3")
         child.communicate(timeout=60)
@@ -300,7 +306,7 @@ class WrongLibrary(LibraryTest):
         self.assertEqual((child.returncode, len(callers), len(set(callers))), (0, 300, 3))
         self.assertNotIn(child.pid, callers)
 
-    def test_one_that_hangs_is_ended_with_the_second_interruption(self):
+    def test_one_that_hangs_is_ended_with_the_second_interruption(self) -> None:
         self.marked(30, {7: "hang"})
         child, asked = self.started("--jobs", "2")
         workers = set(self.callers(asked))
@@ -311,7 +317,7 @@ class WrongLibrary(LibraryTest):
         self.assertEqual((child.communicate(timeout=10), child.returncode), ((b"", b""), -signal.SIGINT))
         until(lambda: not any(map(is_running, workers)), 10)
 
-    def test_interrupted(self):
+    def test_interrupted(self) -> None:
         self.marked(40, {12: "hang"})
         child, asked = self.started("--jobs", "2")
         workers = set(self.callers(asked))
@@ -323,27 +329,19 @@ class WrongLibrary(LibraryTest):
             os.kill(worker, signal.SIGKILL)
         out, error = child.communicate(timeout=20)
         self.assertEqual((child.returncode, error), (130, b""))
-        printed = re.fullmatch(r"interrupted: (\d+) of 40 files were looked at", out.decode().splitlines()[-1])
+        printed = match_in(r"^interrupted: (\d+) of 40 files were looked at$", out.decode().splitlines()[-1])
         self.assertLessEqual(int(printed[1]), 12)
-
-
-def is_running(number):
-    """Whether a process is there and not only waited for."""
-    try:
-        return Path(f"/proc/{number}/stat").read_text(encoding="utf-8").rsplit(") ", 1)[1][0] != "Z"
-    except OSError:
-        return False
 
 
 class Archive(CorpusTest):
     """What goes to the workers of a cluster."""
 
-    def made(self, library=None, folder="made"):
+    def made(self, library: AtPath | None = None, folder: str = "made") -> tuple[str, str, Loadable | None]:
         """The archive: its path, the name of the package in it, and the library as a worker loads it."""
         os.makedirs(self.path(folder), exist_ok=True)
         return archive(self.path(folder), library)
 
-    def test_both_packages_stand_alone(self):
+    def test_both_packages_stand_alone(self) -> None:
         path, package, _ = self.made()
         with zipfile.ZipFile(path) as file:
             names = [name for name in file.namelist() if name.endswith(".py")]
@@ -355,7 +353,8 @@ class Archive(CorpusTest):
         script = (
             f"import sys; sys.path.insert(0, {path!r})\nimport {modules}\n"
             f"assert not {{'tml', 'tml_corpus'}} & set(sys.modules)\n"
-            f"from {package}.asking.batch import read\nfrom {package}.files import finding\nimport {package}.check.judging\nimport tml_{digest}.places\n"
+            f"from {package}.asking.batch import read\nfrom {package}.files import finding\n"
+            f"import {package}.check.judging\nimport tml_{digest}.places\n"
             "found, place, problem = read(sys.stdin.buffer.read())\n"
             f"assert type(found) is finding.Found and type(place) is tml_{digest}.places.Place and type(problem) is finding.CannotRead\n"
         )
@@ -365,7 +364,7 @@ class Archive(CorpusTest):
         done = subprocess.run([sys.executable, "-c", script], cwd=self.folder, input=written, capture_output=True, check=False)
         self.assertEqual((done.returncode, done.stdout, done.stderr), (0, b"", b""))
 
-    def test_names_have_a_digest_of_all_that_is_in_it(self):
+    def test_names_have_a_digest_of_all_that_is_in_it(self) -> None:
         self.write("a.so", "one")
         self.write("b.so", "other")
         libraries = (None, None, AtPath(self.path("a.so")), AtPath(self.path("b.so")), AtPath("libtml.so.0"))
@@ -376,11 +375,12 @@ class Archive(CorpusTest):
         self.assertEqual(Path(made[0][0]).read_bytes(), Path(made[1][0]).read_bytes())
 
     @needs_cc
-    def test_a_library_is_loaded_from_it(self):
+    def test_a_library_is_loaded_from_it(self) -> None:
         path = self.path("stand-in.so")
         subprocess.run(["cc", "-shared", "-fPIC", "-O1", "-o", path, STAND_IN], check=True)
         for library, loads in ((path, True), (COPYRIGHT, False)):
             made, package, sent = self.made(AtPath(library), f"made-{loads}")
+            assert isinstance(sent, Sent)
             script = (
                 f"import sys, os, tempfile; sys.path.insert(0, {made!r})\nfrom {package}.asking.archive import Sent\n"
                 f"before = os.listdir(tempfile.gettempdir())\nlibrary = Sent({package!r}, {sent.digest!r}).load()\n"
@@ -398,52 +398,43 @@ COPYRIGHT = os.path.join(TOP, "README.md")
 """A file that is no library."""
 
 
-@unittest.skipUnless(PYTHON, "no module distributed: install python3-distributed")
-class OnACluster(LibraryTest):
-    @classmethod
-    def setUpClass(cls):
-        cls.daemons = Daemons()
-        cls.addClassCleanup(cls.daemons.end)
-        cls.address = cls.daemons.address()
-        cls.daemons.workers(2)
-
+class OnACluster(ClusterTest, LibraryTest):
     @needs_library
-    def test_same_bytes(self):
+    def test_same_bytes(self) -> None:
         self.files()
         self.files("e")
         rows = ["check --lint --more 1 d", "check --clashes --format json d", "clashes --repair d", "agree --links d e"]
-        for words in map(str.split, rows):
-            with self.subTest(words):
-                one = self.run_bytes(*words, "--no-library", python=PYTHON)
-                self.assertEqual(self.run_bytes(*words, "--library", LIBRARY, "--cluster", self.address, python=PYTHON), one)
+        for row in rows:
+            with self.subTest(row):
+                one = self.run_bytes(*row.split(), "--no-library", python=PYTHON)
+                self.assertEqual(self.run_bytes(*row.split(), "--library", LIBRARY, "--cluster", self.address, python=PYTHON), one)
 
     @needs_cc
-    def test_it_is_the_library_that_answers(self):
+    def test_it_is_the_library_that_answers(self) -> None:
         self.write("bad.xml", FAULTY)
         self.write("wrong.so", "no library")
-        rows = [(["--library", self.stand_in()], 0), ([], 1), (["--no-library"], 1)]
-        rows += [(["--library", name], 1) for name in ("wrong.so", "libgone.so.7")]
+        rows = [(f"--library {self.stand_in()}", 0), ("", 1), ("--no-library", 1), ("--library wrong.so", 1), ("--library libgone.so.7", 1)]
         for words, status in rows:
             with self.subTest(words):
-                found = self.run_bytes("check", *words, "--cluster", self.address, "bad.xml", python=PYTHON)
+                found = self.run_bytes("check", *words.split(), "--cluster", self.address, "bad.xml", python=PYTHON)
                 self.assertEqual((found[0], found[2]), (status, b""), found)
         # Where nothing is said it is the one that was built.
         found = self.run_bytes("check", "--cluster", self.address, "bad.xml", tml=None, tools=self.tools(), python=PYTHON)
         self.assertEqual((found[0], found[2]), (0, b""), found)
         # A program has to be there all the same.
-        words = ["--library", self.stand_in(), "--cluster", self.address]
-        status, _, error = self.run_bytes("check", *words, "bad.xml", tml="/no/such/tml", python=PYTHON)
+        named = ["--library", self.stand_in(), "--cluster", self.address]
+        status, _, error = self.run_bytes("check", *named, "bad.xml", tml="/no/such/tml", python=PYTHON)
         self.assertEqual(status, 2)
         self.assertIn(b"no program /no/such/tml at 2 of 2 workers", error)
 
     @needs_cc
-    def test_a_file_that_ends_its_worker(self):
+    def test_a_file_that_ends_its_worker(self) -> None:
         for number in range(40):
             self.write(f"d/{number:02}.xml", "<TimeML/>\n" + "<!--crash-->\n" * (number == 20))
         status, out, _ = self.run_bytes("check", "--library", self.stand_in(), "--cluster", self.address, "d", python=PYTHON)
         lines = out.decode().splitlines()
         self.assertEqual(status, 2)
-        self.assertTrue(lines[0].startswith("d/20.xml: not judged: a process of this program"), lines)
+        self.assertTrue(lines[0].startswith("d/20.xml: not judged: the process that examined it"), lines)
         self.assertEqual(lines[1], "40 files: 39 accepted, 0 with a fault, 1 not judged")
 
 

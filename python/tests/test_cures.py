@@ -1,17 +1,19 @@
 """No cure makes it worse: what is printed of slips is done word for word, and nothing that is accepted then differs from what was meant."""
 
 import unittest
+from collections import Counter
 from random import Random
 
-import corpus  # noqa: F401 (it puts the tools on the path)
 from advice import Outcome, Reference, judged, tally
 from slips import SLIPS
 from stories import Story
 
 OF_EACH = 4
-"""So many slips of each kind are made; `python3 python/tests/advice.py 5000` makes more."""
+"""How many slips of each kind are made; `python3 python/tests/advice.py 5000` makes more."""
 
-NOT_SEEN = {"attribute lost", "attribute emptied", "link lost", "month and day exchanged", "invisible letter between links", "another month"}
+NOT_SEEN = {
+    "attribute lost", "attribute emptied", "link lost", "month and day exchanged", "invisible letter between links", "another month"
+}
 """Slips after which a document may be one that somebody may have meant, as one without the tense of an instance."""
 
 ALWAYS_CURED = {
@@ -24,30 +26,33 @@ ALWAYS_CURED = {
 
 
 class Cures(unittest.TestCase):
+    kinds: dict[str, Counter[Outcome]]
+    damaged: list[tuple[str, list[bytes]]]
+
     @classmethod
-    def setUpClass(cls):
+    def setUpClass(cls) -> None:
         cls.kinds, cls.damaged = tally(Reference(), OF_EACH * len(SLIPS), seed=1)
 
-    def test_nothing_is_accepted_and_different(self):
+    def test_nothing_is_accepted_and_different(self) -> None:
         self.assertEqual([(name, *(document.decode("utf-8", "replace") for document in documents)) for name, documents in self.damaged], [])
 
-    def test_slips_of_each_kind_are_made_and_seen(self):
+    def test_slips_of_each_kind_are_made_and_seen(self) -> None:
         for name, counts in self.kinds.items():
             with self.subTest(name):
                 self.assertTrue(counts)
                 self.assertTrue(name in NOT_SEEN or not counts[Outcome.SILENT])
 
-    def test_what_has_one_cure_is_cured_in_one_step(self):
+    def test_what_has_one_cure_is_cured_in_one_step(self) -> None:
         for name in ALWAYS_CURED:
             with self.subTest(name):
                 self.assertTrue(self.kinds[name][Outcome.CURED])
                 self.assertLessEqual(set(self.kinds[name]), {Outcome.CURED, Outcome.HARMLESS})
 
-    def test_nothing_is_said_of_clean_documents(self):
+    def test_nothing_is_said_of_clean_documents(self) -> None:
         program = Reference()
         for number in range(40):
             judgement = judged(program, Story(Random(number)).document().encode())
-            self.assertTrue(judgement.is_plain(), [one.text for one in (*judgement.faults, *judgement.warnings)])
+            self.assertTrue(judgement.is_plain(), [*(one.text for one in judgement.faults), *(one.text for one in judgement.warnings)])
 
 
 if __name__ == "__main__":

@@ -135,7 +135,8 @@ class Drawing(unittest.TestCase):
         for case in (draw_scored(random) for _ in range(600)):
             found = expected(case.words, case.files)
             text = found.text.decode() if isinstance(found, Outcome) else "clash"
-            answers[re.sub(r"[1-9]\d*", "N", text) if text.startswith("precision") else re.sub(r"^fault.*", "fault", " ".join(text.split()[:2]))] += 1
+            kind = re.sub(r"^fault.*", "fault", " ".join(text.split()[:2]))
+            answers[re.sub(r"[1-9]\d*", "N", text) if text.startswith("precision") else kind] += 1
         scores = ("precision N of N\nrecall N of N\n", "precision 0 of N\nrecall N of N\n", "precision 0 of 0\nrecall 0 of 0\n")
         for answer in (*scores, "fault", "key fault", "clash", "key clash", "read fault"):
             self.assertGreater(answers[answer], 0, (answer, answers))
@@ -281,9 +282,10 @@ class Agreeing(unittest.TestCase):
         ]
         for command, old, new in slips:
             case, outcome, others = self.answers(b"a", b"b")
-            self.assertIn(old, b"".join(one.text for asked, one in [(case, outcome), *others] if asked.words[0] == command), command)
+            answered = [(case, outcome), *others]
+            self.assertIn(old, b"".join(one.text for asked, one in answered if asked.words[0] == command), command)
             outcome, *changed = (
-                replace(one, text=one.text.replace(old, new)) if asked.words[0] == command else one for asked, one in [(case, outcome), *others]
+                replace(one, text=one.text.replace(old, new)) if asked.words[0] == command else one for asked, one in answered
             )
             again = [(one, other) for (one, _), other in zip(others, changed, strict=True)]
             self.assertIsNotNone(agreeing.complaint(case, outcome, again), (command, new))

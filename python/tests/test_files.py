@@ -5,25 +5,30 @@ import os
 import random
 import tempfile
 import unittest
+from collections.abc import Sequence
 
-import corpus  # noqa: F401
+from tml.running import PART
 from tml.statuses import DOCUMENT_LIMIT
-from tml_corpus.files.finding import PART, CannotRead, Found, find_files, read_document, reason, search_folder
+from tml_corpus.files.finding import CannotRead, Found, find_files, read_document, reason, search_folder
 
 NAMES = ("a", "b.xml", "c.tml", "d.XML", ".xml", "é.xml", "x.xmlx", "[a].xml", "n\n.xml", "\udce9.xml")
 PATTERNS = (["*.tml", "*.xml"], ["*"], ["a*"], ["*[.]xml", "?"], ["[!a]*.xml"], ["*.*"], ["nothing"], ["b.xml", "*.tml"])
 
 
-def walked(folder, patterns):
+def walked(folder: str, patterns: Sequence[str]) -> list[Found]:
     """The matching files below a folder as `os.walk` finds them."""
-    found = []
+    found: list[Found] = []
     for place, folders, names in os.walk(folder, onerror=lambda error: found.append(Found(str(error.filename), reason(error)))):
         folders.sort()
-        found += [Found(os.path.join(place, name), top=folder) for name in sorted(names) if any(fnmatch.fnmatchcase(name, one) for one in patterns)]
+        found += [
+            Found(os.path.join(place, name), top=folder)
+            for name in sorted(names)
+            if any(fnmatch.fnmatchcase(name, one) for one in patterns)
+        ]
     return found or [Found(folder, f"no file in this folder matches {' or '.join(patterns)}")]
 
 
-def fill(draw, top):
+def fill(draw: random.Random, top: str) -> None:
     """Puts files, folders, pipes and symbolic links into a folder."""
     folders = [top]
     for _ in range(draw.randint(0, 25)):
@@ -43,7 +48,7 @@ def fill(draw, top):
 
 
 class Search(unittest.TestCase):
-    def test_finds_what_a_walk_finds(self):
+    def test_finds_what_a_walk_finds(self) -> None:
         draw = random.Random(1)
         for _ in range(60):
             with tempfile.TemporaryDirectory() as top:
@@ -52,7 +57,7 @@ class Search(unittest.TestCase):
                     self.assertEqual(search_folder(top, patterns), walked(top, patterns))
                 self.assertEqual(search_folder(top + "//", ["*.xml"]), walked(top + "//", ["*.xml"]))
 
-    def test_no_file_is_named_twice(self):
+    def test_no_file_is_named_twice(self) -> None:
         with tempfile.TemporaryDirectory() as top:
             for name in "bac":
                 with open(os.path.join(top, f"{name}.xml"), "x", encoding="utf-8"):
@@ -60,13 +65,13 @@ class Search(unittest.TestCase):
             b, a, gone = (os.path.join(top, name) for name in ("b.xml", "a.xml", "gone"))
             self.assertEqual([one.path for one in find_files([b, gone, top, a, gone], ["*.xml"])], [b, gone, a, os.path.join(top, "c.xml")])
 
-    def test_a_folder_that_vanishes(self):
+    def test_a_folder_that_vanishes(self) -> None:
         [found] = search_folder("/no/such/folder", ["*"])
         self.assertEqual(found, Found("/no/such/folder", "no such file or directory"))
 
 
 class Reading(unittest.TestCase):
-    def test_a_byte_more_than_the_limit_at_most(self):
+    def test_a_byte_more_than_the_limit_at_most(self) -> None:
         for size in (0, 1, PART - 1, PART, PART + 1, DOCUMENT_LIMIT, DOCUMENT_LIMIT + 1, DOCUMENT_LIMIT + 70_000):
             with self.subTest(size), tempfile.NamedTemporaryFile() as file:
                 whole = os.urandom(16) * (size // 16 + 1)
@@ -75,10 +80,10 @@ class Reading(unittest.TestCase):
                 self.assertEqual(read_document(file.name), whole[: min(size, DOCUMENT_LIMIT + 1)])
 
     @unittest.skipUnless(os.path.exists("/proc/self/status"), "no /proc")
-    def test_a_file_that_says_it_is_empty(self):
+    def test_a_file_that_says_it_is_empty(self) -> None:
         self.assertIn(b"Pid:", read_document("/proc/self/status"))
 
-    def test_what_is_no_file(self):
+    def test_what_is_no_file(self) -> None:
         for path in ("/dev/null", "/tmp", "/no/such/file", "a\0b"):
             with self.subTest(path), self.assertRaises(CannotRead):
                 read_document(path)

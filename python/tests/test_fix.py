@@ -5,17 +5,14 @@ import stat
 import unittest
 
 from corpus import EVENT, INSTANCE, CorpusTest, document
+from tml.statuses import DOCUMENT_LIMIT
 
 TIME = '<TIMEX3 tid="t1" type="DATE" value="1998">x</TIMEX3>'
 LINK = '<TLINK eventInstanceID="i1" relatedToTime="t1" relType="BEFORE"/>'
 
 
 class Fixes(CorpusTest):
-    def read(self, name):
-        with open(self.path(name), "rb") as file:
-            return file.read()
-
-    def test_one_cure(self):
+    def test_one_cure(self) -> None:
         rows = [
             ("AT&T &amp; S&P &#38; &eacute;&nbsp;", "AT&amp;T &amp; S&amp;P &#38; é&#160;"),
             ("<!-- a & b -->&", "<!-- a & b -->&amp;"),
@@ -24,8 +21,14 @@ class Fixes(CorpusTest):
             ("<Event eid='e1' class='state'>x</event>", "<EVENT eid='e1' class='STATE'>x</EVENT>"),
             ("<Text><P>x</p></TEXT>", "<TEXT><P>x</P></TEXT>"),
             ('<SIGNAL Sid="s1">x</SIGNAL>', '<SIGNAL sid="s1">x</SIGNAL>'),
-            (EVENT + INSTANCE + TIME + LINK.replace("i1", "e1").replace("BEFORE", "is-included"), EVENT + INSTANCE + TIME + LINK.replace("BEFORE", "IS_INCLUDED")),
-            (EVENT + INSTANCE + TIME + LINK.replace("BEFORE", "SIMULTANOUS"), EVENT + INSTANCE + TIME + LINK.replace("BEFORE", "SIMULTANEOUS")),
+            (
+                EVENT + INSTANCE + TIME + LINK.replace("i1", "e1").replace("BEFORE", "is-included"),
+                EVENT + INSTANCE + TIME + LINK.replace("BEFORE", "IS_INCLUDED"),
+            ),
+            (
+                EVENT + INSTANCE + TIME + LINK.replace("BEFORE", "SIMULTANOUS"),
+                EVENT + INSTANCE + TIME + LINK.replace("BEFORE", "SIMULTANEOUS"),
+            ),
             (EVENT + INSTANCE + TIME + LINK.replace("BEFORE", "IDENTICAL"), EVENT + INSTANCE + TIME + LINK.replace("BEFORE", "IDENTITY")),
             (EVENT + INSTANCE + TIME + LINK.replace("t1", "t1 t2"), EVENT + INSTANCE + TIME + LINK),
             (EVENT + INSTANCE + TIME + LINK.replace("t1", "tl"), EVENT + INSTANCE + TIME + LINK),
@@ -40,18 +43,22 @@ class Fixes(CorpusTest):
         ]
         for number, (inner, _) in enumerate(rows):
             self.write(f"{number}.xml", document(inner))
-        before = [self.read(f"{number}.xml") for number in range(len(rows))]
+        before = [self.read_bytes(f"{number}.xml") for number in range(len(rows))]
         status, lines, _ = self.run_it("fix", ".")
-        self.assertEqual((status, lines[-1]), (1, f"{len(rows)} files: {len(rows)} can be mended (--write does it), 0 still faulty, 0 skipped"))
-        self.assertEqual([self.read(f"{number}.xml") for number in range(len(rows))], before)
+        self.assertEqual(
+            (status, lines[-1]), (1, f"{len(rows)} files: {len(rows)} can be mended (--write does it), 0 still faulty, 0 skipped")
+        )
+        self.assertEqual([self.read_bytes(f"{number}.xml") for number in range(len(rows))], before)
         status, lines, _ = self.run_it("fix", "--write", ".")
         self.assertEqual((status, lines[-1]), (0, f"{len(rows)} files: {len(rows)} mended, 0 still faulty, 0 skipped"))
         for number, (inner, mended) in enumerate(rows):
             with self.subTest(inner):
-                self.assertEqual(self.read(f"{number}.xml").decode(), document(mended))
-        self.assertEqual(self.run_it("fix", ".")[:2], (0, [f"{len(rows)} files: 0 can be mended (--write does it), 0 still faulty, 0 skipped"]))
+                self.assertEqual(self.read_bytes(f"{number}.xml").decode(), document(mended))
+        self.assertEqual(
+            self.run_it("fix", ".")[:2], (0, [f"{len(rows)} files: 0 can be mended (--write does it), 0 still faulty, 0 skipped"])
+        )
 
-    def test_latin(self):
+    def test_latin(self) -> None:
         self.write("d.xml", b'<?xml version="1.0" encoding="ISO-8859-1"?>\r\n<TimeML>caf\xe9 &\r\n</TimeML>\r\n')
         self.assertEqual(
             self.run_it("fix", "d.xml")[1][:8],
@@ -67,11 +74,11 @@ class Fixes(CorpusTest):
             ],
         )
         self.run_it("fix", "--write", "d.xml")
-        self.assertEqual(self.read("d.xml"), '<?xml version="1.0" encoding="UTF-8"?>\r\n<TimeML>café &amp;\r\n</TimeML>\r\n'.encode())
+        self.assertEqual(self.read_bytes("d.xml"), '<?xml version="1.0" encoding="UTF-8"?>\r\n<TimeML>café &amp;\r\n</TimeML>\r\n'.encode())
 
-    def test_what_has_no_one_cure_is_left(self):
+    def test_what_has_no_one_cure_is_left(self) -> None:
         second = '<MAKEINSTANCE eiid="i2" eventID="e1"/>'
-        rows = [
+        rows: list[tuple[str | bytes, str, str]] = [
             ("<TimeML>é".encode() + b"\xe9</TimeML>", "1:10", "1 NotUtf8 at byte 10"),
             ("<TimeML>&bank; </TimeML>", "1:9", "2 BadReference at byte 8"),
             ("<TimeML>S&ampP </TimeML>", "1:10", "2 BadReference at byte 9"),
@@ -85,28 +92,34 @@ class Fixes(CorpusTest):
             self.write(f"{number}.xml", content)
         status, lines, _ = self.run_it("fix", "--write", ".")
         self.assertEqual(status, 1)
-        self.assertEqual(lines[:-1], [f"./{number}.xml:{place}: left to mend: {left}; see `tml-corpus check`" for number, (_, place, left) in enumerate(rows)])
+        self.assertEqual(
+            lines[:-1],
+            [f"./{number}.xml:{place}: left to mend: {left}; see `tml-corpus check`" for number, (_, place, left) in enumerate(rows)],
+        )
         for number, (content, _, _) in enumerate(rows):
-            self.assertEqual(self.read(f"{number}.xml"), content if isinstance(content, bytes) else content.encode())
+            self.assertEqual(self.read_bytes(f"{number}.xml"), content if isinstance(content, bytes) else content.encode())
 
-    def test_a_part_is_mended_and_a_part_left(self):
+    def test_a_part_is_mended_and_a_part_left(self) -> None:
         self.write("d.xml", document("& <SIGNAL/>"))
         status, lines, _ = self.run_it("fix", "--write", "d.xml")
         self.assertEqual(status, 1)
-        self.assertEqual(lines[:2], ["d.xml: mended: unescaped & (1 change)", "d.xml:2:7: left to mend: 10 MissingAttribute at byte 15; see `tml-corpus check`"])
+        self.assertEqual(
+            lines[:2],
+            ["d.xml: mended: unescaped & (1 change)", "d.xml:2:7: left to mend: 10 MissingAttribute at byte 15; see `tml-corpus check`"],
+        )
 
-    def test_modes_and_symbolic_links(self):
+    def test_modes_and_symbolic_links(self) -> None:
         self.write("d.xml", document("&"))
         os.chmod(self.path("d.xml"), 0o640)
         os.symlink("d.xml", self.path("l.xml"))
         self.assertEqual(self.run_it("fix", "--write", "l.xml")[0], 0)
         self.assertTrue(os.path.islink(self.path("l.xml")))
         self.assertEqual(stat.S_IMODE(os.stat(self.path("d.xml")).st_mode), 0o640)
-        self.assertEqual(self.read("d.xml").decode(), document("&amp;"))
+        self.assertEqual(self.read_bytes("d.xml").decode(), document("&amp;"))
         self.assertEqual(sorted(os.listdir(self.folder)), ["d.xml", "l.xml"])
 
-    def test_files_that_cannot_be_looked_at(self):
-        self.write("long.xml", b"&" * 4_194_305)
+    def test_files_that_cannot_be_looked_at(self) -> None:
+        self.write("long.xml", b"&" * (DOCUMENT_LIMIT + 1))
         os.mkfifo(self.path("pipe.xml"))
         status, lines, _ = self.run_it("fix", ".", "gone.xml")
         self.assertEqual(status, 2)

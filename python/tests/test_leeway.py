@@ -2,9 +2,10 @@
 
 import random
 import unittest
+from collections.abc import Iterator
 
 from reference.civil import date_of
-from reference.nets import fits
+from reference.nets import Net, Ranks, fits, interval_at
 from reference.possible import possible_rows
 from reference.relations import holds
 from reference.timelines import all_timelines, closure
@@ -15,12 +16,12 @@ from tml.statuses import BASE_RELATIONS, INVERSES
 from tml_corpus.timeline.leeway import SIGNS, Orders, base_relation, leeways
 
 
-def civil(number):
+def civil(number: int) -> str:
     """A text for a number of the calendar."""
     return "{}-{}-{}".format(*date_of(number))
 
 
-def dates_of(net):
+def dates_of(net: Net) -> dict[str, list[str]]:
     """The bounds of a net as `tml dates` has them."""
     found = {}
     for place, bounds in enumerate(net.bounds):
@@ -30,41 +31,43 @@ def dates_of(net):
     return found
 
 
-def lines_of(net):
+def lines_of(net: Net) -> list[bytes]:
     """The lines of the matrix of a net."""
     return [b"i%d i%d %s\n" % (left, right, b" ".join(relations)) for left, right, relations in possible_rows(net)]
 
 
+def fitting_nets(numbers: int = 400) -> Iterator[tuple[Net, list[Ranks], Matrix]]:
+    """Nets that have a timeline, with all of theirs and their matrix."""
+    for number in range(numbers):
+        net = random_net(random.Random(f"leeway {number}"), random.Random(number).randint(1, 3))
+        timelines = [ranks for ranks in all_timelines(net.intervals()) if fits(net, ranks, range(len(net.links)))]
+        if timelines:
+            yield net, timelines, read_matrix(lines_of(net), [f"i{place}" for place in range(net.intervals())])
+
+
 class Nets(unittest.TestCase):
-    """Each of the nets that some timeline fits, with its timelines."""
+    """How far ends can move in each of the nets that some timeline fits."""
 
-    def fitting(self, numbers=400):
-        for number in range(numbers):
-            net = random_net(random.Random(f"leeway {number}"), random.Random(number).randint(1, 3))
-            timelines = [ranks for ranks in all_timelines(net.intervals()) if fits(net, ranks, range(len(net.links)))]
-            if timelines:
-                yield net, timelines, read_matrix(lines_of(net), [f"i{place}" for place in range(net.intervals())])
-
-    def test_greatest_ranks(self):
-        for net, timelines, matrix in self.fitting():
+    def test_greatest_ranks(self) -> None:
+        for net, timelines, matrix in fitting_nets():
             wanted = [max(ranks) for ranks in zip(*timelines, strict=True)]
             self.assertEqual([one.most for one in leeways(matrix, dates_of(net))], wanted, net)
 
-    def test_dates(self):
+    def test_dates(self) -> None:
         dated = 0
-        for net, _, matrix in self.fitting():
+        for net, _, matrix in fitting_nets():
             after = closure(net)
             points = range(net.points())
             for point, found in enumerate(leeways(matrix, dates_of(net))):
-                lower = [net.lower(one) for one in points if after.weak[one] >> point & 1 and net.lower(one) is not None]
-                upper = [net.upper(one) for one in points if after.weak[point] >> one & 1 and net.upper(one) is not None]
+                lower = [low for one in points if after.weak[one] >> point & 1 and (low := net.lower(one)) is not None]
+                upper = [high for one in points if after.weak[point] >> one & 1 and (high := net.upper(one)) is not None]
                 wanted = (civil(max(lower)), civil(min(upper))) if lower and upper else None
                 self.assertEqual(found.dates, wanted, (net, point))
                 dated += wanted is not None
         self.assertGreater(dated, 100)
 
-    def test_both_ways_round(self):
-        for net, timelines, matrix in self.fitting(100):
+    def test_both_ways_round(self) -> None:
+        for net, timelines, matrix in fitting_nets(100):
             for first in range(net.intervals()):
                 for second in range(net.intervals()):
                     relations = matrix.between(first, second)
@@ -73,18 +76,19 @@ class Nets(unittest.TestCase):
 
 
 class Relations(unittest.TestCase):
-    def test_inverses_and_signs(self):
+    def test_inverses_and_signs(self) -> None:
         self.assertEqual(list(SIGNS), list(BASE_RELATIONS))
         for ranks in all_timelines(2):
-            self.assertTrue(holds(ranks[:2], base_relation(ranks[:2], ranks[2:]).encode(), ranks[2:]), ranks)
+            first, second = interval_at(ranks, 0), interval_at(ranks, 1)
+            self.assertTrue(holds(first, base_relation(first, second).encode(), second), ranks)
         for relation in BASE_RELATIONS:
             self.assertEqual(INVERSES[INVERSES[relation]], relation)
-            a, b, c, d = SIGNS[relation]
+            a, b, c, d = list(SIGNS[relation])
             self.assertEqual(SIGNS[INVERSES[relation]], "".join({"<": ">", ">": "<", "=": "="}[one] for one in (a, c, b, d)))
         self.assertEqual(Orders.of(BASE_RELATIONS), Orders((), ()))
         self.assertEqual(Orders.of(("BEFORE", "IBEFORE")).no_later, ((0, 0), (0, 1), (1, 0), (1, 1)))
 
-    def test_lines(self):
+    def test_lines(self) -> None:
         names = ["a", "b", "c"]
         lines = [b"a b BEFORE\n", b"a c BEFORE AFTER\n", b"b c BEFORE\n"]
         matrix = read_matrix(lines, names)

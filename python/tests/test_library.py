@@ -10,10 +10,12 @@ import subprocess
 import sys
 import tempfile
 import unittest
+from collections.abc import Mapping, Sequence
 from pathlib import Path
 from unittest import mock
 
-from corpus import TESTS, TML, TOOLS, TOP
+from corpus import TESTS, TML, TOOLS, TOP, match_in, text_at
+from differential.cases import Case
 from refused_memory import runs
 
 ARCHIVE = os.path.abspath(os.environ.get("TML_ARCHIVE") or os.path.join(TOP, "crates", "tml_c", "out", "libtml_c.a"))
@@ -29,27 +31,27 @@ WRAPPED = "-Wl,--wrap=malloc,--wrap=realloc,--wrap=free"
 REFUSED = r"(\d+) allocations of (\d+) calls refused, each alone and with all after it: (\d+) deviations \((\d+) of (\d+) times .*\n"
 
 
-def without_preloaded():
+def without_preloaded() -> dict[str, str]:
     """The environment without libraries that come first, as `stdbuf` sets one: AddressSanitizer has to be the first one."""
     return {name: value for name, value in os.environ.items() if name != "LD_PRELOAD"}
 
 
-def ran(*words, **settings):
+def ran(*words: str | Path, env: Mapping[str, str] | None = None) -> str:
     """A program that has to end with status 0, and what it printed."""
-    done = subprocess.run(words, capture_output=True, check=False, timeout=300, **settings)
+    done = subprocess.run(words, capture_output=True, check=False, timeout=300, env=env)
     if done.returncode != 0:
         raise AssertionError(f"{words}: {done.returncode}: {done.stderr.decode('utf-8', 'replace')}")
     return done.stdout.decode()
 
 
-def given(case):
+def given(case: Case) -> tuple[bytes, bytes, bytes]:
     """What crosses for a case of the program: the words, and its first two files, which are there by the library's names."""
     called = dict(zip(list(case.files)[:2], (b"first", b"second")))
     first, second = (*case.files.values(), b"", b"")[:2]
     return b"".join(called.get(word, word) + b"\0" for word in case.words), first, second
 
 
-def refusing(program, cases, before=()):
+def refusing(program: str | Path, cases: Sequence[Case], before: Sequence[str] = ()) -> tuple[int, str]:
     """What `refusing_caller.c` found of some cases: its status, and what it printed, with the subjects of the cases."""
     packed = b"".join(struct.pack("=QQQ", *map(len, pieces)) + b"".join(pieces) for pieces in map(given, cases))
     done = subprocess.run([*before, program], input=packed, capture_output=True, check=False, timeout=300, env=without_preloaded())
@@ -61,7 +63,7 @@ def refusing(program, cases, before=()):
 class Refusing(unittest.TestCase):
     """That `refusing_caller.c` finds libraries that go wrong where memory is refused."""
 
-    def test_wrong_libraries(self):
+    def test_wrong_libraries(self) -> None:
         cases, header = list(runs())[:2], f"-I{TOOLS}/library"
         with tempfile.TemporaryDirectory() as folder:
             for number in range(6):
@@ -69,7 +71,7 @@ class Refusing(unittest.TestCase):
                 ran("cc", *STRICT, header, f"-DWRONG={number}", REFUSING, WRONG, "-o", program, WRAPPED)
                 status, text = refusing(program, cases)
                 with self.subTest(number, text=text):
-                    found = re.search(REFUSED, text)
+                    found = match_in(REFUSED, text)
                     self.assertEqual((status, found[1], found[2], found[5]), (int(number > 0), "4", "2", "8"))
                     self.assertEqual(found[3] == "0", number == 0)
 
@@ -78,7 +80,7 @@ class Refusing(unittest.TestCase):
 class Preloaded(unittest.TestCase):
     """That programs with AddressSanitizer run where a library comes first."""
 
-    def test_refusing(self):
+    def test_refusing(self) -> None:
         cases, header = list(runs())[:1], f"-I{TOOLS}/library"
         with tempfile.TemporaryDirectory() as folder:
             first, program = os.path.join(folder, "first.so"), os.path.join(folder, "refusing")
@@ -95,8 +97,13 @@ class Preloaded(unittest.TestCase):
 @unittest.skipUnless(os.path.isfile(ARCHIVE), f"no archive {ARCHIVE}: tools/library/build makes it, or name one by TML_ARCHIVE=")
 @unittest.skipIf(MISSING, f"not installed: {', '.join(MISSING)}")
 class Library(unittest.TestCase):
+    folder: Path
+    root: Path
+    made: list[str]
+    caller: Path
+
     @classmethod
-    def setUpClass(cls):
+    def setUpClass(cls) -> None:
         held = tempfile.TemporaryDirectory(prefix="library-")
         cls.addClassCleanup(held.cleanup)
         cls.folder = Path(held.name)
@@ -107,61 +114,62 @@ class Library(unittest.TestCase):
         cls.caller = cls.built("caller", CALLER, "-l:libtml.a")
 
     @classmethod
-    def packages(cls):
+    def packages(cls) -> list[str]:
         """Makes the packages by `tools/package` of a copy that has a date for each version."""
         copy = cls.folder / "copy"
         for folder in ("tools", "python"):
             shutil.copytree(os.path.join(TOP, folder), copy / folder, ignore=shutil.ignore_patterns("__pycache__"))
         shutil.copytree(os.path.join(TOP, "docs"), copy / "docs")
-        changes = Path(TOP, "CHANGELOG.md").read_text(encoding="utf-8")
+        changes = text_at("CHANGELOG.md")
         (copy / "CHANGELOG.md").write_text(changes.replace(", not yet released", ", 2026-11-29"), encoding="utf-8")
         words = ("--library", ARCHIVE, "--output", cls.folder, "--maintainer", "A Name <a@example.org>")
         return ran(sys.executable, copy / "tools/package", *words, env={**os.environ, "SOURCE_DATE_EPOCH": "1795824000"}).splitlines()
 
     @classmethod
-    def built(cls, name, source, *options):
+    def built(cls, name: str, source: str | Path, *options: str) -> Path:
         """A program over the library that was unpacked."""
         program = cls.folder / name
         places = (f"-I{cls.root}/usr/include", f"-L{cls.root}/{LIBRARIES}")
         ran("cc", *STRICT, *places, source, "-o", program, *options, "-pthread")
         return program
 
-    def sanitized(self, name, source, *options):
+    def sanitized(self, name: str, source: str, *options: str) -> Path:
         """The same with AddressSanitizer; where `cc` has none the test is skipped."""
         try:
             return self.built(name, source, "-l:libtml.a", *options, *SANITIZED)
         except AssertionError:
-            return self.skipTest("cc has no AddressSanitizer")
+            self.skipTest("cc has no AddressSanitizer")
 
-    def call(self, case, *, before=(), program=None, threads=1, room=1 << 22):
+    def call(
+        self, case: Case, *, before: Sequence[str] = (), program: Path | None = None, threads: int = 1, room: int = 1 << 22
+    ) -> tuple[int, bytes, bytes]:
         """The status and the text of a call on a case of the program."""
         for name, content in zip(("words", "first", "second"), given(case)):
             (self.folder / name).write_bytes(content)
-        line = [*before, program or self.caller, str(threads), str(room), "first", "second", "words"]
+        line = [*before, str(program or self.caller), str(threads), str(room), "first", "second", "words"]
         done = subprocess.run(line, cwd=self.folder, capture_output=True, check=False, timeout=300, env=without_preloaded())
         return done.returncode, done.stdout, done.stderr
 
-    def cases(self, stride=1):
+    def cases(self, stride: int = 1) -> list[Case]:
         """Runs that take every path, each of so many."""
         return [case for case in runs() if case.words][::stride]
 
-    def test_the_example(self):
-        text = Path(TOP, "docs/LIBRARY.md").read_text(encoding="utf-8")
+    def test_the_example(self) -> None:
         source = self.folder / "example.c"
-        source.write_text(re.search(r"```c\n(.*?)```", text, re.DOTALL)[1], encoding="utf-8")
+        source.write_text(match_in(r"```c\n(.*?)```", text_at("docs/LIBRARY.md"), re.DOTALL)[1], encoding="utf-8")
         program = self.built("example", source, "-ltml")
         said = ran(program, env={**os.environ, "LD_LIBRARY_PATH": f"{self.root}/{LIBRARIES}"})
         self.assertEqual(said.splitlines()[0], "accepted")
 
     @unittest.skipUnless(shutil.which("pkg-config"), "no pkg-config")
-    def test_the_file_of_pkg_config(self):
+    def test_the_file_of_pkg_config(self) -> None:
         places = {"PKG_CONFIG_SYSROOT_DIR": str(self.root), "PKG_CONFIG_PATH": f"{self.root}/{LIBRARIES}/pkgconfig"}
         kept = {f"PKG_CONFIG_ALLOW_SYSTEM_{kind}": "1" for kind in ("LIBS", "CFLAGS")}
         words = ran("pkg-config", "--cflags", "--libs", "libtml", env={**os.environ, **places, **kept})
         ran("cc", CALLER, "-o", self.folder / "by-pkg-config", *words.split(), "-pthread")
 
     @unittest.skipUnless(os.access(TML, os.X_OK), f"no program {TML}")
-    def test_it_answers_as_the_program(self):
+    def test_it_answers_as_the_program(self) -> None:
         for case in self.cases():
             with self.subTest(case.subject), tempfile.TemporaryDirectory() as folder:
                 files = {name: content for name, content in case.files.items() if name != b"-"}
@@ -171,12 +179,12 @@ class Library(unittest.TestCase):
                 done = subprocess.run([TML, *case.words], cwd=folder, input=piped, capture_output=True, check=False, timeout=300)
                 self.assertEqual(self.call(case)[:2], (done.returncode, done.stdout))
 
-    def test_threads_side_by_side(self):
+    def test_threads_side_by_side(self) -> None:
         for case in self.cases(5):
             with self.subTest(case.subject):
                 self.assertEqual(self.call(case, threads=8), self.call(case))
 
-    def test_a_room_that_is_too_small(self):
+    def test_a_room_that_is_too_small(self) -> None:
         for case in self.cases(9):
             status, text, _ = self.call(case)
             for room in {0, 1, len(text) // 2, max(len(text) - 1, 0)} - {len(text)}:
@@ -184,49 +192,51 @@ class Library(unittest.TestCase):
                     self.assertEqual(self.call(case, room=room)[:2], (status, b"needs %d\n" % len(text)))
             self.assertEqual(self.call(case, room=len(text))[:2], (status, text))
 
-    def test_with_an_address_sanitizer(self):
+    def test_with_an_address_sanitizer(self) -> None:
         program = self.sanitized("sanitized", CALLER)
         for case in self.cases(3):
             with self.subTest(case.subject):
                 self.assertEqual(self.call(case, program=program, threads=2), self.call(case))
 
     @unittest.skipUnless(shutil.which("valgrind"), "no valgrind")
-    def test_with_valgrind(self):
+    def test_with_valgrind(self) -> None:
         for case in self.cases(STRIDE):
             with self.subTest(case.subject):
                 self.assertEqual(self.call(case, before=VALGRIND)[:2], self.call(case)[:2])
 
     @unittest.skipUnless(shutil.which("prlimit"), "no prlimit")
-    def test_the_stack_that_is_stated(self):
-        page = " ".join(Path(TOP, "docs", "LIBRARY.md").read_text(encoding="utf-8").split())
-        most, others = map(int, re.search(r"`verify` and `drill` took about (\d+) KiB of it, and all other commands about (\d+) KiB", page).groups())
+    def test_the_stack_that_is_stated(self) -> None:
+        page = " ".join(text_at("docs/LIBRARY.md").split())
+        most, others = map(
+            int, match_in(r"`verify` and `drill` took about (\d+) KiB of it, and all other commands about (\d+) KiB", page).groups()
+        )
         for case in self.cases(2):
             stated = most if case.words[:1] in ((b"verify",), (b"drill",)) else others
             with self.subTest(case.subject, words=case.words[:1]):
                 # beside it, the program that calls has its words, its variables and the loader on the stack
                 self.assertEqual(self.call(case, before=("prlimit", f"--stack={(stated + 96) * 1024}")), self.call(case))
 
-    def refused(self, program, cases, before=()):
+    def refused(self, program: Path, cases: Sequence[Case], before: Sequence[str] = ()) -> int:
         """Refuses each allocation of some cases, and answers how many there were."""
         status, text = refusing(program, cases, before)
         self.assertEqual(status, 0, text)
-        allocations, calls, deviations, no_memory, refusals = map(int, re.fullmatch(REFUSED, text).groups())
+        allocations, calls, deviations, no_memory, refusals = map(int, match_in(f"^(?:{REFUSED})$", text).groups())
         self.assertEqual((calls, deviations, refusals), (len(cases), 0, 2 * allocations))
         self.assertGreater(no_memory, 0)
         return allocations
 
-    def test_each_allocation_refused(self):
+    def test_each_allocation_refused(self) -> None:
         program = self.built("refusing", REFUSING, "-l:libtml.a", WRAPPED)
         self.assertGreater(self.refused(program, self.cases()), len(self.cases()))
 
-    def test_allocations_refused_with_an_address_sanitizer(self):
+    def test_allocations_refused_with_an_address_sanitizer(self) -> None:
         self.refused(self.sanitized("sanitized-refusing", REFUSING, WRAPPED), self.cases(3))
 
     @unittest.skipUnless(shutil.which("valgrind"), "no valgrind")
-    def test_allocations_refused_with_valgrind(self):
+    def test_allocations_refused_with_valgrind(self) -> None:
         self.refused(self.built("watched-refusing", REFUSING, "-l:libtml.a", WRAPPED), self.cases(STRIDE), VALGRIND)
 
-    def test_what_is_shown(self):
+    def test_what_is_shown(self) -> None:
         for option, name in (("-D", "libtml.so"), ("-g", "libtml.a")):
             lines = ran("nm", option, "--defined-only", self.root / LIBRARIES / name).splitlines()
             self.assertEqual({line.split()[-1].split("@")[0] for line in lines if re.search(" [TDBRW] ", line)}, EXPORTS, name)
@@ -237,9 +247,11 @@ class Library(unittest.TestCase):
         self.assertIn("TML_0.4", ran("nm", "-D", self.root / LIBRARIES / "libtml.so"))
         self.assertIn("libtml.so.0", ran("readelf", "-d", self.root / LIBRARIES / "libtml.so"))
 
-    def test_names_and_fields(self):
-        version = re.search(r"^## ([\d.]+), ", Path(TOP, "CHANGELOG.md").read_text(encoding="utf-8"), re.MULTILINE)[1]
-        self.assertEqual([os.path.basename(name) for name in self.made], [f"{name}_{version}_amd64.deb" for name in ("libtml", "libtml-dev")])
+    def test_names_and_fields(self) -> None:
+        version = match_in(r"^## ([\d.]+), ", text_at("CHANGELOG.md"), re.MULTILINE)[1]
+        self.assertEqual(
+            [os.path.basename(name) for name in self.made], [f"{name}_{version}_amd64.deb" for name in ("libtml", "libtml-dev")]
+        )
         found = {str(path.relative_to(self.root)) for path in self.root.rglob("*") if path.is_file()}
         wanted = {f"{LIBRARIES}/{name}" for name in (f"libtml.so.{version}", "libtml.so.0", "libtml.so", "libtml.a", "pkgconfig/libtml.pc")}
         wanted |= {"usr/include/tml.h", "usr/share/doc/libtml-dev/LIBRARY.md"}
@@ -248,7 +260,7 @@ class Library(unittest.TestCase):
         self.assertRegex(ran("dpkg-deb", "-f", self.made[0], "Depends"), r"^libc6 \(>= 2\.\d+\)$")
         self.assertEqual(ran("dpkg-deb", "-f", self.made[1], "Depends"), f"libtml (= {version})\n")
 
-    def test_the_same_again(self):
+    def test_the_same_again(self) -> None:
         before = [Path(name).read_bytes() for name in self.made]
         shutil.rmtree(self.folder / "copy")
         self.assertEqual([Path(name).read_bytes() for name in self.packages()], before)

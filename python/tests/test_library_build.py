@@ -17,11 +17,11 @@ MISSING = [name for name in ("cc", "ld", "objcopy", "ar", "rt") if shutil.which(
 
 
 class Needed(unittest.TestCase):
-    def test_what_is_missing(self):
+    def test_what_is_missing(self) -> None:
         done = subprocess.run([sys.executable, BUILD], env={"PATH": ""}, capture_output=True, text=True, check=False, timeout=60)
         self.assertEqual((done.returncode, done.stdout, done.stderr), (1, "", "build: not installed: rt, cc, ld, objcopy, ar\n"))
 
-    def test_help_has_an_example(self):
+    def test_help_has_an_example(self) -> None:
         done = subprocess.run([sys.executable, BUILD, "--help"], capture_output=True, text=True, check=True, timeout=60)
         self.assertIn("Example", done.stdout)
 
@@ -31,7 +31,7 @@ class Needed(unittest.TestCase):
 class Build(unittest.TestCase):
     """A copy of the tool, over three crates that `rt ci` seems to have proved, with a kit whose prover hands over the archive."""
 
-    def setUp(self):
+    def setUp(self) -> None:
         held = tempfile.TemporaryDirectory(prefix="library-build-")
         self.addCleanup(held.cleanup)
         self.top = Path(os.path.realpath(held.name))
@@ -49,21 +49,21 @@ class Build(unittest.TestCase):
         (self.kit / "c").symlink_to(os.path.join(os.path.dirname(os.path.realpath(said)), "c"))
         self.program("rt", f"echo {self.kit}/START-HERE.md")
 
-    def program(self, name, text):
+    def program(self, name: str, text: str) -> None:
         """Puts a script into the kit."""
         (self.kit / "bin" / name).write_text(f"#!/bin/sh\n{text}\n", encoding="utf-8")
         (self.kit / "bin" / name).chmod(0o755)
 
-    def build(self, prover):
+    def build(self, prover: str) -> tuple[int, list[str], list[str], set[str]]:
         """The status, what was printed, what was said beside it, and the files that are left, where the prover is this script."""
         self.program("rattle", prover)
         variables = {**os.environ, "PATH": f"{self.kit}/bin:{os.environ['PATH']}", "PYTHONDONTWRITEBYTECODE": "1"}
-        words = [sys.executable, self.top / "tools/library/build"]
+        words = [sys.executable, str(self.top / "tools/library/build")]
         done = subprocess.run(words, env=variables, capture_output=True, text=True, check=False, timeout=300)
         left = {one.name for one in self.out.iterdir()} if self.out.exists() else set()
         return done.returncode, done.stdout.splitlines(), done.stderr.splitlines(), left
 
-    def test_both_are_made(self):
+    def test_both_are_made(self) -> None:
         status, said, told, left = self.build(f'echo "$PWD" "$@"; for last; do :; done; cp {shlex.quote(ARCHIVE)} "$last"')
         self.assertEqual((status, said), (0, [f"{self.out}/libtml.so", f"{self.out}/libtml.a"]))
         self.assertEqual(left, {"libtml.so", "libtml.a", "libtml_c.a"})
@@ -75,22 +75,22 @@ class Build(unittest.TestCase):
         self.assertEqual(libraries, wanted)
         self.assertLessEqual({f"dependency={crates}/{name}/out/rlib" for name in ("low", "high")}, set(words))
 
-    def test_what_is_not_proved(self):
+    def test_what_is_not_proved(self) -> None:
         status, said, told, left = self.build("echo not proved; exit 1")
         self.assertEqual((status, said, left), (1, [], set()))
         self.assertEqual(told, ["not proved", "build: the crate tml_c was not built: rattle ended with status 1"])
 
-    def test_what_cannot_be_linked(self):
+    def test_what_cannot_be_linked(self) -> None:
         status, said, told, left = self.build('for last; do :; done; echo no archive >"$last"')
         self.assertEqual((status, said, left), (1, [], {"libtml_c.a"}))
         self.assertRegex(told[0], "^build: ld ended with status 1: ")
 
-    def test_a_library_that_was_not_proved(self):
+    def test_a_library_that_was_not_proved(self) -> None:
         made = self.top / "crates/low/out/rlib/low.rlib"
         made.rmdir()
         self.assertEqual(self.build("exit 0")[:3], (1, [], [f"build: no library {made}: `rt ci` has to run first"]))
 
-    def test_a_library_that_was_changed(self):
+    def test_a_library_that_was_changed(self) -> None:
         made = self.top / "crates/low/out/rlib/low.rlib"
         os.utime(self.top / "crates/low/src/lib.rt", (made.stat().st_mtime + 1,) * 2)
         self.assertEqual(self.build("exit 0")[:3], (1, [], ["build: crates/low was changed after `rt ci`, which has to run again"]))

@@ -24,7 +24,7 @@ ON_PURPOSE = "rows that are wrong on purpose: how a difference is shown"
 LEFT_OUT = ("a read that failed", "a write that failed")
 DONE, READ_FAULT, WRITE_FAULT = 0, 4, 5
 LINES_LEFT_OUT, NAMED_TWICE = 50, 10
-"""So many lines of commands are left out at most, and so many rows name standard input twice."""
+"""How many lines of commands are left out at most, and how many rows name standard input twice."""
 ANOTHER_NAME = b"input"
 
 

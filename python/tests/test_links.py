@@ -7,7 +7,9 @@ from pathlib import Path
 
 from corpus import TOP
 
-PAGES = sorted([*Path(TOP).glob("*.md"), *Path(TOP, "docs").glob("*.md"), *Path(TOP, "python").rglob("*.md"), *Path(TOP, "bench").glob("*.md")])
+PAGES = sorted(
+    [*Path(TOP).glob("*.md"), *Path(TOP, "docs").glob("*.md"), *Path(TOP, "python").rglob("*.md"), *Path(TOP, "bench").glob("*.md")]
+)
 LINK = re.compile(r"\]\(([^)#\s]*)(?:#([^)\s]*))?\)")
 
 
@@ -35,7 +37,12 @@ class Links(unittest.TestCase):
                         self.assertIn(anchor, anchors(target.resolve()))
 
     def test_pages_that_sources_name_are_there(self) -> None:
-        files = [path for folder in ("tools", "python", "crates", "bench") for path in Path(TOP, folder).rglob("*") if path.suffix in (".py", ".rt", ".rs", ".h")]
+        files = [
+            path
+            for folder in ("tools", "python", "crates", "bench")
+            for path in Path(TOP, folder).rglob("*")
+            if path.suffix in (".py", ".rt", ".rs", ".h")
+        ]
         for path in files:
             for name in re.findall(r"\bdocs/(\w+\.(?:md|1))\b", path.read_text(encoding="utf-8")):
                 self.assertTrue(Path(TOP, "docs", name).exists(), f"{path}: docs/{name}")

@@ -6,6 +6,7 @@ them all would take minutes. `TML_SLOW=1` has the longest one made.
 
 import os
 import unittest
+from collections.abc import Sequence
 from itertools import combinations
 
 from corpus import TML, CorpusTest
@@ -13,65 +14,68 @@ from reference import answers, evidence
 from reference.relations import ORDERS
 from tml.longest import LONGEST, Limits, longest
 from tml.process import Process
-from tml.statuses import BASE_RELATIONS, RELATIONS
+from tml.statuses import BASE_RELATIONS, DOCUMENT_LIMIT, EVIDENCE_LIMIT, RELATIONS
 
 HEAD = '<TimeML><EVENT eid="e" class="STATE"/>'
 NAMES = ("a", "b", "c", "d")
 
 
-def named(letter, size):
+def named(letter: str, size: int) -> str:
     """A name of so many letters."""
     return letter * size
 
 
-def document(names, *tags):
+def document(names: Sequence[str], *tags: str) -> bytes:
     """A document of these instances, and of some tags."""
     return (HEAD + "".join(f'<MAKEINSTANCE eiid="{name}" eventID="e"/>' for name in names) + "".join(tags) + "</TimeML>").encode()
 
 
-def link(left, relation, right):
+def link(left: str, relation: str, right: str) -> str:
     """A link between two instances."""
     return f'<TLINK eventInstanceID="{left}" relatedToEventInstance="{right}" relType="{relation}"/>'
 
 
-def filled(before, part, after, size):
+def filled(before: bytes, part: bytes, after: bytes, size: int) -> bytes:
     """As much of a part as so many bytes have room for between what stands before and after it."""
     return before + part * ((size - len(before) - len(after)) // len(part)) + after
 
 
-def same(names):
+def same(names: Sequence[str]) -> bytes:
     """Instances that are all the same, of which most relations follow."""
     return document(names, *(link(names[0], "SIMULTANEOUS", name) for name in names[1:]))
 
 
-def circle(names):
+def circle(names: Sequence[str]) -> bytes:
     """Instances each of which is before the next one, in a circle: each link has a timeline without it."""
     return document(names, *(link(name, "BEFORE", other) for name, other in zip(names, [*names[1:], names[0]], strict=True)))
 
 
-def chain(names):
+def chain(names: Sequence[str]) -> bytes:
     """Instances each of which is before the next one: no link follows from others."""
     return document(names, *(link(*pair) for pair in ((name, "BEFORE", other) for name, other in zip(names, names[1:], strict=False))))
 
 
-def times(size, value):
+def times(size: int, value: str) -> bytes:
     """Times of one value, with names of so many letters."""
-    return ("<TimeML>" + "".join(f'<TIMEX3 tid="{named(letter, size)}" type="DATE" value="{value}"/>' for letter in NAMES) + "</TimeML>").encode()
+    return (
+        "<TimeML>" + "".join(f'<TIMEX3 tid="{named(letter, size)}" type="DATE" value="{value}"/>' for letter in NAMES) + "</TimeML>"
+    ).encode()
 
 
 @unittest.skipUnless(os.access(TML, os.X_OK), f"no program {TML}")
 class Asked(CorpusTest):
     """The largest answers of small documents. Of all that may be as long as the bound there is one that is about as long."""
 
-    def ask(self, command, *files, words=()):
+    def ask(self, command: str, *files: bytes, words: Sequence[str] = ()) -> int:
+        """How long the answer to a command is."""
         return len(Process(TML).answer(command, files, words)[1])
 
-    def near(self, command, limits, size, least):
+    def near(self, command: str, limits: Limits, size: int, least: float) -> None:
         """An answer is within the bound, and the bound is not much greater."""
         self.assertLessEqual(size, longest(command, limits))
         self.assertGreaterEqual(size / LONGEST[command](limits), least, (command, size, LONGEST[command](limits)))
 
-    def test_of_documents(self):
+    def test_of_documents(self) -> None:
         for size in (1, 64):
             names = [named(letter, size) for letter in NAMES]
             rows = (
@@ -88,17 +92,18 @@ class Asked(CorpusTest):
                 with self.subTest(command=command, size=size):
                     self.near(command, Limits(len(content), 0, len(names), links, size), self.ask(command, content), least)
 
-    def test_of_two_intervals(self):
+    def test_of_two_intervals(self) -> None:
         names = [named(letter, 64) for letter in NAMES]
-        for command, content, words, least in (
+        rows: tuple[tuple[str, bytes, tuple[str, ...], float], ...] = (
             ("possible", document(names), (names[0], names[3]), 0.5),
             ("ask", document(names), (names[0], "SIMULTANEOUS", names[3]), 0.1),
             ("ask", same(names), (names[0], "SIMULTANEOUS", names[3]), 0.1),
-        ):
+        )
+        for command, content, words, least in rows:
             with self.subTest(command=command):
                 self.near(command, Limits(len(content), 0, len(names), 3, 64), self.ask(command, content, words=words), least)
 
-    def test_of_the_source(self):
+    def test_of_the_source(self) -> None:
         size = 4000
         for part in (b"<p>x", b"<p>", b"</p>x", b"<p/>x", b"<!---->", b"<!---->x", b"<?xml ?>x", b"<!DOCTYPE >x"):
             self.assertLessEqual(self.ask("spans", filled(b"", part, b"", size)), longest("spans", Limits(size)), part)
@@ -107,7 +112,7 @@ class Asked(CorpusTest):
         self.near("spans", Limits(size), self.ask("spans", filled(b"", b"<p>x", b"", size)), 0.85)
         self.near("canon", Limits(size), self.ask("canon", filled(b"<TimeML><P a='", b'"', b"'/></TimeML>", size)), 0.98)
 
-    def test_of_evidence(self):
+    def test_of_evidence(self) -> None:
         content = document([named("a", 64)])
         claims = filled(b"tml-evidence 2\nclaims 0000\n", b"entails 0 DURING 0\nwalk 0\nwalk 0\n", b"end\n", 40_000)
         claims = claims.replace(b"claims 0000", b"claims %d" % claims.count(b"entails"))
@@ -123,11 +128,11 @@ class Computed(unittest.TestCase):
 
     name = b"n" * 64
 
-    def timeline(self):
+    def timeline(self) -> bytes:
         """The lines of a timeline of as many intervals as there may be, of great ranks."""
         return answers.lines(*evidence.timeline_lines((2047,) * 2048))
 
-    def test_relations(self):
+    def test_relations(self) -> None:
         """Between simultaneous intervals all these hold."""
         held = [relation for relation in ORDERS if set(ORDERS[relation]) <= set(ORDERS[b"SIMULTANEOUS"])]
         self.assertEqual(set(RELATIONS) - set(BASE_RELATIONS), {relation.decode() for relation in held} - {"SIMULTANEOUS"})
@@ -135,11 +140,11 @@ class Computed(unittest.TestCase):
         self.assertEqual(line * len(list(combinations(range(1024), 2))), 293_314_560)
         self.within("relations", 293_314_560, 0.99)
 
-    def within(self, command, size, least):
+    def within(self, command: str, size: int, least: float) -> None:
         """A size is within the bound, and the bound is not much greater."""
         self.assertTrue(least <= size / longest(command) <= 1, (command, size, longest(command)))
 
-    def test_evidence(self):
+    def test_evidence(self) -> None:
         head = b"tml-evidence 2\nclaims 1\n"
         clash = answers.lines(b"clash 4096", *(b"cite %d" % number for number in range(4096)), b"walk 4096", *[b"via 4095 0"] * 4096)
         size = len(head) + len(clash) + 4096 * len(self.timeline()) + len(b"end\n")
@@ -148,18 +153,18 @@ class Computed(unittest.TestCase):
             self.assertGreaterEqual(longest(command), size)
         self.within("solve", size, 0.99)
 
-    def test_lines(self):
+    def test_lines(self) -> None:
         pairs = 1024 * 1023 // 2
         relations = b" ".join(relation.encode() for relation in BASE_RELATIONS)
         self.within("matrix", pairs * len(answers.lines(b"%s %s %s" % (self.name, self.name, relations))), 1)
         links = [b"tlink %d %s OVERLAPPED_BY %s" % (number, self.name, self.name) for number in range(4096)]
         intervals = [b"interval %d %s" % (number, self.name) for number in range(1024)]
         self.within("check", len(answers.lines(b"accepted", b"tlinks 4096", b"instances 1024", *intervals, *links)), 0.99)
-        self.within("canon", 6 * (4_194_304 - 100), 0.99)
-        self.within("verify", len(b"verified entails %s DURING %s\n" % (self.name, self.name)) * (67_108_864 // 33 - 1), 0.6)
+        self.within("canon", 6 * (DOCUMENT_LIMIT - 100), 0.99)
+        self.within("verify", len(b"verified entails %s DURING %s\n" % (self.name, self.name)) * (EVIDENCE_LIMIT // 33 - 1), 0.6)
 
     @unittest.skipUnless(os.environ.get("TML_SLOW") and os.access(TML, os.X_OK), "takes a minute: TML_SLOW=1 has it tried, with a program")
-    def test_the_longest_answer_is_believed(self):
+    def test_the_longest_answer_is_believed(self) -> None:
         names = [f"{'n' * 60}{number:04}" for number in range(1024)]
         self.assertEqual(len(Process(TML).answer("relations", [same(names)])[1]), 293_314_560)
 

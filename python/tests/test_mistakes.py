@@ -1,36 +1,30 @@
 """The tables of slips in docs/FAULTS.md and mistakes.md: of each the first line that is printed, and that nothing else is reported."""
 
-import os
 import re
 import unittest
-from pathlib import Path
 
-from corpus import TOP, CorpusTest
+from corpus import CorpusTest, match_in, text_at
 
 CODE = r"(?:`(?:` (.*?) `)?([^`]*?)`|\(nothing\))"
-ROW = re.compile(rf"\| {CODE} \| {CODE} \| {CODE} \|")
+ROW = rf"\| {CODE} \| {CODE} \| {CODE} \|"
 
 
-def rows():
+def rows() -> list[tuple[str, str, str]]:
     """The rows: what was replaced, by what, and the line."""
-    page = Path(TOP, "docs", "FAULTS.md").read_text(encoding="utf-8").split("\n## Slips, and the line that is printed\n")[1].split("\n## ")[0]
-    further = Path(TOP, "python", "tests", "mistakes.md").read_text(encoding="utf-8")
-    tables = [[line for line in text.splitlines() if line.startswith("| ")][1:] for text in (page, further)]
-    lines = [line for table in tables for line in table]
-    found = [ROW.fullmatch(line) for line in lines]
-    assert None not in found, lines[found.index(None)]
-    return [tuple(one[2 * number - 1] or one[2 * number] or "" for number in (1, 2, 3)) for one in found]
+    page = text_at("docs/FAULTS.md").split("\n## Slips, and the line that is printed\n")[1].split("\n## ")[0]
+    tables = [[line for line in text.splitlines() if line.startswith("| ")][1:] for text in (page, text_at("python/tests/mistakes.md"))]
+    found = [match_in(f"^{ROW}$", line) for table in tables for line in table]
+    return [(one[1] or one[2] or "", one[3] or one[4] or "", one[5] or one[6] or "") for one in found]
 
 
-def raw(text):
+def raw(text: str) -> bytes:
     """The bytes that a text of the table stands for."""
     return re.sub(rb"\\x([0-9a-f]{2})", lambda found: bytes([int(found[1], 16)]), text.encode().replace(b"\\n", b"\n"))
 
 
 class Slips(CorpusTest):
-    def test_first_lines(self):
-        with open(os.path.join(TOP, "samples", "rates.xml"), "rb") as file:
-            right = file.read()
+    def test_first_lines(self) -> None:
+        right = text_at("samples/rates.xml").encode()
         table = rows()
         self.assertGreater(len(table), 30)
         for number, (meant, slip, _) in enumerate(table):
@@ -44,7 +38,7 @@ class Slips(CorpusTest):
             with self.subTest(slip):
                 self.assertEqual(report, f"./{number:02}.xml:{line}")
 
-    def test_every_kind_is_there(self):
+    def test_every_kind_is_there(self) -> None:
         from tml_corpus.lint.warnings import KINDS
 
         lines = [line for _, _, line in rows()]

@@ -5,12 +5,12 @@ import os
 import random
 import re
 import signal
-import stat
 import time
 import unittest
 from unittest import mock
 
-from corpus import TML, TOP, CorpusTest, document, needs_matrix
+from corpus import TML, CorpusTest, document, match_in, needs_matrix, text_at
+from processes import until
 from reference.nets import Link, Net
 from reference.possible import possible_by_closure
 from reference.timelines import least_raised, orders_that_fit
@@ -24,16 +24,16 @@ from tml_corpus.asking.program import Program
 from tml_corpus.matrix.settling import Settling
 from tml_corpus.matrix.show_open import Bounds, show_open
 
-PAIR = re.compile(r"^(\d+)(?: to (\d+))?: (.*), (.*): ((?:[A-Z_]+ \d+(?:, )?)+)$")
+PAIR = r"^(\d+)(?: to (\d+))?: (.*), (.*): ((?:[A-Z_]+ \d+(?:, )?)+)$"
 
 
-def decided_in(net):
+def decided_in(net: Net) -> int:
     """How many pairs of a net are decided."""
     return sum(len(relations) == 1 for _, _, relations in possible_by_closure(net))
 
 
 class Counts(unittest.TestCase):
-    def test_counts_are_those_of_nets_with_one_more_link(self):
+    def test_counts_are_those_of_nets_with_one_more_link(self) -> None:
         counted = 0
         for number in range(120):
             net = random_net(random.Random(f"open {number}"), random.Random(number).randint(2, 6))
@@ -50,7 +50,7 @@ class Counts(unittest.TestCase):
                     counted += count > 1
         self.assertGreater(counted, 100)
 
-    def test_pairs_that_are_near_come_first(self):
+    def test_pairs_that_are_near_come_first(self) -> None:
         lines = [b"a b AFTER\n", b"a c BEFORE AFTER\n", b"a d BEFORE AFTER\n", b"b c BEFORE AFTER\n", b"b d BEFORE AFTER\n", b"c d AFTER\n"]
         self.assertEqual(Settling(read_matrix(lines, list("abcd"))).open_pairs(), [(1, 2), (0, 2), (1, 3), (0, 3)])
 
@@ -59,73 +59,67 @@ class Counts(unittest.TestCase):
 class OpenTest(CorpusTest):
     CONTENT = document("".join(event(number) for number in range(4)) + link(0, "BEFORE", 1) + link(2, "DURING", 3))
 
-    def printed(self, content, *words):
+    def printed(self, content: str, *words: str) -> tuple[list[tuple[str, ...]], str]:
         """The pairs and the last line of what is printed."""
         self.write("d.xml", content)
         status, lines, error = self.run_it("open", "d.xml", *words)
         self.assertEqual((status, error), (0, ""), lines)
-        return [PAIR.match(line).groups() for line in lines[:-1]], lines[-1]
-
-    def fake(self, body):
-        """A program in the place of `tml`."""
-        self.write("fake", f'#!/bin/sh\n{body}\nexec {TML} "$@"\n')
-        os.chmod(self.path("fake"), stat.S_IRWXU)
-        return self.path("fake")
+        return [match_in(PAIR, line).groups("") for line in lines[:-1]], lines[-1]
 
 
 class Printed(OpenTest):
-    def test_a_small_document(self):
+    def test_a_small_document(self) -> None:
         pairs, last = self.printed(self.CONTENT)
         self.assertEqual(last, "d.xml: 4 intervals, 6 pairs: 1 decided, 5 open, 5 of these looked at, 5 shown")
         least = [int(found[0]) for found in pairs]
         self.assertEqual(least, sorted(least, reverse=True))
         self.assertEqual(len({found[2:4] for found in pairs}), 5)
         during = next(found for found in pairs if found[2:4] == ("x (i2)", "x (i3)"))
-        self.assertEqual(during[:2] + during[4:], ("1", None, "IS_INCLUDED 1, SIMULTANEOUS 1, BEGINS 1, ENDS 1"))
+        self.assertEqual(during[:2] + during[4:], ("1", "", "IS_INCLUDED 1, SIMULTANEOUS 1, BEGINS 1, ENDS 1"))
 
-    def test_the_least_number_is_that_of_the_relations(self):
+    def test_the_least_number_is_that_of_the_relations(self) -> None:
         for found in self.printed(self.CONTENT)[0]:
             numbers = [int(number) for number in re.findall(r" (\d+)", found[4])]
             self.assertEqual((int(found[0]), int(found[1] or found[0])), (min(numbers), max(numbers)))
 
-    def test_bounds(self):
+    def test_bounds(self) -> None:
         pairs, last = self.printed(self.CONTENT, "--limit", "2", "--pairs", "3", "--jobs", "1")
         self.assertEqual((len(pairs), last), (2, "d.xml: 4 intervals, 6 pairs: 1 decided, 5 open, 3 of these looked at, 2 shown"))
         self.assertEqual({found[2:4] for found in self.printed(self.CONTENT, "--pairs", "1")[0]}, {("x (i1)", "x (i2)")})
         pairs, last = self.printed(self.CONTENT, "--limit", "0", "--pairs", "0")
         self.assertEqual((pairs, last.split(" decided, ")[1]), ([], "5 open, 5 of these looked at, 0 shown"))
 
-    def test_times_and_events(self):
+    def test_times_and_events(self) -> None:
         days = "".join(f'<TIMEX3 tid="t{day}" type="DATE" value="1998-01-XX">day</TIMEX3>' for day in (1, 2))
         pairs, _ = self.printed(document(days + event(1)), "--limit", "3")
         self.assertEqual({found[2:4] for found in pairs}, {("day (t1)", "day (t2)"), ("day (t1)", "x (i1)"), ("day (t2)", "x (i1)")})
 
-    def test_what_is_asked_about_links_is_counted_and_makes_no_matrix(self):
+    def test_what_is_asked_about_links_is_counted_and_makes_no_matrix(self) -> None:
         self.write("d.xml", self.CONTENT)
-        read, asked = [], []
         with (
-            mock.patch("tml_corpus.matrix.reading.read_matrix", lambda *given: read.append(1) or read_matrix(*given)),
-            mock.patch("tml_corpus.asking.program.run", lambda words, *given, **more: asked.append(words[1]) or run(words, *given, **more)),
+            mock.patch("tml_corpus.matrix.reading.read_matrix", wraps=read_matrix) as read,
+            mock.patch("tml_corpus.asking.program.run", wraps=run) as asked,
             mock.patch("sys.stdout", io.StringIO()) as out,
         ):
             show_open(Program(TML), self.path("d.xml"), Bounds(0, 2), False, lambda work, items, **_: map(work, items), Interruption())
-        relations = sum(len(PAIR.match(line)[5].split(", ")) for line in out.getvalue().splitlines()[:-1])
-        self.assertEqual((len(read), asked.count("matrix")), (1, 1 + relations))
+        relations = sum(len(match_in(PAIR, line)[5].split(", ")) for line in out.getvalue().splitlines()[:-1])
+        commands = [call.args[0][1] for call in asked.call_args_list]
+        self.assertEqual((read.call_count, commands.count("matrix")), (1, 1 + relations))
 
-    def test_nothing_is_open(self):
+    def test_nothing_is_open(self) -> None:
         for content in (document(""), document(event(1)), document(event(1) + event(2) + link(1, "AFTER", 2))):
             self.assertRegex(self.printed(content)[1], r", 0 open, 0 of these looked at, 0 shown$")
 
-    def test_the_sample(self):
-        with open(os.path.join(TOP, "samples", "port.xml"), encoding="utf-8") as file:
-            lines = "".join(line.replace("DURING", "AFTER") if 'lid="l6"' in line else line for line in file)
-        pairs, last = self.printed(lines, "--limit", "20")
+    def test_the_sample(self) -> None:
+        lines = text_at("samples/port.xml").splitlines(keepends=True)
+        mended = "".join(line.replace("DURING", "AFTER") if 'lid="l6"' in line else line for line in lines)
+        pairs, last = self.printed(mended, "--limit", "20")
         self.assertEqual((len(pairs), last), (16, "d.xml: 13 intervals, 78 pairs: 62 decided, 16 open, 16 of these looked at, 16 shown"))
         self.assertEqual(pairs[0][:4], ("2", "6", "closed (ei4)", "called (ei7)"))
 
 
 class Refused(OpenTest):
-    def test_clashes_and_faults(self):
+    def test_clashes_and_faults(self) -> None:
         clash = document(event(1) + event(2) + link(1, "BEFORE", 2) + link(1, "AFTER", 2))
         clashing = "d.xml: not looked at: no timeline fits, since these links clash"
         for content, said in ((clash, clashing), (document("<EVENT/>"), "MissingAttribute")):
@@ -135,7 +129,7 @@ class Refused(OpenTest):
             self.assertIn(said, "\n".join(lines))
         self.assertEqual(self.run_it("open", "gone.xml")[:2], (2, ["gone.xml: not judged: no such file or directory"]))
 
-    def test_a_folder(self):
+    def test_a_folder(self) -> None:
         self.write("c/a.xml", self.CONTENT)
         self.write("c/b.xml", document("<EVENT/>"))
         self.write("c/e/a.xml", self.CONTENT)
@@ -150,7 +144,7 @@ class Refused(OpenTest):
         os.makedirs(self.path("f"))
         self.assertEqual(self.run_it("open", "f")[:2], (2, ["f: not judged: no file in this folder matches *.tml or *.xml"]))
 
-    def test_answers_that_do_not_agree(self):
+    def test_answers_that_do_not_agree(self) -> None:
         self.write("d.xml", self.CONTENT)
         rows = [
             ("sed 's/^i2 i3 BEGINS$/i2 i3 ENDS/'", "two answers of tml to `matrix` do not belong together"),
@@ -158,23 +152,20 @@ class Refused(OpenTest):
         ]
         for change, said in rows:
             with self.subTest(change):
-                fake = self.fake(f'if [ $1 = matrix ]; then {TML} "$@" | {change}; exit 0; fi')
+                fake = self.fake(f'if [ $1 = matrix ]; then {TML} "$@" | {change}; exit 0; fi\nexec {TML} "$@"')
                 status, [line], _ = self.run_it("open", "d.xml", tml=fake)
                 self.assertEqual(status, 2)
                 self.assertRegex(line, f"^d\\.xml: not judged: {said}")
 
-    def test_as_many_links_as_there_may_be(self):
+    def test_as_many_links_as_there_may_be(self) -> None:
         self.write("d.xml", document(event(1) + event(2) + event(3) + 4096 * link(1, "DURING", 2)))
         self.assertEqual(self.run_it("open", "d.xml")[:2], (2, ["d.xml: not judged: the document has 4,096 links, and may have no more"]))
 
-    def test_an_interruption(self):
+    def test_an_interruption(self) -> None:
         self.write("d.xml", document("".join(event(number) for number in range(60))))
-        fake = self.fake('[ $1 = matrix ] && [ -e asked ] && sleep 1; [ $1 = matrix ] && touch asked')
+        fake = self.fake(f'[ $1 = matrix ] && [ -e asked ] && sleep 1; [ $1 = matrix ] && touch asked\nexec {TML} "$@"')
         child = self.start("open", "d.xml", "--jobs", "1", tml=fake)
-        for _ in range(200):
-            if os.path.exists(self.path("asked")):
-                break
-            time.sleep(0.05)
+        until(lambda: os.path.exists(self.path("asked")), 30)
         time.sleep(0.5)
         child.send_signal(signal.SIGINT)
         out, err = child.communicate(timeout=60)

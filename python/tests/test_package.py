@@ -11,7 +11,7 @@ import tempfile
 import unittest
 from pathlib import Path
 
-from corpus import SOURCES, TML, TOOLS, TOP
+from corpus import SOURCES, TML, TOOLS, TOP, match_in, text_at
 
 TML_VERIFY = os.path.abspath(os.environ.get("TML_VERIFY") or os.path.join(TOP, "crates", "tml_verify", "out", "tml_verify"))
 DOCS = "usr/share/doc/tml-timeml"
@@ -26,12 +26,14 @@ SCRIPTS = {
 }
 
 
-def files_in(folder, end=""):
+def files_in(folder: str, end: str = "") -> list[str]:
     """The names of the files of a folder of the repository."""
-    return [name for name in os.listdir(os.path.join(TOP, folder)) if name.endswith(end) and os.path.isfile(os.path.join(TOP, folder, name))]
+    return [
+        name for name in os.listdir(os.path.join(TOP, folder)) if name.endswith(end) and os.path.isfile(os.path.join(TOP, folder, name))
+    ]
 
 
-def expected_names():
+def expected_names() -> set[str]:
     """What is to be in the package; the mode and the target of each are in other tests."""
     names = {"usr/bin/tml", "usr/bin/tml-verify", "usr/share/lintian/overrides/tml-timeml"}
     names |= {f"usr/bin/{called}" for called in SCRIPTS} | {f"{SHARE}/tools/{name}" for name in SCRIPTS.values()}
@@ -48,8 +50,12 @@ def expected_names():
 @unittest.skipUnless(os.access(TML_VERIFY, os.X_OK), f"no program {TML_VERIFY}: `rt ci` makes it, or name one by TML_VERIFY=PROGRAM")
 @unittest.skipUnless(shutil.which("dpkg-deb"), "no program dpkg-deb")
 class Package(unittest.TestCase):
+    folder: str
+    root: str
+    made: str
+
     @classmethod
-    def setUpClass(cls):
+    def setUpClass(cls) -> None:
         held = tempfile.TemporaryDirectory()
         cls.addClassCleanup(held.cleanup)
         cls.folder = held.name
@@ -61,7 +67,7 @@ class Package(unittest.TestCase):
         subprocess.run(["dpkg-deb", "-x", cls.made, cls.root], check=True)
 
     @staticmethod
-    def package(*words, umask=-1):
+    def package(*words: str, umask: int = -1) -> subprocess.CompletedProcess[str]:
         """Runs `tools/package`, with a time and a maintainer, so that git is not asked."""
         return subprocess.run(
             [sys.executable, os.path.join(TOOLS, "package"), "--maintainer", "A Name <a@example.org>", "--checker", TML_VERIFY, *words],
@@ -73,7 +79,7 @@ class Package(unittest.TestCase):
             umask=umask,
         )
 
-    def unpacked(self, *words, given=b""):
+    def unpacked(self, *words: str, given: bytes = b"") -> tuple[int, str]:
         """The status and the text of an unpacked program; PATH has nothing but the programs of the package."""
         program, *rest = words
         path = os.path.join(self.root, "usr/bin")
@@ -89,13 +95,12 @@ class Package(unittest.TestCase):
         )
         return done.returncode, done.stdout.decode()
 
-    def content(self, name):
-        with open(os.path.join(self.root, name), "rb") as file:
-            return file.read()
+    def content(self, name: str) -> bytes:
+        return Path(self.root, name).read_bytes()
 
-    def test_names_owners_and_modes(self):
+    def test_names_owners_and_modes(self) -> None:
         listed = subprocess.run(["dpkg-deb", "-c", self.made], check=True, capture_output=True, text=True, env={**os.environ, "TZ": "UTC"})
-        rows = [re.fullmatch(r"(\S+) (\S+) +\d+ (\S+ \S+) \./(.*?)(?: -> (.*))?", line).groups() for line in listed.stdout.splitlines()]
+        rows = [match_in(r"^(\S+) (\S+) +\d+ (\S+ \S+) \./(.*?)(?: -> (.*))?$", line).groups() for line in listed.stdout.splitlines()]
         self.assertEqual({name for mode, _, _, name, _ in rows if mode[0] != "d"}, expected_names())
         self.assertEqual({(owner, time) for _, owner, time, _, _ in rows}, {("root/root", "2026-11-28 00:00")})
         programs = {"usr/bin/tml", "usr/bin/tml-verify", *(f"{SHARE}/tools/{name}" for name in SCRIPTS.values())}
@@ -105,49 +110,52 @@ class Package(unittest.TestCase):
                 self.assertEqual(mode, kinds.get(mode[0], "-rwxr-xr-x" if name in programs else "-rw-r--r--"))
                 self.assertTrue(target is None or os.path.exists(os.path.join(self.root, name)), f"{name} leads nowhere")
 
-    def test_fields(self):
-        with open(os.path.join(TOP, "CHANGELOG.md"), encoding="utf-8") as file:
-            version = re.search(r"^## (\S+), ", file.read(), re.MULTILINE)[1]
+    def test_fields(self) -> None:
+        version = match_in(r"^## (\S+), ", text_at("CHANGELOG.md"), re.MULTILINE)[1]
         printed = subprocess.run(["dpkg-deb", "-f", self.made], check=True, capture_output=True, text=True).stdout
         fields = dict(re.findall(r"^(\S+): (.*)$", printed, re.MULTILINE))
-        wanted = {"Package": "tml-timeml", "Version": version, "Architecture": "amd64", "Conflicts": "tml", "Maintainer": "A Name <a@example.org>"}
+        wanted = {
+            "Package": "tml-timeml", "Version": version, "Architecture": "amd64", "Conflicts": "tml", "Maintainer": "A Name <a@example.org>"
+        }
         self.assertEqual({name: fields.get(name) for name in wanted}, wanted)
         self.assertRegex(fields["Depends"], r"^libc6 \(>= 2\.\d+\), python3 \(>= 3\.11\)$")
         self.assertEqual(fields["Recommends"], f"libtml (= {version})")
         self.assertEqual(os.path.basename(self.made), f"tml-timeml_{version}_amd64.deb")
 
-    def test_contents(self):
+    def test_contents(self) -> None:
         for name, program in (("tml", TML), ("tml-verify", TML_VERIFY)):
-            with open(program, "rb") as file:
-                self.assertEqual(self.content(f"usr/bin/{name}"), file.read())
+            self.assertEqual(self.content(f"usr/bin/{name}"), Path(program).read_bytes())
         for name in files_in("docs", ".1"):
-            with open(os.path.join(TOP, "docs", name), "rb") as file:
-                self.assertEqual(gzip.decompress(self.content(f"usr/share/man/man1/{name}.gz")), file.read())
+            page = Path(TOP, "docs", name).read_bytes()
+            self.assertEqual(gzip.decompress(self.content(f"usr/share/man/man1/{name}.gz")), page)
         for name in SCRIPTS.values():
             self.assertTrue(self.content(f"{SHARE}/tools/{name}").startswith(b"#!/usr/bin/python3\n"), name)
         changes = gzip.decompress(self.content(f"{DOCS}/changelog.gz")).decode()
-        self.assertRegex(changes, r"^tml-timeml \(\d+\.\d+\.\d+\) unstable; urgency=medium\n\n  \* .*\n\n -- A Name <a@example.org>  \w{3}, \d\d ")
+        self.assertRegex(
+            changes, r"^tml-timeml \(\d+\.\d+\.\d+\) unstable; urgency=medium\n\n  \* .*\n\n -- A Name <a@example.org>  \w{3}, \d\d "
+        )
 
-    def test_sums(self):
+    def test_sums(self) -> None:
         printed = subprocess.run(["dpkg-deb", "-I", self.made, "md5sums"], check=True, capture_output=True, text=True).stdout
         sums = {name: digest for digest, name in map(str.split, printed.splitlines())}
         files = {name for name in expected_names() if not os.path.islink(os.path.join(self.root, name))}
         self.assertEqual(sums, {name: hashlib.md5(self.content(name)).hexdigest() for name in files})
 
-    def test_what_is_taken_away(self):
+    def test_what_is_taken_away(self) -> None:
         printed = subprocess.run(["dpkg-deb", "-I", self.made, "prerm"], check=True, capture_output=True, text=True).stdout
         self.assertIn(f"\nfind /{SHARE}/python -type d -name __pycache__ -prune -exec rm -rf {{}} +\n", printed)
 
-    def test_the_same_again(self):
+    def test_the_same_again(self) -> None:
         again = os.path.join(self.folder, "made", "again")
         done = self.package(TML, "--output", again, umask=0o077)
         self.assertEqual((done.returncode, done.stderr), (0, ""))
-        with open(self.made, "rb") as one, open(done.stdout.rstrip("\n"), "rb") as other:
-            self.assertEqual(one.read(), other.read())
+        self.assertEqual(Path(done.stdout.rstrip("\n")).read_bytes(), Path(self.made).read_bytes())
 
-    def test_what_is_unpacked_runs(self):
+    def test_what_is_unpacked_runs(self) -> None:
         self.assertEqual(self.unpacked("tml", "drill", "3")[1].splitlines()[-1], "verified timeline")
-        self.assertEqual(self.unpacked("tml-corpus", "check", "samples/rates.xml"), (0, "1 file: 1 accepted, 0 with a fault, 0 not judged\n"))
+        self.assertEqual(
+            self.unpacked("tml-corpus", "check", "samples/rates.xml"), (0, "1 file: 1 accepted, 0 with a fault, 0 not judged\n")
+        )
         self.assertEqual(self.unpacked("tml-redundant-links", "samples/rates.xml")[0], 0)
         self.assertEqual(self.unpacked("tml-edit", "--unwrap", "SIGNAL", "samples/event.xml")[0], 0)
         self.assertEqual(self.unpacked("tml-html-entities", given=b"&eacute;"), (0, "é"))
@@ -156,14 +164,14 @@ class Package(unittest.TestCase):
                 status, out = self.unpacked(name, "--help")
                 self.assertEqual((status, out.split()[:2]), (0, ["usage:", name]))
 
-    def test_python_finds_the_package_tml(self):
+    def test_python_finds_the_package_tml(self) -> None:
         words = [sys.executable, "-c", "import tml.library, tml.process; print(tml.__file__)"]
         variables = {"PYTHONPATH": os.path.join(self.root, IMPORTED), "PYTHONDONTWRITEBYTECODE": "1"}
         done = subprocess.run(words, cwd=self.folder, env=variables, capture_output=True, text=True, check=False, timeout=120)
         self.assertEqual((done.stdout, done.stderr), (os.path.join(self.root, IMPORTED, "tml/__init__.py\n"), ""))
         self.assertEqual(os.readlink(os.path.join(self.root, IMPORTED, "tml")), f"../../../share/{os.path.basename(SHARE)}/python/src/tml")
 
-    def test_what_is_refused(self):
+    def test_what_is_refused(self) -> None:
         other = "/bin/true" if os.path.exists("/bin/true") else "/usr/bin/true"
         rows = [
             ("/no/such/tml", "no program /no/such/tml: build it as README.md says"),
@@ -179,7 +187,7 @@ class Package(unittest.TestCase):
                 self.assertIn(said, done.stderr)
                 self.assertEqual(done.stderr.count("\n"), 1)
 
-    def test_help_has_an_example(self):
+    def test_help_has_an_example(self) -> None:
         done = self.package("--help")
         self.assertEqual(done.returncode, 0)
         self.assertIn("Example", done.stdout)

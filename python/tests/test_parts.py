@@ -10,61 +10,69 @@ import sys
 import tempfile
 import unittest
 from pathlib import Path
+from typing import Any
 from unittest import mock
 
-from corpus import SOURCES, TOOLS, TOP
+from corpus import SOURCES, TOOLS, TOP, match_in, needed, text_at
 from tml import places, running
 from tml import statuses as tml_statuses
 from tml.places import Places, caret_lines
 from tml.replies import refusal
+from tml.tags import profile
+from tml.tags.units import Units, end_of, read_units, unit_at
 from tml_corpus.asking.program import CannotRun, Reply
 from tml_corpus.command_line import statuses
 from tml_corpus.convert.tables import BadTable, rows
-from tml_corpus.document import profile
 from tml_corpus.document.texts import texts_of
-from tml_corpus.document.units import end_of, read_units, unit_at
 from tml_corpus.files.finding import shown
 
 TOKEN = re.compile(rb"(<!--.*?-->)|</(\w+)>|<(\w+)(/?)>|([^<]+)", re.DOTALL)
 
 
-def units_of(document):
+def units_of(document: bytes) -> Units:
     """The units of a document without attributes, as `tml spans` prints them."""
     lines = []
     for found in TOKEN.finditer(document):
-        kind = (b"empty " if found[4] else b"start ") + found[3] if found[3] else b"end " + found[2] if found[2] else b"text" if found[5] else b"comment"
+        if found[3]:
+            kind = (b"empty " if found[4] else b"start ") + found[3]
+        elif found[2]:
+            kind = b"end " + found[2]
+        else:
+            kind = b"text" if found[5] else b"comment"
         lines.append(b"%d %d %s\n" % (found.start(), found.end(), kind))
     return read_units(Reply(0, b"".join(lines), "spans", len(document)))
 
 
 class Numbers(unittest.TestCase):
-    def page(self, name):
-        with open(os.path.join(TOP, "docs", name), encoding="utf-8") as file:
-            return file.read()
-
-    def test_are_those_of_the_commands_and_definitions(self):
-        definitions = self.page("DEFINITIONS.md")
-        table = re.findall(r"^\| ([A-Z]\w+) \| (\d+) \| ", self.page("COMMANDS.md"), re.MULTILINE)
-        self.assertEqual([(name.replace("_", "").lower(), number) for name, number in tml_statuses.TmlStatus.__members__.items()], [(a.lower(), int(b)) for a, b in table])
-        names = re.findall(r"\b(\d+) ([A-Z]\w+)", re.search(r"\| phase \| faults \|\n(.*?)\n\n", definitions, re.DOTALL)[1])
+    def test_are_those_of_the_commands_and_definitions(self) -> None:
+        definitions = text_at("docs/DEFINITIONS.md")
+        table = re.findall(r"^\| ([A-Z]\w+) \| (\d+) \| ", text_at("docs/COMMANDS.md"), re.MULTILINE)
+        self.assertEqual(
+            [(name.replace("_", "").lower(), number) for name, number in tml_statuses.TmlStatus.__members__.items()],
+            [(a.lower(), int(b)) for a, b in table],
+        )
+        names = re.findall(r"\b(\d+) ([A-Z]\w+)", match_in(r"\| phase \| faults \|\n(.*?)\n\n", definitions, re.DOTALL)[1])
         self.assertEqual([name for _, name in sorted(names, key=lambda one: int(one[0]))], list(tml_statuses.FAULT_NAMES))
 
-    def test_are_those_of_the_manual_pages(self):
-        limits = re.search(r"^\.Sh LIMITS\n(.*?)^\.Sh ", self.page("tml.1"), re.MULTILINE | re.DOTALL)[1]
+    def test_are_those_of_the_manual_pages(self) -> None:
+        limits = match_in(r"^\.Sh LIMITS\n(.*?)^\.Sh ", text_at("docs/tml.1"), re.MULTILINE | re.DOTALL)[1]
         for limit in (tml_statuses.DOCUMENT_LIMIT, tml_statuses.EVIDENCE_LIMIT, tml_statuses.INTERVAL_LIMIT, tml_statuses.LINK_LIMIT):
             self.assertRegex(limits, rf"\b{limit:,}\b")
-        printed = re.findall(r"^\.It (\d+)$", self.page("tml-corpus.1"), re.MULTILINE)
+        printed = re.findall(r"^\.It (\d+)$", text_at("docs/tml-corpus.1"), re.MULTILINE)
         self.assertEqual([int(number) for number in printed], list(statuses.Status))
-        self.assertEqual(set(re.findall(r"^\.Ql ([A-Z_]{4,})", self.page("tml.1"), re.MULTILINE)) & set(tml_statuses.RELATIONS), set(tml_statuses.RELATIONS))
+        self.assertEqual(
+            set(re.findall(r"^\.Ql ([A-Z_]{4,})", text_at("docs/tml.1"), re.MULTILINE)) & set(tml_statuses.RELATIONS),
+            set(tml_statuses.RELATIONS),
+        )
 
-    def test_relations_are_those_of_the_profile(self):
+    def test_relations_are_those_of_the_profile(self) -> None:
         self.assertEqual(tml_statuses.RELATIONS, profile.RELATION.values)
 
 
 class PlacesOfBlocks(unittest.TestCase):
     PIECES = (b"\n", b"\r\n", b"\r", b"a", "é".encode(), "日".encode(), "𝄞".encode(), b"\xff", b"\x80", b"\xe2\x82", b" ", b"\xef\xbb\xbf")
 
-    def test_are_those_that_counting_finds(self):
+    def test_are_those_that_counting_finds(self) -> None:
         draw = random.Random(1)
         with mock.patch.object(places, "BLOCK", 7):
             for _ in range(300):
@@ -80,29 +88,37 @@ class PlacesOfBlocks(unittest.TestCase):
                     self.assertEqual(found.line_text(place.line), line, (document, number))
                     self.assertEqual(caret_lines(*found.excerpt(place)), caret_lines(line, place.column), (document, number))
 
-    def test_an_excerpt_of_a_long_line(self):
+    def test_an_excerpt_of_a_long_line(self) -> None:
         document = "é".encode() * 100_000 + b"<" + b"x" * 100_000
         text, column = Places(document).excerpt(Places(document).place(200_000))
         self.assertEqual((text[column - 1], len(text) < 2000), ("<", True))
 
-    def test_no_line_of_the_source_is_a_command(self):
+    def test_no_line_of_the_source_is_a_command(self) -> None:
         for text in ("::error::x", "  ::error::x", "##[error]", "a ##vso[x]"):
             self.assertNotRegex(caret_lines(text, 1)[0], r"^\s*::|##(\[|vso)")
 
 
 class UnitsOfTables(unittest.TestCase):
-    def test_tables_that_are_refused(self):
+    def test_tables_that_are_refused(self) -> None:
         good = "0 8 start TimeML\n8 9 text\n9 30 empty P\n12 17 attribute a\n18 23 attribute b\n30 39 end TimeML\n"
         units = read_units(Reply(0, good.encode(), "spans", 39))
         self.assertEqual([(unit.kind, unit.name, [one.name for one in unit.attributes]) for unit in units][2], ("empty", "P", ["a", "b"]))
-        self.assertEqual((unit_at(units, 9).end, unit_at(units, 10), len(units), units[-1].name), (30, None, 4, "TimeML"))
+        self.assertEqual((needed(unit_at(units, 9)).end, unit_at(units, 10), len(units), units[-1].name), (30, None, 4, "TimeML"))
         self.assertEqual(units.counts(), {"TimeML": (1, 0), "P": (1, 9)})
-        changes = [("8 9 text\n", ""), ("0 8 ", "1 8 "), ("30 39", "30 40"), ("text", "texts"), ("9 30 empty P", "9 30"), ("8 9", "8 x"), ("30 39", "-1 39")]
+        changes = [
+            ("8 9 text\n", ""),
+            ("0 8 ", "1 8 "),
+            ("30 39", "30 40"),
+            ("text", "texts"),
+            ("9 30 empty P", "9 30"),
+            ("8 9", "8 x"),
+            ("30 39", "-1 39"),
+        ]
         for old, new in changes:
             with self.subTest(old=old, new=new), self.assertRaises(CannotRun):
                 read_units(Reply(0, good.replace(old, new, 1).encode(), "spans", 39))
 
-    def test_end_tags_and_texts_are_those_that_looking_finds(self):
+    def test_end_tags_and_texts_are_those_that_looking_finds(self) -> None:
         draw = random.Random(2)
         for _ in range(300):
             document = ("<R>" + self.some(draw, 0) + self.some(draw, 0) + "</R>").encode()
@@ -110,20 +126,26 @@ class UnitsOfTables(unittest.TestCase):
             tags = [unit for unit in units if unit.name == "E" and unit.opens() and draw.random() < 0.8]
             texts, ends = texts_of(units, document, {tag.start for tag in tags}), units.end_tags()
             for tag in tags:
-                end = end_of(units, tag) if tag.kind == "start" else tag
+                end = needed(end_of(units, tag)) if tag.kind == "start" else tag
                 self.assertEqual(units[ends[tag.start]] if tag.kind == "start" else tag, end)
-                inner = b"".join(document[unit.start : unit.end] for unit in units if unit.kind == "text" and tag.start < unit.start < end.start)
+                inner = b"".join(
+                    document[unit.start : unit.end] for unit in units if unit.kind == "text" and tag.start < unit.start < end.start
+                )
                 text = " ".join(html.unescape(inner.decode()).split())
                 self.assertEqual(texts[tag.start], text if len(text) <= 80 else text[:77] + "...", document)
 
-    def some(self, draw, depth):
+    def some(self, draw: random.Random, depth: int) -> str:
         """A piece of a document."""
         parts = []
         for _ in range(draw.randint(0, 4)):
             kind = draw.choice("tttte<") if depth < 5 else "t"
             inner = self.some(draw, depth + 1) if kind == "<" else ""
             name = draw.choice("EP")
-            words = {"t": draw.choice(["x", " ", "word ", " a b ", "&#32;", "&amp;", "long" * 30, "\n", "é日", "<!-- c -->"]), "e": "<E/>", "<": f"<{name}>{inner}</{name}>"}
+            words = {
+                "t": draw.choice(["x", " ", "word ", " a b ", "&#32;", "&amp;", "long" * 30, "\n", "é日", "<!-- c -->"]),
+                "e": "<E/>",
+                "<": f"<{name}>{inner}</{name}>",
+            }
             parts.append(words[kind])
         return "".join(parts)
 
@@ -132,7 +154,7 @@ ACCEPTED = "accepted\nevents 0\ninstances 0\ntimex 1\nsignals 0\ntlinks 1\nalink
 
 
 class Replies(unittest.TestCase):
-    def rows_of_replies(self):
+    def rows_of_replies(self) -> list[tuple[list[str], int, str, bool]]:
         """Words, a status and a text, and whether these are believed."""
         return [
             (["check", "-"], 0, ACCEPTED, True),
@@ -234,12 +256,12 @@ class Replies(unittest.TestCase):
             (["check", "-"], 77, "", False),
         ]
 
-    def test_what_is_believed(self):
+    def test_what_is_believed(self) -> None:
         for words, status, text, believed in self.rows_of_replies():
             with self.subTest(words=words, status=status, text=text):
                 self.assertEqual(refusal(words, status, text.encode(), 9) is None, believed)
 
-    def test_no_number_that_cannot_be_read_is_believed(self):
+    def test_no_number_that_cannot_be_read_is_believed(self) -> None:
         for words, status, text, _ in self.rows_of_replies():
             # Of the lines of renewed evidence no number is read.
             for number in re.finditer(r"(?<=[ -])\d+" if words[0] not in ("renew", "join") else "(?!)", text):
@@ -248,13 +270,23 @@ class Replies(unittest.TestCase):
                         lie = text[: number.start()] + "9" * digits + text[number.end() :]
                         self.assertIsNotNone(refusal(words, status, lie.encode(), 9))
 
-    def test_the_refusal_names_the_command(self):
+    def test_the_refusal_names_the_command(self) -> None:
         self.assertEqual(refusal(["solve", "-"], 5, b"", 0), "tml answered status 5, which `solve` should not")
 
 
 class Names(unittest.TestCase):
-    def test_are_shown_so_that_a_line_stays_a_line(self):
-        rows_of_names = [("é b", "é b"), ("a\nb", "a\\x0ab"), ("\udce9", "\\xe9"), ("\u2028", "\\u2028"), ("::error::", "\\x3a:error::"), (" :", " \\x3a"), ("a::b", "a::b"), ("a##[x]##vso", "a\\x23#[x]\\x23#vso"), ("##a", "##a")]
+    def test_are_shown_so_that_a_line_stays_a_line(self) -> None:
+        rows_of_names = [
+            ("é b", "é b"),
+            ("a\nb", "a\\x0ab"),
+            ("\udce9", "\\xe9"),
+            ("\u2028", "\\u2028"),
+            ("::error::", "\\x3a:error::"),
+            (" :", " \\x3a"),
+            ("a::b", "a::b"),
+            ("a##[x]##vso", "a\\x23#[x]\\x23#vso"),
+            ("##a", "##a"),
+        ]
         for name, printed in rows_of_names:
             with self.subTest(name):
                 self.assertEqual(shown(name), printed)
@@ -262,12 +294,12 @@ class Names(unittest.TestCase):
 
 
 class Folders(unittest.TestCase):
-    def setUp(self):
+    def setUp(self) -> None:
         held = tempfile.TemporaryDirectory()
         self.addCleanup(held.cleanup)
         self.folder = held.name
 
-    def test_a_file_is_written_whole_or_not_at_all(self):
+    def test_a_file_is_written_whole_or_not_at_all(self) -> None:
         from tml_corpus.files.replacing import written
 
         target = os.path.join(self.folder, "a")
@@ -277,11 +309,10 @@ class Folders(unittest.TestCase):
             with self.assertRaises(problem), written(target) as file:
                 file.write(b"two")
                 raise problem
-        with open(target, "rb") as file:
-            self.assertEqual(file.read(), b"one")
+        self.assertEqual(Path(target).read_bytes(), b"one")
         self.assertEqual(os.listdir(self.folder), ["a"])
 
-    def test_words_of_a_table_have_places(self):
+    def test_words_of_a_table_have_places(self) -> None:
         path = os.path.join(self.folder, "table")
         rows_of_tables = [
             (b"a\t\tb c\r\n\n\td\n", True, [[("a", 1, 1), ("", 1, 3), ("b c", 1, 4)], [("", 3, 1), ("d", 3, 2)]]),
@@ -300,15 +331,15 @@ class Folders(unittest.TestCase):
 
 
 class Running(unittest.TestCase):
-    def run_sh(self, script, document=b"", most=100):
+    def run_sh(self, script: str, document: bytes = b"", most: int = 100) -> tuple[int, bytes]:
         return running.run(["/bin/sh", "-c", script], document, most)
 
-    def test_what_is_read_and_printed(self):
+    def test_what_is_read_and_printed(self) -> None:
         self.assertEqual(self.run_sh("cat; exit 3", b"x" * 300_000, 300_000), (3, b"x" * 300_000))
         self.assertEqual(self.run_sh("echo a", b"x" * 300_000), (0, b"a\n"))
         self.assertEqual(self.run_sh("exec 0<&-; sleep 0.1; echo a", b"x" * 300_000), (0, b"a\n"))
 
-    def test_what_ends_after_its_output(self):
+    def test_what_ends_after_its_output(self) -> None:
         # Some systems have no handles of processes: there the end is looked for from time to time.
         for handles in (True, False):
             with self.subTest(handles=handles), contextlib.ExitStack() as stack:
@@ -316,14 +347,14 @@ class Running(unittest.TestCase):
                     stack.enter_context(mock.patch.object(os, "pidfd_open", side_effect=OSError))
                 self.assertEqual(self.run_sh("echo x; exec 1>&-; sleep 0.2; exit 3"), (3, b"x\n"))
 
-    def test_another_file(self):
+    def test_another_file(self) -> None:
         with tempfile.TemporaryFile() as other:
             other.write(b"other")
             other.seek(0)
             script = f"cat; cat /dev/fd/{other.fileno()}"
             self.assertEqual(running.run(["/bin/sh", "-c", script], b"document ", 100, other), (0, b"document other"))
 
-    def test_what_is_given_up(self):
+    def test_what_is_given_up(self) -> None:
         with mock.patch.object(running, "SECONDS", 0.3):
             for script in ("sleep 60", "exec 1>&-; sleep 60", "while :; do :; done", "sleep 60 & exit 0"):
                 with self.subTest(script), self.assertRaisesRegex(CannotRun, "longer than"):
@@ -338,16 +369,15 @@ class Running(unittest.TestCase):
 
 
 class Project(unittest.TestCase):
-    def project(self):
+    def project(self) -> dict[str, Any]:
         import tomllib
 
         with open(os.path.join(TOP, "pyproject.toml"), "rb") as file:
             return tomllib.load(file)
 
-    def test_version_and_programs(self):
+    def test_version_and_programs(self) -> None:
         project = self.project()["project"]
-        with open(os.path.join(TOP, "CHANGELOG.md"), encoding="utf-8") as file:
-            self.assertEqual(project["version"], re.search(r"^## (\S+), ", file.read(), re.MULTILINE)[1])
+        self.assertEqual(project["version"], match_in(r"^## (\S+), ", text_at("CHANGELOG.md"), re.MULTILINE)[1])
         for name, place in project["scripts"].items():
             module, function = place.split(":")
             script = os.path.join(TOOLS, name if name in ("tml-corpus", "tml-edit") else name.removeprefix("tml-"))
@@ -357,7 +387,7 @@ class Project(unittest.TestCase):
                 said = subprocess.run([sys.executable, script, "--version"], capture_output=True, text=True, check=True).stdout
                 self.assertEqual(said, f"{os.path.basename(script)} {project['version']}\n")
 
-    def test_nothing_is_locked_where_it_is_imported(self):
+    def test_nothing_is_locked_where_it_is_imported(self) -> None:
         paths = (path.relative_to(SOURCES).with_suffix("").as_posix() for path in sorted(Path(SOURCES, "tml_corpus").rglob("*.py")))
         modules = ", ".join(path.replace("/", ".") for path in paths)
         script = (
@@ -366,28 +396,6 @@ class Project(unittest.TestCase):
         )
         done = subprocess.run([sys.executable, "-c", script], cwd=SOURCES, capture_output=True, text=True, check=False, timeout=60)
         self.assertEqual((done.returncode, done.stderr), (0, ""))
-
-    def test_is_installed_by_pip(self):
-        import shutil
-
-        tried = subprocess.run([sys.executable, "-c", "import wheel, setuptools, pip"], capture_output=True, check=False)
-        if tried.returncode != 0:
-            self.skipTest("no modules pip, setuptools and wheel")
-        with tempfile.TemporaryDirectory() as folder:
-            source, target = os.path.join(folder, "source"), os.path.join(folder, "target")
-            os.mkdir(source)
-            for name in ("pyproject.toml", "README.md"):
-                shutil.copy(os.path.join(TOP, name), source)
-            shutil.copytree(SOURCES, os.path.join(source, "python", "src"), ignore=shutil.ignore_patterns("__pycache__"))
-            words = ["install", "--quiet", "--no-deps", "--no-index", "--no-build-isolation", "--no-compile", "--target", target, source]
-            done = subprocess.run([sys.executable, "-m", "pip", *words], capture_output=True, text=True, check=False, timeout=300)
-            self.assertEqual(done.returncode, 0, done.stderr)
-            for name in self.project()["project"]["scripts"]:
-                with self.subTest(name):
-                    run = [sys.executable, os.path.join(target, "bin", name), "--help"]
-                    done = subprocess.run(run, env={**os.environ, "PYTHONPATH": target}, capture_output=True, text=True, check=False, timeout=60)
-                    self.assertEqual((done.returncode, done.stdout.split()[:2]), (0, ["usage:", name]))
-            self.assertTrue(os.path.isfile(os.path.join(target, "tml", "py.typed")))
 
 
 if __name__ == "__main__":

@@ -3,12 +3,11 @@
 import csv
 import json
 import os
-import stat
 import unittest
 import xml.etree.ElementTree as ElementTree
 from random import Random
 
-from corpus import TML, TOP, CorpusTest, document, needs_seconds
+from corpus import TML, CorpusTest, document, needed, needs_seconds, text_at
 from differential.documents import document_of
 from differential.lengths import draw_timed_net
 from reference.acceptance import Accepted, judge_document
@@ -26,16 +25,15 @@ from tml_corpus.timeline.axis import extent, marks
 DAY = 86_400
 
 
-def bridge():
+def bridge() -> str:
     """The sample with durations."""
-    with open(os.path.join(TOP, "samples", "bridge.xml"), encoding="utf-8") as file:
-        return file.read()
+    return text_at("samples/bridge.xml")
 
 
 class Axis(unittest.TestCase):
     """Marks of an axis."""
 
-    def test_marks(self):
+    def test_marks(self) -> None:
         noon = 884_260_800
         rows = [
             ((noon, noon + 8, 10), ["12:00:00", "12:00:01", "12:00:02"]),
@@ -53,12 +51,12 @@ class Axis(unittest.TestCase):
             self.assertLessEqual(len(found), words[2])
             self.assertTrue(all(words[0] <= mark.second <= words[1] for mark in found))
 
-    def test_extents(self):
+    def test_extents(self) -> None:
         self.assertEqual(extent([0, 40]), (-1, 41))
         self.assertEqual(extent([7]), (6, 8))
         self.assertEqual(extent([FIRST, LAST]), (FIRST, LAST))
 
-    def test_dates_and_lengths(self):
+    def test_dates_and_lengths(self) -> None:
         wanted = ["1970-01-01T00:00:00", "1969-12-31T23:59:59", "10000-01-01T00:00:00", f"second {LAST + 2}"]
         self.assertEqual([civil(second) for second in (0, -1, LAST + 1, LAST + 2)], wanted)
         self.assertEqual([length(seconds) for seconds in (0, 1, 3_661, 2 * DAY)], ["0 s", "1 s", "1 h 1 min 1 s", "2 d"])
@@ -67,8 +65,10 @@ class Axis(unittest.TestCase):
 class Constraints(unittest.TestCase):
     """What is counted of constraints is what the reference counts."""
 
-    def test_lengths(self):
-        values = ("P1D", "PT1H30M", "P2W", "P1W2DT3H4M5S", "P0D", "P1Y", "P1M", "PXD", "P", "PT", "P1DT", "PT1D", "1998", "", "P1234567890D")
+    def test_lengths(self) -> None:
+        values = (
+            "P1D", "PT1H30M", "P2W", "P1W2DT3H4M5S", "P0D", "P1Y", "P1M", "PXD", "P", "PT", "P1DT", "PT1D", "1998", "", "P1234567890D"
+        )
         for kind in ("DURATION", "SET", "DATE"):
             for modifier in ("", "LESS_THAN", "EQUAL_OR_LESS", "MORE_THAN", "EQUAL_OR_MORE", "APPROX"):
                 for value in values:
@@ -77,7 +77,7 @@ class Constraints(unittest.TestCase):
                     self.assertEqual((found.least, found.most), (wanted.least, wanted.most), (kind, modifier, value))
 
     @unittest.skipUnless(os.access(TML, os.X_OK), f"no program {TML}: build it as README.md says, or name one by TML=PROGRAM")
-    def test_constraints_and_ranges(self):
+    def test_constraints_and_ranges(self) -> None:
         program, placed = Program(os.path.abspath(TML)), 0
         for number in range(40):
             random = Random(f"constraints {number}")
@@ -87,8 +87,8 @@ class Constraints(unittest.TestCase):
                 continue
             timed = timed_of(accepted.document)
             found = constraints.Constraints(Wording(program, source))
-            wanted = [constraint_of(timed, line) for line in lines_of(timed)]
-            wanted = [(one.begin, one.end, one.weight) for one in wanted if one]
+            of_lines = [constraint_of(timed, line) for line in lines_of(timed)]
+            wanted = [(one.begin, one.end, one.weight) for one in of_lines if one]
             self.assertEqual(sorted((one.begin, one.end, one.weight) for one in found.all()), sorted(wanted))
             for line in lines_of(timed):
                 if (one := constraint_of(timed, line)) is not None:
@@ -106,14 +106,14 @@ class Constraints(unittest.TestCase):
 class Forms(CorpusTest):
     """What `tml-corpus seconds` prints."""
 
-    def printed(self, *words, content=None):
+    def printed(self, *words: str, content: str | None = None) -> tuple[int, str, str]:
         """The status, standard output and standard error over a document."""
         self.write("d.xml", bridge() if content is None else content)
         child = self.start("seconds", "d.xml", *words)
         out, err = child.communicate(timeout=120)
         return child.returncode, out.decode(), err.decode()
 
-    def test_lines(self):
+    def test_lines(self) -> None:
         status, out, error = self.printed()
         lines = out.splitlines()
         self.assertEqual((status, error, lines[-1]), (0, "", "d.xml: placed: 9 intervals, 7 links"))
@@ -122,7 +122,7 @@ class Forms(CorpusTest):
         self.assertIn("starts from 1998-01-11T18:00:04 up to 1998-01-11T23:59:58", opened)
         self.assertIn("ends from 1998-01-11T18:00:05 up to 1998-01-11T23:59:59", opened)
 
-    def test_json_and_csv(self):
+    def test_json_and_csv(self) -> None:
         status, out, error = self.printed("--format", "json")
         found = json.loads(out)
         self.assertEqual((status, error, found["verdict"]), (0, "", "placed"))
@@ -134,7 +134,7 @@ class Forms(CorpusTest):
         self.assertEqual([row["name"] for row in rows], [one["name"] for one in found["intervals"]])
         self.assertEqual(sorted(int(row["start"]) for row in rows), [int(row["start"]) for row in rows])
 
-    def test_calendar(self):
+    def test_calendar(self) -> None:
         status, out, error = self.printed("--format", "ics")
         self.assertEqual((status, error, out.count("BEGIN:VEVENT")), (0, "", 9))
         self.assertTrue(out.startswith("BEGIN:VCALENDAR\r\nVERSION:2.0\r\n") and out.endswith("END:VCALENDAR\r\n"))
@@ -146,7 +146,7 @@ class Forms(CorpusTest):
         self.assertIn("DTSTART:00010101T000000\r\n", out)
         self.assertLessEqual(max(len(line.encode()) for line in out.split("\r\n")), 75)
 
-    def test_what_cannot_all_be_met(self):
+    def test_what_cannot_all_be_met(self) -> None:
         late = bridge().replace("P2D", "P3D")
         status, out, error = self.printed(content=late)
         lines = out.splitlines()
@@ -160,13 +160,13 @@ class Forms(CorpusTest):
         status, out, error = self.printed("--format", "csv", content=late)
         self.assertEqual((status, out, error.splitlines()), (1, "", lines))
 
-    def test_lengths_alone(self):
+    def test_lengths_alone(self) -> None:
         status, out, _ = self.printed(content=document('<TIMEX3 tid="p" type="DURATION" value="P0D">no time</TIMEX3>'))
         self.assertEqual(status, 1)
         last = "d.xml: no placing in seconds: these dates and lengths cannot all be met, 1 second short"
         self.assertEqual(out.splitlines(), ["d.xml:2:1: note: no time lasts 0 s at most", last])
 
-    def test_faults_and_dates_that_touch(self):
+    def test_faults_and_dates_that_touch(self) -> None:
         status, out, _ = self.printed(content="<TimeML>")
         self.assertEqual((status, out.splitlines()[0][:16]), (1, "d.xml:1:1: error"))
         days = '<TIMEX3 tid="a" type="DATE" value="1998-01-08"/><TIMEX3 tid="b" type="DATE" value="1998-01-09"/>'
@@ -179,11 +179,10 @@ class Forms(CorpusTest):
         self.assertEqual((status, len(out.splitlines()), error.count("note: read as IBEFORE")), (0, 3, 1))
         self.assertEqual(self.printed("--touching", content=document("<x/>"))[0], 1)
 
-    def test_what_tml_does_not_confirm_is_not_shown(self):
-        self.write("fake", f'#!/bin/sh\nif [ $1 = confirm ]; then echo seconds Sum; exit 7; fi\nexec {os.path.abspath(TML)} "$@"\n')
-        os.chmod(self.path("fake"), stat.S_IRWXU)
+    def test_what_tml_does_not_confirm_is_not_shown(self) -> None:
+        fake = self.fake(f'if [ $1 = confirm ]; then echo seconds Sum; exit 7; fi\nexec {os.path.abspath(TML)} "$@"')
         self.write("d.xml", bridge())
-        status, lines, _ = self.run_it("seconds", "d.xml", tml=self.path("fake"))
+        status, lines, _ = self.run_it("seconds", "d.xml", tml=fake)
         self.assertEqual((status, lines), (2, ["d.xml: not judged: tml confirm did not accept the placing of tml seconds: seconds Sum"]))
 
 
@@ -191,52 +190,52 @@ class Forms(CorpusTest):
 class Pictures(CorpusTest):
     """Pictures over a true axis of time."""
 
-    def drawn(self, content, name):
+    def drawn(self, content: str, name: str) -> str:
         """The picture of a document."""
         self.write("d.xml", content)
         status, lines, error = self.run_it("timeline", "--seconds", "d.xml", "-o", name)
         self.assertEqual((status, error), (0, ""), lines)
-        with open(self.path(name), encoding="utf-8") as file:
-            return file.read()
+        return self.read_text(name)
 
-    def test_dates_are_true_to_scale(self):
+    def test_dates_are_true_to_scale(self) -> None:
         root = ElementTree.fromstring(self.drawn(bridge(), "d.svg").encode())
-        bars = {}
+        bars: dict[str, tuple[float, float]] = {}
         for group in root.iter(SVG + "g"):
             if group.get("class", "").startswith("row "):
                 [bar] = [rect for rect in group.iter(SVG + "rect") if rect.get("class") == "bar"]
-                name = "".join(group.find(SVG + "text").itertext()).rpartition("(")[2].rstrip(")")
-                bars[name] = float(bar.get("x")), float(bar.get("width"))
+                name = "".join(needed(group.find(SVG + "text")).itertext()).rpartition("(")[2].rstrip(")")
+                bars[name] = float(bar.attrib["x"]), float(bar.attrib["width"])
         day = bars["t0"][1]
         self.assertAlmostEqual(bars["t4"][1], day, delta=0.2)
         self.assertAlmostEqual(bars["t2"][1], 2 * day, delta=0.3)
         self.assertAlmostEqual(bars["t0"][0] - bars["t1"][0], 3.5 * day, delta=0.4)
         self.assertEqual(len([rect for rect in root.iter(SVG + "rect") if rect.get("class") == "before"]), 1)
 
-    def test_what_has_no_limit_fades_to_the_edges(self):
+    def test_what_has_no_limit_fades_to_the_edges(self) -> None:
         content = document(
-            '<TIMEX3 tid="a" type="DATE" value="1998-01-08"/><TIMEX3 tid="b" type="SET"/><TLINK timeID="b" relatedToTime="a" relType="AFTER"/>'
+            '<TIMEX3 tid="a" type="DATE" value="1998-01-08"/><TIMEX3 tid="b" type="SET"/><TLINK timeID="b" relatedToTime="a" '
+            'relType="AFTER"/>'
         )
         root = ElementTree.fromstring(self.drawn(content, "d.svg").encode())
         self.assertGreaterEqual(len([rect for rect in root.iter(SVG + "rect") if rect.get("class") in ("before", "after")]), 1)
 
-    def test_pages(self):
+    def test_pages(self) -> None:
         root = ElementTree.fromstring(self.drawn(bridge(), "d.html").split("\n", 1)[1].encode())
-        titles = [title.text for title in root.iter(SVG + "title")]
+        titles = [needed(title.text) for title in root.iter(SVG + "title")]
         self.assertEqual(len(titles), 9)
         self.assertIn("more than 30 hours", "".join(titles))
         self.assertEqual(len(list(root.iter(XHTML + "script"))), 5)
 
-    def test_nothing_is_drawn_where_there_is_no_placing(self):
+    def test_nothing_is_drawn_where_there_is_no_placing(self) -> None:
         self.write("d.xml", bridge().replace("P2D", "P3D"))
         status, lines, _ = self.run_it("timeline", "--seconds", "d.xml", "-o", "d.svg")
         self.assertEqual((status, lines[-1][:32]), (1, "d.xml: no placing in seconds: th"))
         self.assertFalse(os.path.exists(self.path("d.svg")))
 
-    def test_a_document_without_intervals(self):
+    def test_a_document_without_intervals(self) -> None:
         self.assertIn("There is no interval", self.drawn("<TimeML/>", "d.svg"))
 
-    def test_texts_are_escaped(self):
+    def test_texts_are_escaped(self) -> None:
         content = document('<TIMEX3 tid="a" type="DATE" value="1998">&lt;script&gt;</TIMEX3>')
         self.assertNotIn("<script>", self.drawn(content, "d.svg"))
 

@@ -6,41 +6,41 @@ import resource
 import signal
 import time
 import unittest
+from collections.abc import Generator, Iterator
 from contextlib import contextmanager
 from unittest import mock
 
-import corpus  # noqa: F401
-
+from corpus import needed
 from tml_corpus.asking import pool
 from tml_corpus.asking.pool import AHEAD, TOGETHER, Groups, Interruption, do_group, in_order
 from tml_corpus.asking.program import CannotRun
-from tml_corpus.asking.room import Room, room_for
+from tml_corpus.asking.room import Room, SharedLock, room_for
 
 
-def lost(item):
+def lost(item: int) -> tuple[str, int]:
     """What is said of an item that ended its process."""
     return "lost", item
 
 
-def quick(item):
+def quick(item: int) -> tuple[int, int]:
     """Work that takes no time, and the process that did it."""
     return item, os.getpid()
 
 
-def slow_at_times(item):
+def slow_at_times(item: int) -> int:
     """Work of which some takes as long as several groups may."""
     time.sleep(0.12 if item % 40 == 7 else 0)
     return item
 
 
-def deadly(item):
+def deadly(item: int) -> int:
     """Work that ends its process at some items."""
     if item in (30, 31, 59, 900):
         os.kill(os.getpid(), 9)
     return item
 
 
-def large_or_nothing(item):
+def large_or_nothing(item: int) -> str | None:
     """Work with results that no pipe takes at once, and with none."""
     return str(item) * 200_000 if item % 50 == 3 else None
 
@@ -48,11 +48,11 @@ def large_or_nothing(item):
 class Odd(Exception):
     """An error that cannot be sent."""
 
-    def __init__(self, one, other):
+    def __init__(self, one: str, other: str) -> None:
         super().__init__(f"{one} and {other}")
 
 
-def failing(item):
+def failing(item: int) -> int:
     """Work that fails at some items."""
     if item == 40:
         raise Odd("one", "other")
@@ -62,7 +62,7 @@ def failing(item):
 
 
 class Order(unittest.TestCase):
-    def test_results_are_in_the_order_of_the_items(self):
+    def test_results_are_in_the_order_of_the_items(self) -> None:
         for workers in (1, 3, 200):
             with self.subTest(workers):
                 self.assertEqual([item for item, _ in in_order(quick, range(500), workers, Interruption(), lost)], list(range(500)))
@@ -70,16 +70,17 @@ class Order(unittest.TestCase):
         self.assertEqual(list(in_order(large_or_nothing, range(300), 2, Interruption(), lost)), list(map(large_or_nothing, range(300))))
         self.assertEqual(list(in_order(quick, [], 3, Interruption(), lost)), [])
 
-    def test_an_item_that_ends_its_process_is_the_only_one_lost(self):
+    def test_an_item_that_ends_its_process_is_the_only_one_lost(self) -> None:
         for workers in (1, 2, 5):
             with self.subTest(workers):
                 found = list(in_order(deadly, range(1000), workers, Interruption(), lost))
                 self.assertEqual(found, [lost(item) if item in (30, 31, 59, 900) else item for item in range(1000)])
 
-    def test_an_interruption_leaves_the_first_results(self):
+    def test_an_interruption_leaves_the_first_results(self) -> None:
         for after in (1, 20, 150):
             with self.subTest(after):
-                stop, found = Interruption(), []
+                stop = Interruption()
+                found: list[object] = []
                 for item in in_order(slow_at_times, range(3000), 3, stop, lost):
                     found.append(item)
                     if len(found) == after:
@@ -87,67 +88,71 @@ class Order(unittest.TestCase):
                 self.assertEqual(found, list(range(len(found))))
                 self.assertTrue(after <= len(found) < 3000)
 
-    def test_nothing_is_left_of_what_is_given_up(self):
+    def test_nothing_is_left_of_what_is_given_up(self) -> None:
         before = os.listdir("/proc/self/fd")
         results = in_order(slow_at_times, range(300), 4, Interruption(), lost)
         self.assertEqual(next(results), 0)
+        assert isinstance(results, Generator)
         results.close()
         self.assertEqual(os.listdir("/proc/self/fd"), before)
         with self.assertRaises(ChildProcessError):
             os.waitpid(-1, os.WNOHANG)
 
-    def test_where_children_are_ignored(self):
+    def test_where_children_are_ignored(self) -> None:
         self.addCleanup(signal.signal, signal.SIGCHLD, signal.signal(signal.SIGCHLD, signal.SIG_IGN))
         found = list(in_order(deadly, range(100), 2, Interruption(), lost))
         self.assertEqual(found, [lost(item) if item in (30, 31, 59) else item for item in range(100)])
 
-    def test_an_error_in_a_process_is_one_here(self):
-        found = []
+    def test_an_error_in_a_process_is_one_here(self) -> None:
+        found: list[object] = []
         with self.assertRaisesRegex(CannotRun, "^no item 20$"):
             found.extend(in_order(failing, range(30), 1, Interruption(), lost))
         with self.assertRaisesRegex(CannotRun, "^Odd: one and other$"):
             found.extend(in_order(failing, range(21, 60), 1, Interruption(), lost))
 
-    def test_what_a_process_does_first(self):
+    def test_what_a_process_does_first(self) -> None:
         prepared = []
         results = in_order(lambda item: (item, *prepared), range(50), 2, Interruption(), lost, lambda: prepared.append("ready"))
         self.assertEqual(list(results), [(item, "ready") for item in range(50)])
         self.assertEqual(prepared, [])
 
-        def unprepared():
+        def unprepared() -> None:
             raise CannotRun("not ready")
 
         with self.assertRaisesRegex(CannotRun, "^not ready$"):
             list(in_order(quick, range(50), 2, Interruption(), lost, unprepared))
 
-    def test_long_documents_are_taken_apart_one_at_a_time(self):
+    def test_long_documents_are_taken_apart_one_at_a_time(self) -> None:
         self.addCleanup(Room.locks.clear)
 
-        def held(_):
+        def held(_: int) -> tuple[float, float]:
             with room_for(b" " * 300_000):
                 begun = time.monotonic()
                 time.sleep(0.02)
                 return begun, time.monotonic()
 
-        def killed(item):
+        def killed(_: int) -> None:
             with room_for(b" " * 300_000):
                 os.kill(os.getpid(), 9)
 
-        times = sorted(in_order(held, range(20), 4, Interruption(), lost))
+        def never(item: int) -> tuple[float, float]:
+            raise AssertionError(f"{item} is lost")
+
+        times = sorted(in_order(held, range(20), 4, Interruption(), never))
         self.assertTrue(all(ended <= begun for (_, ended), (begun, _) in zip(times, times[1:])))
         # A process that ends with the lock leaves it.
         self.assertEqual(list(in_order(killed, range(4), 2, Interruption(), lost)), list(map(lost, range(4))))
 
 
 @contextmanager
-def slow_to_begin(count, seconds):
+def slow_to_begin(count: int, seconds: float) -> Iterator[None]:
     """Has so many processes take so long before they are ready: the first ones that begin."""
     reading, writing = os.pipe()
     os.write(writing, b"x" * count)
     os.set_blocking(reading, False)
     prepare = pool.prepare_worker
 
-    def begin(watched, lock):
+    def begin(watched: int, lock: SharedLock) -> None:
         try:
             os.read(reading, 1)
             time.sleep(seconds)
@@ -165,7 +170,7 @@ def slow_to_begin(count, seconds):
 class LittleRoom(unittest.TestCase):
     """Where there is too little memory, or too few processes or files may be had."""
 
-    def test_a_process_that_does_not_get_ready_is_ended(self):
+    def test_a_process_that_does_not_get_ready_is_ended(self) -> None:
         with mock.patch.object(pool, "BEGINNING", 2.0):
             for workers, slow in ((1, 1), (3, 4)):
                 with self.subTest(workers=workers, slow=slow), slow_to_begin(slow, 60):
@@ -173,14 +178,14 @@ class LittleRoom(unittest.TestCase):
                     self.assertEqual(list(in_order(deadly, range(100), workers, Interruption(), lost))[:29], list(range(29)))
                     self.assertLess(time.monotonic() - begun, 40)
 
-    def test_a_process_that_does_not_get_ready_is_not_waited_for(self):
+    def test_a_process_that_does_not_get_ready_is_not_waited_for(self) -> None:
         with slow_to_begin(1, 30):
             begun = time.monotonic()
             with self.assertRaisesRegex(CannotRun, "^no item 20$"):
                 list(in_order(failing, range(15, 300), 2, Interruption(), lost))
             self.assertLess(time.monotonic() - begun, 15)
 
-    def test_where_no_process_gets_ready(self):
+    def test_where_no_process_gets_ready(self) -> None:
         with mock.patch.object(pool, "prepare_worker", side_effect=MemoryError), mock.patch.object(os, "fork", wraps=os.fork) as fork:
             for workers in (1, 3):
                 fork.reset_mock()
@@ -188,10 +193,12 @@ class LittleRoom(unittest.TestCase):
                     list(in_order(quick, range(50), workers, Interruption(), lost))
                 self.assertEqual(fork.call_count, workers + pool.ATTEMPTS - 1)
 
-    def test_fewer_processes_than_wanted_go_on(self):
+    def test_fewer_processes_than_wanted_go_on(self) -> None:
         fork = os.fork
         for there in (1, 3):
-            forks = itertools.chain([fork] * there, itertools.repeat(mock.Mock(side_effect=BlockingIOError(11, "Resource temporarily unavailable"))))
+            forks = itertools.chain(
+                [fork] * there, itertools.repeat(mock.Mock(side_effect=BlockingIOError(11, "Resource temporarily unavailable")))
+            )
             with self.subTest(there), mock.patch.object(os, "fork", lambda forks=forks: next(forks)()):
                 found = list(in_order(slow_at_times, range(200), 50, Interruption(), lost))
                 self.assertEqual(found, list(range(200)))
@@ -199,7 +206,7 @@ class LittleRoom(unittest.TestCase):
             with self.assertRaisesRegex(CannotRun, "^no process of Python can be forked: resource temporarily unavailable$"):
                 list(in_order(quick, range(50), 4, Interruption(), lost))
 
-    def test_fewer_files_than_wanted_leave_some_to_be_opened(self):
+    def test_fewer_files_than_wanted_leave_some_to_be_opened(self) -> None:
         before, limits = len(os.listdir("/proc/self/fd")), resource.getrlimit(resource.RLIMIT_NOFILE)
         self.addCleanup(resource.setrlimit, resource.RLIMIT_NOFILE, limits)
         resource.setrlimit(resource.RLIMIT_NOFILE, (before + 20, limits[1]))
@@ -212,30 +219,30 @@ class LittleRoom(unittest.TestCase):
         for handle in handles:
             os.close(handle)
 
-    def test_a_thread_that_cannot_be_started(self):
+    def test_a_thread_that_cannot_be_started(self) -> None:
         with mock.patch("threading.Thread.start", side_effect=RuntimeError("can't start new thread")):
             with self.assertRaisesRegex(CannotRun, "^no process of Python can begin its work: "):
                 list(in_order(quick, range(50), 2, Interruption(), lost))
 
 
 class GroupsOfItems(unittest.TestCase):
-    def test_a_group_ends_early_where_its_items_are_slow(self):
+    def test_a_group_ends_early_where_its_items_are_slow(self) -> None:
         self.assertEqual(do_group(slow_at_times, range(5))[0], list(range(5)))
         results, seconds = do_group(slow_at_times, range(20))
         self.assertEqual(results, list(range(8)))
         self.assertGreater(seconds, 0.1)
 
-    def test_how_many_go_together_and_ahead(self):
-        groups = Groups(100_000, 4)
-        first = [groups.take(nothing_else=False) for _ in range(AHEAD)]
+    def test_how_many_go_together_and_ahead(self) -> None:
+        groups: Groups[None] = Groups(100_000, 4)
+        first = [needed(groups.take(nothing_else=False)) for _ in range(AHEAD)]
         self.assertEqual({group.count for group in first}, {1})
         self.assertIsNone(groups.take(nothing_else=False))
         for group in first:
             groups.note(group, [None], 0.0001)
         self.assertEqual(len(list(groups.ready())), AHEAD)
         counts = []
-        while (group := groups.take(nothing_else=False)) is not None:
-            counts.append(group.count)
+        while (more := groups.take(nothing_else=False)) is not None:
+            counts.append(more.count)
         self.assertEqual((set(counts), sum(counts)), ({TOGETHER}, 8 * TOGETHER))
         # Slow ones go alone again.
         groups.note(groups.waiting[0], [None] * TOGETHER, 10.0)
@@ -243,29 +250,29 @@ class GroupsOfItems(unittest.TestCase):
         self.assertIsNone(groups.take(nothing_else=False))
         self.assertEqual(groups.together, 1)
 
-    def test_items_that_were_not_begun_are_given_first(self):
-        groups = Groups(100, 2)
+    def test_items_that_were_not_begun_are_given_first(self) -> None:
+        groups: Groups[int] = Groups(100, 2)
         groups.together = 10
-        first, second = groups.take(nothing_else=True), groups.take(nothing_else=False)
+        first, second = needed(groups.take(nothing_else=True)), needed(groups.take(nothing_else=False))
         groups.note(first, [0, 1, 2], 0.03)
-        left = groups.take(nothing_else=False)
+        left = needed(groups.take(nothing_else=False))
         self.assertEqual((left.first, left.count), (3, 7))
         groups.note(second, list(range(10, 20)), 0.03)
         self.assertEqual(list(groups.ready()), [0, 1, 2])
         groups.note(left, list(range(3, 10)), 0.03)
         self.assertEqual(list(groups.ready()), list(range(3, 20)))
 
-    def test_items_that_are_tried_again_have_nothing_beside_them(self):
-        groups = Groups(100, 2)
+    def test_items_that_are_tried_again_have_nothing_beside_them(self) -> None:
+        groups: Groups[object] = Groups(100, 2)
         groups.together = 3
-        first, second = groups.take(nothing_else=True), groups.take(nothing_else=False)
+        first, second = needed(groups.take(nothing_else=True)), needed(groups.take(nothing_else=False))
         first.under_way = second.under_way = True
         groups.break_up(first, lost)
         self.assertIsNone(groups.take(nothing_else=False))
         groups.note(second, [3, 4, 5], 0.03)
-        found = []
+        found: list[object] = []
         for place in range(3):
-            one = groups.take(nothing_else=True)
+            one = needed(groups.take(nothing_else=True))
             self.assertEqual((one.first, one.count, one.alone), (place, 1, True))
             one.under_way = True
             self.assertIsNone(groups.take(nothing_else=False))
@@ -275,7 +282,7 @@ class GroupsOfItems(unittest.TestCase):
                 groups.note(one, [place], 0.03)
             found += groups.ready()
         self.assertEqual(found, [0, ("lost", 1), 2, 3, 4, 5])
-        self.assertEqual(groups.take(nothing_else=True).first, 6)
+        self.assertEqual(needed(groups.take(nothing_else=True)).first, 6)
 
 
 if __name__ == "__main__":

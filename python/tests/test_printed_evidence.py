@@ -3,22 +3,20 @@
 import itertools
 import os
 import subprocess
-import tempfile
 import unittest
 
-from corpus import TML
+from corpus import TML, CorpusTest
+from tml.asking import Answerer
 from tml.finding import BUILT_LIBRARY
 from tml.library import Library
 from tml.process import Process
+from tml.statuses import RELATIONS, TmlStatus
 
-RELATIONS = (
-    "BEFORE AFTER INCLUDES IS_INCLUDED DURING DURING_INV SIMULTANEOUS IDENTITY IBEFORE IAFTER BEGINS BEGUN_BY ENDS ENDED_BY OVERLAPS OVERLAPPED_BY"
-).split()
 EVENT = "<EVENT eid='e' class='STATE'/>"
-DONE, CLASH, READ_FAULT = 0, 2, 4
+DONE, CLASH, READ_FAULT = TmlStatus.DONE, TmlStatus.CLASH, TmlStatus.READ_FAULT
 
 
-def instances(names, *links):
+def instances(names: str, *links: tuple[str, str, str]) -> bytes:
     """A document of instances of one event, with links between them."""
     made = "".join(f"<MAKEINSTANCE eiid='{name}' eventID='e'/>" for name in names)
     linked = "".join(
@@ -27,11 +25,12 @@ def instances(names, *links):
     return f"<TimeML>{EVENT}{made}{linked}</TimeML>".encode()
 
 
-def day(name, value, more=""):
+def day(name: str, value: str, more: str = "") -> str:
+    """A date."""
     return f"<TIMEX3 tid='{name}' type='DATE' value='{value}'{more}/>"
 
 
-def dated(times, relation):
+def dated(times: str, relation: str) -> bytes:
     """A document of two times, with an instance a that has this relation to the first one."""
     link = f"<TLINK eventInstanceID='a' relatedToTime='t1' relType='{relation}'/>"
     return f"<TimeML>{times}{EVENT}<MAKEINSTANCE eiid='a' eventID='e'/>{link}</TimeML>".encode()
@@ -84,10 +83,12 @@ CLASHES = {
 
 @unittest.skipUnless(os.access(TML, os.X_OK), f"no program {TML}")
 class PrintedEvidence(unittest.TestCase):
-    def setUp(self):
-        self.asked = Library(BUILT_LIBRARY) if os.path.exists(BUILT_LIBRARY) else Process(TML)
+    def setUp(self) -> None:
+        self.asked: Answerer = Process(TML)
+        if os.path.exists(BUILT_LIBRARY):
+            self.asked = Library(BUILT_LIBRARY)
 
-    def test_each_answer_of_ask_is_verified(self):
+    def test_each_answer_of_ask_is_verified(self) -> None:
         proofs = 0
         for kind, (document, names) in SMALL.items():
             for one, other, relation in itertools.product(names.split(), names.split(), RELATIONS):
@@ -101,7 +102,7 @@ class PrintedEvidence(unittest.TestCase):
         own = sum(len(names.split()) for _, names in SMALL.values())
         self.assertGreaterEqual(proofs, 4 * own, "of each interval and itself four relations hold")
 
-    def test_one_of_the_minimal_clashes_is_shown_and_verified(self):
+    def test_one_of_the_minimal_clashes_is_shown_and_verified(self) -> None:
         for kind, (document, cited) in CLASHES.items():
             with self.subTest(kind):
                 status, evidence = self.asked.answer("solve", [document])
@@ -111,55 +112,49 @@ class PrintedEvidence(unittest.TestCase):
                 self.assertIn(verdict.decode(), [f"verified clash {links}\n" for links in cited])
 
 
-@unittest.skipUnless(os.access(TML, os.X_OK), f"no program {TML}")
-class RealFiles(unittest.TestCase):
-    def setUp(self):
-        folder = tempfile.TemporaryDirectory()
-        self.addCleanup(folder.cleanup)
-        self.folder = folder.name
+class RealFiles(CorpusTest):
+    def setUp(self) -> None:
+        super().setUp()
         self.write("document", RATES)
 
-    def write(self, name, content):
-        with open(os.path.join(self.folder, name), "wb") as out:
-            out.write(content)
-
-    def run_it(self, *words):
+    def answered(self, *words: str) -> tuple[int, bytes]:
+        """The status and the text of a run of the program."""
         done = subprocess.run([TML, *words], cwd=self.folder, stdin=subprocess.DEVNULL, stdout=subprocess.PIPE, check=False)
         return done.returncode, done.stdout
 
-    def printed_to(self, name, *words):
+    def printed_to(self, name: str, *words: str) -> None:
         """Runs a command that is done, with its output in a file."""
-        status, text = self.run_it(*words)
+        status, text = self.answered(*words)
         self.assertEqual(status, DONE, words)
         self.write(name, text)
 
-    def test_what_is_printed_to_a_file_is_verified(self):
+    def test_what_is_printed_to_a_file_is_verified(self) -> None:
         for words, verdict in (
             (["solve", "document"], b"verified timeline\n"),
             (["ask", "document", "ei1", "BEFORE", "ei2"], b"verified entails ei1 BEFORE ei2\n"),
             (["ask", "document", "t0", "INCLUDES", "ei1"], b"verified counter t0 INCLUDES ei1\n"),
         ):
             self.printed_to("evidence", *words)
-            self.assertEqual(self.run_it("verify", "document", "evidence"), (DONE, verdict))
+            self.assertEqual(self.answered("verify", "document", "evidence"), (DONE, verdict))
 
-    def test_what_is_joined_and_renewed_is_verified(self):
+    def test_what_is_joined_and_renewed_is_verified(self) -> None:
         self.printed_to("timeline", "solve", "document")
         self.printed_to("proof", "ask", "document", "ei1", "BEFORE", "ei2")
         self.printed_to("joined", "join", "timeline", "proof")
         self.printed_to("renewed", "renew", "joined")
         verdicts = b"verified timeline\nverified entails ei1 BEFORE ei2\n"
-        self.assertEqual(self.run_it("verify", "document", "renewed"), (DONE, verdicts))
+        self.assertEqual(self.answered("verify", "document", "renewed"), (DONE, verdicts))
 
-    def test_what_is_no_file_that_can_be_read_is_a_read_fault(self):
+    def test_what_is_no_file_that_can_be_read_is_a_read_fault(self) -> None:
         for name in ("none", "", "."):
             with self.subTest(name):
-                self.assertEqual(self.run_it("check", name), (READ_FAULT, b"read fault\n"))
-                self.assertEqual(self.run_it("verify", "document", name), (READ_FAULT, b"read fault\n"))
+                self.assertEqual(self.answered("check", name), (READ_FAULT, b"read fault\n"))
+                self.assertEqual(self.answered("verify", "document", name), (READ_FAULT, b"read fault\n"))
 
-    def test_a_file_that_is_named_twice_is_read_twice(self):
+    def test_a_file_that_is_named_twice_is_read_twice(self) -> None:
         self.printed_to("timeline", "solve", "document")
         self.printed_to("joined", "join", "timeline", "timeline")
-        self.assertEqual(self.run_it("verify", "document", "joined"), (DONE, 2 * b"verified timeline\n"))
+        self.assertEqual(self.answered("verify", "document", "joined"), (DONE, 2 * b"verified timeline\n"))
 
 
 if __name__ == "__main__":

@@ -13,9 +13,10 @@ import subprocess
 import sys
 import tempfile
 import unittest
+from collections.abc import Sequence
 from dataclasses import dataclass, field
 
-from corpus import TML, TOP
+from corpus import TML, TOP, text_at
 
 PAGES = ("README.md", *(f"docs/{name}.md" for name in ("AGREEMENT", "CLASHES", "CORPORA", "FOLDER", "QUESTIONS", "TOUR")))
 NEEDED = ("perl", "iconv", "make", "xmllint", "sha256sum", "diff", "git")
@@ -40,9 +41,10 @@ class Section:
     makefile: str | None = None
 
 
-def sections_of(page):
+def sections_of(page: str) -> list[Section]:
     """The sections of a page that have commands."""
-    sections, block = [Section("beginning")], None
+    sections = [Section("beginning")]
+    block: str | None = None
     for number, line in enumerate(page.splitlines(), 1):
         if block is None and line.startswith("## "):
             sections.append(Section(line[3:]))
@@ -51,13 +53,13 @@ def sections_of(page):
             if block == "make":
                 sections[-1].makefile = ""
         elif block == "make":
-            sections[-1].makefile += line + "\n"
+            sections[-1].makefile = (sections[-1].makefile or "") + line + "\n"
         elif block == "console":
             add_line(sections[-1].commands, number, line)
     return [section for section in sections if section.commands]
 
 
-def add_line(commands, number, line):
+def add_line(commands: list[Command], number: int, line: str) -> None:
     """One line of a block: a command, its continuation, or what is printed."""
     if line.startswith("$ "):
         commands.append(Command(number, line[2:]))
@@ -67,15 +69,20 @@ def add_line(commands, number, line):
         commands[-1].printed.append(line)
 
 
-def agree(expected, printed):
+def agree(expected: Sequence[str], printed: Sequence[str]) -> bool:
     """Whether the lines are those that are expected, where `...` stands for any, and at the end of a line for the rest of it."""
-    pattern = "".join("(?:.*\n)*?" if line == "..." else re.escape(line).removesuffix(r"\.\.\.") + r".*" * line.endswith("...") + "\n" for line in expected)
+    pattern = "".join(
+        "(?:.*\n)*?" if line == "..." else re.escape(line).removesuffix(r"\.\.\.") + r".*" * line.endswith("...") + "\n"
+        for line in expected
+    )
     return re.fullmatch(pattern, "".join(line + "\n" for line in printed)) is not None
 
 
 @unittest.skipUnless(os.access(TML, os.X_OK), f"no program {TML}: build it as README.md says, or name one by TML=PROGRAM")
-class Pages(unittest.TestCase):
-    def run_section(self, section):
+class RecipeTest(unittest.TestCase):
+    """A test that runs the commands of a page."""
+
+    def run_section(self, section: Section) -> list[list[str]]:
         """Runs the commands of a section in one shell, and answers what each of them printed."""
         with tempfile.TemporaryDirectory() as top:
             folder, programs = os.path.join(top, "here"), os.path.join(top, "bin")
@@ -93,7 +100,9 @@ class Pages(unittest.TestCase):
             script = "".join(f"{command.text}\nmark=$?; echo {MARK}; (exit $mark)\n" for command in section.commands)
             with open(os.path.join(top, "script"), "w", encoding="utf-8") as file:
                 file.write(script)
-            environment = {**os.environ, "PATH": programs + os.pathsep + os.environ["PATH"], "LC_ALL": "C.UTF-8", "PYTHONDONTWRITEBYTECODE": "1"}
+            environment = {
+                **os.environ, "PATH": programs + os.pathsep + os.environ["PATH"], "LC_ALL": "C.UTF-8", "PYTHONDONTWRITEBYTECODE": "1"
+            }
             done = subprocess.run(
                 ["sh", os.path.join(top, "script")],
                 cwd=folder,
@@ -106,16 +115,8 @@ class Pages(unittest.TestCase):
             )
             return [part.splitlines() for part in done.stdout.decode("utf-8", "replace").split(MARK + "\n")][:-1]
 
-    def test_commands_print_what_the_page_says(self):
-        for name in PAGES:
-            with open(os.path.join(TOP, name), encoding="utf-8") as file:
-                sections = sections_of(file.read())
-            self.assertTrue(sections, name)
-            for section in sections:
-                with self.subTest(page=name, section=section.title):
-                    self.check_section(name, section)
-
-    def check_section(self, name, section):
+    def check_section(self, name: str, section: Section) -> None:
+        """Checks what the commands of a section print."""
         words = " ".join(command.text for command in section.commands)
         for program in NEEDED:
             if re.search(rf"\b{program}\b", words) and shutil.which(program) is None:
@@ -124,12 +125,24 @@ class Pages(unittest.TestCase):
         self.assertEqual(len(printed), len(section.commands), printed[-1:])
         for command, lines in zip(section.commands, printed, strict=True):
             place = f"{name}:{command.line}"
-            self.assertTrue(agree(command.printed, lines), "\n".join([f"{place}: {command.text}", "expected:", *command.printed, "printed:", *lines]))
+            self.assertTrue(
+                agree(command.printed, lines), "\n".join([f"{place}: {command.text}", "expected:", *command.printed, "printed:", *lines])
+            )
+
+
+class Pages(RecipeTest):
+    def test_commands_print_what_the_page_says(self) -> None:
+        for name in PAGES:
+            sections = sections_of(text_at(name))
+            self.assertTrue(sections, name)
+            for section in sections:
+                with self.subTest(page=name, section=section.title):
+                    self.check_section(name, section)
 
 
 class Agreement(unittest.TestCase):
-    def test_lines(self):
-        rows = [
+    def test_lines(self) -> None:
+        rows: list[tuple[list[str], list[str], bool]] = [
             (["a"], ["a"], True),
             (["a"], ["a", "b"], False),
             (["a", "..."], ["a", "b", "c"], True),
@@ -145,11 +158,13 @@ class Agreement(unittest.TestCase):
             with self.subTest(expected=expected, printed=printed):
                 self.assertEqual(agree(expected, printed), same)
 
-    def test_blocks(self):
+    def test_blocks(self) -> None:
         page = "## One\n\n```console\n$ a \\\n> b\nx\n$ c\n```\n\n```sh\n$ no\n```\n\n```make\nall:\n```\n## Two\n"
         [section] = sections_of(page)
         self.assertEqual((section.title, section.makefile), ("One", "all:\n"))
-        self.assertEqual([(command.line, command.text, command.printed) for command in section.commands], [(4, "a \\\nb", ["x"]), (7, "c", [])])
+        self.assertEqual(
+            [(command.line, command.text, command.printed) for command in section.commands], [(4, "a \\\nb", ["x"]), (7, "c", [])]
+        )
 
 
 if __name__ == "__main__":

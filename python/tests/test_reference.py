@@ -7,36 +7,41 @@ import random
 import re
 import subprocess
 import unittest
+from collections.abc import Callable, Iterable, Iterator, Mapping, Sequence
 
-from corpus import EVENT, INSTANCE, TML, TOP, CorpusTest, document, needs_matrix, needs_score
+from corpus import EVENT, INSTANCE, TML, TOP, CorpusTest, document, needs_matrix, needs_score, of_type, text_at
 from reference import Free, Outcome, expected, judge, judge_failing
 from reference.checking import first_refusal, is_supported, refusal
 from reference.civil import date_of, day_of, first_week, weeks_of_year
 from reference.dates import Bounds, extent
-from reference.evidence import Clash, Counterexample, Entailment, Timeline, read_claims, text_of, text_of_claims
-from reference.nets import Calendar, Link, Net, Span, Via, fits, keeps_calendar
-from reference.possible import least_of_each, possible_by_closure, possible_rows, possible_tried
+from reference.evidence import Clash, Counterexample, Entailment, Evidence, Timeline, read_claims, text_of, text_of_claims
+from reference.nets import Calendar, Link, Net, Ranks, Span, Step, Via, fits, interval_at, keeps_calendar
+from reference.possible import Row, least_of_each, possible_by_closure, possible_rows, possible_tried
 from reference.relations import BASE_RELATIONS, RELATIONS, Order, holds, orders_of
 from reference.timelines import all_timelines, closure, least_raised, least_tried, orders_that_fit, rows_of_closure, rows_tried
+from tml.statuses import EVIDENCE_LIMIT
+
+LeastOfPairs = dict[tuple[int, int], dict[bytes, Ranks]]
+"""Of each pair of intervals the relations that are possible, each with its least timeline."""
 
 COMMANDS = ("spans", "check", "dates", "solve", "relations", "canon")
 
 
-def page(name):
-    """The text of a page of the repository."""
-    with open(os.path.join(TOP, name), encoding="utf-8") as file:
-        return file.read()
-
-
-def samples():
+def samples() -> dict[bytes, bytes]:
     """The files that the pages speak of: the samples, and what the tour makes of one of them."""
-    files = {f"samples/{name}".encode(): page(f"samples/{name}").encode() for name in os.listdir(os.path.join(TOP, "samples"))}
-    lines = page("samples/port.xml").splitlines(keepends=True)
+    files = {f"samples/{name}".encode(): text_at(f"samples/{name}").encode() for name in os.listdir(os.path.join(TOP, "samples"))}
+    lines = text_at("samples/port.xml").splitlines(keepends=True)
     mended = "".join(line.replace("DURING", "AFTER") if 'lid="l6"' in line else line for line in lines)
     return {**files, b"mended.xml": mended.encode()}
 
 
-def blocks(text):
+def outcome(line: str, **files: bytes) -> Outcome:
+    """The one outcome of the words of a line, over files with these names."""
+    named = {name.encode(): content for name, content in files.items()}
+    return of_type(Outcome, expected([word.encode() for word in line.split()], named))
+
+
+def blocks(text: str) -> Iterator[tuple[str, str]]:
     """Of each command of the examples of a page its words after `$`, and the lines that it prints."""
     for block in re.findall(r"^```console\n(.*?)^```$", text, re.MULTILINE | re.DOTALL):
         for example in re.split(r"^\$ ", block, flags=re.MULTILINE)[1:]:
@@ -44,7 +49,7 @@ def blocks(text):
             yield command, printed
 
 
-def timelines_of_order(points, open_intervals):
+def timelines_of_order(points: frozenset[int], open_intervals: frozenset[int]) -> Iterator[dict[int, int]]:
     """All ranks of some intervals without a gap: of each rank which points have it, where no end comes before or with its start."""
     if not points:
         yield {}
@@ -57,14 +62,14 @@ def timelines_of_order(points, open_intervals):
                 yield {**{point: 0 for point in first}, **{point: rank + 1 for point, rank in later.items()}}
 
 
-def all_by_order(intervals):
+def all_by_order(intervals: int) -> list[Ranks]:
     """All timelines of some intervals, made in another way than the reference makes them."""
     return [tuple(one[point] for point in range(2 * intervals)) for one in timelines_of_order(frozenset(range(2 * intervals)), frozenset())]
 
 
-def random_net(draw, intervals):
+def random_net(draw: random.Random, intervals: int) -> Net:
     """A net of so many intervals, with few dates and links, so that some clash and some don't."""
-    bounds = []
+    bounds: list[Bounds | None] = []
     for _ in range(intervals):
         low = draw.randrange(4)
         bounds.append(draw.choice([None, Bounds(draw.randrange(2) == 0, low, low + draw.randint(1, 3))]))
@@ -75,12 +80,12 @@ def random_net(draw, intervals):
 class Definitions(unittest.TestCase):
     """What the reference says in two ways is the same."""
 
-    def test_orders_say_the_relation(self):
+    def test_orders_say_the_relation(self) -> None:
         for ranks, relation, (left, right) in itertools.product(all_timelines(2), RELATIONS, itertools.product(range(2), repeat=2)):
-            wanted = holds(ranks[2 * left : 2 * left + 2], relation, ranks[2 * right : 2 * right + 2])
+            wanted = holds(interval_at(ranks, left), relation, interval_at(ranks, right))
             self.assertEqual(all(order.is_true(ranks) for order in orders_of(left, relation, right)), wanted)
 
-    def test_exactly_one_base_relation_holds(self):
+    def test_exactly_one_base_relation_holds(self) -> None:
         base = set(RELATIONS) - {b"IDENTITY", b"DURING", b"DURING_INV"}
         self.assertEqual(len(base), 13)
         for first, second in itertools.product(itertools.combinations(range(5), 2), repeat=2):
@@ -88,14 +93,15 @@ class Definitions(unittest.TestCase):
             self.assertEqual(len(base.intersection(true)), 1, (first, second))
             self.assertEqual(b"OVERLAPS" in true, first[0] < second[0] < first[1] < second[1])
 
-    def test_timelines_that_are_tried_and_walks_say_the_same(self):
+    def test_timelines_that_are_tried_and_walks_say_the_same(self) -> None:
         fitting = 0
         for number in range(200):
             draw = random.Random(number)
             net = random_net(draw, draw.randint(1, 3))
             links = [link for link in range(len(net.links)) if draw.randrange(4)]
             order = Order(draw.randrange(net.points()), draw.randrange(net.points()), draw.randrange(2) == 0)
-            for further in ([], [order], [order.negation()]):
+            none: list[Order] = []
+            for further in (none, [order], [order.negation()]):
                 ranks = draw.choice(all_timelines(net.intervals()))
                 self.assertEqual(keeps_calendar(net, ranks), all(order.is_true(ranks) for order in net.calendar_orders()), (net, ranks))
                 raised = least_raised(net.points(), orders_that_fit(net, links) + further)
@@ -108,7 +114,7 @@ class Definitions(unittest.TestCase):
             self.assertEqual(closure(net).says(order), least_tried(net, every, [order.negation()]) is None, (net, order))
         self.assertGreater(fitting, 50)
 
-    def test_days_and_weeks_are_those_of_python(self):
+    def test_days_and_weeks_are_those_of_python(self) -> None:
         draw = random.Random(0)
         for number in [*range(2000), *(draw.randrange(3_652_059) for _ in range(2000)), 3_652_058]:
             day = datetime.date.fromordinal(number + 1)
@@ -118,7 +124,7 @@ class Definitions(unittest.TestCase):
             self.assertIn(week, range(1, weeks_of_year(year) + 1))
         self.assertEqual(date_of(3_652_059), (10_000, 1, 1))
 
-    def test_extents_are_those_of_sets_of_days(self):
+    def test_extents_are_those_of_sets_of_days(self) -> None:
         days = [datetime.date(1979, 1, 1) + datetime.timedelta(one) for one in range(8800)]
         texts = {shape: [day.strftime(shape) for day in days] for shape in ("%Y", "%Y-%m", "%Y-%m-%d", "%G", "%G-W%V", "%G-W%V-%u")}
         texts["quarter"] = [f"{day.year}-Q{(day.month + 2) // 3}" for day in days]
@@ -134,7 +140,7 @@ class Definitions(unittest.TestCase):
             low, high = ((one - 719_163) * 86_400 for one in (min(belonging), max(belonging) + 1))
             self.assertEqual(extent(value.encode()), (low, high), value)
 
-    def test_evidence_is_supported_where_it_is_not_refused(self):
+    def test_evidence_is_supported_where_it_is_not_refused(self) -> None:
         for number in range(800):
             draw = random.Random(number)
             net = random_net(draw, draw.randint(1, 3))
@@ -145,7 +151,7 @@ class Definitions(unittest.TestCase):
             self.assertEqual(first_refusal(net, claims), refusals[0] if refusals else None)
             self.assertEqual((read_claims(text_of(evidence)), read_claims(text_of_claims(claims))), ((evidence,), claims))
 
-    def evidence(self, draw, net):
+    def evidence(self, draw: random.Random, net: Net) -> Evidence:
         """Evidence of a random kind, which is often nearly right."""
         ranks = draw.choice([*all_timelines(net.intervals())[:40], (0, 1), least_tried(net, range(len(net.links))) or (1, 0)])
         left, right, relation = draw.randrange(4), draw.randrange(3), draw.choice(RELATIONS)
@@ -159,10 +165,10 @@ class Definitions(unittest.TestCase):
         cites = tuple(sorted(draw.sample(range(len(net.links) + 1), draw.randrange(len(net.links) + 2))))
         return Clash(cites, self.steps(draw, net), tuple(ranks for _ in cites))
 
-    def steps(self, draw, net):
+    def steps(self, draw: random.Random, net: Net) -> tuple[Step, ...]:
         """A few steps."""
         points = net.points() + 1
-        made = (
+        made: tuple[Callable[[], Step], ...] = (
             lambda: Via(draw.randrange(4), draw.randrange(3)),
             lambda: Span(draw.randrange(4)),
             lambda: Calendar(draw.randrange(points), draw.randrange(points)),
@@ -173,22 +179,22 @@ class Definitions(unittest.TestCase):
 class PossibleRelations(unittest.TestCase):
     """Which base relations are possible, and the least timelines that have them."""
 
-    def rows_by_brute_force(self, net, timelines):
+    def rows_by_brute_force(self, net: Net, timelines: Iterable[Ranks]) -> tuple[list[Row], LeastOfPairs] | None:
         """The rows, and of each pair the least timelines, by all timelines; none where none fits."""
         found = [ranks for ranks in timelines if fits(net, ranks, range(len(net.links)))]
-        rows, least = [], {}
+        rows: list[Row] = []
+        least: LeastOfPairs = {}
         for left, right in itertools.product(range(net.intervals()), repeat=2):
-            having = {relation: [] for relation in BASE_RELATIONS}
+            having: dict[bytes, list[Ranks]] = {relation: [] for relation in BASE_RELATIONS}
             for ranks in found:
-                pair = ranks[2 * left : 2 * left + 2], ranks[2 * right : 2 * right + 2]
-                [relation] = [one for one in BASE_RELATIONS if holds(pair[0], one, pair[1])]
+                [relation] = [one for one in BASE_RELATIONS if holds(interval_at(ranks, left), one, interval_at(ranks, right))]
                 having[relation].append(ranks)
             least[left, right] = {one: tuple(map(min, zip(*some, strict=True))) for one, some in having.items() if some}
             if left < right:
                 rows.append((left, right, tuple(least[left, right])))
         return (rows, least) if found else None
 
-    def test_nets_by_brute_force(self):
+    def test_nets_by_brute_force(self) -> None:
         fitting, undecided = 0, 0
         for intervals, nets in ((1, 5), (2, 120), (3, 60), (4, 8)):
             timelines = all_by_order(intervals)
@@ -208,13 +214,13 @@ class PossibleRelations(unittest.TestCase):
         self.assertGreater(fitting, 60)
         self.assertGreater(undecided, 10)
 
-    def test_closures_and_timelines_that_are_tried_say_the_same(self):
+    def test_closures_and_timelines_that_are_tried_say_the_same(self) -> None:
         for number in range(150):
             net = random_net(random.Random(f"possible {number}"), random.Random(number).randint(1, 3))
             if least_tried(net, range(len(net.links))) is not None:
                 self.assertEqual(list(possible_by_closure(net)), list(possible_tried(net)), net)
 
-    def test_possible_and_entailed_say_the_same_of_one(self):
+    def test_possible_and_entailed_say_the_same_of_one(self) -> None:
         for number in range(60):
             net = random_net(random.Random(f"one {number}"), 5)
             if least_raised(net.points(), orders_that_fit(net, range(len(net.links)))) is None:
@@ -224,7 +230,7 @@ class PossibleRelations(unittest.TestCase):
 
     HEAD = document(EVENT + "".join(f'<MAKEINSTANCE eiid="{name}" eventID="e1"/>' for name in "abc"))
 
-    def test_answers(self):
+    def test_answers(self) -> None:
         link = '<TLINK eventInstanceID="a" relatedToEventInstance="b" relType="%s"/></TimeML>'
         plain, during = self.HEAD.encode(), self.HEAD.replace("</TimeML>", link % "DURING").encode()
         clash = during.replace(b"</TimeML>", (link % "BEFORE").encode())
@@ -251,7 +257,7 @@ class PossibleRelations(unittest.TestCase):
         for content, line, status, printed in rows:
             found = expected([word.encode() for word in line.split()], {b"d": content})
             self.assertEqual(found, Outcome(status, printed.encode()), line)
-        first, *others = expected([b"matrix", b"d"], {b"d": during}).text.decode().splitlines()
+        first, *others = outcome("matrix d", d=during).text.decode().splitlines()
         every = " ".join(map(bytes.decode, BASE_RELATIONS))
         self.assertEqual((first, others), ("a b IS_INCLUDED SIMULTANEOUS BEGINS ENDS", [f"a c {every}", f"b c {every}"]))
         for line in ("possible d a b", "matrix d"):
@@ -261,9 +267,9 @@ class PossibleRelations(unittest.TestCase):
             spares = b"timeline 3\nat 0 1\nat 2 3\nat 0 1\ntimeline 3\nat 0 1\nat 0 1\nat 0 1\n"
             self.assertIsNone(judge(words, {b"d": clash}, Outcome(2, b"tml-evidence 2\nclaims 1\n" + evidence + spares + b"end\n")))
 
-    def test_words(self):
+    def test_words(self) -> None:
         for line in ("possible d", "possible d a", "possible d a b c", "possible", "matrix", "matrix d d", "Matrix d"):
-            found = expected([word.encode() for word in line.split()], {b"d": b"<TimeML/>"})
+            found = outcome(line, d=b"<TimeML/>")
             self.assertEqual(found.status, 3, line)
             self.assertLessEqual({b"tml possible DOC X Y", b"tml matrix DOC"}, set(found.text.splitlines()), line)
 
@@ -271,9 +277,11 @@ class PossibleRelations(unittest.TestCase):
 class Overlaps(unittest.TestCase):
     """The relations that TimeML does not have."""
 
-    DOCUMENT = document('<TIMEX3 tid="a" type="SET"/><TIMEX3 tid="b" type="SET"/><TLINK timeID="a" relatedToTime="b" relType="OVERLAPS"/>').encode()
+    DOCUMENT = document(
+        '<TIMEX3 tid="a" type="SET"/><TIMEX3 tid="b" type="SET"/><TLINK timeID="a" relatedToTime="b" relType="OVERLAPS"/>'
+    ).encode()
 
-    def test_answers(self):
+    def test_answers(self) -> None:
         proof = b"entails 1 OVERLAPPED_BY 0\nwalk 1\nvia 0 0\nwalk 1\nvia 0 1\nwalk 1\nvia 0 2\n"
         rows = [
             ([b"relations", b"-"], b"a OVERLAPS b\n"),
@@ -283,22 +291,22 @@ class Overlaps(unittest.TestCase):
         for words, text in rows:
             self.assertIsNone(judge(words, {b"-": self.DOCUMENT}, Outcome(0, text)), words)
 
-    def test_overlap_is_no_relation(self):
+    def test_overlap_is_no_relation(self) -> None:
         refused = self.DOCUMENT.replace(b"OVERLAPS", b"OVERLAP")
-        self.assertEqual(expected([b"check", b"-"], {b"-": refused}).text.split()[:3], [b"fault", b"11", b"BadValue"])
+        self.assertEqual(outcome("check d", d=refused).text.split()[:3], [b"fault", b"11", b"BadValue"])
         self.assertEqual(expected([b"ask", b"-", b"a", b"OVERLAP", b"b"], {b"-": self.DOCUMENT}), Outcome(8, b"unknown REL\n"))
 
-    def test_drills_are_those_of_fourteen_relations(self):
+    def test_drills_are_those_of_fourteen_relations(self) -> None:
         for number, figures in {3: (736, 6, 5, 3), 10: (2634, 23, 7, 22)}.items():
-            printed = expected([b"drill", b"%d" % number], {}).text.split()
+            printed = outcome(f"drill {number}").text.split()
             self.assertEqual(tuple(map(int, printed[3:10:2])), figures)
 
 
 class Pages(unittest.TestCase):
     """What the pages print of their examples."""
 
-    def test_smallest_documents_of_the_page_on_faults(self):
-        found = re.findall(r"^Smallest: `([^`\n]+)`\s\(`(fault .*?)`\)", page("docs/FAULTS.md"), re.MULTILINE)
+    def test_smallest_documents_of_the_page_on_faults(self) -> None:
+        found = re.findall(r"^Smallest: `([^`\n]+)`\s\(`(fault .*?)`\)", text_at("docs/FAULTS.md"), re.MULTILINE)
         times = "".join(f'<TIMEX3 tid="t{one:04}" type="DATE"/>' for one in range(1025))
         links = 4097 * '<TLINK timeID="t0000" relatedToTime="t0000" relType="IDENTITY"/>'
         made = [
@@ -312,8 +320,8 @@ class Pages(unittest.TestCase):
         for text, line in found + made:
             self.assertEqual(expected([b"check", b"-"], {b"-": text.encode("latin-1")}), Outcome(1, f"{line}\n".encode()), text)
 
-    def test_values_of_the_page_on_dates(self):
-        rows = re.findall(r"^\| `([^`]+)` \| (.*?) \| `((?:exact|within|free|fault) ?.*?)` \|", page("docs/DATES.md"), re.MULTILINE)
+    def test_values_of_the_page_on_dates(self) -> None:
+        rows = re.findall(r"^\| `([^`]+)` \| (.*?) \| `((?:exact|within|free|fault) ?.*?)` \|", text_at("docs/DATES.md"), re.MULTILINE)
         self.assertGreater(len(rows), 50)
         for value, words, printed in rows:
             kind = words if words in ("TIME", "DURATION", "SET") else "DATE"
@@ -322,10 +330,10 @@ class Pages(unittest.TestCase):
             wanted = Outcome(1, f"{printed}\n".encode()) if printed.startswith("fault") else Outcome(0, f"t {printed}\n".encode())
             self.assertEqual(expected([b"dates", b"-"], {b"-": text}), wanted, value)
 
-    def test_commands_of_the_pages(self):
+    def test_commands_of_the_pages(self) -> None:
         files, asked = samples(), 0
         for name in ("README.md", "docs/TOUR.md", "docs/CLASHES.md"):
-            for command, printed in blocks(page(name)):
+            for command, printed in blocks(text_at(name)):
                 words = command.split()
                 if words[0] != "tml" or "|" in words or ">" in words or (words[1] != "drill" and words[2].encode() not in files):
                     continue
@@ -333,7 +341,7 @@ class Pages(unittest.TestCase):
                 self.is_printed([word.encode() for word in words[1:]], files, printed)
         self.assertGreater(asked, 8)
 
-    def is_printed(self, words, files, printed):
+    def is_printed(self, words: Sequence[bytes], files: Mapping[bytes, bytes], printed: str) -> None:
         """What a page prints is right; where it leaves lines out, these are not asked."""
         wanted = expected(words, files)
         if "...\n" not in printed:
@@ -342,9 +350,9 @@ class Pages(unittest.TestCase):
             pattern = ".*\n".join(map(re.escape, printed.split("...\n")))
             self.assertRegex(wanted.text.decode(), re.compile(f"^{pattern}$", re.DOTALL))
 
-    def test_a_clash_that_a_page_prints_and_others_that_are_wrong(self):
+    def test_a_clash_that_a_page_prints_and_others_that_are_wrong(self) -> None:
         files, talks = samples(), b"samples/talks.xml"
-        right = dict(blocks(page("docs/CLASHES.md")))["tml solve samples/talks.xml"].encode()
+        right = dict(blocks(text_at("docs/CLASHES.md")))["tml solve samples/talks.xml"].encode()
         slips = ((b"at 4 5\n", b"at 4 6\n"), (b"cite 2\n", b""), (b"clash 3", b"clash 2"), (b"via 2 1", b"via 2 0"), (b"end\n", b"end"))
         for words in ([b"solve", talks], [b"relations", talks], [b"ask", talks, b"t1", b"ENDS", b"t2"]):
             self.assertIsNone(judge(words, files, Outcome(2, right)))
@@ -357,7 +365,7 @@ class Pages(unittest.TestCase):
 class Failing(unittest.TestCase):
     """Reads that fail, and sinks with little room."""
 
-    def test_reads(self):
+    def test_reads(self) -> None:
         files = {b"d": b"<TimeML/>"}
         fault = Outcome(4, b"read fault\n")
         self.assertEqual(expected([b"check", b"e"], files), fault)
@@ -366,7 +374,7 @@ class Failing(unittest.TestCase):
         self.assertIsNotNone(judge_failing([b"spans", b"d"], files, fault, reads_failed=False, room=None))
         self.assertIsNotNone(judge_failing([b"drill", b"1"], files, fault, reads_failed=True, room=None))
 
-    def test_room(self):
+    def test_room(self) -> None:
         words, files, text = [b"spans", b"d"], {b"d": b"<TimeML/>"}, b"0 9 empty TimeML\n"
         for room, outcome, right in (
             (17, Outcome(0, text), True),
@@ -384,7 +392,7 @@ class Failing(unittest.TestCase):
 class Program(CorpusTest):
     """What `tml` prints is what the reference says."""
 
-    def is_right(self, words, files):
+    def is_right(self, words: Sequence[bytes], files: Mapping[bytes, bytes]) -> bytes:
         """Runs the program over files of these contents."""
         for name, content in files.items():
             self.write(name.decode(), content)
@@ -394,7 +402,7 @@ class Program(CorpusTest):
         self.assertIsNone(judge(words, files, Outcome(run.returncode, run.stdout)), words)
         return run.stdout
 
-    def test_samples(self):
+    def test_samples(self) -> None:
         files = samples()
         names = sorted(name for name in files if name.endswith(b".xml"))
         for name, command in itertools.product(names, COMMANDS):
@@ -403,7 +411,7 @@ class Program(CorpusTest):
                 self.is_right([b"verify", name, b"evidence"], {**files, b"evidence": text})
 
     @needs_matrix
-    def test_what_is_possible(self):
+    def test_what_is_possible(self) -> None:
         files = samples()
         for name in sorted(name for name in files if name.endswith(b".xml")):
             self.is_right([b"matrix", name], files)
@@ -412,7 +420,7 @@ class Program(CorpusTest):
             self.is_right([b"possible", b"d", left, right], files)
 
     @needs_score
-    def test_reduced_links_and_scores(self):
+    def test_reduced_links_and_scores(self) -> None:
         files = samples()
         names = sorted(name for name in files if name.endswith(b".xml"))
         for name, other in itertools.product(names, repeat=2):
@@ -420,13 +428,13 @@ class Program(CorpusTest):
         for name in names:
             self.is_right([b"reduce", name], files)
 
-    def test_questions(self):
+    def test_questions(self) -> None:
         files = {b"d": samples()[b"samples/rates.xml"]}
         for left, right, relation in itertools.product([b"ei1", b"t1"], [b"t0", b"ei1", b"ei2"], RELATIONS[::2]):
             text = self.is_right([b"ask", b"d", left, relation, right], files)
             self.is_right([b"verify", b"d", b"evidence"], {**files, b"evidence": text})
 
-    def test_words(self):
+    def test_words(self) -> None:
         files = {b"d": document(EVENT + INSTANCE).encode()}
         self.is_right([b"check", b"\xff"], files)
         lines = ("spans", "check e", "drill 0", "drill 7", "drill 07", "ask d i1 LATER i2", "ask d i2 LATER i1", "verify d e", "canon d d")
@@ -440,11 +448,11 @@ BOTH = b"tml-evidence 2\nclaims 2\n" + PROOF[15:-4] + TIMELINE[15:-4] + b"end\n"
 CHAIN = document(
     EVENT
     + "".join(f'<MAKEINSTANCE eiid="{name}" eventID="e1"/>' for name in "abc")
-    + "".join(f'<TLINK eventInstanceID="{a}" relatedToEventInstance="{b}" relType="BEFORE"/>' for a, b in ("ab", "bc"))
+    + "".join(f'<TLINK eventInstanceID="{a}" relatedToEventInstance="{b}" relType="BEFORE"/>' for a, b in (("a", "b"), ("b", "c")))
 ).encode()
 
 
-def claims(number, *bodies):
+def claims(number: int, *bodies: bytes) -> bytes:
     """A text of version 2."""
     return b"tml-evidence 2\nclaims %d\n%send\n" % (number, b"".join(bodies))
 
@@ -452,7 +460,7 @@ def claims(number, *bodies):
 class Texts(unittest.TestCase):
     """The bad lines of texts that are evidence but for a line."""
 
-    def test_bad_lines(self):
+    def test_bad_lines(self) -> None:
         clash = Clash((1, 2), (Span(0), Via(1, 0)), ((0, 1), (0, 1)))
         proof = Entailment(0, b"ENDS", 1, ((), (Via(0, 0),), (Calendar(0, 1), Span(0))))
         counter = Counterexample(0, b"AFTER", 1, (0, 1))
@@ -469,7 +477,7 @@ class Texts(unittest.TestCase):
             self.assertEqual(read_claims(right + b"\n"), len(lines) + 1)
             self.assertEqual(read_claims(right + b"x"), len(lines) + 1)
 
-    def test_bad_numbers(self):
+    def test_bad_numbers(self) -> None:
         for head, before in ((b"tml-evidence 1\n", 1), (b"tml-evidence 2\nclaims 2\ntimeline 0\n", 3)):
             self.assertEqual(read_claims(head + b"clash 2\ncite 4294967295\n"), before + 2)
             self.assertEqual(read_claims(head + b"clash 2\ncite 4294967294\ncite 4294967295\n"), before + 4)
@@ -479,7 +487,7 @@ class Texts(unittest.TestCase):
             self.assertEqual(read_claims(b"tml-evidence 2\nclaims %s\ntimeline 0\nend\n" % number), 2, number)
         self.assertEqual(read_claims(b"tml-evidence 2\nclaims 4294967295\ntimeline 0\n"), 4)
 
-    def test_bad_claims(self):
+    def test_bad_claims(self) -> None:
         body = b"timeline 1\nat 0 1\n"
         rows = [
             (b"", 1),
@@ -501,16 +509,15 @@ class Texts(unittest.TestCase):
         for text, line in rows:
             self.assertEqual(read_claims(text), line, text)
 
-    def test_free_answers_say_so(self):
-        wanted = expected([b"ask", b"d", b"i1", b"IDENTITY", b"i1"], {b"d": document(EVENT + INSTANCE).encode()})
-        self.assertIsInstance(wanted, Free)
+    def test_free_answers_say_so(self) -> None:
+        wanted = of_type(Free, expected([b"ask", b"d", b"i1", b"IDENTITY", b"i1"], {b"d": document(EVENT + INSTANCE).encode()}))
         body = b"entails 0 IDENTITY 0\nwalk 0\nwalk 0\nwalk 0\nwalk 0\n"
         self.assertTrue(wanted.is_right(claims(1, body)))
         wrong = (b"tml-evidence 1\n" + body + b"end\n", claims(2, body, body), claims(1, body.replace(b"IDENTITY", b"SIMULTANEOUS")))
         for text in wrong:
             self.assertFalse(wanted.is_right(text), text)
 
-    def test_free_answers_that_are_cut_off(self):
+    def test_free_answers_that_are_cut_off(self) -> None:
         words, files = [b"ask", b"d", b"i1", b"IDENTITY", b"i1"], {b"d": document(EVENT + INSTANCE).encode()}
         whole = claims(1, b"entails 0 IDENTITY 0\nwalk 0\nwalk 0\nwalk 0\nwalk 0\n")
         others = (whole.replace(b"2", b"1", 1), whole.replace(b"claims 1", b"claims 2"))
@@ -522,12 +529,11 @@ class Texts(unittest.TestCase):
 class SeveralClaims(unittest.TestCase):
     """What `renew`, `join` and `verify` say of texts of both versions."""
 
-    def is_answered(self, line, status, text, **files):
-        """What is answered to words."""
-        named = {name.encode(): content for name, content in files.items()}
-        self.assertEqual(expected([word.encode() for word in line.split()], named), Outcome(status, text), line)
+    def is_answered(self, line: str, status: int, text: bytes, **files: bytes) -> None:
+        """Checks what is answered to words."""
+        self.assertEqual(outcome(line, **files), Outcome(status, text), line)
 
-    def test_renew(self):
+    def test_renew(self) -> None:
         self.is_answered("renew e", 0, claims(1, PROOF[15:-4]), e=PROOF)
         self.is_answered("renew e", 0, claims(1, PROOF[15:-4]), e=claims(1, PROOF[15:-4]))
         self.is_answered("renew e", 0, BOTH, e=BOTH)
@@ -535,7 +541,7 @@ class SeveralClaims(unittest.TestCase):
         self.is_answered("renew e", 7, b"evidence line 1\n", e=b"tml-evidence 3\n")
         self.is_answered("renew e", 4, b"read fault\n")
 
-    def test_join(self):
+    def test_join(self) -> None:
         self.is_answered("join e f", 0, BOTH, e=PROOF, f=TIMELINE)
         self.is_answered("join e e", 0, claims(4, BOTH[24:-4], BOTH[24:-4]), e=BOTH)
         self.is_answered("join e f", 7, b"evidence line 1\n", e=b"x", f=b"y")
@@ -549,8 +555,8 @@ class SeveralClaims(unittest.TestCase):
         self.assertEqual(expected([b"join", b"-", b"e"], standard), Outcome(0, BOTH))
         self.assertEqual(expected([b"join", b"-", b"-"], standard), Outcome(7, b"second line 1\n"))
 
-    def test_limits(self):
-        long, least = b" " * 67_108_865, b" " * 67_108_864
+    def test_limits(self) -> None:
+        long, least = b" " * (EVIDENCE_LIMIT + 1), b" " * EVIDENCE_LIMIT
         self.is_answered("renew e", 9, b"too long EVIDENCE\n", e=long)
         self.is_answered("renew e", 7, b"evidence line 1\n", e=least)
         self.is_answered("join e f", 9, b"too long EVIDENCE\n", e=long, f=long)
@@ -559,7 +565,7 @@ class SeveralClaims(unittest.TestCase):
         self.is_answered("join e f", 7, b"second line 1\n", e=PROOF, f=least)
         self.is_answered("verify d e", 9, b"too long EVIDENCE\n", d=CHAIN, e=long)
 
-    def test_verify(self):
+    def test_verify(self) -> None:
         shown = b"verified entails a BEFORE c\nverified timeline\n"
         self.is_answered("verify d e", 0, shown, d=CHAIN, e=BOTH)
         self.is_answered("verify d e", 0, b"verified timeline\n", d=CHAIN, e=TIMELINE)
@@ -568,15 +574,15 @@ class SeveralClaims(unittest.TestCase):
         self.is_answered("verify d e", 7, b"evidence claim 0 part 1 Link 1\n", d=CHAIN, e=TIMELINE.replace(b"at 4", b"at 3"))
         self.is_answered("verify d e", 7, b"evidence line 8\n", d=CHAIN, e=BOTH.replace(b"claims 2", b"claims 1"))
 
-    def test_what_is_printed(self):
+    def test_what_is_printed(self) -> None:
         self.is_answered("solve d", 0, claims(1, TIMELINE[15:-4]), d=CHAIN)
         counter = claims(1, b"counter 2 BEFORE 0\n", TIMELINE[15:-4])
         self.is_answered("ask d c BEFORE a", 0, counter, d=CHAIN)
-        proof = expected([b"ask", b"d", b"a", b"BEFORE", b"c"], {b"d": CHAIN})
+        proof = of_type(Free, expected([b"ask", b"d", b"a", b"BEFORE", b"c"], {b"d": CHAIN}))
         self.assertTrue(proof.is_right(claims(1, PROOF[15:-4])))
         self.assertFalse(proof.is_right(PROOF))
 
-    def test_drills(self):
+    def test_drills(self) -> None:
         text = "drill 1024\nbytes 309328\nlinks 2694\ngreatest 25\nrelations 28167\nverified timeline\n"
         self.assertEqual(expected([b"drill", b"1024"], {}), Outcome(0, text.encode()))
         for number in (b"0", b"1025", b"01024", b"+1", b"1024 ", b""):

@@ -12,65 +12,16 @@ import tomllib
 import unittest
 from unittest import mock
 
-from corpus import COMPANION, EVENT, INSTANCE, TML, TOP, CorpusTest, document
+from corpus import COMPANION, EVENT, INSTANCE, TML, CorpusTest, document
+from serving import ServeTest
 
 from tml_corpus.serve.server import Server
 from tml_corpus.serve.inbox import Message
 from tml_corpus.serve.places import UTF_8, UTF_16, ClientPlaces
-from tml_corpus.serve.wire import Incoming
 
 HERE = os.path.dirname(os.path.abspath(__file__))
 DAYS = '<TIMEX3 tid="t1" type="DATE" value="1998-02-26">Thursday</TIMEX3> <TIMEX3 tid="t2" type="DATE" value="1998-02-27">Friday</TIMEX3>\n'
 TOUCHING = document(DAYS + '<TLINK timeID="t1" relatedToTime="t2" relType="BEFORE"/>\n')
-
-
-class Client:
-    """An editor: it sends, and takes what comes."""
-
-    def __init__(self, folder, *words):
-        self.child = subprocess.Popen(
-            [sys.executable, COMPANION, "serve", "--tml", TML, *words],
-            cwd=folder,
-            stdin=subprocess.PIPE,
-            stdout=subprocess.PIPE,
-            stderr=subprocess.PIPE,
-            env={**os.environ, "PYTHONDONTWRITEBYTECODE": "1"},
-        )
-        self.incoming = Incoming(lambda size: os.read(self.child.stdout.fileno(), size))
-        self.number, self.told = 0, []
-
-    def send(self, *messages):
-        """Sends messages at once, as they may lie together in a pipe."""
-        bodies = [one if isinstance(one, bytes) else json.dumps({"jsonrpc": "2.0", **one}).encode() for one in messages]
-        self.child.stdin.write(b"".join(b"Content-Length: %d\r\n\r\n%s" % (len(body), body) for body in bodies))
-        self.child.stdin.flush()
-
-    def receive(self):
-        return json.loads(self.incoming.body())
-
-    def request(self, method, params):
-        self.number += 1
-        return {"id": self.number, "method": method, "params": params}
-
-    def answer(self, number):
-        """The answer to a request; what else comes is kept."""
-        while (message := self.receive()).get("id") != number or "method" in message:
-            self.told.append(message)
-        return message
-
-    def ask(self, method, params=None):
-        self.send(self.request(method, params))
-        return self.answer(self.number)["result"]
-
-    def tell(self, method, params):
-        self.send({"method": method, "params": params})
-
-    def findings(self, version=None):
-        """What is said next of a document, in a version where one is given."""
-        while True:
-            message = self.told.pop(0) if self.told else self.receive()
-            if message.get("method") == "textDocument/publishDiagnostics" and (version is None or message["params"].get("version") == version):
-                return message["params"]["diagnostics"]
 
 
 class Places(unittest.TestCase):
@@ -95,75 +46,6 @@ class Places(unittest.TestCase):
         self.assertEqual(ClientPlaces(text, UTF_8).position(end), {"line": 0, "character": 7})
         for line, character, offset in ((0, 99, end), (9, 0, len(text)), (0, 2, 1), (-1, 0, 0)):
             self.assertEqual(ClientPlaces(text, UTF_16).offset({"line": line, "character": character}), offset)
-
-
-class ServeTest(CorpusTest):
-    def client(self, *words, **capabilities):
-        """An editor that has begun to talk."""
-        client = Client(self.folder, *words)
-        self.addCleanup(client.child.stderr.close)
-        self.addCleanup(client.child.stdout.close)
-        self.addCleanup(client.child.stdin.close)
-        self.addCleanup(client.child.wait, 60)
-        self.addCleanup(client.child.kill)
-        self.can = client.ask("initialize", {"processId": None, "rootUri": None, "capabilities": capabilities})["capabilities"]
-        client.tell("initialized", {})
-        return client
-
-    def uri(self, name="d.xml"):
-        return "file://" + self.path(name)
-
-    def opened(self, client, text, name="d.xml"):
-        """Opens a document, and answers what is said of it at first."""
-        self.text = text
-        client.tell("textDocument/didOpen", {"textDocument": {"uri": self.uri(name), "languageId": "xml", "version": 1, "text": text}})
-        return client.findings(1)
-
-    def changed(self, client, text, version, name="d.xml"):
-        self.text = text
-        client.tell("textDocument/didChange", self.change(text, version, name))
-        return client.findings(version)
-
-    def change(self, text, version, name="d.xml"):
-        return {"textDocument": {"uri": self.uri(name), "version": version}, "contentChanges": [{"text": text}]}
-
-    def at(self, needle, more=0):
-        """The position of a text in the document."""
-        before = self.text[: self.text.index(needle) + more]
-        line = before.rfind("\n") + 1
-        return {"line": before.count("\n"), "character": len(before[line:].encode("utf-16-le")) // 2}
-
-    def about(self, needle, more=0):
-        return {"textDocument": {"uri": self.uri()}, "position": self.at(needle, more)}
-
-    def hover(self, client, needle, more=0):
-        found = client.ask("textDocument/hover", self.about(needle, more))
-        return found and found["contents"]["value"].replace("\\", "")
-
-    def stretch(self, given):
-        """The text of a range."""
-        lines = self.text.split("\n")
-        first, last = given["start"], given["end"]
-        self.assertEqual(first["line"], last["line"])
-        return lines[first["line"]].encode("utf-16-le")[2 * first["character"] : 2 * last["character"]].decode("utf-16-le")
-
-    def actions(self, client, needle, **context):
-        where = self.at(needle)
-        given = {"textDocument": {"uri": self.uri()}, "range": {"start": where, "end": where}, "context": {"diagnostics": [], **context}}
-        return client.ask("textDocument/codeAction", given)
-
-    def applied(self, action):
-        """The document after the edits of an action."""
-        [edits] = action["edit"]["changes"].values()
-        text, places = self.text.encode(), ClientPlaces(self.text.encode(), UTF_16)
-        for edit in sorted(edits, key=lambda edit: (edit["range"]["start"]["line"], edit["range"]["start"]["character"]), reverse=True):
-            start, end = places.stretch(edit["range"])
-            text = text[:start] + edit["newText"].encode() + text[end:]
-        return text.decode()
-
-    def sample(self, name):
-        with open(os.path.join(TOP, "samples", name), encoding="utf-8") as file:
-            return file.read()
 
 
 class Session(ServeTest):
@@ -385,13 +267,11 @@ class Protocol(ServeTest):
         self.assertEqual(client.answer(client.number)["error"]["code"], -32600)
 
     def test_before_initialize_and_without_an_end(self):
-        client = Client(self.folder)
+        client = self.started()
         client.send(client.request("textDocument/hover", {}))
         self.assertEqual(client.answer(1)["error"]["code"], -32002)
         client.child.stdin.close()
         self.assertEqual(client.child.wait(60), 1)
-        for stream in (client.child.stdout, client.child.stderr):
-            stream.close()
 
     def test_a_wire_that_is_broken(self):
         for sent in (b"Content-Length: x\r\n\r\n", b"Content-Length: 99999999999\r\n\r\n", b"x" * 9000, b"Content-Length: 9\r\n\r\n{"):

@@ -6,8 +6,9 @@ import subprocess
 import unittest
 
 import ordinary
-from corpus import EVENT, INSTANCE, TML, CorpusTest, document
-from test_scripts import RELATIONS, ScriptTest, link
+from corpus import EVENT, INSTANCE, TML, CorpusTest, document, text_at
+from test_scripts import ScriptTest, link
+from tml.statuses import DOCUMENT_LIMIT, RELATIONS
 
 VALUES = ("1998", "1998-H1", "199", "1998-Q1", "1998-01", "1998-12", "1998-01-01", "1998-01-02", "1998-12-31", "1999-01-01")
 SISTERS = {
@@ -16,25 +17,28 @@ SISTERS = {
     "IS_INCLUDED": ("BEGINS", "ENDS", "DURING"),
     "INCLUDES": ("BEGUN_BY", "ENDED_BY", "DURING_INV"),
 }
-DAYS = '<TIMEX3 tid="a" type="DATE" value="1998-02-26">Thursday</TIMEX3><TIMEX3 tid="b" type="DATE" value="1998-02-27">27 February</TIMEX3>\n'
+DAYS = (
+    '<TIMEX3 tid="a" type="DATE" value="1998-02-26">Thursday</TIMEX3>'
+    '<TIMEX3 tid="b" type="DATE" value="1998-02-27">27 February</TIMEX3>\n'
+)
 YEAR = '<TIMEX3 tid="q" type="DATE" value="1998-Q1">that quarter</TIMEX3><TIMEX3 tid="y" type="DATE" value="1998">the year</TIMEX3>\n'
 TOUCHING = link("a", "BEFORE", "b") + "\n" + link("y", "INCLUDES", "q") + "\n"
 OUTRIGHT = link("b", "BEFORE", "a") + "\n"
 
 
-def date(name, value, kind="DATE"):
+def date(name: str, value: str, kind: str = "DATE") -> str:
     """A TIMEX3."""
     return f'<TIMEX3 tid="{name}" type="{kind}" value="{value}"/>'
 
 
 class Relations(CorpusTest):
-    def fits(self, content):
+    def fits(self, content: str) -> bool:
         """Whether a timeline fits a document, as `tml` says."""
         status = subprocess.run([TML, "solve", "-"], input=content.encode(), stdout=subprocess.DEVNULL, check=False).returncode
         self.assertIn(status, (0, 2))
         return status == 0
 
-    def test_the_relation_that_holds_is_the_one_that_tml_accepts(self):
+    def test_the_relation_that_holds_is_the_one_that_tml_accepts(self) -> None:
         from tml_corpus.asking.program import Program
         from tml_corpus.clash.touching import touching_changes
         from tml_corpus.document.words import Wording
@@ -53,25 +57,31 @@ class Relations(CorpusTest):
                     wanted = None if not held or self.fits(document(times + link(left, relation, right))) else held[0]
                     self.assertEqual(found.get((left, right)), wanted)
 
-    def test_other_links_are_not_changed(self):
+    def test_other_links_are_not_changed(self) -> None:
         from tml_corpus.clash.touching import touching_relation
 
         for relation in set(RELATIONS) - set(SISTERS):
             self.assertIsNone(touching_relation(relation, (0, 1), (1, 2)))
             self.assertIsNone(touching_relation(relation, (0, 1), (0, 1)))
 
-    def test_only_dates_that_the_calendar_fixes(self):
-        rows = [(date("a", "1998-01-XX"), date("b", "1998-01")), (date("a", "1998-01", "SET"), date("b", "1998")), (date("a", "1998"), EVENT + INSTANCE)]
+    def test_only_dates_that_the_calendar_fixes(self) -> None:
+        rows = [
+            (date("a", "1998-01-XX"), date("b", "1998-01")),
+            (date("a", "1998-01", "SET"), date("b", "1998")),
+            (date("a", "1998"), EVENT + INSTANCE),
+        ]
         for left, right in rows:
             name = "i1" if right.startswith("<EVENT") else "b"
             target = "relatedToEventInstance" if name == "i1" else "relatedToTime"
             content = document(left + right + f'<TLINK timeID="a" {target}="{name}" relType="IS_INCLUDED"/>')
             self.write("d.xml", content)
-            self.assertEqual(self.run_it("clashes", "--touching", "d.xml")[1], ["1 file: 0 with a clash, 1 without, 0 with a fault, 0 not judged"])
+            self.assertEqual(
+                self.run_it("clashes", "--touching", "d.xml")[1], ["1 file: 0 with a clash, 1 without, 0 with a fault, 0 not judged"]
+            )
 
 
 class Reports(CorpusTest):
-    def test_each_link_has_its_cure(self):
+    def test_each_link_has_its_cure(self) -> None:
         self.write("d.xml", document(DAYS + YEAR + TOUCHING))
         status, lines, _ = self.run_it("clashes", "d.xml")
         self.assertEqual(status, 1)
@@ -89,7 +99,7 @@ class Reports(CorpusTest):
             ],
         )
 
-    def test_read_as_touching(self):
+    def test_read_as_touching(self) -> None:
         self.write("d.xml", document(DAYS + YEAR + TOUCHING))
         for words in (("clashes", "--touching"), ("check", "--clashes", "--touching")):
             with self.subTest(words):
@@ -102,16 +112,18 @@ class Reports(CorpusTest):
                 self.assertEqual(lines[3], "      2  links between dates that touch, in 1 file, read so")
         self.assertEqual(self.run_it("clashes", "--touching", "--quiet", "d.xml"), (0, [], ""))
 
-    def test_what_the_calendar_contradicts_outright_stays(self):
+    def test_what_the_calendar_contradicts_outright_stays(self) -> None:
         self.write("d.xml", document(DAYS + YEAR + TOUCHING + OUTRIGHT))
         for words, touching in (((), " error: Thursday ends"), (("--touching",), " note: read as IBEFORE")):
             with self.subTest(words):
                 status, lines, _ = self.run_it("clashes", *words, "d.xml")
-                self.assertEqual((status, lines[0]), (1, "d.xml:6:1: error: clash, 1 of 1: 27 February BEFORE Thursday (link 2: b BEFORE a)"))
+                self.assertEqual(
+                    (status, lines[0]), (1, "d.xml:6:1: error: clash, 1 of 1: 27 February BEFORE Thursday (link 2: b BEFORE a)")
+                )
                 self.assertIn("d.xml:4:1:" + touching, "\n".join(lines))
                 self.assertIn("1 file: 1 with a clash, 0 without", lines[-2])
 
-    def test_evidence_is_of_the_document_itself(self):
+    def test_evidence_is_of_the_document_itself(self) -> None:
         self.write("d.xml", document(DAYS + YEAR + TOUCHING + OUTRIGHT))
         self.write("e.xml", document(DAYS + YEAR + TOUCHING))
         for words in (("--touching",), ()):
@@ -122,7 +134,7 @@ class Reports(CorpusTest):
                 judged = subprocess.run([TML, "verify", path, evidence], cwd=self.folder, stdout=subprocess.PIPE, check=False)
                 self.assertEqual((judged.returncode, judged.stdout[:15]), (0, b"verified clash "))
 
-    def test_equal_ends_through_an_event(self):
+    def test_equal_ends_through_an_event(self) -> None:
         month = '<TIMEX3 tid="b" type="DATE" value="1998-02">the month</TIMEX3>'
         first = '<TIMEX3 tid="a" type="DATE" value="1998-02-01">Sunday</TIMEX3>'
         rows = [
@@ -139,59 +151,61 @@ class Reports(CorpusTest):
                 self.assertEqual(cures, [] if said is None else [f"the dates and the other links leave {said} would not clash with them"])
                 self.assertEqual((status, lines[-1]), (1, "1 file: 1 with a clash, 0 without, 0 with a fault, 0 not judged"))
 
-    def test_clashes_that_only_meet_at_equal_ends_have_no_such_cure(self):
-        with open(os.path.join(os.path.dirname(os.path.dirname(os.path.dirname(__file__))), "samples", "talks.xml"), "rb") as file:
-            self.write("talks.xml", file.read())
+    def test_clashes_that_only_meet_at_equal_ends_have_no_such_cure(self) -> None:
+        self.write("talks.xml", text_at("samples/talks.xml"))
         _, lines, _ = self.run_it("clashes", "talks.xml")
         self.assertIn("ends at 1998-01-09T00:00:00, and 9 January starts at 1998-01-09T00:00:00", lines[-4])
         self.assertFalse([line for line in lines if "would not clash" in line or "touch" in line])
 
-    def test_forms(self):
+    def test_forms(self) -> None:
         self.write("d.xml", document(DAYS + YEAR + TOUCHING))
         _, [line], _ = self.run_it("clashes", "--format", "jsonl", "d.xml")
         self.assertEqual(json.loads("\n".join(self.run_it("clashes", "--format", "json", "d.xml")[1])), [json.loads(line)])
         told = json.loads(line)
         self.assertEqual((told["verdict"], [one["holds"] for one in told["touching"]]), ("dates that touch", ["IBEFORE", "BEGUN_BY"]))
-        self.assertEqual(told["touching"][0]["message"], "Thursday ends exactly where 27 February begins, and BEFORE asks for a gap: write IBEFORE")
+        self.assertEqual(
+            told["touching"][0]["message"], "Thursday ends exactly where 27 February begins, and BEFORE asks for a gap: write IBEFORE"
+        )
         _, [line], _ = self.run_it("clashes", "--format", "jsonl", "--touching", "d.xml")
         self.assertEqual((json.loads(line)["verdict"], json.loads(line)["readTouching"], json.loads(line)["clashes"]), ("fits", True, []))
         _, lines, _ = self.run_it("clashes", "--format", "github", "d.xml")
         self.assertEqual([line.split("::")[1].split(",title=")[1] for line in lines if line.startswith("::")], ["dates that touch"] * 2)
 
-    def test_ordinary_documents(self):
+    def test_ordinary_documents(self) -> None:
         # docs/CLASHES.md has the counts of 2,000 of them.
         ordinary.write(self.path("o"), 60)
-        counts = {}
-        for words in ((), ("--touching",)):
-            verdicts = [json.loads(line)["verdict"] for line in self.run_it("clashes", "--format", "jsonl", *words, "o")[1]]
+        counts: dict[str, list[int]] = {}
+        for words in ("", "--touching"):
+            verdicts = [json.loads(line)["verdict"] for line in self.run_it("clashes", "--format", "jsonl", *words.split(), "o")[1]]
             counts[words] = [verdicts.count(verdict) for verdict in ("clash", "dates that touch", "fits")]
-        clash, touch, fit = counts[()]
+        clash, touch, fit = counts[""]
         self.assertGreater(touch, 10)
-        self.assertEqual(counts[("--touching",)], [clash, 0, touch + fit])
+        self.assertEqual(counts["--touching"], [clash, 0, touch + fit])
 
 
 class Pictures(CorpusTest):
-    def test_timeline(self):
+    def test_timeline(self) -> None:
         self.write("d.xml", document(DAYS + YEAR + TOUCHING))
         status, lines, _ = self.run_it("timeline", "--touching", "d.xml", "-o", "d.svg")
         self.assertEqual((status, len(lines)), (0, 3))
         self.assertRegex(lines[2], r"^d\.xml: drawn in d\.svg: 4 intervals, 2 links, ")
-        with open(self.path("d.svg"), encoding="utf-8") as file:
-            self.assertIn("Thursday IBEFORE 27 February (link 0: a IBEFORE b)", file.read())
+        self.assertIn("Thursday IBEFORE 27 February (link 0: a IBEFORE b)", self.read_text("d.svg"))
         os.unlink(self.path("d.svg"))
-        for words, content in (((), TOUCHING), (("--touching",), TOUCHING + OUTRIGHT)):
+        for words, content in (("", TOUCHING), ("--touching", TOUCHING + OUTRIGHT)):
             with self.subTest(words):
                 self.write("d.xml", document(DAYS + YEAR + content))
-                status, lines, _ = self.run_it("timeline", *words, "d.xml", "-o", "d.svg")
+                status, lines, _ = self.run_it("timeline", *words.split(), "d.xml", "-o", "d.svg")
                 self.assertEqual((status, lines[-1]), (1, "d.xml: not drawn: no timeline fits, since these links clash"))
                 self.assertFalse(os.path.exists(self.path("d.svg")))
 
 
 class Edits(ScriptTest):
-    def test_touching_dates(self):
+    def test_touching_dates(self) -> None:
         hard = "<TLINK\n relatedToTime = 'b' relType\t=\n'BEFORE' timeID='a'><!-- relType='BEFORE' --></TLINK>\n"
         before = document(DAYS + YEAR + hard + TOUCHING + OUTRIGHT)
-        after = before.replace("\n'BEFORE'", "\n'IBEFORE'").replace('relType="BEFORE"/>\n<TLINK timeID="y"', 'relType="IBEFORE"/>\n<TLINK timeID="y"')
+        after = before.replace("\n'BEFORE'", "\n'IBEFORE'").replace(
+            'relType="BEFORE"/>\n<TLINK timeID="y"', 'relType="IBEFORE"/>\n<TLINK timeID="y"'
+        )
         after = after.replace('"INCLUDES"', '"BEGUN_BY"')
         self.write("d.xml", before)
         status, out, error = self.run_script("tml-edit", "--touching-dates", "d.xml")
@@ -208,15 +222,15 @@ class Edits(ScriptTest):
         # What was written so needs no second writing.
         self.assertEqual(self.run_script("tml-edit", "--touching-dates", "-", given=out.encode()), (0, out, ""))
 
-    def test_a_document_that_would_be_too_long(self):
+    def test_a_document_that_would_be_too_long(self) -> None:
         whole = document(DAYS + link("a", "BEFORE", "b"))
         for left in (0, 1):
-            self.write("d.xml", whole + " " * (4_194_304 - left - len(whole)))
+            self.write("d.xml", whole + " " * (DOCUMENT_LIMIT - left - len(whole)))
             status, out, error = self.run_script("tml-edit", "--touching-dates", "d.xml")
-            self.assertEqual((status, len(out)), (0, 4_194_304) if left else (1, 0))
+            self.assertEqual((status, len(out)), (0, DOCUMENT_LIMIT) if left else (1, 0))
             self.assertEqual("the file has more than 4,194,304 bytes" in error, not left)
 
-    def test_faults_are_to_be_mended_first(self):
+    def test_faults_are_to_be_mended_first(self) -> None:
         self.write("d.xml", document(DAYS + "<EVENT/>"))
         self.assertEqual(self.run_script("tml-edit", "--touching-dates", "d.xml")[0], 1)
 

@@ -230,7 +230,8 @@ class Script:
 
     def are_items(self, words: list[str]) -> bool:
         """Whether these are base relations in their order, each with ranks that fit and have it."""
-        items = [(words[k], Ranks(*map(int, words[k + 1 : k + 3])), Ranks(*map(int, words[k + 3 : k + 5]))) for k in range(0, len(words), 5)]
+        starts = range(0, len(words), 5)
+        items = [(words[k], Ranks(*map(int, words[k + 1 : k + 3])), Ranks(*map(int, words[k + 3 : k + 5]))) for k in starts]
         names = [name for name, _, _ in items]
         if [name for name in BASE_RELATIONS if name in names] != names:
             return False

@@ -99,26 +99,30 @@ pub fn print_canon(page: &mut Page, alloc: Global, text: &[u8]) -> Option<()>
     Some(())
 }
 
-/// Prints the name and the place of the tag that is reached from the one outside all others by these numbers: at each
-/// tag the part of that number, counted from 0.
-pub fn print_tag(page: &mut Page, alloc: Global, text: &[u8], words: Words<'_>) -> Option<()>
+/// Prints the name and the place of the tag outside all others, of the part of it with the number that follows, or of a
+/// part of that one.
+pub fn print_tag(page: &mut Page, alloc: Global, text: &[u8], mut words: Words<'_>) -> Option<()>
     requires { length text.now ≤ max_evidence }
 {
     let tree = tree_of(alloc, text)?;
-    let mut tag = tree.root();
-    for word in words.rest.split_whitespace() {
-        tag = child(tag, word)?;
+    let root = tree.root();
+    match (words.number(), words.number()) {
+        (Some(first), Some(second)) => print_place(page, child(child(root, first)?, second)?),
+        (Some(first), None) => print_place(page, child(root, first)?),
+        _ => print_place(page, root),
     }
+    Some(())
+}
+
+fn print_place(page: &mut Page, tag: &Tag<'_>) {
     page.bytes(tag.name.text());
     page.named(" from", tag.span.start);
     page.named(" to", tag.span.end);
     page.text("\n");
-    Some(())
 }
 
 /// The part of this number, if it is a tag.
-fn child<'t, 's>(tag: &'t Tag<'s>, number: &str) -> Option<&'t Tag<'s>> {
-    let number: u32 = number.parse().ok()?;
+fn child<'t, 's>(tag: &'t Tag<'s>, number: u32) -> Option<&'t Tag<'s>> {
     match tag.children.get(number as usize) {
         Some(Node::Element(inner)) => Some(inner),
         _ => None,

@@ -1,4 +1,6 @@
 //! Evidence that is read and written again.
+ghost use Rattle.evidence_format.specs.Evidence.{IsWellFormed};
+ghost use Rattle.evidence_format.specs.View.{plain_body};
 ghost use Rattle.net_core.specs.Limits.{max_evidence};
 ghost use Rattle.std.specs.Prelude.{◌≤◌, length};
 
@@ -83,7 +85,9 @@ pub fn print_claims(page: &mut Page, alloc: Global, text: &[u8])
 }
 
 /// Prints a claim as a text of version 2.
-fn print_claim(page: &mut Page, alloc: Global, claim: Body) {
+fn print_claim(page: &mut Page, alloc: Global, claim: Body)
+    requires { IsWellFormed (plain_body claim) }
+{
     match claim.into_evidence(alloc) {
         Ok(evidence) => print_text(page, write_claim(alloc, &evidence)),
         Err(Memory) => page.out_of_memory(),

@@ -16,9 +16,10 @@ from dataclasses import dataclass
 from random import Random
 
 from differential.cases import Case
-from differential.nets import BASE_RELATIONS, INVERSES, holding
+from differential.nets import holding
 from differential.words import DOCUMENT, EVIDENCE, draw_possible
 from reference import Outcome
+from tml.statuses import BASE_RELATIONS, INVERSES
 
 SUBJECT = "agreeing"
 DONE = 0

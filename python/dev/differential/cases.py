@@ -6,8 +6,6 @@ from collections.abc import Mapping
 from dataclasses import dataclass, field
 from enum import Enum
 
-DOCUMENT_LIMIT = 4_194_304
-EVIDENCE_LIMIT = 67_108_864
 STANDARD_INPUT = b"-"
 
 

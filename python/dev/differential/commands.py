@@ -42,8 +42,8 @@ def parsed(words: Sequence[str]) -> argparse.Namespace:
     )
     parser.add_argument("--version", action="version", version=f"%(prog)s {VERSION}")
     parser.add_argument("seconds", type=float, nargs="?", default=20.0, help="how long to go on (20)")
-    parser.add_argument("seed", type=int, nargs="?", default=1, help="what decides the cases (1); their number depends on time alone")
-    parser.add_argument("--count", type=int, help="end after so many cases, in place of so many seconds")
+    parser.add_argument("seed", type=int, nargs="?", default=1, help="what decides the cases (1), but not their number")
+    parser.add_argument("--count", type=int, help="how many cases to try, instead of a time")
     about = parser.add_mutually_exclusive_group()
     for subject, said_of_it in SUBJECTS.items():
         about.add_argument(f"--{subject}", dest="about", action="store_const", const=subject, help=f"only {said_of_it}")

@@ -8,7 +8,7 @@ from dataclasses import dataclass, replace
 from random import Random
 
 from differential import placings
-from differential.cases import DOCUMENT_LIMIT, EVIDENCE_LIMIT, STANDARD_INPUT, Case
+from differential.cases import STANDARD_INPUT, Case
 from differential.chances import chance
 from differential.devices import draw_memory, draw_real, with_memory
 from differential.documents import document_of, draw_document, draw_pair
@@ -19,6 +19,7 @@ from differential.lengths import draw_timed_net
 from differential.mutated import draw_mutated, draw_noise
 from differential.nets import Net, draw_net, draw_other_links
 from differential.words import DOCUMENT, EVIDENCE, KEY, SECOND, SECONDS, draw_ask, draw_question, draw_words
+from tml.statuses import DOCUMENT_LIMIT, EVIDENCE_LIMIT
 
 
 @dataclass(frozen=True)

@@ -10,7 +10,7 @@ from collections.abc import Callable, Sequence
 from random import Random
 
 from differential.chances import chance
-from differential.nets import RELATIONS
+from tml.statuses import RELATIONS
 
 COUNTED = {b"timeline": (b"at",), b"walk": (b"via", b"span", b"calendar"), b"clash": (b"cite",)}
 NUMBERS = (

@@ -28,7 +28,7 @@ NAMES = tuple(name.encode() for name in FILES)
 NO_FILE = b"none"
 """The name of a file that is not there and that is called as one of the library's."""
 AT_THE_END = 10
-"""So many seconds a process has to end that has nothing more to do."""
+"""How many seconds a process has to end that has nothing more to do."""
 SHOWN = 200
 
 

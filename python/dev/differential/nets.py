@@ -11,18 +11,14 @@ from random import Random
 from differential.chances import chance
 from differential.dates import Time, draw_time
 from differential.datetimes import bounds
+from tml.statuses import INVERSES, RELATIONS
 
-RELATIONS = (
-    "BEFORE", "AFTER", "INCLUDES", "IS_INCLUDED", "DURING", "DURING_INV", "SIMULTANEOUS", "IDENTITY", "IBEFORE", "IAFTER", "BEGINS",
-    "BEGUN_BY", "ENDS",
-    "ENDED_BY", "OVERLAPS", "OVERLAPPED_BY",
-)  # fmt: skip
 INVERSE = {
-    "BEFORE": "AFTER", "IBEFORE": "IAFTER", "IS_INCLUDED": "INCLUDES", "DURING": "DURING_INV", "BEGINS": "BEGUN_BY", "ENDS": "ENDED_BY",
-    "SIMULTANEOUS": "SIMULTANEOUS", "IDENTITY": "IDENTITY", "OVERLAPS": "OVERLAPPED_BY",
-}  # fmt: skip
-BASE_RELATIONS = tuple(relation for relation in RELATIONS if relation not in ("DURING", "DURING_INV", "IDENTITY"))
-INVERSES = {**INVERSE, **{inverse: relation for relation, inverse in INVERSE.items()}}
+    relation: INVERSES[relation]
+    for relation in ("BEFORE", "IBEFORE", "IS_INCLUDED", "DURING", "BEGINS", "ENDS", "SIMULTANEOUS", "IDENTITY", "OVERLAPS")
+}
+"""Of each two relations that are each other's inverses one, with the other."""
+
 WAYS = ("fits", "fits", "drawn", "slip", "ring")
 
 

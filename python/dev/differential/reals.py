@@ -15,9 +15,10 @@ from typing import Any
 
 from differential.cases import Case
 from differential.datetimes import bounds
-from differential.nets import BASE_RELATIONS, INVERSE, RELATIONS
+from differential.nets import INVERSE
 from differential.trees import DECODED, Node, tree_of
 from reference import Outcome
+from tml.statuses import BASE_RELATIONS, RELATIONS
 
 IS_THERE = importlib.util.find_spec("z3") is not None
 MOST_INTERVALS = 12

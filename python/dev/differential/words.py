@@ -6,7 +6,7 @@ import re
 from random import Random
 
 from differential.chances import chance
-from differential.nets import INVERSES, RELATIONS
+from tml.statuses import INVERSES, RELATIONS
 
 ONE_FILE = (b"spans", b"check", b"dates", b"solve", b"relations", b"canon", b"matrix", b"reduce", b"seconds")
 NAME = re.compile(rb"""\s(?:eiid|tid)\s*=\s*["']([\w.-]{1,64})["']""", re.ASCII)

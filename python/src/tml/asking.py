@@ -27,7 +27,7 @@ LIMITS = {
     "verify": (DOCUMENT_LIMIT, EVIDENCE_LIMIT), "confirm": (DOCUMENT_LIMIT, EVIDENCE_LIMIT), "score": (DOCUMENT_LIMIT, DOCUMENT_LIMIT),
     "renew": (EVIDENCE_LIMIT,), "join": (EVIDENCE_LIMIT, EVIDENCE_LIMIT),
 }  # fmt: skip
-"""So many bytes the files of a command may have, where it is not about one document alone."""
+"""How many bytes the files of a command may have, where it is not about one document alone."""
 
 WORDS = {"X": 0, "REL": 1, "Y": -1}
 """Which argument of a question is meant by the word that names nothing."""

@@ -11,7 +11,7 @@ from .running import CannotRun
 __all__ = ["Library"]
 
 ROOM, MOST_KEPT = 1 << 16, 1 << 20
-"""So many bytes of room a text has at first, and so many are kept from call to call at most."""
+"""How many bytes of room a text has at first, and how many are kept from call to call at most."""
 
 FILES = ("first", "second")
 """The names by which words mean the files of a call."""

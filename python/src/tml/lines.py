@@ -52,7 +52,7 @@ class Evidence:
         return line
 
     def take(self, count: int) -> list[list[str]]:
-        """So many lines."""
+        """This number of lines."""
         return [next(self.rest) for _ in range(count)]
 
     def counted(self) -> list[list[str]]:

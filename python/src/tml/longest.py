@@ -39,7 +39,7 @@ class Limits(NamedTuple):
 
 
 SHORT = 1024
-"""So many bytes a reply has at most that is one line, as that of a fault or of what is refused, or the usage text."""
+"""How many bytes a reply has at most that is one line, as that of a fault or of what is refused, or the usage text."""
 
 LONGEST_RELATION = max(RELATIONS, key=len)
 BESIDE_BASE = tuple(relation for relation in RELATIONS if relation not in BASE_RELATIONS)
@@ -178,7 +178,7 @@ LONGEST: Mapping[str, Callable[[Limits], int]] = {
     "score": lambda limits: max(lengths([f"precision {limits.links} of {limits.links}"] * 2), of_claim(of_clash(limits))),
     "seconds": of_seconds,
 }
-"""So many bytes the replies of a command have at most, where they may be long."""
+"""How many bytes the replies of a command have at most, where they may be long."""
 
 
 OF_PRODUCT = Limits()
@@ -186,5 +186,5 @@ OF_PRODUCT = Limits()
 
 @cache
 def longest(command: str, limits: Limits = OF_PRODUCT) -> int:
-    """So many bytes a reply to a command has at most: more of it is not read."""
+    """How many bytes a reply to a command has at most: more of it is not read."""
     return max(SHORT, LONGEST[command](limits) if command in LONGEST else 0)

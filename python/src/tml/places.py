@@ -16,7 +16,7 @@ from .logs import COMMAND
 BYTE_ORDER_MARK = b"\xef\xbb\xbf"
 SHOWN_WIDTH = 160
 FARTHEST = 4 * SHOWN_WIDTH
-"""So many bytes around a place have all that is shown of its line."""
+"""How many bytes around a place have all that is shown of its line."""
 
 BLOCK = 4096
 

@@ -21,7 +21,7 @@ SECONDS = 300.0
 TOO_LONG = f"tml took longer than {SECONDS:.0f} seconds"
 
 PART = 65536
-"""So many bytes are read at once."""
+"""How many bytes are read at once."""
 
 RUNNING: set[subprocess.Popen[bytes]] = set()
 """The programs that this process has started and that have not ended."""

@@ -7,19 +7,22 @@ from enum import IntEnum
 __all__ = ["BASE_RELATIONS", "FAULT_NAMES", "RELATIONS"]
 
 DOCUMENT_LIMIT = 4_194_304
-"""So many bytes `tml` takes of a document."""
+"""How many bytes `tml` takes of a document."""
+
+MANY_BYTES = 256 * 1024
+"""A document with more bytes than this is a long one, of which nothing is kept that can be looked for again."""
 
 EVIDENCE_LIMIT = 67_108_864
-"""So many bytes `tml` takes of evidence."""
+"""How many bytes `tml` takes of evidence."""
 
 INTERVAL_LIMIT, LINK_LIMIT = 1024, 4096
-"""So many intervals and links a document may have."""
+"""How many intervals and links a document may have."""
 
 OPEN_LIMIT = 32
-"""So many tags may be open at once."""
+"""How many tags may be open at once."""
 
 IDENTIFIER_LIMIT = 64
-"""So many characters an identifier may have."""
+"""How many characters an identifier may have."""
 
 
 class TmlStatus(IntEnum):

@@ -14,7 +14,7 @@ from tml.results import Score
 from tml.statuses import TmlStatus
 
 from ..asking.program import ACCEPTED, CLASH, FAULT, CannotRun, Program, Reply
-from ..asking.room import room_for
+from ..asking.room import NO_MEMORY, room_for
 from ..clash.fitting import Fitting, fitting
 from ..command_line.statuses import ENDED
 from ..document.reduced import problem_of
@@ -145,7 +145,7 @@ def compare(program: Program, sides: Sides, found: Found, wanted: Wanted) -> Pai
     except (CannotRead, CannotRun) as problem:
         report.not_counted = NotCounted(report.path, NOT_JUDGED, str(problem))
     except MemoryError:
-        report.not_counted = NotCounted(report.path, NOT_JUDGED, "no memory to take the document apart")
+        report.not_counted = NotCounted(report.path, NOT_JUDGED, NO_MEMORY)
     return report
 
 

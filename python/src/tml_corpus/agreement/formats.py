@@ -77,8 +77,8 @@ class Format(Protocol):
     def start(self) -> str:
         """What comes before all pairs."""
 
-    def pair(self, report: PairReport) -> str:
-        """What is printed of a pair."""
+    def pair(self, report: PairReport, scores: Score) -> str:
+        """What is printed of a pair that is counted."""
 
     def not_counted(self, one: NotCounted) -> str:
         """What is printed of a file that is not counted."""
@@ -96,13 +96,9 @@ class Text:
         """What comes before all pairs."""
         return ""
 
-    def pair(self, report: PairReport) -> str:
-        """What is printed of a pair."""
-        if report.not_counted is not None:
-            return self.not_counted(report.not_counted)
-        if report.scores is None:
-            return ""
-        lines = [f"{shown(report.name)}: {in_line(report.scores)}"]
+    def pair(self, report: PairReport, scores: Score) -> str:
+        """What is printed of a pair that is counted."""
+        lines = [f"{shown(report.name)}: {in_line(scores)}"]
         lines += [f"{located(one.path, one.place)}: {shown(one.said())}" for one in report.disagreements]
         return report.readings + "".join(line + "\n" for line in lines)
 
@@ -132,14 +128,10 @@ class Objects:
     def start(self) -> str:
         return ""
 
-    def pair(self, report: PairReport) -> str:
-        if report.not_counted is not None:
-            return self.not_counted(report.not_counted)
-        if report.scores is None:
-            return ""
+    def pair(self, report: PairReport, scores: Score) -> str:
         pair = {"name": report.name, "path": report.path, "key": report.key_path, "readTouching": bool(report.readings)}
         links = [disagreement_object(one) for one in report.disagreements]
-        return self.entry({**pair, **scores_object(report.scores), "links": links})
+        return self.entry({**pair, **scores_object(scores), "links": links})
 
     def not_counted(self, one: NotCounted) -> str:
         return self.entry({"path": one.path, "notCounted": one.reason, "problem": one.text})
@@ -164,7 +156,8 @@ def number(value: Fraction | None) -> float | None:
 
 def disagreement_object(one: Disagreement) -> dict[str, object]:
     """A link that does not follow as JSON has it."""
-    link = {"number": one.link.number, "left": one.link.left, "relation": one.link.relation, "right": one.link.right}
+    link: dict[str, object] = {"number": one.link.number, "lid": one.link.lid or None}
+    link |= {"left": one.link.left, "relation": one.link.relation, "right": one.link.right}
     there = {"other": one.other, "missing": one.missing, "possible": one.possible}
     return {"path": one.path, **place_object(one.place), **link, "words": one.words, **there}
 
@@ -177,10 +170,8 @@ class CommaSeparated:
     def start(self) -> str:
         return in_lines([COLUMNS])
 
-    def pair(self, report: PairReport) -> str:
-        if report.not_counted is not None:
-            return self.not_counted(report.not_counted)
-        return "" if report.scores is None else scores_row("pair", report.name, report.scores)
+    def pair(self, report: PairReport, scores: Score) -> str:
+        return scores_row("pair", report.name, scores)
 
     def not_counted(self, one: NotCounted) -> str:
         return in_lines([["not counted", quoted(one.path), *[""] * (len(COLUMNS) - 3), quoted(f"{one.reason}: {one.text}")]])
@@ -202,6 +193,13 @@ def scores_row(kind: str, name: str, scores: Score) -> str:
     counts: Sequence[object] = (scores.matched, scores.document_links, scores.found, scores.key_links)
     measures = (number(getattr(scores, measure)) for measure in MEASURES)
     return in_lines([[kind, quoted(name), *counts, *("" if value is None else value for value in measures), ""]])
+
+
+def printed(form: Format, report: PairReport) -> str:
+    """What a form prints of a pair, or of the file for which it is not counted."""
+    if report.not_counted is not None:
+        return form.not_counted(report.not_counted)
+    return "" if report.scores is None else form.pair(report, report.scores)
 
 
 def make_format(name: str) -> Format:

@@ -38,13 +38,13 @@ Result = TypeVar("Result")
 Work = Callable[[Found], Result]
 
 BATCH = 16
-"""So many files are a task."""
+"""How many files are a task."""
 
 AHEAD = 4
-"""So many batches for each thread of the workers are under way or wait to be reported."""
+"""How many batches for each thread of the workers are under way or wait to be reported."""
 
 ANSWERING = 5.0
-"""So many seconds a scheduler has to answer."""
+"""How many seconds a scheduler has to answer."""
 
 LOOKING = 2.0
 """After so many seconds the workers are counted again."""

@@ -29,26 +29,26 @@ Item = TypeVar("Item")
 Result = TypeVar("Result")
 
 AHEAD, QUICK_AHEAD = 256, 2048
-"""So many results may wait for one that comes before them, so that memory stays bounded: of items that go alone, and of those that are
+"""How many results may wait for one that comes before them, so that memory stays bounded: of items that go alone, and of those that are
 quick, whose results are small."""
 
 TOGETHER = 64
-"""So many items go to a process at once at most."""
+"""How many items go to a process at once at most."""
 
 MOMENT, LEAST = 0.05, 1e-6
 """They are so many that they probably take no more seconds than this; no time that is measured counts as less than the least one."""
 
 PATIENCE = 0.5
-"""So many seconds pass at most until an interruption is seen."""
+"""How many seconds pass at most until an interruption is seen."""
 
 BEGINNING = 20.0
-"""So many seconds a process has to say that it is ready. One that runs out of memory while it begins may never say so, nor end."""
+"""How many seconds a process has to say that it is ready. One that runs out of memory while it begins may never say so, nor end."""
 
 ATTEMPTS = 3
 """So often in a row the last process that is left may end before it is ready."""
 
 SPARE = 4
-"""So many files this program can still open once it has forked as many processes as it can."""
+"""How many files this program can still open once it has forked as many processes as it can."""
 
 READY = b"\1"
 """What a process says first."""

@@ -9,9 +9,10 @@ from collections.abc import Iterator
 from contextlib import AbstractContextManager, contextmanager
 
 from tml.running import CannotRun
+from tml.statuses import MANY_BYTES
 
-MANY_BYTES = 256 * 1024
-"""A document with more bytes than this is a long one."""
+NO_MEMORY = "no memory to take the document apart"
+"""What is said of a document for which there is too little memory."""
 
 
 class SharedLock:

@@ -8,7 +8,7 @@ from functools import partial
 from typing import IO, TYPE_CHECKING
 
 from ..asking.program import ACCEPTED, FAULT, CannotRun, Program, Reply
-from ..asking.room import room_for
+from ..asking.room import NO_MEMORY, room_for
 from ..files.finding import CannotRead, Found, opened, read_document, read_open
 from ..lint.kinds import Lint
 from .judgement import Judgement, problem_of
@@ -32,7 +32,7 @@ def judge(program: Program, found: Found, explained: bool, more: int, lint: Lint
     except (CannotRead, CannotRun) as problem:
         return Judgement(found.path, problem=str(problem))
     except MemoryError:
-        return Judgement(found.path, problem="no memory to take the document apart")
+        return Judgement(found.path, problem=NO_MEMORY)
 
 
 def first_reply(program: Program, place: str, lint: Lint | None) -> tuple[Reply | None, bytes | None]:

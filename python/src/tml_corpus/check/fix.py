@@ -4,36 +4,37 @@ from __future__ import annotations
 
 from collections.abc import Callable, Iterator
 from dataclasses import dataclass, field
+from functools import partial
 from itertools import chain, islice
 
+from tml.explaining import faults
+from tml.explaining.encoding import converted
+from tml.explaining.explain import OF_TAGS, explain
+from tml.explaining.faults import Fault, read_fault
+from tml.explaining.markup import cdata_edits, quote_edits, reference_edits
+from tml.explaining.nesting import end_edits, name_edits
 from tml.places import Places, characters
+from tml.tags.cutting import units_of_whole
+from tml.tags.edits import Edit, applied
+from tml.tags.source import Explanation, Source
 
+from ..asking.looking import looked_at
 from ..asking.program import FAULT, CannotRun, Program
-from ..asking.room import room_for
-from ..document.cutting import units_of_whole
-from ..document.edits import Edit, applied
-from ..document.source import Explanation, Source
-from ..files.finding import CannotRead, Found, counted, read_document, shown
+from ..files.finding import Found, counted, shown
 from ..files.replacing import replace_file
 from ..lint.kinds import Lint
 from ..lint.warnings import warnings_of
-from . import faults
-from .encoding import converted
-from .explain import OF_TAGS, explain
-from .faults import Fault, read_fault
 from .formats import located
 from .judgement import problem_of
-from .markup import cdata_edits, quote_edits, reference_edits
-from .nesting import end_edits, name_edits
 
 ROUNDS = 64
-"""So many kinds of slips are mended in one document at most, one after another."""
+"""How many kinds of slips are mended in one document at most, one after another."""
 
 MOST_EDITS = 100_000
 """A kind of slip that is there more often is left."""
 
 CONTEXT = 3
-"""So many lines around a change are shown."""
+"""How many lines around a change are shown."""
 
 FOUND_LINK = "is a symbolic link found in a folder: name it to mend what it leads to"
 
@@ -101,17 +102,15 @@ def fix(program: Program, found: Found, writes: bool) -> FixReport:
         return not_mended(found, found.problem)
     if found.is_found_link():
         return not_mended(found, FOUND_LINK)
-    try:
-        document = read_document(found.place())
-        with room_for(document):
-            fixed = mended(program, document)
-            if writes and fixed.changes:
-                write(fixed, found)
-            return FixReport(report(found.path, fixed, writes), bool(fixed.changes), fixed.left is not None)
-    except (CannotRead, CannotRun) as problem:
-        return not_mended(found, str(problem))
-    except MemoryError:
-        return not_mended(found, "no memory to take the document apart")
+    return looked_at(found.place(), partial(fixed_at, program, found, writes), partial(not_mended, found))
+
+
+def fixed_at(program: Program, found: Found, writes: bool, document: bytes) -> FixReport:
+    """The same of a file that was read."""
+    fixed = mended(program, document)
+    if writes and fixed.changes:
+        write(fixed, found)
+    return FixReport(report(found.path, fixed, writes), bool(fixed.changes), fixed.left is not None)
 
 
 def not_mended(found: Found, problem: str) -> FixReport:

@@ -6,7 +6,7 @@ Each of them has the number and the name of a fault, and the byte at which `tml`
 from __future__ import annotations
 
 from collections import Counter
-from typing import TYPE_CHECKING, Protocol
+from typing import TYPE_CHECKING, Protocol, TypeVar
 
 from ..files.finding import counted, shown
 from ..lint.kinds import is_mistake
@@ -43,6 +43,10 @@ class WarningCounts:
         total = sum(count for _, count in kinds)
         first = f"{total} {one if total == 1 else many} in {counted(self.ranks[rank], 'file')}"
         return [first, *(f"{count:7}  {name}" for name, count in kinds)] if kinds else []
+
+
+Reported = TypeVar("Reported", contravariant=True)
+Counted = TypeVar("Counted", contravariant=True)
 
 
 class Summary:
@@ -110,20 +114,24 @@ def warning_message(warning: PlacedWarning) -> str:
     return f"{shown(warning.text)} [{warning.name}]"
 
 
-class Format(Protocol):
+class Form(Protocol[Reported, Counted]):
     """A form of a report: what is printed of each file, and what comes after all of them."""
 
     summary_apart: bool
     """Whether the output is for programs, so that a summary goes to standard error."""
 
-    def file(self, judgement: Judgement) -> str:
-        """What is reported of one file."""
+    def file(self, report: Reported, /) -> str:
+        """What is printed of one file."""
 
     def plain(self, path: str) -> str:
-        """What is reported of a file that is accepted, and of which there is nothing to say."""
+        """What is printed of a file that is accepted, and of which there is nothing to say."""
 
-    def end(self, summary: Summary) -> str:
+    def end(self, summary: Counted) -> str:
         """What comes after all files."""
+
+
+Format = Form[Judgement, Summary]
+"""A form of a report on faults and warnings."""
 
 
 class Text:

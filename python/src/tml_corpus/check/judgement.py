@@ -9,7 +9,7 @@ from ..asking.program import ACCEPTED, Reply
 if TYPE_CHECKING:
     from tml.places import Place
 
-    from .faults import Fault
+    from tml.explaining.faults import Fault
 
 
 class PlacedNote(NamedTuple):

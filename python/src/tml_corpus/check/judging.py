@@ -4,14 +4,14 @@ from __future__ import annotations
 
 from heapq import nsmallest
 
+from tml.explaining.explain import explain
+from tml.explaining.faults import Fault, read_fault
 from tml.places import Places
+from tml.tags.cutting import units_of_whole
+from tml.tags.source import Explanation, Source
 
 from ..asking.program import FAULT, Program, Reply, believed
-from ..document.cutting import units_of_whole
-from ..document.source import Explanation, Source
 from ..lint.kinds import Lint
-from .explain import explain
-from .faults import Fault, read_fault
 from .judgement import Judgement, Mark, PlacedFault, PlacedNote, PlacedWarning, problem_of
 
 

@@ -36,6 +36,15 @@ class Suite:
         if body:
             ElementTree.SubElement(case, "system-out").text = body
 
+    def file(self, path: str, problem: str | None, failure: tuple[str, str] | None, body: str) -> None:
+        """The test case of a file: why it was not judged, or what it failed for, and what is reported of it."""
+        if problem is not None:
+            self.error(path, problem)
+        elif failure is not None:
+            self.failure(path, *failure, body)
+        else:
+            self.success(path, body)
+
     def text(self) -> str:
         """The whole report."""
         counts = {"tests": str(len(self.element)), "failures": str(self.failures), "errors": str(self.errors)}
@@ -57,13 +66,7 @@ class JUnit:
         self.suite = Suite("tml check")
 
     def file(self, judgement: Judgement) -> str:
-        failure = first_failure(judgement, self.strict)
-        if judgement.problem:
-            self.suite.error(judgement.path, judgement.problem)
-        elif failure is not None:
-            self.suite.failure(judgement.path, *failure, self.lines.file(judgement))
-        else:
-            self.suite.success(judgement.path, self.lines.file(judgement))
+        self.suite.file(judgement.path, judgement.problem, first_failure(judgement, self.strict), self.lines.file(judgement))
         return ""
 
     def plain(self, path: str) -> str:

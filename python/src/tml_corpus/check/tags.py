@@ -4,22 +4,23 @@ from __future__ import annotations
 
 import re
 from dataclasses import dataclass, field
+from functools import partial
 
+from tml.explaining.faults import BAD_MARKUP, UNKNOWN_TAG, read_fault
 from tml.places import Place, Places
+from tml.tags.source import cut as shortened
+from tml.tags.units import read_units
 
-from ..asking.program import FAULT, CannotRun, Program, Reply
-from ..asking.room import room_for
-from ..document.source import cut as shortened
-from ..document.units import read_units
-from ..files.finding import CannotRead, Found, read_document, shown
-from .faults import BAD_MARKUP, UNKNOWN_TAG, read_fault
+from ..asking.looking import looked_at
+from ..asking.program import FAULT, Program, Reply
+from ..files.finding import Found, shown
 
 MOST_BLANKS = 100
 MOST_BYTES = 32 * 1024 * 1024
 """So much is asked about one document at most: about the longest ones eight times."""
 
 MOST_NAMES = 2000
-"""So many names are asked about, the frequent ones first; a corpus has some dozens."""
+"""How many names are asked about, the frequent ones first; a corpus has some dozens."""
 
 
 @dataclass
@@ -42,12 +43,7 @@ def names_in(program: Program, found: Found) -> Names:
     """The names of the start and empty tags of a file, also where it has faults."""
     if found.problem is not None:
         return Names(found.path, problem=found.problem)
-    try:
-        document = read_document(found.path)
-        with room_for(document):
-            return names_of(program, found.path, document)
-    except (CannotRead, CannotRun) as problem:
-        return Names(found.path, problem=str(problem))
+    return looked_at(found.path, partial(names_of, program, found.path), lambda problem: Names(found.path, problem=problem))
 
 
 def names_of(program: Program, path: str, document: bytes) -> Names:

@@ -7,7 +7,7 @@ from functools import partial
 from typing import TYPE_CHECKING
 
 from ..asking.program import CannotRun, Program
-from ..asking.room import room_for
+from ..asking.room import NO_MEMORY, room_for
 from ..check.judgement import Judgement
 from ..files.finding import CannotRead, Found, read_document
 from .clashes import is_timeline
@@ -39,7 +39,7 @@ def find_clashes(program: Program, found: Found, wanted: Wanted) -> ClashReport:
     except (CannotRead, CannotRun) as problem:
         return ClashReport(Judgement(found.path, problem=str(problem)))
     except MemoryError:
-        return ClashReport(Judgement(found.path, problem="no memory to take the document apart"))
+        return ClashReport(Judgement(found.path, problem=NO_MEMORY))
 
 
 def clashes_to_send(program: Program, found: Found, wanted: Wanted) -> ClashReport | None:

@@ -3,7 +3,7 @@
 from __future__ import annotations
 
 from collections.abc import Callable
-from typing import TYPE_CHECKING, Protocol
+from typing import TYPE_CHECKING
 
 from ..check import formats
 from ..check.formats import data_text, property_text
@@ -15,20 +15,8 @@ if TYPE_CHECKING:
     from tml.places import Place
 
 
-class Format(Protocol):
-    """A form of a report on clashes: what is printed of each file, and what comes after all of them."""
-
-    summary_apart: bool
-    """Whether the output is for programs, so that a summary goes to standard error."""
-
-    def file(self, report: ClashReport) -> str:
-        """What is printed of one file."""
-
-    def plain(self, path: str) -> str:
-        """What is printed of a file that some timeline fits, and of which there is nothing to say."""
-
-    def end(self, summary: ClashSummary) -> str:
-        """What comes after all files."""
+Format = formats.Form[ClashReport, ClashSummary]
+"""A form of a report on clashes."""
 
 
 class Text:
@@ -165,7 +153,8 @@ class Json:
 
 def link_object(link: PlacedLink) -> dict[str, object]:
     """A link as JSON has it."""
-    names = {"number": link.link.number, "left": link.link.left, "relation": link.link.relation, "right": link.link.right}
+    of = link.link
+    names = {"number": of.number, "lid": of.lid or None, "left": of.left, "relation": of.relation, "right": of.right}
     return {**names, **formats.place_object(link.place()), "message": link.text}
 
 
@@ -222,12 +211,7 @@ class JUnit:
         if failure is None and report.verdict() in ("clash", TOUCHING):
             failure = report.verdict(), first_line(report)
         failure = failure or formats.first_failure(judgement, self.strict)
-        if judgement.problem is not None:
-            self.suite.error(judgement.path, judgement.problem)
-        elif failure is not None:
-            self.suite.failure(judgement.path, *failure, self.lines.file(report))
-        else:
-            self.suite.success(judgement.path, self.lines.file(report))
+        self.suite.file(judgement.path, judgement.problem, failure, self.lines.file(report))
         return ""
 
     def plain(self, path: str) -> str:

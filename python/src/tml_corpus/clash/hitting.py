@@ -8,7 +8,7 @@ from collections.abc import Collection, Iterable
 Links = frozenset[int]
 
 LOOKS = 4_000_000
-"""So many members of sets are looked at for one collection at most."""
+"""How many members of sets are looked at for one collection at most."""
 
 
 class TooMuch(Exception):

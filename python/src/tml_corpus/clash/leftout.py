@@ -10,10 +10,11 @@ from collections.abc import Collection, Mapping
 from functools import cached_property
 from operator import attrgetter
 
+from tml.tags.edits import with_value
+from tml.tags.source import Source
+from tml.tags.units import Unit
+
 from ..asking.program import CLASH, CannotRun, Program
-from ..document.edits import with_value
-from ..document.source import Source
-from ..document.units import Unit
 from .clashes import Clash, is_timeline, read_clash, verify_clash, verify_timeline
 from .hitting import TooMuch
 from .touching import relation_of

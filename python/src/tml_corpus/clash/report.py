@@ -44,8 +44,8 @@ class PlacedLink(NamedTuple):
         return self.link.place
 
     def named(self) -> str:
-        """The link by its number and the names of its intervals."""
-        return f"link {self.link.number}: {self.link.left} {self.link.relation} {self.link.right}"
+        """The link by its lid, or by its number where it has none, and the names of its intervals."""
+        return f"{self.link.called()}: {self.link.left} {self.link.relation} {self.link.right}"
 
 
 class PlacedClash(NamedTuple):
@@ -84,7 +84,7 @@ class PlacedRepair(NamedTuple):
     all_choices: bool
     at_least: int
     changes: int
-    """So many links between dates that touch are to be mended besides."""
+    """How many links between dates that touch are to be mended besides."""
     is_of_dates: bool = False
     """Whether the clash rests on dates, of which one may be wrong in the place of a link."""
 

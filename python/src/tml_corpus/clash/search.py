@@ -6,12 +6,12 @@ import os
 from functools import cached_property
 
 from tml.statuses import STRICT_ORDERS
+from tml.tags.cutting import units_of_whole
+from tml.tags.source import Source
 
 from ..asking.program import CLASH, FAULT, CannotRun, Program, Reply
 from ..check.judgement import Judgement, PlacedNote
 from ..check.judging import judge_document, placed_warnings
-from ..document.cutting import units_of_whole
-from ..document.source import Source
 from ..document.words import Wording
 from ..files.finding import Found
 from .clashes import Clash, evidence_name, read_clash, verify_clash

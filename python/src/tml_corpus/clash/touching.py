@@ -9,9 +9,10 @@ from __future__ import annotations
 
 from dataclasses import dataclass
 
+from tml.tags.edits import Edit, applied, with_value
+from tml.tags.units import Attribute, Unit
+
 from ..asking.program import Program
-from ..document.edits import Edit, applied, with_value
-from ..document.units import Attribute, Unit
 from ..document.words import Link, Wording
 
 GAP = {"BEFORE": "IBEFORE", "AFTER": "IAFTER"}

@@ -91,7 +91,8 @@ def options_of(kind: Any, words: Words) -> Any:
 def prepared(words: Words, settings: Settings, stop: Interruption) -> Iterator[Run]:
     """The run: with the program, and what does the work on files in their order, the processors here or a cluster."""
     if words.cluster is None:
-        path = find_program(words.tml)
+        # An editor is told only once it has greeted the server that there is no program.
+        path = "" if words.command == "serve" else find_program(words.tml)
         program = with_wrappers(Program(path, library(words, path)), words, settings)
         order = partial(in_order, workers=max(words.jobs or settings.jobs or processors(), 1), prepare=program.load)
         yield Run(program, settings, files_of(words, settings), stop, order, words.quiet)

@@ -23,7 +23,7 @@ from .statuses import Status
 
 INPUT, OUTPUT, ERROR = range(3)
 USUAL = 80
-"""So many characters are a line where it is not known how wide the terminal is."""
+"""How many characters are a line where it is not known how wide the terminal is."""
 
 CLOSED: set[int] = set()
 """The streams that were closed when the program began."""

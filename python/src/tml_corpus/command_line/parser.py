@@ -44,9 +44,7 @@ def check_words(words: Parser) -> None:
     words.add_argument("--baseline", metavar="FILE", help="omit the warnings that this file lists")
     words.add_argument("--write-baseline", action="store_true", help="write the present warnings to the file of --baseline")
     report_words_of(words, "faults or clashes")
-    path_words(words)
-    pool_words(words, cluster=True)
-    shared_words(words)
+    corpus_words(words, cluster=True)
 
 
 def clashes_words(words: Parser) -> None:
@@ -55,16 +53,12 @@ def clashes_words(words: Parser) -> None:
     words.add_argument("--evidence", metavar="FOLDER", help="keep the evidence of each clash in this folder")
     words.add_argument("--repair", action="store_true", help="find a smallest set of links without which a timeline fits")
     report_words_of(words, "clashes")
-    path_words(words)
-    pool_words(words, cluster=True)
-    shared_words(words)
+    corpus_words(words, cluster=True)
 
 
 def tags_words(words: Parser) -> None:
     """The words of `tags`."""
-    path_words(words)
-    pool_words(words)
-    shared_words(words)
+    corpus_words(words)
 
 
 def fix_words(words: Parser) -> None:
@@ -78,9 +72,7 @@ def fix_words(words: Parser) -> None:
     what = words.add_mutually_exclusive_group()
     what.add_argument("--diff", action="store_true", help="print the changes and write nothing (the default)")
     what.add_argument("--write", action="store_true", help="overwrite the files with the mended documents")
-    path_words(words)
-    pool_words(words)
-    shared_words(words)
+    corpus_words(words)
 
 
 def timeline_words(words: Parser) -> None:
@@ -90,10 +82,10 @@ def timeline_words(words: Parser) -> None:
         "has a fault it names that; the status is then 1, and no file is written."
     )
     words.epilog = "Example: tools/tml-corpus timeline samples/rates.xml -o rates.html"
-    words.add_argument("document", metavar="DOC", help="a file")
+    document_words(words)
     picture = "the picture: FILE.svg, or FILE.html with the links of each row"
     words.add_argument("-o", "--output", type=picture_name, required=True, metavar="FILE", help=picture)
-    words.add_argument("--touching", action="store_true", help=TOUCHING)
+    touching_words(words)
     words.add_argument("--seconds", action="store_true", help="draw a placing in whole seconds, true to scale, as tml seconds has it")
     words.add_argument("--asserted", action="store_true", help="leave out the events that the document does not assert, and their links")
     words.add_argument("--text-order", action="store_true", help="order the rows as in the text")
@@ -107,9 +99,9 @@ def matrix_words(words: Parser) -> None:
         "as tml matrix has them. If links clash it names them, and if the document has a fault it names that; the status is then 1."
     )
     words.epilog = "Example: tools/tml-corpus matrix --format html samples/rates.xml > rates.html"
-    words.add_argument("document", metavar="DOC", help="a file")
+    document_words(words)
     words.add_argument("--format", choices=MATRIX_FORMS, default="text", help="lines (the default), CSV, or a page with a table")
-    words.add_argument("--touching", action="store_true", help=TOUCHING)
+    touching_words(words)
     shared_words(words)
 
 
@@ -121,7 +113,7 @@ def seconds_words(words: Parser) -> None:
         "says which ones, and if the document has a fault it names that; the status is then 1."
     )
     words.epilog = "Example: tools/tml-corpus seconds --format ics samples/bridge.xml > bridge.ics"
-    words.add_argument("document", metavar="DOC", help="a file")
+    document_words(words)
     words.add_argument("--format", choices=SECONDS_FORMS, default="text", help="lines (the default), JSON, CSV, or iCalendar")
     words.add_argument("--touching", action="store_true", help="read links between dates that touch as the relation that holds")
     shared_words(words)
@@ -140,7 +132,7 @@ def open_words(words: Parser) -> None:
     words.add_argument("--limit", type=number_from_zero, default=10, metavar="N", help="how many pairs are shown (10)")
     nearest = "how many pairs are looked at, the nearest ones in the document (2000; 0: all)"
     words.add_argument("--pairs", type=number_from_zero, default=2000, metavar="N", help=nearest)
-    words.add_argument("--touching", action="store_true", help=TOUCHING)
+    touching_words(words)
     jobs_words(words, "pairs")
     shared_words(words)
 
@@ -157,7 +149,7 @@ def agree_words(words: Parser) -> None:
     words.add_argument("key", metavar="KEYDIR", help="the folder with the key, or the file")
     words.add_argument("--links", action="store_true", help="name the links of each side that do not follow in the other, with places")
     words.add_argument("--format", choices=AGREE_FORMS, default="text", help="the form of the output")
-    words.add_argument("--touching", action="store_true", help=TOUCHING)
+    touching_words(words)
     glob_words(words)
     pool_words(words, cluster=True)
     shared_words(words)
@@ -173,9 +165,7 @@ def report_words(words: Parser) -> None:
     folder = "the folder of the pages: a new one, or that of an earlier report"
     words.add_argument("-o", "--output", required=True, metavar="FOLDER", help=folder)
     more_words(words, "faults or clashes")
-    path_words(words)
-    pool_words(words)
-    shared_words(words)
+    corpus_words(words)
 
 
 def serve_words(words: Parser) -> None:
@@ -192,7 +182,7 @@ def report_words_of(words: Parser, things: str) -> None:
     """The words that `check` and `clashes` share."""
     words.add_argument("--format", choices=FORMS, default="text", help="the form of the output")
     more_words(words, things)
-    words.add_argument("--touching", action="store_true", help=TOUCHING)
+    touching_words(words)
     name = "the name under which standard input, the path -, is reported"
     words.add_argument("--stdin-name", metavar="NAME", help=name)
     words.add_argument("--quiet", action="store_true", help="print no summary, and no list of links read as touching")
@@ -204,6 +194,23 @@ def more_words(words: Parser, things: str) -> None:
     """The word of a command that goes on after the first fault or clash."""
     more = f"go on to at most N further {things} of each document"
     words.add_argument("--more", type=number_from_zero, default=0, metavar="N", help=more)
+
+
+def touching_words(words: Parser) -> None:
+    """The word of a command that may read links between dates that touch otherwise than they are written."""
+    words.add_argument("--touching", action="store_true", help=TOUCHING)
+
+
+def document_words(words: Parser) -> None:
+    """The word of a command that is about one document."""
+    words.add_argument("document", metavar="DOC", help="a file")
+
+
+def corpus_words(words: Parser, cluster: bool = False) -> None:
+    """The words of a command that looks at all files of a corpus."""
+    path_words(words)
+    pool_words(words, cluster)
+    shared_words(words)
 
 
 def path_words(words: Parser) -> None:

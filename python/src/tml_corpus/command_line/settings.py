@@ -15,10 +15,10 @@ from ..lint.kinds import NAMES
 
 NAME = "tml-corpus.toml"
 LIMIT = 16 * 1024
-"""So many bytes the file may have."""
+"""How many bytes the file may have."""
 
 MOST_JOBS = 4
-"""So many jobs for each processor the file may ask for; more of them are taken for so many."""
+"""How many jobs for each processor the file may ask for; more count as this many."""
 
 TEXT = r""""{3}(?:\\.|[^\\])*?(?:"{3,5}|\Z)|'{3}.*?(?:'{3,5}|\Z)|"(?:\\.|[^"\\\n])*+"?|'[^'\n]*+'?"""
 TEXT_OR_DOT = re.compile(rf"{TEXT}|#[^\n]*|(\.)", re.DOTALL)
@@ -157,7 +157,7 @@ def line_and_column(text: str, offset: int) -> tuple[int, int]:
 
 def settings_of(path: str, table: dict[str, object]) -> Settings:
     """The settings of a table."""
-    from ..document.profile import TAGS
+    from tml.tags.profile import TAGS
 
     unknown = sorted(set(table) - {"wrappers", "ignore", "warn", "patterns", "jobs"})
     if unknown:

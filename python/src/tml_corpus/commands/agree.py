@@ -6,7 +6,7 @@ import sys
 from typing import NamedTuple
 
 from ..agreement.agree import PairReport, Wanted, find_pairs, pair_reports, sides_of
-from ..agreement.formats import Summary, make_format
+from ..agreement.formats import Summary, make_format, printed
 from ..asking.program import CannotRun
 from ..command_line.run import Run, print_each, print_summary
 from ..files.finding import Found
@@ -31,7 +31,7 @@ def command(run: Run, options: Options) -> int:
 
     def reported(_: Found, report: PairReport) -> str:
         summary.add(report)
-        return form.pair(report)
+        return printed(form, report)
 
     sys.stdout.write(form.start())
     print_each(pairs.found, pair_reports(run, sides, pairs.found, wanted), reported)

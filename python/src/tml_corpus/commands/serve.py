@@ -12,8 +12,9 @@ class Options(NamedTuple):
     """What is asked of `serve`."""
 
     config: str | None
+    tml: str | None
 
 
 def command(run: Run, options: Options) -> int:
     """Answers an editor until it ends, and answers the status."""
-    return serve(run.program.path, options.config, run.stop.happened)
+    return serve(options.tml, options.config, run.stop.happened)

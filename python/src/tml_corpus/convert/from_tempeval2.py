@@ -46,7 +46,7 @@ BASE = "base-segmentation.tab"
 OTHERS = ("event-extents.tab", "event-attributes.tab", "timex-extents.tab", "timex-attributes.tab", "dct.txt")
 
 MOST_BYTES = 16 * 1024 * 1024
-"""So many bytes all tables have together at most. What is known of a token takes up to some twenty times as much as its line."""
+"""How many bytes all tables have together at most. What is known of a token takes up to some twenty times as much as its line."""
 
 
 @dataclass

@@ -17,15 +17,15 @@ from dataclasses import dataclass, field
 from functools import partial
 
 from ..asking.libraries import library_of
+from ..asking.looking import looked_at
 from ..asking.pool import Interruption, in_order, processors
-from ..asking.program import CannotRun, Program, find_program
-from ..asking.room import room_for
+from ..asking.program import Program, find_program
 from ..check.formats import located
 from ..command_line.output import ProgramParser, RawFormatter, run
 from ..command_line.statuses import ENDED, Status
 from ..document.reduced import problem_of, read_reduced
 from ..document.words import Wording
-from ..files.finding import PATTERNS, CannotRead, Found, counted, find_files, read_document, shown
+from ..files.finding import PATTERNS, Found, counted, find_files, shown
 
 
 @dataclass
@@ -77,12 +77,7 @@ def look(program: Program, found: Found) -> Report:
     """Asks about the links of one file."""
     if found.problem is not None:
         return Report(found.path, problem=found.problem)
-    try:
-        document = read_document(found.path)
-        with room_for(document):
-            return report_of(program, found.path, document)
-    except (CannotRead, CannotRun) as problem:
-        return Report(found.path, problem=str(problem))
+    return looked_at(found.path, partial(report_of, program, found.path), lambda problem: Report(found.path, problem=problem))
 
 
 def report_of(program: Program, path: str, document: bytes) -> Report:

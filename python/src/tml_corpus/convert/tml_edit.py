@@ -27,17 +27,17 @@ from collections.abc import Callable, Iterable, Sequence
 from functools import partial
 from itertools import count
 
+from tml.explaining.faults import BAD_MARKUP, read_fault
 from tml.places import Places
 from tml.statuses import TmlStatus
+from tml.tags.cutting import units_of_whole
+from tml.tags.edits import Edit, applied, applied_in_order, with_spaces_before, with_value
+from tml.tags.units import Attribute, Unit, Units
 
 from ..asking.program import ACCEPTED, DOCUMENT_LIMIT, FAULT, MEANINGS, CannotRun, Program, find_program
-from ..check.faults import BAD_MARKUP, read_fault
 from ..clash.touching import Change, asks, touching_changes, with_changes
 from ..command_line.output import ProgramParser, RawFormatter, complain, run, standard_input
 from ..command_line.statuses import Status
-from ..document.cutting import units_of_whole
-from ..document.edits import Edit, applied, applied_in_order, with_spaces_before, with_value
-from ..document.units import Attribute, Unit, Units
 from ..document.words import Wording
 from ..files.finding import PATTERNS, CannotRead, Found, counted, find_files, read_document, shown
 from ..files.standard_input import STANDARD_INPUT

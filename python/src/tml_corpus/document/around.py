@@ -6,12 +6,13 @@ import html
 from collections.abc import Collection, Iterable
 from dataclasses import dataclass
 
+from tml.tags.profile import WRAPPERS
+from tml.tags.units import EMPTY, END, START, TEXT, Units
+
 from ..timeline.lettering import measured, plain
-from .profile import WRAPPERS
-from .units import EMPTY, END, START, TEXT, Units
 
 MOST_WORDS, REACH = 5, 200
-"""So many words on each side are shown, of so many characters."""
+"""How many words on each side are shown, and how many characters of them."""
 
 PARAGRAPH = "\n\n"
 SENTENCE_ENDS = (".", "!", "?")

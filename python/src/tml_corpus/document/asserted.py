@@ -10,10 +10,11 @@ from __future__ import annotations
 from collections.abc import Collection, Iterator
 from dataclasses import dataclass
 
+from tml.tags.edits import applied, blank
+from tml.tags.units import Unit
+
 from ..asking.program import Program
 from ..files.finding import counted
-from .edits import applied, blank
-from .units import Unit
 from .words import Wording
 
 SUBORDINATING = ("MODAL", "CONDITIONAL", "NEG_EVIDENTIAL", "COUNTER_FACTIVE")

@@ -6,9 +6,10 @@ those times alone that it was not asked about before. In a corpus the same dates
 
 from __future__ import annotations
 
+from tml.statuses import MANY_BYTES
+from tml.tags.source import Source
+
 from ..asking.program import ACCEPTED, CannotRun, Program
-from ..asking.room import MANY_BYTES
-from .source import Source
 
 MOST_REMEMBERED, LONGEST_REMEMBERED = 4096, 64
 """Answers on so many times are remembered, of which the value has at most so many characters."""

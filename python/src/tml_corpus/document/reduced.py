@@ -4,10 +4,10 @@ from __future__ import annotations
 
 from dataclasses import dataclass
 
+from tml.explaining.faults import read_fault
 from tml.places import Places
 
 from ..asking.program import ACCEPTED, CLASH, FAULT, CannotRun, Program, Reply
-from ..check.faults import read_fault
 from .words import Link, Wording
 
 APART = "the answers of tml to `check` and `reduce` do not belong together"

@@ -5,13 +5,13 @@ from __future__ import annotations
 import html
 from dataclasses import dataclass
 
-from .units import EMPTY, END, START, TEXT, Units
+from tml.tags.units import EMPTY, END, START, TEXT, Units
 
 LONGEST = 80
-"""So many characters of a text are shown."""
+"""How many characters of a text are shown."""
 
 ROOM = LONGEST + 1
-"""So many are gathered, so that it is seen whether there are more."""
+"""How many are gathered, so that it is seen whether there are more."""
 
 
 @dataclass(slots=True, eq=False)

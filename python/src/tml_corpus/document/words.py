@@ -7,18 +7,18 @@ from dataclasses import dataclass
 from functools import cached_property
 
 from tml.places import Place
+from tml.statuses import MANY_BYTES
+from tml.tags.cutting import units_of_whole
+from tml.tags.profile import IDENTIFIERS
+from tml.tags.source import Source, attribute_of
+from tml.tags.units import Unit, Units
 
 from ..asking.program import CannotRun, Program
-from ..asking.room import MANY_BYTES
-from .cutting import units_of_whole
 from .dates import dates_of
-from .profile import IDENTIFIERS
-from .source import Source, attribute_of
 from .texts import cut, texts_of
-from .units import Unit, Units
 
 LONGEST = 40
-"""So many characters of a text stand in a sentence."""
+"""How many characters of a text stand in a sentence."""
 
 MOST_OF_VALUE = 1000
 
@@ -32,6 +32,11 @@ class Link:
     left: str
     relation: str
     right: str
+    lid: str = ""
+
+    def called(self) -> str:
+        """How it is called: by its lid, or where it has none by its number."""
+        return self.lid or f"link {self.number}"
 
 
 class Wording:
@@ -62,7 +67,8 @@ class Wording:
         if not 0 <= number < len(self.link_tags):
             raise CannotRun("the answers of tml to `solve` and `check` do not belong together")
         left, relation, right = self.source.links[number]
-        return Link(number, self.places.place(self.link_tags[number].start), left, relation, right)
+        tag = self.link_tags[number]
+        return Link(number, self.places.place(tag.start), left, relation, right, self.source.value(tag, "lid"))
 
     def relation(self, number: int) -> str:
         """The relation of a link."""
@@ -109,8 +115,7 @@ class Wording:
 
     def name_of(self, link: Link, numbered: bool) -> str:
         """How a link is called: by its lid, or where it has none or that is wanted by the number that it has in evidence."""
-        lid, number = self.source.value(self.link_tags[link.number], "lid"), f"link {link.number}"
-        return number if not lid else f"{lid}, {number}" if numbered else lid
+        return f"{link.lid}, link {link.number}" if link.lid and numbered else link.called()
 
     def dated(self, point: int) -> tuple[Place, str] | None:
         """The date of the time of which a point is the start or the end: where its value stands, and what that is."""

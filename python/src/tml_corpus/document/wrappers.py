@@ -8,11 +8,12 @@ from __future__ import annotations
 import re
 from collections.abc import Iterable
 
+from tml.tags.edits import applied_in_order, blank
+from tml.tags.units import read_units
+
 from ..asking.libraries import Loadable
 from ..asking.program import ACCEPTED, File, Program, Reply
 from ..files.finding import read_open
-from .edits import applied_in_order, blank
-from .units import read_units
 
 
 class Unwrapping(Program):

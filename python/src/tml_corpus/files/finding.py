@@ -11,12 +11,13 @@ from typing import IO, NamedTuple
 
 from tml.logs import COMMAND
 from tml.running import PART
+from tml.saying import counted as counted  # noqa: F401 (which many take from here)
 from tml.statuses import DOCUMENT_LIMIT
 
 PATTERNS = ("*.tml", "*.xml")
 
 LONGEST_LINE = 65536
-"""So many bytes a line of a table or of a baseline has at most. One of a baseline has a path and a tag of 80 characters, in ASCII."""
+"""How many bytes a line of a table or of a baseline has at most. One of a baseline has a path and a tag of 80 characters, in ASCII."""
 
 
 class CannotRead(Exception):
@@ -185,11 +186,6 @@ def read_to(file: IO[bytes], most: int) -> bytes:
 def reason(error: Exception) -> str:
     """Why a file cannot be read, in a few words."""
     return (getattr(error, "strerror", None) or str(error)).lower()
-
-
-def counted(number: int, noun: str) -> str:
-    """A number and its noun."""
-    return f"{number} {noun}" if number == 1 else f"{number} {noun}s"
 
 
 def shown(text: str) -> str:

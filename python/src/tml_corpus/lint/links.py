@@ -5,12 +5,11 @@ from __future__ import annotations
 from collections.abc import Iterator
 from itertools import combinations
 
+from tml.explaining.references import new_instance
 from tml.statuses import INVERSES
-
-from ..check.references import new_instance
-from ..document.profile import TABLE
-from ..document.source import Source, Suspect
-from ..document.units import Unit
+from tml.tags.profile import TABLE
+from tml.tags.source import Source, Suspect
+from tml.tags.units import Unit
 
 ENDS = {"SLINK": ("eventInstanceID", "subordinatedEventInstance"), "ALINK": ("eventInstanceID", "relatedToEventInstance")}
 OF_INSTANCE = tuple(name for name in TABLE["MAKEINSTANCE"] if name != "eiid")
@@ -40,9 +39,10 @@ def repeated_link(source: Source) -> Iterator[Suspect]:
         if first is None:
             seen[left, relation, right] = tag
         elif left != right:
-            where = source.at(first.start)
+            lid = source.value(first, "lid")
+            where = f"by {lid} at {source.at(first.start)}" if lid else f"at {source.at(first.start)}"
             yield Suspect(
-                tag, f"{left} {relation} {right} is given at {where} already: see whether another pair is meant, or delete one of the two"
+                tag, f"{left} {relation} {right} is given {where} already: see whether another pair is meant, or delete one of the two"
             )
 
 

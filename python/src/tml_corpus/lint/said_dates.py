@@ -11,7 +11,7 @@ from ..document.date_words import MONTHS
 
 WEEKDAYS = ("Monday", "Tuesday", "Wednesday", "Thursday", "Friday", "Saturday", "Sunday")
 SHORTEST = 3
-"""So many letters of the name of a weekday or a month stand for it at least."""
+"""How many letters of the name of a weekday or a month stand for it at least."""
 
 
 def word_of(names: tuple[str, ...], more: str = "") -> re.Pattern[str]:
@@ -30,7 +30,7 @@ MOST_REMEMBERED = 4096
 """Of so many words and values it is remembered whether they contradict each other: in a corpus the same come again and again."""
 
 MOST_DAYS = 31
-"""So many days from its creation time a document mostly speaks of."""
+"""How many days from its creation time a document mostly speaks of."""
 
 
 class Said(NamedTuple):

@@ -5,13 +5,13 @@ from __future__ import annotations
 from collections.abc import Iterator
 from itertools import chain
 
-from ..asking.room import MANY_BYTES
-from ..check.wholeness import WITHOUT_BEGIN, first_conflict, name_of_bare, version_marks
-from ..document.edits import Edit
-from ..document.profile import CARRIED, ROOT, TABLE
-from ..document.similar import one_letter_apart
-from ..document.source import Source, Suspect, attribute_of, cut
-from ..document.units import END, START, TEXT, Attribute, Unit
+from tml.explaining.wholeness import WITHOUT_BEGIN, first_conflict, name_of_bare, version_marks
+from tml.statuses import MANY_BYTES
+from tml.tags.edits import Edit
+from tml.tags.profile import CARRIED, ROOT, TABLE
+from tml.tags.similar import one_letter_apart
+from tml.tags.source import Source, Suspect, attribute_of, cut
+from tml.tags.units import END, START, TEXT, Attribute, Unit
 
 KNOWN = {name: frozenset((*TABLE.get(name, ()), *CARRIED.get(name, ()))) for name in (ROOT, *TABLE)}
 AROUND_WORDS = ("EVENT", "TIMEX3")

@@ -4,11 +4,11 @@ from __future__ import annotations
 
 from collections.abc import Iterator
 
-from ..document.edits import Edit, encoded, with_value
-from ..document.invisible import first_invisible
-from ..document.source import Source, Suspect, attribute_of, cut
-from ..document.units import Unit
-from ..document.values import CALENDAR, DURATION, FISCAL, LOOKS_LIKE_DATE, PART_OF_DAY, RANGE, better, has_form
+from tml.tags.edits import Edit, encoded, with_value
+from tml.tags.invisible import first_invisible
+from tml.tags.source import Source, Suspect, attribute_of, cut
+from tml.tags.units import Unit
+from tml.tags.values import CALENDAR, DURATION, FISCAL, LOOKS_LIKE_DATE, PART_OF_DAY, RANGE, better, has_form
 from .said_dates import YEAR, contradiction, spoken_for, year_of
 
 DATED = ("DATE", "TIME")
@@ -148,9 +148,8 @@ def date_with_points(source: Source) -> Iterator[Suspect]:
         kind = values.get("type", "")
         attribute = attribute_of(tag, names[0]) if names and kind in DATED else None
         if attribute is not None:
-            text = (
-                f"{' and '.join(names)} of a {kind} {'say' if len(names) > 1 else 'says'} nothing about its time: only its value and links do"
-            )
+            say = "say" if len(names) > 1 else "says"
+            text = f"{' and '.join(names)} of a {kind} {say} nothing about its time: only its value and links do"
             yield Suspect.of_attribute(tag, attribute, text)
 
 

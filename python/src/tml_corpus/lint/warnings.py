@@ -5,15 +5,16 @@ from __future__ import annotations
 from collections.abc import Callable, Iterator
 from dataclasses import dataclass
 
+from tml.tags.edits import Edit
+from tml.tags.source import Source, Suspect, cut
+
 from ..asking.program import Program
 from ..document.dates import dates_of
-from ..document.edits import Edit
-from ..document.source import Source, Suspect, cut
 from . import links, tags, times
 from .kinds import Lint, is_mistake
 
 MOST_WARNINGS = 1000
-"""So many warnings on one document are reported, the first ones of its text."""
+"""How many warnings on one document are reported, the first ones of its text."""
 
 
 @dataclass(frozen=True)

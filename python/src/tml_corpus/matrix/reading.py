@@ -44,7 +44,7 @@ class Tally:
         self.number = number
         """The number of the line that is wanted, from 0 on."""
         self.most = 2 * max(map(len, intervals), default=0) + 2 + LONGEST_RELATION
-        """So many bytes the line of a decided pair has at most."""
+        """How many bytes the line of a decided pair has at most."""
         self.line = b""
         self.lines = self.decided = 0
         self.rest = b""

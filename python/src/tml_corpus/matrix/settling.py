@@ -120,7 +120,7 @@ class Settled:
     counts: dict[str, int]
 
     def least(self) -> int:
-        """So many pairs are decided whichever of the relations it is."""
+        """How many pairs are decided whichever of the relations it is."""
         return min(self.counts.values())
 
     def rank(self) -> tuple[float, ...]:

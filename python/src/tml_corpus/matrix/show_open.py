@@ -30,7 +30,7 @@ InOrder = Callable[..., Iterable[Result]]
 
 @dataclass(frozen=True)
 class Bounds:
-    """So many pairs are looked at at most, or all where it is 0, and so many of them shown."""
+    """How many pairs are looked at at most, or all where it is 0, and how many of them are shown."""
 
     pairs: int
     limit: int

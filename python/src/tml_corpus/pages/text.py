@@ -10,7 +10,7 @@ import re
 from collections.abc import Iterator, Mapping
 from dataclasses import dataclass
 
-from ..document.units import EMPTY, END, START, TEXT
+from tml.tags.units import EMPTY, END, START, TEXT
 from ..document.words import Wording
 from ..timeline.lettering import escaped, plain, printed
 

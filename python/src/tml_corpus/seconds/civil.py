@@ -29,7 +29,7 @@ def civil(second: int) -> str:
 
 
 def length(seconds: int) -> str:
-    """So many seconds as days, hours, minutes and seconds."""
+    """A number of seconds as days, hours, minutes and seconds."""
     days, rest = divmod(seconds, 86_400)
     parts = [(days, "d"), (rest // 3_600, "h"), (rest // 60 % 60, "min"), (rest % 60, "s")]
     return " ".join(f"{count:,} {unit}" for count, unit in parts if count) or "0 s"

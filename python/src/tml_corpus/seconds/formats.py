@@ -18,7 +18,7 @@ from .placed import Placed, PlacedInterval, Unplaced
 
 HEAD = ("name", "text", "kind", "start", "end", "from", "to", "earliest start", "latest start", "earliest end", "latest end")
 FOLD = 73
-"""So many bytes of a line of iCalendar come before it is folded."""
+"""How many bytes of a line of iCalendar come before it is folded."""
 
 STAMP = "19700101T000000Z"
 """The moment at which iCalendar says that an event was made: the same for each run."""

@@ -4,15 +4,16 @@ from __future__ import annotations
 
 from collections.abc import Iterable, Iterator
 
+from tml.tags.edits import Edit, disjoint
+
 from ..check.fix import mended, steps
 from ..clash.touching import asks
-from ..document.edits import Edit, disjoint
 from .document import OpenDocument
 from .wire import Json
 
 QUICK_FIX, REWRITE, FIX_ALL = "quickfix", "refactor.rewrite", "source.fixAll"
 MOST_EDITS = 1000
-"""So many edits go one by one; of more one edit is made."""
+"""How many edits go one by one; of more one edit is made."""
 
 ACTION_KINDS = (QUICK_FIX, REWRITE, FIX_ALL)
 

@@ -9,9 +9,9 @@ import re
 from collections.abc import Iterator
 from dataclasses import dataclass
 
-from ..check.markup import EQUALS, NAME, past_attributes, past_spaces
-from ..document.edits import Edit
-from ..document.profile import TABLE, Kind, Row
+from tml.explaining.markup import EQUALS, NAME, past_attributes, past_spaces
+from tml.tags.edits import Edit
+from tml.tags.profile import TABLE, Kind, Row
 from .document import OpenDocument
 from .names import detail_of
 from .wire import Json
@@ -20,7 +20,7 @@ REFERENCE, VALUE, FIELD = 18, 20, 5
 """The kinds of items in the protocol: a reference, a member of a list, and a field."""
 
 FARTHEST = 16 * 1024
-"""So many bytes before the cursor the tag begins at most."""
+"""How many bytes before the cursor the tag begins at most."""
 
 REST = re.compile(rb"[A-Za-z0-9_.:-]*")
 

@@ -9,8 +9,13 @@ from dataclasses import dataclass
 from functools import cached_property
 from urllib.parse import unquote, urlsplit
 
-from ..asking.program import ACCEPTED, CLASH, FAULT, CannotRun, File, Program, Reply
-from ..check.faults import BAD_MARKUP, Fault, read_fault
+from tml.explaining.faults import BAD_MARKUP, Fault, read_fault
+from tml.tags.cutting import units_of_whole
+from tml.tags.profile import IDENTIFIERS, TABLE, Kind
+from tml.tags.source import Source
+from tml.tags.units import Attribute, Unit, Units, end_of, open_tags, read_units
+
+from ..asking.program import ACCEPTED, CLASH, FAULT, CannotRun, File, Program, Reply, find_program
 from ..check.judgement import Judgement
 from ..check.judging import judge_document, placed_warnings
 from ..check.tags import cut
@@ -18,13 +23,9 @@ from ..clash.clashes import is_timeline, read_clash
 from ..clash.report import ClashReport, Wanted
 from ..clash.search import ClashSearch
 from ..clash.touching import Change, touching_changes
-from ..document.cutting import units_of_whole
-from ..document.profile import IDENTIFIERS, TABLE, Kind
 from ..document.reduced import read_reduced
-from ..document.source import Source
 from ..document.texts import cut as shortened
 from ..document.texts import texts_of
-from ..document.units import Attribute, Unit, Units, end_of, open_tags, read_units
 from ..document.words import LONGEST, Link, Wording
 from ..document.wrappers import Unwrapping
 from ..files.finding import Found
@@ -37,14 +38,16 @@ class Overtaken(Exception):
 
 
 class Asked(Program):
-    """`tml`, which looks before each question whether its answer is still wanted."""
+    """`tml`, which looks before each question whether its answer is still wanted. The program is looked for until it is there."""
 
+    chosen: str | None = None
     wanted: Callable[[], bool] = staticmethod(lambda: True)
 
     def ask(self, words: list[str], document: File, other: File | None = None) -> Reply:
         """Asks, where the answer is still wanted."""
         if not self.wanted():
             raise Overtaken
+        self.path = self.path or find_program(self.chosen)
         return super().ask(words, document, other)
 
 

@@ -13,10 +13,10 @@ from .wire import Json
 
 ERROR, WARNING, INFORMATION = 1, 2, 3
 FURTHER = 10
-"""So many further faults are looked for, and a third as many further clashes."""
+"""How many further faults are looked for, and a third as many further clashes."""
 
 MOST_RELATED = 16
-"""So many other links of a clash stand beside each: those that come next in it."""
+"""How many other links of a clash stand beside each: those that come next in it."""
 
 SOURCE = "tml"
 
@@ -39,7 +39,7 @@ def has_further(document: OpenDocument) -> bool:
 
 def problem_finding(problem: str) -> Json:
     """Why a document was not judged."""
-    return remark_finding(f"not judged: {problem}")
+    return remark_finding(f"not judged: {problem}") | {"severity": WARNING, "code": "not-judged"}
 
 
 def remark_finding(remark: str) -> Json:

@@ -5,17 +5,17 @@ from __future__ import annotations
 import re
 from collections.abc import Callable, Iterator
 
+from tml.explaining.references import MOST_NAMED, some
 from tml.statuses import INVERSES
+from tml.tags.units import Unit
 
 from ..asking.program import CLASH
-from ..check.references import MOST_NAMED, some
-from ..document.units import Unit
 from ..timeline.rows import KINDS, Row
 from .document import OpenDocument
 from .wire import Json
 
 MOST_LINES = 12
-"""So many lines on what follows are shown."""
+"""How many lines on what follows are shown."""
 
 OTHER_ENDS = {"ALINK": "relatedToEventInstance", "SLINK": "subordinatedEventInstance"}
 LETTERS = re.compile(r"([\\`*_{}\[\]<>#|~&!])")

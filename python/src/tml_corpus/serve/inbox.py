@@ -7,13 +7,18 @@ from collections import deque
 from dataclasses import dataclass
 from threading import Condition
 
-from .wire import BrokenWire, Incoming, Json, member
+from .ending import Ending
+from .wire import INVALID, PARSE, BrokenWire, Incoming, Json, member
 
 MOST_WAITING = 4096
-"""So many messages wait at most; the rest waits in the pipe."""
+"""How many messages wait at most; the rest waits in the pipe."""
 
 CHANGES = ("textDocument/didOpen", "textDocument/didChange", "textDocument/didClose")
 CANCEL = "$/cancelRequest"
+GOING = ("shutdown", "exit")
+
+SOON, LATER = 1.0, 10.0
+"""So many seconds a question may still take once the client has said that it goes, and once it is gone and may still read."""
 
 
 @dataclass
@@ -48,10 +53,12 @@ def read_message(body: bytes) -> Arrived | None:
     try:
         value = json.loads(body)
     except (ValueError, RecursionError):
-        return Unreadable(-32700, "a message is not JSON")
+        return Unreadable(PARSE, "a message is not JSON")
     method, number = member(value, "method", kind=str, default=None), member(value, "id", kind=(int, str), default=None)
     if method is None:
-        return None if isinstance(value, dict) and "id" in value else Unreadable(-32600, "a message has no method")
+        return None if isinstance(value, dict) and "id" in value else Unreadable(INVALID, "a message has no method")
+    if number is None and value.get("id") is not None:
+        return Unreadable(INVALID, "the id of a request is a whole number or a text")
     params = member(value, "params", default={})
     return Message(method, params, number, member(params, "textDocument", "uri", kind=str, default=""))
 
@@ -60,6 +67,7 @@ class Inbox:
     """The messages that wait, put here by one thread and taken by another one."""
 
     def __init__(self) -> None:
+        self.ending = Ending()
         self.waiting: deque[Arrived] = deque()
         self.moved = Condition()
         self.states: dict[str, int] = {}
@@ -75,12 +83,15 @@ class Inbox:
                 self.put(read_message(body))
         except (BrokenWire, OSError, MemoryError) as problem:
             self.problem = str(problem) or "out of memory"
+        self.ending.begin(LATER)
         with self.moved:
             self.ended = True
             self.moved.notify_all()
 
     def put(self, arrived: Arrived | None) -> None:
         """Puts one message in, or notes what it overtakes."""
+        if isinstance(arrived, Message) and arrived.method in GOING:
+            self.ending.begin(SOON)
         with self.moved:
             self.moved.wait_for(lambda: len(self.waiting) < MOST_WAITING)
             if isinstance(arrived, Message):

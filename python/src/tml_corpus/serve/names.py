@@ -1,13 +1,16 @@
-"""Identifiers in an editor: where one is defined, where it is referred to, and what the document has of each kind."""
+"""Identifiers in an editor: where one is defined, where it is referred to, and what the document has of each kind.
+
+From a word of the text the way to its links leads over its instances, so these belong to what refers to it.
+"""
 
 from __future__ import annotations
 
 from collections.abc import Iterator
 from heapq import nsmallest
 
-from ..document.profile import IDENTIFIERS, LEFT, RIGHT, TABLE, Kind, Row
-from ..document.source import attribute_of
-from ..document.units import Unit
+from tml.tags.profile import IDENTIFIERS, LEFT, RIGHT, TABLE, Kind, Row
+from tml.tags.source import attribute_of
+from tml.tags.units import Unit
 from .document import OF_TEXT, Named, OpenDocument
 from .hover import OTHER_ENDS
 from .wire import Json
@@ -17,7 +20,7 @@ SYMBOLS = {"EVENT": 24, "MAKEINSTANCE": 19, "TIMEX3": 14, "SIGNAL": 20, "TLINK":
 
 
 MOST_SYMBOLS = 10_000
-"""So many tags are listed at most, the first ones."""
+"""How many tags are listed at most, the first ones."""
 
 
 def location(document: OpenDocument, start: int, end: int) -> Json:
@@ -40,14 +43,23 @@ def defined(document: OpenDocument, named: Named) -> Named | None:
 
 
 def references(document: OpenDocument, offset: int, *, with_definition: bool) -> list[Json]:
-    """Where the identifier at a place is referred to, in the order of the document."""
+    """Where the identifier at a place is referred to, in the order of the document; on a word of the text also where its instances are."""
     named = document.named_around(offset)
     if named is None:
         return []
-    found = list(references_to(document, named))
-    own = defined(document, named) if with_definition else None
-    found += [own] if own is not None else []
+    asked = [named] if document.attribute_around(offset) is not None else [named, *instances_of(document, named)]
+    found = [reference for one in asked for reference in references_to(document, one)]
+    if with_definition:
+        found += [own for one in asked if (own := defined(document, one)) is not None]
     return [location(document, one.start, one.end) for one in sorted(found, key=lambda one: one.start)]
+
+
+def instances_of(document: OpenDocument, named: Named) -> Iterator[Named]:
+    """The instances of an event, by their identifiers; of another tag there are none."""
+    for name in document.source.instances.get(named.name, []) if named.kind == "EVENT" else ():
+        own = defined(document, Named("MAKEINSTANCE", name, 0, 0))
+        if own is not None:
+            yield own
 
 
 def references_to(document: OpenDocument, named: Named) -> Iterator[Named]:

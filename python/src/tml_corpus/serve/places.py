@@ -10,7 +10,7 @@ import re
 from bisect import bisect_right
 from itertools import accumulate
 
-from ..document.edits import Edit
+from tml.tags.edits import Edit
 from .wire import Json, member
 
 UTF_8, UTF_16 = "utf-8", "utf-16"

@@ -1,7 +1,8 @@
 """`tml-corpus serve`: a server of the Language Server Protocol over standard input and output.
 
 One thread reads what the client sends, and another one answers it. What a later change has overtaken is dropped before it is
-looked at, and else before the next question to `tml`. While nothing else waits, further faults are looked for.
+looked at, and else before the next question to `tml`. While nothing else waits, further faults are looked for. Once the client
+has said that it goes nothing is published, and what hangs is ended.
 """
 
 from __future__ import annotations
@@ -15,41 +16,22 @@ from functools import partial
 from threading import Event, Thread
 from typing import IO
 
-from ..asking.program import CannotRun
+from ..asking.program import CannotRun, find_program
 from ..command_line.output import INPUT
 from ..command_line.settings import Chosen, Remembering, Settings, settings_for
 from ..files.finding import CannotRead
 from ..lint.kinds import chosen
-from .actions import ACTION_KINDS, actions
-from .completion import completion
+from .actions import ACTION_KINDS
+from .answers import ANSWERS, Client
 from .document import Asked, AskedUnwrapping, OpenDocument, Overtaken, path_of
-from .findings import findings, has_further, problem_finding, remark_finding
-from .hover import hover
+from .ending import end_by_signals
+from .findings import ERROR, findings, has_further, problem_finding, remark_finding
 from .inbox import Inbox, Message, Unreadable
-from .names import definition, references, symbols
 from .places import UTF_8, UTF_16
-from .wire import BadParams, Incoming, Json, member, send
-
-PARSE, INVALID, UNKNOWN, BAD_PARAMS, INTERNAL = -32700, -32600, -32601, -32602, -32603
-NOT_INITIALIZED, CANCELLED, MODIFIED, FAILED = -32002, -32800, -32801, -32803
-
-
-class Refused(Exception):
-    """A request is not answered, with the number of an error."""
-
-    def __init__(self, code: int, text: str) -> None:
-        super().__init__(text)
-        self.code = code
-
-
-@dataclass
-class Client:
-    """What the client said of itself."""
-
-    encoding: str = UTF_16
-    symbols_as_tree: bool = False
-    initialized: bool = False
-    shut_down: bool = False
+from .wire import (
+    BAD_PARAMS, CANCELLED, ENDING, FAILED, INTERNAL, INVALID, MODIFIED, NOT_INITIALIZED, PARSE, UNKNOWN, BadParams, Incoming, Json, Refused,
+    member, send,
+)  # fmt: skip
 
 
 @dataclass
@@ -68,7 +50,7 @@ class Opened:
 class Server:
     """A server, which answers one client until that goes."""
 
-    def __init__(self, tml: str, config: str | None, output: IO[bytes]) -> None:
+    def __init__(self, tml: str | None, config: str | None, output: IO[bytes]) -> None:
         self.tml, self.config, self.output = tml, config, output
         self.inbox, self.client = Inbox(), Client()
         self.opened: dict[str, Opened] = {}
@@ -98,18 +80,38 @@ class Server:
             if message.is_request():
                 result = self.asked(message)
                 send(self.output, {"id": message.number, "result": result})
-            elif message.method in NOTICES and self.client.initialized and not self.inbox.is_overtaken(message.uri, message.state):
+                if message.method == "initialize":
+                    self.look_for_program()
+            elif message.method in NOTICES and self.listens() and not self.inbox.is_overtaken(message.uri, message.state):
                 NOTICES[message.method](self, message)
         except Refused as problem:
             self.answer_error(message.number, problem.code, str(problem))
         except BadParams as problem:
             self.answer_error(message.number, BAD_PARAMS, str(problem))
         except Overtaken:
-            self.answer_error(message.number, *((CANCELLED, "cancelled") if message.cancelled else (MODIFIED, "the document was changed")))
+            self.answer_error(message.number, *self.why_overtaken(message))
         except (CannotRun, CannotRead, MemoryError) as problem:
-            self.answer_error(message.number, FAILED, str(problem) or "out of memory")
+            is_late = self.inbox.ending.late.is_set()
+            self.answer_error(message.number, *(self.why_overtaken(message) if is_late else (FAILED, str(problem) or "out of memory")))
         finally:
             self.inbox.done(message)
+
+    def listens(self) -> bool:
+        """Whether the client may say something of documents: it has greeted, and not said that it goes."""
+        return self.client.initialized and not self.client.shut_down
+
+    def why_overtaken(self, message: Message) -> tuple[int, str]:
+        """Why the answer to a request is no longer wanted."""
+        if message.cancelled:
+            return CANCELLED, "cancelled"
+        return (ENDING, "the server is ending") if self.inbox.ending.late.is_set() else (MODIFIED, "the document was changed")
+
+    def look_for_program(self) -> None:
+        """Tells the client if there is no `tml`. It is looked for again at each question, so that it may come later."""
+        try:
+            find_program(self.tml)
+        except CannotRun as problem:
+            send(self.output, {"method": "window/showMessage", "params": {"type": ERROR, "message": f"tml-corpus serve: {problem}"}})
 
     def asked(self, message: Message) -> Json:
         """The answer to a request."""
@@ -122,7 +124,7 @@ class Server:
         if message.method == "shutdown":
             self.client.shut_down = True
             return None
-        if message.method not in REQUESTS:
+        if message.method not in ANSWERS:
             raise Refused(UNKNOWN, f"{message.method[:80]} is not a method of this server")
         if not self.is_wanted(message):
             raise Overtaken
@@ -130,13 +132,13 @@ class Server:
         if opened is None:
             raise Refused(BAD_PARAMS, "the document is not open")
         opened.document.program.wanted = partial(self.is_wanted, message)
-        return self.without_slips(partial(REQUESTS[message.method], self, opened.document, message.params))
+        return self.without_slips(partial(ANSWERS[message.method], self.client, opened.document, message.params))
 
     def without_slips(self, work: Callable[[], Json]) -> Json:
         """Does some work, in which a slip of this program ends nothing else."""
         try:
             return work()
-        except (Overtaken, BadParams, CannotRun, CannotRead, MemoryError):
+        except (Overtaken, BadParams, Refused, CannotRun, CannotRead, MemoryError):
             raise
         except Exception as error:
             place = traceback.extract_tb(error.__traceback__)[-1]
@@ -144,7 +146,7 @@ class Server:
 
     def is_wanted(self, message: Message) -> bool:
         """Whether the answer to a request is still wanted."""
-        return not message.cancelled and not self.inbox.is_overtaken(message.uri, message.state)
+        return not message.cancelled and not self.inbox.ending.late.is_set() and not self.inbox.is_overtaken(message.uri, message.state)
 
     def answer_error(self, number: Json, code: int, text: str) -> None:
         """Says why a request is not answered; nothing is answered to a notice."""
@@ -165,6 +167,7 @@ class Server:
             "hoverProvider": True,
             "definitionProvider": True,
             "referencesProvider": True,
+            "renameProvider": {"prepareProvider": True},
             "documentSymbolProvider": True,
             "completionProvider": {"triggerCharacters": ['"', "'", " "]},
             "codeActionProvider": {"codeActionKinds": list(ACTION_KINDS)},
@@ -198,7 +201,8 @@ class Server:
     def program(self, wrappers: tuple[str, ...]) -> Asked:
         """`tml`, asked without wrappers of the corpus; it remembers what it said of dates."""
         if wrappers not in self.programs:
-            self.programs[wrappers] = AskedUnwrapping(self.tml, wrappers) if wrappers else Asked(self.tml)
+            self.programs[wrappers] = AskedUnwrapping("", wrappers) if wrappers else Asked("")
+            self.programs[wrappers].chosen = self.tml
         return self.programs[wrappers]
 
     def close(self, message: Message) -> None:
@@ -207,13 +211,13 @@ class Server:
             self.publish(message.uri, None, [])
 
     def has_work(self) -> bool:
-        """Whether there is something to say of some document."""
-        return any(one.left for one in self.opened.values())
+        """Whether there is something to say of some document, to a client that has not said that it goes."""
+        return not self.inbox.ending.said.is_set() and any(one.left for one in self.opened.values())
 
     def work(self) -> None:
         """Says of the document that was changed last what there is to say; what is not wanted any more is left."""
         opened = next((one for one in reversed(self.opened.values()) if one.left), None)
-        if opened is None:
+        if opened is None or not self.has_work():
             return
         document, further = opened.document, opened.left[0]
         document.program.wanted = partial(self.is_next, opened, further)
@@ -232,46 +236,16 @@ class Server:
 
     def is_next(self, opened: Opened, further: bool) -> bool:
         """Whether what is to be said of a document is wanted before what waits; further faults are not."""
-        return not self.inbox.is_overtaken(opened.document.uri, opened.state) and not (further and self.inbox.waiting)
+        is_over = self.inbox.ending.said.is_set() or self.inbox.is_overtaken(opened.document.uri, opened.state)
+        return not is_over and not (further and self.inbox.waiting)
 
     def publish(self, uri: str, version: int | None, found: list[Json]) -> None:
-        """Tells the client what is said of a document; this takes the place of what was said before."""
+        """Tells the client what is said of a document; this takes the place of what was said before. One that goes is told nothing."""
+        if self.inbox.ending.said.is_set():
+            return
         params = {"uri": uri, "diagnostics": found} | ({} if version is None else {"version": version})
         send(self.output, {"method": "textDocument/publishDiagnostics", "params": params})
 
-
-def at_position(answer: Callable[[OpenDocument, int], Json]) -> Callable[[Server, OpenDocument, Json], Json]:
-    """The answer to a request about a position."""
-    return lambda _, document, params: answer(document, document.places.offset(member(params, "position", kind=dict)))
-
-
-def asked_references(_: Server, document: OpenDocument, params: Json) -> Json:
-    """The answer to a request for references."""
-    offset = document.places.offset(member(params, "position", kind=dict))
-    return references(document, offset, with_definition=member(params, "context", "includeDeclaration", kind=bool, default=True))
-
-
-def asked_symbols(server: Server, document: OpenDocument, _: Json) -> Json:
-    """The answer to a request for symbols."""
-    return symbols(document, as_tree=server.client.symbols_as_tree)
-
-
-def asked_actions(_: Server, document: OpenDocument, params: Json) -> Json:
-    """The answer to a request for what can be done."""
-    only = member(params, "context", "only", kind=list, default=None)
-    kinds = None if only is None else [one for one in only if isinstance(one, str)]
-    return actions(document, document.places.stretch(member(params, "range", kind=dict)), kinds)
-
-
-REQUESTS: dict[str, Callable[[Server, OpenDocument, Json], Json]] = {
-    "textDocument/hover": at_position(hover),
-    "textDocument/definition": at_position(definition),
-    "textDocument/completion": at_position(completion),
-    "textDocument/references": asked_references,
-    "textDocument/documentSymbol": asked_symbols,
-    "textDocument/codeAction": asked_actions,
-}
-"""The requests about documents."""
 
 NOTICES: dict[str, Callable[[Server, Message], None]] = {
     "textDocument/didOpen": Server.open,
@@ -281,6 +255,7 @@ NOTICES: dict[str, Callable[[Server, Message], None]] = {
 """What a client says of documents without waiting for an answer."""
 
 
-def serve(tml: str, config: str | None, stop: Event) -> int:
+def serve(tml: str | None, config: str | None, stop: Event) -> int:
     """Serves the client at standard input and output, and answers the status."""
+    end_by_signals()
     return Server(tml, config, sys.stdout.buffer).run(partial(os.read, INPUT), stop)

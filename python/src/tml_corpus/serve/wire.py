@@ -14,15 +14,28 @@ Json = Any
 END_OF_HEAD = b"\r\n\r\n"
 LONGEST_HEAD = 4096
 LONGEST_BODY = 64 * 1024 * 1024
-"""So many bytes a message may have: a document of 4 MiB takes six times as many where each byte of it is escaped."""
+"""How many bytes a message may have: a document of 4 MiB takes six times as many where each byte of it is escaped."""
 
 
 class BrokenWire(Exception):
     """The client does not speak the protocol, so that the beginning of its next message is not known."""
 
 
+PARSE, INVALID, UNKNOWN, BAD_PARAMS, INTERNAL = -32700, -32600, -32601, -32602, -32603
+NOT_INITIALIZED, CANCELLED, MODIFIED, ENDING, FAILED = -32002, -32800, -32801, -32802, -32803
+"""The numbers of errors in the protocol."""
+
+
 class BadParams(Exception):
     """A message lacks something, or has something of another kind."""
+
+
+class Refused(Exception):
+    """A request is not answered, with the number of an error."""
+
+    def __init__(self, code: int, text: str) -> None:
+        super().__init__(text)
+        self.code = code
 
 
 class Incoming:
@@ -82,10 +95,14 @@ def send(output: IO[bytes], message: dict[str, Json]) -> None:
 
 
 def member(value: Json, *path: str, kind: type | tuple[type, ...] = object, default: Json = BadParams) -> Json:
-    """What stands in an object at a path, where it is of this kind; else the default, or no answer where there is none."""
+    """What stands in an object at a path, where it is of this kind; else the default, or no answer where there is none.
+
+    To Python a truth value is a number too; here it is not.
+    """
     for name in path:
         value = value.get(name) if isinstance(value, dict) else None
-    if isinstance(value, kind) and value is not None and not (kind is int and isinstance(value, bool)):
+    kinds = kind if isinstance(kind, tuple) else (kind,)
+    if isinstance(value, kinds) and value is not None and not (int in kinds and isinstance(value, bool)):
         return value
     if default is BadParams:
         raise BadParams(f"{'.'.join(path)} is missing, or of another kind")

@@ -6,7 +6,7 @@ use Rattle.library_rows.proofs.texts.print_claims.Given as goal
 
 -- some claims were read from a text that is short enough, and the others are still to be read
 abbrev pub invariant-loop : goal.invariant-loop
-invariant-loop g l = record {
+invariant-loop l = record {
   read : (es : List PlainEvidence) × HasRead es l.unread;
   short : length l.unread.text.now ≤ max_evidence;
   left : l.unread.left + l.counter ≡ l.end;

@@ -7,9 +7,8 @@ from collections.abc import Callable, Iterable, Iterator
 from functools import cached_property
 from typing import Any, NamedTuple, Protocol, TypeVar
 
-from tml.places import Places
-
-from ..asking.room import MANY_BYTES
+from ..places import Places
+from ..statuses import MANY_BYTES
 from .edits import Edit
 from .profile import IDENTIFIERS, LEFT, RIGHT, ROOT, TABLE, Kind
 from .units import END, START, TEXT, Attribute, Unit, Units
@@ -24,7 +23,7 @@ VALUE = re.compile(r"""([^ \t\r\n=]++)[ \t\r\n]*+=[ \t\r\n]*+(?:"([^"]*+)"|'([^'
 """An attribute of a tag: its name, and its value between quotes of either kind."""
 
 MOST_REMEMBERED, LONGEST_REMEMBERED = 4096, 256
-"""So many tags are remembered as they are written, of at most so many bytes: many of them come again in other documents."""
+"""How many tags are remembered as they are written, and of how many bytes at most: many of them come again in other documents."""
 
 MANNERS = {"EVENT": "e", "MAKEINSTANCE": "ei", "TIMEX3": "t", "SIGNAL": "s"}
 """How identifiers mostly begin."""

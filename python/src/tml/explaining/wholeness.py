@@ -5,15 +5,15 @@ from __future__ import annotations
 import re
 from collections.abc import Iterable
 
-from ..document.edits import Edit
-from ..document.profile import ROOT
-from ..document.similar import nearest
-from ..document.source import Explanation
-from ..files.finding import counted
+from ..saying import counted
+from ..tags.edits import Edit
+from ..tags.profile import ROOT
+from ..tags.similar import nearest
+from ..tags.source import Explanation
 from .faults import BAD_MARKUP, MISPLACED, NOT_UTF8, UNCLOSED, Fault
 
 LONGEST_CHARACTER = 4
-"""So many bytes has a character in UTF-8 at most."""
+"""How many bytes a character has in UTF-8 at most."""
 
 MARKS = re.compile(rb"^(?:<{7}|>{7}|\|{7}|={7})(?:[ \t][^\r\n]*)?$", re.MULTILINE)
 CONFLICT = re.compile(rb"^(?:<{7}|>{7}|\|{7})(?:[ \t][^\r\n]*)?$", re.MULTILINE)

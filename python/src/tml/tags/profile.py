@@ -10,7 +10,7 @@ import re
 from enum import Enum
 from typing import NamedTuple
 
-from tml.statuses import IDENTIFIER_LIMIT, RELATIONS
+from ..statuses import IDENTIFIER_LIMIT, RELATIONS
 
 ROOT = "TimeML"
 WRAPPERS = (

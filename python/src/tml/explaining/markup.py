@@ -8,11 +8,11 @@ from collections.abc import Iterator
 from html import escape
 from html.entities import html5
 
-from ..document.edits import Edit
-from ..document.invisible import INVISIBLE, named
-from ..document.profile import LINK_TAGS, ROOT, TABLE, TAGS
-from ..document.similar import nearest, same_but_for_case
-from ..document.source import Explanation, Source, cut
+from ..tags.edits import Edit
+from ..tags.invisible import INVISIBLE, named
+from ..tags.profile import LINK_TAGS, ROOT, TABLE, TAGS
+from ..tags.similar import nearest, same_but_for_case
+from ..tags.source import Explanation, Source, cut
 
 NAME = re.compile(rb"[A-Za-z_:\x80-\xff][A-Za-z0-9_:.\-\x80-\xff]*")
 SPACES = re.compile(rb"[ \t\r\n]*")
@@ -190,12 +190,16 @@ def comment(source: Source, at: int, found: Explanation) -> None:
     found.text = "this comment has no end: write --> after it"
 
 
+def called_after(source: Source, at: int, found: Explanation) -> str:
+    """The name after `<!` or `<?`, up to the end of which it is marked."""
+    name = NAME.match(source.document, at + 2)
+    found.end = name.end() if name else at + 2
+    return words(name[0]) if name else ""
+
+
 def declaration(source: Source, at: int, found: Explanation) -> None:
     """A doctype, or another declaration."""
-    document = source.document
-    name = NAME.match(document, at + 2)
-    found.end = name.end() if name else at + 2
-    called = words(name[0]) if name else ""
+    document, called = source.document, called_after(source, at, found)
     subset = SUBSET.match(document, found.end)
     if called.upper() != "DOCTYPE":
         found.text = f"<!{called} is not read: delete it, up to its >"
@@ -210,11 +214,8 @@ def declaration(source: Source, at: int, found: Explanation) -> None:
 
 def instruction(source: Source, at: int, found: Explanation) -> None:
     """A processing instruction, or a declaration without an end."""
-    document = source.document
-    name = NAME.match(document, at + 2)
-    found.end = name.end() if name else at + 2
-    called = words(name[0]) if name else ""
-    if document.find(b"?>", at) < 0:
+    called = called_after(source, at, found)
+    if source.document.find(b"?>", at) < 0:
         found.text = f"<?{called} has no ?>"
     elif called.lower() == "xml":
         found.text = "write <?xml, a space and what is declared"

@@ -9,7 +9,7 @@ from itertools import islice
 from .invisible import without_invisible
 
 MOST_CHOICES = 512
-"""So many names are compared letter by letter at most; in all of them the same name in other letters is looked for."""
+"""How many names are compared letter by letter at most; in all of them the same name in other letters is looked for."""
 
 MOST_REMEMBERED = 256
 LONGEST = 64

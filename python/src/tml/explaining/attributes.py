@@ -6,15 +6,14 @@ import re
 from collections.abc import Iterable, Iterator
 from itertools import islice
 
-from tml.statuses import IDENTIFIER_LIMIT
-
-from ..document.edits import Edit, encoded, with_spaces_before, with_value
-from ..document.invisible import first_invisible, without_invisible
-from ..document.profile import IDENTIFIERS, LEFT, RIGHT, TABLE, Kind, Row, is_identifier
-from ..document.similar import MOST_CHOICES, near, nearest, one_letter_apart, plain, same_but_for_case
-from ..document.source import Explanation, Source, attribute_of, attributes_of, cut
-from ..document.units import Attribute, Unit
-from ..document.values import exchanged, no_date
+from ..statuses import IDENTIFIER_LIMIT
+from ..tags.edits import Edit, encoded, with_spaces_before, with_value
+from ..tags.invisible import first_invisible, without_invisible
+from ..tags.profile import IDENTIFIERS, LEFT, RIGHT, TABLE, Kind, Row, is_identifier
+from ..tags.similar import MOST_CHOICES, near, nearest, one_letter_apart, plain, same_but_for_case
+from ..tags.source import Explanation, Source, attribute_of, attributes_of, cut
+from ..tags.units import Attribute, Unit
+from ..tags.values import exchanged, no_date
 from .faults import BAD_DATE, BAD_VALUE, CONFLICT, MISSING, REPEATED
 
 MORE_INTERVALS = "`tml-edit --overlaps` expresses it by additional intervals, or delete the link"

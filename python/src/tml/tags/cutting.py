@@ -12,10 +12,10 @@ from array import array
 from collections.abc import Iterator
 from itertools import accumulate
 
-from tml.places import BYTE_ORDER_MARK
-
-from ..asking.program import ACCEPTED, CannotRun, Program
-from .units import EMPTY, END, KINDS, START, TEXT, Attribute, Units, read_units
+from ..places import BYTE_ORDER_MARK
+from ..running import CannotRun
+from ..statuses import TmlStatus
+from .units import EMPTY, END, KINDS, START, TEXT, Attribute, Cutter, Units, read_units
 
 NAME = rb"[A-Za-z_:\x80-\xff][A-Za-z0-9_:.\x80-\xff-]*+"
 UNIT = re.compile(
@@ -94,12 +94,12 @@ def cut(document: bytes) -> Cut | None:
     return units if units is not None and units.ends[-1] == len(document) else None
 
 
-def units_of_whole(program: Program, document: bytes) -> Units:
+def units_of_whole(program: Cutter, document: bytes) -> Units:
     """The units of a document that `tml` has accepted, or found only a fault of its tags in."""
     units = cut(program.seen(document))
     if units is not None:
         return units
     reply = program.spans(document)
-    if reply.status != ACCEPTED:
+    if reply.status != TmlStatus.DONE:
         raise CannotRun("the answers of tml to `check` and `spans` do not belong together")
     return read_units(reply)

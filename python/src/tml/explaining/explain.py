@@ -5,12 +5,10 @@ Where nothing is found the general sentence of the fault has to do.
 
 from __future__ import annotations
 
-from tml.places import Places
-
-from ..asking.program import Program
-from ..document.cutting import units_of_whole
-from ..document.source import Explanation, Source
-from ..document.units import unit_at
+from ..places import Places
+from ..tags.cutting import units_of_whole
+from ..tags.source import Explanation, Source
+from ..tags.units import Cutter, unit_at
 from . import attributes, references
 from .faults import BAD_MARKUP, BAD_REFERENCE, NOT_UTF8, TOO_DEEP, Fault
 from .nesting import nesting
@@ -19,7 +17,7 @@ from .wholeness import of_whole
 OF_TAGS = attributes.EXPLAINERS | references.EXPLAINERS
 
 
-def explain(program: Program, document: bytes, fault: Fault, places: Places | None = None, *, first: bool = True) -> Explanation:
+def explain(program: Cutter, document: bytes, fault: Fault, places: Places | None = None, *, first: bool = True) -> Explanation:
     """Finds out what a fault of a document is about; of the first one whether it comes of what is wrong with the file as a whole."""
     has_units = fault.number > BAD_MARKUP
     source = Source(document, units_of_whole(program, document) if has_units else None, places)

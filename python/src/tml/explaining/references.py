@@ -11,21 +11,20 @@ from collections.abc import Callable, Iterable, Iterator
 from functools import partial
 from itertools import islice, pairwise
 
-from tml.statuses import INTERVAL_LIMIT, LINK_LIMIT
-
-from ..document.edits import Edit, encoded, with_value
-from ..document.profile import IDENTIFIERS, LEFT, LINK_TAGS, RIGHT, TABLE, Kind, Row
-from ..document.similar import LOOKALIKES, MOST_CHOICES, one_letter_apart, plain
-from ..document.source import Explanation, Note, Source, attribute_of
-from ..document.units import Attribute, Unit
+from ..statuses import INTERVAL_LIMIT, LINK_LIMIT
+from ..tags.edits import Edit, encoded, with_value
+from ..tags.profile import IDENTIFIERS, LEFT, LINK_TAGS, RIGHT, TABLE, Kind, Row
+from ..tags.similar import LOOKALIKES, MOST_CHOICES, one_letter_apart, plain
+from ..tags.source import Explanation, Note, Source, attribute_of
+from ..tags.units import Attribute, Unit
 from .attributes import about, article, number_of, text_of
 from .faults import DUPLICATE, MANY_INTERVALS, MANY_LINKS, UNKNOWN_REFERENCE
 
 MOST_NAMED = 8
-"""So many identifiers are named at most."""
+"""How many identifiers are named at most."""
 
 IN_ORDER = 6
-"""So many identifiers beside the two have to stand in the order of their numbers, for this order to say which tag has a wrong one."""
+"""How many identifiers beside the two have to stand in the order of their numbers, for this order to say which tag has a wrong one."""
 
 NUMBERED = re.compile(r"([^0-9]*)([0-9]{1,9})")
 """An identifier that ends with a number."""

@@ -5,9 +5,9 @@ from __future__ import annotations
 from array import array
 from bisect import bisect_left
 from collections.abc import Iterator, Sequence
-from typing import NamedTuple, overload
+from typing import NamedTuple, Protocol, overload
 
-from ..asking.program import CannotRun, Program, Reply
+from ..running import CannotRun
 
 CHUNK = 256 * 1024
 SHOWN = 80
@@ -16,6 +16,32 @@ KINDS = ("start", "empty", "end", "attribute", "text", "comment", "bom", "declar
 START, EMPTY, END, ATTRIBUTE, TEXT = range(5)
 CODES = {kind.encode(): code for code, kind in enumerate(KINDS)}
 NAMELESS = tuple(b" %s\n" % kind.encode() for kind in KINDS[TEXT:])
+
+
+class Printed(Protocol):
+    """What `tml` answered: its status and its text, and the number of bytes of the document where it is known."""
+
+    @property
+    def status(self) -> int:
+        """The status."""
+
+    @property
+    def text(self) -> bytes:
+        """The text."""
+
+    @property
+    def size(self) -> int | None:
+        """The number of bytes."""
+
+
+class Cutter(Protocol):
+    """Who cuts documents into units."""
+
+    def seen(self, document: bytes) -> bytes:
+        """The document as it is asked about; all places are the same in it."""
+
+    def spans(self, document: bytes) -> Printed:
+        """What `tml spans` answers."""
 
 
 class Attribute(NamedTuple):
@@ -211,13 +237,13 @@ class Units(Sequence[Unit]):
         return found
 
 
-def units_of(program: Program, document: bytes) -> Units | None:
+def units_of(program: Cutter, document: bytes) -> Units | None:
     """The units of a document, or None where it cannot be cut into units whole (faults 1 to 3) or was not read."""
     reply = program.spans(document)
     return read_units(reply) if reply.status == 0 else None
 
 
-def read_units(reply: Reply) -> Units:
+def read_units(reply: Printed) -> Units:
     """The units that the table has."""
     units, begin = Units(), 0
     try:

@@ -5,16 +5,15 @@ from __future__ import annotations
 from collections import Counter
 from collections.abc import Iterator
 
-from tml.places import BYTE_ORDER_MARK
-from tml.statuses import OPEN_LIMIT
-
-from ..document.edits import Edit, encoded
-from ..document.invisible import first_invisible, without_invisible
-from ..document.profile import CARRIED, IDENTIFIERS, LEFT, LINK_TAGS, RIGHT, ROOT, TABLE, TAGS, Kind
-from ..document.similar import near, nearest, same_but_for_case
-from ..document.source import Explanation, Note, Source, cut, described, renamed
-from ..document.units import END, START, Unit, end_of, open_tags, unit_at
-from ..files.finding import counted
+from ..places import BYTE_ORDER_MARK
+from ..saying import counted
+from ..statuses import OPEN_LIMIT
+from ..tags.edits import Edit, encoded
+from ..tags.invisible import first_invisible, without_invisible
+from ..tags.profile import CARRIED, IDENTIFIERS, LEFT, LINK_TAGS, RIGHT, ROOT, TABLE, TAGS, Kind
+from ..tags.similar import near, nearest, same_but_for_case
+from ..tags.source import Explanation, Note, Source, cut, described, renamed
+from ..tags.units import END, START, Unit, end_of, open_tags, unit_at
 from .faults import MISPLACED, TOO_DEEP, UNBALANCED, UNCLOSED, UNKNOWN_TAG
 
 BY_BYTE = "names are compared letter by letter, upper and lower case differ"

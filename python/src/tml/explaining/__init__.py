@@ -1,0 +1,1 @@
+"""What a fault is about, and its cure, in words."""
