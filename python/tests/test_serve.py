@@ -26,7 +26,7 @@ TOUCHING = document(DAYS + '<TLINK timeID="t1" relatedToTime="t2" relType="BEFOR
 
 
 class Places(unittest.TestCase):
-    def test_each_place_and_back(self):
+    def test_each_place_and_back(self) -> None:
         draw = random.Random(1)
         for _ in range(200):
             pieces = [draw.choice(["a", "é", "\u20ac", "😀", "\n", "\r\n", "\r", "\ud800", "x" * 3000]) for _ in range(draw.randint(0, 20))]
@@ -40,7 +40,7 @@ class Places(unittest.TestCase):
                     if not (text[offset - 1 : offset] == b"\r" and text[offset : offset + 1] == b"\n"):
                         self.assertEqual(places.offset(places.position(offset)), offset)
 
-    def test_units(self):
+    def test_units(self) -> None:
         text = "a😀é\nx".encode()
         end = text.index(b"\n")
         self.assertEqual(ClientPlaces(text, UTF_16).position(end), {"line": 0, "character": 4})
@@ -50,7 +50,7 @@ class Places(unittest.TestCase):
 
 
 class Session(ServeTest):
-    def test_a_fault_appears_and_goes(self):
+    def test_a_fault_appears_and_goes(self) -> None:
         client = self.client()
         [found] = self.opened(client, document(EVENT + INSTANCE.replace("e1", "e2")))
         self.assertEqual((found["severity"], found["code"], self.stretch(found["range"])), (1, "15 UnknownReference", 'eventID="e2"'))
@@ -61,14 +61,14 @@ class Session(ServeTest):
         self.assertEqual(client.findings(), [])
         self.assertIsNone(client.ask("shutdown"))
         client.tell("exit", None)
-        self.assertEqual((client.child.wait(60), client.child.stderr.read()), (0, b""))
+        self.assertEqual((client.child.wait(60), client.errors.read()), (0, b""))
 
-    def test_further_faults(self):
+    def test_further_faults(self) -> None:
         client = self.client()
         self.assertEqual(len(self.opened(client, document('<EVENT eid="e1" class="STAT">x</EVENT><TIMEX3 tid="t1" type="DAT"/>'))), 1)
         self.assertEqual([one["code"] for one in client.findings(1)], ["11 BadValue", "11 BadValue"])
 
-    def test_faults_are_those_of_check(self):
+    def test_faults_are_those_of_check(self) -> None:
         draw, client = random.Random(7), self.client()
         sample = self.sample("port.xml")
         for version in range(2, 22):
@@ -83,7 +83,7 @@ class Session(ServeTest):
                 self.assertIn(json.dumps(said, ensure_ascii=False)[1:-1], wanted)
                 self.assertIn(str(found["range"]["start"]["line"] + 1), wanted)
 
-    def test_a_clash_stands_at_each_of_its_links(self):
+    def test_a_clash_stands_at_each_of_its_links(self) -> None:
         client = self.client()
         found = self.opened(client, self.sample("port.xml"))
         self.assertEqual([one["message"].split(":")[0] for one in found], [f"clash, {number} of 4" for number in range(1, 5)])
@@ -94,14 +94,14 @@ class Session(ServeTest):
         self.assertTrue(beside[-1]["message"].startswith('the date of Wednesday (t2) is value="1998-03-11"'))
         self.assertIn("No timeline fits", self.hover(client, "Monday"))
 
-    def test_settings_of_the_folder(self):
+    def test_settings_of_the_folder(self) -> None:
         self.write("tml-corpus.toml", 'ignore = ["no-creation-time"]\nwrappers = ["q"]\n')
         self.write("bad/tml-corpus.toml", "ignore = 1\n")
         client = self.client()
         self.assertEqual(self.opened(client, document("<q>x</q>")), [])
         self.assertIn("ignore has to be a list of texts", self.opened(client, document("x"), "bad/d.xml")[0]["message"])
 
-    def test_settings_are_read_once_for_each_change_of_them(self):
+    def test_settings_are_read_once_for_each_change_of_them(self) -> None:
         server, about = Server(TML, None, io.BytesIO()), Message("textDocument/didChange", {}, uri=self.uri())
         with mock.patch.object(tomllib, "loads", wraps=tomllib.loads) as load:
             for content in ('wrappers = ["q"]', "wrappers = 1"):
@@ -111,7 +111,7 @@ class Session(ServeTest):
                     server.take_text(about, document("<q>x</q>"), version)
                 self.assertEqual(load.call_count, 1)
 
-    def test_places_are_in_units_of_the_client(self):
+    def test_places_are_in_units_of_the_client(self) -> None:
         text = document("😀é <EVENT/>")
         [found] = self.opened(self.client(), text)
         self.assertEqual((self.can["positionEncoding"], found["range"]["start"]), ("utf-16", {"line": 1, "character": 4}))
@@ -120,17 +120,21 @@ class Session(ServeTest):
 
 
 class Answers(ServeTest):
-    def test_hover(self):
+    def test_hover(self) -> None:
         client = self.client()
         self.opened(client, self.sample("rates.xml"))
         time_of = self.hover(client, "<TIMEX3", 2)
-        self.assertRegex(time_of, r"\*\*.* \(t\d+, (?:DATE|TIME) .*\)\*\*\n\ntime fixed by the calendar: \d+ \w+ \d{4}, \d\d:\d\d to \d\d:\d\d:\d\d\n")
-        self.assertRegex(self.hover(client, "<EVENT", 2), r"^\*\*\w+ \(e\d+, [A-Z_]+\): instance ei\d+\*\*\n\n\w+ [A-Z_, ]+ .* \(ei\d+, \w+\)")
+        self.assertRegex(
+            time_of, r"\*\*.* \(t\d+, (?:DATE|TIME) .*\)\*\*\n\ntime fixed by the calendar: \d+ \w+ \d{4}, \d\d:\d\d to \d\d:\d\d:\d\d\n"
+        )
+        self.assertRegex(
+            self.hover(client, "<EVENT", 2), r"^\*\*\w+ \(e\d+, [A-Z_]+\): instance ei\d+\*\*\n\n\w+ [A-Z_, ]+ .* \(ei\d+, \w+\)"
+        )
         self.assertRegex(self.hover(client, "<TLINK", 2), r"^\*\*.* \(l1: \w+ [A-Z_]+ \w+\)\*\*")
         self.assertRegex(self.hover(client, "<MAKEINSTANCE", 2), r"^\*\*.* \(ei\d+\), an instance of e\d+\*\*")
         self.assertIsNone(self.hover(client, "<TimeML"))
 
-    def test_hover_says_what_follows(self):
+    def test_hover_says_what_follows(self) -> None:
         client = self.client()
         link = '<TLINK eventInstanceID="i1" relatedToTime="t1" relType="IS_INCLUDED"/>'
         self.opened(client, document(DAYS + EVENT + INSTANCE + link + '<TLINK eventInstanceID="i1" relatedToTime="t2" relType="BEFORE"/>'))
@@ -141,7 +145,7 @@ class Answers(ServeTest):
         self.assertIn("follows from the links", self.hover(client, 'relType="BEFORE"', 2))
         self.assertIn("time fixed by the calendar", self.hover(client, 'relatedToTime="t2"', 16))
 
-    def test_definition_and_references(self):
+    def test_definition_and_references(self) -> None:
         client = self.client()
         self.opened(client, self.sample("port.xml"))
         found = client.ask("textDocument/definition", self.about('relatedToTime="t1"', 16))
@@ -152,10 +156,13 @@ class Answers(ServeTest):
             self.assertEqual([self.stretch(one["range"]) for one in found], ["t1"] * count)
         self.assertIsNone(client.ask("textDocument/definition", self.about("Lund")))
 
-    def test_completion(self):
+    def test_completion(self) -> None:
         client = self.client()
         whole = self.sample("port.xml")
-        begun = whole.replace('<TLINK lid="l5" eventInstanceID="ei4" relatedToTime="t1" relType="IS_INCLUDED"/>', '<TLINK lid="l5" relatedToTime="t" relType="BE')
+        begun = whole.replace(
+            '<TLINK lid="l5" eventInstanceID="ei4" relatedToTime="t1" relType="IS_INCLUDED"/>',
+            '<TLINK lid="l5" relatedToTime="t" relType="BE',
+        )
         self.opened(client, begun)
         labels = [one["label"] for one in client.ask("textDocument/completion", self.about('relType="BE\n', 11))]
         self.assertEqual(labels[:4] + labels[-1:], ["BEFORE", "AFTER", "INCLUDES", "IS_INCLUDED", "OVERLAPPED_BY"])
@@ -169,11 +176,13 @@ class Answers(ServeTest):
         identifier = client.ask("textDocument/completion", self.about('tid="t2"', 5))
         self.assertEqual([one["label"] for one in identifier], ["t3"])
 
-    def test_symbols(self):
+    def test_symbols(self) -> None:
         tree = self.client(textDocument={"documentSymbol": {"hierarchicalDocumentSymbolSupport": True}})
         self.opened(tree, self.sample("port.xml"))
         found = tree.ask("textDocument/documentSymbol", {"textDocument": {"uri": self.uri()}})
-        self.assertEqual([(one["name"], one["detail"]) for one in (found[0], found[-1])], [("t0", "Thursday"), ("l13", "said IS_INCLUDED Thursday")])
+        self.assertEqual(
+            [(one["name"], one["detail"]) for one in (found[0], found[-1])], [("t0", "Thursday"), ("l13", "said IS_INCLUDED Thursday")]
+        )
         plain = self.client()
         self.opened(plain, self.sample("port.xml"))
         listed = plain.ask("textDocument/documentSymbol", {"textDocument": {"uri": self.uri()}})
@@ -182,7 +191,7 @@ class Answers(ServeTest):
 
 
 class Actions(ServeTest):
-    def test_a_cure_is_applied_and_the_fault_is_gone(self):
+    def test_a_cure_is_applied_and_the_fault_is_gone(self) -> None:
         client = self.client()
         rows = [
             (EVENT + INSTANCE + "a & b", "&", "Mend unescaped & (1 change)"),
@@ -201,14 +210,14 @@ class Actions(ServeTest):
                 self.assertNotIn(1, [one["severity"] for one in left])
                 self.assertEqual(self.actions(client, "<TimeML"), [])
 
-    def test_all_cures(self):
+    def test_all_cures(self) -> None:
         client = self.client()
         self.opened(client, document("é & b\n" + EVENT.replace("STATE", "State") + "\nx\n"))
         self.assertEqual(self.actions(client, "&", only=["refactor"]), [])
         [action] = self.actions(client, "<TimeML", only=["source"])
         self.assertEqual(self.applied(action), document("é &amp; b\n" + EVENT + "\nx\n"))
 
-    def test_dates_that_touch(self):
+    def test_dates_that_touch(self) -> None:
         client = self.client()
         found = self.opened(client, TOUCHING)
         self.assertEqual([(one["code"], one["severity"]) for one in found], [("touching", 1), ("no-creation-time", 3)])
@@ -218,7 +227,7 @@ class Actions(ServeTest):
         self.assertEqual(self.applied(action), TOUCHING.replace("BEFORE", "IBEFORE"))
         self.assertEqual([one["code"] for one in self.changed(client, self.applied(action), 2)], ["no-creation-time"])
 
-    def test_a_link_that_follows_is_taken_out(self):
+    def test_a_link_that_follows_is_taken_out(self) -> None:
         client = self.client()
         link = '<TLINK timeID="t1" relatedToTime="t2" relType="IBEFORE"/>\n'
         self.opened(client, document(DAYS + link))
@@ -228,7 +237,7 @@ class Actions(ServeTest):
 
 
 class Protocol(ServeTest):
-    def test_requests_that_are_not_wanted(self):
+    def test_requests_that_are_not_wanted(self) -> None:
         client = self.client()
         text = self.sample("rates.xml")
         self.opened(client, text)
@@ -246,18 +255,18 @@ class Protocol(ServeTest):
         self.assertEqual(client.told, [])
         self.assertTrue(client.findings(3) is not None)
 
-    def test_only_the_last_of_many_changes_is_judged(self):
+    def test_only_the_last_of_many_changes_is_judged(self) -> None:
         client = self.client()
         text = self.sample("port.xml")
         self.opened(client, text)
         client.send(*({"method": "textDocument/didChange", "params": self.change(text + " " * number, number)} for number in range(2, 202)))
-        versions = []
+        versions: list[int] = []
         while not versions or versions[-1] != 201:
             message = client.receive()
             versions.append(message["params"]["version"])
         self.assertLess(len(versions), 100)
 
-    def test_what_is_no_message(self):
+    def test_what_is_no_message(self) -> None:
         client = self.client()
         client.send(b"{", b"[]", b"[" * 100_000, b'{"id": 5}', b'{"id": 9, "method": "no/such"}', b'{"method": "textDocument/didOpen"}')
         client.send(client.request("textDocument/hover", {"textDocument": {"uri": "x"}}), client.request("initialize", {}))
@@ -267,22 +276,26 @@ class Protocol(ServeTest):
         client.send(client.request("textDocument/hover", {}))
         self.assertEqual(client.answer(client.number)["error"]["code"], -32600)
 
-    def test_before_initialize_and_without_an_end(self):
+    def test_before_initialize_and_without_an_end(self) -> None:
         client = self.started()
         client.send(client.request("textDocument/hover", {}))
         self.assertEqual(client.answer(1)["error"]["code"], -32002)
-        client.child.stdin.close()
+        client.input.close()
         self.assertEqual(client.child.wait(60), 1)
 
-    def test_a_wire_that_is_broken(self):
+    def test_a_wire_that_is_broken(self) -> None:
         for sent in (b"Content-Length: x\r\n\r\n", b"Content-Length: 99999999999\r\n\r\n", b"x" * 9000, b"Content-Length: 9\r\n\r\n{"):
             with self.subTest(sent[:40]):
-                done = subprocess.run([sys.executable, COMPANION, "serve", "--tml", TML], input=sent, capture_output=True, check=False, timeout=60)
+                done = subprocess.run(
+                    [sys.executable, COMPANION, "serve", "--tml", TML], input=sent, capture_output=True, check=False, timeout=60
+                )
                 self.assertEqual((done.returncode, done.stdout, done.stderr.count(b"\n")), (2, b"", 1))
 
-    def test_hostile_documents(self):
+    def test_hostile_documents(self) -> None:
         client = self.client()
-        texts = ["", "\ud800", "\0", "<", "<TimeML", "&" * 5000, "<TimeML>" * 40, "<TimeML>\r\ud83d" + "é" * 9000 + "<EVENT ", "x" * 4_200_000]
+        texts = [
+            "", "\ud800", "\0", "<", "<TimeML", "&" * 5000, "<TimeML>" * 40, "<TimeML>\r\ud83d" + "é" * 9000 + "<EVENT ", "x" * 4_200_000
+        ]
         texts += [document('<TLINK relType="' + "A" * 100_000 + '"/>' * 3), document("<EVENT/>" * 20_000), "\ufeff" + document("<EVENT/>")]
         self.opened(client, document("x"))
         begun = time.monotonic()
@@ -292,16 +305,22 @@ class Protocol(ServeTest):
                 for line, character in ((0, 0), (0, len(text)), (1, 9), (2**31, 2**31), (0, 17)):
                     where = {"line": line, "character": character}
                     for method in ("hover", "definition", "completion", "references", "documentSymbol", "codeAction", "prepareRename"):
-                        given = {"position": where, "context": {}, "range": {"start": where, "end": where}, "textDocument": {"uri": self.uri()}}
+                        given = {
+                            "position": where, "context": {}, "range": {"start": where, "end": where}, "textDocument": {"uri": self.uri()}
+                        }
                         client.send(client.request(f"textDocument/{method}", given))
                         self.assertNotIn("error", client.answer(client.number), method)
         self.assertLess(time.monotonic() - begun, 100)
 
-    def test_a_keystroke(self):
+    def test_a_keystroke(self) -> None:
         client, parts = self.client(), []
         for number in range(250):
-            parts.append(f'{"word " * 40}<EVENT eid="e{number}" class="STATE">x</EVENT>\n<MAKEINSTANCE eiid="i{number}" eventID="e{number}"/>\n')
-        parts += [f'<TLINK eventInstanceID="i{number}" relatedToEventInstance="i{number + 1}" relType="BEFORE"/>\n' for number in range(249)]
+            parts.append(
+                f'{"word " * 40}<EVENT eid="e{number}" class="STATE">x</EVENT>\n<MAKEINSTANCE eiid="i{number}" eventID="e{number}"/>\n'
+            )
+        parts += [
+            f'<TLINK eventInstanceID="i{number}" relatedToEventInstance="i{number + 1}" relType="BEFORE"/>\n' for number in range(249)
+        ]
         text = document("".join(parts))
         self.opened(client, text)
         taken = []
@@ -317,7 +336,7 @@ class Protocol(ServeTest):
 class Editors(CorpusTest):
     """Clients that others wrote."""
 
-    def run_editor(self, *words, path=os.environ["PATH"]):
+    def run_editor(self, *words: str, path: str = os.environ["PATH"]) -> str:
         """What an editor prints that is started with a document with one fault; `tml-corpus` is on its path."""
         for name in ("d.xml", "d.tml", "e.tml"):
             self.write(name, document('<EVENT eid="e1" class="State">x</EVENT> word\n'))
@@ -342,19 +361,21 @@ class Editors(CorpusTest):
         )
         return done.stdout.decode("utf-8", "replace").replace("\r", "")
 
-    def check_printed(self, printed, *wanted):
+    def check_printed(self, printed: str, *wanted: str) -> None:
+        """Checks that some lines are printed."""
         for line in wanted:
             self.assertRegex(printed, rf"(?m)^{line}", printed)
 
-    def run_neovim(self, path, *commands):
+    def run_neovim(self, path: str, *commands: str) -> str:
         """What Neovim prints that is set up as docs/EDITORS.md says, with a document without a prolog."""
         with open(os.path.join(TOP, "docs", "EDITORS.md"), encoding="utf-8") as file:
-            self.write("init.lua", re.search(r"```lua\n(.*?)```", file.read(), re.DOTALL)[1])
+            (set_up,) = re.findall(r"```lua\n(.*?)```", file.read(), re.DOTALL)
+        self.write("init.lua", set_up)
         after = [word for command in (*commands, "qa!") for word in ("-c", command)]
-        return self.run_editor(shutil.which("nvim"), "--headless", "-u", self.path("init.lua"), "-n", "d.tml", *after, path=path)
+        return self.run_editor(shutil.which("nvim") or "nvim", "--headless", "-u", self.path("init.lua"), "-n", "d.tml", *after, path=path)
 
     @unittest.skipUnless(shutil.which("nvim"), "no program nvim")
-    def test_neovim(self):
+    def test_neovim(self) -> None:
         printed = self.run_neovim(f"{self.path('bin')}:{os.environ['PATH']}", f"luafile {os.path.join(HERE, 'serve.lua')}")
         self.check_printed(
             printed,
@@ -375,13 +396,13 @@ class Editors(CorpusTest):
         self.assertNotRegex(printed, "Error|traceback")
 
     @unittest.skipUnless(shutil.which("nvim"), "no program nvim")
-    def test_neovim_without_the_program(self):
+    def test_neovim_without_the_program(self) -> None:
         printed = self.run_neovim(self.folder, "edit e.tml", "lua print('clients: ' .. #vim.lsp.get_active_clients())")
         self.check_printed(printed, ".*clients: 0$")
         self.assertNotRegex(printed, "Error|traceback")
 
     @unittest.skipUnless(shutil.which("emacs"), "no program emacs")
-    def test_emacs(self):
+    def test_emacs(self) -> None:
         printed = self.run_editor("emacs", "--batch", "--no-init-file", "-l", os.path.join(HERE, "serve.el"))
         if "no eglot" in printed:
             self.skipTest("Emacs has no Eglot")

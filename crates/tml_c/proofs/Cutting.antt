@@ -1,5 +1,5 @@
 -- Cutting bytes at their zero bytes, word by word.
-use Rattle.std.proofs.Common.{◌≡◌, ◌==◌, ◌<◌, ℕ, false, List, [], ◌∷◌, ◌++◌, length, String, ap, sym, ◌∙◌, reverse, arith}
+use Rattle.std.proofs.Common.{◌≡◌, ◌==◌, ◌<◌, ℕ, true, false, List, [], ◌∷◌, ◌++◌, length, String, ap, sym, ◌∙◌, reverse, arith}
 use Rattle.std.specs.List.{after_first, before_first, position_or_len}
 use Rattle.std.specs.Prelude.{string_bytes}
 use Rattle.std.specs.declared.alloc.Global.{Global}
@@ -8,7 +8,8 @@ use Rattle.std.proofs.lemmas.List.{append_assoc, map-append, reverse-append}
 use Rattle.std.proofs.lemmas.List.Elements.{All-from_get_or}
 use Rattle.std.proofs.lemmas.List.Splits.{slice_split_first, slice_split_none}
 use Rattle.std.proofs.lemmas.List.Sums.{fails_before_first}
-use Rattle.tml_c.specs.Words.{HaveNoWords, between_zeros}
+use Rattle.tml_c.specs.Words.{between_zeros, is_ended}
+use Rattle.tml_c.proofs.Ending.{ended_have_words}
 use Rattle.tml_run.specs.Words.{texts_of}
 
 -- where the first zero byte stands
@@ -40,9 +41,11 @@ pub same_last : (words other : List (List ℕ)) (x y : List ℕ) → words ++ x 
 same_last words other x y e =
     ap (λ parts. get_or parts 0 []) (sym (reverse-append words (x ∷ [])) ∙ ap (λ parts. reverse parts) e ∙ reverse-append other (y ∷ []))
 
--- where something comes after the last zero byte there are no words
-pub not_ended : (bytes rest : List ℕ) (words : List (List ℕ)) → between_zeros bytes ≡ words ++ between_zeros rest → first_zero rest ≡ length rest
-    → 0 < length rest → HaveNoWords bytes
-not_ended bytes rest words h none some others are =
-    let empty : rest ≡ [] = same_last words others rest [] (ap (λ parts. words ++ parts) (sym (last_part rest none)) ∙ sym h ∙ are.ended) in
-    absurd (omega (arith, some, ap length empty))
+-- where nothing comes after the last zero byte, all words were cut off
+pub all_words : (bytes rest : List ℕ) (words : List (List ℕ)) → is_ended bytes ≡ true → between_zeros bytes ≡ words ++ between_zeros rest → first_zero rest ≡ length rest
+    → between_zeros bytes ≡ words ++ [] ∷ []
+all_words bytes rest words ended h none =
+    let others = ended_have_words bytes ended in
+    let last = ap (λ parts. words ++ parts) (sym (last_part rest none)) ∙ sym h ∙ others.1 in
+    let empty : rest ≡ [] = same_last words others.0 rest [] last in
+    h ∙ ap (λ parts. words ++ parts) (last_part rest none ∙ ap (λ r. r ∷ []) empty)

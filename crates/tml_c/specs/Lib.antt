@@ -1,3 +1,4 @@
 pub mod Words
 pub mod Given
 pub mod Answers
+pub mod View

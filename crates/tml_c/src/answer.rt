@@ -1,54 +1,77 @@
 //! What a call answers.
-ghost use Rattle.std.specs.Prelude.{◌⊎◌};
-ghost use Rattle.tml_c.specs.Answers.{Answers, IsOutOfMemory, IsReply};
+ghost use Rattle.std.specs.Prelude.{◌≡◌, []};
+ghost use Rattle.tml_c.specs.Answers.{Answers, IsReply};
 ghost use Rattle.tml_c.specs.Given.{two_files};
-ghost use Rattle.tml_tool.specs.Commands.{rows_of_words};
+ghost use Rattle.tml_c.specs.View.{status_of, text_of};
+ghost use Rattle.tml_run.specs.Words.{texts_of};
 
 use crate::inputs::TwoFiles;
 use crate::sink::Growing;
 use crate::words::words_in;
 use std::alloc::Global;
-use tml_tool::{Status, run};
+use tml_tool::{Status, run, usage_text};
 
-/// A status, and the text that says it.
+/// What is answered to some words.
 #[derive(Drop)]
-pub struct Answer {
-    pub status: Status,
-    pub text: Vec<u8>,
+pub enum CallAnswer {
+    /// That they have no form. This text takes no memory.
+    Usage,
+    /// A status, and the text that says it.
+    Made(Status, Vec<u8>),
 }
 
-impl Answer {
-    /// Out of memory there is no text.
-    fn out_of_memory(alloc: Global) -> Answer
-        ensures { IsOutOfMemory result.status result.text.items }
+impl CallAnswer {
+    pub fn status(&self) -> Status
+        ensures { result ≡ status_of self.now }
     {
-        Answer {
-            status: Status::NoMemory,
-            text: Vec::new(alloc),
+        match self {
+            CallAnswer::Usage => Status::Usage,
+            CallAnswer::Made(status, _) => *status,
+        }
+    }
+
+    pub fn text(&self) -> &[u8]
+        ensures { result.now ≡ text_of self.now }
+    {
+        match self {
+            CallAnswer::Usage => usage_text(),
+            CallAnswer::Made(_, text) => text.as_slice(),
         }
     }
 }
 
-/// The answer to the words in some bytes, over two files.
-pub fn answer_to_bytes(alloc: Global, words: &[u8], first: &[u8], second: &[u8]) -> Answer
-    ensures { Answers words.now first.now second.now result.status result.text.items }
+/// Out of memory there is no text.
+fn out_of_memory(alloc: Global) -> CallAnswer
+    ensures status { status_of result ≡ Status.NoMemory }
+    ensures text { text_of result ≡ [] }
 {
-    let Ok(words) = words_in(alloc, words) else {
-        return Answer::out_of_memory(alloc);
-    };
-    answer_to_words(alloc, words.as_slice(), first, second)
+    CallAnswer::Made(Status::NoMemory, Vec::new(alloc))
 }
 
-/// The answer to some words. A text for which there was no memory is given up, with its status.
-fn answer_to_words(alloc: Global, words: &[String], first: &[u8], second: &[u8]) -> Answer
-    ensures { IsOutOfMemory result.status result.text.items
-        ⊎ IsReply (two_files first.now second.now) (rows_of_words words.now) result.status result.text.items }
+/// The answer to the words in some bytes, over two files. Where the bytes have none, no memory is needed.
+pub fn answer_to_bytes(alloc: Global, words: &[u8], first: &[u8], second: &[u8]) -> CallAnswer
+    ensures { Answers words.now first.now second.now (status_of result) (text_of result) }
+{
+    match words_in(alloc, words) {
+        Ok(Some(words)) => answer_to_words(alloc, words.as_slice(), first, second),
+        Ok(None) => CallAnswer::Usage,
+        Err(_) => out_of_memory(alloc),
+    }
+}
+
+/// The answer to some words. A text for which there was no memory is given up, with its status, unless it is the usage
+/// text.
+fn answer_to_words(alloc: Global, words: &[String], first: &[u8], second: &[u8]) -> CallAnswer
+    ensures { IsReply (two_files first.now second.now) (texts_of words.now) (status_of result) (text_of result) }
 {
     let mut inputs = TwoFiles::new(first, second);
     let mut sink = Growing::new(alloc);
     let status = run(alloc, words, &mut inputs, &mut sink);
-    let Some(text) = sink.into_text() else {
-        return Answer::out_of_memory(alloc);
-    };
-    Answer { status, text }
+    if let Status::Usage = status {
+        return CallAnswer::Usage;
+    }
+    match sink.into_text() {
+        Some(text) => CallAnswer::Made(status, text),
+        None => out_of_memory(alloc),
+    }
 }

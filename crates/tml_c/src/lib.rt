@@ -30,9 +30,10 @@ pub extern "C" fn tml_answer(
     ensures { Leaves words.now first.now second.now result needed.new text.old text.new }
 {
     let answer = answer_to_bytes(alloc, words, first, second);
-    *needed = answer.text.len();
-    lay_over(answer.text.as_slice(), text);
-    answer.status.number()
+    let said = answer.text();
+    *needed = said.len();
+    lay_over(said, text);
+    answer.status().number()
 }
 
 /// The most bytes that a document may have.

@@ -1,28 +1,42 @@
 //! The words of a call.
-ghost use Rattle.std.specs.Prelude.{◌≡◌, ◌++◌, [], ◌∷◌, IfOk, MatchOption};
-ghost use Rattle.tml_c.specs.Words.{AreTakenFor, HaveNoWords, between_zeros};
+ghost use Rattle.std.specs.Prelude.{◌≡◌, ◌++◌, [], ◌∷◌, true, IfErr, IfOk, MatchOption};
+ghost use Rattle.tml_c.specs.Words as spec;
+ghost use Rattle.tml_c.specs.Words.{AreWords, HaveNoWords, HaveWords, between_zeros};
 ghost use Rattle.tml_run.specs.Words.{texts_of};
 
 use std::alloc::{AllocError, Global};
 use std::str;
 
-/// The words in some bytes, each ended by a zero byte. Bytes that have none give the empty word, which has no form.
-pub fn words_in(alloc: Global, bytes: &[u8]) -> Result<Vec<String>, AllocError>
-    ensures { IfOk result (λ words. AreTakenFor bytes.now (texts_of words.items)) }
+/// The words in some bytes, each ended by a zero byte, or none where the bytes have none.
+///
+/// # Errors
+///
+/// Out of memory for the words that there are.
+pub fn words_in(alloc: Global, bytes: &[u8]) -> Result<Option<Vec<String>>, AllocError>
+    ensures ok { IfOk result (λ found. MatchOption found (HaveNoWords bytes.now) (λ words. AreWords bytes.now (texts_of words.items))) }
+    ensures err { IfErr result (λ e. HaveWords bytes.now) }
 {
     let Ok(text) = str::from_utf8(bytes) else {
-        return no_form(alloc);
+        return Ok(None);
     };
-    match ended_words(alloc, text)? {
-        Some(words) => Ok(words),
-        None => no_form(alloc),
+    if is_ended(bytes) {
+        Ok(Some(ended_words(alloc, text)?))
+    } else {
+        Ok(None)
     }
 }
 
-/// The words of a text, or none where something comes after the last zero byte.
-fn ended_words(alloc: Global, text: &str) -> Result<Option<Vec<String>>, AllocError>
-    ensures { IfOk result (λ found. MatchOption found (HaveNoWords text.now)
-        (λ words. between_zeros text.now ≡ texts_of words.items ++ [] ∷ [])) }
+/// Whether the last byte is zero, or there is none.
+fn is_ended(bytes: &[u8]) -> bool
+    ensures { result ≡ spec.is_ended bytes.now }
+{
+    bytes.is_empty() || bytes[bytes.len() - 1] == 0
+}
+
+/// The words of a text whose last one is ended too.
+fn ended_words(alloc: Global, text: &str) -> Result<Vec<String>, AllocError>
+    requires { spec.is_ended text.now ≡ true }
+    ensures { IfOk result (λ found. between_zeros text.now ≡ texts_of found.items ++ [] ∷ []) }
 {
     let mut words = Vec::new(alloc);
     let mut rest = text;
@@ -30,17 +44,5 @@ fn ended_words(alloc: Global, text: &str) -> Result<Option<Vec<String>>, AllocEr
         words.push(String::from_str(alloc, word)?)?;
         rest = after;
     }
-    if !rest.is_empty() {
-        return Ok(None);
-    }
-    Ok(Some(words))
-}
-
-/// The empty word.
-fn no_form(alloc: Global) -> Result<Vec<String>, AllocError>
-    ensures { IfOk result (λ words. texts_of words.items ≡ [] ∷ []) }
-{
-    let mut words = Vec::new(alloc);
-    words.push(String::new(alloc))?;
     Ok(words)
 }

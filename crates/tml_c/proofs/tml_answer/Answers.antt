@@ -1,15 +1,17 @@
 use Rattle.std.proofs.Common.{rules, ap, ◌∙◌}
+use Rattle.tml_run.specs.Status.{number_of}
 use Rattle.tml_c.specs.Answers.{laid_over}
+use Rattle.tml_c.specs.View.{status_of, text_of}
 use Rattle.tml_c.proofs.tml_answer.Goals as goal
 
 pub returns : goal.returns
 returns c =
     let answer = c.answer_to_bytes-answer in
     record {
-      status = answer.result.status;
-      text = answer.result.text.items;
+      status = status_of answer.result;
+      text = text_of answer.result;
       answers = answer.ensures;
-      number_is = c.number.ensures;
+      number_is = c.number.ensures ∙ ap number_of c.status.ensures;
       needed_is = search rules;
-      room_is = c.lay_over.ensures ∙ ap (λ text. laid_over text c.args.text.now) c.as_slice.ensures.value;
+      room_is = c.lay_over.ensures ∙ ap (λ text. laid_over text c.args.text.now) c.text-said.ensures;
     }

@@ -6,7 +6,7 @@ Each of them has the number and the name of a fault, and the byte at which `tml`
 from __future__ import annotations
 
 from collections import Counter
-from typing import TYPE_CHECKING, Protocol, TypeVar
+from typing import TYPE_CHECKING
 
 from ..files.finding import counted, shown
 from ..lint.kinds import is_mistake
@@ -14,6 +14,8 @@ from .judgement import Judgement, Mark, PlacedFault, PlacedNote, PlacedWarning
 
 if TYPE_CHECKING:
     from tml.places import Place
+
+    from .form import Form
 
 CONSEQUENCE = "(perhaps only a consequence)"
 
@@ -43,10 +45,6 @@ class WarningCounts:
         total = sum(count for _, count in kinds)
         first = f"{total} {one if total == 1 else many} in {counted(self.ranks[rank], 'file')}"
         return [first, *(f"{count:7}  {name}" for name, count in kinds)] if kinds else []
-
-
-Reported = TypeVar("Reported", contravariant=True)
-Counted = TypeVar("Counted", contravariant=True)
 
 
 class Summary:
@@ -112,26 +110,6 @@ def message(fault: PlacedFault) -> str:
 def warning_message(warning: PlacedWarning) -> str:
     """The warning in words."""
     return f"{shown(warning.text)} [{warning.name}]"
-
-
-class Form(Protocol[Reported, Counted]):
-    """A form of a report: what is printed of each file, and what comes after all of them."""
-
-    summary_apart: bool
-    """Whether the output is for programs, so that a summary goes to standard error."""
-
-    def file(self, report: Reported, /) -> str:
-        """What is printed of one file."""
-
-    def plain(self, path: str) -> str:
-        """What is printed of a file that is accepted, and of which there is nothing to say."""
-
-    def end(self, summary: Counted) -> str:
-        """What comes after all files."""
-
-
-Format = Form[Judgement, Summary]
-"""A form of a report on faults and warnings."""
 
 
 class Text:
@@ -321,7 +299,7 @@ def property_text(text: str) -> str:
     return data_text(text).replace(":", "%3A").replace(",", "%2C")
 
 
-def make_format(name: str, with_source: bool, strict: bool = False) -> Format:
+def make_format(name: str, with_source: bool, strict: bool = False) -> Form[Judgement, Summary]:
     """The format of a name."""
     match name:
         case "text":

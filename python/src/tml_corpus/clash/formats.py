@@ -14,9 +14,7 @@ from .report import TOUCHING, ClashReport, ClashSummary, PlacedChange, PlacedCla
 if TYPE_CHECKING:
     from tml.places import Place
 
-
-Format = formats.Form[ClashReport, ClashSummary]
-"""A form of a report on clashes."""
+    from ..check.form import Form
 
 
 class Text:
@@ -272,9 +270,9 @@ def repair_message(report: ClashReport) -> list[str]:
     return [shown(report.repair.text()), *(beside(link.place(), link.text) for links in report.repair.choices for link in links)]
 
 
-def make_format(name: str, with_source: bool, quiet: bool, checked: bool, strict: bool) -> Format:
+def make_format(name: str, with_source: bool, quiet: bool, checked: bool, strict: bool) -> Form[ClashReport, ClashSummary]:
     """The format of a name, for `check --clashes` or for `clashes`."""
-    makers: dict[str, Callable[[], Format]] = {
+    makers: dict[str, Callable[[], Form[ClashReport, ClashSummary]]] = {
         "text": lambda: Text(with_source, quiet),
         "json": lambda: Json(checked),
         "jsonl": lambda: JsonLines(checked),

@@ -1,7 +1,10 @@
-use Rattle.tml_c.proofs.Whole.{answers_bytes}
+use Rattle.std.proofs.Common.{inr, refl, [], ◌∷◌}
+use Rattle.tml_c.specs.Given.{two_files}
+use Rattle.tml_c.specs.Words.{HaveNoWords}
+use Rattle.tml_c.proofs.Whole.{usage_is_reply}
 use Rattle.tml_c.proofs.answer.answer_to_bytes.Goals as goal
 
-pub returns : goal.returns
-returns c =
-    answers_bytes c.args.words.now c.args.first.now c.args.second.now c.in-Ok.words.items c.as_slice.result.now c.answer_to_words.result.status
-    c.answer_to_words.result.text.items c.in-Ok.ensures c.as_slice.ensures.value c.answer_to_words.ensures
+pub returns-in-Ok-None : goal.returns-in-Ok-None
+returns-in-Ok-None c =
+    let none : HaveNoWords c.args.words.now = rw c.in-Ok-None.field-0-is at c.in-Ok-None.ensures.ok in
+    inr ([] ∷ [], inr (none, refl), usage_is_reply (two_files c.args.first.now c.args.second.now) ([] ∷ []) refl)

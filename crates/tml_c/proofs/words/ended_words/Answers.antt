@@ -1,6 +1,6 @@
 use Rattle.std.proofs.Common.{rules, arith, ◌∙◌}
 use Rattle.tml_run.specs.Words.{texts_of}
-use Rattle.tml_c.proofs.Cutting.{next_word, not_ended}
+use Rattle.tml_c.proofs.Cutting.{all_words, next_word}
 use Rattle.tml_c.proofs.words.ended_words.Goals as goal
 
 pub loop-word-preserved : goal.loop-word-preserved
@@ -12,6 +12,5 @@ loop-word-preserved c =
           c.loop-word.invariant.cut found.2 (c.in_ok-from_str.ensures.ok ∙ found.0) found.1 c.in_ok-push.ensures.items;
     }
 
-pub returns-then-not-is_empty : goal.returns-then-not-is_empty
-returns-then-not-is_empty c =
-    not_ended c.args.text.now c.loop-word.rest.now (texts_of c.loop-word.words.items) c.loop-word.invariant.cut (c.in_default.ensures.byte (omega arith) (λ w o h. h)) (grind (arith, c.is_empty.ensures, c.if-not-is_empty.true))
+pub returns : goal.returns
+returns c = all_words c.args.text.now c.loop-word.rest.now (texts_of c.loop-word.words.items) c.requires c.loop-word.invariant.cut (c.in_default.ensures.byte (omega arith) (λ w o h. h))
