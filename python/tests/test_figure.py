@@ -134,8 +134,8 @@ class Timelines(FigureTest):
             (("-o", "d.pdf"), "a picture in .pdf is one for a paper: add --bare"),
             (("--bare", "-o", "d.html"), "--bare draws .svg, .pdf or .tex"),
             (("--bare", "--seconds", "-o", "d.svg"), "--bare goes neither with --seconds nor with --text-order"),
-            (("--bare", "--width", "1mm", "-o", "d.svg"), "1mm is no width from 40mm to 1000mm"),
-            (("--bare", "--width", "84", "-o", "d.svg"), "84 is no width"),
+            (("--bare", "--width", "1mm", "-o", "d.svg"), "1mm is not a width from 40mm to 1000mm"),
+            (("--bare", "--width", "84", "-o", "d.svg"), "84 is not a width"),
         ]
         for words, said in rows:
             status, lines, error = self.run_it("timeline", "d.xml", *words)

@@ -49,25 +49,28 @@ class Misuse(unittest.TestCase):
 
     def test_names_that_are_not_there(self) -> None:
         rows: list[tuple[Callable[[], object], str]] = [
-            (lambda: tml.ask(RATES, "ei1", "before", "ei2", by=self.by), "'before' is no relation of TLINK: did you mean BEFORE?"),
-            (lambda: tml.ask(RATES, "ei1", "X", "ei2", by=self.by), "'X' is no relation of TLINK: BEFORE, AFTER, "),
+            (lambda: tml.ask(RATES, "ei1", "before", "ei2", by=self.by), "'before' is not a relation of TLINK: did you mean BEFORE?"),
+            (lambda: tml.ask(RATES, "ei1", "X", "ei2", by=self.by), "'X' is not a relation of TLINK: BEFORE, AFTER, "),
             (
                 lambda: tml.ask(RATES, "e1", "BEFORE", "ei2", by=self.by),
-                "'e1' is no interval of the document, but an EVENT: links and questions name its instance, ei1",
+                "'e1' is not an interval of the document, but an EVENT: links and questions name its instance, ei1",
             ),
-            (lambda: tml.possible(RATES, "ei1", "EI2", by=self.by), "'EI2' is no interval of the document: did you mean ei2?"),
-            (lambda: tml.possible(RATES, "ei1", "q", by=self.by), "'q' is no interval of the document: its intervals are t0, t1, ei1, ei2"),
+            (lambda: tml.possible(RATES, "ei1", "EI2", by=self.by), "'EI2' is not an interval of the document: did you mean ei2?"),
+            (
+                lambda: tml.possible(RATES, "ei1", "q", by=self.by),
+                "'q' is not an interval of the document: its intervals are t0, t1, ei1, ei2",
+            ),
             (
                 lambda: tml.with_links(RATES, [("e2", "BEFORE", "t1")], by=self.by),
-                "'e2' is no interval of the document, but an EVENT: links and questions name its instance, ei2",
+                "'e2' is not an interval of the document, but an EVENT: links and questions name its instance, ei2",
             ),
             (
                 lambda: tml.with_links(RATES, [("ei2", "Before", "t1")], by=self.by),
-                "'Before' is no relation of TLINK: did you mean BEFORE?",
+                "'Before' is not a relation of TLINK: did you mean BEFORE?",
             ),
             (
                 lambda: tml.expect(tml.matrix(RATES, by=self.by), tml.Matrix).possible("t1", "t11"),
-                "'t11' is no interval of the document: its intervals are t0, t1, ei1, ei2",
+                "'t11' is not an interval of the document: its intervals are t0, t1, ei1, ei2",
             ),
             (
                 lambda: tml.expect(tml.read(RATES, by=self.by), tml.Document)["EI1"],

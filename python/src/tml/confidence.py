@@ -26,7 +26,7 @@ def consistent(
     that is dropped, and three for the document. A relation may be dropped for a clash of which another one is dropped later.
 
     `ValueError` where there is not one weight for each relation, or one is not a number, or there are more relations than a document may
-    have links; `UnknownName` where one names no interval or is no relation.
+    have links; `UnknownName` where one names no interval or is not a relation.
     """
     wanted, given = list(links), content(document, DOCUMENT_LIMIT)
     relations = [relation_of(one) for one in wanted]

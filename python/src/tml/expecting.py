@@ -12,7 +12,7 @@ Wished = TypeVar("Wished")
 OtherWished = TypeVar("OtherWished")
 
 LONGEST = 400
-"""So many characters of an answer stand in a message."""
+"""How many characters of an answer a message has at most."""
 
 
 class Unexpected(Exception):

@@ -23,7 +23,7 @@ PATTERNS = (".tml", ".xml")
 """How the names of documents end that are looked for in folders."""
 
 AHEAD = 4
-"""So many documents for each process are asked about before their answers are taken."""
+"""How many documents for each process are asked about before their answers are taken."""
 
 Paths = str | os.PathLike[str] | Iterable[str | os.PathLike[str]]
 """A file or a folder, or several of them."""

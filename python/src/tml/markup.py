@@ -101,7 +101,7 @@ def inner_of(child: Child) -> str:
 def raw(name: str, text: str, **attributes: Value) -> Markup:
     """A style or a script, in which nothing can be escaped. A text that HTML and XML would read differently is refused."""
     if name not in ("style", "script") or "<" in text or "&" in text:
-        raise ValueError(f"this is no text for the element {name}")
+        raise ValueError(f"this text cannot stand in the element {name}")
     return Markup(f"{element(name, **attributes).text.removesuffix(f'</{name}>')}{text}</{name}>")
 
 
@@ -133,7 +133,7 @@ def attribute_name(key: str) -> str:
 def checked(name: str) -> str:
     """A name that is one; others are refused."""
     if not NAME.fullmatch(name):
-        raise ValueError(f"{name!r} is no name in markup")
+        raise ValueError(f"{name!r} is not a name in markup")
     return name
 
 

@@ -25,13 +25,13 @@ class UnknownName(KeyError):
 
 
 def unknown_relation(name: str) -> UnknownName:
-    """The exception where a word is no relation of TLINK."""
-    return UnknownName(name, f"{shown(name)!r} is no relation of TLINK: {meant(name, RELATIONS) or listed(RELATIONS)}")
+    """The exception where a word is not a relation of TLINK."""
+    return UnknownName(name, f"{shown(name)!r} is not a relation of TLINK: {meant(name, RELATIONS) or listed(RELATIONS)}")
 
 
 def unknown_interval(name: str, intervals: Sequence[str], instances: Sequence[str] = ()) -> UnknownName:
-    """The exception where a word is no interval of a document. Where it is an event, its instances are meant."""
-    said = f"{shown(name)!r} is no interval of the document"
+    """The exception where a word is not an interval of a document. Where it is an event, its instances are meant."""
+    said = f"{shown(name)!r} is not an interval of the document"
     if instances:
         return UnknownName(name, f"{said}, but an EVENT: links and questions name its instance, {listed(instances)}")
     near = meant(name, intervals)

@@ -14,13 +14,13 @@ from .tags.source import Source
 from .tags.units import Unit
 
 LONGEST = 40
-"""So many characters of the words of an interval are shown."""
+"""How many characters of the words of an interval are shown."""
 
 MOST_INTERVALS = 40
-"""So many intervals of a matrix are shown."""
+"""How many intervals of a matrix are shown."""
 
 MOST_ROWS = 200
-"""So many rows of a timeline are drawn."""
+"""How many rows of a timeline are drawn."""
 
 LEFT, HEIGHT, BAR, RANK = 300, 22, 12, 34
 """Of a picture in pixels: the room for words, the height of a row and of its bar, and the width between two ranks."""

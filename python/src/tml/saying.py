@@ -8,7 +8,7 @@ from collections.abc import Iterable, Sequence
 from .logs import COMMAND
 
 MOST_NAMED = 12
-"""So many names are listed in a message at most."""
+"""How many names a message lists at most."""
 
 
 def counted(number: int, noun: str) -> str:

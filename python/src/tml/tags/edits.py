@@ -10,7 +10,7 @@ from .units import Attribute, Unit
 
 
 MOST_COMBINED = 24
-"""So many ways to mend several slips at once are looked at."""
+"""How many ways to mend several slips at once are looked at."""
 
 
 class Edit(NamedTuple):

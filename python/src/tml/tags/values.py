@@ -19,7 +19,7 @@ CALENDAR = re.compile(
 """The shapes that the calendar places. Two digits are a century, and three a decade."""
 
 SHORTEST_DATE = 4
-"""So many digits has a value at least that is rather a date than a length."""
+"""How many digits a value has at least that is a date rather than a length."""
 
 NUMBER = r"(?:\d{1,9}|X)"
 DURATION = re.compile(

@@ -25,7 +25,7 @@ def width_of(text: str) -> float:
     found = WIDTH.fullmatch(text)
     width = float(found[1]) * UNITS[found[2]] if found else 0.0
     if not NARROWEST <= width <= BROADEST:
-        raise ValueError(f"{text} is no width from 40mm to 1000mm, in mm, cm, in, pt or bp")
+        raise ValueError(f"{text} is not a width from 40mm to 1000mm, in mm, cm, in, pt or bp")
     return width
 
 

@@ -12,7 +12,7 @@ from .shapes import LABEL, NARROWER, SMALL, Box, Figure, Line, Point, Shape, Tex
 
 EDGE, LEADING = 3.0, 9.0
 MOST_NAMED = 16
-"""So many points of a ring have words beside them; of more the lines below tell."""
+"""How many points of a ring have words beside them at most; the lines below tell of more."""
 
 
 def figure_of(title: str, wording: Wording, steps: Sequence[WalkStep], width: float, *, has_lines: bool = True) -> Figure:

@@ -18,7 +18,7 @@ from .svg_form import POINTS_OF_MILLIMETRE, drawing, svg
 
 BROWSERS = ("chromium", "chromium-browser", "google-chrome")
 PATIENCE = 120
-"""So many seconds a browser may take."""
+"""How many seconds a browser may take."""
 
 MISSING = "a PDF is made by the library cairosvg or the program chromium, and neither is installed: write .svg, or .tex"
 

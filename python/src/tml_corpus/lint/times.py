@@ -18,7 +18,7 @@ DATED = ("DATE", "TIME")
 """The types of which the value is a date."""
 
 MOST_CREATION_TIMES = 3
-"""So many times, the first ones, are offered to be the creation time."""
+"""How many times, the first ones, are offered as the creation time."""
 
 NEAR, FAR = 2, 5
 """Within so many years of its creation time a document mostly speaks, and from the second number on a date is far from it."""

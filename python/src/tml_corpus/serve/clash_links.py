@@ -18,7 +18,7 @@ from .wire import Json
 
 QUICK_FIX = "quickfix"
 MOST_LINKS = 4
-"""So many links of clashes in the lines that are asked for are looked at."""
+"""How many links of clashes in the lines that are asked for are looked at."""
 
 
 def clash_links(document: OpenDocument, first: int, last: int) -> Iterator[Json]:

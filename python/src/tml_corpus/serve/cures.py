@@ -24,11 +24,11 @@ from .wire import Json
 
 QUICK_FIX = "quickfix"
 MOST_EDITS = 1000
-"""So many edits go one by one; of more one edit is made."""
+"""How many edits go one by one; of more one edit is made."""
 
 MOST_OFFERED, LEAST_OFFERED = 64, 4
 MOST_BYTES = 64 * 1024 * 1024
-"""So many edits are offered for the lines that are asked for; of a long document fewer, since `tml` is asked about each."""
+"""How many edits are offered for the lines that are asked for; of a long document fewer, since `tml` is asked about each."""
 
 
 def cures(document: OpenDocument, lines: tuple[int, int]) -> Iterator[Json]:

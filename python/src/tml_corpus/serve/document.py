@@ -61,7 +61,7 @@ class AskedUnwrapping(Asked, Unwrapping):
 
 
 FURTHER = 10
-"""So many further faults are looked for, and a third as many further clashes."""
+"""How many further faults are looked for, and a third as many further clashes."""
 
 OF_TEXT = ("EVENT", "TIMEX3", "SIGNAL")
 """The tags that stand around words of the text."""

@@ -15,13 +15,13 @@ from .document import OpenDocument
 from .wire import Json
 
 LONGEST = 60
-"""So many characters of the document, or of what is written, stand in a title."""
+"""How many characters of the document, or of what is written, a title has at most."""
 
 LAST, FIRST = re.compile(rb"(?:<[^<>]{0,400}>|[^\s<>]{1,400})\Z"), re.compile(rb"\s*(<[^<>]{0,400}>|[^\s<>]{1,400})")
 """The last tag or word before a place, and the first one after it."""
 
 NEAR = 1000
-"""So many bytes before a place are looked at for these."""
+"""How many bytes before a place are searched for these."""
 
 BEYOND, AS_FAR = 0, 1
 """How far `tml` comes after some edits: to acceptance or a later fault, or as far as before."""

@@ -18,7 +18,7 @@ CANCEL = "$/cancelRequest"
 GOING = ("shutdown", "exit")
 
 SOON, LATER = 1.0, 10.0
-"""So many seconds a question may still take once the client has said that it goes, and once it is gone and may still read."""
+"""How many seconds a question may still take once the client has said that it goes, and once it is gone and may still read."""
 
 
 @dataclass

@@ -23,7 +23,7 @@ RELATION = re.compile(rb"^relation (\w+)$", re.MULTILINE)
 def possible(program: Program, document: bytes, left: str, right: str) -> list[str] | None:
     """The relations of TLINK that are possible between two intervals of a document; None where `tml` says nothing of that.
 
-    That is so where the document has a fault or a clash, or one of the two is no interval of it.
+    That is so where the document has a fault or a clash, or one of the two is not an interval of it.
     """
     if not (is_identifier(left) and is_identifier(right)):
         return None

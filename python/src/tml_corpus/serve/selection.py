@@ -19,7 +19,7 @@ from .wire import Json
 
 ANNOTATE = "refactor.rewrite"
 LONGEST = 40
-"""So many characters of the selection stand in a title."""
+"""How many characters of the selection a title has at most."""
 
 NO_DATE = "XXXX-XX-XX"
 """The value of a date of which nothing is known."""
