@@ -93,7 +93,8 @@ class Installed(unittest.TestCase):
     @unittest.skipUnless(os.access(TML, os.X_OK), f"no program {TML}: build it as README.md says, or name one by TML=PROGRAM")
     def test_a_question_is_answered(self) -> None:
         script = f"import tml\nprint(tml.relations({SAMPLE!r})[0])\nprint(tml.check(b'<TimeML><EVENT/></TimeML>'))"
-        self.assertEqual(self.run_script(script), (0, "t0 AFTER t1\n1:9: 10 MissingAttribute\n", ""))
+        cure = "this EVENT has no text: delete it, or add eid and class if it is meant"
+        self.assertEqual(self.run_script(script), (0, f"t0 AFTER t1\n1:9: 10 MissingAttribute: {cure}\n", ""))
 
 
 if __name__ == "__main__":
