@@ -32,6 +32,16 @@ SIGHTS = {
 }
 """How colours look to those who lack a kind of cones, by Machado, Oliveira and Fernandes (2009)."""
 
+PACKAGES = ("standalone.cls", "tikz.sty", "lmodern.sty", "iftex.sty")
+
+
+def has_tex() -> bool:
+    """Whether pdfTeX is installed, with what a picture needs."""
+    if shutil.which("pdflatex") is None or shutil.which("kpsewhich") is None:
+        return False
+    found = subprocess.run(["kpsewhich", *PACKAGES], capture_output=True, text=True, check=False).stdout
+    return len(found.splitlines()) == len(PACKAGES)
+
 
 @needs_matrix
 @needs_score
@@ -199,7 +209,7 @@ class Forms(FigureTest):
         self.assertEqual(escaped(r"\a{"), r"\textbackslash{}a\{")
         self.assertEqual(escaped("50% & x_1 -- #"), r"50\% \& x\_1 {-}{-} \#")
 
-    @unittest.skipUnless(shutil.which("pdflatex"), "no program pdflatex")
+    @unittest.skipUnless(has_tex(), "no pdflatex, or not the packages that a picture needs")
     def test_tex_can_be_compiled(self) -> None:
         for name, content, status in (("a", mended(), 0), ("b", mended().replace('relType="AFTER"', 'relType="BEFORE"'), 1)):
             self.made(content, f"{name}.tex", status=status)

@@ -9,7 +9,7 @@ HEAD = r"""% Made by tml-corpus timeline --bare. Compile it alone, or take the t
 % LuaLaTeX has letters beyond those of Europe, where its font has them.
 \documentclass[border=0pt]{standalone}
 \usepackage{iftex}
-\ifPDFTeX\usepackage[utf8]{inputenc}\usepackage[T1]{fontenc}\else\usepackage{fontspec}\fi
+\ifPDFTeX\usepackage[utf8]{inputenc}\usepackage[T1]{fontenc}\IfFileExists{lmodern.sty}{\usepackage{lmodern}}{}\else\usepackage{fontspec}\fi
 \usepackage{tikz}
 \usetikzlibrary{patterns}
 """
