@@ -11,17 +11,17 @@ from __future__ import annotations
 from importlib import import_module
 from typing import TYPE_CHECKING, Any
 
-from tml import __version__
-
 if TYPE_CHECKING:
     from .functions import *
 
-VERSION = __version__
-"""The version of the companions."""
+    VERSION: str
+    """The version of the companions, which is that of the package `tml`."""
 
 
 def __getattr__(name: str) -> Any:
-    """Loads the functions of the package once one of them is asked for, since the commands do without."""
+    """Loads the functions and the version of the package once they are asked for, so that a command can begin in little memory."""
+    if name == "VERSION":
+        return import_module("tml").__version__
     if not name.startswith("_") and name in (functions := import_module(".functions", __name__)).__all__:
         return getattr(functions, name)
     raise AttributeError(f"module {__name__!r} has no attribute {name!r}")
