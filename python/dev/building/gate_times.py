@@ -7,8 +7,8 @@
 The log has a JSON object a line. `rt ci` starts the prover once for each proof, each crate's tests and each edit: here a
 recorder stands in the prover's place, which runs it and notes when it began and ended and what `getrusage` says of it.
 `slowest` checks each crate once more from nothing, over the libraries that `rt ci` left in crates/*/out, with work kept in a
-folder: the prover writes a file there for each module that it has checked, so its time is that since the file before. The
-modules X.Lts, X.Proof and X.Tie are the proof of a function X. It is wall time of one job: nothing else should run.
+folder: the prover writes a file there for each module that it has checked, so its time is the processor time since the file
+before. The modules X.Lts, X.Proof and X.Tie are the proof of a function X.
 """
 
 from __future__ import annotations
@@ -25,8 +25,10 @@ import subprocess
 import sys
 import tempfile
 import time
+from bisect import bisect_right
 from collections import Counter, defaultdict
 from collections.abc import Iterator, Sequence
+from contextlib import suppress
 from dataclasses import asdict, dataclass
 from heapq import nlargest
 from operator import itemgetter
@@ -128,6 +130,19 @@ def table(log: str) -> Iterator[str]:
     yield f"\n{len(checks)} checks in {wall / 60:.1f} minutes of wall time"
 
 
+def processor_times(process: subprocess.Popen[bytes]) -> Iterator[tuple[float, float]]:
+    """The time, and how many seconds of a processor a process has used by then, about twenty times a second until it ends."""
+    ticks = os.sysconf("SC_CLK_TCK")
+    used = 0.0
+    while process.poll() is None:
+        yield time.time(), used
+        time.sleep(0.05)
+        with suppress(OSError, IndexError):
+            fields = Path(f"/proc/{process.pid}/stat").read_text(encoding="utf-8").rpartition(")")[2].split()
+            used = sum(map(int, fields[11:15])) / ticks
+    yield time.time(), used
+
+
 def modules_of(name: str) -> Iterator[tuple[str, float]]:
     """The modules of a crate that is checked from nothing, with the seconds that each took."""
     rt = kit()
@@ -139,13 +154,16 @@ def modules_of(name: str) -> Iterator[tuple[str, float]]:
         sys.exit(f"gate-times: crates.txt has no crate {name}")
     with tempfile.TemporaryDirectory(prefix="gate-times-") as kept:
         words = [rt.rtlib.RATTLE, "check", *crate.words(["--jobs", "1"], keeps=False), "--incremental", kept]
-        last = time.time()
-        if subprocess.run(words, cwd=crate.folder, stdout=subprocess.DEVNULL, check=False).returncode:
+        with subprocess.Popen(words, cwd=crate.folder, stdout=subprocess.DEVNULL) as prover:
+            samples = list(processor_times(prover))
+        if prover.returncode:
             sys.exit(f"gate-times: {name} is not proved over what lies in crates/*/out: run rt ci first")
         files = [path for path in Path(kept).rglob("*.oantt") if path.parent.name != "records"]
+        last = 0.0
         for ended, module in sorted((path.stat().st_mtime, path.stem) for path in files):
-            yield module.removeprefix(f"Rattle-{name}-"), ended - last
-            last = ended
+            used = samples[bisect_right(samples, (ended, 0.0)) - 1][1]
+            yield module.removeprefix(f"Rattle-{name}-"), used - last
+            last = used
 
 
 def slowest(count: int, names: Sequence[str]) -> Iterator[str]:
