@@ -21,7 +21,9 @@ if TYPE_CHECKING:
 def __getattr__(name: str) -> Any:
     """Loads the functions and the version of the package once they are asked for, so that a command can begin in little memory."""
     if name == "VERSION":
-        return import_module("tml").__version__
+        from tml import __version__
+
+        return __version__
     if not name.startswith("_") and name in (functions := import_module(".functions", __name__)).__all__:
         return getattr(functions, name)
     raise AttributeError(f"module {__name__!r} has no attribute {name!r}")
