@@ -330,6 +330,18 @@ class Folders(unittest.TestCase):
             list(rows(path))
 
 
+class Starting(unittest.TestCase):
+    def test_what_ends_all_programs_waits_for_one_that_is_being_started(self) -> None:
+        starts, seen = running.Starts(), list[str]()
+        with starts.one():
+            with starts.one():
+                starts.after(lambda: seen.append("later"))
+            self.assertEqual(seen, [])
+        self.assertEqual(seen, ["later"])
+        running.Starts().after(lambda: seen.append("at once"))
+        self.assertEqual(seen, ["later", "at once"])
+
+
 class Running(unittest.TestCase):
     def run_sh(self, script: str, document: bytes = b"", most: int = 100) -> tuple[int, bytes]:
         return running.run(["/bin/sh", "-c", script], document, most)

@@ -6,8 +6,8 @@ import os
 import select
 import signal
 import time
-from collections.abc import Callable, Sequence
-from contextlib import suppress
+from collections.abc import Callable, Iterator, Sequence
+from contextlib import contextmanager, suppress
 from typing import IO, TYPE_CHECKING
 
 if TYPE_CHECKING:
@@ -25,6 +25,35 @@ PART = 65536
 
 RUNNING: set[subprocess.Popen[bytes]] = set()
 """The programs that this process has started and that have not ended."""
+
+
+class Starts:
+    """The programs that are being started, which are not among the running ones yet. A signal may come meanwhile."""
+
+    def __init__(self) -> None:
+        self.begun: set[object] = set()
+        self.then: Callable[[], object] | None = None
+
+    @contextmanager
+    def one(self) -> Iterator[None]:
+        """A program is being started."""
+        start = object()
+        self.begun.add(start)
+        try:
+            yield
+        finally:
+            self.begun.discard(start)
+            if self.then is not None and not self.begun:
+                self.then()
+
+    def after(self, then: Callable[[], object]) -> None:
+        """Does this once no program is being started: at once, or when the last one is among those that run."""
+        self.then = then
+        if not self.begun:
+            then()
+
+
+STARTS = Starts()
 
 
 class CannotRun(Exception):
@@ -47,21 +76,7 @@ def run(
     import subprocess
 
     given = document if isinstance(document, bytes) else None
-    try:
-        child = subprocess.Popen(
-            words,
-            stdin=subprocess.PIPE if isinstance(document, bytes) else document,
-            stdout=subprocess.PIPE,
-            stderr=subprocess.DEVNULL,
-            bufsize=0,
-            start_new_session=True,
-            # What Python opens is closed where another program begins, so that nothing has to be closed one by one.
-            close_fds=other is not None,
-            pass_fds=() if other is None else (other.fileno(),),
-        )
-    except (OSError, ValueError) as error:
-        raise CannotRun(f"tml could not be run: {error}") from None
-    RUNNING.add(child)
+    child = started(words, document, other)
     try:
         parts: list[bytes] = []
         talk = Talk(child, memoryview(given or b""), most, take or parts.append)
@@ -81,6 +96,29 @@ def run(
     if status < 0:
         raise CannotRun(f"tml was ended by signal {-status}")
     return status, b"".join(parts)
+
+
+def started(words: Sequence[str], document: bytes | IO[bytes], other: IO[bytes] | None) -> subprocess.Popen[bytes]:
+    """A program that was started, and is among the running ones."""
+    import subprocess
+
+    try:
+        with STARTS.one():
+            child = subprocess.Popen(
+                words,
+                stdin=subprocess.PIPE if isinstance(document, bytes) else document,
+                stdout=subprocess.PIPE,
+                stderr=subprocess.DEVNULL,
+                bufsize=0,
+                start_new_session=True,
+                # What Python opens is closed where another program begins, so that nothing has to be closed one by one.
+                close_fds=other is not None,
+                pass_fds=() if other is None else (other.fileno(),),
+            )
+            RUNNING.add(child)
+    except (OSError, ValueError) as error:
+        raise CannotRun(f"tml could not be run: {error}") from None
+    return child
 
 
 def ended(child: subprocess.Popen[bytes], seconds: float) -> int:

@@ -5,9 +5,10 @@ from __future__ import annotations
 import os
 import signal
 import time
+from functools import partial
 from threading import Event, Thread
 
-from tml.running import end_all
+from tml.running import STARTS, end_all
 
 AGAIN = 0.1
 """After so many seconds it is looked again whether something runs."""
@@ -42,7 +43,12 @@ def end_by_signals() -> None:
 
 
 def end_by(number: int, _: object) -> None:
-    """Ends what runs, and then this process by the signal that came."""
+    """Ends what runs, and then this process by the signal that came; a program that is just being started is waited for."""
+    STARTS.after(partial(end_now, number))
+
+
+def end_now(number: int) -> None:
+    """Ends what runs, and then this process by this signal."""
     end_all()
     signal.signal(number, signal.SIG_DFL)
     os.kill(os.getpid(), number)
