@@ -65,6 +65,8 @@ class Shutdown(ServeTest):
         while not os.path.exists(self.path("number")):
             self.assertLess(time.monotonic(), late)
             time.sleep(0.02)
+        # It has begun, and the server may not know it yet. That it hangs shows only after a while.
+        time.sleep(1)
         return client, self.path("number")
 
     def assert_gone(self, path: str) -> None:
