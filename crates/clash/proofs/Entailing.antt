@@ -42,9 +42,9 @@ module _ (net : PlainNet) (table : Table) (closure : IsClosureOf net table) wher
   given (atom ∷ atoms) range always = (held_given atom range.0 (λ t fits. (always t fits).0), given atoms range.1 (λ t fits. (always t fits).1))
 
   -- the table gives all orders of a relation exactly where it follows
-  pub gives_what_follows : (a : ℕ) (r : Rel) (b : ℕ) → a < intervals net → b < intervals net → All (GivesAtom table) (atoms_of r a b) ↔ Follows net a r b
+  pub gives_what_follows : (a : ℕ) (r : Rel) (b : ℕ) → a < intervals net → b < intervals net → All (GivesAtom table) (atoms_of a r b) ↔ Follows net a r b
   gives_what_follows a r b la lb =
       let range = atoms_in_range (intervals net) r a b la lb in (
-        λ gives t fits. (atoms_say_the_relation t r a b).1 (kept t fits (atoms_of r a b) range (recursion_from_All (GivesAtom table) (atoms_of r a b) gives)),
-        λ follows. All-from_recursion (GivesAtom table) (atoms_of r a b) (given (atoms_of r a b) range (λ t fits. (atoms_say_the_relation t r a b).0 (follows t fits))),
+        λ gives t fits. (atoms_say_the_relation t r a b).1 (kept t fits (atoms_of a r b) range (recursion_from_All (GivesAtom table) (atoms_of a r b) gives)),
+        λ follows. All-from_recursion (GivesAtom table) (atoms_of a r b) (given (atoms_of a r b) range (λ t fits. (atoms_say_the_relation t r a b).0 (follows t fits))),
       )

@@ -20,7 +20,7 @@ each_below f (suc n) = f n ++ each_below f n
 
 -- the steps over the links, the spans, and the calendar
 over_links : PlainNet → List Step
-over_links net = each_below (λ k. each_below (λ i. Link k i ∷ []) (length (atoms_of (link_at net k).rel (link_at net k).a (link_at net k).b))) (length net.links)
+over_links net = each_below (λ k. each_below (λ i. Link k i ∷ []) (length (atoms_of (link_at net k).a (link_at net k).rel (link_at net k).b))) (length net.links)
 
 over_spans : PlainNet → List Step
 over_spans net = each_below (λ i. Span i ∷ []) (intervals net)
@@ -53,10 +53,10 @@ module _ (P : Step → Type 0) where
   pub of_every_step : (net : PlainNet) (step : Step) (a : Atom) → IsNet net → atom_of net step ≡ Some a → AllByRecursion P (every_step net) → P step
   unfolding every_step over_links over_spans in_calendar
   of_every_step net (Link k i) a is e all =
-      let count = λ (k : ℕ). length (atoms_of (link_at net k).rel (link_at net k).a (link_at net k).b) in
-      option_and_then_some (λ (l : NetLink). slice_get (atoms_of l.rel l.a l.b) i) (slice_get net.links k) a e (λ l at here.
+      let count = λ (k : ℕ). length (atoms_of (link_at net k).a (link_at net k).rel (link_at net k).b) in
+      option_and_then_some (λ (l : NetLink). slice_get (atoms_of l.a l.rel l.b) i) (slice_get net.links k) a e (λ l at here.
       let same = get_or_from_slice_get net.links k l (record { a = 0; rel = rel.Before; b = 0 }) at in
-      let within : i < count k = subst (λ (x : NetLink). i < length (atoms_of x.rel x.a x.b)) (sym same) (slice_get_within (atoms_of l.rel l.a l.b) i a here) in
+      let within : i < count k = subst (λ (x : NetLink). i < length (atoms_of x.a x.rel x.b)) (sym same) (slice_get_within (atoms_of l.a l.rel l.b) i a here) in
       (at_number (λ j. Link k j ∷ []) (count k) i within
       (at_number (λ m. each_below (λ j. Link m j ∷ []) (count m)) (length net.links) k (slice_get_within net.links k l at) (all_left (over_links net) (over_spans net ++ in_calendar net) all))).0)
   of_every_step net (Span i) a is e all =

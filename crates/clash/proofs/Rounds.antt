@@ -53,7 +53,7 @@ some_round net keep needed is spared clashes none = let fits = none_round net ke
 
 -- the orders that a link is
 abbrev pub orders_of_link : PlainNet → ℕ → List Atom
-orders_of_link net k = let link = link_at net k in atoms_of link.rel link.a link.b
+orders_of_link net k = let link = link_at net k in atoms_of link.a link.rel link.b
 
 -- a closed walk over a link can begin with one of its orders
 pub round_through : (net : PlainNet) (Chosen : ℕ → Type 0) (k : ℕ) (steps : List Step) → IsClosedWalk net Chosen steps → GoesOver steps k
@@ -67,8 +67,8 @@ round_through net Chosen k steps round (step, has, is) =
     by_step (Link j i) a at has is =
         let same : j ≡ k = cc in
         let here : slice_get (orders_of_link net j) i ≡ Some a =
-        option_and_then_some (λ (l : NetLink). slice_get (atoms_of l.rel l.a l.b) i) (slice_get net.links j) a at (λ l found here.
-        subst (λ (x : NetLink). slice_get (atoms_of x.rel x.a x.b) i ≡ Some a) (sym (get_or_from_slice_get net.links j l (record { a = 0; rel = rel.Before; b = 0 }) found)) here) in
+        option_and_then_some (λ (l : NetLink). slice_get (atoms_of l.a l.rel l.b) i) (slice_get net.links j) a at (λ l found here.
+        subst (λ (x : NetLink). slice_get (atoms_of x.a x.rel x.b) i ≡ Some a) (sym (get_or_from_slice_get net.links j l (record { a = 0; rel = rel.Before; b = 0 }) found)) here) in
         (i, a, subst (λ (n : ℕ). slice_get (orders_of_link net n) i ≡ Some a) same here, round_from net Chosen steps (Link j i) a round has at)
     by_step (Span i) a at has is = absurd cc
     by_step (Calendar p q) a at has is = absurd cc

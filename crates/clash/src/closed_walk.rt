@@ -41,7 +41,7 @@ impl ClosedWalk {
         Ok(ClosedWalk { walk, over, orders })
     }
 
-    /// The least ranks that fit with the links that the walk goes over, but one, where they settle in so many turns. They
+    /// The least ranks that fit with the links that the walk goes over, but one, where they settle in this number of turns. They
     /// do in all turns that there are where any fit.
     pub fn spare(
         &self,

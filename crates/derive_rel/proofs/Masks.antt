@@ -21,6 +21,6 @@ mask_entails table a b set r given =
     let between = atom_between (points_of a) (points_of b) in
     let GivesOrder : PairOrder → Type 0 = λ order. GivesAtom table (between order) in
     let mapped = all_mapped (GivesAtom table) between orders in (
-      λ e. All-from_recursion (GivesAtom table) (atoms_of r a b) (mapped.0 (each_weaker (HasBit set) GivesOrder (λ order. (given order).0) orders ((mask_in set orders).0 (eqb-true (bit_and set mask) mask e)))),
-      λ h. eq-eqb (bit_and set mask) mask ((mask_in set orders).1 (each_weaker GivesOrder (HasBit set) (λ order. (given order).1) orders (mapped.1 (recursion_from_All (GivesAtom table) (atoms_of r a b) h)))),
+      λ e. All-from_recursion (GivesAtom table) (atoms_of a r b) (mapped.0 (each_weaker (HasBit set) GivesOrder (λ order. (given order).0) orders ((mask_in set orders).0 (eqb-true (bit_and set mask) mask e)))),
+      λ h. eq-eqb (bit_and set mask) mask ((mask_in set orders).1 (each_weaker GivesOrder (HasBit set) (λ order. (given order).1) orders (mapped.1 (recursion_from_All (GivesAtom table) (atoms_of a r b) h)))),
     )

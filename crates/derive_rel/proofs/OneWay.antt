@@ -68,15 +68,15 @@ module _ (table : Table) (a b : ℕ) where
   -- BEFORE is entailed where the end of the first is before the start of the second
   pub before_given : (strength (order true) ≤ strength (cell_at table (2 * a + 1) (2 * b))) ↔ TableEntails table a rel.Before b
   before_given = (
-    λ given. All-from_recursion (GivesAtom table) (atoms_of rel.Before a b) (given, tt),
-    λ entails. (recursion_from_All (GivesAtom table) (atoms_of rel.Before a b) entails).0,
+    λ given. All-from_recursion (GivesAtom table) (atoms_of a rel.Before b) (given, tt),
+    λ entails. (recursion_from_All (GivesAtom table) (atoms_of a rel.Before b) entails).0,
   )
 
   -- and AFTER where the end of the second is before the start of the first
   pub after_given : (strength (order true) ≤ strength (cell_at table (2 * b + 1) (2 * a))) ↔ TableEntails table a rel.After b
   after_given = (
-    λ given. All-from_recursion (GivesAtom table) (atoms_of rel.After a b) (given, tt),
-    λ entails. (recursion_from_All (GivesAtom table) (atoms_of rel.After a b) entails).0,
+    λ given. All-from_recursion (GivesAtom table) (atoms_of a rel.After b) (given, tt),
+    λ entails. (recursion_from_All (GivesAtom table) (atoms_of a rel.After b) entails).0,
   )
 
   -- the orders that a relation is are given where it is entailed
@@ -84,7 +84,7 @@ module _ (table : Table) (a b : ℕ) where
   GivesOrder o = GivesAtom table (atom_between (points_of a) (points_of b) o)
 
   orders_given : (r : Rel) → TableEntails table a r b → AllByRecursion GivesOrder (orders_of r)
-  orders_given r entails = (all_mapped (GivesAtom table) (atom_between (points_of a) (points_of b)) (orders_of r)).1 (recursion_from_All (GivesAtom table) (atoms_of r a b) entails)
+  orders_given r entails = (all_mapped (GivesAtom table) (atom_between (points_of a) (points_of b)) (orders_of r)).1 (recursion_from_All (GivesAtom table) (atoms_of a r b) entails)
 
   -- where some cells are free no order of theirs is given
   free_cells : (x y : ℕ) → says_some (cell_at table) x y ≡ false → (p q : End) (strict : Bool) → strength (order strict) ≤ strength (cell_at table (point_in (points_of x) p) (point_in (points_of y) q)) → ⊥

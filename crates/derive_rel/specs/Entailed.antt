@@ -10,7 +10,7 @@ use Rattle.derive_rel.specs.declared.all_rows.Row.{Row}
 
 -- the table gives all orders that a relation is between two intervals
 abbrev pub TableEntails : Table → ℕ → Rel → ℕ → Type 0
-TableEntails table a r b = All (GivesAtom table) (atoms_of r a b)
+TableEntails table a r b = All (GivesAtom table) (atoms_of a r b)
 
 -- a row has an interval, a relation and an interval after it, between which the table entails the relation
 abbrev pub IsRow : Table → Row → Type 0

@@ -29,7 +29,7 @@ use Rattle.drill.proofs.AcceptedTags.{content_of, contents_of, interval_contents
 
 -- ---- how many there are of each kind
 
--- so many of the contents of a drill pass a test that so many of each interval and of each link pass
+-- how many of the contents of a drill pass a test, by how many of each interval and of each link do
 counted : (p : Content → Bool) (m k n : ℕ) (links : List DocLink) → ((i : ℕ) → count_by p (interval_contents i) ≡ m) → ((link : DocLink) → count_by p (link_contents link) ≡ k)
     → count_by p (contents_of (range_with_len 0 n) links) ≡ m * n + k * length links
 counted p m k n links h g =
@@ -89,7 +89,7 @@ module _ (n : ℕ) (links : List DocLink) (tags : List PlainTyped) (says : map c
   tags_counted : (p : Content → Bool) (m k : ℕ) → ((i : ℕ) → count_by p (interval_contents i) ≡ m) → ((link : DocLink) → count_by p (link_contents link) ≡ k) → count_by (λ (t : PlainTyped). p t.content) tags ≡ m * n + k * length links
   tags_counted p m k h g = count_made p content_of tags ∙ ap (count_by p) says ∙ counted p m k n links h g
 
-  -- so many tags are of a kind
+  -- the number of tags of a kind
   one_kind : (k : TagKind) (a b total : ℕ) → ((i : ℕ) → count_by (is_of_kind k) (interval_contents i) ≡ a) → ((link : DocLink) → count_by (is_of_kind k) (link_contents link) ≡ b) → a * n + b * length links ≡ total
       → total ≡ count_by (λ (t : PlainTyped). is_of_kind k t.content) tags
   one_kind k a b total h g e = sym (tags_counted (is_of_kind k) a b h g ∙ e)

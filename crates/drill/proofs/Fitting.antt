@@ -44,11 +44,11 @@ starts_first n i = rw (start_at n i, finish_at n i) (omega arith)
 
 -- a link relates its intervals on the timeline
 abbrev IsRelated : ℕ → NetLink → Type 0
-IsRelated n link = Relates (hidden_timeline n) link.rel link.a link.b
+IsRelated n link = Relates (hidden_timeline n) link.a link.rel link.b
 
 -- a true link does
 related : (n : ℕ) (link : DocLink) → IsTrueLink n link → IsRelated n (net_link link)
-related n link true = subst (λ (a : Ends). Holds link.rel a (ends_of (hidden_timeline n) link.b)) (sym (ends_at n link.a)) (subst (λ (b : Ends). Holds link.rel (hidden n link.a) b) (sym (ends_at n link.b)) true.holds)
+related n link true = subst (λ (a : Ends). Holds a link.rel (ends_of (hidden_timeline n) link.b)) (sym (ends_at n link.a)) (subst (λ (b : Ends). Holds (hidden n link.a) link.rel b) (sym (ends_at n link.b)) true.holds)
 
 -- the links of its net are related so
 all_related : (n : ℕ) (links : List NetLink) → links ≡ map net_link (links_of n) → All (IsRelated n) links

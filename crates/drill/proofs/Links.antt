@@ -16,13 +16,13 @@ use Rattle.drill.proofs.Relations.{holds_decided}
 pub record IsTrueLink (n : ℕ) (link : DocLink) : Type 0 where
   pub a : link.a < n
   pub b : link.b < n
-  pub holds : Holds link.rel (hidden n link.a) (hidden n link.b)
+  pub holds : Holds (hidden n link.a) link.rel (hidden n link.b)
 
 -- a link that is made is true
 true_link : (n i j : ℕ) → i < n → j < n → IfSome (link_between n i j) (IsTrueLink n)
 true_link n i j from to =
     if_some_made (IsTrueLink n) (λ (r : Rel). record { a = i; rel = r; b = j }) (first_relation (hidden n i) (hidden n j))
-    (IfSome_then (first_relation (hidden n i) (hidden n j)) (found_passes (does_hold (hidden n i) (hidden n j)) drill_rels)
+    (IfSome_then (first_relation (hidden n i) (hidden n j)) (found_passes (λ (r : Rel). does_hold (hidden n i) r (hidden n j)) drill_rels)
     (λ r h. record { a = from; b = to; holds = (holds_decided r (hidden n i) (hidden n j)).0 h }))
 
 -- the links from an interval are true

@@ -30,12 +30,12 @@ all_decided a b (order ∷ orders) =
     (λ e. let both = and_parts test tests e in (first.0 both.0, rest.0 both.1), λ h. and_from test tests (first.1 h.0) (rest.1 h.1))
 
 -- the test says whether the relation holds
-pub holds_decided : (r : Rel) (a b : Ends) → Decides (does_hold a b r) (Holds r a b)
+pub holds_decided : (r : Rel) (a b : Ends) → Decides (does_hold a r b) (Holds a r b)
 holds_decided r a b =
     let by_orders = relation_by_orders r a b in
     let tests = all_decided a b (orders_of r) in
     (λ e. by_orders.1 (tests.0 e), λ h. tests.1 (by_orders.0 h))
 
 -- so another test that says it too is the same
-pub same_test : (r : Rel) (a b : Ends) (test : Bool) → Decides test (Holds r a b) → test ≡ does_hold a b r
-same_test r a b test says = same_from_decides test (does_hold a b r) says (holds_decided r a b)
+pub same_test : (r : Rel) (a b : Ends) (test : Bool) → Decides test (Holds a r b) → test ≡ does_hold a r b
+same_test r a b test says = same_from_decides test (does_hold a r b) says (holds_decided r a b)

@@ -43,8 +43,8 @@ abbrev pub is_in_order : Atom → Bool
 is_in_order order = if order.strict then nat_lt order.from order.to else nat_le order.from order.to
 
 -- a relation holds of two intervals: the orders are true that it is, of their starts and ends
-abbrev pub does_hold : Ends → Ends → Rel → Bool
-does_hold a b r = list_all is_in_order (atoms_between r a b)
+abbrev pub does_hold : Ends → Rel → Ends → Bool
+does_hold a r b = list_all is_in_order (atoms_between a r b)
 
 -- the relations of a drill: the first fourteen of the table, which are those of TimeML
 abbrev pub drill_rels : List Rel
@@ -52,7 +52,7 @@ drill_rels = take 14 all_rels
 
 -- the first of them that holds of two intervals, if one does
 abbrev pub first_relation : Ends → Ends → Option Rel
-first_relation a b = find (does_hold a b) drill_rels
+first_relation a b = find (λ (r : Rel). does_hold a r b) drill_rels
 
 -- the link from interval i to interval j, where a relation holds between the hidden ones
 abbrev pub link_between : ℕ → ℕ → ℕ → Option DocLink

@@ -11,7 +11,7 @@ use tml_refs::DocLink;
 /// Every number drawn is below this prime.
 const MODULUS: u32 = 65_537;
 
-/// So many relations can be linked by, the first of the table: those of TimeML.
+/// The number of relations that can be linked by, the first of the table: those of TimeML.
 const RELATIONS: usize = 14;
 
 /// The last number that was drawn.

@@ -51,7 +51,7 @@ module _ (net : PlainNet) where
   judged_entailment a r b walks well = elim (numbers a b) [
     | inr bad ↦ inr (refusal 0 (Number bad.0), inl (refl, bad.0, refl, bad.1))
     | inl good ↦
-        let atoms = atoms_of r a b in
+        let atoms = atoms_of a r b in
         let size : length walks ≡ length atoms = well.3 ∙ sym (atoms_counted r (points_of a) (points_of b)) in
         elim (first_bad (Proves net atoms walks) (λ k. IsNoProof net (atom_at atoms k) (walk_at walks k)) (λ k. not_both net (atom_at atoms k) (walk_at walks k))
         (λ k. proof_or_none net (atom_at atoms k) (walk_at walks k)) (length atoms)) [

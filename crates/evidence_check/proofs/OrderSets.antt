@@ -33,19 +33,19 @@ in_steps New Mid Old More Last All new mid all = (
 )
 
 -- a link that is read at a number
-pub link_read : (net : PlainNet) (t : Timeline) (k : ℕ) (link : NetLink) → link ≡ link_at net k → Relates t link.rel link.a link.b ↔ KeepsLink net t k
-link_read net t k link is = subst (λ (l : NetLink). Relates t link.rel link.a link.b ↔ Relates t l.rel l.a l.b) is (λ h. h, λ h. h)
+pub link_read : (net : PlainNet) (t : Timeline) (k : ℕ) (link : NetLink) → link ≡ link_at net k → Relates t link.a link.rel link.b ↔ KeepsLink net t k
+link_read net t k link is = subst (λ (l : NetLink). Relates t link.a link.rel link.b ↔ Relates t l.a l.rel l.b) is (λ h. h, λ h. h)
 
 -- the orders of a relation are those that it says
-pub atoms_kept : (t : Timeline) (r : Rel) (a b : ℕ) (atoms : List Atom) → atoms ≡ atoms_of r a b → All (Satisfies t) atoms ↔ Relates t r a b
-atoms_kept t r a b atoms are = subst (λ (l : List Atom). All (Satisfies t) l ↔ Relates t r a b) (sym are) (
-  λ all. (atoms_say_the_relation t r a b).1 (recursion_from_All (Satisfies t) (atoms_of r a b) all),
-  λ h. All-from_recursion (Satisfies t) (atoms_of r a b) ((atoms_say_the_relation t r a b).0 h),
+pub atoms_kept : (t : Timeline) (r : Rel) (a b : ℕ) (atoms : List Atom) → atoms ≡ atoms_of a r b → All (Satisfies t) atoms ↔ Relates t a r b
+atoms_kept t r a b atoms are = subst (λ (l : List Atom). All (Satisfies t) l ↔ Relates t a r b) (sym are) (
+  λ all. (atoms_say_the_relation t r a b).1 (recursion_from_All (Satisfies t) (atoms_of a r b) all),
+  λ h. All-from_recursion (Satisfies t) (atoms_of a r b) ((atoms_say_the_relation t r a b).0 h),
 )
 
 -- and they are of the points of their intervals
-pub atoms_within : (n : ℕ) (r : Rel) (a b : ℕ) (atoms : List Atom) → atoms ≡ atoms_of r a b → a < n → b < n → All (IsInRange (2 * n)) atoms
-atoms_within n r a b atoms are la lb = subst (All (IsInRange (2 * n))) (sym are) (All-from_recursion (IsInRange (2 * n)) (atoms_of r a b) (atoms_in_range n r a b la lb))
+pub atoms_within : (n : ℕ) (r : Rel) (a b : ℕ) (atoms : List Atom) → atoms ≡ atoms_of a r b → a < n → b < n → All (IsInRange (2 * n)) atoms
+atoms_within n r a b atoms are la lb = subst (All (IsInRange (2 * n))) (sym are) (All-from_recursion (IsInRange (2 * n)) (atoms_of a r b) (atoms_in_range n r a b la lb))
 
 -- one link more
 pub links_more : (net : PlainNet) (t : Timeline) (k : ℕ) (New Old : Type 0) → New ↔ (Old × KeepsLink net t k) → Old ↔ KeepsLinks net k t → New ↔ KeepsLinks net (k + 1) t

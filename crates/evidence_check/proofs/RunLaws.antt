@@ -52,7 +52,7 @@ runs_more lens runs len pairs rest below within run so_far more are =
     let same : take (runs + 1) (set lens runs len) ++ more ≡ take runs lens ++ len ∷ more = rw (take_more_set lens runs len below) (append_assoc (take runs lens) (len ∷ []) more) in
     subst (λ (l : List ℕ). AreRuns l pairs) (sym same) (so_far (len ∷ more) (within, run, are))
 
--- ---- runs that are gone over
+-- ---- runs one after another
 
 -- what holds of all pairs holds of the first ones and of the others
 pub in_two : {X : Type 0} (P : X → Type 0) (n : ℕ) (xs : List X) → All P xs ↔ (All P (take n xs) × All P (drop n xs))

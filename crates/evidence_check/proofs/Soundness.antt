@@ -28,7 +28,7 @@ all_kept net t (atom ∷ atoms) (walk ∷ walks) fits proofs = (walk_kept net Ev
 
 pub supported_is_true : (net : PlainNet) (e : PlainEvidence) → IsSupported net e → ShowsTruth net e
 supported_is_true net (timeline ranks) fit = (timeline_of (ranks_of ranks), fit.1)
-supported_is_true net (entails a r b walks) proofs = λ t fits. let atoms = atoms_of r a b in (atoms_say_the_relation t r a b).1 (all_kept net t atoms walks fits proofs.1)
+supported_is_true net (entails a r b walks) proofs = λ t fits. let atoms = atoms_of a r b in (atoms_say_the_relation t r a b).1 (all_kept net t atoms walks fits proofs.1)
 supported_is_true net (counter a r b ranks) fails = (timeline_of (ranks_of ranks), fails.1.1, fails.2)
 supported_is_true net (clash cites walk spares) shown =
     let round = shown.1.0 in

@@ -168,7 +168,7 @@ module _ (net : PlainNet) where
   -- evidence is checked part by part
   check : (e : PlainEvidence) → IsCheck (IsSupported net e) (IsRefused net e)
   check (timeline ranks) = timeline_check (ranks_of ranks)
-  check (entails a rel b walks) = two_checks (numbers_check a b) (walks_check (atoms_of rel a b) walks)
+  check (entails a rel b walks) = two_checks (numbers_check a b) (walks_check (atoms_of a rel b) walks)
   check (counter a rel b ranks) = three_checks (numbers_check a b) (timeline_check (ranks_of ranks)) (relation_check (ranks_of ranks) a rel b)
   check (clash cites walk spares) = three_checks (cites_check cites) (round_check cites walk) (spares_check cites spares)
 

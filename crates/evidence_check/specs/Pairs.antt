@@ -38,7 +38,7 @@ first_of (pair ∷ pairs) = pair.first
 abbrev pub IsRun : List Pair → Type 0
 IsRun pairs = All (λ pair. pair.first ≡ first_of pairs) pairs
 
--- so many of the first pairs are a run, so many of those after them, and so on
+-- the lengths of runs: of the first pairs, of those after them, and so on
 abbrev pub AreRuns : List ℕ → List Pair → Type 0
 AreRuns [] pairs = ⊤
 AreRuns (len ∷ lens) pairs = (len ≤ length pairs) × IsRun (take len pairs) × AreRuns lens (drop len pairs)

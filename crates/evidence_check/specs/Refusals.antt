@@ -101,7 +101,7 @@ IsTimelineRefused net ranks refused = (refused.part ≡ 1) × IsMisfit net Every
 
 -- a relation that is true by the ranks, which is part 2
 abbrev pub IsRelationRefused : List ℕ → ℕ → Rel → ℕ → Refused → Type 0
-IsRelationRefused ranks a r b refused = (refused.part ≡ 2) × (refused.reason ≡ Holds) × Relates (timeline_of ranks) r a b
+IsRelationRefused ranks a r b refused = (refused.part ≡ 2) × (refused.reason ≡ Holds) × Relates (timeline_of ranks) a r b
 
 -- the steps are joined from some point to some point
 abbrev pub GoOn : PlainNet → List StepOf → Type 0
@@ -134,7 +134,7 @@ abbrev pub IsRefused : PlainNet → PlainEvidence → Refused → Type 0
 IsRefused net (timeline ranks) refused = IsTimelineRefused net (ranks_of ranks) refused
 IsRefused net (entails a r b walks) refused =
     IsNumberRefused net a b refused
-    ⊎ (AreIntervals net a b × IsWalkRefused net (atoms_of r a b) walks refused)
+    ⊎ (AreIntervals net a b × IsWalkRefused net (atoms_of a r b) walks refused)
 IsRefused net (counter a r b ranks) refused =
     IsNumberRefused net a b refused
     ⊎ (AreIntervals net a b × IsTimelineRefused net (ranks_of ranks) refused)

@@ -24,7 +24,7 @@ ProveAll net atoms walks = AllZip (IsProof net) atoms walks
 
 -- the relation is false of two intervals by their ranks
 abbrev pub IsFalse : List ℕ → ℕ → Rel → ℕ → Type 0
-IsFalse ranks a r b = Relates (timeline_of ranks) r a b → ⊥
+IsFalse ranks a r b = Relates (timeline_of ranks) a r b → ⊥
 
 -- the cites are numbers of links of the net
 abbrev pub AreLinks : PlainNet → List ℕ → Type 0
@@ -41,6 +41,6 @@ AllFitOthers net cites spares = AllZip (FitsOthers net cites) cites spares
 -- A timeline is supported where its ranks fit the net. An entailment is where its walks prove all orders that its relation is. A counterexample is where its ranks fit the net and its relation is false by them. A clash is where its walk is closed and goes over exactly the links that it cites, and each of its timelines fits with all of them but its own.
 abbrev pub IsSupported : PlainNet → PlainEvidence → Type 0
 IsSupported net (timeline ranks) = RanksFit net (ranks_of ranks)
-IsSupported net (entails a r b walks) = AreIntervals net a b × ProveAll net (atoms_of r a b) walks
+IsSupported net (entails a r b walks) = AreIntervals net a b × ProveAll net (atoms_of a r b) walks
 IsSupported net (counter a r b ranks) = AreIntervals net a b × RanksFit net (ranks_of ranks) × IsFalse (ranks_of ranks) a r b
 IsSupported net (clash cites walk spares) = AreLinks net cites × IsClosedOver net cites walk × AllFitOthers net cites spares

@@ -15,7 +15,7 @@ use crate::spares::Spares;
 use evidence_format::Body;
 use net_core::Net;
 
-/// Checks a claim as it is read against the net of a document, where so many claims before it are supported: `claim` is
+/// Checks a claim as it is read against the net of a document, where this number of claims before it are supported: `claim` is
 /// its number, counted from 0. What the net asks of a timeline is made once for all claims. It takes no memory.
 ///
 /// # Errors

@@ -34,7 +34,7 @@ pub fn verify_all(net: &Net, bundle: &Bundle) -> Result<(), RefusedClaim>
     Ok(())
 }
 
-/// Checks the evidence of a claim against the net of a document, where so many claims before it are supported: `claim` is
+/// Checks the evidence of a claim against the net of a document, where this number of claims before it are supported: `claim` is
 /// its number, counted from 0. What the net asks of a timeline is made once for all claims. It takes no memory.
 ///
 /// # Errors

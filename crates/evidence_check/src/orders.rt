@@ -14,7 +14,7 @@ ghost use Rattle.std.specs.Prelude.{IsTrue, [], length, ℕ, ◌<◌, ◌+◌, �
 use crate::pairs::{Order, Pair, Pairs};
 use net_core::{Atom, Atoms, Net, Rel, atoms_of};
 
-/// Orders that are asked of a timeline, each kind in a list of its own: so a list is gone over without a branch. They take
+/// Orders that are asked of a timeline, each kind in a list of its own: so a list is read without a branch. They take
 /// no memory.
 #[derive(Drop)]
 pub struct Orders {
@@ -144,7 +144,7 @@ impl Orders {
 
 /// Whether a relation says that two intervals start together and end together, and nothing else.
 fn is_equality(rel: Rel) -> bool
-    ensures { IsTrue result → (a b : EndsOf) → Equals a b ↔ Holds rel a b }
+    ensures { IsTrue result → (a b : EndsOf) → Equals a b ↔ Holds a rel b }
 {
     matches!(rel, Rel::Simultaneous | Rel::Identity)
 }

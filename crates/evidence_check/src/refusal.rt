@@ -18,7 +18,7 @@ pub enum Claim {
 pub enum Reason {
     /// The first number that is none of an interval, or of a link where links are cited.
     Number { number: u32 },
-    /// The timeline has so many intervals, and the net has another number.
+    /// The timeline has this number of intervals, and the net another.
     Size { size: u32 },
     /// The first interval whose start is not below its end.
     Order { interval: u32 },
@@ -33,7 +33,7 @@ pub enum Reason {
     End,
     /// No step is strict, and the order is, or the walk is to be closed.
     Weak,
-    /// The first link that is cited and not gone over by the walk, or gone over and not cited.
+    /// The first link that is cited and has no step of the walk, or has one and is not cited.
     Cited { link: u32 },
     /// The relation of a counterexample holds by its ranks.
     Holds,

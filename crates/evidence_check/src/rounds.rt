@@ -45,7 +45,7 @@ pub fn check_closed(net: &Net, cites: &[u32], steps: &[Step]) -> Result<(), Reas
     }
 }
 
-/// The first link that is cited and not gone over, or gone over and not cited. The links of the net are gone over only
+/// The first link that is cited and has no step, or has a step and is not cited. The links of the net are searched only
 /// where there is one.
 fn first_disagreement(net: &Net, cites: &[u32], steps: &[Step]) -> Option<u32>
     ensures { IsFirst (length net.now.links) (Agrees cites.now steps.now) result }

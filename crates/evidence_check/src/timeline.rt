@@ -64,7 +64,7 @@ fn first_broken(net: &Net, demands: &Demands, ranks: &[u32], asked: Asked<'_>) -
     }
 }
 
-/// The first of all links that does not hold. The links are gone over only where there is one.
+/// The first of all links that does not hold. The links are searched only where there is one.
 fn first_broken_of_all(net: &Net, demands: &Demands, ranks: &[u32]) -> Option<u32>
     requires demands { AreDemands net.now demands.now }
     requires size { length ranks.now ≡ points net.now }
@@ -90,7 +90,7 @@ fn first_broken_cite(net: &Net, ranks: &[u32], cites: &[u32], own: u32) -> Optio
     None
 }
 
-/// The first pair of points, by `from` and then by `to`, that are not in the order of the calendar. The pairs are gone over
+/// The first pair of points, by `from` and then by `to`, that are not in the order of the calendar. The pairs are searched
 /// only where there is one.
 fn first_out_of_order(net: &Net, demands: &Demands, ranks: &[u32]) -> Option<(u32, u32)>
     requires demands { AreDemands net.now demands.now }

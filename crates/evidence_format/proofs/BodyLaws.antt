@@ -55,7 +55,7 @@ head_is (clash cites walk spares) h = h.0.2
 
 -- ---- what follows the line that names the kind
 
--- the ranks of so many intervals, by their lines
+-- the ranks of this number of intervals, by their lines
 abbrev HasRanks : ℕ → List (ℕ × ℕ) → Lines → Type 0
 HasRanks n = AreMany IsPair (λ pair. at_line pair ∷ []) n
 
@@ -126,7 +126,7 @@ HasSpares n cites walk e ls = (spares : List (List (ℕ × ℕ))) × AreMany Are
 abbrev pub HasWalkAndSpares : ℕ → List ℕ → PlainEvidence → Lines → Type 0
 HasWalkAndSpares n cites = Then (Has AreSteps walk_lines) (HasSpares n cites)
 
--- a clash of so many links, by its cites, its walk and its spares
+-- a clash of this number of links, by its cites, its walk and its spares
 abbrev pub HasClash : ℕ → PlainEvidence → Lines → Type 0
 HasClash n = Then (HasCites n) (HasWalkAndSpares n)
 

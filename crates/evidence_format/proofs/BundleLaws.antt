@@ -109,7 +109,7 @@ exact_opening =
 
 -- ---- a text of either version
 
--- so many bodies, and the last line
+-- this number of bodies, and the last line
 abbrev HasBodies : ℕ → List PlainEvidence → Lines → Type 0
 HasBodies n = Closed (AreMany IsWellFormed body_lines n)
 

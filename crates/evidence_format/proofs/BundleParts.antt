@@ -28,7 +28,7 @@ begun_by_parts ls (es, more, h) =
       ]
     ]
 
--- after the first two lines, bodies that go on to so many go on to a text
+-- after the first two lines, bodies that can go on to this number go on to a text
 bodies_begin : (n : ℕ) (ls rest : Lines) → IsCount n → ls ≡ bundle_line ∷ claims_line n ∷ rest → Begins (AreMany IsWellFormed body_lines n) rest → IsBegunBundle ls
 bodies_begin n ls rest count start b =
     let m = b.2 in

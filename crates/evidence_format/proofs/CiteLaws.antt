@@ -42,9 +42,9 @@ cite_form left least = record {
       subst (λ (n : ℕ). (cite_line n ≡ l) × IsCite left least n) g.1 (f.0, (le, lt));
 }
 
--- ---- so many cites
+-- ---- this number of cites
 
--- so many numbers that rise, by their lines
+-- this number of numbers that rise, by their lines
 abbrev AreRising : ℕ → ℕ → List ℕ → Lines → Type 0
 AreRising n least ks ls = Rise n least ks × (length ks ≡ n) × (ls ≡ map cite_line ks)
 
@@ -62,7 +62,7 @@ cons_rising : (left least : ℕ) (ks : List ℕ) (ls : Lines) → AreRising (suc
 cons_rising left least [] ls h = absurd (let len = h.1 in omega arith)
 cons_rising left least (k ∷ ks) ls h = (k, cite_line k ∷ [], map cite_line ks, (h.0.0, refl), (ks, (h.0.1, (let len = h.1 in omega arith), refl), refl), h.2)
 
--- so many numbers that rise
+-- this number of numbers that rise
 exact_rising : (n least : ℕ) → least + n ≤ 2 ^ 32 → Exact (AreRising n least) (cites_at n least)
 unfolding cites_at
 exact_rising zero least room =
@@ -80,11 +80,11 @@ exact_rising (suc left) least room =
     (exact_form cite_line (IsCite left least) (cite_of left least) least (omega arith, omega arith) (cite_form left least))
     (λ k prefix g. exact_map (λ more. k ∷ more) (AreRising left (k + 1)) (cites_at left (k + 1)) (exact_rising left (k + 1) (omega (arith, g.0.1)))))
 
--- so many cites, by their lines
+-- this number of cites, by their lines
 abbrev pub HasCites : ℕ → List ℕ → Lines → Type 0
 HasCites n cites ls = AreCites cites × (length cites ≡ n) × (ls ≡ map cite_line cites)
 
--- so many cites
+-- this number of cites
 pub exact_cites : (n : ℕ) → IsNumber n → Exact (HasCites n) (cites_at n 0)
 exact_cites n small =
     exact_same (AreRising n 0) (HasCites n) (cites_at n 0)

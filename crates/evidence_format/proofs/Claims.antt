@@ -10,7 +10,7 @@ use Rattle.evidence_format.proofs.BundleLaws.{HasEither, one_claim}
 use Rattle.evidence_format.proofs.LineLaws.{IsLine, either_is}
 use Rattle.evidence_format.proofs.Reading.{from_text}
 
--- so many can stand in a text
+-- this number can stand in a text
 pub count_of : (es : List PlainEvidence) (text : List ℕ) → IsTextOfEither es text → IsCount (length es)
 count_of es text (inl h) = h.0.1
 count_of es text (inr h) = subst (λ (es : List PlainEvidence). IsCount (length es)) (sym h.1) one_claim

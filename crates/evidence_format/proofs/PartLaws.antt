@@ -47,7 +47,7 @@ pub prefix_cons : (xs ys : Lines) (l : List ℕ) (rest : Lines) → xs ++ ys ≡
 prefix_cons [] ys l rest e = inl refl
 prefix_cons (x ∷ xs) ys l rest e = inr (xs, (let k = e in cc), (let k = e in cc))
 
--- the first lines of a count and so many values
+-- the first lines of a count and this number of values
 pub counted_prefix : {A : Type 0} (keyword : List ℕ) (line : A → List ℕ) (Fits : A → Type 0) (vs : List A) (xs ys : Lines) → AreCounted Fits vs → xs ++ ys ≡ counted_lines keyword line vs → MayBegin (IsBegunCount keyword line Fits) xs
 counted_prefix keyword line Fits vs xs ys fit e =
     elim (prefix_cons xs ys (one_number keyword (length vs)) (map line vs) e) [
@@ -88,11 +88,11 @@ many_prefix IsWhole lines IsBegunPart each (a ∷ parts) xs ys fit e =
       | inr m ↦ subst (AreBegunParts IsWhole lines IsBegunPart (suc (length parts))) (sym m.1) (one_more IsWhole lines IsBegunPart a (length parts) m.0 fit.0 (many_prefix IsWhole lines IsBegunPart each parts m.0 ys fit.1 (sym m.2)))
     ]
 
--- the first lines of so many walks
+-- the first lines of this number of walks
 walks_prefix : (n : ℕ) (walks : List (List Step)) (xs ys : Lines) → All AreSteps walks → length walks ≡ n → xs ++ ys ≡ flat_map walk_lines walks → AreBegunWalks n xs
 walks_prefix n walks xs ys fit len e = subst (λ n. AreBegunWalks n xs) len (many_prefix AreSteps walk_lines IsBegunWalk walk_prefix walks xs ys (recursion_from_All AreSteps walks fit) e)
 
--- the first lines of so many timelines
+-- the first lines of this number of timelines
 timelines_prefix : (n : ℕ) (timelines : List (List (ℕ × ℕ))) (xs ys : Lines) → All AreRanks timelines → length timelines ≡ n → xs ++ ys ≡ flat_map timeline_lines timelines → AreBegunTimelines n xs
 timelines_prefix n timelines xs ys fit len e = subst (λ n. AreBegunTimelines n xs) len (many_prefix AreRanks timeline_lines IsBegunTimeline timeline_prefix timelines xs ys (recursion_from_All AreRanks timelines fit) e)
 
@@ -181,7 +181,7 @@ begun_by_parts ls h =
 
 -- ---- lines that are begun by their parts go on to a whole text
 
--- a begun count goes on to so many values
+-- a begun count goes on to this number of values
 pub count_begins : {A : Type 0} (keyword : List ℕ) (line : A → List ℕ) (Fits : A → Type 0) (some : A) → Fits some → (ls : Lines) → IsBegunCount keyword line Fits ls → Begins (Has (AreCounted Fits) (counted_lines keyword line)) ls
 count_begins {A} keyword line Fits some fits ls t =
     let more : List A = replicate (t.0 - length t.1) some in
@@ -211,7 +211,7 @@ no_steps = (All-nil HasNumbers, omega arith)
 walk_begins : (ls : Lines) → IsBegunWalk ls → Begins (Has AreSteps walk_lines) ls
 walk_begins ls w = count_begins (codes "walk ") step_line HasNumbers (Span 0) (omega arith) ls w
 
--- whole parts, fewer than so many, and the lines of one more, go on to so many
+-- whole parts, fewer than this number, and the lines of one more, go on to this number
 many_fill : {A : Type 0} (IsWhole : A → Type 0) (lines : A → Lines) (some : A) → IsWhole some → (n : ℕ) (parts : List A) (rest : Lines) → All IsWhole parts → length parts < n → Begins (Has IsWhole lines) rest → Begins (AreMany IsWhole lines n) (flat_map lines parts ++ rest)
 many_fill {A} IsWhole lines some fits n parts rest whole few p =
     let more : List A = replicate (n - (length parts + 1)) some in
@@ -222,7 +222,7 @@ many_fill {A} IsWhole lines some fits n parts rest whole few p =
     append_assoc (flat_map lines parts) rest (p.1 ++ flat_map lines more) ∙ ap (λ (x : Lines). flat_map lines parts ++ x) last ∙ sym (flat_map-append lines parts (p.0 ∷ more)) in
     (parts ++ p.0 ∷ more, p.1 ++ flat_map lines more, (recursion_from_All IsWhole (parts ++ p.0 ∷ more) all, len, joined))
 
--- begun parts go on to so many, where a begun one goes on to a whole one
+-- begun parts go on to this number, where a begun one goes on to a whole one
 pub many_begin : {A : Type 0} (IsWhole : A → Type 0) (lines : A → Lines) (IsBegunPart : Lines → Type 0) (some : A) → IsWhole some → ((ls : Lines) → IsBegunPart ls → Begins (Has IsWhole lines) ls)
     → (n : ℕ) (ls : Lines) → AreBegunParts IsWhole lines IsBegunPart n ls → Begins (AreMany IsWhole lines n) ls
 many_begin IsWhole lines IsBegunPart some fits part n ls h =
@@ -235,15 +235,15 @@ many_begin IsWhole lines IsBegunPart some fits part n ls h =
           (h.0, [], (recursion_from_All IsWhole h.0 h.2, k.0, whole))
     ]
 
--- begun walks go on to so many
+-- begun walks go on to this number
 walks_begin : (n : ℕ) (ls : Lines) → AreBegunWalks n ls → Begins (AreMany AreSteps walk_lines n) ls
 walks_begin n ls h = many_begin AreSteps walk_lines IsBegunWalk [] no_steps walk_begins n ls h
 
--- begun timelines go on to so many
+-- begun timelines go on to this number
 timelines_begin : (n : ℕ) (ls : Lines) → AreBegunTimelines n ls → Begins (AreMany AreRanks timeline_lines n) ls
 timelines_begin n ls h = many_begin AreRanks timeline_lines IsBegunTimeline [] no_intervals timeline_begins n ls h
 
--- begun cites go on to so many
+-- begun cites go on to this number
 cites_begin : (n : ℕ) (ls : Lines) → IsNumber n → AreBegunCites n ls → Begins (HasCites n) ls
 cites_begin n ls small h =
     let f = rise_on n 0 h.0 (omega arith) (rise_from_places n 0 h.0 h.1 h.2 h.3 (λ some. omega arith)) in

@@ -36,7 +36,7 @@ exact_map {A} {B} f G p P =
 
 -- ---- many
 
--- so many values, by their lines
+-- this number of values, by their lines
 abbrev pub AreMany : {A : Type 0} → (A → Type 0) → (A → Lines) → ℕ → List A → Lines → Type 0
 AreMany Fits lines n vs ls = AllByRecursion Fits vs × (length vs ≡ n) × (ls ≡ flat_map lines vs)
 
@@ -51,7 +51,7 @@ cons_many : {A : Type 0} (Fits : A → Type 0) (lines : A → Lines) (n : ℕ) (
 cons_many Fits lines n [] ls h = absurd (let len = h.1 in omega arith)
 cons_many Fits lines n (a ∷ vs) ls h = (a, lines a, flat_map lines vs, (h.0.0, refl), (vs, (h.0.1, (let len = h.1 in omega arith), refl), refl), h.2)
 
--- so many values, one after another
+-- this number of values, one after another
 pub exact_many : {A : Type 0} (Fits : A → Type 0) (lines : A → Lines) (p : Lines → Read A) → Exact (Has Fits lines) p → (n : ℕ) → Exact (AreMany Fits lines n) (many_at p n)
 unfolding many_at
 exact_many {A} Fits lines p P zero =
@@ -68,7 +68,7 @@ exact_many {A} Fits lines p P (suc n) =
     (cons_many Fits lines n)
     (exact_then G H p (λ a ls. many_at p n ls >>= λ more. Ok (a ∷ more.0, more.1)) P (λ a prefix g. exact_map (λ more. a ∷ more) (AreMany Fits lines n) (many_at p n) (exact_many Fits lines p P n)))
 
--- ---- a count, and then so many lines
+-- ---- a count, and then this number of lines
 
 -- the values of a list of which there are not too many
 abbrev pub AreCounted : {A : Type 0} → (A → Type 0) → List A → Type 0

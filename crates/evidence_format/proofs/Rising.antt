@@ -6,7 +6,7 @@ use Rattle.std.proofs.lemmas.List.Elements.{All-from_recursion}
 use Rattle.evidence_format.specs.Evidence.{IsNumber, AreCites}
 use Rattle.evidence_format.specs.Parts.{LeaveNumbers}
 
--- the number is at least the least one, and leaves numbers for so many to come
+-- the number is at least the least one, and leaves numbers for those to come
 abbrev pub IsCite : ℕ → ℕ → ℕ → Type 0
 IsCite left least link = (least ≤ link) × IsNumber (link + left)
 
@@ -80,7 +80,7 @@ numbers n least [] h = tt
 numbers zero least (k ∷ ks) h = absurd h
 numbers (suc left) least (k ∷ ks) h = (omega (arith, h.0.1), numbers left (k + 1) ks h.1)
 
--- so many numbers that rise one after another are cites
+-- this number of numbers that rise one after another are cites
 pub cites_from_rise : (n : ℕ) (ks : List ℕ) → IsNumber n → length ks ≡ n → Rise n 0 ks → AreCites ks
 cites_from_rise n ks small len h = (increasing n 0 ks h, All-from_recursion IsNumber ks (numbers n 0 ks h), omega arith)
 

@@ -14,11 +14,11 @@ use Rattle.evidence_format.specs.declared.read.ReadEvidence.TheVariants.{BadLine
 
 -- ---- texts
 
--- so many claims can stand in a text: one at least
+-- this number of claims can stand in a text: one at least
 abbrev pub IsCount : ℕ → Type 0
 IsCount n = (0 < n) × IsNumber n
 
--- each claim is well formed, and so many can stand in a text
+-- each claim is well formed, and this number can stand in a text
 abbrev pub AreClaims : List PlainEvidence → Type 0
 AreClaims es = All IsWellFormed es × IsCount (length es)
 
@@ -46,7 +46,7 @@ IsClaimText e text = IsBundleText (e ∷ []) text
 abbrev pub IsTextOfEither : List PlainEvidence → List ℕ → Type 0
 IsTextOfEither es text = IsBundleText es text ⊎ ((e : PlainEvidence) × (es ≡ e ∷ []) × IsText e text)
 
--- so many claims, and the bytes of their bodies
+-- this number of claims, and the bytes of their bodies
 abbrev pub AreBodies : List PlainEvidence → Bodies → Type 0
 AreBodies es bodies = (length es ≡ bodies.count) × (bodies.text.now ≡ concat (flat_map body_lines es))
 

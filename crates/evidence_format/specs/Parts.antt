@@ -21,34 +21,34 @@ IsBegunWalk ls = (n : ℕ) × (steps : List Step) × IsNumber n × All HasNumber
 abbrev pub MayBegin : (Lines → Type 0) → Lines → Type 0
 MayBegin IsBegunPart ls = (ls ≡ []) ⊎ IsBegunPart ls
 
--- whole parts of one kind, fewer than so many, and one more that may be begun; or so many
+-- whole parts of one kind, fewer than this number, and one more that may be begun; or this number
 abbrev pub AreBegunParts : {A : Type 0} → (A → Type 0) → (A → Lines) → (Lines → Type 0) → ℕ → Lines → Type 0
 AreBegunParts {A} IsWhole lines IsBegunPart n ls = (parts : List A) × (rest : Lines) × All IsWhole parts × (ls ≡ flat_map lines parts ++ rest)
     × (((length parts < n) × MayBegin IsBegunPart rest) ⊎ ((length parts ≡ n) × (rest ≡ [])))
 
--- so many walks
+-- this number of walks
 abbrev pub AreBegunWalks : ℕ → Lines → Type 0
 AreBegunWalks n ls = AreBegunParts AreSteps walk_lines IsBegunWalk n ls
 
--- so many timelines
+-- this number of timelines
 abbrev pub AreBegunTimelines : ℕ → Lines → Type 0
 AreBegunTimelines n ls = AreBegunParts AreRanks timeline_lines IsBegunTimeline n ls
 
--- each of the first of so many cites leaves numbers for those to come after it
+-- each of the first of this number of cites leaves numbers for those to come after it
 abbrev pub LeaveNumbers : ℕ → List ℕ → Type 0
 LeaveNumbers n cites = (i : ℕ) → i < length cites → IsNumber (slice_index cites i + (n - (i + 1)))
 
--- no more than so many cites, which rise, and leave numbers for those to come
+-- no more than n cites, which rise, and leave numbers for those to come
 abbrev pub AreBegunCites : ℕ → Lines → Type 0
 AreBegunCites n ls = (cites : List ℕ) × (length cites ≤ n) × IsStrictlyIncreasing cites × LeaveNumbers n cites × (ls ≡ map cite_line cites)
 
--- so many cites, and what may follow them
+-- n cites, and what may follow them
 abbrev pub IsBegunAfterCites : ℕ → (Lines → Type 0) → Lines → Type 0
-IsBegunAfterCites n Follows ls = (cites : List ℕ) × (rest : Lines) × AreCites cites × (length cites ≡ n) × Follows rest × (ls ≡ map cite_line cites ++ rest)
+IsBegunAfterCites n MayFollow ls = (cites : List ℕ) × (rest : Lines) × AreCites cites × (length cites ≡ n) × MayFollow rest × (ls ≡ map cite_line cites ++ rest)
 
 -- a walk, and what may follow it
 abbrev pub IsBegunAfterWalk : (Lines → Type 0) → Lines → Type 0
-IsBegunAfterWalk Follows ls = (walk : List Step) × (rest : Lines) × AreSteps walk × Follows rest × (ls ≡ walk_lines walk ++ rest)
+IsBegunAfterWalk MayFollow ls = (walk : List Step) × (rest : Lines) × AreSteps walk × MayFollow rest × (ls ≡ walk_lines walk ++ rest)
 
 -- what stands after the line of a clash: begun cites; all cites, and a walk that may be begun; or all cites, a walk and begun timelines
 abbrev pub IsBegunClash : ℕ → Lines → Type 0
@@ -59,7 +59,7 @@ IsBegunClash n ls =
 
 -- a line with a relation, and what may follow it
 abbrev pub IsBegunRelation : List ℕ → (Rel → Lines → Type 0) → Lines → Type 0
-IsBegunRelation keyword Follows ls = (a : ℕ) × (r : Rel) × (b : ℕ) × (rest : Lines) × IsNumber a × IsNumber b × Follows r rest × (ls ≡ relation_line keyword a r b ∷ rest)
+IsBegunRelation keyword MayFollow ls = (a : ℕ) × (r : Rel) × (b : ℕ) × (rest : Lines) × IsNumber a × IsNumber b × MayFollow r rest × (ls ≡ relation_line keyword a r b ∷ rest)
 
 -- what stands after the first line: a begun timeline; a relation with begun walks for its orders; a relation with a begun timeline; or a begun clash
 abbrev pub IsBegunBody : Lines → Type 0

@@ -57,7 +57,7 @@ fn bodies_of(alloc: Global, text: &[u8]) -> Result<Bodies<'_>, Stop<'_>>
     })
 }
 
-/// What follows so many bodies. Each is let go before the next one is read.
+/// What follows this number of bodies. Each is let go before the next one is read.
 fn pass_bodies(alloc: Global, count: u32, text: &[u8]) -> Result<&[u8], Stop<'_>>
     ensures { Passes result (readers.many_at readers.body_at count (lines_of text.now)) }
 {

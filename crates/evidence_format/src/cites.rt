@@ -12,7 +12,7 @@ use crate::words::one_of;
 use net_core::List;
 use std::alloc::Global;
 
-/// So many cites, which rise, and what follows them. Nothing is reserved by the count, which comes from a stranger.
+/// This number of cites, which rise, and what follows them. Nothing is reserved by the count, which comes from a stranger.
 pub fn cites_at<'t>(
     alloc: Global,
     count: u32,

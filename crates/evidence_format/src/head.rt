@@ -13,13 +13,13 @@ use net_core::Rel;
 /// The kind of evidence, with what its line says.
 #[derive(Clone, Copy)]
 pub enum Head {
-    /// A timeline of so many intervals.
+    /// A timeline of this number of intervals.
     Timeline { intervals: u32 },
     /// A relation between two intervals that holds in every timeline that fits.
     Entails { a: u32, rel: Rel, b: u32 },
     /// A relation between two intervals that is false in a timeline that fits.
     Counter { a: u32, rel: Rel, b: u32 },
-    /// So many links that cannot all be true.
+    /// This number of links that cannot all be true.
     Clash { links: u32 },
 }
 

@@ -14,7 +14,7 @@ use crate::words::two_to;
 use net_core::{List, Ranks};
 use std::alloc::Global;
 
-/// So many timelines, and what follows them. Nothing is reserved by the count, which comes from a stranger.
+/// This number of timelines, and what follows them. Nothing is reserved by the count, which comes from a stranger.
 pub fn timelines_at<'t>(
     alloc: Global,
     count: u32,
@@ -51,7 +51,7 @@ pub fn timeline_at<'t>(alloc: Global, text: &'t [u8]) -> Result<(Ranks, &'t [u8]
     ranks_at(alloc, count, rest)
 }
 
-/// The ranks of so many intervals, and what follows them.
+/// The ranks of this number of intervals, and what follows them.
 #[tactic(auto, using(crate::proofs::Parted::pairs_again))]
 pub fn ranks_at<'t>(
     alloc: Global,
@@ -65,7 +65,7 @@ pub fn ranks_at<'t>(
     Ok((ranks, rest))
 }
 
-/// Appends the ranks of so many intervals, and answers what follows them. Nothing is reserved by the count, which comes
+/// Appends the ranks of this number of intervals, and answers what follows them. Nothing is reserved by the count, which comes
 /// from a stranger.
 fn push_ranks_at<'t>(ranks: &mut Ranks, count: u32, text: &'t [u8]) -> Result<&'t [u8], Stop<'t>>
     ensures { Appends ranks.old ranks.new result (readers.ranks_at count (lines_of text.now)) }

@@ -12,7 +12,7 @@ use crate::words::{one_of, two_of};
 use net_core::{List, Step, Walk};
 use std::alloc::Global;
 
-/// So many walks, and what follows them.
+/// This number of walks, and what follows them.
 pub fn walks_at<'t>(
     alloc: Global,
     count: u32,
@@ -39,7 +39,7 @@ pub fn walk_at<'t>(alloc: Global, text: &'t [u8]) -> Result<(Walk, &'t [u8]), St
     steps_at(alloc, count, rest)
 }
 
-/// So many steps, and what follows them. Nothing is reserved by the count, which comes from a stranger.
+/// This number of steps, and what follows them. Nothing is reserved by the count, which comes from a stranger.
 fn steps_at<'t>(alloc: Global, count: u32, text: &'t [u8]) -> Result<(Walk, &'t [u8]), Stop<'t>>
     ensures { GivesOrStops (λ x. (x.0, lines_of x.1.now)) result (readers.steps_at count (lines_of text.now)) }
 {

@@ -91,7 +91,7 @@ pub fn write_both(alloc: Global, first: Bodies<'_>, second: Bodies<'_>) -> Resul
     }
 }
 
-/// The text of version 2 of so many claims, by the bodies of the first ones and those of the others.
+/// The text of version 2 of this number of claims, by the bodies of the first ones and those of the others.
 fn joined_bytes(
     alloc: Global,
     count: u32,
@@ -107,7 +107,7 @@ fn joined_bytes(
     Ok(out)
 }
 
-/// The lines of version 2 before the bodies of so many claims.
+/// The lines of version 2 before the bodies of this number of claims.
 fn opening_bytes(alloc: Global, count: u32) -> Result<Vec<u8>, AllocError>
     ensures { IfOk result (λ out. out.items ≡ bundle_line ++ claims_line count) }
 {

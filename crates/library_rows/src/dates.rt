@@ -29,7 +29,7 @@ fn print_civil(page: &mut Page, second: i64) -> Option<()> {
     Some(())
 }
 
-/// Prints the document of a drill of so many instances.
+/// Prints the document of a drill of this number of instances.
 fn print_drill(page: &mut Page, alloc: Global, instances: u32) -> Option<()> {
     if instances == 0 || instances > net_core::MAX_INTERVALS {
         return None;

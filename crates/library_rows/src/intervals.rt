@@ -4,7 +4,7 @@ use named::Named;
 use net_core::{Atom, Ends, Rel, atoms_of, holds};
 use rows::Page;
 
-/// So many orders are asked for of each relation, of which none has more than four.
+/// How many orders are printed of each relation, none of which has more than four.
 const ASKED: u32 = 5;
 
 /// Prints the answer to a line about relations.

@@ -35,7 +35,7 @@ impl Drawn {
         }
     }
 
-    /// Begins a net of so many intervals, of which the calendar says nothing.
+    /// Begins a net of this number of intervals, of which the calendar says nothing.
     fn begin(&mut self, alloc: Global, intervals: u32) -> Option<()> {
         if intervals > MAX_INTERVALS {
             return None;

@@ -6,7 +6,7 @@ use rows::Page;
 use std::alloc::Global;
 use timeline::least;
 
-/// The table of so many points, of which nothing is known.
+/// The table of this number of points, of which nothing is known.
 pub fn table_of(alloc: Global, points: u32) -> Option<Closed> {
     if points > MAX_TABLE_POINTS {
         return None;

@@ -5,7 +5,7 @@ use rows::Page;
 use std::alloc::Global;
 use tml_possible::{PossibleItem, check_possible};
 
-/// Prints whether so many items pass as those of the two intervals of a net.
+/// Prints whether this number of items pass as those of the two intervals of a net.
 pub fn print_check(page: &mut Page, alloc: Global, net: &Net, words: &mut Words<'_>) -> Option<()> {
     let count = words.number()?;
     let items = items_of(alloc, words, count)?;

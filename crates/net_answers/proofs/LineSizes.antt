@@ -77,15 +77,15 @@ at_size pair small = omega (arith, two_size (codes "at ") pair.0 pair.1 (omega (
 -- ---- steps
 
 -- a relation is four orders at most
-pub few_orders : (r : Rel) (a b : ℕ) → length (atoms_of r a b) ≤ 4
+pub few_orders : (r : Rel) (a b : ℕ) → length (atoms_of a r b) ≤ 4
 few_orders r a b = omega (arith, few_orders_of r, atoms_counted r (points_of a) (points_of b))
 
 -- the line of a step that goes by an order
 pub step_size : (net : PlainNet) (step : Step) (a : Atom) → IsNet net → atom_of net step ≡ Some a → length (step_line step) ≤ 19
-step_size net (Link k i) a is e = option_and_then_some (λ (l : NetLink). slice_get (atoms_of l.rel l.a l.b) i) (slice_get net.links k) a e (λ l at here.
+step_size net (Link k i) a is e = option_and_then_some (λ (l : NetLink). slice_get (atoms_of l.a l.rel l.b) i) (slice_get net.links k) a e (λ l at here.
     let few_links = is.few_links in
     let lk = slice_get_within net.links k l at in
-    let li = slice_get_within (atoms_of l.rel l.a l.b) i a here in
+    let li = slice_get_within (atoms_of l.a l.rel l.b) i a here in
     let few = few_orders l.rel l.a l.b in
     omega (arith, two_size (codes "via ") k i (omega (arith, lk, few_links)) (omega (arith, li, few))))
 step_size net (Span i) a is e =

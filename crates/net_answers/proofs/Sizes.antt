@@ -107,8 +107,8 @@ counter_size a b r ranks text la lb small is =
     omega (arith, text_size (counter a r b (pairs_of ranks)) text body_room is (omega (arith, head, all, ranks_size ranks small)))
 
 -- the text of a relation that is proved by short walks
-pub entails_size : (net : PlainNet) (a b : ℕ) (r : Rel) (walks : List (List Step)) (text : List ℕ) → IsNet net → AreIntervals net a b → length walks ≡ length (atoms_of r a b)
-    → IsFirst (length (atoms_of r a b)) (Proves net (atoms_of r a b) walks) None → All (λ steps. length steps ≤ 2 * points net) walks
+pub entails_size : (net : PlainNet) (a b : ℕ) (r : Rel) (walks : List (List Step)) (text : List ℕ) → IsNet net → AreIntervals net a b → length walks ≡ length (atoms_of a r b)
+    → IsFirst (length (atoms_of a r b)) (Proves net (atoms_of a r b) walks) None → All (λ steps. length steps ≤ 2 * points net) walks
     → IsClaimText (entails a r b walks) text → length text ≤ max_printed
 entails_size net a b r walks text is range one_each proofs short text_is =
     let few = is.few_intervals in
@@ -117,7 +117,7 @@ entails_size net a b r walks text is range one_each proofs short text_is =
     let each : All (λ (steps : List Step). length (concat (walk_lines steps)) ≤ walk_room) walks =
     All-from_get_or (λ (steps : List Step). length (concat (walk_lines steps)) ≤ walk_room) walks [] (λ k lt.
     let proof = proofs k (omega (arith, lt, one_each)) in
-    walk_size net is (walk_at walks k) (atom_at (atoms_of r a b) k).from (atom_at (atoms_of r a b) k).to proof.0 (All-get_or (λ (steps : List Step). length steps ≤ 2 * points net) walks k [] lt short)) in
+    walk_size net is (walk_at walks k) (atom_at (atoms_of a r b) k).from (atom_at (atoms_of a r b) k).to proof.0 (All-get_or (λ (steps : List Step). length steps ≤ 2 * points net) walks k [] lt short)) in
     let rest = concat_flat_map walk_lines walk_room walks (recursion_from_All (λ (steps : List Step). length (concat (walk_lines steps)) ≤ walk_room) walks each) in
     let all : length (concat (body_lines (entails a r b walks))) ≡ length line + length (concat (flat_map walk_lines walks)) = concat_cons line (flat_map walk_lines walks) in
     omega (arith, text_size (entails a r b walks) text body_room text_is (omega (arith, head, rest, all, one_each, few_orders r a b)))
@@ -146,7 +146,7 @@ module _ (net : PlainNet) (is : IsNet net) where
       All-from_get_or (λ (k : ℕ). length (cite_line k) ≤ 10) cites 0 (λ i lt. let less = All-get_or (λ (k : ℕ). k < length net.links) cites i 0 lt links in one_size (codes "cite ") (get_or cites i 0) (omega (arith, less, few))) in
       concat_map cite_line 10 cites (recursion_from_All (λ (k : ℕ). length (cite_line k) ≤ 10) cites each)
 
--- the text of a clash: each link that it cites is gone over by a step, so there are no more spares than steps
+-- the text of a clash: each link that it cites has a step, so there are no more spares than steps
 pub clash_size : (net : PlainNet) (cites : List ℕ) (walk : List Step) (spares : List (List ℕ)) (text : List ℕ) → IsNet net → IsStrictlyIncreasing cites → All (λ k. k < length net.links) cites
     → IsClosedOver net cites walk → length walk ≤ 2 * points net → AreSpares net (Contains cites) cites spares → IsClaimText (clash cites walk (map pairs_of spares)) text → length text ≤ max_printed
 clash_size net cites walk spares text is rising links round short are text_is =

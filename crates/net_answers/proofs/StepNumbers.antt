@@ -19,10 +19,10 @@ use Rattle.evidence_format.specs.Evidence.{HasNumbers}
 use Rattle.net_answers.proofs.LineSizes.{few_orders}
 
 step_numbers : (net : PlainNet) (step : Step) (a : Atom) → IsNet net → atom_of net step ≡ Some a → HasNumbers step
-step_numbers net (Link k i) a is e = option_and_then_some (λ (l : NetLink). slice_get (atoms_of l.rel l.a l.b) i) (slice_get net.links k) a e (λ l at here.
+step_numbers net (Link k i) a is e = option_and_then_some (λ (l : NetLink). slice_get (atoms_of l.a l.rel l.b) i) (slice_get net.links k) a e (λ l at here.
     let few_links = is.few_links in
     let lk = slice_get_within net.links k l at in
-    let li = slice_get_within (atoms_of l.rel l.a l.b) i a here in
+    let li = slice_get_within (atoms_of l.a l.rel l.b) i a here in
     let few = few_orders l.rel l.a l.b in
     (omega (arith, lk, few_links), omega (arith, li, few)))
 step_numbers net (Span i) a is e =

@@ -21,7 +21,7 @@ split : (m n : ℕ) → m ≡ n → BothWays m n
 split m n e = (omega (arith, e), omega (arith, e))
 
 -- a relation holds exactly where all its orders are true
-pub relation_by_orders : (r : Rel) (a b : Ends) → Holds r a b ↔ AllByRecursion (IsTrueOf a b) (orders_of r)
+pub relation_by_orders : (r : Rel) (a b : Ends) → Holds a r b ↔ AllByRecursion (IsTrueOf a b) (orders_of r)
 relation_by_orders rel.Before a b = (λ h. (h, tt), λ k. k.0)
 relation_by_orders rel.After a b = (λ h. (h, tt), λ k. k.0)
 relation_by_orders rel.Includes a b = (λ h. (h.0, (h.1, tt)), λ k. (k.0, k.1.0))
@@ -40,7 +40,7 @@ relation_by_orders rel.Overlaps a b = (λ h. (h.0, (h.1, (h.2, tt))), λ k. (k.0
 relation_by_orders rel.OverlappedBy a b = (λ h. (h.0, (h.1, (h.2, tt))), λ k. (k.0, k.1.0, k.1.1.0))
 
 -- the same of the list of orders
-pub orders_say_the_relation : (r : Rel) (a b : Ends) → All (IsTrueOf a b) (orders_of r) ↔ Holds r a b
+pub orders_say_the_relation : (r : Rel) (a b : Ends) → All (IsTrueOf a b) (orders_of r) ↔ Holds a r b
 orders_say_the_relation r a b = (
   λ all. (relation_by_orders r a b).1 (recursion_from_All (IsTrueOf a b) (orders_of r) all),
   λ h. All-from_recursion (IsTrueOf a b) (orders_of r) ((relation_by_orders r a b).0 h),
@@ -85,7 +85,7 @@ atoms_say_the_relation t r a b =
     (λ h. mapped.0 (subst (λ (X : Type 0). X) same (by_orders.0 h)), λ k. by_orders.1 (subst (λ (X : Type 0). X) (sym same) (mapped.1 k)))
 
 -- a relation is as many orders between any two intervals
-pub atoms_counted : (r : Rel) (a b : Ends) → length (atoms_between r a b) ≡ atom_count r
+pub atoms_counted : (r : Rel) (a b : Ends) → length (atoms_between a r b) ≡ atom_count r
 atoms_counted r a b = length-map (orders_of r) (atom_between a b)
 
 -- a relation is four orders at most
@@ -108,7 +108,7 @@ order_in_range n a b s f u v (BBefore p q) = (point_below n b p u v, point_below
 order_in_range n a b s f u v (BNoLater p q) = (point_below n b p u v, point_below n a q s f)
 
 -- the orders of a relation between two of the first n intervals are of their points
-pub atoms_in_range : (n : ℕ) (r : Rel) (a b : ℕ) → a < n → b < n → AllByRecursion (IsInRange (2 * n)) (atoms_of r a b)
+pub atoms_in_range : (n : ℕ) (r : Rel) (a b : ℕ) → a < n → b < n → AllByRecursion (IsInRange (2 * n)) (atoms_of a r b)
 atoms_in_range n r a b la lb =
     let a_points = points_of a in
     let b_points = points_of b in

@@ -61,7 +61,7 @@ base_of Greater Less Greater Equal = rel.Ends
 base_of Greater Less Greater Greater = rel.OverlappedBy
 
 -- it holds
-base_holds : (a b : Ends) (m n s f : Ordering) → Lie m n s f a b → Holds (base_of m n s f) a b
+base_holds : (a b : Ends) (m n s f : Ordering) → Lie m n s f a b → Holds a (base_of m n s f) b
 base_holds a b Less n s f lie = lie.across
 base_holds a b Equal n s f lie = lie.across
 base_holds a b Greater Greater s f lie = lie.back
@@ -97,7 +97,7 @@ module _ (a b : Ends) (a_is : IsInterval a) (b_is : IsInterval b) (m n s f : Ord
   same : (o p t g : Ordering) → Stands o a.finish b.start → Stands p a.start b.finish → Stands t a.start b.start → Stands g a.finish b.finish → base_of o p t g ≡ base_of m n s f
   same o p t g across back starts finishes = base_once o p t g m n s f a b (record { across = across; back = back; starts = starts; finishes = finishes }) lie
 
-  only_one : AllByRecursion (λ (r : Rel). Holds r a b → r ≡ base_of m n s f) base_rels
+  only_one : AllByRecursion (λ (r : Rel). Holds a r b → r ≡ base_of m n s f) base_rels
   only_one = (
     λ h. same Less Less Less Less h (omega arith) (omega arith) (omega arith),
     (
@@ -147,5 +147,5 @@ one_base_relation_holds a b a_is b_is =
     let (s, starts) = stands_some a.start b.start in
     let (f, finishes) = stands_some a.finish b.finish in
     let lie : Lie m n s f a b = record { across = across; back = back; starts = starts; finishes = finishes } in
-    let only = All-from_recursion (λ (r : Rel). Holds r a b → r ≡ base_of m n s f) base_rels (only_one a b a_is b_is m n s f lie) in
-    (base_of m n s f, base_is_there m n s f, (base_holds a b m n s f lie, λ r is. All-contains (λ (r : Rel). Holds r a b → r ≡ base_of m n s f) base_rels r only is))
+    let only = All-from_recursion (λ (r : Rel). Holds a r b → r ≡ base_of m n s f) base_rels (only_one a b a_is b_is m n s f lie) in
+    (base_of m n s f, base_is_there m n s f, (base_holds a b m n s f lie, λ r is. All-contains (λ (r : Rel). Holds a r b → r ≡ base_of m n s f) base_rels r only is))

@@ -23,8 +23,8 @@ all_satisfied : (t : Timeline) (atoms : List Atom) → Dec (AllByRecursion (Sati
 all_satisfied t [] = yes tt
 all_satisfied t (atom ∷ atoms) = Dec.and (in_order atom.strict (t atom.from) (t atom.to)) (all_satisfied t atoms)
 
-pub relates : (t : Timeline) (r : Rel) (a b : ℕ) → Dec (Relates t r a b)
-relates t r a b = let says = atoms_say_the_relation t r a b in Dec.of_iff (says.1, says.0) (all_satisfied t (atoms_of r a b))
+pub relates : (t : Timeline) (r : Rel) (a b : ℕ) → Dec (Relates t a r b)
+relates t r a b = let says = atoms_say_the_relation t r a b in Dec.of_iff (says.1, says.0) (all_satisfied t (atoms_of a r b))
 
 -- whether an integer is below another one
 less_int : (x y : ℤ) → Dec (x <ℤ y)

@@ -57,10 +57,10 @@ in_order x y p q t false le lt follows = follows.1 (same_number x y le lt)
 -- a timeline that fits is in the order of each step
 pub step_kept : (net : PlainNet) (Chosen : ℕ → Type 0) (t : Timeline) (step : Step) (a : Atom) → FitsWith net Chosen t → GoesBy net Chosen step a → Satisfies t a
 step_kept net Chosen t (Link k i) a fits goes =
-    option_and_then_some (λ (l : NetLink). slice_get (atoms_of l.rel l.a l.b) i) (slice_get net.links k) a goes.0 (λ l at e.
+    option_and_then_some (λ (l : NetLink). slice_get (atoms_of l.a l.rel l.b) i) (slice_get net.links k) a goes.0 (λ l at e.
     let same = get_or_from_slice_get net.links k l (record { a = 0; rel = rel.Before; b = 0 }) at in
     let holds = fits.links k (slice_get_within net.links k l at) goes.1 in
-    one_of_all (Satisfies t) (atoms_of l.rel l.a l.b) i a (All-from_recursion (Satisfies t) (atoms_of l.rel l.a l.b) ((atoms_say_the_relation t l.rel l.a l.b).0 (subst (λ (x : NetLink). Relates t x.rel x.a x.b) same holds))) e)
+    one_of_all (Satisfies t) (atoms_of l.a l.rel l.b) i a (All-from_recursion (Satisfies t) (atoms_of l.a l.rel l.b) ((atoms_say_the_relation t l.rel l.a l.b).0 (subst (λ (x : NetLink). Relates t x.a x.rel x.b) same holds))) e)
 step_kept net Chosen t (Span i) a fits goes =
     let both = tested (nat_lt i (intervals net)) (before (2 * i) (2 * i + 1)) a goes.0 in
     subst (Satisfies t) both.1 (fits.order i (ltb-true i (intervals net) both.0))
@@ -92,9 +92,9 @@ fits_from_steps net Chosen t kept = record {
   links = λ k lt chosen.
       let l = link_at net k in
       let at : slice_get net.links k ≡ Some l = slice_get-get_or net.links k (record { a = 0; rel = rel.Before; b = 0 }) lt in
-      (atoms_say_the_relation t l.rel l.a l.b).1 (recursion_from_All (Satisfies t) (atoms_of l.rel l.a l.b)
-      (All-from_get_or (Satisfies t) (atoms_of l.rel l.a l.b) (before 0 0) (λ i li.
-      kept (Link k i) (get_or (atoms_of l.rel l.a l.b) i (before 0 0)) (rw at (slice_get-get_or (atoms_of l.rel l.a l.b) i (before 0 0) li), chosen))));
+      (atoms_say_the_relation t l.rel l.a l.b).1 (recursion_from_All (Satisfies t) (atoms_of l.a l.rel l.b)
+      (All-from_get_or (Satisfies t) (atoms_of l.a l.rel l.b) (before 0 0) (λ i li.
+      kept (Link k i) (get_or (atoms_of l.a l.rel l.b) i (before 0 0)) (rw at (slice_get-get_or (atoms_of l.a l.rel l.b) i (before 0 0) li), chosen))));
   calendar = λ p q lp lq. numbers_kept (upper net p) (lower net q) p q t (λ a e. kept (Calendar p q) a (e, tt));
 }
 
@@ -107,16 +107,16 @@ pub link_within : (net : PlainNet) (step : Step) (a : Atom) (k : ℕ) → atom_o
 link_within net (Link j i) a k e is =
     let same : j ≡ k = cc in
     subst (λ (n : ℕ). n < length net.links) same
-    (option_and_then_some (λ (l : NetLink). slice_get (atoms_of l.rel l.a l.b) i) (slice_get net.links j) a e (λ l at here. slice_get_within net.links j l at))
+    (option_and_then_some (λ (l : NetLink). slice_get (atoms_of l.a l.rel l.b) i) (slice_get net.links j) a e (λ l at here. slice_get_within net.links j l at))
 link_within net (Span i) a k e is = absurd cc
 link_within net (Calendar p q) a k e is = absurd cc
 
 -- the points of a step are points of the net
 pub step_in_range : (net : PlainNet) (step : Step) (a : Atom) → IsNet net → atom_of net step ≡ Some a → IsInRange (points net) a
 step_in_range net (Link k i) a is e =
-    option_and_then_some (λ (l : NetLink). slice_get (atoms_of l.rel l.a l.b) i) (slice_get net.links k) a e (λ l at here.
+    option_and_then_some (λ (l : NetLink). slice_get (atoms_of l.a l.rel l.b) i) (slice_get net.links k) a e (λ l at here.
     let ends = one_of_all (λ (x : NetLink). (x.a < length net.bounds) × (x.b < length net.bounds)) net.links k l is.ends at in
-    one_of_all (IsInRange (points net)) (atoms_of l.rel l.a l.b) i a (All-from_recursion (IsInRange (points net)) (atoms_of l.rel l.a l.b) (atoms_in_range (intervals net) l.rel l.a l.b ends.0 ends.1)) here)
+    one_of_all (IsInRange (points net)) (atoms_of l.a l.rel l.b) i a (All-from_recursion (IsInRange (points net)) (atoms_of l.a l.rel l.b) (atoms_in_range (intervals net) l.rel l.a l.b ends.0 ends.1)) here)
 step_in_range net (Span i) a is e =
     let both = tested (nat_lt i (intervals net)) (before (2 * i) (2 * i + 1)) a e in
     let lt = ltb-true i (intervals net) both.0 in

@@ -56,16 +56,16 @@ orders_of rel.Overlaps = ABefore Start Start ∷ BBefore Start Finish ∷ ABefor
 orders_of rel.OverlappedBy = BBefore Start Start ∷ ABefore Start Finish ∷ BBefore Finish Finish ∷ []
 
 -- the same by the points of two intervals
-abbrev pub atoms_between : Rel → Ends → Ends → List Atom
-atoms_between r a b = map (atom_between a b) (orders_of r)
+abbrev pub atoms_between : Ends → Rel → Ends → List Atom
+atoms_between a r b = map (atom_between a b) (orders_of r)
 
 -- the points of an interval: its start and its end
 abbrev pub points_of : ℕ → Ends
 points_of i = record { start = 2 * i; finish = 2 * i + 1 }
 
 -- the orders that a relation is, between intervals a and b
-abbrev pub atoms_of : Rel → ℕ → ℕ → List Atom
-atoms_of r a b = atoms_between r (points_of a) (points_of b)
+abbrev pub atoms_of : ℕ → Rel → ℕ → List Atom
+atoms_of a r b = atoms_between (points_of a) r (points_of b)
 
 -- how many orders a relation is
 abbrev pub atom_count : Rel → ℕ
@@ -73,7 +73,7 @@ atom_count r = length (orders_of r)
 
 -- the orders that a value of the program stands for
 abbrev pub atoms_in : Atoms → List Atom
-atoms_in x = atoms_between x.rel x.a x.b
+atoms_in x = atoms_between x.a x.rel x.b
 
 -- one number is before another, or where the order is not strict they may be the same
 abbrev pub IsInOrder : Bool → ℕ → ℕ → Type 0
@@ -94,4 +94,4 @@ Satisfies t atom = IsInOrder atom.strict (t atom.from) (t atom.to)
 
 -- the law: a relation holds of two intervals exactly where all its atoms are satisfied
 abbrev pub AtomsSayTheRelation : Type 0
-AtomsSayTheRelation = (t : Timeline) (r : Rel) (a b : ℕ) → Relates t r a b ↔ AllByRecursion (Satisfies t) (atoms_of r a b)
+AtomsSayTheRelation = (t : Timeline) (r : Rel) (a b : ℕ) → Relates t a r b ↔ AllByRecursion (Satisfies t) (atoms_of a r b)

@@ -18,7 +18,7 @@ IsInterval a = a.start < a.finish
 
 -- the relation holds, and no other base relation does
 abbrev pub OnlyHolds : Rel → Ends → Ends → Type 0
-OnlyHolds r a b = Holds r a b × ((s : Rel) → Contains base_rels s → Holds s a b → s ≡ r)
+OnlyHolds r a b = Holds a r b × ((s : Rel) → Contains base_rels s → Holds a s b → s ≡ r)
 
 -- the law: of any two intervals, exactly one base relation holds
 abbrev pub OneBaseRelationHolds : Type 0

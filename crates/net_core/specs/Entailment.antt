@@ -25,11 +25,11 @@ AreIntervals net a b = (a < intervals net) × (b < intervals net)
 
 -- the relation holds between two intervals in every timeline that fits the net
 abbrev pub Follows : PlainNet → ℕ → Rel → ℕ → Type 0
-Follows net a r b = (t : Timeline) → Fits net t → Relates t r a b
+Follows net a r b = (t : Timeline) → Fits net t → Relates t a r b
 
 -- it is false between them in some timeline that fits the net
 abbrev pub CanFail : PlainNet → ℕ → Rel → ℕ → Type 0
-CanFail net a r b = (t : Timeline) × Fits net t × (Relates t r a b → ⊥)
+CanFail net a r b = (t : Timeline) × Fits net t × (Relates t a r b → ⊥)
 
 -- point p is before point q in every timeline that fits the net, or where the order is not strict no later
 abbrev pub Always : PlainNet → Bool → ℕ → ℕ → Type 0

@@ -10,7 +10,7 @@ StartsFirst t i = t (2 * i) < t (2 * i + 1)
 
 -- the link holds
 abbrev pub KeepsLink : PlainNet → Timeline → ℕ → Type 0
-KeepsLink net t k = Relates t (link_at net k).rel (link_at net k).a (link_at net k).b
+KeepsLink net t k = Relates t (link_at net k).a (link_at net k).rel (link_at net k).b
 
 -- one point is before another where its upper number is below the lower number of the other, and not after it where both numbers are the same
 abbrev pub FollowsNumbers : Option ℤ → Option ℤ → ℕ → ℕ → Type 0

@@ -37,23 +37,23 @@ abbrev pub Overlaps : Ends → Ends → Type 0
 Overlaps a b = (a.start < b.start) × (b.start < a.finish) × (a.finish < b.finish)
 
 -- The relation holds of two intervals. An inverse holds of `a` and `b` where its relation holds of `b` and `a`.
-abbrev pub Holds : Rel → Ends → Ends → Type 0
-Holds rel.Before a b = Precedes a b
-Holds rel.After a b = Precedes b a
-Holds rel.Includes a b = LiesInside b a
-Holds rel.IsIncluded a b = LiesInside a b
-Holds rel.During a b = LiesWithin a b
-Holds rel.DuringInv a b = LiesWithin b a
-Holds rel.Simultaneous a b = Equals a b
-Holds rel.Identity a b = Equals a b
-Holds rel.Ibefore a b = Meets a b
-Holds rel.Iafter a b = Meets b a
-Holds rel.Begins a b = Starts a b
-Holds rel.BegunBy a b = Starts b a
-Holds rel.Ends a b = Finishes a b
-Holds rel.EndedBy a b = Finishes b a
-Holds rel.Overlaps a b = Overlaps a b
-Holds rel.OverlappedBy a b = Overlaps b a
+abbrev pub Holds : Ends → Rel → Ends → Type 0
+Holds a rel.Before b = Precedes a b
+Holds a rel.After b = Precedes b a
+Holds a rel.Includes b = LiesInside b a
+Holds a rel.IsIncluded b = LiesInside a b
+Holds a rel.During b = LiesWithin a b
+Holds a rel.DuringInv b = LiesWithin b a
+Holds a rel.Simultaneous b = Equals a b
+Holds a rel.Identity b = Equals a b
+Holds a rel.Ibefore b = Meets a b
+Holds a rel.Iafter b = Meets b a
+Holds a rel.Begins b = Starts a b
+Holds a rel.BegunBy b = Starts b a
+Holds a rel.Ends b = Finishes a b
+Holds a rel.EndedBy b = Finishes b a
+Holds a rel.Overlaps b = Overlaps a b
+Holds a rel.OverlappedBy b = Overlaps b a
 
 -- A timeline gives a number to each point. Interval i starts at point 2 i, and ends at point 2 i + 1.
 abbrev pub Timeline : Type 0
@@ -64,5 +64,5 @@ abbrev pub ends_of : Timeline → ℕ → Ends
 ends_of t i = record { start = t (2 * i); finish = t (2 * i + 1) }
 
 -- the relation holds of intervals a and b
-abbrev pub Relates : Timeline → Rel → ℕ → ℕ → Type 0
-Relates t r a b = Holds r (ends_of t a) (ends_of t b)
+abbrev pub Relates : Timeline → ℕ → Rel → ℕ → Type 0
+Relates t a r b = Holds (ends_of t a) r (ends_of t b)

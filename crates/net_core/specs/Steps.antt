@@ -16,7 +16,7 @@ calendar_order None l p q = None
 
 -- The order that a step goes by, if any: one of those that a link is; that an interval starts before it ends; or the order of two points in the calendar.
 abbrev pub atom_of : PlainNet → Step → Option Atom
-atom_of net (Link link atom) = option_and_then (λ (l : NetLink). slice_get (atoms_of l.rel l.a l.b) atom) (slice_get net.links link)
+atom_of net (Link link atom) = option_and_then (λ (l : NetLink). slice_get (atoms_of l.a l.rel l.b) atom) (slice_get net.links link)
 atom_of net (Span i) = if nat_lt i (intervals net) then Some (before (2 * i) (2 * i + 1)) else None
 atom_of net (Calendar p q) = calendar_order (upper net p) (lower net q) p q
 

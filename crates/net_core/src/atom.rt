@@ -125,7 +125,7 @@ pub fn orders_of(rel: Rel) -> &'static [PairOrder]
 /// Whether the relation holds of two intervals, by their starts and ends.
 #[tactic(auto, using(crate::proofs::AtomLaws::orders_say_the_relation))]
 pub fn holds(rel: Rel, a: Ends, b: Ends) -> bool
-    ensures { IsTrue result ↔ Holds rel a b }
+    ensures { IsTrue result ↔ Holds a rel b }
 {
     orders_of(rel).iter().all(|order| order.is_true(a, b))
 }
@@ -162,7 +162,7 @@ impl Atoms {
 pub fn atoms_of(rel: Rel, a: u32, b: u32) -> Atoms
     requires a { a < 2147483647 }
     requires b { b < 2147483647 }
-    ensures { spec.atoms_in result ≡ spec.atoms_of rel a b }
+    ensures { spec.atoms_in result ≡ spec.atoms_of a rel b }
 {
     Atoms {
         rel,

@@ -14,12 +14,12 @@ abbrev pub no_atom : Atom
 no_atom = record { from = 0; to = 0; strict = false }
 
 -- a link holds where all atoms of its relation are true
-pub link_said : (net : PlainNet) (k : ℕ) (atoms : List Atom) → (let link = link_at net k in atoms ≡ atoms_of link.rel link.a link.b)
+pub link_said : (net : PlainNet) (k : ℕ) (atoms : List Atom) → (let link = link_at net k in atoms ≡ atoms_of link.a link.rel link.b)
     → (t : Timeline) → SatisfiesAll atoms t ↔ KeepsLink net t k
 link_said net k atoms are t =
     let link = link_at net k in
     let law = atoms_say_the_relation t link.rel link.a link.b in
     subst (λ (xs : List Atom). SatisfiesAll xs t ↔ KeepsLink net t k) (sym are) (
-      λ all. law.1 (recursion_from_All (Satisfies t) (atoms_of link.rel link.a link.b) all),
-      λ holds. All-from_recursion (Satisfies t) (atoms_of link.rel link.a link.b) (law.0 holds),
+      λ all. law.1 (recursion_from_All (Satisfies t) (atoms_of link.a link.rel link.b) all),
+      λ holds. All-from_recursion (Satisfies t) (atoms_of link.a link.rel link.b) (law.0 holds),
     )

@@ -48,7 +48,7 @@ pub fn add_links(table: &mut Closed, net: &Net) -> Result<(), FirstClash>
 /// The orders of points that the link of this number is.
 pub fn atoms_of_link(net: &Net, k: u32) -> Atoms
     requires { k < length net.now.links }
-    ensures atoms { let link = link_at net.now k in atoms_in result ≡ spec.atoms_of link.rel link.a link.b }
+    ensures atoms { let link = link_at net.now k in atoms_in result ≡ spec.atoms_of link.a link.rel link.b }
     ensures in_range { AreInRange (points net.now) (atoms_in result) }
 {
     prove!(k < net.links());

@@ -12,7 +12,7 @@ use crate::orders::Order;
 use crate::raising::{raise_all, raise_orders, raise_orders_back};
 use net_core::{Atom, MAX_POINTS};
 
-/// Raises ranks until all orders hold but those of one link, in so many turns at most. Whether they do: else some rank
+/// Raises ranks until all orders hold but those of one link, in at most this number of turns. Whether they do: else some rank
 /// reached the highest, or the ranks still rose in each turn.
 pub fn settle(orders: &[Order], fixed: &[Atom], but: u32, ranks: &mut [u32], turns: u32) -> bool
     requires orders { spec.AreBelow (length ranks.old) orders.now }

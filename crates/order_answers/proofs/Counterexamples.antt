@@ -63,14 +63,14 @@ module _ (net : PlainNet) (table : Table) (closure : IsClosureOf net table) wher
   }
 
 -- where one of its orders is false a relation is
-false_by : (ranks : List ℕ) (a : ℕ) (r : Rel) (b k : ℕ) → k < length (atoms_of r a b) → (Satisfies (timeline_of ranks) (atom_at (atoms_of r a b) k) → ⊥) → IsFalse ranks a r b
+false_by : (ranks : List ℕ) (a : ℕ) (r : Rel) (b k : ℕ) → k < length (atoms_of a r b) → (Satisfies (timeline_of ranks) (atom_at (atoms_of a r b) k) → ⊥) → IsFalse ranks a r b
 false_by ranks a r b k lt fails = λ holds.
     let t = timeline_of ranks in
-    fails (All-get_or (Satisfies t) (atoms_of r a b) k (record { from = 0; to = 0; strict = false }) lt
-    (All-from_recursion (Satisfies t) (atoms_of r a b) ((atoms_say_the_relation t r a b).0 holds)))
+    fails (All-get_or (Satisfies t) (atoms_of a r b) k (record { from = 0; to = 0; strict = false }) lt
+    (All-from_recursion (Satisfies t) (atoms_of a r b) ((atoms_say_the_relation t r a b).0 holds)))
 
 -- the text of the least timeline that fits and makes the first open order false tells a counterexample
-pub counter_shows : (net : PlainNet) (a : ℕ) (r : Rel) (b : ℕ) (atom : Atom) (ranks text : List ℕ) → AreIntervals net a b → IsFirstOpen net (atoms_of r a b) atom → length ranks ≡ points net
+pub counter_shows : (net : PlainNet) (a : ℕ) (r : Rel) (b : ℕ) (atom : Atom) (ranks text : List ℕ) → AreIntervals net a b → IsFirstOpen net (atoms_of a r b) atom → length ranks ≡ points net
     → IsLeast (points net) (λ u. Fits net u × (Satisfies u atom → ⊥)) (timeline_of ranks) → IsClaimText (counter a r b (pairs_of ranks)) text → length text ≤ max_printed → ShowsCounterexample net a r b text
 counter_shows net a r b atom ranks text both first size least is_text short =
     let again : ranks_of (pairs_of ranks) ≡ ranks = ranks_again ranks (even_length (length net.bounds) ranks size) in
@@ -84,6 +84,6 @@ counter_shows net a r b atom ranks text both first size least is_text short =
 
 -- and so does that of the least timeline that keeps the closure
 pub shows_counterexample : (net : PlainNet) (table : Table) (a : ℕ) (r : Rel) (b : ℕ) (atom : Atom) (text : List ℕ) → IsClosureOf net table → AreIntervals net a b
-    → IsFirstOpen net (atoms_of r a b) atom → IsCounterText table a r b atom text → ShowsCounterexample net a r b text
+    → IsFirstOpen net (atoms_of a r b) atom → IsCounterText table a r b atom text → ShowsCounterexample net a r b text
 shows_counterexample net table a r b atom text closure both first told =
     counter_shows net a r b atom told.0 text both first (told.1 ∙ closure.size) (least_counter net table closure atom (timeline_of told.0) told.2) told.3 told.4

@@ -105,23 +105,23 @@ module _ (net : PlainNet) (is : IsNet net) where
     -- ---- a relation that is asked
 
     module _ (a : ℕ) (r : Rel) (b : ℕ) (both : AreIntervals net a b) where
-      orders_in_range : AllByRecursion (IsInRange (points net)) (atoms_of r a b)
+      orders_in_range : AllByRecursion (IsInRange (points net)) (atoms_of a r b)
       orders_in_range = atoms_in_range (intervals net) r a b both.0 both.1
 
       -- each order by its number
-      all_always : IsFirst (length (atoms_of r a b)) (λ k. AlwaysHolds net (atom_at (atoms_of r a b) k)) None → AllByRecursion (AlwaysHolds net) (atoms_of r a b)
-      all_always all = recursion_from_All (AlwaysHolds net) (atoms_of r a b) (All-from_get_or (AlwaysHolds net) (atoms_of r a b) (record { from = 0; to = 0; strict = false }) all)
+      all_always : IsFirst (length (atoms_of a r b)) (λ k. AlwaysHolds net (atom_at (atoms_of a r b) k)) None → AllByRecursion (AlwaysHolds net) (atoms_of a r b)
+      all_always all = recursion_from_All (AlwaysHolds net) (atoms_of a r b) (All-from_get_or (AlwaysHolds net) (atoms_of a r b) (record { from = 0; to = 0; strict = false }) all)
 
-      proof_of : AllByRecursion (AlwaysHolds net) (atoms_of r a b) → (text : List ℕ) × ShowsProof net a r b text
+      proof_of : AllByRecursion (AlwaysHolds net) (atoms_of a r b) → (text : List ℕ) × ShowsProof net a r b text
       proof_of always =
-          let found = walks_for (atoms_of r a b) orders_in_range always in
+          let found = walks_for (atoms_of a r b) orders_in_range always in
           let e : PlainEvidence = entails a r b found.0 in
           (claim_text e, shows_proof net a r b is both found.0 found.1 (claim_text e) (has_claim_text e (proof_well_formed net a r b is both found.0 found.1)))
 
-      counter_of : (k : ℕ) → IsFirst (length (atoms_of r a b)) (λ k. AlwaysHolds net (atom_at (atoms_of r a b) k)) (Some k) → (text : List ℕ) × ShowsCounterexample net a r b text
+      counter_of : (k : ℕ) → IsFirst (length (atoms_of a r b)) (λ k. AlwaysHolds net (atom_at (atoms_of a r b) k)) (Some k) → (text : List ℕ) × ShowsCounterexample net a r b text
       counter_of k first =
-          let atom = atom_at (atoms_of r a b) k in
-          let range = All-get_or (IsInRange (points net)) (atoms_of r a b) k (record { from = 0; to = 0; strict = false }) first.0 (All-from_recursion (IsInRange (points net)) (atoms_of r a b) orders_in_range) in
+          let atom = atom_at (atoms_of a r b) k in
+          let range = All-get_or (IsInRange (points net)) (atoms_of a r b) k (record { from = 0; to = 0; strict = false }) first.0 (All-from_recursion (IsInRange (points net)) (atoms_of a r b) orders_in_range) in
           elim (orders_are_answered net fits.0 atom is fits.1 range) [
             | inl walk ↦ absurd (first.1 (λ t other. walk_kept net EveryLink t walk.0 atom.from atom.to atom.strict other walk.1))
             | inr found ↦
@@ -141,22 +141,22 @@ module _ (net : PlainNet) (is : IsNet net) where
           ]
 
       -- what follows, and what does not
-      relation_follows : AllByRecursion (AlwaysHolds net) (atoms_of r a b) → Follows net a r b
-      relation_follows always t other = (atoms_say_the_relation t r a b).1 (satisfied (atoms_of r a b) always)
+      relation_follows : AllByRecursion (AlwaysHolds net) (atoms_of a r b) → Follows net a r b
+      relation_follows always t other = (atoms_say_the_relation t r a b).1 (satisfied (atoms_of a r b) always)
         where
           satisfied : (atoms : List Atom) → AllByRecursion (AlwaysHolds net) atoms → AllByRecursion (Satisfies t) atoms
           satisfied [] always = tt
           satisfied (atom ∷ atoms) always = (always.0 t other, satisfied atoms always.1)
 
       follows_or_not : Dec (Follows net a r b)
-      follows_or_not = elim (first_open_or_none (atoms_of r a b) (All-from_recursion (IsInRange (points net)) (atoms_of r a b) orders_in_range)) [
+      follows_or_not = elim (first_open_or_none (atoms_of a r b) (All-from_recursion (IsInRange (points net)) (atoms_of a r b) orders_in_range)) [
         | inl all ↦ yes (relation_follows (all_always all))
         | inr first ↦ no (λ follows. first.1.1 (λ t other.
-            All-get_or (Satisfies t) (atoms_of r a b) first.0 (record { from = 0; to = 0; strict = false }) first.1.0 (All-from_recursion (Satisfies t) (atoms_of r a b) ((atoms_say_the_relation t r a b).0 (follows t other)))))
+            All-get_or (Satisfies t) (atoms_of a r b) first.0 (record { from = 0; to = 0; strict = false }) first.1.0 (All-from_recursion (Satisfies t) (atoms_of a r b) ((atoms_say_the_relation t r a b).0 (follows t other)))))
       ]
 
       pub some_answer : (text : List ℕ) × OfRelation a r b net Done text
-      some_answer = elim (first_open_or_none (atoms_of r a b) (All-from_recursion (IsInRange (points net)) (atoms_of r a b) orders_in_range)) [
+      some_answer = elim (first_open_or_none (atoms_of a r b) (All-from_recursion (IsInRange (points net)) (atoms_of a r b) orders_in_range)) [
         | inl all ↦ let shown = proof_of (all_always all) in (shown.0, inl shown.1)
         | inr first ↦ let shown = counter_of first.0 first.1 in (shown.0, inr shown.1)
       ]

@@ -25,7 +25,7 @@ one_open net atoms x y h k =
 -- so there is one counterexample
 one_counter : (net : PlainNet) (a : ℕ) (r : Rel) (b : ℕ) (text line : List ℕ) → ShowsCounterexample net a r b text → ShowsCounterexample net a r b line → text ≡ line
 one_counter net a r b text line h k =
-    let least = subst (λ (x : Atom). IsLeast (points net) (λ t. Fits net t × (Satisfies t x → ⊥)) (timeline_of h.1)) (one_open net (atoms_of r a b) h.0 k.0 h.2 k.2) h.4 in
+    let least = subst (λ (x : Atom). IsLeast (points net) (λ t. Fits net t × (Satisfies t x → ⊥)) (timeline_of h.1)) (one_open net (atoms_of a r b) h.0 k.0 h.2 k.2) h.4 in
     let ranks = one_least_of (points net) (λ t. Fits net t × (Satisfies t k.0 → ⊥)) h.1 k.1 h.3 k.3 least k.4 in
     h.5.0.1 ∙ ap (λ (rs : List ℕ). claim_text (counter a r b (pairs_of rs))) ranks ∙ sym k.5.0.1
 

@@ -58,7 +58,7 @@ proofs_push net atoms walks k steps size so_far proof =
 
 -- ---- a proof, and its text
 
-module _ (net : PlainNet) (a : ℕ) (r : Rel) (b : ℕ) (is : IsNet net) (both : AreIntervals net a b) (walks : List (List Step)) (are : AreWalks net (atoms_of r a b) walks) where
+module _ (net : PlainNet) (a : ℕ) (r : Rel) (b : ℕ) (is : IsNet net) (both : AreIntervals net a b) (walks : List (List Step)) (are : AreWalks net (atoms_of a r b) walks) where
   -- walks for all orders are well-formed evidence
   pub proof_well_formed : IsWellFormed (entails a r b walks)
   proof_well_formed =
@@ -68,14 +68,14 @@ module _ (net : PlainNet) (a : ℕ) (r : Rel) (b : ℕ) (is : IsNet net) (both :
         All-from_get_or AreSteps walks [] (λ k lt.
             let proof = are.proofs k (omega (arith, lt, are.one_each)) in
             let short = All-get_or (λ (steps : List Step). length steps ≤ 2 * points net) walks k [] lt are.short in
-            (walk_numbers net (walk_at walks k) (atom_at (atoms_of r a b) k).from (atom_at (atoms_of r a b) k).to is proof.0, omega (arith, short, few))),
+            (walk_numbers net (walk_at walks k) (atom_at (atoms_of a r b) k).from (atom_at (atoms_of a r b) k).to is proof.0, omega (arith, short, few))),
         are.one_each ∙ atoms_counted r (points_of a) (points_of b),
       )
 
   -- their text tells a proof
   pub shows_proof : (text : List ℕ) → IsClaimText (entails a r b walks) text → ShowsProof net a r b text
   shows_proof text is_text =
-      let supported : IsSupported net (entails a r b walks) = (both, zip_from (IsProof net) (record { from = 0; to = 0; strict = false }) [] (atoms_of r a b) walks are.one_each are.proofs) in (
+      let supported : IsSupported net (entails a r b walks) = (both, zip_from (IsProof net) (record { from = 0; to = 0; strict = false }) [] (atoms_of a r b) walks are.one_each are.proofs) in (
         walks,
         are.short,
         (is_text, supported, supported_is_true net (entails a r b walks) supported, entails_size net a b r walks text is both are.one_each are.proofs are.short is_text),

@@ -63,7 +63,7 @@ IsFirstOpen net atoms atom = (k : ℕ) × IsFirst (length atoms) (λ k. AlwaysHo
 -- a counterexample: the least timeline that fits and in which the first open order is false
 abbrev pub ShowsCounterexample : PlainNet → ℕ → Rel → ℕ → List ℕ → Type 0
 ShowsCounterexample net a r b text =
-    (atom : Atom) × (ranks : List ℕ) × IsFirstOpen net (atoms_of r a b) atom × (length ranks ≡ points net)
+    (atom : Atom) × (ranks : List ℕ) × IsFirstOpen net (atoms_of a r b) atom × (length ranks ≡ points net)
     × IsLeast (points net) (λ t. Fits net t × (Satisfies t atom → ⊥)) (timeline_of ranks) × ShowsEvidence net (counter a r b (pairs_of ranks)) text
 
 -- the answer to what is asked of a net that some timeline fits: a proof, or a counterexample

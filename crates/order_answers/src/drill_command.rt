@@ -73,7 +73,7 @@ pub fn drill_summary(alloc: Global, n: u32) -> Result<Answer, AllocError>
     of_document(alloc, n, doc.as_slice().len(), &document)
 }
 
-/// The summary of drill `n` with this document of so many bytes.
+/// The summary of drill `n` with this document, by its number of bytes.
 fn of_document(
     alloc: Global,
     n: u32,

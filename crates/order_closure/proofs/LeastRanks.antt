@@ -77,7 +77,7 @@ module _ (n : ℕ) (cell : ℕ → ℕ → Cell) (closed : AreClosed n cell) whe
   abbrev is_before : ℕ → ℕ → Bool
   is_before p r = is_strict (cell r p)
 
-  -- the rank of a point, by chains of so many points before it at most
+  -- the rank of a point, by chains of at most this number of points before it
   rank : ℕ → Timeline
   rank zero p = 0
   rank (suc f) p = highest (is_before p) (λ r. suc (rank f r)) n

@@ -2,15 +2,16 @@
 use Rattle.std.specs.Prelude.{◌≡◌, ℕ, ◌<◌, ◌≤◌, ◌↔◌, ◌==◌, ⊤, Bool, true, false, if◌then◌else◌, List, [], map, slice_index_or}
 use Rattle.std.specs.List.{All, range_with_len}
 use Rattle.net_core.specs.Atoms.{IsInOrder, IsInRange, Satisfies}
+use Rattle.net_core.specs.Limits.{max_points}
 use Rattle.net_core.specs.Relations.{Timeline}
 use Rattle.net_core.specs.declared.atom.Atom.{Atom}
 use Rattle.order_closure.specs.Cells.{Says, joined, order, strength}
 use Rattle.order_closure.specs.declared.cell.Cell.{Cell}
 use Rattle.order_closure.specs.declared.cell.Cell.TheVariants.{Free, Weak, Strict}
 
--- the most points of a table
+-- the most points of a table: those of a net
 abbrev pub max_table_points : ℕ
-max_table_points = 2048
+max_table_points = max_points
 
 -- a number of points, and the rows of cells: the cell j of row i says how point i is before point j
 pub record Table : Type 0 where

@@ -4,16 +4,16 @@ ghost use Rattle.order_closure.specs.Tables.{max_table_points};
 ghost use Rattle.std.specs.Prelude.{IfOk, if◌then◌else◌, length, slice_index, vec_len, ℕ, ◌*◌, ◌+◌, ◌/◌, ◌<◌, ◌==◌, ◌≡◌, ◌≤◌};
 
 use crate::Cell;
-use net_core::Memory;
+use net_core::{MAX_POINTS, Memory};
 use std::alloc::Global;
 
-/// The most points of a table.
-pub const MAX_TABLE_POINTS: u32 = 2048;
+/// The most points of a table: those of a net.
+pub const MAX_TABLE_POINTS: u32 = MAX_POINTS;
 
 /// The most words of a row.
 pub const MOST_WORDS: usize = MAX_TABLE_POINTS as usize / 64;
 
-/// A plane of so many words, in which no bit is set.
+/// A plane of this number of words, in which no bit is set.
 ///
 /// # Errors
 ///

@@ -43,7 +43,7 @@ impl<T: Copy, P: PointOf<T>> Model for Index<T, P> {
 }
 
 impl<T: Copy, P: PointOf<T>> Index<T, P> {
-    /// The index of these items by this point of each, over so many points. The order of items of one point is unspecified.
+    /// The index of these items by this point of each, over this number of points. The order of items of one point is unspecified.
     ///
     /// # Errors
     ///

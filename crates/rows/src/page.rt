@@ -45,7 +45,7 @@ impl Page {
         self.number(u64::from(number));
     }
 
-    /// Something had to be left out for want of memory.
+    /// Something had to be left out: out of memory.
     pub fn out_of_memory(&mut self) {
         self.is_whole = false;
     }

@@ -38,9 +38,9 @@ named_numbers timed (Span i) c is e =
 named_numbers timed (Via link atom) c is e =
     let (a, at, same) = made constraint_by (atom_of timed.net (Link link atom)) c e in
     let net = is.net in
-    option_and_then_some (λ (l : NetLink). slice_get (atoms_of l.rel l.a l.b) atom) (slice_get timed.net.links link) a at (λ l here there.
+    option_and_then_some (λ (l : NetLink). slice_get (atoms_of l.a l.rel l.b) atom) (slice_get timed.net.links link) a at (λ l here there.
     let count = atoms_counted l.rel (points_of l.a) (points_of l.b) in
-    (omega (arith, slice_get_within timed.net.links link l here, net.few_links), omega (arith, slice_get_within (atoms_of l.rel l.a l.b) atom a there, count, few_orders l.rel)))
+    (omega (arith, slice_get_within timed.net.links link l here, net.few_links), omega (arith, slice_get_within (atoms_of l.a l.rel l.b) atom a there, count, few_orders l.rel)))
 named_numbers timed (Lower p) c is e =
     let (n, at, same) = made (λ n. at_most p (origin timed) (neg_ℤ n)) (lower_second timed p) c e in
     let net = is.net in

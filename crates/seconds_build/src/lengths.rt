@@ -84,7 +84,7 @@ fn at_most(seconds: i64) -> Limits
     }
 }
 
-/// The limits of what has this modifier, and lasts so many seconds without it.
+/// The limits of what has this modifier, and lasts this number of seconds without it.
 fn limits_by(modifier: Option<Modifier>, seconds: i64) -> Limits
     requires least { pos 0 ≤ℤ seconds }
     requires most { seconds <ℤ pos max_length }

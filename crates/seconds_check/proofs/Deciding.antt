@@ -34,7 +34,7 @@ all_kept seconds (atom ∷ atoms) = Dec.and (in_order atom.strict (second_at sec
 pub keeps_link : (seconds : List ℤ) (link : NetLink) → Dec (KeepsLink seconds link)
 keeps_link seconds link =
     let relation = relation_by_orders seconds link in
-    elim (all_kept seconds (atoms_of link.rel link.a link.b)) [
+    elim (all_kept seconds (atoms_of link.a link.rel link.b)) [
       | yes kept ↦ yes (relation.1 kept)
       | no broken ↦ no (λ keeps. broken (relation.0 keeps))
     ]

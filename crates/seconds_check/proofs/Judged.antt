@@ -36,7 +36,7 @@ module _ (timed : PlainTimed) where
     ]
   ]
 
-  -- so many pairs of seconds
+  -- the number of pairs of seconds
   placed_or_not : (seconds : List ℤ) → length seconds % 2 ≡ 0 → OrReason (IsPlaced timed seconds) (IsMisplaced timed seconds)
   placed_or_not seconds even = elim (ℕ_discrete (length seconds / 2) (intervals timed.net)) [
     | yes same ↦ sized seconds (omega (arith, even, same))

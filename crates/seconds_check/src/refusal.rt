@@ -3,7 +3,7 @@
 /// Why evidence of seconds is refused: the first thing that is not as it should be, in the order of these reasons.
 #[derive(Clone, Copy, Debug, PartialEq, Eq)]
 pub enum SecondsReason {
-    /// The placing is of so many intervals, and the net has another number.
+    /// The placing is of this number of intervals, and the net has another.
     Size { size: u32 },
     /// The first interval whose start is not before its end.
     Order { interval: u32 },

@@ -40,10 +40,10 @@ module _ (timed : PlainTimed) (seconds : List ℤ) where
       subst (IsMet seconds) both.1 (omega (arith, ints, placed.order i lt))
   met is placed (Via k j) c e =
       let (a, at, same) = made constraint_by (atom_of timed.net (Link k j)) c e in
-      option_and_then_some (λ (l : NetLink). slice_get (atoms_of l.rel l.a l.b) j) (slice_get timed.net.links k) a at (λ l here there.
+      option_and_then_some (λ (l : NetLink). slice_get (atoms_of l.a l.rel l.b) j) (slice_get timed.net.links k) a at (λ l here there.
       let link = get_or_from_slice_get timed.net.links k l (record { a = 0; rel = rel.Before; b = 0 }) here in
       let keeps = (relation_by_orders seconds l).0 (subst (KeepsLink seconds) link (placed.links k (slice_get_within timed.net.links k l here))) in
-      let order = one_of_all (KeepsOrder seconds) (atoms_of l.rel l.a l.b) j a (All-from_recursion (KeepsOrder seconds) (atoms_of l.rel l.a l.b) keeps) there in
+      let order = one_of_all (KeepsOrder seconds) (atoms_of l.a l.rel l.b) j a (All-from_recursion (KeepsOrder seconds) (atoms_of l.a l.rel l.b) keeps) there in
       subst (IsMet seconds) same ((order_met a.strict (second_at seconds a.from) (second_at seconds a.to)).0 order))
   met is placed (Lower p) c e =
       let (n, at, same) = made (λ n. at_most p (origin timed) (neg_ℤ n)) (lower_second timed p) c e in
@@ -75,9 +75,9 @@ module _ (timed : PlainTimed) (seconds : List ℤ) where
     links = λ k lt.
         let l = link_at timed.net k in
         let at : slice_get timed.net.links k ≡ Some l = slice_get-get_or timed.net.links k (record { a = 0; rel = rel.Before; b = 0 }) lt in
-        (relation_by_orders seconds l).1 (recursion_from_All (KeepsOrder seconds) (atoms_of l.rel l.a l.b) (All-from_get_or (KeepsOrder seconds) (atoms_of l.rel l.a l.b) (before 0 0) (λ j lj.
-        let a = get_or (atoms_of l.rel l.a l.b) j (before 0 0) in
-        (order_met a.strict (second_at seconds a.from) (second_at seconds a.to)).1 (meets (Via k j) (constraint_by a) (rw at (rw (slice_get-get_or (atoms_of l.rel l.a l.b) j (before 0 0) lj) refl))))));
+        (relation_by_orders seconds l).1 (recursion_from_All (KeepsOrder seconds) (atoms_of l.a l.rel l.b) (All-from_get_or (KeepsOrder seconds) (atoms_of l.a l.rel l.b) (before 0 0) (λ j lj.
+        let a = get_or (atoms_of l.a l.rel l.b) j (before 0 0) in
+        (order_met a.strict (second_at seconds a.from) (second_at seconds a.to)).1 (meets (Via k j) (constraint_by a) (rw at (rw (slice_get-get_or (atoms_of l.a l.rel l.b) j (before 0 0) lj) refl))))));
     bounds = λ p lt. (
       each (λ m. m ≤ℤ second_at seconds p) (lower_second timed p) (λ n at. omega (arith, ints, zero, meets (Lower p) (at_most p (origin timed) (neg_ℤ n)) (ap (option_map (λ m. at_most p (origin timed) (neg_ℤ m))) at))),
       each (λ m. second_at seconds p ≤ℤ m) (upper_second timed p) (λ n at. omega (arith, ints, zero, meets (Upper p) (at_most (origin timed) p n) (ap (option_map (λ m. at_most (origin timed) p m)) at))),

@@ -32,7 +32,7 @@ three p q r = (λ h. (p.0 h.0, q.0 h.1, r.0 h.2), λ h. (p.1 h.0, q.1 h.1, r.1 h
 pub seconds_say_the_relation : SecondsSayTheRelation
 seconds_say_the_relation first seconds t link (s, e) (u, v) = by link.rel
   where
-    by : (r : Rel) → KeepsLink seconds (record { a = link.a; rel = r; b = link.b }) ↔ Relates t r link.a link.b
+    by : (r : Rel) → KeepsLink seconds (record { a = link.a; rel = r; b = link.b }) ↔ Relates t link.a r link.b
     by rel.Before = lt _ _ _ _ _ e u
     by rel.After = lt _ _ _ _ _ v s
     by rel.Includes = two (lt _ _ _ _ _ s u) (lt _ _ _ _ _ v e)

@@ -14,7 +14,7 @@ use Rattle.seconds_core.specs.Timed.{PlainTimed, limits_at, lower_second, max_se
 abbrev pub IsMet : List ℤ → Constraint → Type 0
 IsMet seconds c = second_at seconds c.to ≤ℤ (second_at seconds c.from +ℤ c.weight)
 
--- point `to` is at most so many seconds after point `from`
+-- point `to` is at most this number of seconds after point `from`
 abbrev pub at_most : ℕ → ℕ → ℤ → Constraint
 at_most from to weight = record { from = from; to = to; weight = weight }
 

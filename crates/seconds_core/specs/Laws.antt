@@ -17,7 +17,7 @@ Counts first seconds t i = (start_at seconds i ≡ first +ℤ pos (t (2 * i))) �
 
 -- the law: a link holds of the seconds of its intervals exactly where its relation holds in a timeline that counts them
 abbrev pub SecondsSayTheRelation : Type 0
-SecondsSayTheRelation = (first : ℤ) (seconds : List ℤ) (t : Timeline) (link : NetLink) → Counts first seconds t link.a → Counts first seconds t link.b → KeepsLink seconds link ↔ Relates t link.rel link.a link.b
+SecondsSayTheRelation = (first : ℤ) (seconds : List ℤ) (t : Timeline) (link : NetLink) → Counts first seconds t link.a → Counts first seconds t link.b → KeepsLink seconds link ↔ Relates t link.a link.rel link.b
 
 -- the law: from some second on, some timeline counts the seconds of all intervals
 abbrev pub SecondsAreCounted : Type 0

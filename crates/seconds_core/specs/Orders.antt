@@ -16,4 +16,4 @@ KeepsOrder seconds atom = AreInOrder atom.strict (second_at seconds atom.from) (
 
 -- each order that the relation of a link is, is kept
 abbrev pub KeepsOrders : List ℤ → NetLink → Type 0
-KeepsOrders seconds link = AllByRecursion (KeepsOrder seconds) (atoms_of link.rel link.a link.b)
+KeepsOrders seconds link = AllByRecursion (KeepsOrder seconds) (atoms_of link.a link.rel link.b)

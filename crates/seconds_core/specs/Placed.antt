@@ -2,7 +2,7 @@
 use Rattle.std.specs.Prelude.{◌≡◌, ℕ, ◌+◌, ◌*◌, ◌<◌, ℤ, pos, ◌-ℤ◌, ◌<ℤ◌, ◌≤ℤ◌, List, length, Option, IfSome, slice_index_or}
 use Rattle.net_core.specs.Nets.{intervals, link_at, points}
 use Rattle.net_core.specs.declared.net.NetLink.{NetLink}
-use Rattle.seconds_core.specs.Relations.{Holds}
+use Rattle.seconds_core.specs.Relations.{HoldsInSeconds}
 use Rattle.seconds_core.specs.Timed.{PlainTimed, limits_at, lower_second, upper_second}
 
 -- the second of a point; that of the origin, which is past them all, is 0
@@ -18,7 +18,7 @@ end_at seconds i = second_at seconds (2 * i + 1)
 
 -- the relation of a link holds of its intervals
 abbrev pub KeepsLink : List ℤ → NetLink → Type 0
-KeepsLink seconds link = Holds link.rel (start_at seconds link.a) (end_at seconds link.a) (start_at seconds link.b) (end_at seconds link.b)
+KeepsLink seconds link = HoldsInSeconds (start_at seconds link.a) (end_at seconds link.a) link.rel (start_at seconds link.b) (end_at seconds link.b)
 
 -- the interval starts before it ends
 abbrev pub StartsFirst : List ℤ → ℕ → Type 0

@@ -24,7 +24,7 @@ pub enum Line {
     Most { interval: u32 },
 }
 
-/// Point `to` is at most `weight` seconds after point `from`, or where that is negative at least so many before it.
+/// Point `to` is at most `weight` seconds after point `from`, or where that is negative at least as many before it.
 #[derive(Clone, Copy, Debug, PartialEq, Eq)]
 pub struct Constraint {
     pub from: u32,

@@ -50,7 +50,7 @@ head_is (Cycle lines) h = h.1
 
 -- ---- placings
 
--- the seconds of so many intervals, by their lines
+-- the seconds of this number of intervals, by their lines
 abbrev HasPairs : ℕ → List (ℤ × ℤ) → Lines → Type 0
 HasPairs n = AreMany IsPair (λ pair. at_line pair ∷ []) n
 
@@ -58,7 +58,7 @@ HasPairs n = AreMany IsPair (λ pair. at_line pair ∷ []) n
 exact_pair : Exact (Has IsPair (λ pair. at_line pair ∷ [])) (λ rest. line_at pair_of rest)
 exact_pair = exact_form at_line IsPair pair_of (pos 0, pos 0) (record { sfits = omega arith }, record { sfits = omega arith }) pair_form
 
--- the seconds of so many intervals are a placing
+-- the seconds of this number of intervals are a placing
 exact_placing : (n : ℕ) → IsNumber n → Exact (HasRest (head.Placing n)) (rest_at (head.Placing n))
 unfolding rest_at
 exact_placing n small =
@@ -78,7 +78,7 @@ exact_placing n small =
 
 -- ---- cycles
 
--- so many lines of a cycle
+-- this number of lines of a cycle
 abbrev HasCycle : ℕ → List Line → Lines → Type 0
 HasCycle n = AreMany HasNumbers (λ line. cycle_line line ∷ []) n
 
@@ -86,7 +86,7 @@ HasCycle n = AreMany HasNumbers (λ line. cycle_line line ∷ []) n
 exact_cycle_line : Exact (Has HasNumbers (λ line. cycle_line line ∷ [])) (λ rest. line_at cycle_line_of rest)
 exact_cycle_line = exact_form cycle_line HasNumbers cycle_line_of (Span 0) (omega arith) cycle_line_form
 
--- so many lines are a cycle
+-- this number of lines are a cycle
 exact_cycle : (n : ℕ) → IsNumber n → Exact (HasRest (head.Cycle n)) (rest_at (head.Cycle n))
 unfolding rest_at
 exact_cycle n small =

@@ -12,7 +12,7 @@ use net_core::List;
 use seconds_core::{Cycle, Line};
 use std::alloc::Global;
 
-/// So many lines, and what follows them.
+/// This number of lines, and what follows them.
 pub fn cycle_at<'t>(
     alloc: Global,
     count: u32,
@@ -24,7 +24,7 @@ pub fn cycle_at<'t>(
     Ok((Cycle::from_vec(lines.into_vec()), rest))
 }
 
-/// So many lines, and what follows them. Nothing is reserved by the count, which comes from a stranger.
+/// This number of lines, and what follows them. Nothing is reserved by the count, which comes from a stranger.
 fn lines_at<'t>(
     alloc: Global,
     count: u32,

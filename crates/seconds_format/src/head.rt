@@ -10,9 +10,9 @@ use evidence_format::line_texts::{Stop, next_line, one_of};
 /// The kind of evidence, with what its line says.
 #[derive(Clone, Copy)]
 pub enum Head {
-    /// A placing of so many intervals.
+    /// A placing of this number of intervals.
     Placing { intervals: u32 },
-    /// A cycle of so many lines.
+    /// A cycle of this number of lines.
     Cycle { lines: u32 },
 }
 

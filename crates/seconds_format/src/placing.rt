@@ -14,7 +14,7 @@ use net_core::{List, Memory};
 use seconds_core::Placing;
 use std::alloc::Global;
 
-/// The placing of so many intervals, and what follows it.
+/// The placing of this number of intervals, and what follows it.
 pub fn placing_at<'t>(
     alloc: Global,
     count: u32,
@@ -27,7 +27,7 @@ pub fn placing_at<'t>(
     Ok((Placing::from_vec(seconds.into_vec()), rest))
 }
 
-/// The seconds of so many intervals, and what follows them. Nothing is reserved by the count, which comes from a
+/// The seconds of this number of intervals, and what follows them. Nothing is reserved by the count, which comes from a
 /// stranger.
 fn pairs_at<'t>(
     alloc: Global,

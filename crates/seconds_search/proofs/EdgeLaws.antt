@@ -63,14 +63,14 @@ all_covered Kind timed a b n k g before here j lt = elim (cases_lt j k) [
 -- a relation is four orders at most, so that a line with another number names no constraint
 via_past : (timed : PlainTimed) (link atom : ℕ) → 4 ≤ atom → constraint_of timed (Via link atom) ≡ None
 via_past timed link atom le = none_made constraint_by (atom_of timed.net (Link link atom)) (λ a is.
-    option_and_then_some (λ (l : NetLink). slice_get (atoms_of l.rel l.a l.b) atom) (slice_get timed.net.links link) a is (λ l at here.
-    let within = slice_get_within (atoms_of l.rel l.a l.b) atom a here in
+    option_and_then_some (λ (l : NetLink). slice_get (atoms_of l.a l.rel l.b) atom) (slice_get timed.net.links link) a is (λ l at here.
+    let within = slice_get_within (atoms_of l.a l.rel l.b) atom a here in
     let count = atoms_counted l.rel (points_of l.a) (points_of l.b) in
     omega (arith, le, within, count, few_orders l.rel)))
 
 link_past : (timed : PlainTimed) (link atom : ℕ) → length timed.net.links ≤ link → constraint_of timed (Via link atom) ≡ None
 link_past timed link atom le = none_made constraint_by (atom_of timed.net (Link link atom)) (λ a is.
-    option_and_then_some (λ (l : NetLink). slice_get (atoms_of l.rel l.a l.b) atom) (slice_get timed.net.links link) a is (λ l at here.
+    option_and_then_some (λ (l : NetLink). slice_get (atoms_of l.a l.rel l.b) atom) (slice_get timed.net.links link) a is (λ l at here.
     omega (arith, le, slice_get_within timed.net.links link l at)))
 
 -- a line that names no constraint has none to cover

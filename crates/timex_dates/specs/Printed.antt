@@ -9,7 +9,7 @@ use Rattle.timex_dates.specs.declared.civil.CivilText.{CivilText}
 abbrev pub civil_year : ℕ → List ℕ
 civil_year y = if nat_lt y 10_000 then digits4 y else codes "1" ++ digits4 (y - 10_000)
 
--- year, month, day, and the time that is so many seconds into the day
+-- year, month, day, and the time that is this number of seconds into the day
 abbrev pub printed : ℕ → ℕ → ℕ → ℕ → List ℕ
 printed y m d clock =
     civil_year y ++ codes "-" ++ digits2 m ++ codes "-" ++ digits2 d

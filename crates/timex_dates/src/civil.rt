@@ -32,7 +32,7 @@ impl CivilText {
         }
     }
 
-    /// The text of a date and of the time that is so many seconds into the day.
+    /// The text of a date and of the time that is this number of seconds into the day.
     pub(crate) fn new(year: u16, month: u8, day: u8, clock: u32) -> CivilText
         requires year { year ≤ 10_000 }
         requires month { month ≤ 99 }

@@ -17,7 +17,7 @@ pub(crate) struct Interval {
     pub hi: i64,
 }
 
-/// From the start of a day up to so many days after the start of another one.
+/// From the start of a day up to a number of days after the start of another one.
 fn days_to(first: i64, last: i64, count: u8) -> Interval
     requires first { IsDayNumber first }
     requires last { IsDayNumber last }
@@ -33,7 +33,7 @@ fn days_to(first: i64, last: i64, count: u8) -> Interval
     }
 }
 
-/// So many days, from so many days after the first.
+/// A number of days, from a number of days after the first.
 fn days_after(first: i64, skip: u16, count: u8) -> Interval
     requires first { IsDayNumber first }
     requires end { (first +ℤ pos (skip + count)) ≤ℤ pos 2_932_899 }
@@ -48,7 +48,7 @@ fn days_after(first: i64, skip: u16, count: u8) -> Interval
     }
 }
 
-/// So many seconds, from so many seconds after the start of a day.
+/// A number of seconds, from a number of seconds after the start of a day.
 fn part_of_day(number: i64, from: u32, size: u16) -> Interval
     requires number { IsDayNumber number }
     requires from { from ≤ 90_000 }

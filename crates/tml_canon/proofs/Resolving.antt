@@ -31,7 +31,7 @@ taken_alike : (first before : List PlainTyped) (o : Option (List ℕ)) → AllZi
 taken_alike first before None h = refl
 taken_alike first before (Some id) h = pairs_any SayOne (has_id id) (has_id id) (by_content (has_id id) (λ t. refl)) first before h
 
--- so many tags before a tag pass a test that it passes, and so many before the other
+-- how many tags before a tag pass a test that it passes, and how many before the other
 limit_alike : (p : PlainTyped → Bool) (most : ℕ) → ((t : PlainTyped) → p t ≡ p (record { place = 0; content = t.content })) → (first before : List PlainTyped) (t u : PlainTyped) → AllZip SayOne first before → SayOne t u
     → (p t && count_by p first == most) ≡ (p u && count_by p before == most)
 limit_alike p most same first before t u h e = λ i. by_content p same t u e i && pairs_count SayOne p p (by_content p same) first before h i == most

@@ -50,7 +50,7 @@ fn text_of(alloc: Global, doc: &[u8]) -> Result<Vec<u8>, AllocError>
                 let text = writer.finish()?;
                 return Ok(text);
             }
-            // The document has no fault, so this is want of memory.
+            // The document has no fault, so this is out of memory.
             Err(_) => return Err(AllocError),
         }
     }

@@ -56,15 +56,15 @@ least_or_none n cell closed (atom ∷ atoms) inside = elim (denies_or_not (cell 
 module _ (n : ℕ) (cell : ℕ → ℕ → Cell) (closed : AreClosed n cell) (a b : ℕ) (fa : 2 * a + 1 < n) (fb : 2 * b + 1 < n) where
   -- a timeline keeps the cells and has the relation
   abbrev pub KeepsWith : Rel → Timeline → Type 0
-  KeepsWith r t = AreCellsKept n cell t × Relates t r a b
+  KeepsWith r t = AreCellsKept n cell t × Relates t a r b
 
   pub relation_or_none : (r : Rel) → ((ranks : List ℕ) × AreLeast n (KeepsWith r) ranks) ⊎ ((t : Timeline) → KeepsWith r t → ⊥)
   relation_or_none r =
       let between = atom_between (points_of a) (points_of b) in
       let inside = (all_mapped (IsInRange n) between (orders_of r)).0 (all_each (λ order. IsInRange n (between order)) (order_inside n a b fa fb) (orders_of r)) in
       let says = λ (t : Timeline). atoms_say_the_relation t r a b in
-      elim (least_or_none n cell closed (atoms_of r a b) inside) [
-        | inl found ↦ inl (found.0, same_ranks n (KeepsAnd n cell (atoms_of r a b)) (KeepsWith r) found.0 (λ t. (λ h. (h.0, (says t).1 h.1), λ h. (h.0, (says t).0 h.1))) found.1)
+      elim (least_or_none n cell closed (atoms_of a r b) inside) [
+        | inl found ↦ inl (found.0, same_ranks n (KeepsAnd n cell (atoms_of a r b)) (KeepsWith r) found.0 (λ t. (λ h. (h.0, (says t).1 h.1), λ h. (h.0, (says t).0 h.1))) found.1)
         | inr none ↦ inr (λ t h. none t (h.0, (says t).0 h.1))
       ]
 

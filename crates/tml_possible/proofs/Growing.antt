@@ -85,17 +85,17 @@ all_taken P set new rels e more r = (
 
 -- the relation holds of ranks with a number below this one, which the cells allow
 abbrev HoldsBelow : Table → ℕ → ℕ → ℕ → Rel → Type 0
-HoldsBelow table a b code r = (n : ℕ) × (n < code) × AreKeptAmong table a b (ranks_of n).0 (ranks_of n).1 × Holds r (ranks_of n).0 (ranks_of n).1
+HoldsBelow table a b code r = (n : ℕ) × (n < code) × AreKeptAmong table a b (ranks_of n).0 (ranks_of n).1 × Holds (ranks_of n).0 r (ranks_of n).1
 
 module _ (table : Table) (a b code : ℕ) (set : BaseSet) (so_far : IsSetOf (HoldsBelow table a b code) set) where
-  pub kept_next : (new : BaseSet) → AreKeptAmong table a b (ranks_of code).0 (ranks_of code).1 → AreMore set (λ r. Holds r (ranks_of code).0 (ranks_of code).1) new → IsSetOf (HoldsBelow table a b (code + 1)) new
+  pub kept_next : (new : BaseSet) → AreKeptAmong table a b (ranks_of code).0 (ranks_of code).1 → AreMore set (λ r. Holds (ranks_of code).0 r (ranks_of code).1) new → IsSetOf (HoldsBelow table a b (code + 1)) new
   kept_next new kept more r = (
     λ h. elim ((more r).0 h) [
       | inl before ↦ let (base, (n, lt, kept, holds)) = (so_far r).0 before in (base, (n, omega (arith, lt), kept, holds))
       | inr here ↦ (here.0, (code, omega arith, kept, here.1))
     ],
     λ h. (more r).1 (elim (cases_eq h.1.0 code) [
-      | inl same ↦ inr (h.0, subst (λ (n : ℕ). Holds r (ranks_of n).0 (ranks_of n).1) same h.1.3)
+      | inl same ↦ inr (h.0, subst (λ (n : ℕ). Holds (ranks_of n).0 r (ranks_of n).1) same h.1.3)
       | inr other ↦ inl ((so_far r).1 (h.0, (h.1.0, omega (arith, h.1.1, other), h.1.2, h.1.3)))
     ]),
   )

@@ -36,7 +36,7 @@ pub record LieAlike (x y u v : Ends) : Type 0 where
   pub finishes : Alike x.finish y.finish u.finish v.finish
 
 abbrev LieAsExample : Ends → Ends → Rel → Type 0
-LieAsExample x y r = Holds r x y → LieAlike x y (example r).0 (example r).1
+LieAsExample x y r = Holds x r y → LieAlike x y (example r).0 (example r).1
 
 module _ (x y : Ends) (ix : IsInterval x) (iy : IsInterval y) where
   lies_before : LieAsExample x y rel.Before
@@ -81,7 +81,7 @@ module _ (x y : Ends) (ix : IsInterval x) (iy : IsInterval y) where
   each_lies : AllByRecursion (LieAsExample x y) base_rels
   each_lies = (lies_before, (lies_after, (lies_including, (lies_included, (lies_equal, (lies_meeting, (lies_met, (lies_starting, (lies_started, (lies_finishing, (lies_finished, (lies_overlapping, (lies_overlapped, tt)))))))))))))
 
-  pub lie_as_example : (r : Rel) → Contains base_rels r → Holds r x y → LieAlike x y (example r).0 (example r).1
+  pub lie_as_example : (r : Rel) → Contains base_rels r → Holds x r y → LieAlike x y (example r).0 (example r).1
   lie_as_example r is = All-contains (LieAsExample x y) base_rels r (All-from_recursion (LieAsExample x y) base_rels each_lies) is
 
 -- of intervals that lie alike the same orders are true
@@ -124,11 +124,11 @@ examples_are_intervals rel.Overlaps = (omega arith, omega arith)
 examples_are_intervals rel.OverlappedBy = (omega arith, omega arith)
 
 -- and has its relation
-pub examples_hold : (r : Rel) → Contains base_rels r → Holds r (example r).0 (example r).1
+pub examples_hold : (r : Rel) → Contains base_rels r → Holds (example r).0 r (example r).1
 examples_hold r is = All-contains HoldsOfExample base_rels r (All-from_recursion HoldsOfExample base_rels each) is
   where
     HoldsOfExample : Rel → Type 0
-    HoldsOfExample r = Holds r (example r).0 (example r).1
+    HoldsOfExample r = Holds (example r).0 r (example r).1
 
     each : AllByRecursion HoldsOfExample base_rels
     each = (omega arith, (omega arith, ((omega arith, omega arith), ((omega arith, omega arith), ((refl, refl), (refl, (refl, ((refl, omega arith), ((refl, omega arith), ((refl, omega arith), ((refl, omega arith), ((omega arith, omega arith, omega arith), ((omega arith, omega arith, omega arith), tt)))))))))))))

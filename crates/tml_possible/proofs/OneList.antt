@@ -44,8 +44,8 @@ module _ (n : ℕ) (P : Timeline → Type 0) (a b : ℕ) where
       let rest : rels_of items ≡ rels_of others = cc in
       let here = All-head (IsShown n P a b) item items shown in
       let there = All-head (IsShown n P a b) other others too in
-      let moved : AreLeast n (λ t. P t × Relates t other.rel a b) item.ranks = subst (λ (r : Rel). AreLeast n (λ t. P t × Relates t r a b) item.ranks) same here in
-      let ranks = one_least_of n (λ t. P t × Relates t other.rel a b) item.ranks other.ranks moved.size there.size moved.least there.least in
+      let moved : AreLeast n (λ t. P t × Relates t a other.rel b) item.ranks = subst (λ (r : Rel). AreLeast n (λ t. P t × Relates t a r b) item.ranks) same here in
+      let ranks = one_least_of n (λ t. P t × Relates t a other.rel b) item.ranks other.ranks moved.size there.size moved.least there.least in
       let more = same_items items others rest (All-tail (IsShown n P a b) item items shown) (All-tail (IsShown n P a b) other others too) in
       λ i. record { rel = same i; ranks = ranks i } ∷ more i
 
@@ -63,5 +63,5 @@ module _ (n : ℕ) (P : Timeline → Type 0) (a b : ℕ) where
       ),
       are.relations.2,
     );
-    shown = All-weaker (IsShown n P a b) (IsShown n Q a b) (λ item. same_ranks n (λ t. P t × Relates t item.rel a b) (λ t. Q t × Relates t item.rel a b) item.ranks (λ t. (λ h. ((same t).0 h.0, h.1), λ h. ((same t).1 h.0, h.1)))) items are.shown;
+    shown = All-weaker (IsShown n P a b) (IsShown n Q a b) (λ item. same_ranks n (λ t. P t × Relates t a item.rel b) (λ t. Q t × Relates t a item.rel b) item.ranks (λ t. (λ h. ((same t).0 h.0, h.1), λ h. ((same t).1 h.0, h.1)))) items are.shown;
   }

@@ -60,7 +60,7 @@ module _ (a b : ℕ) where
     order_there (BBefore p q) h = (alike _ _ (of_second p) (of_first q)).0 h
     order_there (BNoLater p q) h = no_later_there _ _ (of_second p) (of_first q) h
 
-    pub related_alike : (r : Rel) → Relates s r a b → Relates t r a b
+    pub related_alike : (r : Rel) → Relates s a r b → Relates t a r b
     related_alike r h =
         let between = atom_between (points_of a) (points_of b) in
         let HoldsIn : Timeline → PairOrder → Type 0 = λ u order. Satisfies u (between order) in
@@ -129,9 +129,9 @@ module _ (table : Table) (a b : ℕ) (closed : IsClosed table) (fa : 2 * a + 1 <
             (λ q. rw (on_second p, on_first q) (kept.back p q)) (λ q. rw (on_second p, on_second q) (kept.second p q)) j cj
 
     -- so a relation that holds of them can hold
-    pub can_hold : (r : Rel) → Holds r x y → CanHold table a r b
+    pub can_hold : (r : Rel) → Holds x r y → CanHold table a r b
     can_hold r holds =
-        let here : Relates placed r a b = subst (λ (e : Ends × Ends). Holds r e.0 e.1) (λ i. (sym ends_first i, sym ends_second i)) holds in
+        let here : Relates placed a r b = subst (λ (e : Ends × Ends). Holds e.0 r e.1) (λ i. (sym ends_first i, sym ends_second i)) holds in
         let (t, keeps_all, alike) = chosen_points_decide table (four_points a b) placed closed (λ k d lt. in_table (get_or (four_points a b) k d) (Contains-get_or (four_points a b) k d lt)) keeps in
         (t, keeps_all, related_alike a b placed t alike r here)
       where

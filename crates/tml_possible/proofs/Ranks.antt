@@ -119,8 +119,8 @@ module _ (t : Timeline) (a b : ℕ) where
           λ i. (record { start = first i; finish = second i }, record { start = third i; finish = fourth i })
 
   -- so a timeline that keeps a table is found among them
-  pub found : (table : Table) → 2 * a + 1 < table.points → 2 * b + 1 < table.points → Keeps table t → (r : Rel) → Relates t r a b
-      → (n : ℕ) × (n < 256) × AreKeptAmong table a b (ranks_of n).0 (ranks_of n).1 × Holds r (ranks_of n).0 (ranks_of n).1
+  pub found : (table : Table) → 2 * a + 1 < table.points → 2 * b + 1 < table.points → Keeps table t → (r : Rel) → Relates t a r b
+      → (n : ℕ) × (n < 256) × AreKeptAmong table a b (ranks_of n).0 (ranks_of n).1 × Holds (ranks_of n).0 r (ranks_of n).1
   found table fa fb kept r holds = (
     code,
     omega (arith, rank_small (2 * a) (of_first a b Start), rank_small (2 * a + 1) (of_first a b Finish), rank_small (2 * b) (of_second a b Start), rank_small (2 * b + 1) (of_second a b Finish)),
@@ -130,7 +130,7 @@ module _ (t : Timeline) (a b : ℕ) where
       back = λ p q. moved b a p q (of_second a b p) fb fa;
       second = λ p q. moved b b p q (of_second a b p) fb fb;
     }),
-    subst (λ (e : Ends × Ends). Holds r e.0 e.1) (sym ranks_are) (related_alike a b t ranked ranked_alike r holds),
+    subst (λ (e : Ends × Ends). Holds e.0 r e.1) (sym ranks_are) (related_alike a b t ranked ranked_alike r holds),
   )
     where
       inside : (i : ℕ) (p : End) → 2 * i + 1 < table.points → point_in (points_of i) p < table.points

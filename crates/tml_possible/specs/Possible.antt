@@ -13,7 +13,7 @@ use Rattle.tml_possible.specs.declared.timelines.PossibleItem.{PossibleItem}
 
 -- the relation holds between intervals a and b in some timeline that has a property
 abbrev pub HoldsInSome : (Timeline → Type 0) → ℕ → Rel → ℕ → Type 0
-HoldsInSome P a r b = (t : Timeline) × P t × Relates t r a b
+HoldsInSome P a r b = (t : Timeline) × P t × Relates t a r b
 
 -- it can be, by a net: some timeline that fits has it
 abbrev pub CanBe : PlainNet → ℕ → Rel → ℕ → Type 0
@@ -37,7 +37,7 @@ rels_of items = map (λ (item : PossibleItem). item.rel) items
 
 -- the ranks of the item are the least timeline that has a property and in which the relation of the item holds
 abbrev pub IsShown : ℕ → (Timeline → Type 0) → ℕ → ℕ → PossibleItem → Type 0
-IsShown n P a b item = AreLeast n (λ t. P t × Relates t item.rel a b) item.ranks
+IsShown n P a b item = AreLeast n (λ t. P t × Relates t a item.rel b) item.ranks
 
 -- an item for each base relation that holds between intervals a and b in some timeline that has a property, in their order, each with the least such timeline
 pub record AreShown (n : ℕ) (P : Timeline → Type 0) (a b : ℕ) (items : List PossibleItem) : Type 0 where
@@ -51,7 +51,7 @@ AreSome rels (base ∷ bases) = AreSome rels bases ⊎ ((rest : List Rel) × (re
 
 -- the ranks of the item fit the net, and its relation holds in them between intervals a and b
 abbrev pub IsTrueItem : PlainNet → ℕ → ℕ → PossibleItem → Type 0
-IsTrueItem net a b item = RanksFit net item.ranks × Relates (timeline_of item.ranks) item.rel a b
+IsTrueItem net a b item = RanksFit net item.ranks × Relates (timeline_of item.ranks) a item.rel b
 
 -- base relations, each after the one before it in their order, with timelines that fit and in which they hold
 abbrev pub AreTrueItems : PlainNet → ℕ → ℕ → List PossibleItem → Type 0

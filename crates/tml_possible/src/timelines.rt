@@ -58,7 +58,7 @@ fn least_with(alloc: Global, closed: &Closed, a: u32, rel: Rel, b: u32) -> Resul
     requires a { 2 * a < closed.now.points }
     requires b { 2 * b < closed.now.points }
     requires can { CanHold closed.now a rel b }
-    ensures { IfOk result (AreLeast closed.now.points (λ t. Keeps closed.now t × Relates t rel a b)) }
+    ensures { IfOk result (AreLeast closed.now.points (λ t. Keeps closed.now t × Relates t a rel b)) }
 {
     let mut table = closed.copy(alloc)?;
     raise(&mut table, a, rel, b);
@@ -72,7 +72,7 @@ fn raise(table: &mut Closed, a: u32, rel: Rel, b: u32)
     requires b { 2 * b < table.old.points }
     requires can { CanHold table.old a rel b }
     ensures points { table.new.points ≡ table.old.points }
-    ensures kept { (t : Timeline) → Keeps table.new t ↔ (Keeps table.old t × Relates t rel a b) }
+    ensures kept { (t : Timeline) → Keeps table.new t ↔ (Keeps table.old t × Relates t a rel b) }
 {
     prove!(table.points() <= MAX_TABLE_POINTS);
     let atoms = atoms_of(rel, a, b);

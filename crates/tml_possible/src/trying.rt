@@ -87,7 +87,7 @@ fn is_true(cell: Cell, first: u32, second: u32) -> bool
 
 /// A set with the base relations that hold between two intervals as well.
 fn with_holding(set: BaseSet, of_a: Ends, of_b: Ends) -> BaseSet
-    ensures { AreMore set (λ r. Holds r of_a of_b) result }
+    ensures { AreMore set (λ r. Holds of_a r of_b) result }
 {
     let mut more = set;
     for rel in Rel::all() {

@@ -103,7 +103,7 @@ is_unlisted entries r = not (is_listed entries r)
 abbrev pub is_either_unlisted : List Entry → Reference → Reference → Bool
 is_either_unlisted entries r other = is_unlisted entries r || is_unlisted entries other
 
--- so many intervals stand before a tag that a reference asks for
+-- the number of intervals before a tag that a reference asks for
 abbrev pub HasNumber : List Entry → Reference → ℕ → Type 0
 HasNumber entries r number = (e : Entry) × Contains entries e × (is_for r e ≡ true) × (e.number ≡ number)
 

@@ -36,7 +36,7 @@ pub enum Line<'t> {
     },
     /// A line of the text of a file or an answer.
     Text(Piece<'t>),
-    /// The text of the file of that name, or so many of its first bytes.
+    /// The text of the file of that name, or this number of its first bytes.
     TextOf {
         name: &'t str,
         most: Option<u32>,

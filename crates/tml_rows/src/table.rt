@@ -169,7 +169,7 @@ impl Table {
         Ok(())
     }
 
-    /// Appends the text of the last file of that name, or so many of its first bytes.
+    /// Appends the text of the last file of that name, or this number of its first bytes.
     fn append_file(&self, bytes: &mut Vec<u8>, name: &str, most: Option<u32>) -> Result<()> {
         for file in self.files.iter().rev() {
             if file.name.as_str() == name {

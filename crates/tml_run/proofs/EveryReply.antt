@@ -17,7 +17,7 @@ use Rattle.tml_run.proofs.OneReply.{one_reply}
 abbrev HasReply : Files → Rows → Type 0
 HasReply files rows = (status : Status) × (text : List ℕ) × (taken : ℕ) × (is_broken_off status ≡ false) × Replies (Some files) rows status text taken
 
--- rows after which something comes next, which read no more than so many files, and whose answers are not broken off
+-- rows after which something comes next, which read no more than a number of files, and whose answers are not broken off
 record AreWhole (most : ℕ) (rows : Rows) : Type 0 where
   next : HasNext rows
   few : (contents : List (List ℕ)) (file : File) → rows contents (reads file) → length contents < most

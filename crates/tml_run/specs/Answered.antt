@@ -9,7 +9,7 @@ use Rattle.tml_run.specs.Rows.{File, Rows, answers, reads}
 abbrev pub Freedom : Type 1
 Freedom = List (List ℕ) → Status → Type 0
 
--- After what was read one thing comes next, and something does; so many files are read at most; no answer is broken off; and an answer has one text where it is not free.
+-- After what was read one thing comes next, and something does; at most this number of files are read; no answer is broken off; and an answer has one text where it is not free.
 pub record AreAnswered (rows : Rows) (IsFree : Freedom) : Type 0 where
   pub one_next : HasOneNext rows
   pub next : HasNext rows

@@ -31,7 +31,7 @@ is_broken_off ReadFault = true
 is_broken_off NoMemory = true
 is_broken_off status = false
 
--- Over known files there is one reply that is not broken off: one status after so many bytes, and where the contents determine the text one text.
+-- Over known files there is one reply that is not broken off: one status after one number of bytes, and where the contents determine the text one text.
 pub record OneReply (files : Files) (rows : Rows) (status other : Status) (text line : List ℕ) (taken count : ℕ) : Type 0 where
   pub one_status : status ≡ other
   pub one_count : taken ≡ count

@@ -155,7 +155,7 @@ follows_or_not : (net : PlainNet) → IsNet net → HasTimeline net → (a : ℕ
 follows_or_not net is fits a r b la lb =
     let keep = replicate (length net.links) true in
     let law = λ (t : Timeline). atoms_say_the_relation t r a b in
-    elim (atoms_decided net is fits.0 fits.1 keep (atoms_of r a b) (atoms_in_range (length net.bounds) r a b la lb)) [
+    elim (atoms_decided net is fits.0 fits.1 keep (atoms_of a r b) (atoms_in_range (length net.bounds) r a b la lb)) [
       | inl all ↦ inl (λ t whole. (law t).1 (all t (fits_fewer net EveryLink (Kept keep) t (λ k below kept. tt) whole)))
       | inr fails ↦ inr (λ follows. fails.2 ((law fails.0).0 (follows fails.0 (fits_fewer net (Kept keep) EveryLink fails.0 (λ k below any. get_or-replicate (length net.links) k true false below) fails.1))))
     ]

@@ -19,10 +19,10 @@ use Rattle.clash.proofs.Elements.{first_in, first_or_rest, rest_in}
 abbrev pub BeginsLater : Ends → Ends → PairOrder → PairOrder → Type 0
 BeginsLater a b order other = (atom_between a b other).to ≤ (atom_between a b order).to → (atom_between a b other).from ≤ (atom_between a b order).from
 
-abbrev pub AreNested : Ends → Ends → Rel → Type 0
-AreNested a b r = AllByRecursion (λ order. AllByRecursion (BeginsLater a b order) (orders_of r)) (orders_of r)
+abbrev pub AreNested : Ends → Rel → Ends → Type 0
+AreNested a r b = AllByRecursion (λ order. AllByRecursion (BeginsLater a b order) (orders_of r)) (orders_of r)
 
-nested : (r : Rel) (a b : Ends) → IsInterval a → IsInterval b → Holds r a b → AreNested a b r
+nested : (r : Rel) (a b : Ends) → IsInterval a → IsInterval b → Holds a r b → AreNested a r b
 nested rel.Before a b ia ib h = search rules
 nested rel.After a b ia ib h = search rules
 nested rel.Includes a b ia ib h = search rules
@@ -86,8 +86,8 @@ in_map f (x ∷ xs) y h = elim (first_or_rest (f x) (map f xs) y h) [
 ]
 
 -- so are the orders of a relation that holds of two intervals of a timeline
-pub nested_atoms : (t : Timeline) (r : Rel) (a b : ℕ) → StartsFirst t a → StartsFirst t b → Relates t r a b
-    → (x y : Atom) → Contains (atoms_of r a b) x → Contains (atoms_of r a b) y → t y.to ≤ t x.to → t y.from ≤ t x.from
+pub nested_atoms : (t : Timeline) (r : Rel) (a b : ℕ) → StartsFirst t a → StartsFirst t b → Relates t a r b
+    → (x y : Atom) → Contains (atoms_of a r b) x → Contains (atoms_of a r b) y → t y.to ≤ t x.to → t y.from ≤ t x.from
 nested_atoms t r a b ia ib holds x y among also le =
     let A = ends_of t a in
     let B = ends_of t b in

@@ -78,9 +78,9 @@ agree net links others is are (suc n) k lt =
 pub one_reduced_list : OneReducedList
 one_reduced_list = λ net links others is are. one_rising links others is.rising are.rising (λ k. agree net links others is are (suc k) k (omega arith))
 
--- ---- links that are gone over
+-- ---- links one after another
 
--- the others that are kept are those beside a link that is gone over next
+-- the others that are kept are those beside the link that is taken next
 others_beside : (net : PlainNet) (n : ℕ) (keep : List Bool) → AreGoneOver net n keep → (j : ℕ) → j < length net.links → Beside (Kept keep) n j → Others (Kept keep) n j
 others_beside net n keep are j below beside = elim (cases_lt j n) [
   | inl before ↦ (beside.1 before, beside.0)
@@ -90,7 +90,7 @@ others_beside net n keep are j below beside = elim (cases_lt j n) [
 beside_others : (n : ℕ) (keep : List Bool) (j : ℕ) → Others (Kept keep) n j → Beside (Kept keep) n j
 beside_others n keep j other = (other.1, λ before. other.0)
 
--- no links are gone over yet
+-- no link is taken yet
 pub none_gone_over : (net : PlainNet) → AreGoneOver net 0 (replicate (length net.links) true)
 none_gone_over net = record {
   size = length-replicate (length net.links) true;
@@ -162,7 +162,7 @@ module _ (net : PlainNet) (n : ℕ) (keep : List Bool) (are : AreGoneOver net n 
         });
   }
 
--- when all are gone over, those that are kept are the links that stay
+-- when all are taken, those that are kept are the links that stay
 pub reduced_when_done : (net : PlainNet) (keep : List Bool) (links : List ℕ) → AreGoneOver net (length net.links) keep → IsStrictlyIncreasing links → ((k : ℕ) → Contains links k ↔ Kept keep k) → IsReduced net links
 reduced_when_done net keep links are rising exact = record {
   rising = rising;
@@ -198,7 +198,7 @@ module _ (net : PlainNet) (is : IsNet net) (u : Timeline) (all_fit_u : Fits net 
       let ends = All-get_or (λ (l : NetLink). (l.a < length net.bounds) × (l.b < length net.bounds)) net.links k (record { a = 0; rel = rel.Before; b = 0 }) below is.ends in
       let law = λ (t : Timeline). atoms_say_the_relation t link.rel link.a link.b in
       let without = slice_set keep k false in
-      elim (atoms_decided without (atoms_of link.rel link.a link.b) (atoms_in_range (length net.bounds) link.rel link.a link.b ends.0 ends.1)) [
+      elim (atoms_decided without (atoms_of link.a link.rel link.b) (atoms_in_range (length net.bounds) link.rel link.a link.b ends.0 ends.1)) [
         | inl all ↦ inl (λ t fits. (law t).1 (all t (fits_fewer net (Others (Kept keep) k) (Kept without) t (λ j lj kept. set_others keep k j kept) fits)))
         | inr fails ↦ inr (fails.0, fits_fewer net (Kept without) (Others (Kept keep) k) fails.0 (λ j lj other. others_set keep k j other) fails.1, λ holds. fails.2 ((law fails.0).0 holds))
       ]

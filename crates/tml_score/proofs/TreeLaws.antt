@@ -189,9 +189,9 @@ pub unused_orders : (basis : Basis) (roots : List ℕ) (near : End) (tree : Tree
     → (i : ℕ) → i < length tree.orders.items → is_of link (order_at tree.orders.items i) ≡ false
 unused_orders basis roots near tree link is unused i lt = unused_order tree.in_use.items link (order_at tree.orders.items i).link unused (All-get_or (IsBranch basis tree.in_use.items) tree.orders.items i no_order lt is.branches).used
 
--- ---- links that are gone over
+-- ---- links one after another
 
--- what is gone over so far says the same as all links
+-- what is taken so far says the same as all links
 pub ready_so_far : (basis : Basis) (n : ℕ) → IsNet basis.net → HasTimeline basis.net → IsClosureOf basis.net basis.table → IsGraphOf basis.net basis.graph → AreGoneOver basis.net n basis.keep → IsReady basis
 ready_so_far basis n net fits closure graph are = record { net = net; fits = fits; closure = closure; graph = graph; marks = are.size; same = are.same }
 

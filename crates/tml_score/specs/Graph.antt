@@ -15,7 +15,7 @@ use Rattle.tml_score.specs.declared.graph.Graph.{Graph}
 
 -- the orders that link k is
 abbrev pub link_atoms : PlainNet → ℕ → List Atom
-link_atoms net k = let link = link_at net k in atoms_of link.rel link.a link.b
+link_atoms net k = let link = link_at net k in atoms_of link.a link.rel link.b
 
 -- the order is one of some that are of no link
 abbrev pub IsFixed : List Atom → Order → Type 0

@@ -16,11 +16,11 @@ FollowsFrom net Chosen k = (t : Timeline) → FitsWith net Chosen t → KeepsLin
 abbrev pub CanFailWith : PlainNet → (ℕ → Type 0) → ℕ → Type 0
 CanFailWith net Chosen k = (t : Timeline) × FitsWith net Chosen t × (KeepsLink net t k → ⊥)
 
--- the links beside link k when it is gone over: all after it, and those before it that stay
+-- the links beside link k when it is taken: all after it, and those before it that stay
 abbrev pub Beside : (ℕ → Type 0) → ℕ → ℕ → Type 0
 Beside Stays k j = (j ≢ k) × (j < k → Stays j)
 
--- The links of a net are gone over in their order, and each that follows from those beside it is left out. These are the links that stay.
+-- The links of a net are taken in their order, and each that follows from those beside it is left out. These are the links that stay.
 pub record IsReduced (net : PlainNet) (links : List ℕ) : Type 0 where
   pub rising : IsStrictlyIncreasing links
   pub of_net : All (λ k. k < length net.links) links

@@ -1,4 +1,4 @@
--- Links that are gone over.
+-- Links that are taken one after another.
 use Rattle.std.specs.Prelude.{◌≡◌, ℕ, ◌<◌, ◌≤◌, Bool, true, false, List, length}
 use Rattle.net_core.specs.Clashes.{Others}
 use Rattle.net_core.specs.Fits.{Fits, FitsWith}
@@ -12,7 +12,7 @@ abbrev pub DecidesLink : PlainNet → List Bool → ℕ → Bool → Type 0
 DecidesLink net keep k true = FollowsFrom net (Others (Kept keep) k) k
 DecidesLink net keep k false = CanFailWith net (Others (Kept keep) k) k
 
--- The links before link n are gone over, and those from it on are kept. Those that are kept say the same as all.
+-- The links before link n are taken, and those from it on are kept. Those that are kept say the same as all.
 pub record AreGoneOver (net : PlainNet) (n : ℕ) (keep : List Bool) : Type 0 where
   pub size : length keep ≡ length net.links
   pub later : (k : ℕ) → n ≤ k → k < length net.links → Kept keep k

@@ -67,7 +67,7 @@ is_kept basis o = counts (λ k. slice_index_or basis.keep k false) o.link
 abbrev pub AreMarks : Basis → Order → Type 0
 AreMarks basis o = IfSome o.link (λ k. k < length basis.keep)
 
--- an order that may be gone over
+-- an order that a step may take
 abbrev pub IsWay : Basis → Asked → Order → Type 0
 IsWay basis asked o = Contains basis.graph.onward.items o × (remains basis asked o ≡ true)
 

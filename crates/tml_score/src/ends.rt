@@ -43,7 +43,7 @@ impl PointOf<Order> for End {
     }
 }
 
-/// A copy of orders by the point at this end, over so many points.
+/// A copy of orders by the point at this end, over this number of points.
 ///
 /// # Errors
 ///

@@ -27,7 +27,7 @@ impl Model for Reached {
 }
 
 impl Reached {
-    /// No points yet, of so many.
+    /// No points yet, of this number.
     ///
     /// # Errors
     ///

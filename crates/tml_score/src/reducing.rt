@@ -19,7 +19,7 @@ use net_orders::{atoms_of_link, nth_order};
 use order_closure::Closed;
 use std::alloc::Global;
 
-/// The numbers of the links of a net that stay, rising: the links are gone over in their order, and each that follows
+/// The numbers of the links of a net that stay, rising: the links are taken in their order, and each that follows
 /// from those beside it is left out.
 ///
 /// # Errors

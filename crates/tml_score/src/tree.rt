@@ -29,7 +29,7 @@ pub struct Tree {
     pub whole: bool,
 }
 
-/// The links whose orders may be taken: those before `next`, which were gone over, and those from `from` on.
+/// The links whose orders may be taken: those before `next`, which were taken already, and those from `from` on.
 #[derive(Clone, Copy)]
 struct Open {
     next: u32,
@@ -47,7 +47,7 @@ impl Open {
 }
 
 impl Tree {
-    /// No orders yet, of so many points and links.
+    /// No orders yet, of this number of points and links.
     ///
     /// # Errors
     ///
@@ -73,7 +73,7 @@ impl Tree {
         })
     }
 
-    /// Whether a point is a root, or one of so many orders of the tree leads to it.
+    /// Whether a point is a root, or one of this number of orders of the tree leads to it.
     pub fn covers(&self, ties: &Ties, point: u32, turns: usize) -> bool
         requires turns { point < length self.now.turns.items }
         requires roots { point < length ties.now.roots.items }
@@ -92,8 +92,8 @@ impl Tree {
         }
     }
 
-    /// Grows again, where orders were taken away, over links that are kept: those that were gone over first, which stay
-    /// kept, and then the others from the last one down. So the links in use are gone over late, and few of them are left out.
+    /// Grows again, where orders were taken away, over links that are kept: those that were taken first, which stay
+    /// kept, and then the others from the last one down. So the links in use are taken late, and few of them are left out.
     ///
     /// # Errors
     ///

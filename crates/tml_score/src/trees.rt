@@ -49,7 +49,7 @@ impl Trees {
         })
     }
 
-    /// Has the trees grow again, before the next link is gone over, where that is worth it.
+    /// Has the trees grow again, before the next link is taken, where that is worth it.
     ///
     /// # Errors
     ///

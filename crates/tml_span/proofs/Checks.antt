@@ -2,7 +2,7 @@
 use Rattle.std.proofs.Common.{◌≡◌, inl, inr, ℕ, ◌+◌, ◌-◌, Bool, true, false, List, [], ◌∷◌, ◌++◌, length, map, refl, sym, subst, append_assoc, append-nil, arith, Option, Some, None}
 use Rattle.std.proofs.lemmas.List.{map-append}
 use Rattle.tml_span.specs.Cutting.{FindsUnit}
-use Rattle.tml_span.specs.References.{Piece, Follows, FirstBadIn, IsBadIn, IsLeastPlace, IsWithin, pieces_of, value_piece}
+use Rattle.tml_span.specs.References.{Piece, FollowEachOther, FirstBadIn, IsBadIn, IsLeastPlace, IsWithin, pieces_of, value_piece}
 use Rattle.tml_span.specs.Reading.{ReadsAttributes, attribute_at}
 use Rattle.tml_span.specs.Checking.{FirstInOrder}
 use Rattle.tml_span.specs.Units.{Attribute, PlainUnit}
@@ -23,9 +23,9 @@ first_more pieces piece None h k = λ place b. elim (bad_in-append pieces (piece
 first_more pieces piece (Some place) h k = (pieces, piece, [], refl, h, k)
 
 -- of pieces that follow each other the first in order is the least
-first_is : (pieces : List Piece) (low high : ℕ) (o : Option ℕ) → Follows low pieces high → FirstInOrder pieces o → FirstBadIn pieces o
+first_is : (pieces : List Piece) (low high : ℕ) (o : Option ℕ) → FollowEachOther low pieces high → FirstInOrder pieces o → FirstBadIn pieces o
 first_is pieces low high None f h = h
-first_is pieces low high (Some place) f h = subst (λ (ps : List Piece). IsLeastPlace (IsBadIn ps) place) (sym h.3) (first_in h.0 h.1 h.2 low high place (subst (λ (ps : List Piece). Follows low ps high) h.3 f) h.4 h.5)
+first_is pieces low high (Some place) f h = subst (λ (ps : List Piece). IsLeastPlace (IsBadIn ps) place) (sym h.3) (first_in h.0 h.1 h.2 low high place (subst (λ (ps : List Piece). FollowEachOther low ps high) h.3 f) h.4 h.5)
 
 -- ---- attributes
 

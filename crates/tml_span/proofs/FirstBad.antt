@@ -7,7 +7,7 @@ use Rattle.std.proofs.lemmas.List.{length-map, take-append-drop, take_rest, drop
 use Rattle.memchr.specs.Find.{IsFirstByte, is_byte}
 use Rattle.tml_span.specs.declared.unit.Attr.{Attr}
 use Rattle.tml_span.specs.Units.{PlainUnit}
-use Rattle.tml_span.specs.References.{BeginsReference, IsBadAt, Piece, value_piece, IsBadIn, IsBad, IsLeastPlace, IsNowhere, IsWithin, Follows}
+use Rattle.tml_span.specs.References.{BeginsReference, IsBadAt, Piece, value_piece, IsBadIn, IsBad, IsLeastPlace, IsNowhere, IsWithin, FollowEachOther}
 use Rattle.tml_span.specs.View.{attribute_of}
 
 -- a bad index is one of the bytes
@@ -109,12 +109,12 @@ bad_in-append_right [] ys place h = h
 bad_in-append_right (x ∷ xs) ys place h = inr (bad_in-append_right xs ys place h)
 
 -- pieces in order end no earlier than they begin
-follows-le : (pieces : List Piece) (low high : ℕ) → Follows low pieces high → low ≤ high
+follows-le : (pieces : List Piece) (low high : ℕ) → FollowEachOther low pieces high → low ≤ high
 follows-le [] low high h = h
 follows-le (piece ∷ pieces) low high h = omega (arith, h.0, follows-le pieces (piece.0 + length piece.1) high h.1)
 
 -- a bad place lies between where the pieces begin and where they end
-pub bad_in_from : (pieces : List Piece) (low high place : ℕ) → Follows low pieces high → IsBadIn pieces place → (low ≤ place) × (place < high)
+pub bad_in_from : (pieces : List Piece) (low high place : ℕ) → FollowEachOther low pieces high → IsBadIn pieces place → (low ≤ place) × (place < high)
 bad_in_from [] low high place h bad = absurd bad
 bad_in_from (piece ∷ pieces) low high place h (inl here) =
     let within = bad_at_within piece.1 here.0 here.1 in
@@ -125,7 +125,7 @@ bad_in_from (piece ∷ pieces) low high place h (inr later) =
     (omega (arith, h.0, rest.0), rest.1)
 
 -- pieces in order, from one of them on
-follows_on : (xs ys : List Piece) (low high : ℕ) → Follows low (xs ++ ys) high → (mid : ℕ) × Follows mid ys high
+follows_on : (xs ys : List Piece) (low high : ℕ) → FollowEachOther low (xs ++ ys) high → (mid : ℕ) × FollowEachOther mid ys high
 follows_on [] ys low high h = (low, h)
 follows_on (x ∷ xs) ys low high h = follows_on xs ys (x.0 + length x.1) high h.1
 
@@ -142,7 +142,7 @@ nowhere_at start bytes none place (inl here) = none here.0 here.1
 nowhere_at start bytes none place (inr nothing) = nothing
 
 -- the first bad place of the first piece with a bad one is the first of all
-pub first_in : (xs : List Piece) (piece : Piece) (ys : List Piece) (low high place : ℕ) → Follows low (xs ++ piece ∷ ys) high → IsNowhere (IsBadIn xs) → IsLeastPlace (IsBadIn (piece ∷ [])) place → IsLeastPlace (IsBadIn (xs ++ piece ∷ ys)) place
+pub first_in : (xs : List Piece) (piece : Piece) (ys : List Piece) (low high place : ℕ) → FollowEachOther low (xs ++ piece ∷ ys) high → IsNowhere (IsBadIn xs) → IsLeastPlace (IsBadIn (piece ∷ [])) place → IsLeastPlace (IsBadIn (xs ++ piece ∷ ys)) place
 first_in xs piece ys low high place h none first =
     let on = follows_on xs (piece ∷ ys) low high h in
     let one = (bad_in_from (piece ∷ []) on.0 (piece.0 + length piece.1) place (on.1.0, omega arith) first.0).1 in
@@ -160,11 +160,11 @@ split_at pieces i piece below is =
     sym (take-append-drop i pieces) ∙ ap (λ (x : List Piece). take i pieces ++ x) (drop_more pieces i piece below ∙ ap (λ (x : Piece). x ∷ drop (i + 1) pieces) is)
 
 -- the first bad place of the first piece with a bad one, which is at an index, is the first of all
-pub first_in_piece : (pieces : List Piece) (i : ℕ) (piece : Piece) (low high place : ℕ) → i < length pieces → get_or pieces i piece ≡ piece → Follows low pieces high → IsNowhere (IsBadIn (take i pieces)) → IsLeastPlace (IsBadIn (piece ∷ [])) place → IsLeastPlace (IsBadIn pieces) place
+pub first_in_piece : (pieces : List Piece) (i : ℕ) (piece : Piece) (low high place : ℕ) → i < length pieces → get_or pieces i piece ≡ piece → FollowEachOther low pieces high → IsNowhere (IsBadIn (take i pieces)) → IsLeastPlace (IsBadIn (piece ∷ [])) place → IsLeastPlace (IsBadIn pieces) place
 first_in_piece pieces i piece low high place below is h none first =
     let split = split_at pieces i piece below is in
     subst (λ (x : List Piece). IsLeastPlace (IsBadIn x) place) (sym split)
-    (first_in (take i pieces) piece (drop (i + 1) pieces) low high place (subst (λ (x : List Piece). Follows low x high) split h) none first)
+    (first_in (take i pieces) piece (drop (i + 1) pieces) low high place (subst (λ (x : List Piece). FollowEachOther low x high) split h) none first)
 
 -- one more piece with nothing bad
 pub none_in_more : (pieces : List Piece) (i : ℕ) (piece : Piece) → i < length pieces → get_or pieces i piece ≡ piece → IsNowhere (IsBadIn (take i pieces)) → IsNowhere (IsBadIn (piece ∷ [])) → IsNowhere (IsBadIn (take (i + 1) pieces))
@@ -196,7 +196,7 @@ value_within (a ∷ attrs) zero d below h = h.0
 value_within (a ∷ attrs) (suc i) d below h = value_within attrs i d (omega arith) h.1
 
 -- the first bad place of the first value with a bad one is the first of all
-pub first_in_value : (attrs : List Attr) (i : ℕ) (d : Attr) (place : ℕ) → i < length attrs → (low : ℕ) × (high : ℕ) × Follows low (values attrs) high → IsNowhere (IsBadIn (take i (values attrs))) → IsLeastPlace (IsBadIn (value_piece (attribute_of (get_or attrs i d)) ∷ [])) place → IsLeastPlace (IsBadIn (values attrs)) place
+pub first_in_value : (attrs : List Attr) (i : ℕ) (d : Attr) (place : ℕ) → i < length attrs → (low : ℕ) × (high : ℕ) × FollowEachOther low (values attrs) high → IsNowhere (IsBadIn (take i (values attrs))) → IsLeastPlace (IsBadIn (value_piece (attribute_of (get_or attrs i d)) ∷ [])) place → IsLeastPlace (IsBadIn (values attrs)) place
 first_in_value attrs i d place below h none first =
     let piece = value_piece (attribute_of (get_or attrs i d)) in
     first_in_piece (values attrs) i piece h.0 h.1 place (omega (arith, length-values attrs, below)) (value_at attrs i d below) h.2 none first

@@ -54,7 +54,7 @@ byte_after : (prefix suffix : List ℕ) (x : ℕ) → slice_get (prefix ++ x ∷
 byte_after [] suffix x = refl
 byte_after (b ∷ prefix) suffix x = byte_after prefix suffix x
 
--- the bytes begin with digits of a kind, at least 1 and at most so many, and `;`
+-- the bytes begin with digits of a kind, at least 1 and at most a number, and `;`
 abbrev Closed : (ℕ → Bool) → ℕ → List ℕ → Type 0
 Closed p most bytes = (digits : List ℕ) × (suffix : List ℕ) × (bytes ≡ digits ++ 59 ∷ suffix) × (1 ≤ length digits) × (length digits ≤ most) × (list_all p digits ≡ true)
 

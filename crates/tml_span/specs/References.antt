@@ -35,7 +35,7 @@ Begins Is bytes = (prefix : List ℕ) × (suffix : List ℕ) × (bytes ≡ prefi
 abbrev pub BeginsReference : List ℕ → Type 0
 BeginsReference bytes = Begins IsReference bytes
 
--- after so many digits, of which there are some and at most so many, is a `;`
+-- after digits, of which there are some and at most a number, is a `;`
 abbrev pub IsClosed : ℕ → ℕ → List ℕ → Type 0
 IsClosed digits most bytes = (1 ≤ digits) × (digits ≤ most) × (slice_get bytes digits ≡ Some (byte (codes ";")))
 
@@ -88,9 +88,9 @@ abbrev pub FirstBadIn : List Piece → Option ℕ → Type 0
 FirstBadIn pieces bad = MatchOption bad (IsNowhere (IsBadIn pieces)) (IsLeastPlace (IsBadIn pieces))
 
 -- the pieces follow each other, from a place up to another
-abbrev pub Follows : ℕ → List Piece → ℕ → Type 0
-Follows low [] high = low ≤ high
-Follows low (piece ∷ pieces) high = (low ≤ piece.0) × Follows (piece.0 + length piece.1) pieces high
+abbrev pub FollowEachOther : ℕ → List Piece → ℕ → Type 0
+FollowEachOther low [] high = low ≤ high
+FollowEachOther low (piece ∷ pieces) high = (low ≤ piece.0) × FollowEachOther (piece.0 + length piece.1) pieces high
 
 -- a value ends before its attribute does
 abbrev pub IsWithin : Attribute → Type 0
@@ -103,5 +103,5 @@ kind_attributes kind = []
 
 -- the pieces of a unit are in order within its span
 pub record HasPiecesInOrder (u : PlainUnit) : Type 0 where
-  pub follows : Follows u.start (pieces_of u) u.end
+  pub follows : FollowEachOther u.start (pieces_of u) u.end
   pub within : AllByRecursion IsWithin (kind_attributes u.kind)

@@ -73,7 +73,7 @@ pub fn text_len(bytes: &[u8]) -> usize
     }
 }
 
-/// Up to so many bytes are looked at one by one, which takes less time than a call of `memchr`.
+/// Up to this number of bytes are looked at one by one, which takes less time than a call of `memchr`.
 const FEW: usize = 32;
 
 /// The index of the first `&`. Most values are short and have none.

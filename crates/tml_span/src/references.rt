@@ -1,7 +1,7 @@
 //! References in texts and values, and the first that is bad.
 ghost use Rattle.std.specs.Prelude.{◌≡◌, ◌↔◌, ◌+◌, ◌<◌, ◌≤◌, ◌^◌, ℕ, [], ◌∷◌, length, IsTrue, IfSome, MatchOption, map, nat_eq, Some};
 ghost use Rattle.std.specs.List.{AllByRecursion, list_any, starts_with};
-ghost use Rattle.tml_span.specs.References.{named_references, Begins, IsClosed, IsDecimalReference, IsHexReference, BeginsReference, FirstBadIn, IsBadAt, IsLeastPlace, IsNowhere, HasPiecesInOrder, IsWithin, Follows, pieces_of, value_piece};
+ghost use Rattle.tml_span.specs.References.{named_references, Begins, IsClosed, IsDecimalReference, IsHexReference, BeginsReference, FirstBadIn, IsBadAt, IsLeastPlace, IsNowhere, HasPiecesInOrder, IsWithin, FollowEachOther, pieces_of, value_piece};
 ghost use Rattle.tml_span.specs.View.{unit_of, attribute_of};
 
 use crate::bytes::{ampersand_at, digits_len, hex_digits_len};
@@ -99,7 +99,7 @@ pub fn bad_place_in_value(attr: &Attr) -> Option<u32>
 /// The place of the first bad reference in the values of attributes.
 fn bad_value(attrs: &[Attr]) -> Option<u32>
     requires within { AllByRecursion IsWithin (map attribute_of attrs.now) }
-    requires follows { (low : ℕ) × (high : ℕ) × Follows low (map value_piece (map attribute_of attrs.now)) high }
+    requires follows { (low : ℕ) × (high : ℕ) × FollowEachOther low (map value_piece (map attribute_of attrs.now)) high }
     ensures { FirstBadIn (map value_piece (map attribute_of attrs.now)) result }
 {
     for attr in attrs {

@@ -66,7 +66,7 @@ module _ (doc other : List ℕ) (contents : PlainDocument) (says : Says doc cont
     reply_alike Join given status line e whole h = absurd cc
     reply_alike Score given status line e whole h = absurd cc
     reply_alike Confirm given status line e whole h = absurd cc
-    -- so many arguments have no form over either
+    -- this number of arguments has no form over either
     reply_alike form given status line e whole h = h
 
 -- a canonical text is its own, and is answered as the document is

@@ -118,7 +118,7 @@ printed files Possible name (x ∷ y ∷ []) Clash text taken e h = shown files 
 printed files Matrix name [] Clash text taken e h = shown files (of_net OfMatrix) name Clash text taken (refl, λ is. cc, λ is. cc) (of_clash OfMatrix (λ contents net text none. none)) h
 printed files Reduce name [] Clash text taken e h = shown files (of_net OfReduce) name Clash text taken (refl, λ is. cc, λ is. cc) (of_clash OfReduce (λ contents net text none. none)) h
 printed files Score name (key ∷ []) Clash text taken e h = scored files name key text taken e h
--- so many arguments have no form, and a reply to words that have none is no evidence
+-- this number of arguments has no form, and a reply to words that have none is no evidence
 printed files Solve name given Done text taken e h = absurd (no_form files Done text taken refl (λ is. cc) h)
 printed files Ask name given Done text taken e h = absurd (no_form files Done text taken refl (λ is. cc) h)
 printed files Solve name given Clash text taken e h = absurd (no_form files Clash text taken refl (λ is. cc) h)

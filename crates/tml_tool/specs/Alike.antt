@@ -27,7 +27,7 @@ is_of_contents form = false
 abbrev pub HoldsDocument : Files → List ℕ → List ℕ → Type 0
 HoldsDocument files name doc = (held files name ≡ Some doc) × (length doc ≤ max_document)
 
--- so many bytes after which there is this reply
+-- this number of bytes after which there is this reply
 abbrev pub HasReply : Files → Form → List ℕ → List (List ℕ) → Status → List ℕ → Type 0
 HasReply files form name arguments status line = (taken : ℕ) × Replies (Some files) (rows_with form (name ∷ arguments)) status line taken
 

@@ -119,7 +119,7 @@ is_free_with form arguments = NeverFree
 
 -- ---- words
 
--- a form with so many arguments, if it takes them
+-- a form with this number of arguments, if it takes them
 abbrev pub taken : Form → List (List ℕ) → Option (Form × List (List ℕ))
 taken form arguments = taken_by takes form arguments
 

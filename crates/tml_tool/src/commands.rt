@@ -153,7 +153,7 @@ tml confirm DOC SECONDS
 "
 }
 
-/// The reply to a form with so many arguments: the answer, or the usage text where the form does not take them.
+/// The reply to a form with this number of arguments: the answer, or the usage text where the form does not take them.
 pub fn reply_with<I: Inputs>(
     alloc: Global,
     form: Form,

@@ -54,7 +54,7 @@ abbrev pub all_may_be_in_link : PlainNodes → Bool
 all_may_be_in_link none = true
 all_may_be_in_link (more n ns) = may_be_in_link n && all_may_be_in_link ns
 
--- A node may stand inside so many elements: an element of a known name other than the root's, no more than 32 inside each other, and what is in it may stand there.
+-- A node may stand inside this number of elements: an element of a known name other than the root's, no more than 32 inside each other, and what is in it may stand there.
 abbrev mutual
   pub MayStand : ℕ → PlainNode → Type 0
   MayStand depth (text_node start end bytes) = ⊤

@@ -10,7 +10,7 @@ use crate::heads::head_of;
 use std::alloc::{AllocError, Global};
 use tml_span::{Attr, Memory};
 
-/// Up to so many attributes are compared each with each, which takes no memory.
+/// Up to this number of attributes are compared each with each, which takes no memory.
 const FEW: usize = 8;
 
 /// Whether two attributes have one name. It takes time in n log n for n attributes. It stands in its callers, since most

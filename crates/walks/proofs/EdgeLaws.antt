@@ -90,9 +90,9 @@ module _ (net : PlainNet) where
   pub atoms_all : (link : ℕ) (step : Step) (atom : Atom) → atom_of net step ≡ Some atom → Below (λ i s. s ≡ Link link i) (atom_count (link_at net link).rel) step ↔ IsOver (λ k. k ≡ link) step
   atoms_all link (Link k i) atom goes = (
     λ h. let is = h.2 in cc,
-    λ e. option_and_then_some (λ (l : NetLink). slice_get (atoms_of l.rel l.a l.b) i) (slice_get net.links k) atom goes (λ l at here.
+    λ e. option_and_then_some (λ (l : NetLink). slice_get (atoms_of l.a l.rel l.b) i) (slice_get net.links k) atom goes (λ l at here.
         let same : link_at net link ≡ l = ap (link_at net) (sym e) ∙ get_or_from_slice_get net.links k l (record { a = 0; rel = rel.Before; b = 0 }) at in
-        let lt : i < atom_count l.rel = subst (λ (n : ℕ). i < n) (atoms_counted l.rel (points_of l.a) (points_of l.b)) (slice_get_within (atoms_of l.rel l.a l.b) i atom here) in
+        let lt : i < atom_count l.rel = subst (λ (n : ℕ). i < n) (atoms_counted l.rel (points_of l.a) (points_of l.b)) (slice_get_within (atoms_of l.a l.rel l.b) i atom here) in
         (i, subst (λ (x : NetLink). i < atom_count x.rel) (sym same) lt, ap (λ (x : ℕ). Link x i) e)),
   )
   atoms_all link (Span i) atom goes = (λ h. let is = h.2 in cc, λ h. absurd h)
@@ -103,7 +103,7 @@ module _ (net : PlainNet) where
     pub links_all : (step : Step) (atom : Atom) → atom_of net step ≡ Some atom → Below (OverKept keep) (length net.links) step ↔ IsOver (Kept keep) step
     links_all (Link k i) atom goes = (
       λ h. subst (Kept keep) (sym h.2.1) h.2.0,
-      λ kept. option_and_then_some (λ (l : NetLink). slice_get (atoms_of l.rel l.a l.b) i) (slice_get net.links k) atom goes (λ l at here. (k, slice_get_within net.links k l at, (kept, refl))),
+      λ kept. option_and_then_some (λ (l : NetLink). slice_get (atoms_of l.a l.rel l.b) i) (slice_get net.links k) atom goes (λ l at here. (k, slice_get_within net.links k l at, (kept, refl))),
     )
     links_all (Span i) atom goes = (λ h. absurd h.2.1, λ h. absurd h)
     links_all (Calendar p q) atom goes = (λ h. absurd h.2.1, λ h. absurd h)

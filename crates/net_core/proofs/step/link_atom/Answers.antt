@@ -12,4 +12,4 @@ returns-clause-exact c =
     let below : c.args.link < length links = omega (arith, c.if-link-links.false, c.links.ensures.count) in
     let link : slice_get links c.args.link ≡ Some c.link-link.result = slice_get-get_or links c.args.link _ below ∙ ap (λ (l : NetLink). Some l) (sym c.link-link.ensures.link) in
     c.atom.ensures ∙ ap (λ (atoms : List Atom). slice_get atoms c.args.atom) c.atoms_of.ensures
-    ∙ ap (λ (o : Option NetLink). option_and_then (λ (l : NetLink). slice_get (atoms_of l.rel l.a l.b) c.args.atom) o) (sym link)
+    ∙ ap (λ (o : Option NetLink). option_and_then (λ (l : NetLink). slice_get (atoms_of l.a l.rel l.b) c.args.atom) o) (sym link)

@@ -11,13 +11,13 @@ pub unreachable-requires-in_default-add : goal.unreachable-requires-in_default-a
 unreachable-requires-in_default-add c =
     let (t, kept, holds) = c.requires.can in
     let all = (atoms_say_the_relation t c.args.rel c.args.a c.args.b).0 holds in
-    let atoms = atoms_of c.args.rel c.args.a c.args.b in
+    let atoms = atoms_of c.args.a c.args.rel c.args.b in
     let at : slice_get atoms c.loop-k.k ≡ Some c.in-Some.atom = subst (λ (orders : List Atom). slice_get orders c.loop-k.k ≡ Some c.in-Some.atom) c.loop-k.invariant.orders (sym c.atom.ensures ∙ c.in-Some.is) in
     c.in_default-add.ensures.denied t ((c.loop-k.invariant.kept t).1 (kept, all_first (Satisfies t) atoms c.loop-k.k all)) (all_at (Satisfies t) atoms c.loop-k.k c.in-Some.atom at all)
 
 pub loop-k-preserved : goal.loop-k-preserved
 loop-k-preserved c =
-    let atoms = atoms_of c.args.rel c.args.a c.args.b in
+    let atoms = atoms_of c.args.a c.args.rel c.args.b in
     let k = c.loop-k.k in
     let atom = c.in-Some.atom in
     let at : slice_get atoms k ≡ Some atom = subst (λ (orders : List Atom). slice_get orders k ≡ Some atom) c.loop-k.invariant.orders (sym c.atom.ensures ∙ c.in-Some.is) in record {
@@ -34,7 +34,7 @@ loop-k-preserved c =
 
 pub returns-clause-kept : goal.returns-clause-kept
 returns-clause-kept c = λ t.
-    let atoms = atoms_of c.args.rel c.args.a c.args.b in
+    let atoms = atoms_of c.args.a c.args.rel c.args.b in
     let says = atoms_say_the_relation t c.args.rel c.args.a c.args.b in
     let kept = c.loop-k.invariant.kept t in
     let all : take c.loop-k.k atoms ≡ atoms = take_all c.loop-k.k atoms (omega (arith, c.loop-k-test.false, c.count-k-end.ensures.count, ap length c.loop-k.invariant.orders)) in (

@@ -8,7 +8,7 @@ use Rattle.tml_possible.proofs.timelines.raise.Given as goal
 -- the timelines that keep the table are those that kept it and of which the orders so far are true
 abbrev pub invariant-loop-k : goal.invariant-loop-k
 invariant-loop-k l = record {
-  orders : atoms_in l.atoms ≡ atoms_of l.fn.rel l.a l.b;
+  orders : atoms_in l.atoms ≡ atoms_of l.a l.fn.rel l.b;
   points : l.table.points ≡ l.initial.table.points;
-  kept : (t : Timeline) → Keeps l.table t ↔ (Keeps l.initial.table t × AllByRecursion (Satisfies t) (take l.k (atoms_of l.fn.rel l.a l.b)));
+  kept : (t : Timeline) → Keeps l.table t ↔ (Keeps l.initial.table t × AllByRecursion (Satisfies t) (take l.k (atoms_of l.a l.fn.rel l.b)));
 }

@@ -18,7 +18,7 @@ loop-code-preserved c =
         | then-are_kept w ↦
             let new = w.with_holding-set.result in
             let kept = subst (λ (e : Ends × Ends). AreKeptAmong table a b e.0 e.1) same (c.are_kept.ensures.0 w.if-are_kept.true) in
-            let more = subst (λ (e : Ends × Ends). AreMore c.loop-code.set (λ r. Holds r e.0 e.1) new) same w.with_holding-set.ensures in
+            let more = subst (λ (e : Ends × Ends). AreMore c.loop-code.set (λ r. Holds e.0 r e.1) new) same w.with_holding-set.ensures in
             rw w.set-is (kept_next table a b c.loop-code.code c.loop-code.set so_far new kept more)
         | else-are_kept w ↦
             let not = subst (λ (e : Ends × Ends). ¬ AreKeptAmong table a b e.0 e.1) same (λ kept. let yes = c.are_kept.ensures.1 kept in let no = w.if-are_kept.false in cc) in

@@ -10,7 +10,7 @@ use Rattle.tml_possible.proofs.trying.with_holding.Goals.{then-holds, else-holds
 
 pub loop-rel-preserved : goal.loop-rel-preserved
 loop-rel-preserved c =
-    let HoldsHere : Rel → Type 0 = λ r. Holds r c.args.of_a c.args.of_b in
+    let HoldsHere : Rel → Type 0 = λ r. Holds c.args.of_a r c.args.of_b in
     let k = c.loop-rel.rel-index in
     let items = c.loop-rel.invariant.items in
     let x = get_or c.all-rel-items.result.now k rel.Before in
@@ -28,4 +28,4 @@ pub returns : goal.returns
 returns c =
     let k = c.loop-rel.rel-index in
     let past : length all_rels ≤ k = omega (arith, c.loop-rel-test.false, ap length c.loop-rel.invariant.items) in
-    all_taken (λ r. Holds r c.args.of_a c.args.of_b) c.args.set c.loop-rel.more (take k all_rels) (take_all k all_rels past) c.loop-rel.invariant.more
+    all_taken (λ r. Holds c.args.of_a r c.args.of_b) c.args.set c.loop-rel.more (take k all_rels) (take_all k all_rels past) c.loop-rel.invariant.more

@@ -9,5 +9,5 @@ use Rattle.tml_possible.proofs.trying.with_holding.Given as goal
 abbrev pub invariant-loop-rel : goal.invariant-loop-rel
 invariant-loop-rel l = record {
   items : l.rel-items ≡ all_rels;
-  more : AreMore l.fn.set (λ r. Contains (take l.rel-index all_rels) r × Holds r l.of_a l.of_b) l.more;
+  more : AreMore l.fn.set (λ r. Contains (take l.rel-index all_rels) r × Holds l.of_a r l.of_b) l.more;
 }

@@ -4,7 +4,7 @@ use Rattle.tml_score.specs.Reducing.{AreGoneOver}
 use Rattle.tml_score.specs.Trees.{AreTrees}
 use Rattle.tml_score.proofs.reducing.marks.Given as goal
 
--- the links so far are gone over
+-- the links so far
 abbrev pub invariant-loop-link : goal.invariant-loop-link
 invariant-loop-link l = record {
   end : l.link-end ≡ length l.net.links;

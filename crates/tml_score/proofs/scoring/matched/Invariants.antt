@@ -3,7 +3,7 @@ use Rattle.tml_score.specs.Scores.{FollowsIn}
 use Rattle.tml_score.specs.Scoring.{annotation_of}
 use Rattle.tml_score.proofs.scoring.matched.Given as goal
 
--- so many of the links so far follow, by whatever test tells that
+-- how many of the links so far follow, by whatever test tells that
 abbrev pub invariant-loop-link : goal.invariant-loop-link
 invariant-loop-link l = record {
   few : l.matched ≤ l.link-index;

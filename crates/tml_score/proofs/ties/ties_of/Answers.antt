@@ -9,7 +9,7 @@ use Rattle.tml_score.proofs.TieLaws.{range_at}
 use Rattle.tml_score.proofs.ties.ties_of.Goals as goal
 use Rattle.tml_score.proofs.ties.ties_of.Goals.{else-not-apart-via-then-not-apart+else-is_err, else-not-apart-via-else-not-apart}
 
--- the orders that are gone over are all orders of the net
+-- the orders that are taken are all orders of the net
 are_orders : (basis : Basis) (items : List Order) → items ≡ basis.graph.onward.items → AreOrders basis items
 are_orders basis items same = subst (All (Contains basis.graph.onward.items)) (sym same) (All-contains_itself basis.graph.onward.items)
 

@@ -16,7 +16,7 @@ pub proof_text-requires-clause-always : goal.proof_text-requires-clause-always
 proof_text-requires-clause-always c =
     let net = c.args.net.now in
     let numbers = c.args.numbers in
-    let atoms = atoms_of numbers.rel numbers.a numbers.b in
+    let atoms = atoms_of numbers.a numbers.rel numbers.b in
     let range : AreInRange (points net) atoms =
     All-from_recursion (IsInRange (points net)) atoms (atoms_in_range (intervals net) numbers.rel numbers.a numbers.b c.requires.intervals.0 c.requires.intervals.1) in
     all_hold net c.args.closure.now c.requires.closure atoms range (subst (λ (all : List Atom). IsFirstNotGiven c.args.closure.now all None) c.atoms_of.ensures c.in-None.ensures)
@@ -30,7 +30,7 @@ returns-in-Some c =
     let net = c.args.net.now in
     let table = c.args.closure.now in
     let numbers = c.args.numbers in
-    let atoms = atoms_of numbers.rel numbers.a numbers.b in
+    let atoms = atoms_of numbers.a numbers.rel numbers.b in
     let range : AreInRange (points net) atoms =
     All-from_recursion (IsInRange (points net)) atoms (atoms_in_range (intervals net) numbers.rel numbers.a numbers.b c.requires.intervals.0 c.requires.intervals.1) in
     let first = subst (λ (all : List Atom). IsFirstNotGiven table all (Some c.in-Some.atom)) c.atoms_of.ensures c.in-Some.ensures in
@@ -43,7 +43,7 @@ pub first_not_given-requires : goal.first_not_given-requires
 first_not_given-requires c =
     let net = c.args.net.now in
     let numbers = c.args.numbers in
-    let atoms = atoms_of numbers.rel numbers.a numbers.b in
+    let atoms = atoms_of numbers.a numbers.rel numbers.b in
     let range : AreInRange (points net) atoms =
     All-from_recursion (IsInRange (points net)) atoms (atoms_in_range (intervals net) numbers.rel numbers.a numbers.b c.requires.intervals.0 c.requires.intervals.1) in
     subst (λ (n : ℕ). AreInRange n (atoms_in c.atoms_of.result)) (sym c.requires.closure.size) (subst (AreInRange (points net)) (sym c.atoms_of.ensures) range)

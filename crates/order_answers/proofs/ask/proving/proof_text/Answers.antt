@@ -19,7 +19,7 @@ atoms_of-requires-clause-b c = omega (arith, c.requires.intervals.1, c.intervals
 pub walks_for-requires-clause-range : goal.walks_for-requires-clause-range
 walks_for-requires-clause-range c =
     subst (AreInRange (points c.args.net.now)) (sym c.atoms_of.ensures)
-    (All-from_recursion (IsInRange (points c.args.net.now)) (atoms_of c.args.rel c.args.a c.args.b)
+    (All-from_recursion (IsInRange (points c.args.net.now)) (atoms_of c.args.a c.args.rel c.args.b)
     (atoms_in_range (intervals c.args.net.now) c.args.rel c.args.a c.args.b c.requires.intervals.0 c.requires.intervals.1))
 
 pub evidence_text-requires : goal.evidence_text-requires

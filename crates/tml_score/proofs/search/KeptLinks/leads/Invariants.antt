@@ -4,7 +4,7 @@ use Rattle.net_orders.specs.declared.orders.Order.{Order}
 use Rattle.tml_score.specs.Search.{IsPassed, IsSearch, IsWay, basis_of}
 use Rattle.tml_score.proofs.search.KeptLinks.leads.Given as goal
 
--- the points before this turn are gone over
+-- the points of the turns before this one
 abbrev pub invariant-loop-turn : goal.invariant-loop-turn
 invariant-loop-turn l = record {
   search : IsSearch (basis_of l.self) l.asked l.reached;
