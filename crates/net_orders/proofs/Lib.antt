@@ -7,4 +7,5 @@ pub mod StepsBut
 pub mod Rising
 pub mod Settled
 pub mod RankSums
+pub mod Zeros
 pub mod Measures

@@ -4,6 +4,7 @@
 
 mod calendar;
 mod insert;
+mod least;
 mod links;
 mod orders;
 mod raising;
@@ -12,6 +13,7 @@ mod sequence;
 mod settling;
 
 pub use insert::{add_in_sequence, add_orders};
+pub use least::least_timeline;
 pub use links::{FirstClash, add_links, atoms_of_link, nth_order};
 pub use orders::{Order, all_orders, fixed_orders, orders_of};
 pub use rings::has_strict_cycle;

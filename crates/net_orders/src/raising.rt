@@ -11,7 +11,7 @@ use net_core::{Atom, MAX_POINTS};
 
 /// Raises the rank of the second point of an order, where it is too low. The highest rank that is given is the number of
 /// points that there can be: ranks that fit are below it, if any do.
-fn raise(ranks: &mut [u32], atom: Atom)
+pub fn raise(ranks: &mut [u32], atom: Atom)
     requires in_range { IsInRange (length ranks.old) atom }
     requires within { AreWithin ranks.old }
     ensures { RisesUntil (λ t. Satisfies t atom) ranks.old ranks.new }
