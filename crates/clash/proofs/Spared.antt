@@ -1,11 +1,11 @@
 -- The least ranks with which a walk's links but one hold.
-use Rattle.std.proofs.Common.{◌≡◌, ◌≢◌, ◌↔◌, ◌==◌, ◌&&◌, ℕ, ◌+◌, ◌<◌, ◌≤◌, Bool, true, false, not, List, [], ◌∷◌, ◌++◌, length, length-append, replicate, take, slice_index, slice_index_or, sym, ap, subst, ◌∙◌, arith, inl, inr}
+use Rattle.std.proofs.Common.{◌≡◌, ◌≢◌, ◌↔◌, ◌==◌, ◌&&◌, ℕ, ◌+◌, ◌<◌, ◌≤◌, Bool, true, false, not, List, [], ◌∷◌, ◌++◌, length, length-append, replicate, take, slice_index, slice_index_or, sym, subst, ◌∙◌, arith, inl, inr}
 use Rattle.std.specs.List.{Contains}
 use Rattle.std.proofs.Math.ListN.{get_or-append}
 use Rattle.std.proofs.Math.Seq.{get_or-append_seam}
 use Rattle.std.proofs.lemmas.Bool.{cases_lt}
 use Rattle.std.proofs.lemmas.Bool.Decides.{nat_tests}
-use Rattle.std.proofs.lemmas.List.{get_or-replicate, get_or_default, get_or_past, length-replicate, take_more}
+use Rattle.std.proofs.lemmas.List.{get_or_default, get_or_past, take_more}
 use Rattle.net_core.specs.Clashes.{Others}
 use Rattle.net_core.specs.Fits.{FitsWith}
 use Rattle.net_core.specs.Least.{AreSpares, IsSpare}
@@ -19,8 +19,9 @@ use Rattle.net_core.proofs.StepLaws.{fits_fewer}
 use Rattle.order_closure.specs.Tables.{AreInRange}
 use Rattle.clash.specs.Minimal.{IsMarkedWalk, IsSpared}
 use Rattle.net_orders.specs.Orders.{AreBelow, AreFixed, FitsBut}
-use Rattle.net_orders.specs.Raising.{AreLow, AreUnder, AreWithin, Rises}
+use Rattle.net_orders.specs.Raising.{AreLow, AreWithin, Rises}
 use Rattle.net_orders.specs.declared.orders.Order.{Order}
+use Rattle.net_orders.proofs.Zeros.{least_from_zeros, zeros_size, zeros_under, zeros_within}
 use Rattle.clash.specs.declared.closed_walk.ClosedWalk.{ClosedWalk}
 use Rattle.clash.proofs.Complete.{small_timeline}
 use Rattle.clash.proofs.WalkBut.{fits_but}
@@ -37,35 +38,17 @@ others marks but k = both (slice_index_or marks k false)
     both true = grind (arith, nat_tests)
     both false = (λ e. absurd cc, λ e. absurd (let f = e.0 in cc))
 
--- there is a zero for each point
-pub zeros_size : (net : PlainNet) (zeros : List ℕ) → zeros ≡ replicate (points net) 0 → length zeros ≡ points net
-zeros_size net zeros e = ap length e ∙ length-replicate (points net) 0
-
--- each is zero
-zero_at : (net : PlainNet) (zeros : List ℕ) → zeros ≡ replicate (points net) 0 → (p : ℕ) → slice_index zeros p ≡ 0
-zero_at net zeros e p = elim (cases_lt p (points net)) [
-  | inl lt ↦ ap (λ (xs : List ℕ). slice_index xs p) e ∙ get_or-replicate (points net) p 0 0 lt
-  | inr past ↦ get_or_past zeros p 0 (let size = zeros_size net zeros e in omega arith)
-]
-
--- no zero is above the highest rank, or above a rank of a timeline
-pub zeros_within : (net : PlainNet) (zeros : List ℕ) → zeros ≡ replicate (points net) 0 → AreWithin zeros
-zeros_within net zeros e p = omega (arith, zero_at net zeros e p)
-
-zeros_under : (net : PlainNet) (zeros : List ℕ) (t : Timeline) → zeros ≡ replicate (points net) 0 → AreUnder zeros t
-zeros_under net zeros t e p lt = omega (arith, zero_at net zeros e p)
-
 -- zeros can be raised by the orders of a round and by those that are fixed
 pub zeros_ready : (net : PlainNet) (round : ClosedWalk) (fixed : List Atom) (orders : List Order) (zeros : List ℕ) → IsNet net → IsMarkedWalk net round → AreFixed net fixed
     → orders ≡ round.orders → zeros ≡ replicate (points net) 0
     → AreBelow (length zeros) orders × AreInRange (length zeros) fixed × (length zeros ≤ max_points) × AreWithin zeros
 zeros_ready net round fixed orders zeros net_is is are same e =
-    let size = sym (zeros_size net zeros e) in
+    let size = sym (zeros_size (points net) zeros e) in
     let few = net_is.few_intervals in (
       subst (λ (n : ℕ). AreBelow n orders) size (subst (AreBelow (points net)) (sym same) is.orders.in_range),
       subst (λ (n : ℕ). AreInRange n fixed) size are.in_range,
       omega (arith, size),
-      zeros_within net zeros e,
+      zeros_within (points net) zeros e,
     )
 
 module _ (net : PlainNet) (round : ClosedWalk) (fixed : List Atom) (but : ℕ) (net_is : IsNet net) (is : IsMarkedWalk net round) (are : AreFixed net fixed) (spared : IsSpared net (Kept round.over.items) but) where
@@ -83,12 +66,12 @@ module _ (net : PlainNet) (round : ClosedWalk) (fixed : List Atom) (but : ℕ) (
   -- ranks that rose from zeros are low
   pub low_from_zeros : (zeros ranks : List ℕ) → zeros ≡ replicate (points net) 0 → Rises (FitsBut round.orders fixed but) zeros ranks → AreLow ranks
   low_from_zeros zeros ranks e rises p =
-      let size = zeros_size net zeros e in
+      let size = zeros_size (points net) zeros e in
       let long = rises.size in
       let few = net_is.few_intervals in
       elim (cases_lt p (length ranks)) [
         | inl lt ↦
-            let under = rises.under small.0 ((fits_but net round fixed but is are small.0).0 small.1) (zeros_under net zeros small.0 e) p lt in
+            let under = rises.under small.0 ((fits_but net round fixed but is are small.0).0 small.1) (zeros_under (points net) zeros e small.0) p lt in
             let below = small.2 p (omega arith) in
             omega arith
         | inr past ↦ omega (arith, get_or_past ranks p 0 past)
@@ -98,16 +81,15 @@ module _ (net : PlainNet) (round : ClosedWalk) (fixed : List Atom) (but : ℕ) (
   pub spare_of_zeros : (zeros ranks : List ℕ) → zeros ≡ replicate (points net) 0 → Rises (FitsBut round.orders fixed but) zeros ranks → FitsBut round.orders fixed but (timeline_of ranks)
       → IsSpare net (Kept round.over.items) but ranks
   spare_of_zeros zeros ranks e rises fits =
-      let size = zeros_size net zeros e in
-      let long = rises.size in
-      let under = λ (u : Timeline) (holds : FitsWith net Rest u). rises.under u ((fits_but net round fixed but is are u).0 holds) (zeros_under net zeros u e) in
+      let least = least_from_zeros (points net) zeros e (FitsBut round.orders fixed but) ranks rises fits in
+      let under = λ (u : Timeline) (holds : FitsWith net Rest u). least.1.least u ((fits_but net round fixed but is are u).0 holds) in
       record {
-        size = long ∙ size;
+        size = least.0;
         least = record {
-          holds = (fits_but net round fixed but is are (timeline_of ranks)).1 fits;
-          least = λ u holds p lt. under u holds p (omega arith);
+          holds = (fits_but net round fixed but is are (timeline_of ranks)).1 least.1.holds;
+          least = under;
         };
-        small = λ p lt. let below = under small.0 small.1 p (omega arith) in let few = small.2 p lt in omega arith;
+        small = λ p lt. let below = under small.0 small.1 p lt in let few = small.2 p lt in omega arith;
       }
 
 -- zeros that rise until they fit are the least ranks, and so a timeline fits
