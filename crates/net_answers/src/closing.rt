@@ -1,6 +1,6 @@
 //! Answers by the closure of the net of a document.
 ghost use Rattle.clash.specs.Closures.{IsClosureOf};
-ghost use Rattle.net_answers.specs.Nets.{of_net};
+ghost use Rattle.net_answers.specs.Nets.{of_fitting, of_net};
 ghost use Rattle.net_build.specs.Built.{IsNetOf};
 ghost use Rattle.net_core.specs.Entailment.{HasTimeline};
 ghost use Rattle.std.specs.Prelude.{IfOk};
@@ -60,13 +60,30 @@ pub fn answer_of_net<A: OfNet>(
     requires { A.is_of asked.now document.now }
     ensures { IfOk result (λ answer. of_net (A.says asked.now) document.now (finding_status answer.finding) answer.text.items) }
 {
-    let net = match net_of(alloc, document) {
-        Ok(net) => net,
-        Err(Memory) => return Err(AllocError),
-    };
-    match close(alloc, &net) {
-        Ok(closure) => asked.answer(alloc, document, &net, &closure),
-        Err(CloseFault::Clash(clash)) => clash_answer(alloc, &net, clash),
+    match net_of(alloc, document) {
+        Ok(net) => answer_by_closure(alloc, asked, document, &net),
+        Err(Memory) => Err(AllocError),
+    }
+}
+
+/// The same by the net of the document.
+///
+/// # Errors
+///
+/// Out of memory.
+pub fn answer_by_closure<A: OfNet>(
+    alloc: Global,
+    asked: &A,
+    document: &Document<'_>,
+    net: &Net,
+) -> Result<Answer, AllocError>
+    requires asked { A.is_of asked.now document.now }
+    requires built { IsNetOf document.now net.now }
+    ensures { IfOk result (λ answer. of_fitting (A.says asked.now document.now) net.now (finding_status answer.finding) answer.text.items) }
+{
+    match close(alloc, net) {
+        Ok(closure) => asked.answer(alloc, document, net, &closure),
+        Err(CloseFault::Clash(clash)) => clash_answer(alloc, net, clash),
         Err(CloseFault::Memory) => Err(AllocError),
     }
 }
