@@ -48,4 +48,6 @@ earlier_cite net cites are i k below less = elim (cases_lt k i) [
   | inl before ↦ absurd (omega (arith, are.rise k i before below, less))
   | inr at_most ↦ elim (cases_lt i k) [
     | inl lt ↦ lt
-    | inr other ↦ absurd (omega (arith, subst (λ (n : ℕ). cite_at cites i < cite_at cites n) (le_antisymm other at_most) less)) ] ]
+    | inr other ↦ absurd (omega (arith, subst (λ (n : ℕ). cite_at cites i < cite_at cites n) (le_antisymm other at_most) less))
+  ]
+]
