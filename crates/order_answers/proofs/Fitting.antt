@@ -19,7 +19,7 @@ use Rattle.net_core.proofs.FirstLaws.{first_or_none}
 use Rattle.net_core.proofs.StepLaws.{fits_fewer}
 use Rattle.net_core.proofs.WalkLaws.{walk_kept}
 use Rattle.order_closure.specs.Tables.{AreInRange}
-use Rattle.net_core.specs.Least.{AreLeast}
+use Rattle.net_core.specs.Least.{AreLeast, AreLeastRanks}
 use Rattle.clash.specs.Walks.{HasShortWalk}
 use Rattle.clash.proofs.Answered.{every_net, orders_are_answered}
 use Rattle.derive_rel.specs.declared.all_rows.Row.{Row}
@@ -176,13 +176,26 @@ module _ (net : PlainNet) (is : IsNet net) where
 
     -- ---- the answers
 
-    -- the text of the least timeline
-    pub some_timeline : (text : List ℕ) × ShowsTimeline net text
-    some_timeline = elim (every_net net is) [
-      | inl found ↦ let shown = timeline_text found.0 found.1 in (shown.0, (found.0, (found.1.size, found.1.least), shown.1))
+    -- there are least ranks that fit
+    least_ranks : (ranks : List ℕ) × AreLeast (points net) (Fits net) ranks
+    least_ranks = elim (every_net net is) [
+      | inl found ↦ found
       | inr found ↦ absurd (found.1.minimal.clashes fits.0 (fits_fewer net EveryLink (Contains found.0.cites) fits.0 (λ k below among. tt) fits.1))
     ]
+
+    -- the text of the least timeline
+    pub some_timeline : (text : List ℕ) × ShowsTimeline net text
+    some_timeline = let found = least_ranks in let shown = timeline_text found.0 found.1 in (shown.0, (found.0, (found.1.size, found.1.least), shown.1))
 
     -- the relations that follow
     pub some_relations : (rows : List Row) × AreRelations net rows
     some_relations = all_there (FollowsBetween net) (intervals net) row_or_not (λ row h. (h.0, h.1))
+
+  -- the least ranks that fit are below the number of points
+  pub least_below : (ranks : List ℕ) → AreLeastRanks net ranks → (p : ℕ) → p < length ranks → get_or ranks p 0 < length ranks
+  least_below ranks are p less =
+      let size = are.0 in
+      let found = least_ranks (timeline_of ranks, are.1.holds) in
+      let under = are.1.least (timeline_of found.0) found.1.least.holds p (omega arith) in
+      let small = found.1.small p (omega arith) in
+      omega arith

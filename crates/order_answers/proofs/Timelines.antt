@@ -1,6 +1,7 @@
 -- The least timeline of a document, and its text.
-use Rattle.std.proofs.Common.{◌≡◌, ℕ, List, length, sym, subst, ◌∙◌, arith}
+use Rattle.std.proofs.Common.{◌≡◌, ◌≤◌, ℕ, List, length, sym, subst, ◌∙◌, arith}
 use Rattle.net_core.specs.Fits.{Fits, RanksFit}
+use Rattle.net_core.specs.Limits.{max_printed}
 use Rattle.net_core.specs.Nets.{PlainNet, points}
 use Rattle.net_core.specs.Ranks.{pairs_of, timeline_of}
 use Rattle.net_core.specs.Relations.{Timeline}
@@ -25,13 +26,13 @@ least_fits net table t c l = record {
 pub timeline_supported : (net : PlainNet) (ranks : List ℕ) → RanksFit net ranks → IsSupported net (timeline (pairs_of ranks))
 timeline_supported net ranks fit = subst (RanksFit net) (sym (ranks_again ranks (even_length (length net.bounds) ranks fit.0))) fit
 
+-- the text of the least ranks that fit
+pub shows_least : (net : PlainNet) (ranks text : List ℕ) → AreLeastRanks net ranks → IsClaimText (timeline (pairs_of ranks)) text → length text ≤ max_printed → ShowsTimeline net text
+shows_least net ranks text (size, least) is short = (ranks, (size, least), (is, timeline_supported net ranks (size, least.holds), (timeline_of ranks, least.holds), short))
+
 -- the text of the least timeline of the closure is that of the net
 pub shows_timeline : (net : PlainNet) (table : Table) (text : List ℕ) → IsClosureOf net table → IsLeastText table text → ShowsTimeline net text
-shows_timeline net table text c l =
-    let ranks = l.0 in
-    let size = l.1 ∙ c.size in
-    let least = least_fits net table (timeline_of ranks) c l.2 in
-    (ranks, (size, least), (l.3, timeline_supported net ranks (size, least.holds), (timeline_of ranks, least.holds), l.4))
+shows_timeline net table text c l = shows_least net l.0 text (l.1 ∙ c.size, least_fits net table (timeline_of l.0) c l.2) l.3 l.4
 
 -- a net has one least timeline
 pub one_least : (net : PlainNet) (a b : List ℕ) → AreLeastRanks net a → AreLeastRanks net b → a ≡ b

@@ -3,13 +3,15 @@ ghost use Rattle.evidence_format.specs.Bundles.{IsClaimText};
 ghost use Rattle.evidence_format.specs.Evidence.{timeline};
 ghost use Rattle.net_core.specs.Limits.{max_points, max_printed};
 ghost use Rattle.net_core.specs.Ranks.{pairs_of};
-ghost use Rattle.order_answers.specs.Solve.{IsLeastText};
-ghost use Rattle.std.specs.Prelude.{◌≡◌, ◌<◌, ◌≤◌, ◌%◌, length, slice_index, IfOk, ℕ};
+ghost use Rattle.order_answers.specs.Solve.{IsLeastText, ShowsTimeline};
+ghost use Rattle.std.specs.Prelude.{◌≡◌, ◌<◌, ◌≤◌, ◌%◌, length, slice_index, IfOk, IfSome, ℕ};
 
 use answers::OfDocument;
 use evidence_format::Evidence;
-use net_answers::{OfNet, answer_of_net, evidence_text};
+use net_answers::{OfNet, answer_by_closure, evidence_text};
+use net_build::net_of;
 use net_core::{MAX_INTERVALS, Memory, Net, Ranks};
+use net_orders::least_timeline;
 use order_closure::Closed;
 use std::alloc::{AllocError, Global};
 use timeline::least;
@@ -28,7 +30,14 @@ impl OfDocument for Solve {
 
     /// The least timeline that fits the document, or a minimal clash where none does, as evidence.
     fn answer(&self, alloc: Global, document: &Document<'_>) -> Result<Answer, AllocError> {
-        answer_of_net(alloc, self, document)
+        let net = match net_of(alloc, document) {
+            Ok(net) => net,
+            Err(Memory) => return Err(AllocError),
+        };
+        match text_of_ranks(alloc, &net)? {
+            Some(text) => Ok(Answer::done(text)),
+            None => answer_by_closure(alloc, self, document, &net),
+        }
     }
 }
 
@@ -50,6 +59,18 @@ impl OfNet for Solve {
     ) -> Result<Answer, AllocError> {
         prove!(net.intervals() <= MAX_INTERVALS);
         Ok(Answer::done(least_text(alloc, closure)?))
+    }
+}
+
+/// The text of the least timeline that fits a net, where its ranks settle soon without a table.
+fn text_of_ranks(alloc: Global, net: &Net) -> Result<Option<Vec<u8>>, AllocError>
+    ensures { IfOk result (λ found. IfSome found (λ text. ShowsTimeline net.now text.items)) }
+{
+    prove!(net.intervals() <= MAX_INTERVALS);
+    match least_timeline(alloc, net) {
+        Ok(Some(ranks)) => Ok(Some(timeline_text(alloc, ranks)?)),
+        Ok(None) => Ok(None),
+        Err(Memory) => Err(AllocError),
     }
 }
 
