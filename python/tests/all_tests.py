@@ -12,6 +12,7 @@ from concurrent.futures import ProcessPoolExecutor, as_completed
 from multiprocessing import get_context
 from pathlib import Path
 
+from bytecode import compiled_once
 from one_file import run
 
 LONGEST = (
@@ -35,7 +36,8 @@ def main(words: Sequence[str]) -> int:
     names, passed = chosen(words), 0
     failed: set[str] = set()
     skipped: list[str] = []
-    with ProcessPoolExecutor(len(os.sched_getaffinity(0)), get_context("spawn"), max_tasks_per_child=1) as pool:
+    processors = len(os.sched_getaffinity(0))
+    with compiled_once(), ProcessPoolExecutor(processors, get_context("spawn"), max_tasks_per_child=1) as pool:
         running = {pool.submit(run, name): name for name in names}
         for future in as_completed(running):
             ran = future.result()

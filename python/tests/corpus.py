@@ -11,6 +11,7 @@ import unittest
 from pathlib import Path
 from typing import TypeVar
 
+from forked import run_forked
 from tml.statuses import DOCUMENT_LIMIT
 
 Value = TypeVar("Value")
@@ -121,9 +122,9 @@ class CorpusTest(unittest.TestCase):
 
     def run_it(self, *words: str, tml: str = TML) -> tuple[int, list[str], str]:
         """The status, the lines of standard output, and standard error."""
-        child = self.start(*words, tml=tml)
-        out, err = child.communicate(timeout=120)
-        return child.returncode, out.decode("utf-8", "replace").splitlines(), err.decode("utf-8", "replace")
+        command, *rest = words
+        ended = run_forked(COMPANION, command, "--tml", tml, *rest, folder=self.folder)
+        return ended.status, ended.out.decode("utf-8", "replace").splitlines(), ended.error.decode("utf-8", "replace")
 
     def notes(self, content: str | bytes, *words: str) -> list[str]:
         """The notes on a document, from line and column on."""
