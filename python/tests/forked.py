@@ -6,21 +6,25 @@ does not show.
 
 from __future__ import annotations
 
+import gc
 import importlib.util
 import io
-import multiprocessing
 import os
 import re
 import runpy
+import select
+import signal
 import subprocess
 import sys
 import tempfile
+import traceback
 from collections.abc import Mapping, Sequence
 from dataclasses import dataclass
 from pathlib import Path
-from typing import IO
+from typing import IO, NoReturn
 
-FORK = multiprocessing.get_context("fork")
+Streams = tuple[IO[bytes], IO[bytes], IO[bytes]]
+"""What standard input, standard output and standard error are."""
 
 
 @dataclass(frozen=True)
@@ -32,44 +36,81 @@ class Ended:
     error: bytes
 
 
+class Forked:
+    """A process that goes on as a program of Python with some words in a folder."""
+
+    def __init__(self, command: Sequence[str], folder: str, streams: Streams, environment: Mapping[str, str] = os.environ) -> None:
+        import_ahead(*command[:2])
+        self.command = command
+        self.number = os.fork()
+        if self.number == 0:
+            become(command, folder, streams, dict(environment))
+        self.ending = os.pidfd_open(self.number)
+        self.status: int | None = None
+
+    def wait(self, patience: float) -> int:
+        """Waits for the end, and answers the status, or the signal with a minus sign."""
+        if self.status is None:
+            if not select.select([self.ending], [], [], patience)[0]:
+                raise subprocess.TimeoutExpired(self.command, patience)
+            self.status = os.waitstatus_to_exitcode(os.waitpid(self.number, 0)[1])
+            os.close(self.ending)
+        return self.status
+
+    def send_signal(self, number: int) -> None:
+        """Sends a signal, where the process has not ended."""
+        if self.status is None:
+            os.kill(self.number, number)
+
+
 def run_forked(
     program: str, *words: str, folder: str, given: bytes = b"", environment: Mapping[str, str] = os.environ, patience: float = 120
 ) -> Ended:
-    """Runs a program of Python with some words in a folder, over some standard input."""
-    import_ahead(program, words)
+    """Runs a program to its end, over some standard input."""
     with tempfile.TemporaryFile() as stdin, tempfile.TemporaryFile() as out, tempfile.TemporaryFile() as error:
         stdin.write(given)
         stdin.seek(0)
-        child = FORK.Process(target=become, args=([program, *words], folder, (stdin, out, error), dict(environment)))
-        child.start()
-        child.join(patience)
-        if child.exitcode is None:
-            child.kill()
-            child.join()
-            raise subprocess.TimeoutExpired([program, *words], patience)
+        child = Forked([program, *words], folder, (stdin, out, error), environment)
+        try:
+            status = child.wait(patience)
+        finally:
+            child.send_signal(signal.SIGKILL)
+            child.wait(patience)
         out.seek(0)
         error.seek(0)
-        return Ended(child.exitcode, out.read(), error.read())
+        return Ended(status, out.read(), error.read())
 
 
-def import_ahead(program: str, words: Sequence[str]) -> None:
-    """Imports what the program does, and the command that the first word names, so that no later run imports it again."""
+def import_ahead(program: str, command: str = "") -> None:
+    """Imports what a program does, and what its command needs, so that no later run of this process imports it again."""
     for name in re.findall(r'^launch\("(.*)"\)$', Path(program).read_text(encoding="utf-8"), re.MULTILINE):
         importlib.import_module(name)
-        command = f"tml_corpus.commands.{words[0]}" if words and words[0].isidentifier() else ""
-        if name == "tml_corpus.command_line.main" and command and importlib.util.find_spec(command):
-            importlib.import_module(command)
+        if name == "tml_corpus.command_line.main" and command.isidentifier():
+            module = f"tml_corpus.commands.{command}"
+            if importlib.util.find_spec(module):
+                importlib.import_module(module)
 
 
-def become(command: Sequence[str], folder: str, streams: Sequence[IO[bytes]], environment: Mapping[str, str]) -> None:
-    """Has this process go on as a program. Other files stay open, for the objects that have them may be there still."""
-    os.chdir(folder)
-    os.environ.clear()
-    os.environ.update(environment)
-    for number, stream in enumerate(streams):
-        os.dup2(stream.fileno(), number)
-    sys.stdin, sys.stdout, sys.stderr = (
-        io.TextIOWrapper(io.FileIO(number, mode, closefd=False), "utf-8", write_through=True) for number, mode in enumerate("rww")
-    )
-    sys.argv[:] = command
-    runpy.run_path(command[0], run_name="__main__")
+def become(command: Sequence[str], folder: str, streams: Streams, environment: Mapping[str, str]) -> NoReturn:
+    """Goes on as a program, and ends with its status. Objects of this process stay, so that none closes a file of the program."""
+    gc.freeze()
+    status = 1
+    try:
+        for number, stream in enumerate(streams):
+            os.dup2(stream.fileno(), number)
+        os.closerange(len(streams), os.sysconf("SC_OPEN_MAX"))
+        os.chdir(folder)
+        os.environ.clear()
+        os.environ.update(environment)
+        sys.stdin, sys.stdout, sys.stderr = (
+            io.TextIOWrapper(io.FileIO(number, mode, closefd=False), "utf-8", write_through=True) for number, mode in enumerate("rww")
+        )
+        sys.argv[:] = command
+        runpy.run_path(command[0], run_name="__main__")
+        status = 0
+    except SystemExit as end:
+        status = end.code if isinstance(end.code, int) else int(end.code is not None)
+    except BaseException:
+        traceback.print_exc()
+    finally:
+        os._exit(status)
