@@ -12,6 +12,7 @@ from pathlib import Path
 from typing import TypeVar
 
 from forked import run_forked
+from processes import with_own_bytecode
 from tml.statuses import DOCUMENT_LIMIT
 
 Value = TypeVar("Value")
@@ -117,7 +118,11 @@ class CorpusTest(unittest.TestCase):
             stdin=subprocess.DEVNULL,
             stdout=subprocess.PIPE,
             stderr=subprocess.PIPE,
-            env={**os.environ, "PYTHONIOENCODING": "utf-8", "PYTHONDONTWRITEBYTECODE": "1"},
+            env={
+                **(os.environ if python == sys.executable else with_own_bytecode()),
+                "PYTHONIOENCODING": "utf-8",
+                "PYTHONDONTWRITEBYTECODE": "1",
+            },
         )
 
     def run_it(self, *words: str, tml: str = TML) -> tuple[int, list[str], str]:

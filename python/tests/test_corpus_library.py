@@ -19,7 +19,7 @@ from pathlib import Path
 from corpus import EVENT, INSTANCE, SOURCES, TESTS, TML, TOOLS, TOO_LONG, TOP, CorpusTest, document, match_in
 from daemons import PYTHON, ClusterTest
 from forked import run_forked
-from processes import is_running, until
+from processes import is_running, until, with_own_bytecode
 from tml import finding
 from tml_corpus.asking.archive import Sent, archive
 from tml_corpus.asking.libraries import AtPath, Loadable, library_of
@@ -48,7 +48,8 @@ class LibraryTest(CorpusTest):
     ) -> Streams:
         """The status and the bytes of both streams; no program is named where that is None."""
         chosen = [] if tml is None else ["--tml", os.path.abspath(tml)]
-        others = {name: value for name, value in os.environ.items() if name != "TML_LIBRARY"}
+        inherited = with_own_bytecode() if python else os.environ
+        others = {name: value for name, value in inherited.items() if name != "TML_LIBRARY"}
         environment = {**others, "PYTHONIOENCODING": "utf-8", "PYTHONDONTWRITEBYTECODE": "1", **variables}
         program, given = os.path.join(tools, "tml-corpus"), [command, *chosen, *words]
         if python is None and tools == TOOLS:
