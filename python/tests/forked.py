@@ -23,6 +23,9 @@ from dataclasses import dataclass
 from pathlib import Path
 from typing import IO, NoReturn
 
+LATER = ("pickle", "tml.library", "tml_corpus.asking.libraries")
+"""What most runs of `tml-corpus` import only where they need it."""
+
 Streams = tuple[IO[bytes], IO[bytes], IO[bytes]]
 """What standard input, standard output and standard error are."""
 
@@ -85,10 +88,10 @@ def import_ahead(program: str, command: str = "") -> None:
     """Imports what a program does, and what its command needs, so that no later run of this process imports it again."""
     for name in re.findall(r'^launch\("(.*)"\)$', Path(program).read_text(encoding="utf-8"), re.MULTILINE):
         importlib.import_module(name)
-        if name == "tml_corpus.command_line.main" and command.isidentifier():
-            module = f"tml_corpus.commands.{command}"
-            if importlib.util.find_spec(module):
-                importlib.import_module(module)
+        module = f"tml_corpus.commands.{command}"
+        if name == "tml_corpus.command_line.main" and command.isidentifier() and importlib.util.find_spec(module):
+            for needed in (module, *LATER):
+                importlib.import_module(needed)
 
 
 def become(command: Sequence[str], folder: str, streams: Streams, environment: Mapping[str, str]) -> NoReturn:
