@@ -1,5 +1,5 @@
 -- The cites of a clash.
-use Rattle.std.proofs.Common.{◌≡◌, ℕ, zero, suc, ◌<◌, ◌≤◌, List, length, map, refl, add-one, arith}
+use Rattle.std.proofs.Common.{◌≡◌, ℕ, zero, suc, ◌<◌, ◌≤◌, inl, inr, List, length, map, refl, subst, le_antisymm, add-one, arith}
 use Rattle.std.specs.List.Sorted.{IsStrictlyIncreasing}
 use Rattle.std.proofs.lemmas.List.Kept.{AllPairs-from_increasing}
 use Rattle.net_core.specs.Nets.{PlainNet}
@@ -10,6 +10,7 @@ use Rattle.evidence_check.specs.Asked.{AreRisingLinks}
 use Rattle.evidence_check.specs.Refusals.{cite_at}
 use Rattle.evidence_check.specs.Supported.{AreLinks}
 use Rattle.std.proofs.lemmas.List.Elements.{All-get_or}
+use Rattle.std.proofs.lemmas.Bool.{cases_lt}
 
 -- each of the numbers that rise is at least its place
 at_least : (cites : List ℕ) → IsStrictlyIncreasing cites → (i : ℕ) → i < length cites → i ≤ cite_at cites i
@@ -40,3 +41,13 @@ rising_links net cites rise links = record {
 pub same_clash : (cites cs : List ℕ) (walk w : List Step) (spares ss : List (List ℕ)) → cs ≡ cites → w ≡ walk → ss ≡ spares
     → clash cs w (map pairs_of ss) ≡ clash cites walk (map pairs_of spares)
 same_clash cites cs walk w spares ss e f g = λ i. clash (e i) (f i) (map pairs_of (g i))
+
+-- of two links that are cited the one with the lower number is cited first
+pub earlier_cite : (net : PlainNet) (cites : List ℕ) → AreRisingLinks net cites → (i k : ℕ) → i < length cites → cite_at cites i < cite_at cites k → i < k
+earlier_cite net cites are i k below less = elim (cases_lt k i) [
+  | inl before ↦ absurd (omega (arith, are.rise k i before below, less))
+  | inr at_most ↦ elim (cases_lt i k) [
+    | inl lt ↦ lt
+    | inr other ↦ absurd (omega (arith, subst (λ (n : ℕ). cite_at cites i < cite_at cites n) (le_antisymm other at_most) less))
+  ]
+]
