@@ -16,8 +16,8 @@ from bytecode import compiled_once
 from one_file import run
 
 LONGEST = (
-    "test_attacks", "test_differential", "test_corpus_library", "test_library", "test_timeline", "test_cluster", "test_library_rows",
-    "test_inquiry", "test_recipes", "test_serve", "test_serve_fixes", "test_refused_memory", "test_scripts", "test_small_nets",
+    "test_attacks", "test_differential", "test_library", "test_library_rows", "test_recipes", "test_serve", "test_small_nets",
+    "test_refused_memory", "test_timeline", "test_cluster", "test_report", "test_reference", "test_corpus_library", "test_matrix",
 )  # fmt: skip
 """The files of tests that take longest."""
 
