@@ -19,7 +19,7 @@ use walks::walk;
 pub fn proof_text(alloc: Global, net: &Net, a: u32, rel: Rel, b: u32) -> Result<Vec<u8>, AllocError>
     requires intervals { AreIntervals net.now a b }
     requires fits { HasTimeline net.now }
-    requires always { let atoms = atoms_of_relation rel a b in IsFirst (length atoms) (λ k. AlwaysHolds net.now (atom_at atoms k)) None }
+    requires always { let atoms = atoms_of_relation a rel b in IsFirst (length atoms) (λ k. AlwaysHolds net.now (atom_at atoms k)) None }
     ensures { IfOk result (λ text. ShowsProof net.now a rel b text.items) }
 {
     prove!(net.intervals() <= MAX_INTERVALS);
