@@ -12,11 +12,12 @@ from concurrent.futures import ProcessPoolExecutor, as_completed
 from multiprocessing import get_context
 from pathlib import Path
 
+from bytecode import compiled_once
 from one_file import run
 
 LONGEST = (
-    "test_attacks", "test_differential", "test_corpus_library", "test_library", "test_timeline", "test_cluster", "test_library_rows",
-    "test_inquiry", "test_recipes", "test_serve", "test_serve_fixes", "test_refused_memory", "test_scripts", "test_small_nets",
+    "test_attacks", "test_differential", "test_library", "test_library_rows", "test_recipes", "test_serve", "test_small_nets",
+    "test_refused_memory", "test_timeline", "test_cluster", "test_report", "test_reference", "test_corpus_library", "test_matrix",
 )  # fmt: skip
 """The files of tests that take longest."""
 
@@ -35,7 +36,8 @@ def main(words: Sequence[str]) -> int:
     names, passed = chosen(words), 0
     failed: set[str] = set()
     skipped: list[str] = []
-    with ProcessPoolExecutor(len(os.sched_getaffinity(0)), get_context("spawn"), max_tasks_per_child=1) as pool:
+    processors = len(os.sched_getaffinity(0))
+    with compiled_once(), ProcessPoolExecutor(processors, get_context("spawn"), max_tasks_per_child=1) as pool:
         running = {pool.submit(run, name): name for name in names}
         for future in as_completed(running):
             ran = future.result()

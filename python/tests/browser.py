@@ -2,8 +2,10 @@
 
 from __future__ import annotations
 
+import atexit
 import base64
 import contextlib
+import functools
 import json
 import os
 import select
@@ -31,30 +33,20 @@ PATIENCE = 60
 IN_PIPES = 'exec "$@" 3<&0 4>&1 </dev/null >/dev/null 2>&1'
 
 
-class Browser:
-    """One browser with one page. What the page says on the console, and what the browser says of it, is in `said`."""
+class Program:
+    """The program, which has many pages: messages go to it and come from it."""
 
-    def __init__(self, width: int = 1400, height: int = 900) -> None:
+    def __init__(self) -> None:
         self.folder = tempfile.TemporaryDirectory(ignore_cleanup_errors=True)
-        own = ["--remote-debugging-pipe", f"--user-data-dir={self.folder.name}", f"--window-size={width},{height}"]
-        program = [needed(CHROMIUM), *WORDS, *own, "about:blank"]
+        program = [needed(CHROMIUM), *WORDS, "--remote-debugging-pipe", f"--user-data-dir={self.folder.name}", "about:blank"]
         self.child = subprocess.Popen(["sh", "-c", IN_PIPES, "sh", *program], stdin=subprocess.PIPE, stdout=subprocess.PIPE)
         self.input, self.output = needed(self.child.stdin), needed(self.child.stdout)
-        self.number, self.loaded, self.received = 0, False, bytearray()
-        self.session: str | None = None
-        self.said: list[str] = []
-        [page] = [one for one in self.ask("Target.getTargets")["targetInfos"] if one["type"] == "page"][:1]
-        self.session = self.ask("Target.attachToTarget", targetId=page["targetId"], flatten=True)["sessionId"]
-        for domain in ("Page", "Runtime", "Log"):
-            self.ask(f"{domain}.enable")
+        self.number, self.received = 0, bytearray()
 
-    def __enter__(self) -> Browser:
-        return self
-
-    def __exit__(self, *error: object) -> None:
-        self.session = None
+    def end(self) -> None:
+        """Ends the program."""
         with contextlib.suppress(OSError):
-            self.send("Browser.close", {})
+            self.send("Browser.close", {}, None)
         self.input.close()
         try:
             self.child.wait(PATIENCE)
@@ -64,12 +56,13 @@ class Browser:
         self.output.close()
         self.folder.cleanup()
 
-    def send(self, method: str, words: Json) -> None:
-        """Sends one message."""
+    def send(self, method: str, words: Json, session: str | None) -> int:
+        """Sends one message, to a page where one is named, and answers its number."""
         self.number += 1
-        message = {"id": self.number, "method": method, "params": words} | ({"sessionId": self.session} if self.session else {})
+        message = {"id": self.number, "method": method, "params": words} | ({"sessionId": session} if session else {})
         self.input.write(json.dumps(message).encode() + b"\0")
         self.input.flush()
+        return self.number
 
     def receive(self) -> Json:
         """The next message of the browser."""
@@ -83,12 +76,46 @@ class Browser:
         received: Json = json.loads(message)
         return received
 
+
+@functools.cache
+def running() -> Program:
+    """The program of this process, which starts once and ends with it."""
+    program = Program()
+    atexit.register(program.end)
+    return program
+
+
+class Browser:
+    """One page, which shares nothing with others. What it says on the console, and what the browser says of it, is in `said`."""
+
+    def __init__(self, width: int = 1400, height: int = 900) -> None:
+        self.program, self.loaded = running(), False
+        self.session: str | None = None
+        self.said: list[str] = []
+        self.context = self.ask("Target.createBrowserContext")["browserContextId"]
+        own = {"browserContextId": self.context, "width": width, "height": height, "newWindow": True}
+        page = self.ask("Target.createTarget", url="about:blank", **own)["targetId"]
+        self.session = self.ask("Target.attachToTarget", targetId=page, flatten=True)["sessionId"]
+        for domain in ("Page", "Runtime", "Log"):
+            self.ask(f"{domain}.enable")
+
+    def __enter__(self) -> Browser:
+        return self
+
+    def __exit__(self, *error: object) -> None:
+        self.session = None
+        try:
+            self.ask("Target.disposeBrowserContext", browserContextId=self.context)
+        except (EOFError, OSError):
+            # It has ended: the next page needs another.
+            running.cache_clear()
+
     def ask(self, method: str, **words: object) -> Json:
         """What the browser answers; events are noted on the way."""
-        self.send(method, words)
+        number = self.program.send(method, words, self.session)
         while True:
-            message = self.receive()
-            if message.get("id") == self.number:
+            message = self.program.receive()
+            if message.get("id") == number:
                 if "error" in message:
                     raise RuntimeError(message["error"])
                 result: Json = message["result"]
@@ -96,7 +123,9 @@ class Browser:
             self.note(message)
 
     def note(self, message: Json) -> None:
-        """Takes an event into account."""
+        """Takes an event of this page into account."""
+        if message.get("sessionId") != self.session:
+            return
         words = message.get("params", {})
         if message.get("method") == "Page.loadEventFired":
             self.loaded = True
@@ -114,7 +143,7 @@ class Browser:
         self.loaded = False
         self.ask("Page.navigate", url="file://" + os.path.abspath(path))
         while not self.loaded:
-            self.note(self.receive())
+            self.note(self.program.receive())
 
     def value(self, expression: str) -> Any:
         """The value of an expression in the page."""

@@ -11,6 +11,8 @@ import unittest
 from pathlib import Path
 from typing import TypeVar
 
+from forked import run_forked
+from processes import with_own_bytecode
 from tml.statuses import DOCUMENT_LIMIT
 
 Value = TypeVar("Value")
@@ -116,14 +118,18 @@ class CorpusTest(unittest.TestCase):
             stdin=subprocess.DEVNULL,
             stdout=subprocess.PIPE,
             stderr=subprocess.PIPE,
-            env={**os.environ, "PYTHONIOENCODING": "utf-8", "PYTHONDONTWRITEBYTECODE": "1"},
+            env={
+                **(os.environ if python == sys.executable else with_own_bytecode()),
+                "PYTHONIOENCODING": "utf-8",
+                "PYTHONDONTWRITEBYTECODE": "1",
+            },
         )
 
     def run_it(self, *words: str, tml: str = TML) -> tuple[int, list[str], str]:
         """The status, the lines of standard output, and standard error."""
-        child = self.start(*words, tml=tml)
-        out, err = child.communicate(timeout=120)
-        return child.returncode, out.decode("utf-8", "replace").splitlines(), err.decode("utf-8", "replace")
+        command, *rest = words
+        ended = run_forked(COMPANION, command, "--tml", tml, *rest, folder=self.folder)
+        return ended.status, ended.out.decode("utf-8", "replace").splitlines(), ended.error.decode("utf-8", "replace")
 
     def notes(self, content: str | bytes, *words: str) -> list[str]:
         """The notes on a document, from line and column on."""

@@ -9,7 +9,7 @@ import tempfile
 import unittest
 
 from corpus import TML, CorpusTest, needed, text_at
-from processes import interpreter, until
+from processes import interpreter, until, with_own_bytecode
 
 
 PYTHON = interpreter("import sys, distributed; sys.exit(sys.version_info < (3, 11))")
@@ -29,10 +29,9 @@ class Daemons:
     def start(self, kind: str, *words: str) -> tuple[subprocess.Popen[bytes], str]:
         """Starts a scheduler or a worker, and answers it with the file that has what it says."""
         environment = {
-            **os.environ,
+            **with_own_bytecode(),
             "DASK_DISTRIBUTED__SCHEDULER__ALLOWED_FAILURES": "1",
             "PATH": self.folder + os.pathsep + os.environ["PATH"],
-            "PYTHONDONTWRITEBYTECODE": "1",
         }
         log = os.path.join(self.folder, f"{len(self.children)}.log")
         with open(log, "wb") as file:

@@ -25,9 +25,17 @@ def until(happens: Callable[[], object], seconds: float) -> None:
         time.sleep(0.02)
 
 
+def with_own_bytecode() -> dict[str, str]:
+    """The environment for what has its compiled modules beside them: another interpreter, and packages that are not of this repository."""
+    return {name: value for name, value in os.environ.items() if name != "PYTHONPYCACHEPREFIX"} | {"PYTHONDONTWRITEBYTECODE": "1"}
+
+
 def interpreter(script: str) -> str | None:
     """This interpreter or that of the system, whichever first runs a script to its end; None where neither does."""
+    environment = with_own_bytecode()
     for python in (sys.executable, "/usr/bin/python3"):
-        if os.access(python, os.X_OK) and subprocess.run([python, "-c", script], stderr=subprocess.DEVNULL, check=False).returncode == 0:
+        if not os.access(python, os.X_OK):
+            continue
+        if subprocess.run([python, "-c", script], env=environment, stderr=subprocess.DEVNULL, check=False).returncode == 0:
             return python
     return None

@@ -4,11 +4,11 @@ from __future__ import annotations
 
 import json
 import os
-import subprocess
-import sys
+import signal
 from typing import Any
 
 from corpus import COMPANION, TML, TOP, CorpusTest
+from forked import Forked
 
 from tml.tags.edits import Edit, applied
 from tml_corpus.lint.kinds import chosen
@@ -40,16 +40,11 @@ class Client:
     """An editor: it sends, and takes what comes."""
 
     def __init__(self, folder: str, *words: str, tml: str = TML, **environment: str) -> None:
-        self.child = subprocess.Popen(
-            [sys.executable, COMPANION, "serve", "--tml", tml, *words],
-            cwd=folder,
-            stdin=subprocess.PIPE,
-            stdout=subprocess.PIPE,
-            stderr=subprocess.PIPE,
-            env={**os.environ, "PYTHONDONTWRITEBYTECODE": "1", **environment},
-        )
-        assert self.child.stdin is not None and self.child.stdout is not None and self.child.stderr is not None
-        self.input, self.output, self.errors = self.child.stdin, self.child.stdout, self.child.stderr
+        pipes = [[os.fdopen(end, mode) for end, mode in zip(os.pipe(), ("rb", "wb"))] for _ in range(3)]
+        (given, self.input), (self.output, out), (self.errors, error) = pipes
+        with given, out, error:
+            command = [COMPANION, "serve", "--tml", tml, *words]
+            self.child = Forked(command, folder, (given, out, error), {**os.environ, **environment})
         self.incoming = Incoming(lambda size: os.read(self.output.fileno(), size))
         self.number = 0
         self.told: list[Json] = []
@@ -110,7 +105,7 @@ class Client:
 
     def close(self) -> None:
         """Ends the server where it has not ended."""
-        self.child.kill()
+        self.child.send_signal(signal.SIGKILL)
         self.child.wait(60)
         for stream in (self.input, self.output, self.errors):
             try:

@@ -42,6 +42,7 @@ from unittest import mock
 import tomllib  # noqa: F401
 
 from corpus import TML, TOOLS, TOP, CorpusTest, document
+from forked import run_forked
 from processes import is_running, until
 from tml.process import Process
 from tml.statuses import DOCUMENT_LIMIT
@@ -86,11 +87,11 @@ PROGRAMS = (
 
 
 MEASURING = """
-import resource, subprocess, sys
-status = subprocess.call(sys.argv[2:])
-used = resource.getrusage(resource.RUSAGE_CHILDREN)
+import os, sys
+child = os.posix_spawn(sys.argv[2], sys.argv[2:], os.environ)
+_, status, used = os.wait4(child, 0)
 with open(sys.argv[1], "w") as out:
-    print(status, used.ru_utime + used.ru_stime, used.ru_maxrss, file=out)
+    print(os.waitstatus_to_exitcode(status), used.ru_utime + used.ru_stime, used.ru_maxrss, file=out)
 """
 """A small program that runs another one and says what it took. The memory of a process counts from that of the one that starts it on."""
 
@@ -160,6 +161,12 @@ class AttackTest(CorpusTest):
             return Ended(ended, printed, complained)
         status, seconds, kibibytes = self.taken("used").split()
         return Ended(int(status), printed, complained, float(seconds), int(kibibytes) / 1024)
+
+    def called(self, command: str, *names: str, tml: str = TML) -> Ended:
+        """Runs a command of a table, on further names, where it shows nothing how its process begins, or what it takes."""
+        name, *words = [os.path.abspath(tml) if word == "TML" else word for word in command.split(" ")]
+        ended = run_forked(os.path.join(TOOLS, name), *words, *names, folder=self.folder)
+        return Ended(ended.status, ended.out.decode(), ended.error.decode())
 
     def taken(self, name: str) -> bytes:
         """The content of a file, which is taken away."""
@@ -276,7 +283,7 @@ class Settings(AttackTest):
         said = f"tml-corpus: {place} belongs to another user and is not read (--config FILE reads it)\n"
         for path, status, error in (("c/d", 1, said), ("c/d/a.xml", 1, said), ("c", 0, ""), ("--config c/tml-corpus.toml c/d", 0, "")):
             with self.subTest(path):
-                ended = self.ended(f"tml-corpus check --tml TML {path}")
+                ended = self.called(f"tml-corpus check --tml TML {path}")
                 self.assertEqual((ended.status, ended.error), (status, error), ended)
 
     @needs_root
@@ -295,12 +302,12 @@ class Settings(AttackTest):
         self.write("c/tml-corpus.toml", 'wrappers = ["own"]')
         self.write("c/d/tml-corpus.toml", "x = 1")
         os.chown(self.path("c/d/tml-corpus.toml"), STRANGER, STRANGER)
-        self.assertEqual(self.ended("tml-corpus check --tml TML c/d/e").status, 0)
+        self.assertEqual(self.called("tml-corpus check --tml TML c/d/e").status, 0)
         # Nor is a link of a stranger one of this user's files.
         os.rename(self.path("c/tml-corpus.toml"), self.path("c/own.toml"))
         os.symlink("own.toml", self.path("c/tml-corpus.toml"))
         os.chown(self.path("c/tml-corpus.toml"), STRANGER, STRANGER, follow_symlinks=False)
-        ended = self.ended("tml-corpus check --tml TML c/d/e")
+        ended = self.called("tml-corpus check --tml TML c/d/e")
         self.assertEqual((ended.status, ended.error.count("belongs to another user")), (1, 2))
 
 
@@ -381,7 +388,7 @@ class Programs(AttackTest):
         for question, other, command in rows:
             with self.subTest(question):
                 fake = self.fake(f'if [ $1 = {question} ]; then exec {TML} {other} -; fi\nexec {TML} "$@"')
-                ended = self.ended(command, tml=fake)
+                ended = self.called(command, tml=fake)
                 self.assertEqual(ended.status, 2, ended)
                 self.assertIn(f"tml answered status 0 to `{question}`, and a text that does not go with it", ended.out)
 
@@ -399,7 +406,7 @@ class Programs(AttackTest):
                 f'if [ $1 = {question} ] && grep -q liar "$0.$$"; then sed "{lie}" "$0.$$.said"; else cat "$0.$$.said"; fi; exit $status'
             )
             with self.subTest(question):
-                ended = self.ended(command, tml=fake)
+                ended = self.called(command, tml=fake)
                 self.assertEqual((ended.status, ended.error), (2, ""))
                 self.assertRegex(ended.out, r"(?m)^2 files(: 1 accepted|: 0 with a clash, 1 without|, 1 skipped)")
                 self.assertIn("and a text that does not go with it", ended.out)
@@ -583,7 +590,7 @@ class Digests(AttackTest):
             ("tml-corpus report --tml TML c -o pages", "pages/documents"), ("tml-corpus clashes --tml TML --evidence kept c", "kept")
         ):
             with self.subTest(command):
-                self.assertEqual(self.ended(command).status, 1)
+                self.assertEqual(self.called(command).status, 1)
                 names = os.listdir(self.path(folder))
                 self.assertEqual(len(names), 2)
                 for name in names:
@@ -624,12 +631,9 @@ class Names(AttackTest):
 
     def harmless(self, command: str, *names: str) -> None:
         """Runs a command on some names, and looks at each line that it prints."""
-        script, *words = command.split(" ")
-        words = [os.path.abspath(TML) if word == "TML" else word for word in words]
-        run = [sys.executable, os.path.join(TOOLS, script), *words, *names]
-        done = subprocess.run(run, cwd=self.folder, env=ENVIRONMENT, capture_output=True, check=False, timeout=300)
-        self.assertGreater(len(done.stdout + done.stderr), 0)
-        for line in (done.stdout + done.stderr).decode().split("\n"):
+        ended = self.called(command, *names)
+        self.assertGreater(len(ended.out + ended.error), 0)
+        for line in (ended.out + ended.error).split("\n"):
             self.assertTrue(line.isprintable(), line)
             self.assertNotRegex(line, r"##(\[|vso|teamcity)")
             if "github" not in command:
@@ -680,7 +684,7 @@ class Tables(AttackTest):
             with self.subTest(said):
                 self.begin_anew()
                 self.write(f"in/{table}", content)
-                ended = self.ended(self.of(script))
+                ended = self.called(self.of(script))
                 self.assertEqual((ended.status, ended.out, ended.error.count("\n")), (1, "", 1), ended)
                 self.assertTrue(ended.error.startswith(f"{script}: in/{table}:{said}"), ended.error)
 
@@ -691,7 +695,7 @@ class Tables(AttackTest):
                 if os.path.exists(self.path(f"in/{table}")):
                     os.unlink(self.path(f"in/{table}"))
                 os.mkfifo(self.path(f"in/{table}"))
-                ended = self.ended(self.of(script))
+                ended = self.called(self.of(script))
                 self.assertEqual((ended.status, ended.out, ended.error.count("\n")), (2, "", 1))
                 self.assertIn(f"in/{table}: is not a regular file", ended.error)
 
@@ -728,7 +732,7 @@ class Tables(AttackTest):
         self.write("in/base-segmentation.tab", "a\t0\t0\tx\n")
         self.write("in/timex-extents.tab", "a\t0\t0\ttimex3\tt1\t1\n")
         self.write("in/timex-attributes.tab", 'a\t0\t0\ttimex3\tt1\t1\tx="1"><P\ty\n')
-        ended = self.ended(self.of("from-tempeval2"))
+        ended = self.called(self.of("from-tempeval2"))
         self.assertEqual(ended.status, 1)
         self.assertIn("timex-attributes.tab:1:19: 'x=\"1\"><P' is not a name of an attribute", ended.error)
 

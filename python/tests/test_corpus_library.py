@@ -18,7 +18,8 @@ from pathlib import Path
 
 from corpus import EVENT, INSTANCE, SOURCES, TESTS, TML, TOOLS, TOO_LONG, TOP, CorpusTest, document, match_in
 from daemons import PYTHON, ClusterTest
-from processes import is_running, until
+from forked import run_forked
+from processes import is_running, until, with_own_bytecode
 from tml import finding
 from tml_corpus.asking.archive import Sent, archive
 from tml_corpus.asking.libraries import AtPath, Loadable, library_of
@@ -41,31 +42,22 @@ needs_library = unittest.skipUnless(os.path.isfile(LIBRARY), f"no library {LIBRA
 needs_cc = unittest.skipUnless(shutil.which("cc"), "no program cc")
 
 
-BYTECODE: dict[str, str] = {}
-"""The folder in which all runs find the compiled modules of the tools, so that they are compiled once."""
-
-
-def setUpModule() -> None:
-    held = tempfile.TemporaryDirectory()
-    unittest.addModuleCleanup(held.cleanup)
-    BYTECODE["PYTHONPYCACHEPREFIX"] = held.name
-
-
 class LibraryTest(CorpusTest):
     def run_bytes(
         self, command: str, *words: str, tml: str | None = TML, tools: str = TOOLS, python: str | None = None, **variables: str
     ) -> Streams:
         """The status and the bytes of both streams; no program is named where that is None."""
         chosen = [] if tml is None else ["--tml", os.path.abspath(tml)]
-        environment = {name: value for name, value in os.environ.items() if name not in ("TML_LIBRARY", "PYTHONDONTWRITEBYTECODE")}
+        inherited = with_own_bytecode() if python else os.environ
+        others = {name: value for name, value in inherited.items() if name != "TML_LIBRARY"}
+        environment = {**others, "PYTHONIOENCODING": "utf-8", "PYTHONDONTWRITEBYTECODE": "1", **variables}
+        program, given = os.path.join(tools, "tml-corpus"), [command, *chosen, *words]
+        if python is None and tools == TOOLS:
+            ended = run_forked(program, *given, folder=self.folder, environment=environment)
+            return ended.status, ended.out, ended.error
+        run = [python or sys.executable, program, *given]
         done = subprocess.run(
-            [python or sys.executable, os.path.join(tools, "tml-corpus"), command, *chosen, *words],
-            cwd=self.folder,
-            stdin=subprocess.DEVNULL,
-            capture_output=True,
-            check=False,
-            timeout=120,
-            env={**environment, **BYTECODE, "PYTHONIOENCODING": "utf-8", **variables},
+            run, cwd=self.folder, stdin=subprocess.DEVNULL, capture_output=True, check=False, timeout=120, env=environment
         )
         return done.returncode, done.stdout, done.stderr
 

@@ -12,6 +12,7 @@ import sys
 import tempfile
 import unittest
 from collections import Counter
+from collections.abc import Callable, Iterable
 from dataclasses import replace
 from pathlib import Path
 from random import Random
@@ -84,6 +85,15 @@ class Drawing(unittest.TestCase):
         self.assertEqual(drawn(1), drawn(1))
         self.assertNotEqual(drawn(1), drawn(2))
 
+    def all_are_drawn(self, wanted: Iterable[str], cases: Iterable[Case], answer: Callable[[Case], str]) -> None:
+        """Each answer that is wanted is that of one of the cases, of which no more are drawn than that takes."""
+        missing = set(wanted)
+        for case in cases:
+            missing.discard(answer(case))
+            if not missing:
+                break
+        self.assertEqual(missing, set())
+
     def test_all_kinds_of_fault_are_drawn(self) -> None:
         random, kinds = Random(3), Counter[bytes]()
         many = (Case("", (b"check", b"d"), {b"d": draw_too_many(random)}) for _ in range(100))
@@ -109,51 +119,54 @@ class Drawing(unittest.TestCase):
         self.assertEqual(joined([both, NO_INTERVALS])[:24], b"tml-evidence 2\nclaims 3\n")
 
     def test_all_answers_about_evidence_are_drawn(self) -> None:
-        random, beginnings = Random(4), Counter[tuple[bytes, bytes]]()
-        for case in (draw_of_evidence(random, WRITTEN) for _ in range(1500)):
+        def beginning(case: Case) -> str:
             found = expected(case.words, case.files)
-            if isinstance(found, Outcome):
-                several = b" and more" if found.text.startswith(b"verified") and found.text.count(b"\n") > 1 else b""
-                beginnings[case.words[0], b" ".join(found.text.split()[:2]) + several] += 1
-        for command, text in (
-            (b"verify", b"verified timeline"),
-            (b"verify", b"verified timeline and more"),
-            (b"verify", b"evidence line"),
-            (b"verify", b"evidence claim"),
-            (b"renew", b"tml-evidence 2"),
-            (b"renew", b"evidence line"),
-            (b"renew", b"read fault"),
-            (b"join", b"tml-evidence 2"),
-            (b"join", b"evidence line"),
-            (b"join", b"second line"),
-            (b"join", b"read fault"),
-        ):
-            self.assertGreater(beginnings[command, text], 0, (command, text))
+            text = found.text if isinstance(found, Outcome) else b"free"
+            several = b" and more" if text.startswith(b"verified") and text.count(b"\n") > 1 else b""
+            return f"{case.words[0].decode()}: {b' '.join(text.split()[:2]).decode()}{several.decode()}"
+
+        random = Random(4)
+        wanted = (
+            "verify: verified timeline",
+            "verify: verified timeline and more",
+            "verify: evidence line",
+            "verify: evidence claim",
+            "renew: tml-evidence 2",
+            "renew: evidence line",
+            "renew: read fault",
+            "join: tml-evidence 2",
+            "join: evidence line",
+            "join: second line",
+            "join: read fault",
+        )
+        self.all_are_drawn(wanted, (draw_of_evidence(random, WRITTEN) for _ in range(1500)), beginning)
 
     def test_all_answers_to_score_are_drawn(self) -> None:
-        random, answers = Random(6), Counter[str]()
-        for case in (draw_scored(random) for _ in range(600)):
+        def answer(case: Case) -> str:
             found = expected(case.words, case.files)
             text = found.text.decode() if isinstance(found, Outcome) else "clash"
             kind = re.sub(r"^fault.*", "fault", " ".join(text.split()[:2]))
-            answers[re.sub(r"[1-9]\d*", "N", text) if text.startswith("precision") else kind] += 1
+            return re.sub(r"[1-9]\d*", "N", text) if text.startswith("precision") else kind
+
+        random = Random(6)
         scores = ("precision N of N\nrecall N of N\n", "precision 0 of N\nrecall N of N\n", "precision 0 of 0\nrecall 0 of 0\n")
-        for answer in (*scores, "fault", "key fault", "clash", "key clash", "read fault"):
-            self.assertGreater(answers[answer], 0, (answer, answers))
+        wanted = (*scores, "fault", "key fault", "clash", "key clash", "read fault")
+        self.all_are_drawn(wanted, (draw_scored(random) for _ in range(600)), answer)
 
     def test_all_answers_to_seconds_and_confirm_are_drawn(self) -> None:
-        random, answers = Random(8), Counter[str]()
-        for case in (draw_timed(random) for _ in range(400)):
+        def status(case: Case) -> str:
+            return f"{case.words[0].decode()} {expected(case.words, case.files).status}"
+
+        def beginning(case: Case) -> str:
             found = expected(case.words, case.files)
-            answers[f"{case.words[0].decode()} {found.status}"] += 1
-        self.assertGreater(min(answers["seconds 0"], answers["seconds 2"], answers["confirm 0"], answers["confirm 7"]), 0, answers)
-        for case in (draw_confirming(random, PLACINGS) for _ in range(3000)):
-            found = expected(case.words, case.files)
-            if isinstance(found, Outcome):
-                answers[" ".join(found.text.decode().split()[:2])] += 1
+            return " ".join(found.text.decode().split()[:2]) if isinstance(found, Outcome) else "free"
+
+        random = Random(8)
+        timed = (draw_timed(random) for _ in range(400))
+        self.all_are_drawn(("seconds 0", "seconds 2", "confirm 0", "confirm 7"), timed, status)
         reasons = ("Size", "Order", "Link", "Bound", "Length", "Step", "End", "Sum")
-        for answer in ("confirmed placing", "confirmed cycle", "evidence line", *(f"seconds {reason}" for reason in reasons)):
-            self.assertGreater(answers[answer], 0, (answer, answers))
+        wanted = ("confirmed placing", "confirmed cycle", "evidence line", *(f"seconds {reason}" for reason in reasons))
+        self.all_are_drawn(wanted, (draw_confirming(random, PLACINGS) for _ in range(3000)), beginning)
 
     def test_a_second_file_that_fails_is_drawn(self) -> None:
         random, failing = Random(5), 0

@@ -1,20 +1,20 @@
 """The help of the programs: its examples name what was called, be it a file of tools/ or an installed command."""
 
 import os
-import subprocess
-import sys
 import tempfile
 import unittest
 
 from building.package import SCRIPTS
 from corpus import TOOLS
+from forked import run_forked
 
 
 class Help(unittest.TestCase):
     def said(self, program: str, *words: str) -> str:
         """What a program prints."""
-        command, environment = [sys.executable, program, *words], {**os.environ, "PYTHONDONTWRITEBYTECODE": "1"}
-        return subprocess.run(command, capture_output=True, text=True, check=True, env=environment).stdout
+        ended = run_forked(program, *words, folder=os.getcwd())
+        self.assertEqual(ended.status, 0, ended)
+        return ended.out.decode()
 
     def test_the_installed_command_is_named(self) -> None:
         with tempfile.TemporaryDirectory() as folder:

@@ -3,13 +3,12 @@
 import json
 import os
 import signal
-import subprocess
-import sys
 import unittest
 import xml.etree.ElementTree as ElementTree
 from typing import IO
 
 from corpus import COMPANION, TML, TOO_LONG, CorpusTest, document, needed
+from forked import run_forked
 from test_scripts import A, B, link
 
 GOOD = document(A + B + "\n" + link("a", "BEFORE", "b"))
@@ -39,15 +38,8 @@ class InquiryTest(CorpusTest):
 
     def given(self, content: bytes, *words: str) -> tuple[int, list[str], str]:
         """The status and the lines of a run with standard input."""
-        done = subprocess.run(
-            [sys.executable, COMPANION, *words, "--tml", TML],
-            cwd=self.folder,
-            input=content,
-            capture_output=True,
-            check=False,
-            env={**os.environ, "PYTHONIOENCODING": "utf-8", "PYTHONDONTWRITEBYTECODE": "1"},
-        )
-        return done.returncode, done.stdout.decode().splitlines(), done.stderr.decode()
+        ended = run_forked(COMPANION, *words, "--tml", TML, folder=self.folder, given=content)
+        return ended.status, ended.out.decode().splitlines(), ended.error.decode()
 
 
 class Both(InquiryTest):

@@ -9,7 +9,7 @@ import unittest
 from pathlib import Path
 
 from corpus import SOURCES, TML, TOP, needed
-from processes import interpreter
+from processes import interpreter, with_own_bytecode
 
 CAN_INSTALL = """
 import setuptools, pip
@@ -49,14 +49,15 @@ class Installed(unittest.TestCase):
             shutil.copy(os.path.join(TOP, name), source)
         shutil.copytree(SOURCES, source / "python/src", ignore=shutil.ignore_patterns("__pycache__"))
         words = ["--quiet", "--no-deps", "--no-index", "--no-build-isolation", "--no-compile", "--target", str(cls.target), str(source)]
-        done = subprocess.run([needed(PYTHON), "-m", "pip", "install", *words], capture_output=True, text=True, check=False, timeout=300)
+        command, environment = [needed(PYTHON), "-m", "pip", "install", *words], with_own_bytecode()
+        done = subprocess.run(command, env=environment, capture_output=True, text=True, check=False, timeout=300)
         if done.returncode != 0:
             raise AssertionError(done.stderr)
 
     def run_words(self, *words: str) -> tuple[int, str, str]:
         """The status and both streams of a program that finds the packages where they are installed, and `tml` by its variable."""
-        others = {name: value for name, value in os.environ.items() if name not in ("TML_LIBRARY", "PYTHONHOME")}
-        variables = {**others, "PYTHONPATH": str(self.target), "PYTHONDONTWRITEBYTECODE": "1", "TML": os.path.abspath(TML)}
+        others = {name: value for name, value in with_own_bytecode().items() if name not in ("TML_LIBRARY", "PYTHONHOME")}
+        variables = {**others, "PYTHONPATH": str(self.target), "TML": os.path.abspath(TML)}
         done = subprocess.run(words, cwd=self.folder, env=variables, capture_output=True, text=True, check=False, timeout=120)
         return done.returncode, done.stdout, done.stderr
 

@@ -15,7 +15,7 @@ from unittest import mock
 
 import tml
 from corpus import SOURCES, TML, TOO_LONG, TOP, of_type, text_at
-from processes import interpreter
+from processes import interpreter, with_own_bytecode
 from tml import asking, finding
 from tml.running import CannotRun
 
@@ -368,7 +368,8 @@ class Examples(unittest.TestCase):
         if python is None:
             self.skipTest(f"no {' and no '.join(needed)}")
         found = {"TML": TML, **({"TML_LIBRARY": library_path()} if os.path.isfile(library_path()) else {})}
-        environment = {**os.environ, **found, "PYTHONPATH": SOURCES, "PYTHONDONTWRITEBYTECODE": "1"}
+        inherited = os.environ if python == sys.executable else with_own_bytecode()
+        environment = {**inherited, **found, "PYTHONPATH": SOURCES, "PYTHONDONTWRITEBYTECODE": "1"}
         done = subprocess.run([python, "-c", source], cwd=TOP, env=environment, capture_output=True, text=True, check=False, timeout=300)
         self.assertEqual((done.stderr, done.returncode), ("", 0))
         return done.stdout

@@ -82,38 +82,54 @@ def agree(expected: Sequence[str], printed: Sequence[str]) -> bool:
 class RecipeTest(unittest.TestCase):
     """A test that runs the commands of a page."""
 
+    top: str
+    environment: dict[str, str]
+
+    @classmethod
+    def setUpClass(cls) -> None:
+        held = tempfile.TemporaryDirectory()
+        cls.addClassCleanup(held.cleanup)
+        cls.top = held.name
+        programs = os.path.join(cls.top, "bin")
+        os.mkdir(programs)
+        os.symlink(os.path.abspath(TML), os.path.join(programs, "tml"))
+        os.symlink(sys.executable, os.path.join(programs, "python3"))
+        # The copies have the same path in each section, so that their modules are compiled once.
+        others = {name: value for name, value in os.environ.items() if name != "PYTHONDONTWRITEBYTECODE"}
+        bytecode = others.get("PYTHONPYCACHEPREFIX", os.path.join(cls.top, "bytecode"))
+        own = {"PATH": programs + os.pathsep + os.environ["PATH"], "LC_ALL": "C.UTF-8", "PYTHONPYCACHEPREFIX": bytecode}
+        cls.environment = {**others, **own}
+
+    def make_folder(self, folder: str, makefile: str | None) -> None:
+        """Makes the folder of a section anew."""
+        shutil.rmtree(folder, ignore_errors=True)
+        shutil.copytree(os.path.join(TOP, "samples"), os.path.join(folder, "samples"))
+        for name in ("tools", "python"):
+            ignored = shutil.ignore_patterns("test_*.py", "__pycache__")
+            shutil.copytree(os.path.join(TOP, name), os.path.join(folder, name), ignore=ignored)
+        if makefile is not None:
+            with open(os.path.join(folder, "Makefile"), "w", encoding="utf-8") as file:
+                file.write(makefile)
+
     def run_section(self, section: Section) -> list[list[str]]:
         """Runs the commands of a section in one shell, and answers what each of them printed."""
-        with tempfile.TemporaryDirectory() as top:
-            folder, programs = os.path.join(top, "here"), os.path.join(top, "bin")
-            shutil.copytree(os.path.join(TOP, "samples"), os.path.join(folder, "samples"))
-            for name in ("tools", "python"):
-                ignored = shutil.ignore_patterns("test_*.py", "__pycache__")
-                shutil.copytree(os.path.join(TOP, name), os.path.join(folder, name), ignore=ignored)
-            os.mkdir(programs)
-            os.symlink(os.path.abspath(TML), os.path.join(programs, "tml"))
-            os.symlink(sys.executable, os.path.join(programs, "python3"))
-            if section.makefile is not None:
-                with open(os.path.join(folder, "Makefile"), "w", encoding="utf-8") as file:
-                    file.write(section.makefile)
-            # After each command a line with the mark, and the status is again that of the command.
-            script = "".join(f"{command.text}\nmark=$?; echo {MARK}; (exit $mark)\n" for command in section.commands)
-            with open(os.path.join(top, "script"), "w", encoding="utf-8") as file:
-                file.write(script)
-            environment = {
-                **os.environ, "PATH": programs + os.pathsep + os.environ["PATH"], "LC_ALL": "C.UTF-8", "PYTHONDONTWRITEBYTECODE": "1"
-            }
-            done = subprocess.run(
-                ["sh", os.path.join(top, "script")],
-                cwd=folder,
-                env=environment,
-                stdin=subprocess.DEVNULL,
-                stdout=subprocess.PIPE,
-                stderr=subprocess.STDOUT,
-                timeout=300,
-                check=False,
-            )
-            return [part.splitlines() for part in done.stdout.decode("utf-8", "replace").split(MARK + "\n")][:-1]
+        folder, path = os.path.join(self.top, "here"), os.path.join(self.top, "script")
+        self.make_folder(folder, section.makefile)
+        # After each command a line with the mark, and the status is again that of the command.
+        script = "".join(f"{command.text}\nmark=$?; echo {MARK}; (exit $mark)\n" for command in section.commands)
+        with open(path, "w", encoding="utf-8") as file:
+            file.write(script)
+        done = subprocess.run(
+            ["sh", path],
+            cwd=folder,
+            env=self.environment,
+            stdin=subprocess.DEVNULL,
+            stdout=subprocess.PIPE,
+            stderr=subprocess.STDOUT,
+            timeout=300,
+            check=False,
+        )
+        return [part.splitlines() for part in done.stdout.decode("utf-8", "replace").split(MARK + "\n")][:-1]
 
     def check_section(self, name: str, section: Section) -> None:
         """Checks what the commands of a section print."""

@@ -1,6 +1,7 @@
 """The reference of `python/dev/reference`: against the worked examples of the documentation, against itself, and against `tml`."""
 
 import datetime
+import functools
 import itertools
 import os
 import random
@@ -178,6 +179,13 @@ class Definitions(unittest.TestCase):
         return tuple(draw.choice(made)() for _ in range(draw.randrange(4)))
 
 
+@functools.cache
+def base_relation(first: tuple[int, int], second: tuple[int, int]) -> bytes:
+    """The one base relation that holds of two intervals, by their starts and ends."""
+    [relation] = [one for one in BASE_RELATIONS if holds(first, one, second)]
+    return relation
+
+
 class PossibleRelations(unittest.TestCase):
     """Which base relations are possible, and the least timelines that have them."""
 
@@ -189,8 +197,7 @@ class PossibleRelations(unittest.TestCase):
         for left, right in itertools.product(range(net.intervals()), repeat=2):
             having: dict[bytes, list[Ranks]] = {relation: [] for relation in BASE_RELATIONS}
             for ranks in found:
-                [relation] = [one for one in BASE_RELATIONS if holds(interval_at(ranks, left), one, interval_at(ranks, right))]
-                having[relation].append(ranks)
+                having[base_relation(interval_at(ranks, left), interval_at(ranks, right))].append(ranks)
             least[left, right] = {one: tuple(map(min, zip(*some, strict=True))) for one, some in having.items() if some}
             if left < right:
                 rows.append((left, right, tuple(least[left, right])))

@@ -6,6 +6,7 @@ import sys
 import unittest
 
 from corpus import EVENT, INSTANCE, TML, TOOLS, CorpusTest, document, needs_score
+from forked import run_forked
 from tml.statuses import RELATIONS
 
 A, B = '<TIMEX3 tid="a" type="SET"/>', '<TIMEX3 tid="b" type="SET"/>'
@@ -22,17 +23,8 @@ class ScriptTest(CorpusTest):
     def run_script(self, name: str, *words: str, given: bytes = b"") -> tuple[int, str, str]:
         """The status, standard output and standard error of a script."""
         tml = ["--tml", TML] if name in ("redundant-links", "tml-edit") else []
-        done = subprocess.run(
-            [sys.executable, os.path.join(TOOLS, name), *tml, *words],
-            cwd=self.folder,
-            input=given,
-            stdout=subprocess.PIPE,
-            stderr=subprocess.PIPE,
-            timeout=120,
-            check=False,
-            env={**os.environ, "PYTHONIOENCODING": "utf-8", "PYTHONDONTWRITEBYTECODE": "1"},
-        )
-        return done.returncode, done.stdout.decode(), done.stderr.decode()
+        ended = run_forked(os.path.join(TOOLS, name), *tml, *words, folder=self.folder, given=given)
+        return ended.status, ended.out.decode(), ended.error.decode()
 
     def edit(self, content: str, *words: str) -> str:
         """What `tml-edit` makes of a document."""
