@@ -11,13 +11,14 @@ import unittest
 from pathlib import Path
 from typing import TypeVar
 
+from installing import INSTALLED
 from tml.statuses import DOCUMENT_LIMIT
 
 Value = TypeVar("Value")
 
 TOP = os.path.dirname(os.path.dirname(os.path.dirname(os.path.abspath(__file__))))
 TESTS = os.path.join(TOP, "python", "tests")
-TOOLS, SOURCES = os.path.join(TOP, "tools"), os.path.join(TOP, "python", "src")
+TOOLS, SOURCES = os.path.join(INSTALLED or TOP, "tools"), INSTALLED or os.path.join(TOP, "python", "src")
 
 # In the background of a shell Ctrl-C is ignored, and would be by the programs that the tests interrupt.
 signal.signal(signal.SIGINT, signal.default_int_handler)
