@@ -1,4 +1,5 @@
-"""Runs all tests of the Python code: `tools/tests`, or those of some files: `tools/tests test_check test_fix`.
+"""Runs all tests of the Python code: `tools/tests`, or those of some files: `tools/tests test_check test_fix`. With `--installed` before
+these they are of what `pip install` installs, into a folder for this run, and not of the clone.
 
 The last line is `N passed, 0 failed`, and the status is 0 where none failed. Each file of tests is run in a process of its own, as many
 at once as there are processors; those that take longest begin first. What is skipped for want of another program is named, and counts as
@@ -13,6 +14,7 @@ from multiprocessing import get_context
 from pathlib import Path
 
 from bytecode import compiled_once
+from installing import installed
 from one_file import run
 
 LONGEST = (
@@ -33,7 +35,15 @@ def chosen(words: Sequence[str]) -> list[str]:
 
 def main(words: Sequence[str]) -> int:
     """Runs the tests and answers the status."""
-    names, passed = chosen(words), 0
+    if words[:1] != ["--installed"]:
+        return run_all(chosen(words))
+    with installed():
+        return run_all(chosen(words[1:]))
+
+
+def run_all(names: Sequence[str]) -> int:
+    """Runs these files of tests and answers the status."""
+    passed = 0
     failed: set[str] = set()
     skipped: list[str] = []
     processors = len(os.sched_getaffinity(0))

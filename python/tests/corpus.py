@@ -12,6 +12,7 @@ from pathlib import Path
 from typing import TypeVar
 
 from forked import run_forked
+from installing import INSTALLED
 from processes import with_own_bytecode
 from tml.statuses import DOCUMENT_LIMIT
 
@@ -19,7 +20,7 @@ Value = TypeVar("Value")
 
 TOP = os.path.dirname(os.path.dirname(os.path.dirname(os.path.abspath(__file__))))
 TESTS = os.path.join(TOP, "python", "tests")
-TOOLS, SOURCES = os.path.join(TOP, "tools"), os.path.join(TOP, "python", "src")
+TOOLS, SOURCES = os.path.join(INSTALLED or TOP, "tools"), INSTALLED or os.path.join(TOP, "python", "src")
 
 # In the background of a shell Ctrl-C is ignored, and would be by the programs that the tests interrupt.
 signal.signal(signal.SIGINT, signal.default_int_handler)

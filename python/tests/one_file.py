@@ -3,6 +3,11 @@
 import io
 import unittest
 from dataclasses import dataclass
+from pathlib import Path
+
+import tml
+import tml_corpus
+from corpus import SOURCES
 
 
 @dataclass(frozen=True)
@@ -26,7 +31,10 @@ class Counted(unittest.TextTestResult):
 
 
 def run(name: str) -> Ran:
-    """Runs the file of tests with this name."""
+    """Runs the file of tests with this name, over the packages that are to be tested."""
+    for package in (tml, tml_corpus):
+        if not Path(str(package.__file__)).is_relative_to(SOURCES):
+            raise ImportError(f"{package.__file__} is imported, and the packages to be tested lie in {SOURCES}")
     printed = io.StringIO()
     result = unittest.TextTestRunner(stream=printed, resultclass=Counted).run(unittest.defaultTestLoader.loadTestsFromName(name))
     assert isinstance(result, Counted)

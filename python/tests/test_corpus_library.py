@@ -19,6 +19,7 @@ from pathlib import Path
 from corpus import EVENT, INSTANCE, SOURCES, TESTS, TML, TOOLS, TOO_LONG, TOP, CorpusTest, document, match_in
 from daemons import PYTHON, ClusterTest
 from forked import run_forked
+from installing import INSTALLED
 from processes import is_running, until, with_own_bytecode
 from tml import finding
 from tml_corpus.asking.archive import Sent, archive
@@ -70,6 +71,8 @@ class LibraryTest(CorpusTest):
 
     def tools(self, library: bool = True) -> str:
         """A copy of the tools, with a program and the stand-in built beside it; answers its folder."""
+        if INSTALLED:
+            self.skipTest("of the clone alone: nothing is built beside what is installed")
         shutil.copytree(SOURCES, self.path("copy/python/src"), ignore=shutil.ignore_patterns("__pycache__"))
         os.mkdir(self.path("copy/tools"))
         shutil.copy(os.path.join(TOOLS, "tml-corpus"), self.path("copy/tools"))

@@ -1,24 +1,19 @@
 """`pip install .`: that all modules and their data are installed, and that the commands and both packages work from there."""
 
 import os
-import shutil
+import re
 import subprocess
+import sys
 import tempfile
 import tomllib
 import unittest
 from pathlib import Path
 
-from corpus import SOURCES, TML, TOP, needed
+import tml
+import tml_corpus
+from corpus import COMPANION, SOURCES, TML, TOP, needed
+from installing import CAN_INSTALL, CANNOT, install, of_the_clone
 from processes import interpreter, with_own_bytecode
-
-CAN_INSTALL = """
-import setuptools, pip
-try:
-    import setuptools.command.bdist_wheel
-except ImportError:
-    import wheel
-"""
-"""A script that runs where an interpreter can install a package without a network: setuptools of old need `wheel` to make one."""
 
 PYTHON = interpreter(CAN_INSTALL)
 SAMPLE = os.path.join(TOP, "samples", "rates.xml")
@@ -30,7 +25,22 @@ def installed_files(folder: Path) -> set[str]:
     return {path.as_posix() for path in paths if (folder / path).is_file() and path.parent.name != "__pycache__"}
 
 
-@unittest.skipUnless(PYTHON, "no modules pip and setuptools by which a package can be made (setuptools before 70.1 need wheel too)")
+class Imported(unittest.TestCase):
+    """What all tests import and run: the packages of the clone, or those that are installed."""
+
+    def test_by_the_tests(self) -> None:
+        for package in (tml, tml_corpus):
+            self.assertEqual(package.__file__, os.path.join(SOURCES, package.__name__, "__init__.py"))
+
+    def test_by_the_commands(self) -> None:
+        done = subprocess.run([sys.executable, "-v", COMPANION, "--version"], capture_output=True, text=True, check=True, timeout=60)
+        places = re.findall(r"^# (?:code object from|\S+ matches) '?(/.*?/)tml(?:_corpus)?/[^']*\.py'?$", done.stderr, re.MULTILINE)
+        self.assertEqual(set(places), {os.path.join(SOURCES, "")})
+        self.assertGreater(len(places), 10)
+
+
+@of_the_clone
+@unittest.skipUnless(PYTHON, CANNOT)
 class Installed(unittest.TestCase):
     """The packages as pip installs them, from a copy of what it reads, into a folder of their own. Nothing of the clone is on the path."""
 
@@ -43,16 +53,7 @@ class Installed(unittest.TestCase):
         cls.addClassCleanup(held.cleanup)
         cls.folder = Path(held.name)
         cls.target = cls.folder / "target"
-        source = cls.folder / "source"
-        source.mkdir()
-        for name in ("pyproject.toml", "README.md"):
-            shutil.copy(os.path.join(TOP, name), source)
-        shutil.copytree(SOURCES, source / "python/src", ignore=shutil.ignore_patterns("__pycache__"))
-        words = ["--quiet", "--no-deps", "--no-index", "--no-build-isolation", "--no-compile", "--target", str(cls.target), str(source)]
-        command, environment = [needed(PYTHON), "-m", "pip", "install", *words], with_own_bytecode()
-        done = subprocess.run(command, env=environment, capture_output=True, text=True, check=False, timeout=300)
-        if done.returncode != 0:
-            raise AssertionError(done.stderr)
+        install(needed(PYTHON), cls.target)
 
     def run_words(self, *words: str) -> tuple[int, str, str]:
         """The status and both streams of a program that finds the packages where they are installed, and `tml` by its variable."""

@@ -12,7 +12,7 @@ from corpus import EVENT, INSTANCE, CorpusTest, document, needed, text_at
 from tml.running import CannotRun
 from tml.statuses import DOCUMENT_LIMIT
 from tml_corpus.asking.pool import processors
-from tml_corpus.command_line.settings import read_settings
+from tml_corpus.command_line.settings_file import read_settings
 
 CREATED = '<TIMEX3 tid="t0" type="DATE" value="1998-03-12" functionInDocument="CREATION_TIME">x</TIMEX3>'
 LINKED = EVENT + INSTANCE + '<TLINK eventInstanceID="i1" relatedToTime="t0" relType="DURING"/>'
@@ -386,11 +386,11 @@ class Settings(CorpusTest):
             self.assertEqual(read_settings(self.path("tml-corpus.toml")).jobs, taken)
 
     def test_a_file_is_read_once_for_each_change(self) -> None:
-        from tml_corpus.command_line.settings import Remembering
+        from tml_corpus.command_line.settings_file import Remembering
 
         self.write("tml-corpus.toml", "jobs = 1")
         remembering, path = Remembering(), self.path("tml-corpus.toml")
-        with mock.patch("tml_corpus.command_line.settings.read_settings", wraps=read_settings) as read:
+        with mock.patch("tml_corpus.command_line.settings_file.read_settings", wraps=read_settings) as read:
             self.assertEqual([remembering.read(path).jobs for _ in range(3)], [1, 1, 1])
             self.assertEqual(read.call_count, 1)
             self.write("tml-corpus.toml", "jobs = 22 1")

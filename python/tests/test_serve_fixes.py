@@ -20,7 +20,8 @@ from tml.statuses import RELATIONS
 from tml.tags.profile import CLASS
 from tml_corpus.asking.program import File, Reply
 from tml_corpus.check.fix import steps
-from tml_corpus.check.judgement import Judgement, PlacedFault, PlacedWarning
+from tml_corpus.check.judgement import Judgement
+from tml_corpus.check.placed import PlacedFault, PlacedWarning
 from tml_corpus.serve.actions import actions
 from tml_corpus.serve.document import Asked, OpenDocument
 

@@ -7,7 +7,6 @@ from __future__ import annotations
 
 from collections.abc import Callable, Iterable, Mapping
 from functools import cache
-from itertools import chain
 from typing import NamedTuple
 
 from .statuses import BASE_RELATIONS, DOCUMENT_LIMIT, EVIDENCE_LIMIT, IDENTIFIER_LIMIT, INTERVAL_LIMIT, LINK_LIMIT, RELATIONS
@@ -78,7 +77,7 @@ def of_walk(limits: Limits) -> int:
 def of_clash(limits: Limits) -> int:
     """Of a minimal clash: each link that it cites is a step of its walk, and has a timeline."""
     cites = min(limits.links, 2 * limits.points)
-    cited = lengths(f"cite {limits.links}" for _ in range(cites))
+    cited = cites * lengths([f"cite {limits.links}"])
     return lengths([f"clash {cites}"]) + cited + of_walk(limits) + cites * of_timeline(limits)
 
 
@@ -89,14 +88,14 @@ def of_claim(*bodies: int) -> int:
 
 def of_links(limits: Limits) -> int:
     """Of a line for each link."""
-    return lengths(f"tlink {number} {limits.names} {LONGEST_RELATION}" for number in range(limits.links))
+    return limits.links * lengths([f"tlink {limits.links} {limits.names} {LONGEST_RELATION}"])
 
 
 def of_check(limits: Limits) -> int:
     """Of the counts, the intervals and the links of a document."""
     counts = ("events", "instances", "timex", "signals", "tlinks", "alinks", "slinks")
-    intervals = (f"interval {number} {'n' * limits.name}" for number in range(limits.intervals))
-    return lengths(chain(["accepted"], (f"{name} {limits.document}" for name in counts), intervals)) + of_links(limits)
+    intervals = limits.intervals * lengths([f"interval {limits.intervals} {'n' * limits.name}"])
+    return lengths(["accepted", *(f"{name} {limits.document}" for name in counts)]) + intervals + of_links(limits)
 
 
 def of_dates(limits: Limits) -> int:

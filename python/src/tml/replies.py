@@ -1,6 +1,7 @@
 """Which replies of `tml` are believed: those whose status and text fit each other and the question.
 
-So what another program answers, or a `tml` that does not work, is not a judgement. What a reply says is not judged here.
+So what another program answers, or a `tml` that does not work, is not a judgement. What a reply says is not judged here. The patterns of
+the commands stand here as texts, since to compile all of them takes longer than to ask one question: `re` keeps those that it has compiled.
 """
 
 from __future__ import annotations
@@ -18,8 +19,8 @@ NUMBER = rb"\d{1,19}"
 COUNTED_TAGS = (b"events", b"instances", b"timex", b"signals", b"tlinks", b"alinks", b"slinks")
 COUNTS = b"".join(rb"%s (%s)\n" % (name, NUMBER) for name in COUNTED_TAGS)
 LINKS = rb"(?:tlink %s %s (?:%s) %s\n)*+" % (NUMBER, NAME, RELATION, NAME)
-ACCEPTED = re.compile(rb"accepted\n%s((?:interval %s %s\n)*+)(%s)" % (COUNTS, NUMBER, NAME, LINKS))
-FAULT = re.compile(rb"fault (\d{1,2}) (\w+) (\d{1,7})\n")
+ACCEPTED = rb"accepted\n%s((?:interval %s %s\n)*+)(%s)" % (COUNTS, NUMBER, NAME, LINKS)
+FAULT = rb"fault (\d{1,2}) (\w+) (\d{1,7})\n"
 
 EVIDENCE = rb"tml-evidence (?:1|2\nclaims 1)\n"
 """How the text of one claim begins, of either version."""
@@ -27,7 +28,7 @@ EVIDENCE = rb"tml-evidence (?:1|2\nclaims 1)\n"
 CLAIMS = rb"tml-evidence 2\nclaims [1-9]\d*\n(?s:.*)(?<=\n)end\n"
 """A text of claims of version 2."""
 
-KIND = re.compile(EVIDENCE + rb"(timeline|entails|counter|clash) ")
+KIND = EVIDENCE + rb"(timeline|entails|counter|clash) "
 NUMBERS = rb"(?: %s)*" % NUMBER
 TO_THE_END = rb"(?:[a-z]++%s\n)++(?<=\nend\n)" % NUMBERS
 """The further lines of one claim. Where texts may be long, nothing that was matched is looked at again, which would take much memory."""
@@ -39,28 +40,28 @@ SECOND = rb"-?%s" % NUMBER
 CIVIL = rb"[\dT:-]{1,20}"
 
 DONE = {
-    "dates": re.compile(rb"(?:%s (?:free|(?:exact|within) %s %s %s %s)\n)*+" % (NAME, SECOND, SECOND, CIVIL, CIVIL)),
-    "solve": re.compile(EVIDENCE + rb"timeline %s\n%s" % (NUMBER, TO_THE_END)),
-    "relations": re.compile(rb"(?:%s (?:%s) %s\n)*+" % (NAME, RELATION, NAME)),
-    "canon": re.compile(rb"<(?s:.*)\n"),
-    "verify": re.compile(rb"(?:%s)++" % CLAIM),
-    "reduce": re.compile(rb"reduced (%s) of (%s)\n(%s)" % (NUMBER, NUMBER, LINKS)),
-    "score": re.compile(rb"precision (%s) of (%s)\nrecall (%s) of (%s)\n" % ((NUMBER,) * 4)),
-    "seconds": re.compile(rb"tml-seconds 1\nplacing (%s)\n((?:at %s %s\n)*+)end\n" % (NUMBER, SECOND, SECOND)),
-    "confirm": re.compile(rb"confirmed (?:placing|cycle)\n"),
-    "ask": re.compile(EVIDENCE + rb"(?:entails|counter) %s (?:%s) %s\n%s" % (NUMBER, RELATION, NUMBER, TO_THE_END)),
-    "possible": re.compile(rb"possible (%s)\n((?:%s)++)" % (NUMBER, PART)),
-    "matrix": re.compile(rb"(?:%s %s(?: (?:%s))+\n)*+" % (NAME, NAME, RELATION)),
-    "renew": re.compile(CLAIMS),
-    "join": re.compile(CLAIMS),
-    "drill": re.compile(rb"drill %s\nbytes %s\nlinks %s\ngreatest %s\nrelations %s\nverified timeline\n" % ((NUMBER,) * 5)),
+    "dates": rb"(?:%s (?:free|(?:exact|within) %s %s %s %s)\n)*+" % (NAME, SECOND, SECOND, CIVIL, CIVIL),
+    "solve": EVIDENCE + rb"timeline %s\n%s" % (NUMBER, TO_THE_END),
+    "relations": rb"(?:%s (?:%s) %s\n)*+" % (NAME, RELATION, NAME),
+    "canon": rb"<(?s:.*)\n",
+    "verify": rb"(?:%s)++" % CLAIM,
+    "reduce": rb"reduced (%s) of (%s)\n(%s)" % (NUMBER, NUMBER, LINKS),
+    "score": rb"precision (%s) of (%s)\nrecall (%s) of (%s)\n" % ((NUMBER,) * 4),
+    "seconds": rb"tml-seconds 1\nplacing (%s)\n((?:at %s %s\n)*+)end\n" % (NUMBER, SECOND, SECOND),
+    "confirm": rb"confirmed (?:placing|cycle)\n",
+    "ask": EVIDENCE + rb"(?:entails|counter) %s (?:%s) %s\n%s" % (NUMBER, RELATION, NUMBER, TO_THE_END),
+    "possible": rb"possible (%s)\n((?:%s)++)" % (NUMBER, PART),
+    "matrix": rb"(?:%s %s(?: (?:%s))+\n)*+" % (NAME, NAME, RELATION),
+    "renew": CLAIMS,
+    "join": CLAIMS,
+    "drill": rb"drill %s\nbytes %s\nlinks %s\ngreatest %s\nrelations %s\nverified timeline\n" % ((NUMBER,) * 5),
 }
 """The texts with status 0; of `check`, `spans`, `reduce` and `score` more is asked."""
 
 OF_KEY = b"key "
 """What stands before a line of `score` that is about its second document."""
 
-CYCLE = re.compile(rb"tml-seconds 1\ncycle (%s)\n((?:(?:via %s|span|lower|upper|least|most) %s\n)++)end\n" % ((NUMBER,) * 3))
+CYCLE = rb"tml-seconds 1\ncycle (%s)\n((?:(?:via %s|span|lower|upper|least|most) %s\n)++)end\n" % ((NUMBER,) * 3)
 """What `seconds` answers where there is no placing."""
 
 OF_NETS = ("solve", "relations", "matrix", "reduce", "score", "ask", "possible")
@@ -68,25 +69,25 @@ OF_NETS = ("solve", "relations", "matrix", "reduce", "score", "ask", "possible")
 
 BAD_LINE = rb"evidence line %s\n" % NUMBER
 REFUSED = {
-    "verify": re.compile(BAD_LINE + rb"|evidence claim %s part %s \w+%s\n" % (NUMBER, NUMBER, NUMBERS)),
-    "confirm": re.compile(BAD_LINE + rb"|seconds \w+(?: %s)?\n" % NUMBER),
-    "renew": re.compile(BAD_LINE),
-    "join": re.compile(rb"(?:evidence|second) line %s\n" % NUMBER),
+    "verify": BAD_LINE + rb"|evidence claim %s part %s \w+%s\n" % (NUMBER, NUMBER, NUMBERS),
+    "confirm": BAD_LINE + rb"|seconds \w+(?: %s)?\n" % NUMBER,
+    "renew": BAD_LINE,
+    "join": rb"(?:evidence|second) line %s\n" % NUMBER,
 }
 """What is said of evidence and of seconds that are malformed or wrong, by each command that may say so."""
 
 OTHER = {
-    TmlStatus.CLASH: ((*OF_NETS, "seconds"), re.compile(EVIDENCE + rb"clash %s\ncite %s\n%s" % (NUMBER, NUMBER, TO_THE_END))),
-    TmlStatus.READ_FAULT: (None, re.compile(rb"read fault\n")),
-    TmlStatus.NO_MEMORY: (None, re.compile(rb"")),
-    TmlStatus.UNKNOWN_NAME: (("ask", "possible"), re.compile(rb"unknown (?:X|REL|Y)\n")),
-    TmlStatus.TOO_LONG: (None, re.compile(rb"too long (?:DOC|EVIDENCE|SECOND|KEY|SECONDS)\n")),
+    TmlStatus.CLASH: ((*OF_NETS, "seconds"), EVIDENCE + rb"clash %s\ncite %s\n%s" % (NUMBER, NUMBER, TO_THE_END)),
+    TmlStatus.READ_FAULT: (None, rb"read fault\n"),
+    TmlStatus.NO_MEMORY: (None, rb""),
+    TmlStatus.UNKNOWN_NAME: (("ask", "possible"), rb"unknown (?:X|REL|Y)\n"),
+    TmlStatus.TOO_LONG: (None, rb"too long (?:DOC|EVIDENCE|SECOND|KEY|SECONDS)\n"),
 }
 """The commands that may end with a status, where not all may, and the text that goes with it."""
 
 def kind_of(text: bytes) -> bytes:
     """The kind of the one claim that a text of evidence has, by its first word; nothing where it does not begin so."""
-    found = KIND.match(text)
+    found = re.match(KIND, text)
     return found[1] if found else b""
 
 
@@ -118,17 +119,17 @@ def fits(words: Sequence[str], status: TmlStatus, text: bytes, size: int | None)
     if status == TmlStatus.DOC_FAULT:
         return fault_fits(words[0], text, size)
     if words[0] == "seconds" and status == TmlStatus.CLASH:
-        found = CYCLE.fullmatch(text)
+        found = re.fullmatch(CYCLE, text)
         return found is not None and lines_fit(found)
     if status == TmlStatus.EVIDENCE_FAULT:
-        return REFUSED[words[0]].fullmatch(text) is not None
+        return re.fullmatch(REFUSED[words[0]], text) is not None
     if status in OTHER:
-        return OTHER[status][1].fullmatch(text) is not None
+        return re.fullmatch(OTHER[status][1], text) is not None
     if words[0] == "check":
         return counts_fit(text)
     if words[0] == "spans":
         return text.startswith(b"0 ") if size or text else size is not None
-    found = DONE[words[0]].fullmatch(text)
+    found = re.fullmatch(DONE[words[0]], text)
     return found is not None and (words[0] not in COUNTED or COUNTED[words[0]](found))
 
 
@@ -155,7 +156,7 @@ COUNTED: Mapping[str, Callable[[re.Match[bytes]], bool]] = {"reduce": reduced_fi
 
 def fault_fits(command: str, text: bytes, size: int | None) -> bool:
     """Whether this is the line of a fault, with its name, at a place of the document; `spans` has the first three only."""
-    found = FAULT.fullmatch(text)
+    found = re.fullmatch(FAULT, text)
     if found is None:
         return False
     number, place = int(found[1]), int(found[3])
@@ -165,7 +166,7 @@ def fault_fits(command: str, text: bytes, size: int | None) -> bool:
 
 def counts_fit(text: bytes) -> bool:
     """Whether the counts of `tml check` are those of the lines after them, which are numbered from 0 on."""
-    found = ACCEPTED.fullmatch(text)
+    found = re.fullmatch(ACCEPTED, text)
     if found is None:
         return False
     instances, times, links = int(found[2]), int(found[3]), int(found[5])

@@ -1,17 +1,20 @@
 """Libraries of `tml`: which one goes with a program, and loading it in a process that asks it.
 
-A library is loaded after the process was forked, and never called by the program that forks: docs/LIBRARY.md says why.
+A library is loaded after the process was forked, and never called by the program that forks: docs/LIBRARY.md says why. Where a program
+is asked the module `ctypes` is not loaded.
 """
 
 from __future__ import annotations
 
 import os
 from functools import cache
-from typing import NamedTuple, Protocol
+from typing import TYPE_CHECKING, NamedTuple, Protocol
 
 from tml.finding import LIBRARY_VARIABLE, library_for
-from tml.library import Library
 from tml.running import CannotRun
+
+if TYPE_CHECKING:
+    from tml.library import Library
 
 
 class Loadable(Protocol):
@@ -39,6 +42,8 @@ class AtPath(NamedTuple):
 @cache
 def library_at(path: str) -> Library:
     """The library at a path, which a process loads once."""
+    from tml.library import Library
+
     return Library(path)
 
 

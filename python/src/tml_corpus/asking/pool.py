@@ -22,7 +22,7 @@ from typing import Any, Generic, NoReturn, TypeVar
 from tml.running import CannotRun, end_all
 
 from ..files.finding import reason
-from ..files.replacing import WRITING
+from ..files.writing import WRITING
 from .room import Room, SharedLock
 
 Item = TypeVar("Item")

@@ -13,7 +13,8 @@ from collections import Counter
 from ..asking.program import CannotRun
 from ..files.finding import LONGEST_LINE, CannotRead, counted, lines_of, shown
 from ..files.replacing import replace_file
-from .judgement import Judgement, PlacedWarning
+from .judgement import Judgement
+from .placed import PlacedWarning
 
 FIRST = b'["tml-corpus baseline", 1]\n'
 Key = tuple[str, str, str]

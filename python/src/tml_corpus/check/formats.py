@@ -10,12 +10,13 @@ from typing import TYPE_CHECKING
 
 from ..files.finding import counted, shown
 from ..lint.kinds import is_mistake
-from .judgement import Judgement, Mark, PlacedFault, PlacedNote, PlacedWarning
+from .judgement import Judgement
 
 if TYPE_CHECKING:
     from tml.places import Place
 
     from .form import Form
+    from .placed import Mark, PlacedFault, PlacedNote, PlacedWarning
 
 CONSEQUENCE = "(perhaps only a consequence)"
 

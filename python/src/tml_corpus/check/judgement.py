@@ -2,49 +2,12 @@
 
 from __future__ import annotations
 
-from typing import TYPE_CHECKING, NamedTuple
+from typing import TYPE_CHECKING
 
 from ..asking.program import ACCEPTED, Reply
 
 if TYPE_CHECKING:
-    from tml.places import Place
-
-    from tml.explaining.faults import Fault
-
-
-class PlacedNote(NamedTuple):
-    """A note on a fault, with its line and column."""
-
-    place: Place
-    text: str
-
-
-class Mark(NamedTuple):
-    """The stretch of which a sentence speaks, and the line of the source where it begins, with the stretch marked below it."""
-
-    start: Place
-    end: Place
-    source: list[str]
-
-
-class PlacedFault(NamedTuple):
-    """A fault with its line and column, the sentence on it, what that speaks of, and notes."""
-
-    fault: Fault
-    place: Place
-    text: str
-    mark: Mark
-    notes: list[PlacedNote]
-    perhaps_consequence: bool
-
-
-class PlacedWarning(NamedTuple):
-    """Something that is suspect, with the name of the warning and the tag as it is written."""
-
-    name: str
-    text: str
-    mark: Mark
-    tag: str
+    from .placed import PlacedFault, PlacedWarning
 
 
 class Judgement:

@@ -12,7 +12,8 @@ from tml.tags.source import Explanation, Source
 
 from ..asking.program import FAULT, Program, Reply, believed
 from ..lint.kinds import Lint
-from .judgement import Judgement, Mark, PlacedFault, PlacedNote, PlacedWarning, problem_of
+from .judgement import Judgement, problem_of
+from .placed import Mark, PlacedFault, PlacedNote, PlacedWarning
 
 
 def judge_document(

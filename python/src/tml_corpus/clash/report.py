@@ -5,7 +5,8 @@ from __future__ import annotations
 from typing import TYPE_CHECKING, NamedTuple
 
 from ..check.formats import WarningCounts
-from ..check.judgement import Judgement, PlacedNote
+from ..check.judgement import Judgement
+from ..check.placed import PlacedNote
 from ..files.finding import counted
 from ..lint.kinds import Lint
 

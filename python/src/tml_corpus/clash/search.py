@@ -10,7 +10,8 @@ from tml.tags.cutting import units_of_whole
 from tml.tags.source import Source
 
 from ..asking.program import CLASH, FAULT, CannotRun, Program, Reply
-from ..check.judgement import Judgement, PlacedNote
+from ..check.judgement import Judgement
+from ..check.placed import PlacedNote
 from ..check.judging import judge_document, placed_warnings
 from ..document.words import Wording
 from ..files.finding import Found

@@ -1,6 +1,5 @@
 """Files: finding them in folders, reading no more of them than the limit, and showing their names."""
 
-import fnmatch
 import os
 import re
 import stat
@@ -87,6 +86,8 @@ def matcher(patterns: Sequence[str]) -> Callable[[str], object]:
     ends = tuple(pattern[1:] for pattern in patterns)
     if all(pattern.startswith("*") and not set("*?[") & set(end) for pattern, end in zip(patterns, ends, strict=True)):
         return lambda name: name.endswith(ends)
+    import fnmatch
+
     return re.compile("|".join(map(fnmatch.translate, patterns))).match
 
 

@@ -4,9 +4,7 @@ from __future__ import annotations
 
 import errno
 import os
-import signal
 import stat
-import threading
 from collections.abc import Iterator
 from contextlib import contextmanager, suppress
 from typing import IO, NamedTuple
@@ -14,12 +12,7 @@ from typing import IO, NamedTuple
 from tml.running import CannotRun
 
 from .finding import read_handle, reason
-
-WRITING = threading.Lock()
-"""Is held while a file lies under its other name. A thread that ends this process takes it first."""
-
-ENDING = (signal.SIGINT, signal.SIGTERM, signal.SIGHUP)
-"""The signals that end a program and can wait."""
+from .writing import unbroken
 
 ACCESS_LIST = "system.posix_acl_access"
 PERMISSIONS = 0o777
@@ -27,24 +20,6 @@ PERMISSIONS = 0o777
 
 FOLDER = os.O_RDONLY | os.O_DIRECTORY | os.O_CLOEXEC
 NO_LINK = os.O_NOFOLLOW | os.O_CLOEXEC
-
-
-@contextmanager
-def unbroken() -> Iterator[None]:
-    """Lets signals that end the program wait until a file is written. They come to its first thread, so in others only the lock is held."""
-    with WRITING:
-        if threading.current_thread() is not threading.main_thread():
-            yield
-            return
-        came: list[int] = []
-        before = {number: signal.signal(number, lambda number, _: came.append(number)) for number in ENDING}
-        try:
-            yield
-        finally:
-            for number, handler in before.items():
-                signal.signal(number, handler)
-            for one in came:
-                signal.raise_signal(one)
 
 
 def other_name() -> str:

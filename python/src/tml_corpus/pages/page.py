@@ -9,7 +9,7 @@ from tml.markup import NOTHING, Markup, Value, element, lined, together
 from tml.places import Place
 
 from ..check.formats import CONSEQUENCE
-from ..check.judgement import Mark, PlacedFault, PlacedWarning
+from ..check.placed import Mark, PlacedFault, PlacedWarning
 from ..clash.report import PlacedClash, PlacedLink
 from ..clash.walk_words import WalkStep, steps_in_words
 from ..document.words import Wording

@@ -8,7 +8,7 @@ from dataclasses import dataclass, replace
 from tml.lines import Step
 
 from ..asking.program import FAULT, CannotRun, Program
-from ..check.judgement import PlacedNote
+from ..check.placed import PlacedNote
 from ..clash.constraints import Constraints
 from ..clash.fitting import Unfit, fault_of, not_judged
 from ..clash.report import PlacedLink

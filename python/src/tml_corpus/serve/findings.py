@@ -5,7 +5,7 @@ from __future__ import annotations
 from collections.abc import Iterator
 
 from ..asking.program import CLASH
-from ..check.judgement import Mark, PlacedFault, PlacedWarning
+from ..check.placed import Mark, PlacedFault, PlacedWarning
 from ..clash.report import TOUCHING, ClashReport, PlacedChange, PlacedClash, PlacedLink
 from ..lint.kinds import is_mistake
 from .document import OpenDocument

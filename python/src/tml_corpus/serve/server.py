@@ -18,7 +18,8 @@ from typing import IO
 
 from ..asking.program import CannotRun, find_program
 from ..command_line.output import INPUT
-from ..command_line.settings import Chosen, Remembering, Settings, settings_for
+from ..command_line.settings import Chosen, Settings, settings_for
+from ..command_line.settings_file import Remembering
 from ..files.finding import CannotRead
 from ..lint.kinds import chosen
 from .actions import ACTION_KINDS

@@ -1,0 +1,70 @@
+"""The packages as pip installs them, and the tests of what is installed in the place of the clone: `tools/tests --installed`."""
+
+from __future__ import annotations
+
+import contextlib
+import os
+import shutil
+import subprocess
+import tempfile
+import unittest
+from collections.abc import Iterator
+from pathlib import Path
+from unittest import mock
+
+from processes import interpreter, with_own_bytecode
+
+TOP = Path(__file__).resolve().parents[2]
+
+CAN_INSTALL = """
+import setuptools, pip
+try:
+    import setuptools.command.bdist_wheel
+except ImportError:
+    import wheel
+"""
+"""A script that runs where an interpreter can install a package without a network: setuptools of old need `wheel` to make one."""
+
+CANNOT = "no modules pip and setuptools by which a package can be made (setuptools before 70.1 need wheel too)"
+
+INSTALLED = os.environ.get("TML_INSTALLED")
+"""The folder with the installed packages, where these are tested and not the clone."""
+
+of_the_clone = unittest.skipIf(INSTALLED, "of the clone alone")
+
+
+def install(python: str, target: Path) -> None:
+    """Installs the packages into a folder, from a copy of what pip reads."""
+    with tempfile.TemporaryDirectory(prefix="source-") as name:
+        source = Path(name)
+        for file in ("pyproject.toml", "README.md"):
+            shutil.copy(TOP / file, source)
+        shutil.copytree(TOP / "python/src", source / "python/src", ignore=shutil.ignore_patterns("__pycache__"))
+        words = ["--quiet", "--no-deps", "--no-index", "--no-build-isolation", "--no-compile", "--target", str(target), str(source)]
+        command, environment = [python, "-m", "pip", "install", *words], with_own_bytecode()
+        done = subprocess.run(command, env=environment, capture_output=True, text=True, check=False, timeout=300)
+    if done.returncode != 0:
+        raise RuntimeError(done.stderr)
+
+
+@contextlib.contextmanager
+def installed() -> Iterator[None]:
+    """Has the processes that begin meanwhile test what is installed: they find the packages and the commands there."""
+    python = interpreter(CAN_INSTALL)
+    if python is None:
+        raise RuntimeError(CANNOT)
+    with tempfile.TemporaryDirectory(prefix="installed-") as name:
+        folder = Path(name)
+        install(python, folder)
+        link_tools(folder)
+        with mock.patch.dict(os.environ, TML_INSTALLED=name, PYTHONPATH=name):
+            yield
+
+
+def link_tools(folder: Path) -> None:
+    """Makes a folder as tools/ is, beside what is installed: with the installed commands in the place of the programs of the clone."""
+    from building.package import SCRIPTS
+
+    (folder / "tools").mkdir()
+    for path in (TOP / "tools").iterdir():
+        (folder / "tools" / path.name).symlink_to(folder / "bin" / SCRIPTS[path.name] if path.name in SCRIPTS else path)
