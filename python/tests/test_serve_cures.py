@@ -78,7 +78,6 @@ EXAMPLES = {
     "<{}> is never closed: write </{}> after what it holds{}": document("<s>" + EVENT + INSTANCE),
     "the document is empty: write <{}> .. </{}>": "",
     "the document has no tag: write <{}> before its text and </{}> after it": "<!-- a -->",
-    "a doctype may appear only once, before all tags: delete this one": document("<!DOCTYPE TimeML>a"),
     "<?xml ..?> has to come first: delete what is before it ({})": " \n" + DECLARED + document("a"),
     "<?xml ..?> has to come first: move it to the beginning, before the comment": "<!-- a -->\n" + DECLARED + document("a"),
     "<?xml ..?> has to come first: delete this one": document(DECLARED + "a"),
