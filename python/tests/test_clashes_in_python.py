@@ -8,13 +8,17 @@ import unittest
 from collections.abc import Sequence
 from pathlib import Path
 from random import Random
+from unittest import mock
 
 import tml
 import tml_corpus
 from corpus import TML, TOP
+from tml.results import Relation
 from tml.statuses import INVERSES, ORDERS
 
 PORT, RATES = Path(TOP, "samples", "port.xml"), Path(TOP, "samples", "rates.xml")
+VALUES = ("1998", "1998-01", "1998-01-XX", "1998-01-08", "1998-01-09", "1998-01-08T18:30", "199", "1998-W02", "XXXX-12-25")
+"""Dates that lie in each other, touch, are within bounds, or have no place."""
 
 
 class Counting(tml.Process):
@@ -110,22 +114,45 @@ class ByConfidence(unittest.TestCase):
         )
         self.assertEqual(found.dropped, (("c", "BEFORE", "a"),))
 
-    def test_nothing_clashes_and_each_dropped_one_cost_a_question(self) -> None:
-        random = Random(7)
-        names = [f"e{number}" for number in range(9)]
-        document = tml.document_of([(one, "BEFORE", other) for one, other in zip(names, names[1:])])
-        for _ in range(8):
-            triples = [(random.choice(names), random.choice(list(ORDERS)), random.choice(names)) for _ in range(25)]
-            weights = [random.random() for _ in triples]
-            by = Counting(TML)
+    def drawn(self, random: Random) -> tuple[bytes, list[Relation], list[float]]:
+        """A document with dates, relations of which many clash, and a weight for each, of which some are the same."""
+        times = {f"t{number}": random.choice(VALUES) for number in range(4)}
+        names = [*(f"e{number}" for number in range(8)), *times]
+        triples = [Relation(random.choice(names), random.choice(list(ORDERS)), random.choice(names)) for _ in range(24)]
+        document = tml.document_of([(one, "BEFORE", other) for one, other in zip(names[:8], names[1:8])], times)
+        return document, triples, [random.choice((0.5, 0.9, random.random())) for _ in triples]
+
+    def kept_one_by_one(self, document: bytes, triples: list[Relation], weights: list[float]) -> list[Relation]:
+        """The relations that are kept where each is put beside those that are kept before it, from the most confident one on."""
+        kept = list[int]()
+        for number in sorted(range(len(triples)), key=lambda number: (-weights[number], number)):
+            beside = tml.with_links(document, [triples[one] for one in [*kept, number]], by=self.by)
+            kept += [number] if tml.clash(tml.expect(beside, bytes), by=self.by) is None else []
+        return [triples[number] for number in sorted(kept)]
+
+    def test_each_that_clashes_with_more_confident_ones_goes_by_five_questions(self) -> None:
+        random, by = Random(7), Counting(TML)
+        for _ in range(12):
+            document, triples, weights = self.drawn(random)
             by.asked = []
             found = tml.expect(tml.consistent(document, triples, weights, by=by), tml.Consistent)
-            self.assertIsNone(tml.clash(found.document, by=self.by))
-            self.assertEqual(by.asked.count("solve"), len(found.dropped) + 1)
-            self.assertEqual(len(by.asked), len(found.dropped) + 3)
+            self.assertGreater(len(found.dropped), 5)
+            self.assertEqual(by.asked, ["check", "spans", "solve", "dates", "matrix"])
+            self.assertEqual(list(found.kept), self.kept_one_by_one(document, triples, weights))
             self.assertEqual(sorted(found.kept + found.dropped), sorted(triples))
-            for one in found.dropped:
-                self.assertIn(tuple(one), triples)
+            self.assertIsNone(tml.clash(found.document, by=self.by))
+
+    def test_what_was_counted_wrongly_is_put_right_by_what_tml_says(self) -> None:
+        random = Random(8)
+        for _ in range(4):
+            document, triples, weights = self.drawn(random)
+            for count in (0, len(triples)):
+                with mock.patch("tml.confidence.fitting", return_value=list(range(count))):
+                    found = tml.expect(tml.consistent(document, triples, weights, by=self.by), tml.Consistent)
+                self.assertIsNone(tml.clash(found.document, by=self.by))
+                for one in found.dropped:
+                    beside = tml.with_links(document, [*found.kept, one], by=self.by)
+                    self.assertIsNotNone(tml.clash(tml.expect(beside, bytes), by=self.by))
 
     def test_what_is_no_question(self) -> None:
         link = ("ei1", "BEFORE", "ei2")

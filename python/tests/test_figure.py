@@ -7,19 +7,21 @@ import os
 import re
 import shutil
 import subprocess
+import sys
 import unittest
 import xml.etree.ElementTree as ElementTree
 from unittest import mock
 
 from browser import CHROMIUM
-from corpus import TML, TOP, CorpusTest, document, needs_matrix, needs_score
+from corpus import COMPANION, TML, TOP, CorpusTest, document, needs_matrix, needs_score
 from looking import contrast, luminance
 from test_timeline_page import event, link, mended
 from tml_corpus.asking.program import CannotRun
 from tml_corpus.figure.draw import width_of
 from tml_corpus.figure.layout import packed, spread
 from tml_corpus.figure.pdf_form import MISSING, pdf
-from tml_corpus.figure.shapes import BLACK, FILLINGS, GREY, Figure
+from tml_corpus.figure.shapes import BLACK, FILLINGS, GREY, Figure, Text
+from tml_corpus.figure.svg_form import svg
 from tml_corpus.figure.tikz_form import escaped
 
 SVG = "{http://www.w3.org/2000/svg}"
@@ -43,6 +45,23 @@ def has_tex() -> bool:
     return len(found.splitlines()) == len(PACKAGES)
 
 
+def python_with_library() -> str:
+    """A Python that has the library cairosvg: the one that runs, or that of the system."""
+    program = "import cairosvg, sys; sys.exit(sys.version_info < (3, 11))"
+    for python in (sys.executable, "/usr/bin/python3"):
+        if os.access(python, os.X_OK) and subprocess.run([python, "-c", program], capture_output=True, check=False).returncode == 0:
+            return python
+    raise unittest.SkipTest("no library cairosvg")
+
+
+def tool(name: str) -> str:
+    """A program that reads PDF."""
+    found = shutil.which(name)
+    if found is None:
+        raise unittest.SkipTest(f"no program {name}")
+    return found
+
+
 @needs_matrix
 @needs_score
 class FigureTest(CorpusTest):
@@ -55,8 +74,9 @@ class FigureTest(CorpusTest):
             return file.read()
 
     def texts(self, picture: str) -> list[str]:
-        """The texts of a picture."""
-        return [one.text or "" for one in ElementTree.fromstring(picture.encode()).iter(SVG + "text")]
+        """The texts of a picture, without their halos."""
+        texts = ElementTree.fromstring(picture.encode()).iter(SVG + "text")
+        return [one.text or "" for one in texts if one.get("fill") != "none"]
 
     def boxes(self, picture: str, height: str = "10") -> list[tuple[float, float, float]]:
         """The left and right edges and the tops of the bars and dates."""
@@ -227,6 +247,26 @@ class Forms(FigureTest):
             box = re.search(rb"/MediaBox\s*\[0 0 ([\d.]+) ([\d.]+)\]", file.read())
         assert box is not None
         self.assertAlmostEqual(float(box[1]), 84 * 72 / 25.4, delta=1)
+
+    def test_pdf_by_the_library(self) -> None:
+        self.write("d.xml", mended())
+        words = [python_with_library(), COMPANION, "timeline", "--tml", TML, "--bare", "d.xml", "-o", "d.pdf"]
+        environment = {**os.environ, "PATH": self.folder, "PYTHONDONTWRITEBYTECODE": "1"}
+        done = subprocess.run(words, cwd=self.folder, env=environment, capture_output=True, text=True, check=False)
+        self.assertEqual((done.returncode, done.stderr), (0, ""))
+        said = subprocess.run([tool("pdftotext"), self.path("d.pdf"), "-"], capture_output=True, text=True, check=True).stdout
+        self.assertEqual((said.count("\f"), said.count("waited"), said.count("reopened")), (1, 1, 1))
+        size = subprocess.run([tool("pdfinfo"), self.path("d.pdf")], capture_output=True, text=True, check=True).stdout
+        width = re.search(r"Page size: +([\d.]+) x", size)
+        assert width is not None
+        self.assertAlmostEqual(float(width[1]), 84 * 72 / 25.4, delta=1)
+
+    def test_letters_are_seen_over_their_halos(self) -> None:
+        source = svg(Figure(60, "x", [Text(30, 14, "MMM", 12, "middle", halo=True)], 20)).encode()
+        program = "import sys, cairosvg; cairosvg.svg2pdf(file_obj=sys.stdin.buffer, write_to=sys.stdout.buffer)"
+        made = subprocess.run([python_with_library(), "-c", program], input=source, capture_output=True, check=True).stdout
+        drawn = subprocess.run([tool("pdftoppm"), "-gray"], input=made, capture_output=True, check=True).stdout
+        self.assertGreater(sum(dot < 64 for dot in drawn.split(b"\n255\n", 1)[1]), 100)
 
     def test_the_library_is_asked_first(self) -> None:
         library = mock.Mock()

@@ -7,16 +7,32 @@ import tempfile
 import unittest
 from collections import Counter
 
-from browser import needs_browser
+from browser import Browser, needs_browser
 from looking import broken_words, contrast, darkened, opened, resized
 from tml_corpus.pages import colours
 from tml_corpus.pages.documents import Counts, Entry
 from tml_corpus.pages.frame import coded
-from tml_corpus.pages.index import index_of
+from tml_corpus.pages.index import COLUMNS, index_of
 from tml_corpus.pages.report import SHARED
 from tml_corpus.pages.style import STYLE
 
 VERDICTS = ("accepted", "clash", "fault", "dates that touch", "not judged")
+
+
+FOCUSED = "document.activeElement.textContent"
+HEAD = "document.querySelector('#documents thead button').focus()"
+STOPS = ["accepted", "10 MissingAttribute", "search", "Documents", "document", "corpus/of_news/wsj_00_interviews.xml"]
+"""What the tabulator reaches: one of each group, the field of the search, and the table, which can be scrolled."""
+
+
+def stops(browser: Browser) -> list[str]:
+    """What the tabulator reaches one after the other, from the beginning of the page to its end."""
+    found: list[str] = []
+    for _ in range(len(STOPS) + 1):
+        browser.press("Tab", 9)
+        one = "document.activeElement.type === 'search' ? 'search' : document.activeElement.getAttribute('aria-label')"
+        found.append(browser.value(f"document.activeElement === document.body ? '' : {one} || {FOCUSED}"))
+    return [name for name in found if name]
 
 
 def entries() -> list[Entry]:
@@ -65,6 +81,45 @@ class InABrowser(IndexTest):
             browser.open(self.index)
             browser.click("#documents thead th:nth-child(10) button")
             self.assertEqual(browser.value("document.querySelector('#documents tbody tr').cells[9].textContent"), "523,776")
+
+    def test_each_group_is_one_stop_of_the_tabulator_and_arrows_go_on(self) -> None:
+        with opened() as browser:
+            browser.open(self.index)
+            self.assertEqual(stops(browser), STOPS)
+            self.assertEqual(browser.value("document.querySelectorAll('[tabindex=\"-1\"]').length"), 4 + 11 + 4)
+            for column, key, code in (("verdict", "ArrowRight", 39), ("fault", "ArrowDown", 40), ("decided, in %", "End", 35)):
+                browser.value(HEAD)
+                for _ in range(2 if column == "fault" else 1):
+                    browser.press(key, code)
+                self.assertEqual(browser.value(FOCUSED), column)
+            browser.value("document.activeElement.click()")
+            browser.press("Home", 36)
+            self.assertEqual(browser.value(FOCUSED), "document")
+            self.assertEqual(browser.said, [])
+
+    def test_arrows_go_by_the_rows_as_they_are_shown(self) -> None:
+        with opened() as browser:
+            browser.open(self.index)
+            names = [entry.path for entry in entries()]
+            browser.click("#documents thead th:nth-child(1) button")
+            browser.click("#documents thead th:nth-child(1) button")
+            browser.value("document.querySelector('#search input').focus()")
+            browser.ask("Input.insertText", text="h")
+            browser.value("document.querySelector('#documents a[tabindex=\"0\"]').focus()")
+            seen = [browser.value(FOCUSED)]
+            for _ in names:
+                browser.press("ArrowDown", 40)
+                seen.append(browser.value(FOCUSED))
+            self.assertEqual(list(dict.fromkeys(seen)), [names[VERDICTS.index(one)] for one in ("dates that touch", "clash")])
+
+    def test_what_screen_readers_say_of_links_and_buttons(self) -> None:
+        with opened() as browser:
+            browser.open(self.index)
+            nodes = browser.ask("Accessibility.getFullAXTree")["nodes"]
+            said = [(one["role"]["value"], one["name"]["value"]) for one in nodes if one.get("role", {}).get("value") in ("link", "button")]
+            self.assertEqual([name for role, name in said if role == "link"], [entry.path for entry in entries()])
+            buttons = [name for role, name in said if role == "button"]
+            self.assertEqual(buttons, [*VERDICTS, "10 MissingAttribute", *(name for name, _ in COLUMNS)])
 
     def test_verdicts_differ_in_shape_and_in_colour(self) -> None:
         with opened() as browser:

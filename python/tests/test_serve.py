@@ -391,6 +391,9 @@ class Editors(CorpusTest):
             'renamed: <EVENT eid="e7" class="STATE">x</EVENT> word',
             'annotated: .* <EVENT eid="e2" class="OCCURRENCE">word</EVENT>',
             'instance: <MAKEINSTANCE eiid="ei1" eventID="e2"/>',
+            "offered: Split the second document off into d.2.tml",
+            "left: </TimeML>",
+            "made: <TimeML>second</TimeML>",
             "stopped: true",
         )
         self.assertNotRegex(printed, "Error|traceback")

@@ -7,9 +7,9 @@ import unittest
 from corpus import TML, CorpusTest, document, needs_matrix
 from serving import Client, Json, ServeTest
 
-from tml.statuses import BASE_RELATIONS, RELATIONS
+from tml.statuses import BASE_RELATIONS, BESIDE_BASE, RELATIONS
 from tml_corpus.asking.program import Program
-from tml_corpus.serve.possible import BESIDE_BASE, blanked, possible
+from tml_corpus.serve.possible import blanked, possible
 
 INTERVALS = "".join(
     f'<EVENT eid="e{number}" class="STATE">{word}</EVENT>\n<MAKEINSTANCE eiid="i{number}" eventID="e{number}"/>\n'

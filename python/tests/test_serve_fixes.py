@@ -12,7 +12,7 @@ import advice
 import test_mistakes
 from advice import Reference, judged
 from corpus import EVENT, INSTANCE, TML, TOP, CorpusTest, document, needs_matrix
-from serving import Json, done, state_of
+from serving import Json, ServeTest, done, state_of
 from slips import SLIPS
 from stories import Story
 
@@ -22,17 +22,17 @@ from tml_corpus.asking.program import File, Reply
 from tml_corpus.check.fix import steps
 from tml_corpus.check.judgement import Judgement
 from tml_corpus.check.placed import PlacedFault, PlacedWarning
+from tml_corpus.lint.links import TO_EVENT, TO_TIME
 from tml_corpus.serve.actions import actions
 from tml_corpus.serve.document import Asked, OpenDocument
+from tml_corpus.serve.splitting import file_beside
 
 QUICK_FIX = "quickfix"
 TABLES: Any = test_mistakes
 DOING: Any = advice.DOING
 WITHOUT_A_CURE = (
-    "a second document begins here", "put the tag around its words", "only links can order it",
-    "nothing about its time", "see which words each belongs to", "and this day is a",
-    "is far from the creation time", "see whether one of the two instances was pasted", "so nothing orders it: add a TLINK",
-    "February 1999 has 28 days", "the halves of a year",
+    "only links can order it", "nothing about its time", "see which words each belongs to", "and this day is a",
+    "is far from the creation time", "February 1999 has 28 days", "the halves of a year",
 )  # fmt: skip
 """What sentences say that name nothing which could be written as it stands there."""
 
@@ -91,7 +91,7 @@ class Sentences(CorpusTest):
         found = fixes(state, first.mark.start.offset, first.mark.end.offset)
         offered = [done(state, one) for one in found]
         wanted = [step.after for step in steps(state.program, state.text, fault)] if fault is not None else []
-        if not any(one["isPreferred"] for one in found) and not re.search(r"`head -c|add <MAKEINSTANCE", first.text):
+        if not any(one["isPreferred"] for one in found) and not re.search("add <MAKEINSTANCE", first.text):
             for pattern, do in DOING:
                 said = re.search(pattern, first.text)
                 if said is not None:
@@ -205,9 +205,71 @@ class Choices(CorpusTest):
         self.assertEqual(len(titles), 7)
         self.assertEqual(self.after(titles[0]), text.replace("<EVENT>", '<EVENT eid="e2" class="OCCURRENCE">'))
 
-    def test_what_may_be_a_consequence_is_left(self) -> None:
+    def test_what_may_be_a_consequence_is_offered_as_that(self) -> None:
         titles = self.titles(document('<EVENT eid="e1" class="STATE>x</EVENT>'), "<EVENT")
-        self.assertEqual(titles, ['Write " after class="STATE'])
+        perhaps = 'Write <EVENT eid="e1" class="OCCURRENCE"> before x, if no fault before is the cause'
+        self.assertEqual(titles, ['Write " after class="STATE', perhaps])
+        self.assertEqual([one["isPreferred"] for one in self.found], [True, False])
+
+    def test_a_link_for_what_is_in_none(self) -> None:
+        created = '<TIMEX3 tid="t0" type="DATE" value="1998-01-08" functionInDocument="CREATION_TIME">x</TIMEX3>\n'
+        text = chain(("i1", "BEFORE", "i2"), count=3)
+        self.assertEqual(self.titles(text, '<MAKEINSTANCE eiid="i3"'), [f"Add a TLINK: i3 {one} i2" for one in TO_EVENT])
+        added = '<TLINK lid="l2" eventInstanceID="i3" relatedToEventInstance="i2" relType="AFTER"/>\n'
+        self.assertEqual(self.after("Add a TLINK: i3 AFTER i2"), text.replace("\n</TimeML>", f"\n{added}</TimeML>"))
+        titles = self.titles(text.replace("<TimeML>", "<TimeML>" + created), '<MAKEINSTANCE eiid="i3"')
+        self.assertEqual(titles[:3], [f"Add a TLINK: i3 {one} t0" for one in TO_TIME])
+        self.assertTrue(all(state_of(done(self.state, one)).fits() for one in self.found))
+        self.assertEqual(self.titles(document(EVENT + INSTANCE), "<MAKEINSTANCE"), [], "there is nothing beside it")
+        other = document(EVENT + INSTANCE + EVENT.replace("e1", "e2") + INSTANCE.replace('i1" eventID="e1', 'i2" eventID="e2'))
+        self.assertEqual(self.titles(other, ">x<")[0], "Add a TLINK: i1 BEFORE i2", "after the last instance, and to the event after it")
+
+    def test_what_lint_sees_twice_or_without_words(self) -> None:
+        text = document('one two <SIGNAL sid="s1"/>, three')
+        self.titles(text, "<SIGNAL")
+        offered = [done(self.state, one).decode() for one in self.found if "SIGNAL" in one["title"]]
+        self.assertEqual(offered, [document('one <SIGNAL sid="s1">two</SIGNAL> , three')], "no word is a comma")
+        inner = '<TIMEX3 tid="t1" type="DATE" value="1998">x</TIMEX3>'
+        self.titles(document(EVENT.replace("x", inner)), "<TIMEX3")
+        self.assertIn(document(EVENT), [done(self.state, one).decode() for one in self.found])
+
+
+class Splitting(ServeTest):
+    second = '<?xml version="1.0"?>\n<TimeML>\u00e9</TimeML>\n'
+
+    def opened_twice(self, **capabilities: Json) -> list[Json]:
+        """What is offered where a second document begins, to an editor that can do some things."""
+        client = self.client(**capabilities)
+        self.opened(client, document("\u00e9") + "\n" + self.second)
+        return self.actions(client, "<?xml", only=[QUICK_FIX])
+
+    def test_an_editor_that_makes_files_gets_a_new_one(self) -> None:
+        self.write("d.2.xml", "taken")
+        found, *_ = self.opened_twice(workspace={"workspaceEdit": {"resourceOperations": ["create", "rename"]}})
+        self.assertEqual((found["title"], found["isPreferred"]), ("Split the second document off into d.3.xml", False))
+        made, filled, cut = found["edit"]["documentChanges"]
+        self.assertEqual(made, {"kind": "create", "uri": self.uri("d.3.xml")})
+        self.assertEqual((filled["textDocument"]["uri"], [one["newText"] for one in filled["edits"]]), (made["uri"], [self.second]))
+        self.assertEqual(cut["textDocument"]["uri"], self.uri())
+        self.assertEqual(self.applied({"changes": {self.uri(): cut["edits"]}}), document("\u00e9") + "\n")
+        self.assertFalse(os.path.exists(self.path("d.3.xml")), "a server writes nothing")
+
+    def test_another_one_deletes_it(self) -> None:
+        for edits in ({}, {"documentChanges": True}, {"resourceOperations": [1, "rename"]}, {"resourceOperations": "create"}):
+            found, *_ = self.opened_twice(workspace={"workspaceEdit": edits})
+            self.assertEqual((found["title"], found["isPreferred"]), ("Delete the second document, to be pasted elsewhere", False))
+            self.assertEqual(self.applied(found), document("\u00e9") + "\n")
+
+    def test_a_document_in_no_file_has_no_file_beside(self) -> None:
+        self.assertIsNone(file_beside("untitled:Untitled-1"))
+        self.assertEqual(file_beside("file:///none/a%20b.v1.tml"), "file:///none/a%20b.v1.2.tml")
+        self.assertEqual(file_beside("file:///none/a.b/c"), "file:///none/a.b/c.2")
+
+    def test_a_document_whose_end_was_lost(self) -> None:
+        state = state_of(document(EVENT)[:-len("</TimeML>")] + document("a"))
+        at = state.text.rindex(b"<TimeML>")
+        found = actions(state, (at, at), [QUICK_FIX])
+        self.assertIn(state.text[:at], [done(state, one) for one in found])
 
 
 def chain(*links: tuple[str, str, str], count: int = 4) -> str:

@@ -2,15 +2,20 @@
 
 from __future__ import annotations
 
+import io
 import math
-from collections.abc import Iterable, Sequence
+from collections.abc import Collection, Iterable, Sequence
+from dataclasses import dataclass
+from functools import cached_property
 
-from .asking import Answerer, File, answer_to, content
-from .questions import check, spans
+from .asking import Answer, Answerer, File, answer_to, content
+from .matrices import Matrix, read_matrix
+from .questions import check, dates, spans
 from .reading import cited
 from .results import Consistent, Fault, Relation, TooLong
 from .skeletons import Skeleton
-from .statuses import DOCUMENT_LIMIT, LINK_LIMIT, TmlStatus
+from .statuses import BESIDE_BASE, DOCUMENT_LIMIT, LINK_LIMIT, TmlStatus
+from .walks import fitting
 from .writing import Linkable, ends_in, relation_of, with_tags
 
 __all__ = ["consistent"]
@@ -22,8 +27,10 @@ def consistent(
     """The relations that are kept where the least confident one of each clash is dropped, until nothing clashes.
 
     The document gives the intervals and dates, and its own links do not count. A weight says how confident a relation is; of two with the
-    same weight the one that was given later goes first. Each clash that is met is a minimal one. One question is asked for each relation
-    that is dropped, and three for the document. A relation may be dropped for a clash of which another one is dropped later.
+    same weight the one that was given later goes first. So a relation is dropped where it clashes with more confident ones that are kept.
+
+    Three questions are asked, and two more where something clashes, however many relations are dropped. Which ones are to be dropped is
+    counted here; that those which are kept fit, and none of those which are dropped beside them, is what `tml` says.
 
     `ValueError` where there is not one weight for each relation, or one is not a number, or there are more relations than a document may
     have links; `UnknownName` where one names no interval or is not a relation.
@@ -36,18 +43,58 @@ def consistent(
         return accepted
     assert isinstance(units, list)
     ends = ends_in(given, accepted, units)
-    tags, skeleton = [ends.tag(one) for one in wanted], Skeleton(given)
-    kept, dropped = list(range(len(relations))), list[int]()
-    while True:
-        answer = answer_to(by, "solve", skeleton.with_links(tags[number].encode() for number in kept))
-        if answer.status != TmlStatus.CLASH:
-            break
-        clash = [kept[number] for number in cited(answer.text)]
-        least = min(clash, key=lambda number: (weights[number], -number))
-        kept.remove(least)
-        dropped.append(least)
-    made = with_tags(given, units, [tags[number] for number in kept])
-    return Consistent(tuple(relations[number] for number in kept), tuple(relations[number] for number in dropped), made)
+    tags = [ends.tag(one) for one in wanted]
+    ordered = sorted(range(len(relations)), key=lambda number: (-weights[number], number))
+    kept = Filter(given, accepted.intervals, relations, [tag.encode() for tag in tags], ordered, by).kept()
+    made = with_tags(given, units, [tags[number] for number in sorted(kept)])
+    dropped = [number for number in ordered if number not in kept]
+    return Consistent(tuple(relations[number] for number in sorted(kept)), tuple(relations[number] for number in dropped), made)
+
+
+@dataclass(frozen=True)
+class Filter:
+    """Relations with their tags, and their numbers from the most confident one on."""
+
+    document: bytes
+    intervals: Sequence[str]
+    relations: Sequence[Relation]
+    tags: Sequence[bytes]
+    ordered: Sequence[int]
+    by: Answerer | None
+
+    @cached_property
+    def skeleton(self) -> Skeleton:
+        """What the relations are put into."""
+        return Skeleton(self.document)
+
+    def asked(self, command: str, numbers: Iterable[int]) -> Answer:
+        """What `tml` answers about some relations."""
+        return answer_to(self.by, command, self.skeleton.with_links(self.tags[number] for number in numbers))
+
+    def kept(self) -> set[int]:
+        """The relations that are kept: all where a timeline fits them, and else those that fit, as far as `tml` says so too."""
+        if self.asked("solve", range(len(self.relations))).status != TmlStatus.CLASH:
+            return set(self.ordered)
+        said = dates(self.document, self.by)
+        assert isinstance(said, dict)
+        kept = fitting(self.intervals, said, ((number, self.relations[number]) for number in self.ordered))
+        while (answer := self.asked("matrix", kept)).status == TmlStatus.CLASH:
+            kept.remove(max((kept[number] for number in cited(answer.text)), key=self.ordered.index))
+        while (left := self.left_out(kept, answer)) is not None:
+            kept.append(left)
+            answer = self.asked("matrix", kept)
+        return set(kept)
+
+    def left_out(self, kept: Collection[int], answer: Answer) -> int | None:
+        """The most confident relation that is not kept and may hold beside those that are, of which a matrix was asked."""
+        matrix, chosen = read_matrix(io.BytesIO(answer.text), self.intervals), set(kept)
+        return next((number for number in self.ordered if number not in chosen and is_possible(matrix, self.relations[number])), None)
+
+
+def is_possible(matrix: Matrix, relation: Relation) -> bool:
+    """Whether a relation may hold beside the links of a matrix."""
+    base = matrix.possible(relation.first, relation.second)
+    return relation.relation in base or not BESIDE_BASE.get(relation.relation, frozenset()).isdisjoint(base)
 
 
 def expect_weights(relations: Sequence[Relation], weights: Sequence[float]) -> None:

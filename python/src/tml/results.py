@@ -287,7 +287,7 @@ class Reduced(Result):
 @dataclass(frozen=True)
 class Consistent(Result):
     """Relations without the least confident one of each clash: those that are kept, in the order in which they were given, those that were
-    dropped, in the order in which they were, and the document with the ones that are kept."""
+    dropped, from the most confident one on, and the document with the ones that are kept."""
 
     kept: tuple[Relation, ...]
     dropped: tuple[Relation, ...]

@@ -65,6 +65,13 @@ RELATIONS = tuple(ORDERS)
 BASE_RELATIONS = tuple(relation for relation in RELATIONS if relation not in ("DURING", "DURING_INV", "IDENTITY"))
 """The thirteen of Allen, in the order in which `tml matrix` prints them."""
 
+BESIDE_BASE = {
+    "DURING": frozenset({"IS_INCLUDED", "BEGINS", "ENDS", "SIMULTANEOUS"}),
+    "DURING_INV": frozenset({"INCLUDES", "BEGUN_BY", "ENDED_BY", "SIMULTANEOUS"}),
+    "IDENTITY": frozenset({"SIMULTANEOUS"}),
+}
+"""The relations that are none of the thirteen, each with those of the thirteen where it holds; a test asks `tml` about each."""
+
 INVERSES = {
     "BEFORE": "AFTER", "IBEFORE": "IAFTER", "IS_INCLUDED": "INCLUDES", "DURING": "DURING_INV", "BEGINS": "BEGUN_BY", "ENDS": "ENDED_BY",
     "OVERLAPS": "OVERLAPPED_BY",

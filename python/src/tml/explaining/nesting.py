@@ -261,7 +261,7 @@ def begins_document(source: Source, unit: Unit) -> bool:
 def second_document(source: Source, unit: Unit, found: Explanation) -> None:
     """A second document after the first one, or inside of it where the first has lost its end."""
     inside = f", inside <{ROOT}>, whose end was lost" if open_tags(source.units, unit.start) else ""
-    size = unit.start - (len(BYTE_ORDER_MARK) if source.document[: unit.start].endswith(BYTE_ORDER_MARK) else 0)
+    found.second = size = unit.start - (len(BYTE_ORDER_MARK) if source.document[: unit.start].endswith(BYTE_ORDER_MARK) else 0)
     found.text = (
         f"a second document begins here{inside}: split it off; `head -c {size} FILE > FIRST` and `tail -c +{size + 1} FILE > SECOND` do it"
     )
@@ -340,6 +340,7 @@ def root_inside(source: Source, unit: Unit, first: Unit, last: Unit, found: Expl
     said = f"<{ROOT}> is inside <{ROOT}>, opened at {source.at(first.start)}"
     if last != first:
         found.text = f"{said}: does a second document begin here? If so, split it off; otherwise delete the tag"
+        found.second = unit.start
         found.offer(*source.without(unit))
         found.offer(Edit(unit.start, unit.end, b""))
         return

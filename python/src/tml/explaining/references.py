@@ -250,10 +250,11 @@ def others_than(source: Source, name: str, other: Unit | None, target: str) -> I
     return [event] if event in source.identifiers["EVENT"] else source.identifiers[target]
 
 
-def added(source: Source, written: str) -> Edit:
-    """The edit that adds an instance on a line of its own: after the last one that there is, else before the links, else at the end."""
+def added(source: Source, written: str, after: Iterable[str] = ("MAKEINSTANCE",)) -> Edit:
+    """The edit that adds a tag on a line of its own, as an instance: after the last one of the first of some kinds that is there, else
+    before the links, else at the end."""
     line_end = "\r\n" if b"\r\n" in source.document else "\n"
-    same = source.tags("MAKEINSTANCE")
+    same = next(filter(None, map(source.tags, after)), None)
     if same:
         end = whole_end(source, same[-1])
         return Edit(end, end, encoded(line_end + written))

@@ -24,7 +24,7 @@ VERSIONS = re.compile(rb"<{7}[^\n]*\n(%b)(?:\|{7}[^\n]*\n%b)?={7}[^\n]*\n(%b)>{7
 """All lines of both versions, with their marks."""
 
 WITHOUT_BEGIN = re.compile(
-    rb"(?<![<\w/])(?:(EVENT|TIMEX3|SIGNAL|MAKEINSTANCE|TLINK|ALINK|SLINK)"
+    rb"(?<![<\w/])(?<!<!DOCTYPE )(?:(EVENT|TIMEX3|SIGNAL|MAKEINSTANCE|TLINK|ALINK|SLINK)"
     rb"(?:[ \t\r\n]+[\w:]+[ \t\r\n]*=[ \t\r\n]*(?:\"[^\"<>]*\"|'[^'<>]*'))+[ \t\r\n]*/?>|/(EVENT|TIMEX3|SIGNAL|TimeML)>|(TimeML)>)"
 )
 """A tag in a text that would be one if a `<` stood before it."""

@@ -66,6 +66,8 @@ class Explanation:
         self.edits: list[Edit] = []
         """What mends it, where there is one cure only."""
         self.offered: list[Ways] = []
+        self.second: int | None = None
+        """Where a second document begins, which is to be split off."""
         self.units: Units | None = None
         self.document = b""
         """The document in which it was found; of a further fault a copy, in which those before it are mended or blanked out."""

@@ -6,10 +6,12 @@ from collections.abc import Callable, Mapping
 
 from tml.markup import Markup, element, lined, svg_file
 
-from .shapes import FILLINGS, Box, Figure, Line, Shape
+from .shapes import FILLINGS, Box, Figure, Line, Shape, Text
 
 FONT = "Helvetica,Arial,'Liberation Sans',sans-serif"
 POINTS_OF_MILLIMETRE = 72 / 25.4
+HALO = {"fill": "none", "stroke": "#ffffff", "stroke_width": "2", "stroke_linejoin": "round"}
+"""The rim of letters."""
 
 
 def svg(figure: Figure) -> str:
@@ -32,10 +34,18 @@ def drawn(shape: Shape, number: int) -> Markup:
         return drawn_box(shape, f"box{number}")
     if isinstance(shape, Line):
         return drawn_line(shape)
-    halo = {"stroke": "#ffffff", "stroke_width": "2", "paint_order": "stroke", "stroke_linejoin": "round"} if shape.halo else {}
-    style = {"font_size": two(shape.size), "font_weight": "bold" if shape.bold else None, "fill": shape.colour}
-    anchor = None if shape.anchor == "start" else shape.anchor
-    return element("text", shape.text, x=two(shape.x), y=two(shape.y), text_anchor=anchor, **style, **halo)
+    return drawn_text(shape)
+
+
+def drawn_text(text: Text) -> Markup:
+    """A text, over its halo where it has one: not every program that reads SVG knows `paint-order`."""
+    anchor = None if text.anchor == "start" else text.anchor
+    letters = {"x": two(text.x), "y": two(text.y), "text_anchor": anchor}
+    letters |= {"font_size": two(text.size), "font_weight": "bold" if text.bold else None}
+    words = element("text", text.text, **letters, fill=text.colour)
+    if not text.halo:
+        return words
+    return element("g", element("text", text.text, **letters, **HALO), words)
 
 
 def drawn_box(box: Box, name: str) -> Markup:

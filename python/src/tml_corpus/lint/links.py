@@ -9,11 +9,14 @@ from itertools import combinations
 from tml.explaining.references import added, new_instance, whole_end
 from tml.statuses import INVERSES
 from tml.tags.edits import Edit
-from tml.tags.profile import TABLE
+from tml.tags.profile import LINK_TAGS, TABLE
 from tml.tags.source import Source, Suspect
 from tml.tags.units import Unit
 
 ENDS = {"SLINK": ("eventInstanceID", "subordinatedEventInstance"), "ALINK": ("eventInstanceID", "relatedToEventInstance")}
+TO_TIME, TO_EVENT = ("BEFORE", "IS_INCLUDED", "AFTER"), ("BEFORE", "AFTER", "INCLUDES", "IS_INCLUDED", "SIMULTANEOUS")
+"""The relations that events mostly have to the creation time, and to the event before them."""
+
 OF_INSTANCE = tuple(name for name in TABLE["MAKEINSTANCE"] if name != "eiid")
 
 
@@ -69,8 +72,26 @@ def opposed_instances(source: Source) -> Iterator[Suspect]:
                 f"{name} and {other} are instances of {event} with the same attributes, and {name} "
                 f"{INVERSES[relation]} {right}, {other} {relation} {right}"
             )
-            yield Suspect(later, f"{text}: see whether one of the two instances was pasted")
+            yield Suspect(
+                later, f"{text}: see whether one of the two instances was pasted", choices=partial(without_instances, source, tag, later)
+            )
             break
+
+
+def without_instances(source: Source, *instances: Unit) -> list[tuple[Edit, ...]]:
+    """The edits that delete one of some instances, and all links that name it."""
+    return [tuple(without_instance(source, tag)) for tag in instances]
+
+
+def without_instance(source: Source, instance: Unit) -> Iterator[Edit]:
+    """The edits that delete an instance, and all links that name it."""
+    name = source.value(instance, "eiid")
+    yield Edit(instance.start, whole_end(source, instance), b"")
+    for kind in LINK_TAGS:
+        ends = [row.name for row in TABLE[kind].values() if row.form.target == "MAKEINSTANCE"]
+        for tag, values in source.valued(kind):
+            if name in (values.get(end, "") for end in ends):
+                yield Edit(tag.start, whole_end(source, tag), b"")
 
 
 def relations_of(source: Source) -> dict[str, set[tuple[str, str]]]:
@@ -104,4 +125,26 @@ def unlinked_instance(source: Source) -> Iterator[Suspect]:
         linked.update((left, right))
     for name, tag in source.identified("MAKEINSTANCE").items():
         if name not in linked:
-            yield Suspect(tag, f"{name} is in no link, so nothing orders it: add a TLINK")
+            text = f"{name} is in no link, so nothing orders it: add a TLINK"
+            yield Suspect(tag, text, choices=partial(with_link, source, name, source.value(tag, "eventID")))
+
+
+def with_link(source: Source, name: str, event: str) -> list[tuple[Edit, ...]]:
+    """The edits that add a link from an instance to the creation time or to the event beside it, with the relations that are usual.
+
+    Where nothing orders an instance each relation is possible, so a person has to say which one the text means.
+    """
+    time = next((source.value(one, "tid") for one in source.creation_times), "")
+    neighbour = event_beside(source, event)
+    ends = [("relatedToTime", time, TO_TIME)] * bool(time) + [("relatedToEventInstance", neighbour, TO_EVENT)] * bool(neighbour)
+    begin = f'<TLINK lid="{source.fresh("TLINK")}" eventInstanceID="{name}"'
+    tags = (f'{begin} {attribute}="{other}" relType="{relation}"/>' for attribute, other, relations in ends for relation in relations)
+    return [(added(source, tag, ("TLINK", "MAKEINSTANCE")),) for tag in tags]
+
+
+def event_beside(source: Source, event: str) -> str:
+    """The first instance of the event before another one in the text, or of the one after it; nothing where there is none."""
+    names = [name for _, name in sorted((tag.start, name) for name, tag in source.identified("EVENT").items())]
+    at = names.index(event)
+    beside = (source.instances.get(name, [""])[0] for name in (*reversed(names[:at]), *names[at + 1 :]))
+    return next(filter(None, beside), "")

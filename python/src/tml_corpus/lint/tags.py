@@ -2,9 +2,12 @@
 
 from __future__ import annotations
 
+import re
 from collections.abc import Iterator
+from functools import partial
 from itertools import chain
 
+from tml.explaining.references import whole_end
 from tml.explaining.wholeness import WITHOUT_BEGIN, first_conflict, name_of_bare, version_marks
 from tml.statuses import MANY_BYTES
 from tml.tags.edits import Edit, known
@@ -13,10 +16,14 @@ from tml.tags.similar import one_letter_apart
 from tml.tags.source import Source, Suspect, attribute_of, cut
 from tml.tags.units import END, START, TEXT, Attribute, Unit
 
-
 KNOWN = {name: frozenset((*TABLE.get(name, ()), *CARRIED.get(name, ()))) for name in (ROOT, *TABLE)}
 AROUND_WORDS = ("EVENT", "TIMEX3")
 """The tags of words that do not hold each other."""
+
+LONGEST_WORD = 64
+WORD = rb"([\w&;'\x80-\xff-]+)"
+WORD_AFTER, WORD_BEFORE = re.compile(rb"\s*" + WORD), re.compile(WORD + rb"\s*\Z")
+"""The word after an empty tag, and the one before it."""
 
 
 def misspelled_attribute(source: Source) -> Iterator[Suspect]:
@@ -57,7 +64,18 @@ def empty_tag(source: Source) -> Iterator[Suspect]:
     for kind in ("EVENT", "SIGNAL", "TIMEX3"):
         for tag in source.tags(kind):
             if not source.has_text(tag) and not is_meant_to_be_empty(source, tag):
-                yield Suspect(tag, f"this {kind} has no text: put the tag around its words")
+                yield Suspect(tag, f"this {kind} has no text: put the tag around its words", choices=partial(around_words, source, tag))
+
+
+def around_words(source: Source, tag: Unit) -> list[tuple[Edit, ...]]:
+    """The edits that put a tag without text around the word after it, or the one before it."""
+    end, text = whole_end(source, tag), source.document
+    written = text[tag.start : tag.end].removesuffix(b">").removesuffix(b"/").rstrip() + b">"
+    after, before = WORD_AFTER.match(text, end), WORD_BEFORE.search(text, max(tag.start - LONGEST_WORD, 0), tag.start)
+    places = [found.span(1) for found in (after, before) if found is not None]
+    return [
+        (Edit(first, first, written), Edit(last, last, b"</%s>" % tag.name.encode()), Edit(tag.start, end, b"")) for first, last in places
+    ]
 
 
 def is_meant_to_be_empty(source: Source, tag: Unit) -> bool:
@@ -88,9 +106,15 @@ def nested_tag(source: Source) -> Iterator[Suspect]:
                 tag,
                 f"this {tag.name} is inside the {outer.name} at {where}: see which words each belongs to, and "
                 f"whether one is too many",
+                choices=partial(without_one, source, tag, outer),
             )
         if units.kinds[row] == START:
             open_rows.append(row)
+
+
+def without_one(source: Source, *tags: Unit) -> list[tuple[Edit, ...]]:
+    """The edits that take one of some tags away from what it holds."""
+    return [source.without(tag) for tag in tags]
 
 
 def version_mark(source: Source) -> Iterator[Suspect]:

@@ -125,7 +125,7 @@ def verdict(name: str) -> Markup:
 def row_of(entry: Entry) -> Markup:
     """The line of a document. It can be searched for the kinds of its warnings too."""
     path = breakable(entry.path)
-    name = element("a", path, href=f"documents/{entry.page}") if entry.page else path
+    name = element("a", path, href=f"documents/{entry.page}", aria_label=plain(entry.path)) if entry.page else path
     cells = [element("td", verdict(entry.verdict)), element("td", coded(entry.said) if entry.said else None)]
     cells += map(number_cell, numbers_of(entry))
     return element("tr", element("th", name, scope="row"), *cells, data_kinds=" ".join(sorted(entry.warnings)))

@@ -3,6 +3,7 @@
 from __future__ import annotations
 
 from .arcs_script import ARCS
+from .stops_script import STOPS
 
 INDEX_SCRIPT = """
 "use strict";
@@ -37,7 +38,9 @@ const sortBy = (head, column) => {
     return sign * compared(one, other) || order.get(first) - order.get(second);
   });
   body.append(...rows);
+  toFirstName();
 };
+""" + STOPS + """
 heads.forEach((head, column) => {
   const button = document.createElement("button");
   button.type = "button";
@@ -45,6 +48,9 @@ heads.forEach((head, column) => {
   button.addEventListener("click", () => sortBy(head, column));
   head.replaceChildren(button);
 });
+together(heads.map((head) => head.querySelector("button")));
+const nameOf = (row) => row.cells[0].querySelector("a");
+const toFirstName = together(rows.map(nameOf).filter(Boolean), () => rows.filter((row) => !row.hidden).map(nameOf).filter(Boolean));
 const field = document.createElement("input");
 const found = document.createElement("output");
 const look = () => {
@@ -56,6 +62,7 @@ const look = () => {
     count += !row.hidden;
   });
   found.textContent = ` ${count.toLocaleString("en")} of ${rows.length.toLocaleString("en")}`;
+  toFirstName();
 };
 field.type = "search";
 field.placeholder = "Search names, verdicts, faults, warnings";
@@ -74,6 +81,7 @@ document.querySelectorAll("[data-search]").forEach((head) => {
   });
   head.replaceChildren(button);
 });
+document.querySelectorAll(".totals table").forEach((one) => together(Array.from(one.querySelectorAll("button"))));
 look();
 """
 
@@ -147,21 +155,7 @@ const both = (word, bar, one, other) => {
     near(other());
   });
 };
-const reached = (group, one) => group.forEach((other) => other.setAttribute("tabindex", other === one ? "0" : "-1"));
-const KEYS = { ArrowUp: -1, ArrowLeft: -1, ArrowDown: 1, ArrowRight: 1 };
-// One of a group is reached by the tabulator, and the others by the arrow keys.
-const together = (group) => {
-  if (group.length) reached(group, group[0]);
-  group.forEach((one, place) => {
-    one.addEventListener("focus", () => reached(group, one));
-    one.addEventListener("keydown", (event) => {
-      const other = { Home: group[0], End: group[group.length - 1] }[event.key] || group[place + KEYS[event.key]];
-      if (!other) return;
-      event.preventDefault();
-      other.focus();
-    });
-  });
-};
+""" + STOPS + """
 const words = Array.from(document.querySelectorAll(".text .mark[data-intervals]")).filter((word) => word.dataset.intervals !== "");
 words.forEach((word) => both(word, null, word, () => barsOf(word)[0]));
 together(words);

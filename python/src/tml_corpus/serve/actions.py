@@ -1,9 +1,9 @@
-"""What an editor can do at a place: mend what is said, write the relation of dates that touch, part with a link, annotate a selection."""
+"""What an editor can do at a place: mend what is said, split a second document off, write the relation of dates that touch, part with a
+link, annotate a selection."""
 
 from __future__ import annotations
 
 from collections.abc import Iterable, Iterator
-
 
 from ..check.fix import mended
 from ..clash.touching import asks
@@ -12,18 +12,20 @@ from .cures import QUICK_FIX, cures, difference
 from .document import OpenDocument
 from .edits import action
 from .selection import ANNOTATE, annotated
+from .splitting import split_off
 from .wire import Json
 
 REWRITE, FIX_ALL = ANNOTATE, "source.fixAll"
 ACTION_KINDS = (QUICK_FIX, REWRITE, FIX_ALL)
 
 
-def actions(document: OpenDocument, stretch: tuple[int, int], only: Iterable[str] | None) -> list[Json]:
+def actions(document: OpenDocument, stretch: tuple[int, int], only: Iterable[str] | None, *, creates_files: bool = False) -> list[Json]:
     """What can be done at a stretch, of the kinds that are asked for. What mends the whole document is found where it is asked for."""
     first, last = document.places.whole_lines(*stretch)
     found: list[Json] = []
     if is_wanted(QUICK_FIX, only):
-        found += [*cures(document, (first, last)), *clash_links(document, first, last), *touching(document, first, last)]
+        found += [*split_off(document, first, last, creates_files=creates_files), *cures(document, (first, last))]
+        found += [*clash_links(document, first, last), *touching(document, first, last)]
     if is_wanted(REWRITE, only):
         found += [*annotated(document, *stretch), *redundant(document, first, last)]
     if only is not None and is_wanted(FIX_ALL, only):

@@ -21,6 +21,7 @@ class Client:
 
     encoding: str = UTF_16
     symbols_as_tree: bool = False
+    creates_files: bool = False
     initialized: bool = False
     shut_down: bool = False
 
@@ -54,11 +55,12 @@ def asked_symbols(client: Client, document: OpenDocument, _: Json) -> Json:
     return symbols(document, as_tree=client.symbols_as_tree)
 
 
-def asked_actions(_: Client, document: OpenDocument, params: Json) -> Json:
+def asked_actions(client: Client, document: OpenDocument, params: Json) -> Json:
     """The answer to a request for what can be done."""
     only = member(params, "context", "only", kind=list, default=None)
     kinds = None if only is None else [one for one in only if isinstance(one, str)]
-    return actions(document, document.places.stretch(member(params, "range", kind=dict)), kinds)
+    stretch = document.places.stretch(member(params, "range", kind=dict))
+    return actions(document, stretch, kinds, creates_files=client.creates_files)
 
 
 ANSWERS: dict[str, Answer] = {

@@ -1,13 +1,14 @@
 """What mends what is said of a document: for each fault and each warning the edits that its sentence names.
 
 `tml` is asked about each of them: what is preferred lets it come further, and what a person has to choose lets it come as far at least.
-What may be only a consequence of another fault is left until that is mended.
+What may be only a consequence of another fault is offered as that, and never preferred.
 """
 
 from __future__ import annotations
 
 from collections.abc import Iterator
 from itertools import chain, islice
+from operator import itemgetter
 
 from tml.explaining.faults import BAD_MARKUP, Fault
 from tml.statuses import RELATIONS
@@ -62,14 +63,21 @@ def of_first_fault(document: OpenDocument, lines: tuple[int, int], seen: set[tup
 
 
 def of_faults(document: OpenDocument, lines: tuple[int, int], seen: set[tuple[Edit, ...]]) -> Iterator[Json]:
-    """What the sentences on the faults name. Each sign of a mark of version control is a fault, of which only the first is told."""
+    """What the sentences on the faults name, what may be a consequence last. Each sign of a mark of version control is a fault, of which
+    only the first is told."""
     marked = 0
-    for fault, found, perhaps in document.explained + document.further:
+    for fault, found, perhaps in sorted(document.explained + document.further, key=itemgetter(2)):
         is_part = fault.number == BAD_MARKUP and fault.offset < marked
-        if not perhaps and not is_part and is_near(lines, fault.offset, found.start, *(edit.start for edit in found.edits)):
-            yield from of_fault(document, fault, found, lines, seen)
+        if not is_part and is_near(lines, fault.offset, found.start, *(edit.start for edit in found.edits)):
+            made = of_fault(document, fault, found, lines, seen)
+            yield from map(as_perhaps, made) if perhaps else made
         if fault.number == BAD_MARKUP:
             marked = max(marked, found.end)
+
+
+def as_perhaps(made: Json) -> Json:
+    """What mends a fault that may be only a consequence of those before it."""
+    return made | {"title": f"{made['title']}, if no fault before is the cause", "isPreferred": False}
 
 
 def is_near(lines: tuple[int, int], *places: int) -> bool:

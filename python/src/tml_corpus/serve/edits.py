@@ -20,6 +20,9 @@ LONGEST = 60
 LAST, FIRST = re.compile(rb"(?:<[^<>]{0,400}>|[^\s<>]{1,400})\Z"), re.compile(rb"\s*(<[^<>]{0,400}>|[^\s<>]{1,400})")
 """The last tag or word before a place, and the first one after it."""
 
+ADDED_LINK = re.compile(rb'^\r?\n<TLINK lid="[^"]+" \w+="([^"]+)" \w+="([^"]+)" relType="(\w+)"/>$')
+"""A link on a line of its own, as it is added."""
+
 NEAR = 1000
 """How many bytes before a place are searched for these."""
 
@@ -57,6 +60,9 @@ def titled(document: OpenDocument, text: bytes, edits: Iterable[Edit], lines: tu
 
 def in_words(text: bytes, edit: Edit) -> str:
     """What one edit does, in words."""
+    link = ADDED_LINK.search(edit.text)
+    if link is not None:
+        return f"Add a TLINK: {' '.join(word.decode() for word in link.group(1, 3, 2))}"
     old, new = said(text[edit.start : edit.end]), said(edit.text)
     if old and new:
         return f"Write {new} for {old}"

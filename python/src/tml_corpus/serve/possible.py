@@ -4,18 +4,11 @@ from __future__ import annotations
 
 import re
 
-from tml.statuses import RELATIONS
+from tml.statuses import BESIDE_BASE, RELATIONS
 from tml.tags.edits import Edit, applied
 from tml.tags.profile import is_identifier
 
 from ..asking.program import ACCEPTED, Program
-
-BESIDE_BASE = {
-    "DURING": frozenset({"IS_INCLUDED", "BEGINS", "ENDS", "SIMULTANEOUS"}),
-    "DURING_INV": frozenset({"INCLUDES", "BEGUN_BY", "ENDED_BY", "SIMULTANEOUS"}),
-    "IDENTITY": frozenset({"SIMULTANEOUS"}),
-}
-"""The relations that are none of the thirteen, each with those of the thirteen where it holds; a test asks `tml` about each."""
 
 RELATION = re.compile(rb"^relation (\w+)$", re.MULTILINE)
 

@@ -161,7 +161,8 @@ class Server:
         offered = member(params, "capabilities", "general", "positionEncodings", kind=list, default=[])
         of_symbols = member(params, "capabilities", "textDocument", "documentSymbol", kind=dict, default={})
         tree = member(of_symbols, "hierarchicalDocumentSymbolSupport", kind=bool, default=False)
-        self.client = Client(UTF_8 if UTF_8 in offered else UTF_16, tree, initialized=True)
+        encoding = UTF_8 if UTF_8 in offered else UTF_16
+        self.client = Client(encoding, tree, creates_files(params), initialized=True)
         capabilities = {
             "positionEncoding": self.client.encoding,
             "textDocumentSync": {"openClose": True, "change": 1},
@@ -246,6 +247,12 @@ class Server:
             return
         params = {"uri": uri, "diagnostics": found} | ({} if version is None else {"version": version})
         send(self.output, {"method": "textDocument/publishDiagnostics", "params": params})
+
+
+def creates_files(params: Json) -> bool:
+    """Whether a client that greets makes a file where an edit says so."""
+    operations = member(params, "capabilities", "workspace", "workspaceEdit", "resourceOperations", kind=list, default=[])
+    return "create" in operations
 
 
 NOTICES: dict[str, Callable[[Server, Message], None]] = {
