@@ -22,3 +22,4 @@ pub mod Sorting
 pub mod SortedNames
 pub mod Writing
 pub mod WrittenUnits
+pub mod Taking

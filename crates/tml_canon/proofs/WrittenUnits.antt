@@ -1,36 +1,25 @@
 -- The units of a document are written one after another.
-use Rattle.std.proofs.Common.{◌≡◌, ℕ, ◌≤◌, ◌<◌, Bool, true, false, cond, nat_le, List, [], ◌∷◌, ◌++◌, length, map, refl, sym, ap, subst, ◌∙◌, append_assoc, arith, Some, None, Ok}
+use Rattle.std.proofs.Common.{◌≡◌, ℕ, ◌≤◌, ◌<◌, Bool, true, false, cond, nat_le, List, [], ◌∷◌, ◌++◌, length, map, refl, sym, ap, subst, ◌∙◌, arith, Some, None}
 use Rattle.std.specs.Prelude.{codes}
 use Rattle.std.specs.Str.{bytes_eq}
 use Rattle.std.proofs.lemmas.Bool.Decides.{nat_tests}
 use Rattle.std.proofs.lemmas.Grind.{flat_map-append}
 use Rattle.std.proofs.lemmas.List.{append-nil, length-map}
 use Rattle.std.proofs.lemmas.Option.{same_Some}
-use Rattle.tml_span.specs.Cutter.{BeginsCut, CutsOn, HasCut}
-use Rattle.tml_span.specs.Cutting.{Cuts}
-use Rattle.tml_span.specs.Reader.{Reading}
 use Rattle.tml_span.specs.Units.{Kind, PlainUnit, bom, declaration, doctype, comment, text, start_tag, end_tag, empty_tag}
-use Rattle.tml_span.specs.View.{unit_of}
-use Rattle.tml_span.specs.Whole.{CutsWhole}
 use Rattle.tml_span.specs.Written.{kind_text}
-use Rattle.tml_span.specs.declared.unit.Unit.{Unit}
-use Rattle.tml_span.proofs.OneCut.{one_cut_from}
-use Rattle.tml_span.proofs.Pulling.{left_units}
-use Rattle.tml_tree.specs.Judging.{HavePassed, Passes, after, first_fault, no_history}
+use Rattle.tml_tree.specs.Judging.{Passes, first_fault}
 use Rattle.tml_tree.specs.Nesting.{OpenTag, open_name}
 use Rattle.tml_tree.specs.Plain.{PlainNode, element, none, nodes_of, unit}
 use Rattle.tml_tree.specs.Rules.{History, is_unknown, is_misplaced}
 use Rattle.tml_tree.specs.Stage.{Stage, step}
 use Rattle.tml_tree.specs.Trees.{Document}
-use Rattle.tml_tree.specs.Whole.{IsTreeOf}
 use Rattle.tml_tree.specs.Written.{kinds_of, node_text}
-use Rattle.tml_tree.proofs.Faults.{one_answer}
 use Rattle.tml_tree.proofs.FirstFaults.{first_of}
-use Rattle.tml_tree.proofs.Passed.{passed_not}
 use Rattle.tml_tree.proofs.Passing.{passes_on}
 use Rattle.tml_tree.proofs.Running.{nests_before, one_nesting}
-use Rattle.tml_canon.specs.Canonical.{IsCanonicalText, canonical, canonical_text}
-use Rattle.tml_canon.specs.Writing.{GivesText, HasWrittenUnits, Writes, canonical_nodes_text, text_so_far}
+use Rattle.tml_canon.specs.Canonical.{canonical, canonical_text}
+use Rattle.tml_canon.specs.Writing.{HasWrittenUnits, Writes, canonical_nodes_text, text_so_far}
 use Rattle.tml_canon.specs.declared.writer.Writer.{Writer}
 use Rattle.tml_canon.proofs.Pushing.{nodes_text-more}
 
@@ -80,13 +69,6 @@ units_more us u old new w v passes h writes =
     let few = few_open u.start u.end u.kind old h.tags h.nodes next.0 h.passed.names passes.0 h.few e in
     record { tags = next.0.tags; nodes = next.0.nodes; passed = next.1; few = few; written = writes h.tags h.nodes u.start u.end next.0 few e h.written }
 
--- a unit of a document has no fault
-no_fault : (us left : List PlainUnit) (u : PlainUnit) (root : PlainNode) (tags : List OpenTag) (nodes : List PlainNode) (h : History) → HavePassed us tags nodes h → Document root (us ++ u ∷ left) → first_fault h u.kind ≡ None
-no_fault us left u root tags nodes h p d = elim (first_fault h u.kind) as (λ o. first_fault h u.kind ≡ o → o ≡ None) [
-  | None ↦ λ e. refl
-  | Some kind ↦ λ e. absurd ((one_answer (us ++ u ∷ left)).tree_or_fault root u.start kind d (passed_not us left u tags nodes h kind p e))
-] refl
-
 -- ---- the end
 
 -- the text of one element alone
@@ -100,45 +82,3 @@ finished us h root w all d =
     let same = one_nesting us all.tags [] all.nodes d.1.0 all.passed.opens d.1.1 in
     let text : w.text.items ≡ canonical_nodes_text (root ∷ []) = all.written.text ∙ (λ i. text_so_far (same.0 i) (same.1 i)) ∙ ap canonical_nodes_text d.1.2 in
     ap (λ (s : List ℕ). s ++ codes "\n") text ∙ alone root
-
--- ---- the units of a source
-
--- of this source these units were read, and they are written
-pub record HasWrittenSource (source : List ℕ) (r : Reading) (w : Writer) : Type 0 where
-  pub source_is : r.source ≡ source
-  pub us : List PlainUnit
-  pub h : History
-  pub cut : HasCut r us
-  pub written : HasWrittenUnits us h w
-
--- before the first unit
-pub none_read : (source : List ℕ) (r : Reading) (w : Writer) → BeginsCut source r → HasWrittenUnits [] no_history w → HasWrittenSource source r w
-none_read source r w begins h = record { source_is = ap (λ (q : Reading). q.source) begins.0; us = []; h = no_history; cut = begins.1; written = h }
-
--- the units of its tree are those of its cut
-units_of_tree : (source : List ℕ) (root : PlainNode) (us : List PlainUnit) → IsTreeOf source root → Cuts source us [] → Document root us
-units_of_tree source root us tree cuts = subst (λ (vs : List PlainUnit). Document root vs) (one_cut_from 0 source tree.0 us [] [] tree.1.1 cuts).0 tree.2
-
--- where it has a tree, one more unit is read and written
-pub one_more : (source : List ℕ) (root : PlainNode) (old new : Reading) (u : Unit) (w v : Writer) → IsTreeOf source root → HasWrittenSource source old w → CutsOn old new (Ok (Some u)) → Writes w (unit_of u).kind v → HasWrittenSource source new v
-one_more source root old new u w v tree h gives writes =
-    let same : new.source ≡ source = gives.0 ∙ h.source_is in
-    let cut = gives.4 h.us h.cut in
-    let left = left_units new (h.us ++ unit_of u ∷ []) (subst CutsWhole (sym same) (tree.0, tree.1)) cut in
-    let all : Cuts source (h.us ++ unit_of u ∷ left.0) [] =
-    subst (λ (us : List PlainUnit). Cuts source us []) (append_assoc h.us (unit_of u ∷ []) left.0) (subst (λ (s : List ℕ). Cuts s ((h.us ++ unit_of u ∷ []) ++ left.0) []) same left.1.1) in
-    let document = units_of_tree source root (h.us ++ unit_of u ∷ left.0) tree all in
-    let sound = no_fault h.us left.0 (unit_of u) root h.written.tags h.written.nodes h.h h.written.passed document in
-    record {
-      source_is = same;
-      us = h.us ++ unit_of u ∷ [];
-      h = after h.h (unit_of u).kind;
-      cut = cut;
-      written = units_more h.us (unit_of u) h.h (after h.h (unit_of u).kind) w v (sound, refl) h.written writes;
-    }
-
--- where no unit is left, the text is that of its tree
-pub all_read : (source : List ℕ) (root : PlainNode) (old new : Reading) (w : Writer) (out : List ℕ) → IsTreeOf source root → HasWrittenSource source old w → CutsOn old new (Ok None) → GivesText w out → IsCanonicalText source out
-all_read source root old new w out tree h gives finishes =
-    let cuts : Cuts source h.us [] = subst (λ (s : List ℕ). Cuts s h.us []) h.source_is (gives.2 h.us h.cut).1 in
-    (root, tree, finishes h.us h.h root h.written (units_of_tree source root h.us tree cuts))

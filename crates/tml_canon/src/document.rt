@@ -1,17 +1,22 @@
 //! The canonical text of a document.
-ghost use Rattle.std.specs.Prelude.{◌≤◌, length, IfOk, IfErr, IfSome};
+ghost use Rattle.std.specs.Prelude.{◌≤◌, length, IfOk, IfErr, IfSome, OnOk};
 ghost use Rattle.net_core.specs.Limits.{max_document};
 ghost use Rattle.tml_accept.specs.Acceptance.{Accepted, FirstFault};
-ghost use Rattle.tml_canon.specs.Canonical.{HasTree, IsCanonicalText};
+ghost use Rattle.tml_canon.specs.Canonical.{IsCanonicalText};
+ghost use Rattle.tml_canon.specs.Taking.{HasTakenAll, MayTakeTag, TakesTag};
+ghost use Rattle.tml_canon.specs.Writing.{Writes};
+ghost use Rattle.tml_span.specs.View.{unit_of};
 
 use crate::writer::Writer;
+use net_core::Memory;
 use std::alloc::{AllocError, Global};
-use tml_accept::{Fault, accept};
+use tml_accept::Fault;
 use tml_io::List;
-use tml_span::Cutter;
+use tml_refs::Resolver;
+use tml_types::{Judged, TagReader};
 
 /// The canonical text of a document that has no fault in any of the five phases: what `canon` gives for its tree. No tree
-/// is built: once the document is accepted its units are read again, and written as they come.
+/// is built: the units are written as they are judged, and the document is cut once.
 ///
 /// # Errors
 ///
@@ -22,36 +27,67 @@ pub fn canonical_text(alloc: Global, doc: &[u8]) -> Result<List<u8>, Fault>
     ensures text { IfOk result (λ text. IsCanonicalText doc.now text) }
     ensures err { IfErr result (λ fault. IfSome fault (λ f. FirstFault doc.now f.0 f.1)) }
 {
-    match accept(alloc, doc) {
-        Ok(_) => {}
+    let taken = match take_all(alloc, doc) {
+        Ok(taken) => taken,
         Err(fault) => return Err(fault),
+    };
+    match taken.resolver.finish() {
+        Ok(_) => {}
+        Err(fault) => return Err(fault.kind_and_place()),
     }
-    match text_of(alloc, doc) {
+    match taken.writer.finish() {
         Ok(text) => Ok(List::from_vec(text)),
         Err(AllocError) => Err(None),
     }
 }
 
-/// The canonical text of a document that has a tree.
-fn text_of(alloc: Global, doc: &[u8]) -> Result<Vec<u8>, AllocError>
-    requires small { length doc.now ≤ max_document }
-    requires tree { HasTree doc.now }
-    ensures { IfOk result (λ text. IsCanonicalText doc.now text.items) }
+/// What was taken of a document: its typed tags, and the text of its units.
+#[derive(Drop)]
+struct Taken<'s> {
+    resolver: Resolver<'s>,
+    writer: Writer<'s>,
+}
+
+impl<'s> Taken<'s> {
+    /// Writes one more unit, and takes the typed tag that it begins.
+    fn take(&mut self, judged: &Judged<'s>) -> Result<(), Memory>
+        requires { MayTakeTag self.old.resolver judged.now.tag }
+        ensures written { OnOk result (Writes self.old.writer (unit_of judged.now.unit).kind self.new.writer) }
+        ensures taken { OnOk result (TakesTag self.old.resolver judged.now.tag self.new.resolver) }
+    {
+        if self.writer.take(&judged.unit).is_err() {
+            return Err(Memory);
+        }
+        match &judged.tag {
+            Some(tag) => self.resolver.take(tag),
+            None => Ok(()),
+        }
+    }
+}
+
+/// All that is taken of a document, or the first fault of its bytes, its units, their nesting or its attributes.
+fn take_all<'s>(alloc: Global, doc: &'s [u8]) -> Result<Taken<'s>, Fault>
+    requires { length doc.now ≤ max_document }
+    ensures ok { IfOk result (HasTakenAll doc.now) }
+    ensures err { IfErr result (λ fault. IfSome fault (λ f. FirstFault doc.now f.0 f.1)) }
 {
-    let mut units = match Cutter::new(doc) {
-        Ok(units) => units,
-        Err(_) => return Err(AllocError),
+    let mut tags = match TagReader::new(alloc, doc) {
+        Ok(tags) => tags,
+        Err(cut) => return Err(Some(cut.kind_and_place())),
     };
-    let mut writer = Writer::new(alloc);
+    let mut taken = Taken {
+        resolver: Resolver::new(alloc),
+        writer: Writer::new(alloc),
+    };
     loop {
-        match units.pull(alloc) {
-            Ok(Some(unit)) => writer.take(&unit)?,
-            Ok(None) => {
-                let text = writer.finish()?;
-                return Ok(text);
+        match tags.pull_unit(alloc) {
+            Ok(Some(judged)) => {
+                if taken.take(&judged).is_err() {
+                    return Err(tags.out_of_memory().kind_and_place());
+                }
             }
-            // The document has no fault, so this is out of memory.
-            Err(_) => return Err(AllocError),
+            Ok(None) => return Ok(taken),
+            Err(fault) => return Err(fault.kind_and_place()),
         }
     }
 }

@@ -15,8 +15,6 @@ use Rattle.tml_span.proofs.Pulling.{left_units, some_cut}
 use Rattle.tml_tree.specs.declared.whole.TreeFault.{TreeFault}
 use Rattle.tml_tree.specs.declared.whole.TreeFault.TheVariants as tree
 use Rattle.tml_tree.specs.Judging.{HavePassed, Passes, Refuses, no_history}
-use Rattle.tml_tree.specs.Nesting.{OpenTag}
-use Rattle.tml_tree.specs.Plain.{PlainNode}
 use Rattle.tml_tree.specs.Rules.{History}
 use Rattle.tml_tree.specs.Walking.{PlainTag, tag_of, tags_of}
 use Rattle.tml_tree.specs.Whole.{HasTreeFault}
@@ -32,18 +30,17 @@ use Rattle.tml_types.specs.declared.walk.TypeFault.{TypeFault}
 use Rattle.tml_types.specs.Content.{PlainTyped}
 use Rattle.tml_types.specs.Places.{HaveRisingPlaces, IsPlaceSmall}
 use Rattle.tml_types.specs.Rules.{IsSound}
-use Rattle.tml_types.specs.TagReader.{AreTypedSo, HasGiven, HasRead, HasSourceFault, bytes_left, is_complete}
+use Rattle.tml_types.specs.TagReader.{AreTypedSo, HasJudged, HasRead, HasSourceFault, OfUnits, bytes_left, is_complete}
 use Rattle.tml_types.specs.View.{typed_of}
 use Rattle.tml_types.specs.Walking.{Yields}
-use Rattle.tml_types.specs.Whole.{HasTagFault, OfTree}
+use Rattle.tml_types.specs.Whole.{HasTagFault}
 use Rattle.tml_types.proofs.Rising.{units_placed}
 use Rattle.tml_types.proofs.Walks.{fault_of_more, types_append}
 
 -- before the first unit
-pub nothing_read : (source : List ℕ) (units : Reading) (h : History) → BeginsCut source units → h ≡ no_history → HasGiven source [] (record { units = units; nesting = h })
+pub nothing_read : (source : List ℕ) (units : Reading) (h : History) → BeginsCut source units → h ≡ no_history → HasJudged source [] [] (record { units = units; nesting = h })
 nothing_read source units h begins e = record {
   source_is = ap (λ (r : Reading). r.source) begins.0;
-  given = [];
   cut = begins.1;
   open_tags = [];
   nodes = [];
@@ -60,21 +57,20 @@ one_tag (Some tag) = refl
 tags_more : (us : List PlainUnit) (u : PlainUnit) → tags_of us ++ option_to_list (tag_of u) ≡ tags_of (us ++ u ∷ [])
 tags_more us u = ap (λ (ts : List PlainTag). tags_of us ++ ts) (sym (one_tag (tag_of u))) ∙ sym (filter_map-append tag_of us (u ∷ []))
 
-module _ {source : List ℕ} {Known : List PlainTag → Type 0} (old : TagReader) (h : HasRead source Known old) where
+module _ {source : List ℕ} {us : List PlainUnit} {Known : List PlainTag → Type 0} (old : TagReader) (h : HasRead source us Known old) where
   module _ (units : Reading) (u : Unit) (gives : CutsOn old.units units (Ok (Some u))) where
     -- it passes
     pub reads_on : (More : List PlainTag → Type 0) (nesting : History) → Passes old.nesting (unit_of u).kind nesting → ((tags : List PlainTag) → Known tags → More (tags ++ option_to_list (tag_of (unit_of u))))
-        → HasRead source More (record { units = units; nesting = nesting })
+        → HasRead source (us ++ unit_of u ∷ []) More (record { units = units; nesting = nesting })
     reads_on More nesting passes more =
-        let p = passes_on h.given (unit_of u) h.open_tags h.nodes old.nesting nesting h.passed passes in
+        let p = passes_on us (unit_of u) h.open_tags h.nodes old.nesting nesting h.passed passes in
         record {
           source_is = gives.0 ∙ h.source_is;
-          given = h.given ++ unit_of u ∷ [];
-          cut = gives.4 h.given h.cut;
+          cut = gives.4 us h.cut;
           open_tags = p.0.tags;
           nodes = p.0.nodes;
           passed = p.1;
-          known = subst More (tags_more h.given (unit_of u)) (more (tags_of h.given) h.known);
+          known = subst More (tags_more us (unit_of u)) (more (tags_of us) h.known);
         }
 
     -- or is refused: what is found then is the fault of the source
@@ -82,9 +78,9 @@ module _ {source : List ℕ} {Known : List PlainTag → Type 0} (old : TagReader
         → ((CutsWhole units.source → HasTreeFault units.source f) → HasSourceFault units.source found) → HasSourceFault source found
     unit_fault f found refuses finds =
         let all : CutsWhole units.source → HasTreeFault units.source f = λ whole.
-        let left = left_units units (h.given ++ unit_of u ∷ []) whole (gives.4 h.given h.cut) in
-        let cut = subst (λ (us : List PlainUnit). IsWhole (record { source = units.source; units = us })) (append_assoc h.given (unit_of u ∷ []) left.0) left.1 in
-        units_fault units.source (h.given ++ unit_of u ∷ left.0) f cut (refused (length units.source) h.given left.0 (unit_of u) h.open_tags h.nodes old.nesting _ h.passed refuses)
+        let left = left_units units (us ++ unit_of u ∷ []) whole (gives.4 us h.cut) in
+        let cut = subst (λ (vs : List PlainUnit). IsWhole (record { source = units.source; units = vs })) (append_assoc us (unit_of u ∷ []) left.0) left.1 in
+        units_fault units.source (us ++ unit_of u ∷ left.0) f cut (refused (length units.source) us left.0 (unit_of u) h.open_tags h.nodes old.nesting _ h.passed refuses)
         in
         subst (λ (bytes : List ℕ). HasSourceFault bytes found) (gives.0 ∙ h.source_is) (finds all)
 
@@ -95,25 +91,28 @@ module _ {source : List ℕ} {Known : List PlainTag → Type 0} (old : TagReader
   -- ---- no more units
 
   module _ (units : Reading) (gives : CutsOn old.units units (Ok None)) where
-    whole : IsWhole (record { source = source; units = h.given })
-    whole = subst (λ (bytes : List ℕ). IsWhole (record { source = bytes; units = h.given })) h.source_is (gives.2 h.given h.cut)
+    whole : IsWhole (record { source = source; units = us })
+    whole = subst (λ (bytes : List ℕ). IsWhole (record { source = bytes; units = us })) h.source_is (gives.2 us h.cut)
 
     -- where the root was seen whole, what is known of the tags of the units is known of those of the tree
-    pub whole_read : is_complete old.nesting ≡ true → OfTree source Known
+    pub whole_read : is_complete old.nesting ≡ true → OfUnits source us Known
     whole_read e =
-        let root = passed_whole h.given h.open_tags h.nodes old.nesting h.passed e in
-        (root.0, (h.given, whole, root.1), subst Known (sym (elements_are_tags root.0 h.given root.1)) h.known)
+        let root = passed_whole us h.open_tags h.nodes old.nesting h.passed e in
+        (root.0, whole, root.1, subst Known (sym (elements_are_tags root.0 us root.1)) h.known)
 
     -- else it is not closed
     pub unclosed_read : is_complete old.nesting ≡ false → HasTreeFault source (tree.Unclosed units.place)
     unclosed_read e =
-        (h.given, whole, inr (refl, ap (λ (r : Reading). r.place) gives.0 ∙ gives.1 ∙ ap length h.source_is, passed_unclosed h.given h.open_tags h.nodes old.nesting h.passed e))
+        (us, whole, inr (refl, ap (λ (r : Reading). r.place) gives.0 ∙ gives.1 ∙ ap length h.source_is, passed_unclosed us h.open_tags h.nodes old.nesting h.passed e))
 
 -- ---- one more tag
 
 -- a unit that begins no tag
 pub no_tag : (Known : List PlainTag → Type 0) (o : Option PlainTag) → None ≡ o → (tags : List PlainTag) → Known tags → Known (tags ++ option_to_list o)
 no_tag Known o e tags k = subst (λ (p : Option PlainTag). Known (tags ++ option_to_list p)) e (subst Known (sym (append-nil tags)) k)
+
+pub none_typed : (typed : List PlainTyped) (o : Option PlainTag) → None ≡ o → (tags : List PlainTag) → AreTypedSo typed tags → AreTypedSo (typed ++ []) (tags ++ option_to_list o)
+none_typed typed o e tags k = subst (λ (ts : List PlainTyped). AreTypedSo ts (tags ++ option_to_list o)) (sym (append-nil typed)) (no_tag (AreTypedSo typed) o e tags k)
 
 -- a tag without a fault after others
 typed_after : (typed : List PlainTyped) (tag : PlainTag) (t : Option TypedTag) → Yields tag t → (tags : List PlainTag) → AreTypedSo typed tags → AreTypedSo (typed ++ map typed_of (option_to_list t)) (tags ++ tag ∷ [])
@@ -138,10 +137,10 @@ fault_stays f more tags h = fault_of_more [] tags more (tags ++ more) f refl (Al
 -- ---- places
 
 -- the typed tags that a reader has given are at places that rise
-pub given_placed : (source : List ℕ) (typed : List PlainTyped) (r : TagReader) → HasGiven source typed r → HaveRisingPlaces typed
-given_placed source typed r h =
-    let some = some_cut r.units h.given h.cut in
-    units_placed r.units.source some.1 h.given some.0 typed some.2 h.known.0.typed_tags h.known.1
+pub given_placed : (source : List ℕ) (us : List PlainUnit) (typed : List PlainTyped) (r : TagReader) → HasJudged source us typed r → HaveRisingPlaces typed
+given_placed source us typed r h =
+    let some = some_cut r.units us h.cut in
+    units_placed r.units.source some.1 us some.0 typed some.2 h.known.0.typed_tags h.known.1
 
 -- where a unit is pulled fewer bytes are left
 pub fewer_left : (old : TagReader) (units : Reading) (nesting : History) (u : Unit) → CutsOn old.units units (Ok (Some u)) → bytes_left (record { units = units; nesting = nesting }) < bytes_left old

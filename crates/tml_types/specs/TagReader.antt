@@ -1,19 +1,24 @@
 -- How far a reader of tags has come, and what it gives.
-use Rattle.std.specs.Prelude.{◌≡◌, ◌<◌, ◌-◌, ◌&&◌, ℕ, Bool, false, List, [], ◌∷◌, ◌++◌, length, Option, Some, None, Result, Ok, Err, ⊤}
+use Rattle.std.specs.Prelude.{◌≡◌, ◌<◌, ◌-◌, ◌&&◌, ℕ, Bool, false, List, [], ◌∷◌, ◌++◌, length, map, Option, Some, None, Result, Ok, Err, ⊤}
 use Rattle.std.specs.List.{All}
+use Rattle.std.specs.Option.{option_to_list}
 use Rattle.faults.specs.declared.kind.FaultKind.{FaultKind}
 use Rattle.tml_span.specs.Cutter.{HasCut}
 use Rattle.tml_span.specs.Faults.{HasCutFault, cut_kind_and_place}
 use Rattle.tml_span.specs.Units.{PlainUnit}
+use Rattle.tml_span.specs.View.{unit_of}
+use Rattle.tml_span.specs.Whole.{IsWhole}
 use Rattle.tml_tree.specs.declared.whole.TreeFault.{TreeFault}
 use Rattle.tml_tree.specs.declared.whole.TreeFault.TheVariants as tree
-use Rattle.tml_tree.specs.Judging.{HavePassed}
+use Rattle.tml_tree.specs.Judging.{HavePassed, Passes, no_history}
 use Rattle.tml_tree.specs.Nesting.{OpenTag}
 use Rattle.tml_tree.specs.Plain.{PlainNode}
 use Rattle.tml_tree.specs.Rules.{History, is_nil}
-use Rattle.tml_tree.specs.Walking.{PlainTag, tags_of}
+use Rattle.tml_tree.specs.Trees.{Document}
+use Rattle.tml_tree.specs.Walking.{PlainTag, elements, tags_of}
 use Rattle.tml_tree.specs.Whole.{HasTreeFault, kind_and_place as tree_kind_and_place}
 use Rattle.tml_types.specs.declared.tag_reader.Begun.{Begun}
+use Rattle.tml_types.specs.declared.tag_reader.Judged.{Judged}
 use Rattle.tml_types.specs.declared.tag_reader.SourceFault.{SourceFault}
 use Rattle.tml_types.specs.declared.tag_reader.SourceFault.TheVariants.{Cut, Tree, Tag}
 use Rattle.tml_types.specs.declared.tag_reader.TagReader.{TagReader}
@@ -42,29 +47,52 @@ HasSourceFault source (Tag fault) = OfTree source (λ tags. HasTagFault tags fau
 abbrev pub begun_tag : Begun → PlainTag
 begun_tag b = tag_at b.of.place b.name (attrs_of b.of)
 
--- A reader of this source has given some of its units, none of them breaks a rule, and this is known of the tags that they begin.
-pub record HasRead (source : List ℕ) (Known : List PlainTag → Type 0) (r : TagReader) : Type 0 where
+-- A reader of this source has given these of its units, none of them breaks a rule, and this is known of the tags that they begin.
+pub record HasRead (source : List ℕ) (us : List PlainUnit) (Known : List PlainTag → Type 0) (r : TagReader) : Type 0 where
   pub source_is : r.units.source ≡ source
-  pub given : List PlainUnit
-  pub cut : HasCut r.units given
+  pub cut : HasCut r.units us
   pub open_tags : List OpenTag
   pub nodes : List PlainNode
-  pub passed : HavePassed given open_tags nodes r.nesting
-  pub known : Known (tags_of given)
+  pub passed : HavePassed us open_tags nodes r.nesting
+  pub known : Known (tags_of us)
 
 -- no tag breaks a rule, and these are their typed tags
 abbrev pub AreTypedSo : List PlainTyped → List PlainTag → Type 0
 AreTypedSo typed tags = Types tags typed × All IsPlaceSmall typed
 
+-- a reader of this source has given these units, which begin these typed tags
+abbrev pub HasJudged : List ℕ → List PlainUnit → List PlainTyped → TagReader → Type 0
+HasJudged source us typed r = HasRead source us (AreTypedSo typed) r
+
+-- a reader of this source has given no unit
+abbrev pub BeginsJudging : List ℕ → TagReader → Type 0
+BeginsJudging source r = HasJudged source [] [] r × (r.nesting ≡ no_history)
+
 -- a reader of this source has given these typed tags
 abbrev pub HasGiven : List ℕ → List PlainTyped → TagReader → Type 0
-HasGiven source typed r = HasRead source (AreTypedSo typed) r
+HasGiven source typed r = (us : List PlainUnit) × HasJudged source us typed r
 
 -- What a pull gives: one typed tag more, whose place is above those before it, or none where all tags of the tree were given, or the fault of the source.
 abbrev pub GivesTag : TagReader → TagReader → Result (Option TypedTag) SourceFault → Type 0
 GivesTag old new (Ok (Some t)) = (source : List ℕ) (typed : List PlainTyped) → HasGiven source typed old → HasGiven source (typed ++ typed_of t ∷ []) new × HaveRisingPlaces (typed ++ typed_of t ∷ [])
 GivesTag old new (Ok None) = (source : List ℕ) (typed : List PlainTyped) → HasGiven source typed old → OfTree source (λ tags. Types tags typed)
 GivesTag old new (Err fault) = (source : List ℕ) (typed : List PlainTyped) → HasGiven source typed old → HasSourceFault source fault
+
+-- these are all units of a source, they make a tree, and this holds of its tags
+abbrev pub OfUnits : List ℕ → List PlainUnit → (List PlainTag → Type 0) → Type 0
+OfUnits source us Fact = (root : PlainNode) × IsWhole (record { source = source; units = us }) × Document root us × Fact (elements root)
+
+-- the typed tags and that of one more unit, if it begins one
+abbrev pub typed_with : List PlainTyped → Judged → List PlainTyped
+typed_with typed j = typed ++ map typed_of (option_to_list j.tag)
+
+-- What a pull of a unit gives: one more, which has no fault, with its typed tag, or none where all units were given and make a tree, or the fault of the source.
+abbrev pub GivesUnit : TagReader → TagReader → Result (Option Judged) SourceFault → Type 0
+GivesUnit old new (Ok (Some j)) = Passes old.nesting (unit_of j.unit).kind new.nesting
+    × ((source : List ℕ) (us : List PlainUnit) (typed : List PlainTyped) → HasJudged source us typed old
+    → HasJudged source (us ++ unit_of j.unit ∷ []) (typed_with typed j) new × HaveRisingPlaces (typed_with typed j))
+GivesUnit old new (Ok None) = (source : List ℕ) (us : List PlainUnit) (typed : List PlainTyped) → HasJudged source us typed old → OfUnits source us (λ tags. Types tags typed)
+GivesUnit old new (Err fault) = (source : List ℕ) (us : List PlainUnit) (typed : List PlainTyped) → HasJudged source us typed old → HasSourceFault source fault
 
 -- no tag is open, and the root was seen whole
 abbrev pub is_complete : History → Bool
@@ -76,13 +104,13 @@ IsUnclosed r fault = (fault ≡ tree.Unclosed r.units.place) × (is_complete r.n
 
 -- the fault of a source of which the first tag at fault is known
 abbrev pub FaultsWith : TagReader → TypeFault → SourceFault → Type 0
-FaultsWith r known fault = (source : List ℕ) → HasRead source (λ tags. HasTagFault tags known) r → HasSourceFault source fault
+FaultsWith r known fault = (source : List ℕ) (us : List PlainUnit) → HasRead source us (λ tags. HasTagFault tags known) r → HasSourceFault source fault
 
 -- how many bytes are left to a reader
 abbrev pub bytes_left : TagReader → ℕ
 bytes_left r = length r.units.source - r.units.place
 
--- where a tag is given fewer bytes are left
-abbrev pub MovesOn : TagReader → TagReader → Result (Option TypedTag) SourceFault → Type 0
-MovesOn old new (Ok (Some t)) = bytes_left new < bytes_left old
+-- where a tag or a unit is given fewer bytes are left
+abbrev pub MovesOn : {T : Type 0} → TagReader → TagReader → Result (Option T) SourceFault → Type 0
+MovesOn old new (Ok (Some given)) = bytes_left new < bytes_left old
 MovesOn old new other = ⊤

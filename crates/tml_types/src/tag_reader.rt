@@ -7,7 +7,7 @@ ghost use Rattle.tml_tree.specs.Judging.{Passes, Refuses};
 ghost use Rattle.tml_tree.specs.Walking.{tag_of};
 ghost use Rattle.tml_tree.specs.Whole.{HasTreeFault};
 ghost use Rattle.tml_types.specs.TagReader as tag_reader;
-ghost use Rattle.tml_types.specs.TagReader.{FaultsWith, GivesTag, HasGiven, HasSourceFault, IsUnclosed, MovesOn, begun_tag, is_complete};
+ghost use Rattle.tml_types.specs.TagReader.{BeginsJudging, FaultsWith, GivesTag, GivesUnit, HasGiven, HasSourceFault, IsUnclosed, MovesOn, begun_tag, is_complete};
 
 use crate::TypeFault;
 use crate::attributes::Attributes;
@@ -42,7 +42,16 @@ impl SourceFault {
     }
 }
 
-/// GivesTag the typed tags of a source one by one, in document order, as its units are read.
+/// A unit of a source, and the typed tag that it begins, if it begins one.
+#[derive(Drop)]
+pub struct Judged<'s> {
+    /// The unit.
+    pub unit: Unit<'s>,
+    /// Its typed tag.
+    pub tag: Option<TypedTag<'s>>,
+}
+
+/// Gives the typed tags of a source one by one, in document order, as its units are read.
 #[derive(Drop)]
 pub struct TagReader<'s> {
     units: Cutter<'s>,
@@ -58,6 +67,7 @@ impl<'s> TagReader<'s> {
     pub fn new(alloc: Global, source: &'s [u8]) -> Result<TagReader<'s>, PlainCut>
         requires { length source.now < 2 ^ 32 }
         ensures ok { IfOk result (HasGiven source.now []) }
+        ensures begins { IfOk result (BeginsJudging source.now) }
         ensures err { IfErr result (λ e. HasPlainFault source.now e) }
     {
         let units = Cutter::new(source)?;
@@ -102,6 +112,39 @@ impl<'s> TagReader<'s> {
                     Err(fault) => return Err(self.fault_with(alloc, fault)),
                 }
             }
+        }
+    }
+
+    /// The next unit, which breaks no rule, with its typed tag. None comes where all were given, as from `pull`.
+    ///
+    /// # Errors
+    ///
+    /// Those of `pull`.
+    #[inline(always)]
+    pub fn pull_unit(&mut self, alloc: Global) -> Result<Option<Judged<'s>>, SourceFault>
+        ensures gives { GivesUnit self.old self.new result }
+        ensures moves { MovesOn self.old self.new result }
+    {
+        let unit = match self.units.pull(alloc) {
+            Ok(Some(unit)) => unit,
+            Ok(None) => {
+                return match self.end() {
+                    Ok(()) => Ok(None),
+                    Err(unclosed) => Err(SourceFault::Tree(unclosed)),
+                };
+            }
+            Err(cut) => return Err(SourceFault::Cut(cut)),
+        };
+        let begun = match judge(&mut self.nesting, &unit) {
+            Ok(begun) => begun,
+            Err(fault) => return Err(self.refusal(fault)),
+        };
+        let Some(tag) = begun else {
+            return Ok(Some(Judged { unit, tag: None }));
+        };
+        match type_one(alloc, tag.name, tag.of) {
+            Ok(tag) => Ok(Some(Judged { unit, tag })),
+            Err(fault) => Err(self.fault_with(alloc, fault)),
         }
     }
 

@@ -1,4 +1,4 @@
-use Rattle.std.proofs.Common.{List}
+use Rattle.std.proofs.Common.{List, ◌++◌, ◌∷◌, []}
 use Rattle.std.specs.Option.{option_to_list}
 use Rattle.tml_span.specs.View.{unit_of}
 use Rattle.tml_tree.specs.Walking.{PlainTag, tag_of}
@@ -7,34 +7,35 @@ use Rattle.tml_types.proofs.Pulling.{cut_fault, fault_stays, reads_on, unclosed_
 use Rattle.tml_types.proofs.tag_reader.TagReader.fault_with.Goals as goal
 
 pub returns-in-Err-judge : goal.returns-in-Err-judge
-returns-in-Err-judge c = λ source read.
+returns-in-Err-judge c = λ source us read.
     let gives = rw c.in-Ok-Some.field-0-is at c.in-Ok-Some.ensures in
-    unit_fault c.loop-unit.self (c.loop-unit.invariant source read) c.pull.new.self c.in-Ok-Some.unit gives c.in-Err-judge.refused c.refusal.result c.in-Err-judge.ensures.err c.refusal.ensures
+    unit_fault c.loop-unit.self (c.loop-unit.invariant source us read).1 c.pull.new.self c.in-Ok-Some.unit gives c.in-Err-judge.refused c.refusal.result c.in-Err-judge.ensures.err c.refusal.ensures
 
 pub loop-unit-preserved : goal.loop-unit-preserved
-loop-unit-preserved c = λ source read.
+loop-unit-preserved c = λ source us read.
     let gives = rw c.in-Ok-Some.field-0-is at c.in-Ok-Some.ensures in
-    reads_on c.loop-unit.self (c.loop-unit.invariant source read) c.pull.new.self c.in-Ok-Some.unit gives (λ (tags : List PlainTag). HasTagFault tags c.args.fault) c.judge.new.nesting c.in_default.ensures.ok (fault_stays c.args.fault (option_to_list (tag_of (unit_of c.in-Ok-Some.unit))))
+    ((c.loop-unit.invariant source us read).0 ++ unit_of c.in-Ok-Some.unit ∷ [], reads_on c.loop-unit.self (c.loop-unit.invariant source us read).1 c.pull.new.self c.in-Ok-Some.unit gives (λ (tags : List PlainTag). HasTagFault tags c.args.fault) c.judge.new.nesting c.in_default.ensures.ok (fault_stays c.args.fault (option_to_list (tag_of (unit_of c.in-Ok-Some.unit)))))
 
 pub loop-unit-preserved-in_default : goal.loop-unit-preserved-in_default
-loop-unit-preserved-in_default c = λ source read.
+loop-unit-preserved-in_default c = λ source us read.
     let gives = rw c.in-Ok-Some.field-0-is at c.in-Ok-Some.ensures in
-    reads_on c.loop-unit.self (c.loop-unit.invariant source read) c.pull.new.self c.in-Ok-Some.unit gives (λ (tags : List PlainTag). HasTagFault tags c.args.fault) c.judge.new.nesting c.in_default.ensures.ok (fault_stays c.args.fault (option_to_list (tag_of (unit_of c.in-Ok-Some.unit))))
+    ((c.loop-unit.invariant source us read).0 ++ unit_of c.in-Ok-Some.unit ∷ [], reads_on c.loop-unit.self (c.loop-unit.invariant source us read).1 c.pull.new.self c.in-Ok-Some.unit gives (λ (tags : List PlainTag). HasTagFault tags c.args.fault) c.judge.new.nesting c.in_default.ensures.ok (fault_stays c.args.fault (option_to_list (tag_of (unit_of c.in-Ok-Some.unit)))))
 
 pub loop-unit-preserved-in_default-2 : goal.loop-unit-preserved-in_default-2
-loop-unit-preserved-in_default-2 c = λ source read.
+loop-unit-preserved-in_default-2 c = λ source us read.
     let gives = rw c.in-Ok-Some.field-0-is at c.in-Ok-Some.ensures in
-    reads_on c.loop-unit.self (c.loop-unit.invariant source read) c.pull.new.self c.in-Ok-Some.unit gives (λ (tags : List PlainTag). HasTagFault tags c.args.fault) c.judge.new.nesting c.in_default.ensures.ok (fault_stays c.args.fault (option_to_list (tag_of (unit_of c.in-Ok-Some.unit))))
+    ((c.loop-unit.invariant source us read).0 ++ unit_of c.in-Ok-Some.unit ∷ [], reads_on c.loop-unit.self (c.loop-unit.invariant source us read).1 c.pull.new.self c.in-Ok-Some.unit gives (λ (tags : List PlainTag). HasTagFault tags c.args.fault) c.judge.new.nesting c.in_default.ensures.ok (fault_stays c.args.fault (option_to_list (tag_of (unit_of c.in-Ok-Some.unit)))))
 
 pub returns-in-Ok : goal.returns-in-Ok
-returns-in-Ok c = λ source read.
+returns-in-Ok c = λ source us read.
     let gives = rw c.in-Ok-None.field-0-is at c.in-Ok-None.ensures in
-    whole_read c.loop-unit.self (c.loop-unit.invariant source read) c.pull.new.self gives c.in-Ok.ensures.ok
+    let tree = whole_read c.loop-unit.self (c.loop-unit.invariant source us read).1 c.pull.new.self gives c.in-Ok.ensures.ok in
+    (tree.0, ((c.loop-unit.invariant source us read).0, tree.1, tree.2), tree.3)
 
 pub returns-in-Err-end : goal.returns-in-Err-end
-returns-in-Err-end c = λ source read.
+returns-in-Err-end c = λ source us read.
     let gives = rw c.in-Ok-None.field-0-is at c.in-Ok-None.ensures in
-    rw c.in-Err-end.ensures.err.0 (unclosed_read c.loop-unit.self (c.loop-unit.invariant source read) c.pull.new.self gives c.in-Err-end.ensures.err.1)
+    rw c.in-Err-end.ensures.err.0 (unclosed_read c.loop-unit.self (c.loop-unit.invariant source us read).1 c.pull.new.self gives c.in-Err-end.ensures.err.1)
 
 pub returns-in-Err : goal.returns-in-Err
-returns-in-Err c = λ source read. cut_fault c.loop-unit.self (c.loop-unit.invariant source read) c.pull.new.self c.in-Err.cut c.in-Err.ensures
+returns-in-Err c = λ source us read. cut_fault c.loop-unit.self (c.loop-unit.invariant source us read).1 c.pull.new.self c.in-Err.cut c.in-Err.ensures

@@ -11,21 +11,21 @@ use Rattle.tml_types.proofs.tag_reader.TagReader.pull.Goals.{in-Some+in-Ok-None-
 pub returns-in-Ok-clause-gives : goal.returns-in-Ok-clause-gives
 returns-in-Ok-clause-gives c = λ source typed given.
     let gives = rw c.in-Ok-None.field-0-is at c.in-Ok-None.ensures in
-    let tree = whole_read c.loop-unit.self (c.loop-unit.invariant.stays source typed given) c.pull.new.self gives c.in-Ok.ensures.ok in
-    (tree.0, tree.1, tree.2.0)
+    let tree = whole_read c.loop-unit.self (c.loop-unit.invariant.stays source typed given).1 c.pull.new.self gives c.in-Ok.ensures.ok in
+    (tree.0, ((c.loop-unit.invariant.stays source typed given).0, tree.1, tree.2), tree.3.0)
 
 pub returns-in-Err-end-clause-gives : goal.returns-in-Err-end-clause-gives
 returns-in-Err-end-clause-gives c = λ source typed given.
     let gives = rw c.in-Ok-None.field-0-is at c.in-Ok-None.ensures in
-    rw c.in-Err-end.ensures.err.0 (unclosed_read c.loop-unit.self (c.loop-unit.invariant.stays source typed given) c.pull.new.self gives c.in-Err-end.ensures.err.1)
+    rw c.in-Err-end.ensures.err.0 (unclosed_read c.loop-unit.self (c.loop-unit.invariant.stays source typed given).1 c.pull.new.self gives c.in-Err-end.ensures.err.1)
 
 pub returns-in-Err-clause-gives : goal.returns-in-Err-clause-gives
-returns-in-Err-clause-gives c = λ source typed given. cut_fault c.loop-unit.self (c.loop-unit.invariant.stays source typed given) c.pull.new.self c.in-Err.cut c.in-Err.ensures
+returns-in-Err-clause-gives c = λ source typed given. cut_fault c.loop-unit.self (c.loop-unit.invariant.stays source typed given).1 c.pull.new.self c.in-Err.cut c.in-Err.ensures
 
 pub returns-in-Err-judge-clause-gives : goal.returns-in-Err-judge-clause-gives
 returns-in-Err-judge-clause-gives c = λ source typed given.
     let gives = rw c.in-Ok-Some.field-0-is at c.in-Ok-Some.ensures in
-    unit_fault c.loop-unit.self (c.loop-unit.invariant.stays source typed given) c.pull.new.self c.in-Ok-Some.unit gives c.in-Err-judge.fault c.refusal.result c.in-Err-judge.ensures.err c.refusal.ensures
+    unit_fault c.loop-unit.self (c.loop-unit.invariant.stays source typed given).1 c.pull.new.self c.in-Ok-Some.unit gives c.in-Err-judge.fault c.refusal.result c.in-Err-judge.ensures.err c.refusal.ensures
 
 pub returns-in-Ok-Some-type_one-clause-gives : goal.returns-in-Ok-Some-type_one-clause-gives
 returns-in-Ok-Some-type_one-clause-gives c = λ source typed given.
@@ -34,8 +34,8 @@ returns-in-Ok-Some-type_one-clause-gives c = λ source typed given.
     let yields = rw c.in-Ok-Some-type_one.field-0-is at c.in-Ok-Some-type_one.ensures.ok in
     let t = c.in-Ok-Some-type_one.typed in
     let more = typed_more typed (begun_tag c.in-Some.tag) (Some t) (tag_of (unit_of c.in-Ok-Some.unit)) begun yields in
-    let read = reads_on c.loop-unit.self (c.loop-unit.invariant.stays source typed given) c.pull.new.self c.in-Ok-Some.unit gives (AreTypedSo (typed ++ typed_of t ∷ [])) c.judge.new.nesting c.in-Ok-judge.ensures.ok more in
-    (read, given_placed source _ _ read)
+    let read = reads_on c.loop-unit.self (c.loop-unit.invariant.stays source typed given).1 c.pull.new.self c.in-Ok-Some.unit gives (AreTypedSo (typed ++ typed_of t ∷ [])) c.judge.new.nesting c.in-Ok-judge.ensures.ok more in
+    (((c.loop-unit.invariant.stays source typed given).0 ++ unit_of c.in-Ok-Some.unit ∷ [], read), given_placed source _ _ _ read)
 
 pub returns-in-Err-type_one-clause-gives : goal.returns-in-Err-type_one-clause-gives
 returns-in-Err-type_one-clause-gives c = λ source typed given.
@@ -43,8 +43,8 @@ returns-in-Err-type_one-clause-gives c = λ source typed given.
     let begun = ap (option_map begun_tag) (sym c.in-Some.is) ∙ c.in-Ok-judge.ensures.begun in
     let fault = c.in-Err-type_one.fault in
     let comes = fault_comes typed (begun_tag c.in-Some.tag) fault (tag_of (unit_of c.in-Ok-Some.unit)) begun c.in-Err-type_one.ensures.err in
-    c.fault_with.ensures source
-    (reads_on c.loop-unit.self (c.loop-unit.invariant.stays source typed given) c.pull.new.self c.in-Ok-Some.unit gives (λ (tags : List PlainTag). HasTagFault tags fault) c.judge.new.nesting c.in-Ok-judge.ensures.ok comes)
+    c.fault_with.ensures source _
+    (reads_on c.loop-unit.self (c.loop-unit.invariant.stays source typed given).1 c.pull.new.self c.in-Ok-Some.unit gives (λ (tags : List PlainTag). HasTagFault tags fault) c.judge.new.nesting c.in-Ok-judge.ensures.ok comes)
 
 pub loop-unit-preserved-after-begun : goal.loop-unit-preserved-after-begun
 loop-unit-preserved-after-begun c =
@@ -52,11 +52,14 @@ loop-unit-preserved-after-begun c =
     let tag = tag_of (unit_of c.in-Ok-Some.unit) in
     let fewer = fewer_left c.loop-unit.self c.pull.new.self c.judge.new.nesting c.in-Ok-Some.unit gives in
     record {
-      stays = λ source typed given. reads_on c.loop-unit.self (c.loop-unit.invariant.stays source typed given) c.pull.new.self c.in-Ok-Some.unit gives (AreTypedSo typed) c.judge.new.nesting c.in-Ok-judge.ensures.ok
-          (elim c.match-begun.branch [
-            | in-Some+in-Ok-None-type_one w ↦ typed_same typed (begun_tag w.in-Some.tag) tag (ap (option_map begun_tag) (sym w.in-Some.is) ∙ c.in-Ok-judge.ensures.begun) (rw w.in-Ok-None-type_one.field-0-is at w.in-Ok-None-type_one.ensures.ok)
-            | in_default w ↦ no_tag (AreTypedSo typed) tag (ap (option_map begun_tag) (sym w.in_default.is) ∙ c.in-Ok-judge.ensures.begun)
-          ]);
+      stays = λ source typed given. (
+        (c.loop-unit.invariant.stays source typed given).0 ++ unit_of c.in-Ok-Some.unit ∷ [],
+        reads_on c.loop-unit.self (c.loop-unit.invariant.stays source typed given).1 c.pull.new.self c.in-Ok-Some.unit gives (AreTypedSo typed) c.judge.new.nesting c.in-Ok-judge.ensures.ok
+            (elim c.match-begun.branch [
+              | in-Some+in-Ok-None-type_one w ↦ typed_same typed (begun_tag w.in-Some.tag) tag (ap (option_map begun_tag) (sym w.in-Some.is) ∙ c.in-Ok-judge.ensures.begun) (rw w.in-Ok-None-type_one.field-0-is at w.in-Ok-None-type_one.ensures.ok)
+              | in_default w ↦ no_tag (AreTypedSo typed) tag (ap (option_map begun_tag) (sym w.in_default.is) ∙ c.in-Ok-judge.ensures.begun)
+            ]),
+      );
       moves = omega (arith, fewer, c.loop-unit.invariant.moves);
     }
 
@@ -66,11 +69,14 @@ loop-unit-preserved-after-begun-2 c =
     let tag = tag_of (unit_of c.in-Ok-Some.unit) in
     let fewer = fewer_left c.loop-unit.self c.pull.new.self c.judge.new.nesting c.in-Ok-Some.unit gives in
     record {
-      stays = λ source typed given. reads_on c.loop-unit.self (c.loop-unit.invariant.stays source typed given) c.pull.new.self c.in-Ok-Some.unit gives (AreTypedSo typed) c.judge.new.nesting c.in-Ok-judge.ensures.ok
-          (elim c.match-begun.branch [
-            | in-Some+in-Ok-None-type_one w ↦ typed_same typed (begun_tag w.in-Some.tag) tag (ap (option_map begun_tag) (sym w.in-Some.is) ∙ c.in-Ok-judge.ensures.begun) (rw w.in-Ok-None-type_one.field-0-is at w.in-Ok-None-type_one.ensures.ok)
-            | in_default w ↦ no_tag (AreTypedSo typed) tag (ap (option_map begun_tag) (sym w.in_default.is) ∙ c.in-Ok-judge.ensures.begun)
-          ]);
+      stays = λ source typed given. (
+        (c.loop-unit.invariant.stays source typed given).0 ++ unit_of c.in-Ok-Some.unit ∷ [],
+        reads_on c.loop-unit.self (c.loop-unit.invariant.stays source typed given).1 c.pull.new.self c.in-Ok-Some.unit gives (AreTypedSo typed) c.judge.new.nesting c.in-Ok-judge.ensures.ok
+            (elim c.match-begun.branch [
+              | in-Some+in-Ok-None-type_one w ↦ typed_same typed (begun_tag w.in-Some.tag) tag (ap (option_map begun_tag) (sym w.in-Some.is) ∙ c.in-Ok-judge.ensures.begun) (rw w.in-Ok-None-type_one.field-0-is at w.in-Ok-None-type_one.ensures.ok)
+              | in_default w ↦ no_tag (AreTypedSo typed) tag (ap (option_map begun_tag) (sym w.in_default.is) ∙ c.in-Ok-judge.ensures.begun)
+            ]),
+      );
       moves = omega (arith, fewer, c.loop-unit.invariant.moves);
     }
 
@@ -80,10 +86,13 @@ loop-unit-preserved c =
     let tag = tag_of (unit_of c.in-Ok-Some.unit) in
     let fewer = fewer_left c.loop-unit.self c.pull.new.self c.judge.new.nesting c.in-Ok-Some.unit gives in
     record {
-      stays = λ source typed given. reads_on c.loop-unit.self (c.loop-unit.invariant.stays source typed given) c.pull.new.self c.in-Ok-Some.unit gives (AreTypedSo typed) c.judge.new.nesting c.in-Ok-judge.ensures.ok
-          (elim c.match-begun.branch [
-            | in-Some+in-Ok-None-type_one w ↦ typed_same typed (begun_tag w.in-Some.tag) tag (ap (option_map begun_tag) (sym w.in-Some.is) ∙ c.in-Ok-judge.ensures.begun) (rw w.in-Ok-None-type_one.field-0-is at w.in-Ok-None-type_one.ensures.ok)
-            | in_default w ↦ no_tag (AreTypedSo typed) tag (ap (option_map begun_tag) (sym w.in_default.is) ∙ c.in-Ok-judge.ensures.begun)
-          ]);
+      stays = λ source typed given. (
+        (c.loop-unit.invariant.stays source typed given).0 ++ unit_of c.in-Ok-Some.unit ∷ [],
+        reads_on c.loop-unit.self (c.loop-unit.invariant.stays source typed given).1 c.pull.new.self c.in-Ok-Some.unit gives (AreTypedSo typed) c.judge.new.nesting c.in-Ok-judge.ensures.ok
+            (elim c.match-begun.branch [
+              | in-Some+in-Ok-None-type_one w ↦ typed_same typed (begun_tag w.in-Some.tag) tag (ap (option_map begun_tag) (sym w.in-Some.is) ∙ c.in-Ok-judge.ensures.begun) (rw w.in-Ok-None-type_one.field-0-is at w.in-Ok-None-type_one.ensures.ok)
+              | in_default w ↦ no_tag (AreTypedSo typed) tag (ap (option_map begun_tag) (sym w.in_default.is) ∙ c.in-Ok-judge.ensures.begun)
+            ]),
+      );
       moves = omega (arith, fewer, c.loop-unit.invariant.moves);
     }
