@@ -37,7 +37,7 @@ CONTRASTS = """(() => {
   const found = new Set();
   document.querySelectorAll("body *").forEach((one) => {
     const [style, isDrawn] = [getComputedStyle(one), one.closest("svg") !== null];
-    if (!one.getClientRects().length || one.closest("button, input, .grid, defs")) return;
+    if (!one.getClientRects().length || one.closest("button, input, .grid, defs, [aria-hidden=true]")) return;
     const hasText = [...one.childNodes].some((part) => part.nodeType === 3 && part.textContent.trim() !== "");
     if (hasText) found.add(`${hex(isDrawn ? style.fill : style.color)} ${ground(one)} ${one.className.baseVal ?? one.className}`);
     if (!one.matches(".bar, .span, .edge, .anywhere, .link, .band, .arcs path")) return;

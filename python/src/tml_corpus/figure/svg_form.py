@@ -45,7 +45,7 @@ def drawn_text(text: Text) -> Markup:
     words = element("text", text.text, **letters, fill=text.colour)
     if not text.halo:
         return words
-    return element("g", element("text", text.text, **letters, **HALO), words)
+    return element("g", element("text", text.text, **letters, **HALO, aria_hidden="true"), words)
 
 
 def drawn_box(box: Box, name: str) -> Markup:
