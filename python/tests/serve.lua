@@ -34,7 +34,7 @@ local action = ask("textDocument/codeAction", { range = line, context = { diagno
 print("offered: " .. action.title)
 apply(action.edit)
 print("line: " .. vim.fn.getline(2))
-wait(function() return worst() ~= nil and worst().severity == vim.diagnostic.severity.WARN end)
+wait(function() return worst() ~= nil and worst().severity > vim.diagnostic.severity.ERROR end)
 print("then: " .. worst().message)
 vim.api.nvim_win_set_cursor(0, { 2, 3 })
 print("hover: " .. ask("textDocument/hover").result.contents.value)
