@@ -55,6 +55,7 @@ def installed() -> Iterator[None]:
         raise RuntimeError(CANNOT)
     with tempfile.TemporaryDirectory(prefix="installed-") as name:
         folder = Path(name)
+        folder.chmod(0o755)
         install(python, folder)
         link_tools(folder)
         with mock.patch.dict(os.environ, TML_INSTALLED=name, PYTHONPATH=name):

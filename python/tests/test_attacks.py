@@ -43,6 +43,7 @@ import tomllib  # noqa: F401
 
 from corpus import TML, TOOLS, TOP, CorpusTest, document
 from forked import run_forked
+from installing import of_the_clone
 from processes import is_running, until
 from tml.process import Process
 from tml.statuses import DOCUMENT_LIMIT
@@ -322,6 +323,7 @@ OF_HASHLIB = re.compile(r"ERROR:root:code for hash .*?\nValueError: unsupported 
 """What its module `hashlib` says where it cannot be loaded whole, whoever loads it."""
 
 
+@of_the_clone
 class LittleRoom(AttackTest):
     def test_every_launcher_ends_with_a_line(self) -> None:
         for command in (COMMANDS[0], COMMANDS[7], COMMANDS[8], *OTHER_COMMANDS[:2]):
@@ -531,7 +533,7 @@ LONG = {
     "nested events with tags", "nested events with spaces", "nested events in a report", "very many units in a report",
     "very many marks in a report", "one long text of many instances in a report", "very many tags with another name",
 }
-"""What takes longest: a quarter of a document, in a quarter of the time, unless the variable TML_SLOW has the whole one tried."""
+"""What takes longest: a quarter of a document, in half of the time, unless the variable TML_SLOW has the whole one tried."""
 
 
 class Documents(AttackTest):
@@ -543,7 +545,7 @@ class Documents(AttackTest):
                 self.write("d.xml", make())
                 ended = self.ended(command)
                 self.assertEqual(ended.status, status, ended.out[:200] + ended.error)
-                self.assertLess(ended.seconds, 30 / part)
+                self.assertLess(ended.seconds, 30 if part == 1 else 15)
                 self.assertLess(ended.mebibytes, 400 if part == 1 else 200)
                 self.assertLess(max(map(len, ended.out.splitlines())), 2000)
 

@@ -11,7 +11,7 @@ import tempfile
 import unittest
 from pathlib import Path
 
-from corpus import SOURCES, TML, TOOLS, TOP, match_in, text_at
+from corpus import TML, TOOLS, TOP, match_in, text_at
 
 TML_VERIFY = os.path.abspath(os.environ.get("TML_VERIFY") or os.path.join(TOP, "crates", "tml_verify", "out", "tml_verify"))
 DOCS = "usr/share/doc/tml-timeml"
@@ -37,7 +37,7 @@ def expected_names() -> set[str]:
     """What is to be in the package; the mode and the target of each are in other tests."""
     names = {"usr/bin/tml", "usr/bin/tml-verify", "usr/share/lintian/overrides/tml-timeml"}
     names |= {f"usr/bin/{called}" for called in SCRIPTS} | {f"{SHARE}/tools/{name}" for name in SCRIPTS.values()}
-    names |= {f"{SHARE}/{path.relative_to(TOP).as_posix()}" for path in Path(SOURCES).rglob("*.py")}
+    names |= {f"{SHARE}/{path.relative_to(TOP).as_posix()}" for path in Path(TOP, "python", "src").rglob("*.py")}
     names |= {f"{IMPORTED}/tml", *(f"{SHARE}/python/src/{package}/py.typed" for package in ("tml", "tml_corpus"))}
     names |= {f"usr/share/bash-completion/completions/{name}" for name in ("tml", *SCRIPTS)}
     names |= {f"usr/share/man/man1/{name}.1.gz" for name in ("tml", "tml-verify", "tml-tools", *SCRIPTS)}
