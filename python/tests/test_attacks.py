@@ -529,24 +529,17 @@ DOCUMENTS: dict[str, tuple[str, int, Callable[[], bytes]]] = {
 }
 """Documents made to cost much: a command, its status, and the document."""
 
-LONG = {
-    "nested events with tags", "nested events with spaces", "nested events in a report", "very many units in a report",
-    "very many marks in a report", "one long text of many instances in a report", "very many tags with another name",
-}
-"""What takes longest: a quarter of a document, in half of the time, unless the variable TML_SLOW has the whole one tried."""
-
 
 class Documents(AttackTest):
     def test_work_and_memory_are_in_proportion(self) -> None:
         # The aim is 5 seconds on a machine with nothing else to do. Here it is processor time, with room for a machine that is busy.
         for name, (command, status, make) in DOCUMENTS.items():
-            part = 4 if name in LONG and not os.environ.get("TML_SLOW") else 1
-            with self.subTest(name), mock.patch(f"{__name__}.DOCUMENT_LIMIT", DOCUMENT_LIMIT // part):
+            with self.subTest(name):
                 self.write("d.xml", make())
                 ended = self.ended(command)
                 self.assertEqual(ended.status, status, ended.out[:200] + ended.error)
-                self.assertLess(ended.seconds, 30 if part == 1 else 15)
-                self.assertLess(ended.mebibytes, 400 if part == 1 else 200)
+                self.assertLess(ended.seconds, 30)
+                self.assertLess(ended.mebibytes, 400)
                 self.assertLess(max(map(len, ended.out.splitlines())), 2000)
 
 
