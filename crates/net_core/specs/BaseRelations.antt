@@ -17,9 +17,9 @@ abbrev pub IsInterval : Ends → Type 0
 IsInterval a = a.start < a.finish
 
 -- the relation holds, and no other base relation does
-abbrev pub OnlyHolds : Rel → Ends → Ends → Type 0
-OnlyHolds r a b = Holds a r b × ((s : Rel) → Contains base_rels s → Holds a s b → s ≡ r)
+abbrev pub OnlyHolds : Ends → Rel → Ends → Type 0
+OnlyHolds a r b = Holds a r b × ((s : Rel) → Contains base_rels s → Holds a s b → s ≡ r)
 
 -- the law: of any two intervals, exactly one base relation holds
 abbrev pub OneBaseRelationHolds : Type 0
-OneBaseRelationHolds = (a b : Ends) → IsInterval a → IsInterval b → (r : Rel) × Contains base_rels r × OnlyHolds r a b
+OneBaseRelationHolds = (a b : Ends) → IsInterval a → IsInterval b → (r : Rel) × Contains base_rels r × OnlyHolds a r b
