@@ -4,7 +4,6 @@
 mod atom;
 mod bounds;
 mod limits;
-mod list;
 mod marks;
 mod net;
 mod ranks;
@@ -18,7 +17,7 @@ pub use bounds::Bounds;
 pub use limits::{
     MAX_DOCUMENT, MAX_EVIDENCE, MAX_INTERVALS, MAX_LINKS, MAX_POINTS, limits_are_exact,
 };
-pub use list::{List, Memory};
+pub use lists::{List, Memory};
 pub use marks::{mark_link, mark_steps};
 pub use net::{Ends, Net, NetLink};
 pub use ranks::Ranks;

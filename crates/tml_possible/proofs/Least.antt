@@ -5,7 +5,7 @@ use Rattle.std.specs.declared.result.Result.{Result}
 use Rattle.net_core.specs.Least.{AreLeast, IsLeast}
 use Rattle.net_core.specs.Ranks.{timeline_of}
 use Rattle.net_core.specs.Relations.{Timeline}
-use Rattle.net_core.specs.declared.list.Memory.{Memory}
+use Rattle.lists.specs.declared.memory.Memory.{Memory}
 
 -- ranks that are least by one property are so by another that the same timelines have
 pub least_by : (n m : ℕ) (P Q : Timeline → Type 0) → n ≡ m → ((t : Timeline) → P t ↔ Q t) → (result : Result (List ℕ) Memory)

@@ -4,7 +4,7 @@ use Rattle.std.specs.List.{All, Contains}
 use Rattle.clash.specs.Walks.{AlwaysWith}
 use Rattle.net_orders.specs.declared.orders.Order.{Order}
 use Rattle.net_core.specs.Nets.{points}
-use Rattle.net_core.specs.declared.list.Memory.{Memory}
+use Rattle.lists.specs.declared.memory.Memory.{Memory}
 use Rattle.order_closure.specs.Tables.{cell_at}
 use Rattle.order_closure.specs.declared.cell.Cell.TheVariants.{Free}
 use Rattle.tml_score.specs.Reached.{PlainReached}

@@ -11,7 +11,7 @@ use Rattle.net_core.specs.Fits.{Fits, FitsWith}
 use Rattle.net_core.specs.Nets.{IsNet, PlainNet, points}
 use Rattle.net_core.specs.Relations.{Timeline}
 use Rattle.net_core.specs.Walks.{Kept}
-use Rattle.net_core.specs.declared.list.Memory.{Memory}
+use Rattle.lists.specs.declared.memory.Memory.{Memory}
 use Rattle.order_closure.specs.Cells.{order, strength}
 use Rattle.order_closure.specs.Tables.{Table, cell_at}
 use Rattle.order_closure.specs.declared.cell.Cell.TheVariants.{Free}

@@ -3,7 +3,7 @@ use Rattle.std.specs.List.{Contains}
 use Rattle.std.specs.List.Sorted.{IsStrictlyIncreasing}
 use Rattle.net_core.specs.Nets.{PlainNet}
 use Rattle.net_core.specs.Walks.{Kept}
-use Rattle.net_core.specs.declared.list.Memory.{Memory}
+use Rattle.lists.specs.declared.memory.Memory.{Memory}
 use Rattle.tml_score.specs.Reduced.{IsReduced}
 use Rattle.tml_score.specs.Reducing.{AreGoneOver}
 use Rattle.tml_score.proofs.Redundancy.{reduced_when_done}

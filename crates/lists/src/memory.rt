@@ -1,0 +1,34 @@
+//! Out of memory, as all crates of this repository answer it.
+use std::alloc::{AllocError, AllocFailed};
+use std::error::Error;
+use std::fmt;
+
+/// Out of memory: the allocator refused a growth.
+#[derive(Clone, Copy, Debug, PartialEq, Eq)]
+pub struct Memory;
+
+impl fmt::Display for Memory {
+    fn fmt<W: fmt::Write>(&self, f: &mut fmt::Formatter<W>) -> fmt::Result {
+        f.write_str("out of memory")
+    }
+}
+
+impl Error for Memory {}
+
+impl From<AllocError> for Memory {
+    fn from(_e: AllocError) -> Memory {
+        Memory
+    }
+}
+
+impl<T: Drop> From<AllocFailed<T>> for Memory {
+    fn from(_e: AllocFailed<T>) -> Memory {
+        Memory
+    }
+}
+
+impl From<Memory> for AllocError {
+    fn from(_e: Memory) -> AllocError {
+        AllocError
+    }
+}
