@@ -91,9 +91,7 @@ fn up_to(alloc: Global, net: &Net, link: u32) -> Result<Vec<bool>, Memory>
 {
     let mut keep = Vec::new(alloc);
     for k in 0..net.links() {
-        if keep.push(k <= link).is_err() {
-            return Err(Memory);
-        }
+        keep.push(k <= link)?;
     }
     Ok(keep)
 }

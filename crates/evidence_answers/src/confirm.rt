@@ -34,10 +34,7 @@ impl OfJudged for Confirm {
         document: &Document<'_>,
         bytes: &[u8],
     ) -> Result<Answer, AllocError> {
-        let timed = match timed_of(alloc, document) {
-            Ok(timed) => timed,
-            Err(Memory) => return Err(AllocError),
-        };
+        let timed = timed_of(alloc, document)?;
         let evidence = match read_seconds(alloc, bytes) {
             Ok(evidence) => evidence,
             Err(ReadEvidence::BadLine { line }) => {

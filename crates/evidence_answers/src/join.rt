@@ -80,8 +80,5 @@ fn joined(alloc: Global, first: Bodies<'_>, second: &[u8]) -> Result<Answer, All
         }
         Err(ReadEvidence::Memory) => return Err(AllocError),
     };
-    match write_both(alloc, first, more) {
-        Ok(text) => Ok(Answer::done(text.into_vec())),
-        Err(Memory) => Err(AllocError),
-    }
+    Ok(Answer::done(write_both(alloc, first, more)?.into_vec()))
 }

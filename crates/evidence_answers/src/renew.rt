@@ -36,8 +36,5 @@ fn renewed(alloc: Global, bodies: Bodies<'_>) -> Result<Answer, AllocError>
     ensures finding { IfOk result (λ answer. answer.finding ≡ Finding.Done) }
     ensures text { IfOk result (λ answer. (es : ListOf PlainEvidence) → AreClaims es → AreBodies es bodies.entry → IsBundleText es answer.text.items) }
 {
-    match write_bodies(alloc, bodies) {
-        Ok(text) => Ok(Answer::done(text.into_vec())),
-        Err(Memory) => Err(AllocError),
-    }
+    Ok(Answer::done(write_bodies(alloc, bodies)?.into_vec()))
 }

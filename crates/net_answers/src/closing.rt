@@ -60,10 +60,8 @@ pub fn answer_of_net<A: OfNet>(
     requires { A.is_of asked.now document.now }
     ensures { IfOk result (λ answer. of_net (A.says asked.now) document.now (finding_status answer.finding) answer.text.items) }
 {
-    match net_of(alloc, document) {
-        Ok(net) => answer_by_closure(alloc, asked, document, &net),
-        Err(Memory) => Err(AllocError),
-    }
+    let net = net_of(alloc, document)?;
+    answer_by_closure(alloc, asked, document, &net)
 }
 
 /// The same by the net of the document.

@@ -5,7 +5,6 @@ ghost use Rattle.evidence_format.specs.View.{plain};
 ghost use Rattle.std.specs.Prelude.{IfOk};
 
 use evidence_format::{Evidence, write_claim};
-use net_core::Memory;
 use std::alloc::{AllocError, Global};
 
 /// The text of well-formed evidence, of version 2, with one claim.
@@ -17,8 +16,5 @@ pub fn evidence_text(alloc: Global, evidence: Evidence) -> Result<Vec<u8>, Alloc
     requires { IsWellFormed (plain evidence) }
     ensures { IfOk result (λ text. IsClaimText (plain evidence) text.items) }
 {
-    match write_claim(alloc, &evidence) {
-        Ok(text) => Ok(text.into_vec()),
-        Err(Memory) => Err(AllocError),
-    }
+    Ok(write_claim(alloc, &evidence)?.into_vec())
 }

@@ -63,9 +63,7 @@ impl Ranks {
         ensures pairs { OnOk result (pairs_of self.new ≡ pairs_of self.old ++ (start, finish) ∷ []) }
         ensures err { OnErr result (self.new ≡ self.old) }
     {
-        if self.items.extend_from_slice(&[start, finish]).is_err() {
-            return Err(Memory);
-        }
+        self.items.extend_from_slice(&[start, finish])?;
         Ok(())
     }
 }

@@ -88,9 +88,7 @@ pub fn fixed_orders(alloc: Global, net: &Net) -> Result<Vec<Atom>, Memory>
 {
     let mut fixed = calendar_orders(alloc, net)?;
     for interval in 0..net.intervals() {
-        if fixed.push(span_order(interval)).is_err() {
-            return Err(Memory);
-        }
+        fixed.push(span_order(interval))?;
     }
     Ok(fixed)
 }
@@ -105,9 +103,7 @@ pub fn all_orders(alloc: Global, net: &Net, fixed: &[Atom]) -> Result<Vec<Atom>,
     ensures in_range { IfOk result (λ orders. AreInRange (points net.now) orders.items) }
     ensures exact { IfOk result (λ orders. (t : Timeline) → SatisfiesAll orders.items t ↔ Fits net.now t) }
 {
-    let Ok(mut orders) = Vec::from_slice(alloc, fixed) else {
-        return Err(Memory);
-    };
+    let mut orders = Vec::from_slice(alloc, fixed)?;
     for link in 0..net.links() {
         push_atoms(&mut orders, atoms_of_link(net, link))?;
     }
@@ -119,9 +115,7 @@ fn push_atoms(orders: &mut Vec<Atom>, atoms: Atoms) -> Result<(), Memory>
     ensures { OnOk result (orders.new.items ≡ orders.old.items ++ atoms_in atoms) }
 {
     for number in 0..atoms.count() {
-        if orders.push(nth_order(&atoms, number)).is_err() {
-            return Err(Memory);
-        }
+        orders.push(nth_order(&atoms, number))?;
     }
     Ok(())
 }

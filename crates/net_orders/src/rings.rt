@@ -48,9 +48,7 @@ fn components_of(
 {
     let turned = turned(alloc, points, orders)?;
     let entering = Leaving::new(alloc, points, &turned)?;
-    let Ok(mut components) = vec![in alloc; None; points] else {
-        return Err(Memory);
-    };
+    let mut components = vec![in alloc; None; points]?;
     let mut met = Vec::new(alloc);
     for number in sequence.iter().rev() {
         let point = orders[*number].from as usize;
@@ -74,9 +72,7 @@ fn turned(alloc: Global, points: usize, orders: &[Atom]) -> Result<Vec<Atom>, Me
             to: from,
             strict,
         };
-        if turned.push(other).is_err() {
-            return Err(Memory);
-        }
+        turned.push(other)?;
     }
     Ok(turned)
 }
@@ -96,9 +92,7 @@ fn meet(
         return Ok(());
     }
     components[point] = Some(component);
-    if met.push(point).is_err() {
-        return Err(Memory);
-    }
+    met.push(point)?;
     Ok(())
 }
 

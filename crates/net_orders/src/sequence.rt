@@ -19,9 +19,7 @@ pub fn sequence_of(alloc: Global, points: u32, orders: &[Atom]) -> Result<Vec<us
     ensures { IfOk result (λ sequence. All (λ k. k < length orders.now) sequence.items) }
 {
     let leaving = Leaving::new(alloc, points as usize, orders)?;
-    let Ok(mut seen) = vec![in alloc; false; points as usize] else {
-        return Err(Memory);
-    };
+    let mut seen = vec![in alloc; false; points as usize]?;
     let mut path = Vec::new(alloc);
     let mut sequence = Vec::new(alloc);
     for point in 0..points as usize {
@@ -52,14 +50,10 @@ impl Leaving {
         ensures points { IfOk result (λ leaving. length leaving.last.items ≡ points) }
         ensures orders { IfOk result (λ leaving. length leaving.before.items ≡ length orders.now) }
     {
-        let Ok(mut last) = vec![in alloc; None; points] else {
-            return Err(Memory);
-        };
+        let mut last = vec![in alloc; None; points]?;
         let mut before = Vec::new(alloc);
         for (k, order) in orders.iter().enumerate() {
-            if before.push(last[order.from as usize]).is_err() {
-                return Err(Memory);
-            }
+            before.push(last[order.from as usize])?;
             last[order.from as usize] = Some(k);
         }
         Ok(Leaving { last, before })
@@ -91,9 +85,7 @@ fn enter(
     }
     seen[point] = true;
     let next = leaving.last[point];
-    if path.push(Visit { point, next }).is_err() {
-        return Err(Memory);
-    }
+    path.push(Visit { point, next })?;
     Ok(())
 }
 
@@ -147,9 +139,7 @@ fn follow(
     ensures { OnOk result (All (IsVisit leaving.now) path.new.items) }
 {
     let next = leaving.before[k];
-    if path.push(Visit { point, next }).is_err() {
-        return Err(Memory);
-    }
+    path.push(Visit { point, next })?;
     enter(leaving, orders[k].to as usize, seen, path)
 }
 
@@ -162,9 +152,7 @@ fn push_leaving(leaving: &Leaving, point: usize, sequence: &mut Vec<usize>) -> R
 {
     let mut next = leaving.last[point];
     while let Some(k) = next {
-        if sequence.push(k).is_err() {
-            return Err(Memory);
-        }
+        sequence.push(k)?;
         next = leaving.before[k];
     }
     Ok(())

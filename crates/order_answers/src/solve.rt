@@ -10,7 +10,7 @@ use answers::OfDocument;
 use evidence_format::Evidence;
 use net_answers::{OfNet, answer_by_closure, evidence_text};
 use net_build::net_of;
-use net_core::{MAX_INTERVALS, Memory, Net, Ranks};
+use net_core::{MAX_INTERVALS, Net, Ranks};
 use net_orders::least_timeline;
 use order_closure::Closed;
 use std::alloc::{AllocError, Global};
@@ -30,10 +30,7 @@ impl OfDocument for Solve {
 
     /// The least timeline that fits the document, or a minimal clash where none does, as evidence.
     fn answer(&self, alloc: Global, document: &Document<'_>) -> Result<Answer, AllocError> {
-        let net = match net_of(alloc, document) {
-            Ok(net) => net,
-            Err(Memory) => return Err(AllocError),
-        };
+        let net = net_of(alloc, document)?;
         match text_of_ranks(alloc, &net)? {
             Some(text) => Ok(Answer::done(text)),
             None => answer_by_closure(alloc, self, document, &net),
@@ -67,10 +64,9 @@ fn text_of_ranks(alloc: Global, net: &Net) -> Result<Option<Vec<u8>>, AllocError
     ensures { IfOk result (λ found. IfSome found (λ text. ShowsTimeline net.now text.items)) }
 {
     prove!(net.intervals() <= MAX_INTERVALS);
-    match least_timeline(alloc, net) {
-        Ok(Some(ranks)) => Ok(Some(timeline_text(alloc, ranks)?)),
-        Ok(None) => Ok(None),
-        Err(Memory) => Err(AllocError),
+    match least_timeline(alloc, net)? {
+        Some(ranks) => Ok(Some(timeline_text(alloc, ranks)?)),
+        None => Ok(None),
     }
 }
 
@@ -80,10 +76,7 @@ fn least_text(alloc: Global, table: &Closed) -> Result<Vec<u8>, AllocError>
     requires few { table.now.points ≤ max_points }
     ensures { IfOk result (λ text. IsLeastText table.now text.items) }
 {
-    match least(alloc, table) {
-        Ok(ranks) => timeline_text(alloc, ranks),
-        Err(Memory) => Err(AllocError),
-    }
+    timeline_text(alloc, least(alloc, table)?)
 }
 
 /// The text of a timeline of so few and so small ranks.

@@ -22,9 +22,7 @@ pub fn clear(alloc: Global, words: usize) -> Result<Vec<u64>, Memory>
     ensures long { IfOk result (λ plane. vec_len plane ≡ words) }
     ensures clear { IfOk result (λ plane. (k : ℕ) → slice_index plane.items k ≡ 0) }
 {
-    let Ok(plane) = vec![in alloc; 0; words] else {
-        return Err(Memory);
-    };
+    let plane = vec![in alloc; 0; words]?;
     Ok(plane)
 }
 

@@ -111,12 +111,8 @@ impl Closed {
     pub fn copy(&self, alloc: Global) -> Result<Closed, Memory>
         ensures { IfOk result (λ table. table ≡ self.now) }
     {
-        let Ok(weak) = Vec::from_slice(alloc, &self.weak) else {
-            return Err(Memory);
-        };
-        let Ok(strict) = Vec::from_slice(alloc, &self.strict) else {
-            return Err(Memory);
-        };
+        let weak = Vec::from_slice(alloc, &self.weak)?;
+        let strict = Vec::from_slice(alloc, &self.strict)?;
         Ok(Closed {
             size: self.size,
             width: self.width,

@@ -107,9 +107,7 @@ fn starts_of<T: Copy, P: PointOf<T>>(
     let mut starts = Vec::new(alloc);
     for point in 0..points + 1 {
         let start = items.partition_point(|item| by.point(item) < point);
-        if starts.push(start).is_err() {
-            return Err(AllocError);
-        }
+        starts.push(start)?;
     }
     Ok(starts)
 }

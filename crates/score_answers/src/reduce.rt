@@ -6,7 +6,7 @@ ghost use Rattle.std.specs.Prelude.{◌≡◌, ◌<◌, length, IfOk};
 use crate::counts::push_of;
 use answers::{OfDocument, push_link};
 use net_answers::{OfNet, answer_of_net};
-use net_core::{Memory, Net};
+use net_core::Net;
 use order_closure::Closed;
 use std::alloc::{AllocError, Global};
 use tml_refs::Document;
@@ -45,10 +45,8 @@ impl OfNet for Reduce {
         net: &Net,
         closure: &Closed,
     ) -> Result<Answer, AllocError> {
-        match reduced_by(alloc, net, closure) {
-            Ok(links) => Ok(Answer::done(links_text(alloc, document, links.as_slice())?)),
-            Err(Memory) => Err(AllocError),
-        }
+        let links = reduced_by(alloc, net, closure)?;
+        Ok(Answer::done(links_text(alloc, document, links.as_slice())?))
     }
 }
 

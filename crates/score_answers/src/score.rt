@@ -64,16 +64,13 @@ impl OfNet for Against<'_, '_> {
         net: &Net,
         closure: &Closed,
     ) -> Result<Answer, AllocError> {
-        let key_net = match net_of(alloc, self.key) {
-            Ok(net) => net,
-            Err(Memory) => return Err(AllocError),
-        };
+        let key_net = net_of(alloc, self.key)?;
         let key_closure = match close(alloc, &key_net) {
             Ok(closure) => closure,
             Err(CloseFault::Clash(_)) => return key_clash(alloc),
             Err(CloseFault::Memory) => return Err(AllocError),
         };
-        match score(
+        let scores = score(
             alloc,
             document,
             net,
@@ -81,10 +78,8 @@ impl OfNet for Against<'_, '_> {
             self.key,
             &key_net,
             &key_closure,
-        ) {
-            Ok(scores) => Ok(Answer::done(scores_text(alloc, scores)?)),
-            Err(Memory) => Err(AllocError),
-        }
+        )?;
+        Ok(Answer::done(scores_text(alloc, scores)?))
     }
 }
 

@@ -21,10 +21,7 @@ impl OfDocument for Seconds {
 
     /// The text of a placing, or of a negative cycle where there is none.
     fn answer(&self, alloc: Global, document: &Document<'_>) -> Result<Answer, AllocError> {
-        let timed = match timed_of(alloc, document) {
-            Ok(timed) => timed,
-            Err(Memory) => return Err(AllocError),
-        };
+        let timed = timed_of(alloc, document)?;
         match place(alloc, &timed) {
             Ok(placing) => text_answer(alloc, Finding::Done, &SecondsEvidence::Placing(placing)),
             Err(PlaceFault::Negative(cycle)) => {

@@ -48,9 +48,7 @@ fn closed_trail(
     ensures { IfOk result (λ found. MatchOption found (IsTooLow distances.now.seconds from → ⊥) (λ trail. (p : ℕ) × IsClosed edges.now distances.now trail.items p)) }
 {
     let mut trail = Vec::new(alloc);
-    let Ok(mut places) = vec![in alloc; None; distances.len()] else {
-        return Err(Memory);
-    };
+    let mut places = vec![in alloc; None; distances.len()]?;
     let mut point = from;
     while let Some(number) = distances.predecessor(point) {
         if let Some(first) = places[point as usize] {
@@ -58,9 +56,7 @@ fn closed_trail(
             return Ok(Some(rest));
         }
         places[point as usize] = Some(trail.len());
-        if trail.push(number).is_err() {
-            return Err(Memory);
-        }
+        trail.push(number)?;
         point = from_of(edges, number);
     }
     Ok(None)
@@ -89,9 +85,7 @@ fn lines_of(alloc: Global, edges: &[Edge], numbers: &[usize]) -> Result<Vec<Line
 {
     let mut lines = Vec::new(alloc);
     for number in numbers {
-        if lines.push(edges[*number].line).is_err() {
-            return Err(Memory);
-        }
+        lines.push(edges[*number].line)?;
     }
     Ok(lines)
 }

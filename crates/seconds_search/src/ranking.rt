@@ -46,15 +46,9 @@ impl Search {
         requires { AreInside points edges.now }
         ensures { IfOk result (IsSearch edges.now) }
     {
-        let Ok(mut next) = vec![in alloc; None; points as usize] else {
-            return Err(Memory);
-        };
-        let Ok(is_seen) = vec![in alloc; false; points as usize] else {
-            return Err(Memory);
-        };
-        let Ok(ranks) = vec![in alloc; 0usize; points as usize] else {
-            return Err(Memory);
-        };
+        let mut next = vec![in alloc; None; points as usize]?;
+        let is_seen = vec![in alloc; false; points as usize]?;
+        let ranks = vec![in alloc; 0usize; points as usize]?;
         let before = link_orders(alloc, edges, &mut next)?;
         let path = all_points(alloc, points)?;
         Ok(Search {
@@ -124,9 +118,7 @@ fn link_orders(
     let mut before = Vec::new(alloc);
     for (number, edge) in edges.iter().enumerate() {
         let from = edge.constraint.from as usize;
-        if before.push(next[from]).is_err() {
-            return Err(Memory);
-        }
+        before.push(next[from])?;
         if matches!(edge.line, Line::Span { .. } | Line::Via { .. }) {
             next[from] = Some(number);
         }
@@ -140,9 +132,7 @@ fn all_points(alloc: Global, points: u32) -> Result<Vec<u32>, Memory>
 {
     let mut path = Vec::new(alloc);
     for point in 0..points {
-        if path.push(point).is_err() {
-            return Err(Memory);
-        }
+        path.push(point)?;
     }
     Ok(path)
 }

@@ -50,12 +50,8 @@ impl Distances {
     pub fn new(alloc: Global, points: u32) -> Result<Distances, Memory>
         ensures { IfOk result (λ distances. distances ≡ record { seconds = replicate points (pos 0); predecessors = replicate points NoEdge }) }
     {
-        let Ok(seconds) = vec![in alloc; 0i64; points as usize] else {
-            return Err(Memory);
-        };
-        let Ok(predecessors) = vec![in alloc; None; points as usize] else {
-            return Err(Memory);
-        };
+        let seconds = vec![in alloc; 0i64; points as usize]?;
+        let predecessors = vec![in alloc; None; points as usize]?;
         Ok(Distances {
             seconds,
             predecessors,

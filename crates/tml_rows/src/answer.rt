@@ -6,7 +6,7 @@ ghost use Rattle.tml_run.specs.Status.{number_of};
 
 use crate::devices::Devices;
 use std::alloc::{AllocError, Global};
-use tml_io::{Memory, MemoryInputs, MemorySink};
+use tml_io::{MemoryInputs, MemorySink};
 use tml_tool::{Status, run};
 
 /// A status, and what was written.
@@ -37,11 +37,7 @@ pub fn run_words(
     let failing_reads = devices.failing_reads.clone()?;
     let failing_writes = devices.failing_writes.clone()?;
     let mut inputs = MemoryInputs::new(files, devices.reads_of, failing_reads);
-    let made = MemorySink::new(alloc, devices.room, devices.writes_of, failing_writes);
-    let mut sink = match made {
-        Ok(sink) => sink,
-        Err(Memory) => return Err(AllocError),
-    };
+    let mut sink = MemorySink::new(alloc, devices.room, devices.writes_of, failing_writes)?;
     let status = run(alloc, words, &mut inputs, &mut sink);
     let text = Vec::from_slice(alloc, sink.written())?;
     Ok(Answer { status, text })

@@ -59,11 +59,7 @@ pub fn by_point(
     ensures points { IfOk result (λ index. index.points ≡ points) }
     ensures orders { IfOk result (λ index. IsPermutation orders.now index.items) }
 {
-    let Ok(copy) = Vec::from_slice(alloc, orders) else {
-        return Err(Memory);
-    };
-    let Ok(index) = Index::new(alloc, copy, end, points) else {
-        return Err(Memory);
-    };
+    let copy = Vec::from_slice(alloc, orders)?;
+    let index = Index::new(alloc, copy, end, points)?;
     Ok(index)
 }

@@ -26,9 +26,7 @@ impl Graph {
     {
         let points = 2 * net.intervals();
         let orders = orders_of(alloc, net)?;
-        let Ok(onward) = Index::new(alloc, orders, End::From, points) else {
-            return Err(Memory);
-        };
+        let onward = Index::new(alloc, orders, End::From, points)?;
         let back = by_point(alloc, onward.items(), End::To, points)?;
         Ok(Graph { onward, back })
     }

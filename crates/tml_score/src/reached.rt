@@ -36,9 +36,7 @@ impl Reached {
         requires { room ≤ max_points }
         ensures { IfOk result (λ reached. reached ≡ record { points = []; room = room }) }
     {
-        let Ok(places) = vec![in alloc; 0; room as usize] else {
-            return Err(Memory);
-        };
+        let places = vec![in alloc; 0; room as usize]?;
         Ok(Reached {
             points: Vec::new(alloc),
             places,
@@ -69,9 +67,7 @@ impl Reached {
         ensures { OnOk result (self.new ≡ record { points = self.old.points ++ point ∷ []; room = self.old.room }) }
     {
         let place = self.points.len() as u32;
-        if self.points.push(point).is_err() {
-            return Err(Memory);
-        }
+        self.points.push(point)?;
         self.places[point as usize] = place;
         Ok(())
     }

@@ -112,9 +112,7 @@ fn partners_in(
     let mut partners = Vec::new(alloc);
     for i in 0..own.intervals() {
         let partner = other.index_of(own.interval(i).name());
-        if partners.push(partner).is_err() {
-            return Err(Memory);
-        }
+        partners.push(partner)?;
     }
     Ok(partners)
 }

@@ -85,8 +85,8 @@ fn ties_of(alloc: Global, kept: &KeptLinks<'_>) -> Result<Vec<Order>, Memory>
     let mut ties = Vec::new(alloc);
     for order in kept.graph.onward.items() {
         let apart = kept.table.cell(order.atom.to, order.atom.from) == Cell::Free;
-        if !apart && ties.push(*order).is_err() {
-            return Err(Memory);
+        if !apart {
+            ties.push(*order)?;
         }
     }
     Ok(ties)
@@ -106,9 +106,7 @@ fn roots_of(
     let mut met = Vec::new(alloc);
     for root in 0..kept.table.points() {
         if roots[root as usize] == root {
-            if met.push(root).is_err() {
-                return Err(Memory);
-            }
+            met.push(root)?;
             flood(kept, onward, root, &mut roots, &mut met)?;
         }
     }
@@ -121,9 +119,7 @@ fn own_roots(alloc: Global, points: u32) -> Result<Vec<u32>, Memory>
 {
     let mut roots = Vec::new(alloc);
     for point in 0..points {
-        if roots.push(point).is_err() {
-            return Err(Memory);
-        }
+        roots.push(point)?;
     }
     Ok(roots)
 }
@@ -181,9 +177,7 @@ fn meet(point: u32, root: u32, roots: &mut [u32], met: &mut Vec<u32>) -> Result<
 {
     if root < point && roots[point as usize] == point {
         roots[point as usize] = root;
-        if met.push(point).is_err() {
-            return Err(Memory);
-        }
+        met.push(point)?;
     }
     Ok(())
 }

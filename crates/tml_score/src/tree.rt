@@ -58,12 +58,8 @@ impl Tree {
         ensures turns { IfOk result (λ tree. length tree.turns.items ≡ points) }
         ensures in_use { IfOk result (λ tree. length tree.in_use.items ≡ links) }
     {
-        let Ok(turns) = vec![in alloc; 0usize; points as usize] else {
-            return Err(Memory);
-        };
-        let Ok(in_use) = vec![in alloc; false; links as usize] else {
-            return Err(Memory);
-        };
+        let turns = vec![in alloc; 0usize; points as usize]?;
+        let in_use = vec![in alloc; false; links as usize]?;
         Ok(Tree {
             near,
             orders: Vec::new(alloc),
@@ -253,9 +249,7 @@ impl Tree {
         ensures in_use { OnOk result (self.new.in_use.items ≡ with_link self.old.in_use.items order.now.link) }
     {
         let turn = self.orders.len();
-        if self.orders.push(*order).is_err() {
-            return Err(Memory);
-        }
+        self.orders.push(*order)?;
         self.turns[self.near.across(order) as usize] = turn;
         if let Some(link) = order.link {
             self.in_use[link as usize] = true;

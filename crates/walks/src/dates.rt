@@ -67,9 +67,7 @@ fn dates_of(alloc: Global, net: &Net, side: Side) -> Result<Vec<Date>, Memory>
     let mut dates = Vec::new(alloc);
     for point in 0..2 * net.intervals() {
         if let Some(number) = number(net, side, point) {
-            if dates.push(Date { number, point }).is_err() {
-                return Err(Memory);
-            }
+            dates.push(Date { number, point })?;
         }
     }
     Ok(dates)

@@ -67,9 +67,7 @@ fn push_step(edges: &mut Vec<Edge>, net: &Net, step: Step) -> Result<(), Memory>
     ensures { OnOk result (Adds net.now (λ s. s ≡ step) edges.old.items edges.new.items) }
 {
     if let Some(atom) = step_atom(net, &step) {
-        if edges.push(Edge { step, atom }).is_err() {
-            return Err(Memory);
-        }
+        edges.push(Edge { step, atom })?;
     }
     Ok(())
 }

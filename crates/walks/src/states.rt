@@ -48,9 +48,7 @@ impl States {
     pub fn new(alloc: Global, points: u32) -> Result<States, Memory>
         ensures { IfOk result (λ states. states ≡ record { entries = []; points = points }) }
     {
-        let Ok(seen) = vec![in alloc; false; 2 * points as usize] else {
-            return Err(Memory);
-        };
+        let seen = vec![in alloc; false; 2 * points as usize]?;
         Ok(States {
             entries: Vec::new(alloc),
             seen,
@@ -91,9 +89,7 @@ impl States {
         if self.seen[place] {
             return Ok(());
         }
-        if self.entries.push(entry).is_err() {
-            return Err(Memory);
-        }
+        self.entries.push(entry)?;
         self.seen[place] = true;
         Ok(())
     }
@@ -138,9 +134,7 @@ impl States {
         let mut steps = Vec::new(alloc);
         let mut k = last;
         while let Some(arrival) = self.entries[k].arrival {
-            if steps.push(arrival.step).is_err() {
-                return Err(Memory);
-            }
+            steps.push(arrival.step)?;
             k = arrival.parent;
         }
         steps.reverse();
