@@ -1,5 +1,5 @@
 -- The table of the bytes of names says of each byte what their definition says.
-use Rattle.std.proofs.Common.{◌≡◌, ℕ, ◌<◌, List, Bool, false, map, get_or, arith, refl, sym, ap, ◌∙◌}
+use Rattle.std.proofs.Common.{◌≡◌, ℕ, ◌<◌, List, Bool, false, map, get_or, arith, refl, ap, ◌∙◌}
 use Rattle.std.proofs.lemmas.List.FromFn.{get_or-map-range_with_len}
 use Rattle.std.specs.List.{range_with_len, slice_index_or}
 use Rattle.tml_span.specs.Bytes.{is_name_byte}

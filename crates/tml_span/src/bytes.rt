@@ -62,12 +62,39 @@ pub fn name_len(bytes: &[u8]) -> usize
     bytes.iter().take_while(|b| is_name_byte(**b)).count()
 }
 
-/// A text is mostly long, so it is searched for the `<` that ends it.
+/// How many bytes are looked at one by one before `memchr` is called, which takes as long as they do.
+const NEAR: usize = 8;
+
+/// The index of the first such byte among a few bytes.
+#[inline(always)]
+fn position_of(b: u8, bytes: &[u8]) -> Option<usize>
+    ensures { IsFirstByte (is_byte b) bytes.now result }
+{
+    bytes.iter().position(|c| *c == b)
+}
+
+/// The index of the first such byte, which often is near.
+#[inline(always)]
+pub fn index_of(b: u8, bytes: &[u8]) -> Option<usize>
+    ensures { IsFirstByte (is_byte b) bytes.now result }
+{
+    let few = bytes.len().min(NEAR);
+    let (near, far) = bytes.split_at(few);
+    if let Some(index) = position_of(b, near) {
+        return Some(index);
+    }
+    match memchr::memchr(b, far) {
+        Some(ahead) => Some(few + ahead),
+        None => None,
+    }
+}
+
+/// A text is searched for the `<` that ends it.
 pub fn text_len(bytes: &[u8]) -> usize
     ensures within { result ≤ length bytes.now }
     ensures len { result ≡ prefix_len kinds.is_text_byte bytes.now }
 {
-    match memchr::memchr(b'<', bytes) {
+    match index_of(b'<', bytes) {
         Some(len) => len,
         None => bytes.len(),
     }
@@ -81,7 +108,7 @@ pub fn ampersand_at(bytes: &[u8]) -> Option<usize>
     ensures { IsFirstByte (is_byte 38) bytes.now result }
 {
     if bytes.len() <= FEW {
-        bytes.iter().position(|b| *b == b'&')
+        position_of(b'&', bytes)
     } else {
         memchr::memchr(b'&', bytes)
     }

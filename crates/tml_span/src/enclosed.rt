@@ -7,7 +7,7 @@ ghost use Rattle.tml_span.specs.Bytes as kinds;
 ghost use Rattle.tml_span.specs.Units.{BeginsWithWord, Lacks};
 ghost use Rattle.tml_span.specs.View.{ReadsUnit};
 
-use crate::bytes::{doctype_len, is_white};
+use crate::bytes::{doctype_len, index_of, is_white};
 use crate::{Span, Unit};
 
 /// The index of the first closing text, of which `>` is the last byte. It is searched by that byte, since a closing text
@@ -18,7 +18,7 @@ fn find_closing(bytes: &[u8], close: &[u8]) -> Option<usize>
     ensures { FindsNeedle bytes.now close.now 0 result }
 {
     let mut end = 0;
-    while let Some(ahead) = memchr::memchr(b'>', &bytes[end..]) {
+    while let Some(ahead) = index_of(b'>', &bytes[end..]) {
         end += ahead + 1;
         if bytes[..end].ends_with(close) {
             return Some(end - close.len());
@@ -44,6 +44,7 @@ fn split_past<'s>(bytes: &'s [u8], opening: usize, close: &[u8]) -> Option<(&'s 
 }
 
 /// A comment, whose first bytes are `<!--`, and what follows it.
+#[inline(always)]
 pub fn comment_at<'s>(place: u32, bytes: &'s [u8]) -> Option<(Unit<'s>, &'s [u8])>
     requires fits { place + length bytes.now < 2 ^ 32 }
     requires prefix { starts_with nat_eq bytes.now (codes "<!--") ≡ true }

@@ -46,6 +46,7 @@ pub fn text_or_bom_at<'s>(place: u32, bytes: &'s [u8]) -> (Unit<'s>, &'s [u8])
 }
 
 /// A comment or a doctype, whose first bytes are `<!`, and what follows it.
+#[inline(always)]
 pub fn comment_or_doctype_at<'s>(place: u32, bytes: &'s [u8]) -> Option<(Unit<'s>, &'s [u8])>
     requires fits { place + length bytes.now < 2 ^ 32 }
     requires prefix { starts_with nat_eq bytes.now (codes "<!") ≡ true }
