@@ -9,7 +9,8 @@ use Rattle.tml_run.specs.declared.answer.Finding.TheVariants as Finding
 use Rattle.tml_run.specs.declared.status.Status.TheVariants as Status
 use Rattle.evidence_format.specs.Bundles.{IsBadLineOfEither, IsTextOfEither}
 use Rattle.evidence_format.specs.Evidence.{PlainEvidence}
-use Rattle.evidence_format.proofs.Reading.{bundles, one_bad_of_either, one_of_texts}
+use Rattle.evidence_format.proofs.Reading.{bundles, one_bad_of_either}
+use Rattle.line_texts.proofs.Reading.{one_of_texts}
 use Rattle.answers.specs.Lines.{numbered}
 use Rattle.evidence_answers.specs.Files.{ReportsLine}
 

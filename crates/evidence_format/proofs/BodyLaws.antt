@@ -9,17 +9,20 @@ use Rattle.net_core.specs.declared.rels.Rel.{Rel}
 use Rattle.net_core.specs.declared.step.Step.{Step}
 use Rattle.evidence_format.specs.declared.head.Head.{Head}
 use Rattle.evidence_format.specs.declared.head.Head.TheVariants.{Timeline, Entails, Counter, Clash}
-use Rattle.evidence_format.specs.Lines.{Lines}
-use Rattle.evidence_format.specs.Reading.{◌>>=◌, line_at}
-use Rattle.evidence_format.specs.Grammar.{Then}
-use Rattle.evidence_format.specs.Evidence.{PlainEvidence, timeline, entails, counter, clash, IsNumber, IsPair, AreRanks, AreSteps, IsWellFormed, at_line, timeline_lines, walk_lines, cite_line, body_lines}
-use Rattle.evidence_format.specs.Words.{two_of}
-use Rattle.evidence_format.specs.Forms.{head_of}
-use Rattle.evidence_format.specs.Readers.{many_at, ranks_at, timeline_at, walk_at, cites_at, rest_at, body_at}
-use Rattle.evidence_format.proofs.Exact.{Exact, exact_then, exact_same}
-use Rattle.evidence_format.proofs.FormLaws.{head_line, IsHead, head_form}
-use Rattle.evidence_format.proofs.ReaderLaws.{Has, AreMany, exact_form, exact_map, exact_many, exact_at, exact_timeline, exact_walk}
+use Rattle.line_texts.specs.Lines.{Lines}
+use Rattle.line_texts.specs.Reading.{◌>>=◌, line_at, many_at}
+use Rattle.line_texts.specs.Grammar.{Then}
+use Rattle.evidence_format.specs.Evidence.{PlainEvidence, timeline, entails, counter, clash, AreRanks, AreSteps, IsWellFormed, at_line, timeline_lines, walk_lines, cite_line, body_lines, HasNumbers, step_line}
+use Rattle.line_texts.specs.Numbers.{IsNumber, IsPair}
+use Rattle.line_texts.specs.Words.{two_of}
+use Rattle.evidence_format.specs.Forms.{head_of, step_of}
+use Rattle.evidence_format.specs.Readers.{ranks_at, timeline_at, walk_at, cites_at, rest_at, body_at}
+use Rattle.line_texts.proofs.Exact.{Exact, exact_then, exact_same}
+use Rattle.evidence_format.proofs.FormLaws.{head_line, IsHead, head_form, step_form}
+use Rattle.line_texts.proofs.ReaderLaws.{Has, AreMany, exact_counted, exact_form, exact_map, exact_many}
 use Rattle.evidence_format.proofs.CiteLaws.{HasCites, exact_cites}
+use Rattle.net_core.specs.declared.step.Step.TheVariants.{Span}
+use Rattle.line_texts.proofs.WordLaws.{two_form, pair_line}
 
 -- the kind of evidence
 abbrev head_for : PlainEvidence → Head
@@ -52,6 +55,26 @@ head_is (timeline ranks) h = h.1
 head_is (entails a r b walks) h = (h.0, h.1)
 head_is (counter a r b ranks) h = (h.0, h.1)
 head_is (clash cites walk spares) h = h.0.2
+
+-- ---- timelines and walks
+
+-- the ranks of an interval
+exact_at : Exact (Has IsPair (λ p. at_line p ∷ [])) (λ ls. line_at (two_of (codes "at ")) ls)
+exact_at = exact_form (pair_line (codes "at ")) IsPair (two_of (codes "at ")) (0, 0) (omega arith, omega arith) (two_form (codes "at "))
+
+-- a timeline
+exact_timeline : Exact (Has AreRanks timeline_lines) timeline_at
+unfolding timeline_at
+exact_timeline = exact_counted (codes "timeline ") at_line IsPair (λ ls. line_at (two_of (codes "at ")) ls) exact_at
+
+-- a step
+exact_step : Exact (Has HasNumbers (λ s. step_line s ∷ [])) (λ ls. line_at step_of ls)
+exact_step = exact_form step_line HasNumbers step_of (Span 0) (omega arith) step_form
+
+-- a walk
+pub exact_walk : Exact (Has AreSteps walk_lines) walk_at
+unfolding walk_at
+exact_walk = exact_counted (codes "walk ") step_line HasNumbers (λ ls. line_at step_of ls) exact_step
 
 -- ---- what follows the line that names the kind
 

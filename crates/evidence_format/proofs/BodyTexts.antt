@@ -2,14 +2,15 @@
 use Rattle.std.proofs.Common.{◌≡◌, ℕ, ◌+◌, ◌-◌, ◌≤◌, List, ◌++◌, length, take, Ok, sym, ap, ◌∙◌, append_assoc, length-append, refl, arith}
 use Rattle.std.specs.List.{concat, flat_map}
 use Rattle.std.proofs.lemmas.List.Concat.{flat_map-append}
-use Rattle.evidence_format.specs.Lines.{lines_of}
-use Rattle.evidence_format.specs.Evidence.{PlainEvidence, IsWellFormed, body_lines, last_line}
+use Rattle.line_texts.specs.Lines.{lines_of, last_line}
+use Rattle.evidence_format.specs.Evidence.{PlainEvidence, IsWellFormed, body_lines}
 use Rattle.evidence_format.specs.Bundles.{AreBodies, AreClaims, IsBundleText, bundle_line, claims_line}
 use Rattle.evidence_format.specs.declared.bodies.Bodies.{Bodies}
-use Rattle.evidence_format.specs.Readers.{many_at, body_at, opening_at, end_at, bundle_at}
+use Rattle.line_texts.specs.Reading.{many_at, end_at}
+use Rattle.evidence_format.specs.Readers.{body_at, opening_at, bundle_at}
 use Rattle.evidence_format.proofs.BodyLaws.{exact_body}
-use Rattle.evidence_format.proofs.LineLaws.{concat_append, cut_before}
-use Rattle.evidence_format.proofs.ReaderLaws.{exact_many}
+use Rattle.line_texts.proofs.LineLaws.{concat_append, cut_before}
+use Rattle.line_texts.proofs.ReaderLaws.{exact_many}
 use Rattle.evidence_format.proofs.Writing.{bodies_text}
 
 -- bodies that are read are the bytes before what follows them

@@ -8,22 +8,21 @@ use Rattle.std.proofs.lemmas.List.Elements.{All-from_recursion, recursion_from_A
 use Rattle.std.proofs.lemmas.Option.{cond_some}
 use Rattle.evidence_format.specs.declared.versions.Version.{Version}
 use Rattle.evidence_format.specs.declared.versions.Version.TheVariants as version
-use Rattle.evidence_format.specs.Lines.{Lines}
-use Rattle.evidence_format.specs.Words.{one_of, same_of}
+use Rattle.line_texts.specs.Lines.{Lines, last_line}
+use Rattle.line_texts.specs.Words.{one_of, same_of}
 use Rattle.evidence_format.specs.Forms.{claims_of, version_of}
-use Rattle.evidence_format.specs.Reading.{Read, ◌>>=◌, line_at}
-use Rattle.evidence_format.specs.Grammar.{Then}
-use Rattle.evidence_format.specs.Evidence.{PlainEvidence, IsWellFormed, body_lines, first_line, last_line}
+use Rattle.line_texts.specs.Reading.{Read, ◌>>=◌, line_at, many_at}
+use Rattle.line_texts.specs.Grammar.{Then}
+use Rattle.evidence_format.specs.Evidence.{PlainEvidence, IsWellFormed, body_lines, first_line}
 use Rattle.evidence_format.specs.Begun.{HasLines}
 use Rattle.evidence_format.specs.Bundles.{IsCount, bundle_line, claims_line, HasBundleLines}
-use Rattle.evidence_format.specs.Readers.{many_at, body_at, count_at, opening_at, bundle_at}
-use Rattle.evidence_format.proofs.Exact.{Exact, exact_then, exact_give, exact_same, all_of}
-use Rattle.evidence_format.proofs.Numbers.{some_bind}
-use Rattle.evidence_format.proofs.WordLaws.{IsForm, one_form, same_form}
-use Rattle.evidence_format.proofs.FormLaws.{some_mapped, either}
-use Rattle.evidence_format.proofs.ReaderLaws.{Has, AreMany, exact_form, exact_many}
+use Rattle.evidence_format.specs.Readers.{body_at, count_at, opening_at, bundle_at}
+use Rattle.line_texts.proofs.Exact.{Exact, exact_then, exact_give, exact_same, all_of}
+use Rattle.line_texts.proofs.Numbers.{some_bind}
+use Rattle.line_texts.proofs.WordLaws.{IsForm, one_form, same_form, some_mapped, either}
+use Rattle.line_texts.proofs.ReaderLaws.{Has, AreMany, exact_form, exact_many}
 use Rattle.evidence_format.proofs.BodyLaws.{exact_body}
-use Rattle.evidence_format.proofs.TextLaws.{Closed, closed, exact_closed, ends_after}
+use Rattle.line_texts.proofs.TextLaws.{Closed, closed, exact_closed, ends_after}
 
 -- ---- how many bodies there are
 

@@ -3,14 +3,15 @@ use Rattle.std.proofs.Common.{◌≡◌, ◌↔◌, inl, inr, ℕ, [], ◌∷◌
 use Rattle.std.specs.List.{flat_map}
 use Rattle.std.proofs.lemmas.List.{append-nil}
 use Rattle.std.proofs.lemmas.List.Elements.{All-from_recursion, recursion_from_All}
-use Rattle.evidence_format.specs.Lines.{Lines}
-use Rattle.evidence_format.specs.Grammar.{Begins}
-use Rattle.evidence_format.specs.Evidence.{timeline, IsWellFormed, body_lines, last_line}
+use Rattle.line_texts.specs.Lines.{Lines, last_line}
+use Rattle.line_texts.specs.Grammar.{Begins}
+use Rattle.evidence_format.specs.Evidence.{timeline, IsWellFormed, body_lines}
 use Rattle.evidence_format.specs.Parts.{IsBegunBody}
 use Rattle.evidence_format.specs.Bundles.{IsCount, bundle_line, claims_line, IsBegunBundle, IsBegunBundleByParts}
-use Rattle.evidence_format.proofs.ReaderLaws.{AreMany}
+use Rattle.line_texts.proofs.ReaderLaws.{AreMany}
 use Rattle.evidence_format.proofs.BundleLaws.{one_claim}
-use Rattle.evidence_format.proofs.PartLaws.{prefix_cons, closed_prefix, many_prefix, body_prefix, many_begin, body_begins, no_intervals}
+use Rattle.line_texts.proofs.PartLaws.{prefix_cons, closed_prefix, many_prefix, many_begin}
+use Rattle.evidence_format.proofs.PartLaws.{body_prefix, body_begins, no_intervals}
 
 -- lines that begin a text of version 2 are begun by its parts
 begun_by_parts : (ls : Lines) → IsBegunBundle ls → IsBegunBundleByParts ls

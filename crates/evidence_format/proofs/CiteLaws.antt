@@ -5,22 +5,23 @@ use Rattle.std.proofs.lemmas.Bool.{lt-ltb}
 use Rattle.std.proofs.lemmas.Bool.Decides.{nat_tests}
 use Rattle.std.proofs.lemmas.List.{append-nil}
 use Rattle.std.proofs.lemmas.Option.{cond_some}
-use Rattle.evidence_format.specs.declared.stop.Stop.{Stop}
-use Rattle.evidence_format.specs.declared.stop.Stop.TheVariants as stop
-use Rattle.evidence_format.specs.Lines.{Lines, lines_of}
-use Rattle.evidence_format.specs.Reading.{Read, ◌>>=◌, line_at}
-use Rattle.evidence_format.specs.Grammar.{Then}
-use Rattle.evidence_format.specs.Evidence.{IsNumber, AreCites, cite_line}
-use Rattle.evidence_format.specs.Words.{one_of}
+use Rattle.line_texts.specs.declared.stop.Stop.{Stop}
+use Rattle.line_texts.specs.declared.stop.Stop.TheVariants as stop
+use Rattle.line_texts.specs.Lines.{Lines, lines_of}
+use Rattle.line_texts.specs.Reading.{Read, ◌>>=◌, line_at}
+use Rattle.line_texts.specs.Grammar.{Then}
+use Rattle.line_texts.specs.Numbers.{IsNumber}
+use Rattle.evidence_format.specs.Evidence.{AreCites, cite_line}
+use Rattle.line_texts.specs.Words.{one_of}
 use Rattle.evidence_format.specs.Forms.{cite_of}
 use Rattle.evidence_format.specs.Readers.{cites_at}
-use Rattle.evidence_format.specs.Given.{StopsAt}
-use Rattle.evidence_format.proofs.Exact.{Exact, exact_then, exact_give, exact_same}
-use Rattle.evidence_format.proofs.Numbers.{some_bind}
-use Rattle.evidence_format.proofs.WordLaws.{IsForm, one_form}
+use Rattle.line_texts.specs.Given.{StopsAt}
+use Rattle.line_texts.proofs.Exact.{Exact, exact_then, exact_give, exact_same}
+use Rattle.line_texts.proofs.Numbers.{some_bind}
+use Rattle.line_texts.proofs.WordLaws.{IsForm, one_form}
 use Rattle.evidence_format.proofs.Rising.{IsCite, Rise, rise_from_cites, cites_from_rise}
-use Rattle.evidence_format.proofs.ReaderLaws.{Has, exact_form, exact_map}
-use Rattle.evidence_format.proofs.Loops.{with_prefix, regroup}
+use Rattle.line_texts.proofs.ReaderLaws.{Has, exact_form, exact_map}
+use Rattle.line_texts.proofs.Loops.{with_prefix, regroup}
 
 -- ---- one cite
 

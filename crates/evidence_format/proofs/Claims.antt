@@ -1,13 +1,14 @@
 -- Claims that have a text are well formed, and are no more than its bytes; and every claim that is well formed has one.
-use Rattle.std.proofs.Common.{inl, inr, ℕ, ◌+◌, ◌^◌, ◌<◌, ◌≤◌, List, [], ◌++◌, ◌∷◌, length, refl, ap, subst, sym, length-append, arith}
+use Rattle.std.proofs.Common.{inl, inr, ℕ, ◌+◌, ◌^◌, ◌<◌, ◌≤◌, List, ◌++◌, [], ◌∷◌, length, refl, ap, subst, sym, length-append, arith}
 use Rattle.std.specs.List.{All, AllByRecursion, concat, flat_map}
 use Rattle.std.proofs.lemmas.List.Elements.{All-nil, All-cons, All-append}
-use Rattle.evidence_format.specs.Lines.{Lines}
-use Rattle.evidence_format.specs.Evidence.{PlainEvidence, IsWellFormed, body_lines, last_line}
+use Rattle.line_texts.specs.Lines.{Lines, last_line}
+use Rattle.evidence_format.specs.Evidence.{PlainEvidence, IsWellFormed, body_lines}
 use Rattle.evidence_format.specs.Bundles.{AreClaims, IsBundleText, IsClaimText, IsCount, IsTextOfEither, bundle_lines}
 use Rattle.evidence_format.proofs.BodyLaws.{body_is}
 use Rattle.evidence_format.proofs.BundleLaws.{HasEither, one_claim}
-use Rattle.evidence_format.proofs.LineLaws.{IsLine, either_is}
+use Rattle.line_texts.proofs.LineLaws.{IsLine}
+use Rattle.evidence_format.proofs.LineLaws.{either_is}
 use Rattle.evidence_format.proofs.Reading.{from_text}
 
 -- this number can stand in a text

@@ -2,7 +2,8 @@
 use Rattle.std.proofs.Common.{inl, inr, ℕ, List}
 use Rattle.evidence_format.specs.Begun.{TextOrBadLine}
 use Rattle.evidence_format.specs.Bundles.{BundleOrBadLine}
-use Rattle.evidence_format.proofs.Reading.{texts, bundles, value_or_bad_line, bad_of_either}
+use Rattle.evidence_format.proofs.Reading.{texts, bundles, bad_of_either}
+use Rattle.line_texts.proofs.Reading.{value_or_bad_line}
 
 pub text_or_bad_line : (text : List ℕ) → TextOrBadLine text
 text_or_bad_line text = value_or_bad_line texts text

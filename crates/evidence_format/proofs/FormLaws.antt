@@ -1,26 +1,16 @@
 -- The forms of lines of steps, and of those that name the kind of evidence.
-use Rattle.std.proofs.Common.{◌≡◌, ℕ, List, ◌⊎◌, inl, inr, Option, Some, None, refl, subst}
+use Rattle.std.proofs.Common.{◌≡◌, ℕ, List, inl, inr, Some, None, refl, subst}
 use Rattle.std.specs.Prelude.{codes, option_map}
-use Rattle.std.specs.Option.{option_or}
 use Rattle.net_core.specs.declared.rels.Rel.{Rel}
 use Rattle.net_core.specs.declared.step.Step.{Step}
 use Rattle.net_core.specs.declared.step.Step.TheVariants as step
 use Rattle.evidence_format.specs.declared.head.Head.{Head}
 use Rattle.evidence_format.specs.declared.head.Head.TheVariants as head
-use Rattle.evidence_format.specs.Words.{after, one_of, two_of, relation_of}
+use Rattle.line_texts.specs.Words.{after, one_of, two_of, relation_of}
 use Rattle.evidence_format.specs.Forms.{step_of, head_of}
-use Rattle.evidence_format.specs.Evidence.{IsNumber, HasNumbers, one_number, two_numbers, relation_line, step_line}
-use Rattle.evidence_format.proofs.WordLaws.{IsForm, one_form, two_form, relation_form, some_is}
-
--- a value made of another one
-pub some_mapped : {A B : Type 0} (f : A → B) (o : Option A) (b : B) → option_map f o ≡ Some b → (a : A) × (o ≡ Some a) × (f a ≡ b)
-some_mapped f (Some a) b e = (a, refl, some_is (f a) b e)
-some_mapped f None b e = absurd cc
-
--- a value of one of two
-pub either : {A : Type 0} (o p : Option A) (a : A) → option_or o p ≡ Some a → (o ≡ Some a) ⊎ (p ≡ Some a)
-either (Some b) p a e = inl e
-either None p a e = inr e
+use Rattle.line_texts.specs.Numbers.{IsNumber, one_number, two_numbers, relation_line}
+use Rattle.evidence_format.specs.Evidence.{HasNumbers, step_line}
+use Rattle.line_texts.proofs.WordLaws.{IsForm, one_form, two_form, relation_form, some_mapped, either}
 
 -- ---- steps
 

@@ -1,16 +1,8 @@
-pub mod Numbers
-pub mod Digits
-pub mod Cutting
-pub mod Exact
-pub mod WordLaws
 pub mod FormLaws
-pub mod ReaderLaws
 pub mod Parted
-pub mod Loops
 pub mod Rising
 pub mod CiteLaws
 pub mod BodyLaws
-pub mod TextLaws
 pub mod BundleLaws
 pub mod LineLaws
 pub mod Reading

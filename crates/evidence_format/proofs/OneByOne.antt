@@ -1,14 +1,14 @@
 -- Claims of a text that are read one after another.
 use Rattle.std.proofs.Common.{◌≡◌, ℕ, suc, ◌-◌, ◌<◌, List, [], ◌∷◌, ◌++◌, Ok, Err, refl, sym, ap, ◌∙◌, append_assoc, arith}
 use Rattle.std.proofs.lemmas.List.{append-nil}
-use Rattle.evidence_format.specs.declared.stop.Stop.{Stop}
-use Rattle.evidence_format.specs.declared.stop.Stop.TheVariants as stop
-use Rattle.evidence_format.specs.Lines.{Lines, lines_of}
+use Rattle.line_texts.specs.declared.stop.Stop.{Stop}
+use Rattle.line_texts.specs.declared.stop.Stop.TheVariants as stop
+use Rattle.line_texts.specs.Lines.{Lines, lines_of}
 use Rattle.evidence_format.specs.Evidence.{PlainEvidence, IsWellFormed}
-use Rattle.evidence_format.specs.Given.{StopsAt}
+use Rattle.line_texts.specs.Given.{StopsAt}
 use Rattle.evidence_format.specs.OneByOne.{all_of}
-use Rattle.evidence_format.specs.Reading.{Read, ◌>>=◌}
-use Rattle.evidence_format.specs.Readers.{many_at, body_at, opening_at, end_at, bundle_at}
+use Rattle.line_texts.specs.Reading.{Read, ◌>>=◌, many_at, end_at}
+use Rattle.evidence_format.specs.Readers.{body_at, opening_at, bundle_at}
 use Rattle.evidence_format.proofs.BodyLaws.{exact_body}
 
 -- ---- before the first claim

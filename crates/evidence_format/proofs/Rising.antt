@@ -3,7 +3,8 @@ use Rattle.std.proofs.Common.{◌≡◌, ℕ, zero, suc, ◌+◌, ◌-◌, ◌^�
 use Rattle.std.specs.List.{AllByRecursion}
 use Rattle.std.specs.List.Sorted.{IsStrictlyIncreasing}
 use Rattle.std.proofs.lemmas.List.Elements.{All-from_recursion}
-use Rattle.evidence_format.specs.Evidence.{IsNumber, AreCites}
+use Rattle.line_texts.specs.Numbers.{IsNumber}
+use Rattle.evidence_format.specs.Evidence.{AreCites}
 use Rattle.evidence_format.specs.Parts.{LeaveNumbers}
 
 -- the number is at least the least one, and leaves numbers for those to come

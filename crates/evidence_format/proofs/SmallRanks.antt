@@ -5,7 +5,8 @@ use Rattle.std.proofs.lemmas.List.Elements.{All-from_recursion}
 use Rattle.net_core.specs.Limits.{max_points}
 use Rattle.net_core.specs.Ranks.{pairs_of}
 use Rattle.net_core.proofs.RankLaws.{few_pairs}
-use Rattle.evidence_format.specs.Evidence.{AreRanks, IsPair}
+use Rattle.evidence_format.specs.Evidence.{AreRanks}
+use Rattle.line_texts.specs.Numbers.{IsPair}
 
 -- small ranks are pairs of numbers that a text can have
 pairs_fit : (m : ℕ) (ranks : List ℕ) → m ≤ max_points → ((p : ℕ) → p < length ranks → get_or ranks p 0 < m) → AllByRecursion IsPair (pairs_of ranks)

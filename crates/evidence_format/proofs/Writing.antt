@@ -6,25 +6,12 @@ use Rattle.std.proofs.lemmas.List.{length-map}
 use Rattle.net_core.specs.declared.step.Step.{Step}
 use Rattle.evidence_format.specs.declared.evidence.Evidence.{Evidence}
 use Rattle.evidence_format.specs.View.{plain}
-use Rattle.evidence_format.specs.Lines.{Lines}
-use Rattle.evidence_format.specs.Evidence.{PlainEvidence, timeline, entails, counter, clash, IsWellFormed, at_line, timeline_lines, step_line, walk_lines, cite_line, body_lines, text_lines, one_number, first_line, last_line}
+use Rattle.evidence_format.specs.Evidence.{PlainEvidence, timeline, entails, counter, clash, IsWellFormed, at_line, timeline_lines, step_line, walk_lines, cite_line, body_lines, text_lines, first_line}
+use Rattle.line_texts.specs.Numbers.{one_number}
+use Rattle.line_texts.specs.Lines.{last_line}
 use Rattle.evidence_format.specs.Bundles.{AreClaims, IsBundleText, IsCount, bundle_line, claims_line, bundle_lines}
 use Rattle.evidence_format.specs.Written.{timeline_bytes, walk_bytes, body_bytes}
-use Rattle.evidence_format.proofs.LineLaws.{concat_append}
-
--- lines, one for each value, joined
-pub mapped : {A : Type 0} (f : A → List ℕ) (vs : List A) → concat (map f vs) ≡ flat_map f vs
-mapped f [] = refl
-mapped f (v ∷ vs) = ap (λ (x : List ℕ). f v ++ x) (mapped f vs)
-
--- lines and lines after them, joined
-joined : (a b : Lines) (x y : List ℕ) → concat a ≡ x → concat b ≡ y → concat (a ++ b) ≡ x ++ y
-joined a b x y p q = concat_append a b ∙ rw (p, q) refl
-
--- lines, some for each value, joined
-flat : {A : Type 0} (lines : A → Lines) (bytes : A → List ℕ) → ((v : A) → concat (lines v) ≡ bytes v) → (vs : List A) → concat (flat_map lines vs) ≡ flat_map bytes vs
-flat lines bytes each [] = refl
-flat lines bytes each (v ∷ vs) = joined (lines v) (flat_map lines vs) (bytes v) (flat_map bytes vs) (each v) (flat lines bytes each vs)
+use Rattle.line_texts.proofs.LineLaws.{concat_append, mapped, joined, flat}
 
 -- a timeline, joined
 timeline_is : (ranks : List (ℕ × ℕ)) → concat (timeline_lines ranks) ≡ timeline_bytes ranks

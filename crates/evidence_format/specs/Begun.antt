@@ -1,12 +1,13 @@
 -- The bad line of a text.
-use Rattle.std.specs.Prelude.{◌≡◌, ◌⊎◌, ℕ, ◌+◌, List, ◌∷◌, [], ◌++◌, length, ⊤, Result, Ok, Err}
-use Rattle.evidence_format.specs.Lines.{Lines, lines_of}
-use Rattle.evidence_format.specs.Grammar.{Begins}
+use Rattle.std.specs.Prelude.{◌≡◌, ◌⊎◌, ℕ, List, ⊤, Result, Ok, Err}
+use Rattle.line_texts.specs.Lines.{Lines}
+use Rattle.line_texts.specs.Grammar.{Begins}
 use Rattle.evidence_format.specs.Evidence.{PlainEvidence, IsText, IsWellFormed, text_lines}
 use Rattle.evidence_format.specs.View.{plain}
 use Rattle.evidence_format.specs.declared.evidence.Evidence.{Evidence}
-use Rattle.evidence_format.specs.declared.read.ReadEvidence.{ReadEvidence}
-use Rattle.evidence_format.specs.declared.read.ReadEvidence.TheVariants.{BadLine, Memory}
+use Rattle.line_texts.specs.declared.read.ReadEvidence.{ReadEvidence}
+use Rattle.line_texts.specs.declared.read.ReadEvidence.TheVariants.{BadLine, Memory}
+use Rattle.line_texts.specs.Begun.{IsBadLineBy}
 
 abbrev pub HasLines : PlainEvidence → Lines → Type 0
 HasLines e ls = IsWellFormed e × (ls ≡ text_lines e)
@@ -14,10 +15,6 @@ HasLines e ls = IsWellFormed e × (ls ≡ text_lines e)
 -- the lines are the first ones of the text of some evidence
 abbrev pub IsBegun : Lines → Type 0
 IsBegun ls = Begins HasLines ls
-
--- the lines before it are begun; with it they are not, or there is no further line
-abbrev pub IsBadLineBy : (Lines → Type 0) → List ℕ → ℕ → Type 0
-IsBadLineBy AreBegun text line = (good : Lines) × (rest : Lines) × (lines_of text ≡ good ++ rest) × (line ≡ length good + 1) × AreBegun good × ((l : List ℕ) (more : Lines) → rest ≡ l ∷ more → AreBegun (good ++ l ∷ []) → ⊥)
 
 -- the first line with which the lines so far begin no text of evidence
 abbrev pub IsBadLine : List ℕ → ℕ → Type 0

@@ -1,16 +1,19 @@
 -- Several claims as plain values, their one text of version 2, and the bad line of either version.
 use Rattle.std.specs.Prelude.{◌≡◌, ◌⊎◌, ◌↔◌, ℕ, ◌<◌, List, [], ◌∷◌, ◌++◌, length, map, codes, ⊤, Result, Ok, Err}
 use Rattle.std.specs.List.{All, concat, flat_map}
-use Rattle.evidence_format.specs.Lines.{Lines}
-use Rattle.evidence_format.specs.Grammar.{Begins}
-use Rattle.evidence_format.specs.Evidence.{PlainEvidence, IsNumber, IsWellFormed, IsText, one_number, body_lines, last_line}
-use Rattle.evidence_format.specs.Begun.{IsBadLineBy, IsBegun}
-use Rattle.evidence_format.specs.Parts.{AreBegunParts, IsBegunBody}
+use Rattle.line_texts.specs.Lines.{Lines, last_line}
+use Rattle.line_texts.specs.Grammar.{Begins}
+use Rattle.evidence_format.specs.Evidence.{PlainEvidence, IsWellFormed, IsText, body_lines}
+use Rattle.line_texts.specs.Numbers.{IsNumber, one_number}
+use Rattle.line_texts.specs.Begun.{IsBadLineBy}
+use Rattle.evidence_format.specs.Begun.{IsBegun}
+use Rattle.line_texts.specs.Parts.{AreBegunParts}
+use Rattle.evidence_format.specs.Parts.{IsBegunBody}
 use Rattle.evidence_format.specs.View.{plain}
 use Rattle.evidence_format.specs.declared.bodies.Bodies.{Bodies}
 use Rattle.evidence_format.specs.declared.evidence.Evidence.{Evidence}
-use Rattle.evidence_format.specs.declared.read.ReadEvidence.{ReadEvidence}
-use Rattle.evidence_format.specs.declared.read.ReadEvidence.TheVariants.{BadLine, Memory}
+use Rattle.line_texts.specs.declared.read.ReadEvidence.{ReadEvidence}
+use Rattle.line_texts.specs.declared.read.ReadEvidence.TheVariants.{BadLine, Memory}
 
 -- ---- texts
 

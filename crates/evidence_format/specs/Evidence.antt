@@ -1,13 +1,13 @@
 -- Evidence as a plain value, and its one text.
-use Rattle.std.specs.Prelude.{◌≡◌, ℕ, ◌^◌, ◌<◌, List, [], ◌∷◌, ◌++◌, length, map, codes, decimal}
+use Rattle.std.specs.Prelude.{◌≡◌, ℕ, List, [], ◌∷◌, ◌++◌, length, map, codes}
 use Rattle.std.specs.List.{All, concat, flat_map}
 use Rattle.std.specs.List.Sorted.{IsStrictlyIncreasing}
 use Rattle.net_core.specs.Atoms.{atom_count}
-use Rattle.net_core.specs.Rels.{rel_text}
 use Rattle.net_core.specs.declared.rels.Rel.{Rel}
 use Rattle.net_core.specs.declared.step.Step.{Step}
 use Rattle.net_core.specs.declared.step.Step.TheVariants.{Link, Span, Calendar}
-use Rattle.evidence_format.specs.Lines.{Lines}
+use Rattle.line_texts.specs.Lines.{Lines, last_line}
+use Rattle.line_texts.specs.Numbers.{IsNumber, IsPair, one_number, two_numbers, relation_line}
 
 -- What a file is evidence of.
 pub data PlainEvidence : Type 0 where
@@ -19,13 +19,6 @@ pub data PlainEvidence : Type 0 where
   counter : ℕ → Rel → ℕ → List (ℕ × ℕ) → PlainEvidence
   -- links that cannot all be true, by their numbers, the cites, by a closed walk over them, and by a spare for each of them: the ranks of a timeline in which the others hold
   clash : List ℕ → List Step → List (List (ℕ × ℕ)) → PlainEvidence
-
--- a number that can stand in a text
-abbrev pub IsNumber : ℕ → Type 0
-IsNumber n = n < 2 ^ 32
-
-abbrev pub IsPair : ℕ × ℕ → Type 0
-IsPair pair = IsNumber pair.0 × IsNumber pair.1
 
 -- the ranks, and the number of intervals, can stand in a text
 abbrev pub AreRanks : List (ℕ × ℕ) → Type 0
@@ -50,18 +43,6 @@ IsWellFormed (timeline ranks) = AreRanks ranks
 IsWellFormed (entails a r b walks) = IsNumber a × IsNumber b × All AreSteps walks × (length walks ≡ atom_count r)
 IsWellFormed (counter a r b ranks) = IsNumber a × IsNumber b × AreRanks ranks
 IsWellFormed (clash cites walk spares) = AreCites cites × AreSteps walk × All AreRanks spares × (length spares ≡ length cites)
-
--- a keyword that ends in a space, and a number
-abbrev pub one_number : List ℕ → ℕ → List ℕ
-one_number keyword n = keyword ++ decimal n ++ codes "\n"
-
--- a keyword that ends in a space, and two numbers
-abbrev pub two_numbers : List ℕ → ℕ → ℕ → List ℕ
-two_numbers keyword m n = keyword ++ decimal m ++ codes " " ++ decimal n ++ codes "\n"
-
--- a keyword that ends in a space, and a relation between two intervals
-abbrev pub relation_line : List ℕ → ℕ → Rel → ℕ → List ℕ
-relation_line keyword a r b = keyword ++ decimal a ++ codes " " ++ rel_text r ++ codes " " ++ decimal b ++ codes "\n"
 
 abbrev pub at_line : ℕ × ℕ → List ℕ
 at_line pair = two_numbers (codes "at ") pair.0 pair.1
@@ -90,9 +71,6 @@ body_lines (clash cites walk spares) = one_number (codes "clash ") (length cites
 
 abbrev pub first_line : List ℕ
 first_line = codes "tml-evidence 1\n"
-
-abbrev pub last_line : List ℕ
-last_line = codes "end\n"
 
 abbrev pub text_lines : PlainEvidence → Lines
 text_lines e = first_line ∷ (body_lines e ++ last_line ∷ [])

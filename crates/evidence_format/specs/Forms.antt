@@ -9,7 +9,7 @@ use Rattle.evidence_format.specs.declared.versions.Version.{Version}
 use Rattle.evidence_format.specs.declared.versions.Version.TheVariants as version
 use Rattle.evidence_format.specs.Evidence.{first_line}
 use Rattle.evidence_format.specs.Bundles.{bundle_line}
-use Rattle.evidence_format.specs.Words.{◌>>=◌, one_of, two_of, relation_of, same_of}
+use Rattle.line_texts.specs.Words.{◌>>=◌, one_of, two_of, relation_of, same_of}
 
 -- the step of a line
 unfoldable pub step_of : List ℕ → Option Step

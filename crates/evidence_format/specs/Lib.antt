@@ -1,12 +1,8 @@
-pub mod Lines
-pub mod Words
 pub mod Forms
 pub mod Evidence
 pub mod Begun
 pub mod Parts
 pub mod Bundles
-pub mod Grammar
-pub mod Reading
 pub mod Readers
 pub mod Given
 pub mod OneByOne

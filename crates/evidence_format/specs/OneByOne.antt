@@ -1,10 +1,10 @@
 -- Serves the code: claims of a text that are read one after another.
 use Rattle.std.specs.Prelude.{◌≡◌, List, ◌++◌, Result, Ok}
 use Rattle.evidence_format.specs.declared.unread.Unread.{Unread}
-use Rattle.evidence_format.specs.Lines.{Lines, lines_of}
+use Rattle.line_texts.specs.Lines.{Lines, lines_of}
 use Rattle.evidence_format.specs.Evidence.{PlainEvidence}
-use Rattle.evidence_format.specs.Reading.{Read, ◌>>=◌}
-use Rattle.evidence_format.specs.Readers.{many_at, body_at, end_at, bundle_at}
+use Rattle.line_texts.specs.Reading.{Read, ◌>>=◌, many_at, end_at}
+use Rattle.evidence_format.specs.Readers.{body_at, bundle_at}
 
 -- claims that were read, those that are still read, and the last line
 abbrev pub all_of : List PlainEvidence → Read (List PlainEvidence) → Result (List PlainEvidence) Lines

@@ -1,13 +1,15 @@
 -- Lines that are begun, by the parts of evidence. A part can be begun, and it can be whole.
 use Rattle.std.specs.Prelude.{◌≡◌, ℕ, ◌+◌, ◌-◌, ◌<◌, ◌≤◌, ◌⊎◌, ◌↔◌, List, [], ◌∷◌, ◌++◌, length, map, slice_index, codes}
-use Rattle.std.specs.List.{All, flat_map}
+use Rattle.std.specs.List.{All}
 use Rattle.std.specs.List.Sorted.{IsStrictlyIncreasing}
 use Rattle.net_core.specs.Atoms.{atom_count}
 use Rattle.net_core.specs.declared.rels.Rel.{Rel}
 use Rattle.net_core.specs.declared.step.Step.{Step}
-use Rattle.evidence_format.specs.Lines.{Lines}
-use Rattle.evidence_format.specs.Evidence.{PlainEvidence, AreRanks, AreSteps, AreCites, HasNumbers, IsNumber, IsPair, IsWellFormed, one_number, relation_line, at_line, timeline_lines, step_line, walk_lines, cite_line, first_line, text_lines}
+use Rattle.line_texts.specs.Lines.{Lines}
+use Rattle.evidence_format.specs.Evidence.{PlainEvidence, AreRanks, AreSteps, AreCites, HasNumbers, IsWellFormed, at_line, timeline_lines, step_line, walk_lines, cite_line, first_line, text_lines}
+use Rattle.line_texts.specs.Numbers.{IsNumber, IsPair, one_number, relation_line}
 use Rattle.evidence_format.specs.Begun.{IsBegun}
+use Rattle.line_texts.specs.Parts.{MayBegin, AreBegunParts}
 
 -- a timeline of some number of intervals, with the ranks of no more
 abbrev pub IsBegunTimeline : Lines → Type 0
@@ -16,15 +18,6 @@ IsBegunTimeline ls = (n : ℕ) × (ranks : List (ℕ × ℕ)) × IsNumber n × A
 -- a walk of some number of steps, with no more of them
 abbrev pub IsBegunWalk : Lines → Type 0
 IsBegunWalk ls = (n : ℕ) × (steps : List Step) × IsNumber n × All HasNumbers steps × (length steps ≤ n) × (ls ≡ one_number (codes "walk ") n ∷ map step_line steps)
-
--- no line, or those of a begun part
-abbrev pub MayBegin : (Lines → Type 0) → Lines → Type 0
-MayBegin IsBegunPart ls = (ls ≡ []) ⊎ IsBegunPart ls
-
--- whole parts of one kind, fewer than this number, and one more that may be begun; or this number
-abbrev pub AreBegunParts : {A : Type 0} → (A → Type 0) → (A → Lines) → (Lines → Type 0) → ℕ → Lines → Type 0
-AreBegunParts {A} IsWhole lines IsBegunPart n ls = (parts : List A) × (rest : Lines) × All IsWhole parts × (ls ≡ flat_map lines parts ++ rest)
-    × (((length parts < n) × MayBegin IsBegunPart rest) ⊎ ((length parts ≡ n) × (rest ≡ [])))
 
 -- this number of walks
 abbrev pub AreBegunWalks : ℕ → Lines → Type 0

@@ -6,19 +6,11 @@ use Rattle.evidence_format.specs.declared.head.Head.{Head}
 use Rattle.evidence_format.specs.declared.head.Head.TheVariants.{Timeline, Entails, Counter, Clash}
 use Rattle.evidence_format.specs.declared.versions.Version.{Version}
 use Rattle.evidence_format.specs.declared.versions.Version.TheVariants.{One, Two}
-use Rattle.evidence_format.specs.Lines.{Lines}
-use Rattle.evidence_format.specs.Evidence.{PlainEvidence, timeline, entails, counter, clash, first_line, last_line}
-use Rattle.evidence_format.specs.Words.{one_of, two_of, same_of}
+use Rattle.line_texts.specs.Lines.{Lines}
+use Rattle.evidence_format.specs.Evidence.{PlainEvidence, timeline, entails, counter, clash, first_line}
+use Rattle.line_texts.specs.Words.{one_of, two_of, same_of}
 use Rattle.evidence_format.specs.Forms.{step_of, cite_of, head_of, claims_of, version_of}
-use Rattle.evidence_format.specs.Reading.{Read, ◌>>=◌, line_at, ended}
-
--- n values, one after another
-unfoldable pub many_at : {A : Type 0} → (Lines → Read A) → ℕ → Lines → Read (List A)
-many_at p zero ls = Ok ([], ls)
-many_at p (suc n) ls = do
-  a ← p ls
-  more ← many_at p n a.1
-  Ok (a.0 ∷ more.0, more.1)
+use Rattle.line_texts.specs.Reading.{Read, ◌>>=◌, line_at, many_at, end_at}
 
 -- the ranks of n intervals
 abbrev pub ranks_at : ℕ → Lines → Read (List (ℕ × ℕ))
@@ -67,12 +59,6 @@ unfoldable pub body_at : Lines → Read PlainEvidence
 body_at ls = do
   head ← line_at head_of ls
   rest_at head.0 head.1
-
--- the last line, with nothing after it
-unfoldable pub end_at : Lines → Result (Unit {0}) Lines
-end_at ls = do
-  last ← line_at (same_of last_line) ls
-  ended last.0 last.1
 
 -- a text of version 1
 unfoldable pub evidence_at : Lines → Result PlainEvidence Lines

@@ -2,7 +2,8 @@
 use Rattle.std.specs.Prelude.{ℕ, List, ◌++◌, length, codes}
 use Rattle.std.specs.List.{flat_map}
 use Rattle.net_core.specs.declared.step.Step.{Step}
-use Rattle.evidence_format.specs.Evidence.{PlainEvidence, timeline, entails, counter, clash, one_number, relation_line, at_line, step_line, cite_line}
+use Rattle.evidence_format.specs.Evidence.{PlainEvidence, timeline, entails, counter, clash, at_line, step_line, cite_line}
+use Rattle.line_texts.specs.Numbers.{one_number, relation_line}
 
 abbrev pub timeline_bytes : List (ℕ × ℕ) → List ℕ
 timeline_bytes ranks = one_number (codes "timeline ") (length ranks) ++ flat_map at_line ranks

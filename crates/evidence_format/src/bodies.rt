@@ -1,18 +1,18 @@
 //! Reading claims whose bodies are kept as they stand in their text.
 ghost use Rattle.evidence_format.specs.Bundles.{AreBodies, IsTextOfEither, RefusesText};
 ghost use Rattle.evidence_format.specs.Evidence.{PlainEvidence};
-ghost use Rattle.evidence_format.specs.Given.{GivesBodies, Passes};
-ghost use Rattle.evidence_format.specs.Lines.{lines_of};
+ghost use Rattle.evidence_format.specs.Given.{GivesBodies};
+ghost use Rattle.line_texts.specs.Given.{Passes};
+ghost use Rattle.line_texts.specs.Lines.{lines_of};
 ghost use Rattle.evidence_format.specs.Readers as readers;
+ghost use Rattle.line_texts.specs.Reading.{many_at};
 ghost use Rattle.net_core.specs.Limits.{max_evidence};
 ghost use Rattle.std.specs.Prelude.{◌≤◌, List as ListOf, length, IfErr, IfOk};
 
-use crate::ReadEvidence;
-use crate::lines::end_at;
 use crate::read::body_at;
-use crate::stop::Stop;
 use crate::unread::stopped;
 use crate::versions::opening_at;
+use line_texts::{ReadEvidence, Stop, end_at};
 use std::alloc::Global;
 
 /// Claims, by their bodies as they stand in a text.
@@ -59,7 +59,7 @@ fn bodies_of(alloc: Global, text: &[u8]) -> Result<Bodies<'_>, Stop<'_>>
 
 /// What follows this number of bodies. Each is let go before the next one is read.
 fn pass_bodies(alloc: Global, count: u32, text: &[u8]) -> Result<&[u8], Stop<'_>>
-    ensures { Passes result (readers.many_at readers.body_at count (lines_of text.now)) }
+    ensures { Passes result (many_at readers.body_at count (lines_of text.now)) }
 {
     let mut rest = text;
     for _ in 0..count {

@@ -6,7 +6,8 @@ ghost use Rattle.net_core.specs.Limits.{max_evidence};
 ghost use Rattle.std.specs.List.{All};
 ghost use Rattle.std.specs.Prelude.{◌≡◌, ◌<◌, ◌≤◌, ◌^◌, ◌+◌, [], ◌∷◌, ◌++◌, length, map, slice_index_or, IfErr, IfOk, List as ListOf, OnOk, OnErr};
 
-use crate::{Evidence, ReadEvidence, Unread};
+use crate::{Evidence, Unread};
+use line_texts::ReadEvidence;
 use net_core::Memory;
 use std::alloc::Global;
 use std::marker::Model;

@@ -1,13 +1,11 @@
 //! The line that names the kind of evidence.
 ghost use Rattle.evidence_format.specs.Forms as forms;
-ghost use Rattle.evidence_format.specs.Given.{GivesOrStops};
-ghost use Rattle.evidence_format.specs.Lines.{lines_of};
-ghost use Rattle.evidence_format.specs.Reading.{line_at};
+ghost use Rattle.line_texts.specs.Given.{GivesOrStops};
+ghost use Rattle.line_texts.specs.Lines.{lines_of};
+ghost use Rattle.line_texts.specs.Reading.{line_at};
 ghost use Rattle.std.specs.Prelude.{◌≡◌};
 
-use crate::lines::next_line;
-use crate::stop::Stop;
-use crate::words::{one_of, relation_of};
+use line_texts::{Stop, next_line, one_of, relation_of};
 use net_core::Rel;
 
 /// The kind of evidence, with what its line says.

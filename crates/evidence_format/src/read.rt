@@ -1,32 +1,20 @@
 //! Reading evidence.
 ghost use Rattle.evidence_format.specs.Begun.{ReadsEvidence, TellsBadLine};
 ghost use Rattle.evidence_format.specs.Evidence.{IsText, PlainEvidence};
-ghost use Rattle.evidence_format.specs.Given.{GivesOrStops};
-ghost use Rattle.evidence_format.specs.Lines.{is_lf, lines_of};
+ghost use Rattle.line_texts.specs.Given.{GivesOrStops};
+ghost use Rattle.line_texts.specs.Lines.{lines_of};
 ghost use Rattle.evidence_format.specs.Readers as readers;
 ghost use Rattle.evidence_format.specs.View.{plain, plain_body};
 ghost use Rattle.net_core.specs.Limits.{max_evidence};
-ghost use Rattle.std.specs.List.{count_by};
-ghost use Rattle.std.specs.Prelude.{◌≡◌, ◌≤◌, ◌+◌, ◌-◌, length, take, IfOk, IfErr};
+ghost use Rattle.std.specs.Prelude.{◌≤◌, ◌-◌, length, IfOk, IfErr};
 
 use crate::cites::cites_at;
 use crate::head::{Head, head_at};
-use crate::lines::{end_at, same_at};
-use crate::stop::Stop;
 use crate::timeline::{ranks_at, timeline_at, timelines_at};
 use crate::walks::{walk_at, walks_at};
 use crate::{Body, Evidence};
+use line_texts::{ReadEvidence, Stop, end_at, line_of, same_at};
 use std::alloc::Global;
-
-/// Why no evidence was read.
-#[derive(Clone, Copy)]
-pub enum ReadEvidence {
-    /// The number, counted from 1, of the first line with which the lines so far begin no text of evidence, or of the
-    /// line that would come next where the text ends early. A line without LF is bad.
-    BadLine { line: u32 },
-    /// Out of memory.
-    Memory,
-}
 
 /// The evidence whose text this is. It takes time in the length of the text, and memory in the length of what was read.
 ///
@@ -99,20 +87,4 @@ fn rest_at<'t>(alloc: Global, head: Head, text: &'t [u8]) -> Result<(Body, &'t [
             Ok((clash, rest))
         }
     }
-}
-
-/// The number, counted from 1, of the line at which the rest of a text begins.
-pub fn line_of(text: &[u8], rest: &[u8]) -> u32
-    requires within { length rest.now ≤ length text.now }
-    requires limit { length text.now ≤ max_evidence }
-    ensures { result ≡ count_by is_lf (take (length text.now - length rest.now) text.now) + 1 }
-{
-    let read = &text[..text.len() - rest.len()];
-    let mut line = 1;
-    for b in read {
-        if *b == b'\n' {
-            line += 1;
-        }
-    }
-    line
 }

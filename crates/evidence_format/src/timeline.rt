@@ -1,16 +1,15 @@
 //! Reading timelines.
-ghost use Rattle.evidence_format.specs.Given.{Appends, GivesOrStops};
-ghost use Rattle.evidence_format.specs.Lines.{lines_of};
+ghost use Rattle.evidence_format.specs.Given.{Appends};
+ghost use Rattle.line_texts.specs.Given.{GivesOrStops};
+ghost use Rattle.line_texts.specs.Lines.{lines_of};
 ghost use Rattle.evidence_format.specs.Readers as readers;
-ghost use Rattle.evidence_format.specs.Reading.{line_at};
-ghost use Rattle.evidence_format.specs.Words as words;
+ghost use Rattle.line_texts.specs.Reading.{line_at, many_at};
+ghost use Rattle.line_texts.specs.Words as words;
 ghost use Rattle.net_core.specs.Ranks.{pairs_of};
 ghost use Rattle.std.specs.Prelude.{map, codes};
 
 use crate::Timelines;
-use crate::lines::one_at;
-use crate::stop::Stop;
-use crate::words::two_to;
+use line_texts::{Stop, one_at, two_to};
 use net_core::{List, Ranks};
 use std::alloc::Global;
 
@@ -21,7 +20,7 @@ pub fn timelines_at<'t>(
     text: &'t [u8],
 ) -> Result<(Timelines, &'t [u8]), Stop<'t>>
     ensures { GivesOrStops (λ x. (map pairs_of x.0, lines_of x.1.now)) result
-        (readers.many_at readers.timeline_at count (lines_of text.now)) }
+        (many_at readers.timeline_at count (lines_of text.now)) }
 {
     let mut ranks = Ranks::new(alloc);
     let mut ends = List::new(alloc);
@@ -81,7 +80,7 @@ fn push_ranks_at<'t>(ranks: &mut Ranks, count: u32, text: &'t [u8]) -> Result<&'
 
 /// The ranks of one interval, and what follows its line. The line is not cut off first: it ends where its second number
 /// does.
-#[tactic(auto, using(crate::proofs::LineLaws::pair_at))]
+#[tactic(auto, using(line_texts::proofs::LineLaws::pair_at))]
 fn interval_at(text: &[u8]) -> Result<((u32, u32), &[u8]), Stop<'_>>
     ensures { GivesOrStops (λ x. (x.0, lines_of x.1.now)) result (line_at (words.two_of (codes "at ")) (lines_of text.now)) }
 {

@@ -1,19 +1,18 @@
 //! Claims that are read one after another.
 ghost use Rattle.evidence_format.specs.Bundles.{IsTextOfEither, RefusesText};
 ghost use Rattle.evidence_format.specs.Evidence.{IsWellFormed, PlainEvidence};
-ghost use Rattle.evidence_format.specs.Given.{StopsAt};
-ghost use Rattle.evidence_format.specs.Lines.{lines_of};
+ghost use Rattle.line_texts.specs.Given.{StopsAt};
+ghost use Rattle.line_texts.specs.Lines.{lines_of};
 ghost use Rattle.evidence_format.specs.Readers as readers;
 ghost use Rattle.evidence_format.specs.OneByOne.{HasRead};
 ghost use Rattle.evidence_format.specs.View.{plain_body};
 ghost use Rattle.net_core.specs.Limits.{max_evidence};
-ghost use Rattle.std.specs.Prelude.{◌≡◌, ◌<◌, ◌≤◌, ◌-◌, ◌++◌, ◌∷◌, [], List as ListOf, length, IfErr, IfOk, OnOk};
+ghost use Rattle.std.specs.Prelude.{◌≡◌, ◌<◌, ◌≤◌, ◌-◌, ◌++◌, [], ◌∷◌, List as ListOf, length, IfErr, IfOk, OnOk};
 
-use crate::lines::end_at;
-use crate::read::{body_at, line_of};
-use crate::stop::Stop;
+use crate::Body;
+use crate::read::body_at;
 use crate::versions::opening_at;
-use crate::{Body, ReadEvidence};
+use line_texts::{ReadEvidence, Stop, end_at, line_of};
 use std::alloc::Global;
 
 /// The claims of a text that are still to be read.

@@ -1,14 +1,12 @@
 //! The lines before the bodies of claims, in either version.
 ghost use Rattle.evidence_format.specs.Forms as forms;
-ghost use Rattle.evidence_format.specs.Given.{GivesOrStops};
-ghost use Rattle.evidence_format.specs.Lines.{lines_of};
+ghost use Rattle.line_texts.specs.Given.{GivesOrStops};
+ghost use Rattle.line_texts.specs.Lines.{lines_of};
 ghost use Rattle.evidence_format.specs.Readers as readers;
-ghost use Rattle.evidence_format.specs.Reading.{line_at};
+ghost use Rattle.line_texts.specs.Reading.{line_at};
 ghost use Rattle.std.specs.Prelude.{◌≡◌};
 
-use crate::lines::next_line;
-use crate::stop::Stop;
-use crate::words::{is_same, one_of};
+use line_texts::{Stop, is_same, next_line, one_of};
 
 /// A version of the text of evidence.
 #[derive(Clone, Copy)]

@@ -1,14 +1,12 @@
 //! Reading walks.
 ghost use Rattle.evidence_format.specs.Forms as forms;
-ghost use Rattle.evidence_format.specs.Given.{GivesOrStops};
-ghost use Rattle.evidence_format.specs.Lines.{lines_of};
+ghost use Rattle.line_texts.specs.Given.{GivesOrStops};
+ghost use Rattle.line_texts.specs.Lines.{lines_of};
 ghost use Rattle.evidence_format.specs.Readers as readers;
-ghost use Rattle.evidence_format.specs.Reading.{line_at};
+ghost use Rattle.line_texts.specs.Reading.{line_at, many_at};
 ghost use Rattle.std.specs.Prelude.{◌≡◌};
 
-use crate::lines::{next_line, one_at};
-use crate::stop::Stop;
-use crate::words::{one_of, two_of};
+use line_texts::{Stop, next_line, one_at, one_of, two_of};
 use net_core::{List, Step, Walk};
 use std::alloc::Global;
 
@@ -18,7 +16,7 @@ pub fn walks_at<'t>(
     count: u32,
     text: &'t [u8],
 ) -> Result<(List<Walk>, &'t [u8]), Stop<'t>>
-    ensures { GivesOrStops (λ x. (x.0, lines_of x.1.now)) result (readers.many_at readers.walk_at count (lines_of text.now)) }
+    ensures { GivesOrStops (λ x. (x.0, lines_of x.1.now)) result (many_at readers.walk_at count (lines_of text.now)) }
 {
     let mut walks = List::new(alloc);
     let mut rest = text;

@@ -1,21 +1,20 @@
 //! Writing evidence.
 ghost use Rattle.evidence_format.specs.Bundles.{AreBodies, AreClaims, IsBundleText, IsClaimText, IsCount, bundle_line, claims_line};
 ghost use Rattle.evidence_format.specs.Evidence as lines;
-ghost use Rattle.evidence_format.specs.Evidence.{AreRanks, IsNumber, IsText, IsWellFormed, PlainEvidence, first_line, last_line};
+ghost use Rattle.evidence_format.specs.Evidence.{AreRanks, IsText, IsWellFormed, PlainEvidence, first_line};
+ghost use Rattle.line_texts.specs.Numbers.{IsNumber};
+ghost use Rattle.line_texts.specs.Lines.{last_line};
 ghost use Rattle.evidence_format.specs.View.{plain};
 ghost use Rattle.evidence_format.specs.Written.{body_bytes, timeline_bytes, walk_bytes};
 ghost use Rattle.net_core.specs.Ranks.{pairs_of};
 ghost use Rattle.std.specs.List.{All, flat_map};
-ghost use Rattle.std.specs.Prelude.{◌≡◌, ◌<◌, ◌^◌, ◌+◌, ◌++◌, ◌∷◌, [], codes, decimal, length, map, IfOk, List as ListOf, OnOk};
+ghost use Rattle.std.specs.Prelude.{◌≡◌, ◌<◌, ◌^◌, ◌+◌, ◌++◌, length, map, IfOk, List as ListOf, OnOk};
 
 use crate::{Bodies, Bundle, Evidence};
-use itoa::write_digits;
+use line_texts::{push_one, push_relation, push_two};
 use net_core::{List, Memory, Ranks, Rel, Step, Walk};
 use std::alloc::{AllocError, Global};
 use std::slice;
-
-/// Room for the digits of a number, at most ten, and for the byte that ends it.
-const NUMBER_ROOM: usize = 11;
 
 /// The text of well-formed evidence.
 ///
@@ -250,59 +249,4 @@ fn push_step(out: &mut Vec<u8>, step: Step) -> Result<(), AllocError>
         Step::Span { interval } => push_one(out, b"span ", interval),
         Step::Calendar { from, to } => push_two(out, b"calendar ", from, to),
     }
-}
-
-/// A keyword that ends in a space, and a relation between two intervals.
-fn push_relation(
-    out: &mut Vec<u8>,
-    keyword: &[u8],
-    a: u32,
-    rel: Rel,
-    b: u32,
-) -> Result<(), AllocError>
-    ensures { OnOk result (out.new.items ≡ out.old.items ++ lines.relation_line keyword.now a rel b) }
-{
-    out.extend_from_slice(keyword)?;
-    push_number(out, a, b' ')?;
-    out.extend_from_slice(rel.text())?;
-    out.extend_from_slice(b" ")?;
-    push_number(out, b, b'\n')
-}
-
-/// A keyword that ends in a space, and a number.
-pub fn push_one(out: &mut Vec<u8>, keyword: &[u8], n: u32) -> Result<(), AllocError>
-    ensures { OnOk result (out.new.items ≡ out.old.items ++ lines.one_number keyword.now n) }
-{
-    out.extend_from_slice(keyword)?;
-    push_number(out, n, b'\n')
-}
-
-/// A keyword that ends in a space, and two numbers. It stands in its callers, where the keyword is a constant.
-#[inline(always)]
-pub fn push_two(out: &mut Vec<u8>, keyword: &[u8], m: u32, n: u32) -> Result<(), AllocError>
-    ensures { OnOk result (out.new.items ≡ out.old.items ++ lines.two_numbers keyword.now m n) }
-{
-    out.extend_from_slice(keyword)?;
-    push_pair(out, m, n)
-}
-
-/// Two numbers with a space between them, and the LF that ends their line. They are written from the right, to be put last
-/// at once: most of the longest texts are such lines.
-fn push_pair(out: &mut Vec<u8>, m: u32, n: u32) -> Result<(), AllocError>
-    ensures { OnOk result (out.new.items ≡ out.old.items ++ (decimal m ++ codes " " ++ decimal n ++ codes "\n")) }
-{
-    let mut text = [b'\n'; 2 * NUMBER_ROOM];
-    let second = write_digits(u64::from(n), &mut text, 2 * NUMBER_ROOM - 1);
-    text[second - 1] = b' ';
-    let first = write_digits(u64::from(m), &mut text, second - 1);
-    out.extend_from_slice(&text[first..])
-}
-
-/// A number, and the byte that ends it.
-fn push_number(out: &mut Vec<u8>, n: u32, stop: u8) -> Result<(), AllocError>
-    ensures { OnOk result (out.new.items ≡ out.old.items ++ (decimal n ++ stop ∷ [])) }
-{
-    let mut text = [stop; NUMBER_ROOM];
-    let first = write_digits(u64::from(n), &mut text, NUMBER_ROOM - 1);
-    out.extend_from_slice(&text[first..])
 }

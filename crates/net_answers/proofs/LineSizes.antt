@@ -19,8 +19,9 @@ use Rattle.net_core.specs.declared.step.Step.TheVariants.{Link, Span, Calendar}
 use Rattle.net_core.proofs.AtomLaws.{atoms_counted, few_orders as few_orders_of}
 use Rattle.net_core.proofs.RelLaws.{text_short}
 use Rattle.net_core.proofs.StepLaws.{number_within, ordered, tested}
-use Rattle.evidence_format.specs.Evidence.{at_line, one_number, relation_line, step_line, two_numbers}
-use Rattle.evidence_format.specs.Lines.{Lines}
+use Rattle.evidence_format.specs.Evidence.{at_line, step_line}
+use Rattle.line_texts.specs.Numbers.{one_number, relation_line, two_numbers}
+use Rattle.line_texts.specs.Lines.{Lines}
 
 -- ---- lines one after another
 

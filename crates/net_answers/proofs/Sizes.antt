@@ -15,8 +15,9 @@ use Rattle.net_core.specs.declared.rels.Rel.{Rel}
 use Rattle.net_core.specs.declared.step.Step.{Step}
 use Rattle.net_core.specs.Least.{AreSpares}
 use Rattle.evidence_format.specs.Bundles.{IsClaimText, bundle_line, bundle_lines, claims_line}
-use Rattle.evidence_format.specs.Evidence.{PlainEvidence, at_line, body_lines, clash, cite_line, counter, entails, one_number, relation_line, last_line, step_line, timeline, timeline_lines, walk_lines}
-use Rattle.evidence_format.specs.Lines.{Lines}
+use Rattle.evidence_format.specs.Evidence.{PlainEvidence, at_line, body_lines, clash, cite_line, counter, entails, step_line, timeline, timeline_lines, walk_lines}
+use Rattle.line_texts.specs.Numbers.{one_number, relation_line}
+use Rattle.line_texts.specs.Lines.{last_line, Lines}
 use Rattle.net_core.specs.Entailment.{AreIntervals}
 use Rattle.evidence_check.specs.Refusals.{Proves, atom_at, walk_at}
 use Rattle.net_core.specs.Limits.{max_intervals, max_points, max_printed}

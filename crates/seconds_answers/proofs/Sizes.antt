@@ -6,7 +6,8 @@ use Rattle.std.proofs.lemmas.Fmt.{length-decimal-le}
 use Rattle.std.proofs.lemmas.List.{length-append}
 use Rattle.std.proofs.lemmas.List.Elements.{recursion_from_All}
 use Rattle.std.proofs.lemmas.List.Folds.{concat-append}
-use Rattle.evidence_format.specs.Evidence.{IsNumber, last_line, one_number}
+use Rattle.line_texts.specs.Numbers.{IsNumber, one_number}
+use Rattle.line_texts.specs.Lines.{last_line}
 use Rattle.net_core.specs.Limits.{max_evidence}
 use Rattle.seconds_core.specs.Evidence.{PlainEvidence, Placed, Cycle}
 use Rattle.seconds_core.specs.Timed.{IsTimed, PlainTimed}

@@ -2,14 +2,14 @@
 use Rattle.std.proofs.Common.{◌≡◌, ℕ, ℤ, pos, List, [], ◌∷◌, ◌++◌, length, map, Ok, refl, sym, ap, subst, ◌∙◌, arith}
 use Rattle.std.proofs.lemmas.List.Concat.{flat_map_single}
 use Rattle.std.proofs.lemmas.List.Elements.{All-from_recursion, recursion_from_All}
-use Rattle.evidence_format.specs.Evidence.{IsNumber}
-use Rattle.evidence_format.specs.Grammar.{Then}
-use Rattle.evidence_format.specs.Lines.{Lines}
-use Rattle.evidence_format.specs.Reading.{Read, ◌>>=◌, line_at}
-use Rattle.evidence_format.specs.Words.{same_of}
-use Rattle.evidence_format.proofs.Exact.{Exact, all_of, exact_same, exact_then}
-use Rattle.evidence_format.proofs.ReaderLaws.{AreMany, Has, exact_form, exact_many, exact_map}
-use Rattle.evidence_format.proofs.TextLaws.{closed, ends_after, exact_between}
+use Rattle.line_texts.specs.Numbers.{IsNumber}
+use Rattle.line_texts.specs.Grammar.{Then}
+use Rattle.line_texts.specs.Lines.{Lines}
+use Rattle.line_texts.specs.Reading.{Read, ◌>>=◌, line_at}
+use Rattle.line_texts.specs.Words.{same_of}
+use Rattle.line_texts.proofs.Exact.{Exact, all_of, exact_same, exact_then}
+use Rattle.line_texts.proofs.ReaderLaws.{AreMany, Has, exact_form, exact_many, exact_map}
+use Rattle.line_texts.proofs.TextLaws.{closed, ends_after, exact_between}
 use Rattle.seconds_core.specs.Evidence.{ArePairs, PlainEvidence, Placed, Cycle}
 use Rattle.seconds_core.specs.declared.line.Line.{Line}
 use Rattle.seconds_core.specs.declared.line.Line.TheVariants.{Span}

@@ -1,10 +1,9 @@
 -- The forms of the lines of cycles, and of those that name the kind of evidence.
 use Rattle.std.proofs.Common.{◌≡◌, ℕ, List, inl, inr, Some, None, refl, subst}
 use Rattle.std.specs.Prelude.{codes, option_map}
-use Rattle.evidence_format.specs.Evidence.{IsNumber, one_number, two_numbers}
-use Rattle.evidence_format.specs.Words.{after, one_of, two_of}
-use Rattle.evidence_format.proofs.FormLaws.{either, some_mapped}
-use Rattle.evidence_format.proofs.WordLaws.{IsForm, one_form, two_form}
+use Rattle.line_texts.specs.Numbers.{IsNumber, one_number, two_numbers}
+use Rattle.line_texts.specs.Words.{after, one_of, two_of}
+use Rattle.line_texts.proofs.WordLaws.{either, some_mapped, IsForm, one_form, two_form}
 use Rattle.seconds_core.specs.declared.line.Line.{Line}
 use Rattle.seconds_core.specs.declared.line.Line.TheVariants.{Span, Via, Lower, Upper, Least, Most}
 use Rattle.seconds_format.specs.declared.head.Head.{Head}

@@ -5,10 +5,10 @@ use Rattle.std.specs.Fmt.{signed_decimal}
 use Rattle.std.specs.List.{AllByRecursion, list_all}
 use Rattle.std.proofs.lemmas.List.Elements.{recursion_from_All}
 use Rattle.named.proofs.Lists.{all_append, each_joined}
-use Rattle.evidence_format.specs.Evidence.{last_line}
-use Rattle.evidence_format.specs.Words.{is_not}
-use Rattle.evidence_format.proofs.LineLaws.{IsLine, mapped_are, one_is, two_is}
-use Rattle.evidence_format.proofs.WordLaws.{long_differ}
+use Rattle.line_texts.specs.Lines.{last_line}
+use Rattle.line_texts.specs.Words.{is_not}
+use Rattle.line_texts.proofs.LineLaws.{IsLine, mapped_are, one_is, two_is}
+use Rattle.line_texts.proofs.WordLaws.{long_differ}
 use Rattle.seconds_core.specs.Evidence.{PlainEvidence, Placed, Cycle}
 use Rattle.seconds_core.specs.declared.line.Line.{Line}
 use Rattle.seconds_core.specs.declared.line.Line.TheVariants.{Span, Via, Lower, Upper, Least, Most}

@@ -3,11 +3,11 @@ use Rattle.std.proofs.Common.{◌≡◌, ◌↔◌, inl, inr, ℤ, pos, List, []
 use Rattle.std.specs.Prelude.{codes}
 use Rattle.std.proofs.lemmas.List.{append-nil}
 use Rattle.std.proofs.lemmas.List.Elements.{All-from_recursion, All-nil, recursion_from_All}
-use Rattle.evidence_format.specs.Grammar.{Begins}
-use Rattle.evidence_format.specs.Lines.{Lines}
-use Rattle.evidence_format.specs.Parts.{MayBegin}
-use Rattle.evidence_format.proofs.PartLaws.{between_begins, between_prefix, count_begins, counted_lines, counted_prefix}
-use Rattle.evidence_format.proofs.ReaderLaws.{AreCounted, Has}
+use Rattle.line_texts.specs.Grammar.{Begins}
+use Rattle.line_texts.specs.Lines.{Lines}
+use Rattle.line_texts.specs.Parts.{MayBegin}
+use Rattle.line_texts.proofs.PartLaws.{between_begins, between_prefix, count_begins, counted_lines, counted_prefix}
+use Rattle.line_texts.proofs.ReaderLaws.{AreCounted, Has}
 use Rattle.seconds_core.specs.Evidence.{ArePairs, PlainEvidence, Placed, Cycle}
 use Rattle.seconds_core.specs.declared.line.Line.TheVariants.{Span}
 use Rattle.seconds_format.specs.Begun.{IsBegun}

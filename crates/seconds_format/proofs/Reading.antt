@@ -1,8 +1,8 @@
 -- What is read of whole texts.
 use Rattle.std.proofs.Common.{◌≡◌, ℕ, List, refl, sym, ap, subst}
 use Rattle.std.specs.List.{AllByRecursion, concat}
-use Rattle.evidence_format.proofs.LineLaws.{IsLine}
-use Rattle.evidence_format.proofs.Reading.{Texts, one_line, one_of_texts, value_or_bad_line}
+use Rattle.line_texts.proofs.LineLaws.{IsLine}
+use Rattle.line_texts.proofs.Reading.{Texts, one_line, one_of_texts, value_or_bad_line}
 use Rattle.seconds_core.specs.Evidence.{PlainEvidence}
 use Rattle.seconds_format.specs.Begun.{HasLines, IsBadLine, TextOrBadLine}
 use Rattle.seconds_format.specs.Readers.{seconds_at}

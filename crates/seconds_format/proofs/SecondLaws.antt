@@ -6,9 +6,9 @@ use Rattle.std.specs.List.{list_all}
 use Rattle.std.proofs.lemmas.Bool.{eqb-true, ltb-true, lt-ltb}
 use Rattle.std.proofs.lemmas.Fmt.{decimal_nonempty}
 use Rattle.std.proofs.lemmas.Option.{cond_some}
-use Rattle.evidence_format.specs.Words.{◌>>=◌, after, alone, is_not, long_to}
-use Rattle.evidence_format.proofs.Numbers.{some_bind}
-use Rattle.evidence_format.proofs.WordLaws.{IsForm, after_again, after_found, alone_is, long_differ, long_to_again, long_to_found, some_is}
+use Rattle.line_texts.specs.Words.{◌>>=◌, after, alone, is_not, long_to}
+use Rattle.line_texts.proofs.Numbers.{some_bind}
+use Rattle.line_texts.proofs.WordLaws.{IsForm, after_again, after_found, alone_is, long_differ, long_to_again, long_to_found, some_is}
 use Rattle.seconds_format.specs.Texts.{IsLong, IsPair, at_line}
 use Rattle.seconds_format.specs.Words.{made_by, pair_of, second_before, second_of, second_to}
 

@@ -1,9 +1,8 @@
 -- The bytes that are written are those of the lines.
 use Rattle.std.proofs.Common.{◌≡◌, [], ◌∷◌, refl}
 use Rattle.std.specs.List.{concat}
-use Rattle.evidence_format.specs.Evidence.{last_line}
-use Rattle.evidence_format.proofs.LineLaws.{concat_append}
-use Rattle.evidence_format.proofs.Writing.{mapped}
+use Rattle.line_texts.specs.Lines.{last_line}
+use Rattle.line_texts.proofs.LineLaws.{concat_append, mapped}
 use Rattle.seconds_core.specs.Evidence.{PlainEvidence, Placed, Cycle}
 use Rattle.seconds_format.specs.Texts.{at_line, body_lines, cycle_line, pairs_of, text_lines}
 use Rattle.seconds_format.specs.Written.{body_bytes, text_bytes}

@@ -1,10 +1,10 @@
 -- The bad line of a text.
 use Rattle.std.specs.Prelude.{◌≡◌, ◌⊎◌, ℕ, List, ⊤, Result, Ok, Err}
-use Rattle.evidence_format.specs.Begun.{IsBadLineBy}
-use Rattle.evidence_format.specs.Grammar.{Begins}
-use Rattle.evidence_format.specs.Lines.{Lines}
-use Rattle.evidence_format.specs.declared.read.ReadEvidence.{ReadEvidence}
-use Rattle.evidence_format.specs.declared.read.ReadEvidence.TheVariants.{BadLine, Memory}
+use Rattle.line_texts.specs.Begun.{IsBadLineBy}
+use Rattle.line_texts.specs.Grammar.{Begins}
+use Rattle.line_texts.specs.Lines.{Lines}
+use Rattle.line_texts.specs.declared.read.ReadEvidence.{ReadEvidence}
+use Rattle.line_texts.specs.declared.read.ReadEvidence.TheVariants.{BadLine, Memory}
 use Rattle.seconds_core.specs.Evidence.{PlainEvidence}
 use Rattle.seconds_core.specs.View.{evidence_of}
 use Rattle.seconds_core.specs.declared.evidence.SecondsEvidence.{SecondsEvidence}

@@ -1,7 +1,7 @@
 -- Serves the code: what a line says, which is what names a constraint, or how many intervals or lines there are.
 use Rattle.std.specs.Prelude.{List, ℕ, Option, option_map, codes}
 use Rattle.std.specs.Option.{option_or}
-use Rattle.evidence_format.specs.Words.{one_of, two_of}
+use Rattle.line_texts.specs.Words.{one_of, two_of}
 use Rattle.seconds_core.specs.declared.line.Line.{Line}
 use Rattle.seconds_core.specs.declared.line.Line.TheVariants.{Span, Via, Lower, Upper, Least, Most}
 use Rattle.seconds_format.specs.declared.head.Head.{Head}

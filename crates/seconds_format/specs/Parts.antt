@@ -1,8 +1,8 @@
 -- Lines that are begun, by the parts of a text.
 use Rattle.std.specs.Prelude.{◌≡◌, ◌↔◌, ◌⊎◌, ℕ, ◌≤◌, ℤ, List, [], ◌∷◌, length, map, codes}
 use Rattle.std.specs.List.{All}
-use Rattle.evidence_format.specs.Evidence.{IsNumber, one_number}
-use Rattle.evidence_format.specs.Lines.{Lines}
+use Rattle.line_texts.specs.Numbers.{IsNumber, one_number}
+use Rattle.line_texts.specs.Lines.{Lines}
 use Rattle.seconds_core.specs.Evidence.{PlainEvidence}
 use Rattle.seconds_core.specs.declared.line.Line.{Line}
 use Rattle.seconds_format.specs.Begun.{IsBegun}

@@ -1,9 +1,8 @@
 -- Serves the code: reading a placing or a cycle, line by line.
 use Rattle.std.specs.Prelude.{ℕ, ℤ, List, [], ◌∷◌, Result, Ok}
-use Rattle.evidence_format.specs.Lines.{Lines}
-use Rattle.evidence_format.specs.Readers.{many_at, end_at}
-use Rattle.evidence_format.specs.Reading.{Read, ◌>>=◌, line_at}
-use Rattle.evidence_format.specs.Words.{same_of}
+use Rattle.line_texts.specs.Lines.{Lines}
+use Rattle.line_texts.specs.Reading.{many_at, end_at, Read, ◌>>=◌, line_at}
+use Rattle.line_texts.specs.Words.{same_of}
 use Rattle.seconds_core.specs.Evidence.{PlainEvidence, Placed, Cycle}
 use Rattle.seconds_core.specs.declared.line.Line.{Line}
 use Rattle.seconds_format.specs.declared.head.Head.{Head}

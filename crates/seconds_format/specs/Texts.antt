@@ -3,8 +3,8 @@ use Rattle.std.specs.Prelude.{◌≡◌, ℕ, ℤ, List, [], ◌∷◌, ◌++◌
 use Rattle.std.specs.Fmt.{signed_decimal}
 use Rattle.std.specs.Int.{w64}
 use Rattle.std.specs.List.{All, concat}
-use Rattle.evidence_format.specs.Evidence.{IsNumber, last_line, one_number, two_numbers}
-use Rattle.evidence_format.specs.Lines.{Lines}
+use Rattle.line_texts.specs.Numbers.{IsNumber, one_number, two_numbers}
+use Rattle.line_texts.specs.Lines.{last_line, Lines}
 use Rattle.seconds_core.specs.Evidence.{ArePairs, PlainEvidence, Placed, Cycle}
 use Rattle.seconds_core.specs.declared.line.Line.{Line}
 use Rattle.seconds_core.specs.declared.line.Line.TheVariants.{Span, Via, Lower, Upper, Least, Most}

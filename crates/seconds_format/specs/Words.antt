@@ -1,6 +1,6 @@
 -- Serves the code: the seconds of one line, read from left to right.
 use Rattle.std.specs.Prelude.{ℕ, zero, suc, ◌^◌, nat_lt, ◌==◌, ℤ, pos, negsuc, List, [], ◌∷◌, Option, Some, None, if◌then◌else◌, codes}
-use Rattle.evidence_format.specs.Words.{◌>>=◌, after, alone, long_to}
+use Rattle.line_texts.specs.Words.{◌>>=◌, after, alone, long_to}
 
 -- a number as a second
 unfoldable pub second_of : ℕ → Option ℤ

@@ -1,7 +1,8 @@
 -- Serves the code: the bytes of a placing or a cycle, as they are written.
 use Rattle.std.specs.Prelude.{ℕ, ℤ, List, ◌++◌, length, codes}
 use Rattle.std.specs.List.{flat_map}
-use Rattle.evidence_format.specs.Evidence.{last_line, one_number}
+use Rattle.line_texts.specs.Lines.{last_line}
+use Rattle.line_texts.specs.Numbers.{one_number}
 use Rattle.seconds_core.specs.Evidence.{PlainEvidence, Placed, Cycle}
 use Rattle.seconds_core.specs.declared.line.Line.{Line}
 use Rattle.seconds_format.specs.Texts.{at_line, cycle_line, first_line, pairs_of}

@@ -1,13 +1,13 @@
 //! Reading cycles.
-ghost use Rattle.evidence_format.specs.Given.{GivesOrStops};
-ghost use Rattle.evidence_format.specs.Lines.{lines_of};
-ghost use Rattle.evidence_format.specs.Reading.{line_at};
+ghost use Rattle.line_texts.specs.Given.{GivesOrStops};
+ghost use Rattle.line_texts.specs.Lines.{lines_of};
+ghost use Rattle.line_texts.specs.Reading.{line_at};
 ghost use Rattle.seconds_core.specs.Evidence.{max_lines};
 ghost use Rattle.seconds_format.specs.Forms as forms;
 ghost use Rattle.seconds_format.specs.Readers as readers;
 ghost use Rattle.std.specs.Prelude.{IfOk, length, ◌<◌, ◌≡◌};
 
-use evidence_format::line_texts::{Stop, next_line, one_of, two_of};
+use line_texts::{Stop, next_line, one_of, two_of};
 use net_core::List;
 use seconds_core::{Cycle, Line};
 use std::alloc::Global;

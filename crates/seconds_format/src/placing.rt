@@ -1,7 +1,7 @@
 //! Reading placings.
-ghost use Rattle.evidence_format.specs.Given.{GivesOrStops};
-ghost use Rattle.evidence_format.specs.Lines.{lines_of};
-ghost use Rattle.evidence_format.specs.Reading.{line_at};
+ghost use Rattle.line_texts.specs.Given.{GivesOrStops};
+ghost use Rattle.line_texts.specs.Lines.{lines_of};
+ghost use Rattle.line_texts.specs.Reading.{line_at};
 ghost use Rattle.seconds_core.specs.Evidence.{ArePairs};
 ghost use Rattle.seconds_format.specs.Readers as readers;
 ghost use Rattle.seconds_format.specs.Texts.{pairs_of};
@@ -9,7 +9,7 @@ ghost use Rattle.seconds_format.specs.Words as words;
 ghost use Rattle.std.specs.Prelude.{IfOk, OnOk, length, ◌%◌, ◌*◌, ◌+◌, ◌<◌, ◌≡◌, ◌++◌, ◌∷◌, []};
 
 use crate::seconds::pair_of;
-use evidence_format::line_texts::{Stop, next_line};
+use line_texts::{Stop, next_line};
 use net_core::{List, Memory};
 use seconds_core::Placing;
 use std::alloc::Global;

@@ -1,6 +1,6 @@
 //! Reading placings and cycles.
-ghost use Rattle.evidence_format.specs.Given.{GivesOrStops};
-ghost use Rattle.evidence_format.specs.Lines.{lines_of};
+ghost use Rattle.line_texts.specs.Given.{GivesOrStops};
+ghost use Rattle.line_texts.specs.Lines.{lines_of};
 ghost use Rattle.net_core.specs.Limits.{max_evidence};
 ghost use Rattle.seconds_core.specs.Evidence.{PlainEvidence};
 ghost use Rattle.seconds_core.specs.View.{evidence_of};
@@ -12,8 +12,7 @@ ghost use Rattle.std.specs.Prelude.{IfErr, IfOk, length, ◌≤◌};
 use crate::cycle::cycle_at;
 use crate::head::{Head, head_at};
 use crate::placing::placing_at;
-use evidence_format::ReadEvidence;
-use evidence_format::line_texts::{Stop, end_at, line_of, same_at};
+use line_texts::{ReadEvidence, Stop, end_at, line_of, same_at};
 use seconds_core::SecondsEvidence;
 use std::alloc::Global;
 

@@ -2,7 +2,7 @@
 ghost use Rattle.seconds_format.specs.Words as words;
 ghost use Rattle.std.specs.Prelude.{◌≡◌, option_map};
 
-use evidence_format::line_texts::{after, long_to};
+use line_texts::{after, long_to};
 
 /// The second up to the byte that ends it, and what follows that byte: in decimal, without leading zeros, and with the
 /// sign - exactly where it is before second 0. So `-0` is none.

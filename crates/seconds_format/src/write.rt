@@ -7,8 +7,8 @@ ghost use Rattle.std.specs.Fmt.{signed_decimal};
 ghost use Rattle.std.specs.List.{All, AllByRecursion, flat_map};
 ghost use Rattle.std.specs.Prelude.{IfOk, OnOk, codes, length, ◌++◌, ◌<◌, ◌≡◌};
 
-use evidence_format::line_texts::{push_one, push_two};
 use itoa::Buffer;
+use line_texts::{push_one, push_two};
 use net_core::{List, Memory};
 use seconds_core::{Line, SecondsEvidence};
 use std::alloc::{AllocError, Global};

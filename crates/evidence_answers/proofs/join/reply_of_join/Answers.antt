@@ -1,8 +1,7 @@
 use Rattle.std.proofs.Common.{[], ◌∷◌, ◌+◌, ◌∙◌, sym, subst, refl, arith, Option}
 use Rattle.std.proofs.lemmas.Result.{IfOk-weaker}
 use Rattle.evidence_format.proofs.Claims.{are_claims}
-use Rattle.tml_io.specs.Files.{IsThere}
-use Rattle.tml_io.specs.Files.{Files}
+use Rattle.tml_io.specs.Files.{IsThere, Files}
 use Rattle.tml_run.specs.Rows.{Rows}
 use Rattle.tml_run.specs.TwoFiles.{IsPassed, after_first}
 use Rattle.tml_run.specs.View.{finding_status}

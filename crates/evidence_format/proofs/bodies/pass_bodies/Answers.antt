@@ -1,9 +1,10 @@
 use Rattle.std.proofs.Common.{[], ◌∷◌, ◌++◌}
 use Rattle.std.proofs.lemmas.Result.{err_from_is_err_and}
-use Rattle.evidence_format.specs.Lines.{lines_of}
-use Rattle.evidence_format.specs.Readers.{many_at, body_at}
+use Rattle.line_texts.specs.Lines.{lines_of}
+use Rattle.line_texts.specs.Reading.{many_at}
+use Rattle.evidence_format.specs.Readers.{body_at}
 use Rattle.evidence_format.specs.View.{plain_body}
-use Rattle.evidence_format.proofs.Loops.{goes_on, ends, is_done}
+use Rattle.line_texts.proofs.Loops.{goes_on, ends, is_done}
 use Rattle.evidence_format.proofs.bodies.pass_bodies.Goals as goal
 
 pub returns-in_err-after : goal.returns-in_err-after

@@ -1,8 +1,9 @@
 use Rattle.std.proofs.Common.{◌≡◌, ◌-◌, List}
 use Rattle.evidence_format.specs.Evidence.{PlainEvidence}
-use Rattle.evidence_format.specs.Lines.{lines_of}
-use Rattle.evidence_format.specs.Readers.{many_at, body_at}
-use Rattle.evidence_format.proofs.Loops.{with_prefix}
+use Rattle.line_texts.specs.Lines.{lines_of}
+use Rattle.line_texts.specs.Reading.{many_at}
+use Rattle.evidence_format.specs.Readers.{body_at}
+use Rattle.line_texts.proofs.Loops.{with_prefix}
 use Rattle.evidence_format.proofs.bodies.pass_bodies.Given as goal
 
 -- what was read and what is still read are all

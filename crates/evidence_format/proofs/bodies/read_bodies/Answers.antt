@@ -1,5 +1,6 @@
 use Rattle.std.proofs.Common.{◌≤◌, length, subst}
-use Rattle.evidence_format.proofs.Reading.{bundles, is_found}
+use Rattle.evidence_format.proofs.Reading.{bundles}
+use Rattle.line_texts.proofs.Reading.{is_found}
 use Rattle.evidence_format.proofs.Claims.{few_claims}
 use Rattle.evidence_format.proofs.bodies.read_bodies.Goals as goal
 

@@ -1,11 +1,12 @@
 use Rattle.std.proofs.Common.{List, ℕ, Err, map, subst}
 use Rattle.std.proofs.lemmas.List.{length-map}
-use Rattle.evidence_format.specs.declared.read.ReadEvidence.{ReadEvidence}
-use Rattle.evidence_format.specs.declared.read.ReadEvidence.TheVariants as read_evidence
+use Rattle.line_texts.specs.declared.read.ReadEvidence.{ReadEvidence}
+use Rattle.line_texts.specs.declared.read.ReadEvidence.TheVariants as read_evidence
 use Rattle.evidence_format.specs.Evidence.{PlainEvidence}
 use Rattle.evidence_format.specs.Bundles.{IsCount, IsTextOfEither, ReadsBundle, RefusesText, TellsBadLineOfEither}
 use Rattle.evidence_format.specs.View.{plain}
-use Rattle.evidence_format.proofs.Reading.{bundles, one_of_texts}
+use Rattle.evidence_format.proofs.Reading.{bundles}
+use Rattle.line_texts.proofs.Reading.{one_of_texts}
 use Rattle.evidence_format.proofs.Claims.{count_of, few_claims, well_formed_claims}
 use Rattle.evidence_format.proofs.bundle.read_bundle.Goals as goal
 

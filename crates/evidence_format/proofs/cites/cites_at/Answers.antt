@@ -1,6 +1,6 @@
 use Rattle.std.proofs.Common.{◌-◌, arith}
 use Rattle.std.proofs.lemmas.Result.{err_from_is_err_and}
-use Rattle.evidence_format.specs.Lines.{lines_of}
+use Rattle.line_texts.specs.Lines.{lines_of}
 use Rattle.evidence_format.specs.Readers.{cites_at}
 use Rattle.evidence_format.proofs.CiteLaws.{cites_go_on, cites_end, cites_done}
 use Rattle.evidence_format.proofs.cites.cites_at.Goals as goal

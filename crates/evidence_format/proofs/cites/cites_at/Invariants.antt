@@ -1,7 +1,7 @@
 use Rattle.std.proofs.Common.{◌≡◌}
-use Rattle.evidence_format.specs.Lines.{lines_of}
+use Rattle.line_texts.specs.Lines.{lines_of}
 use Rattle.evidence_format.specs.Readers.{cites_at}
-use Rattle.evidence_format.proofs.Loops.{with_prefix}
+use Rattle.line_texts.proofs.Loops.{with_prefix}
 use Rattle.evidence_format.proofs.cites.cites_at.Given as goal
 
 -- what was read and what is still read are all

@@ -1,5 +1,6 @@
 use Rattle.std.proofs.Common.{sym, ◌∙◌}
-use Rattle.evidence_format.proofs.Reading.{bundles, one_of_texts}
+use Rattle.evidence_format.proofs.Reading.{bundles}
+use Rattle.line_texts.proofs.Reading.{one_of_texts}
 use Rattle.evidence_format.proofs.laws.one_bundle_text.Goals as goal
 
 pub returns-clause-texts : goal.returns-clause-texts

@@ -1,7 +1,8 @@
 use Rattle.std.proofs.Common.{sym, subst}
-use Rattle.evidence_format.specs.Lines.{lines_of}
+use Rattle.line_texts.specs.Lines.{lines_of}
 use Rattle.evidence_format.specs.Begun.{IsBadLine}
-use Rattle.evidence_format.proofs.Reading.{texts, is_found, is_read, is_bad, not_both}
+use Rattle.evidence_format.proofs.Reading.{texts}
+use Rattle.line_texts.proofs.Reading.{is_found, is_read, is_bad, not_both}
 use Rattle.evidence_format.specs.View.{plain}
 use Rattle.evidence_format.proofs.read.read_evidence.Goals as goal
 

@@ -1,12 +1,11 @@
 use Rattle.std.specs.Prelude.{codes}
-use Rattle.std.proofs.Common.{◌∷◌, [], ◌++◌, append_assoc}
+use Rattle.std.proofs.Common.{[], ◌∷◌, ◌++◌, append_assoc}
 use Rattle.std.proofs.lemmas.Result.{err_from_is_err_and}
 use Rattle.net_core.specs.Ranks.{ranks_of}
-use Rattle.evidence_format.specs.Lines.{lines_of}
-use Rattle.evidence_format.specs.Reading.{line_at}
-use Rattle.evidence_format.specs.Words.{two_of}
-use Rattle.evidence_format.specs.Readers.{many_at}
-use Rattle.evidence_format.proofs.Loops.{goes_on, ends, is_done}
+use Rattle.line_texts.specs.Lines.{lines_of}
+use Rattle.line_texts.specs.Reading.{line_at, many_at}
+use Rattle.line_texts.specs.Words.{two_of}
+use Rattle.line_texts.proofs.Loops.{goes_on, ends, is_done}
 use Rattle.evidence_format.proofs.Parted.{ranks_push}
 use Rattle.evidence_format.proofs.timeline.push_ranks_at.Goals as goal
 

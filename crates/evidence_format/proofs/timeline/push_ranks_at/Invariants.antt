@@ -1,11 +1,10 @@
 use Rattle.std.proofs.Common.{◌≡◌, ℕ, ◌-◌, ◌++◌, List}
 use Rattle.std.specs.Prelude.{codes}
 use Rattle.net_core.specs.Ranks.{ranks_of}
-use Rattle.evidence_format.specs.Lines.{lines_of}
-use Rattle.evidence_format.specs.Reading.{line_at}
-use Rattle.evidence_format.specs.Words.{two_of}
-use Rattle.evidence_format.specs.Readers.{many_at}
-use Rattle.evidence_format.proofs.Loops.{with_prefix}
+use Rattle.line_texts.specs.Lines.{lines_of}
+use Rattle.line_texts.specs.Reading.{line_at, many_at}
+use Rattle.line_texts.specs.Words.{two_of}
+use Rattle.line_texts.proofs.Loops.{with_prefix}
 use Rattle.evidence_format.proofs.timeline.push_ranks_at.Given as goal
 
 -- what was read was appended, and it and what is still read are all

@@ -1,10 +1,11 @@
 use Rattle.std.proofs.Common.{length, map, ap}
 use Rattle.std.proofs.lemmas.Result.{err_from_is_err_and}
 use Rattle.net_core.specs.Ranks.{pairs_of}
-use Rattle.evidence_format.specs.Lines.{lines_of}
-use Rattle.evidence_format.specs.Readers.{many_at, timeline_at}
+use Rattle.line_texts.specs.Lines.{lines_of}
+use Rattle.line_texts.specs.Reading.{many_at}
+use Rattle.evidence_format.specs.Readers.{timeline_at}
 use Rattle.evidence_format.specs.Timelines.{parts_of}
-use Rattle.evidence_format.proofs.Loops.{goes_on, ends, is_done}
+use Rattle.line_texts.proofs.Loops.{goes_on, ends, is_done}
 use Rattle.evidence_format.proofs.Parted.{timeline_push}
 use Rattle.evidence_format.proofs.timeline.timelines_at.Goals as goal
 

@@ -1,9 +1,10 @@
 use Rattle.std.proofs.Common.{◌≡◌, ◌-◌, map}
 use Rattle.net_core.specs.Ranks.{pairs_of}
-use Rattle.evidence_format.specs.Lines.{lines_of}
-use Rattle.evidence_format.specs.Readers.{many_at, timeline_at}
+use Rattle.line_texts.specs.Lines.{lines_of}
+use Rattle.line_texts.specs.Reading.{many_at}
+use Rattle.evidence_format.specs.Readers.{timeline_at}
 use Rattle.evidence_format.specs.Timelines.{AreParts, parts_of}
-use Rattle.evidence_format.proofs.Loops.{with_prefix}
+use Rattle.line_texts.proofs.Loops.{with_prefix}
 use Rattle.evidence_format.proofs.timeline.timelines_at.Given as goal
 
 -- what was read is parted into timelines, and these and what is still read are all

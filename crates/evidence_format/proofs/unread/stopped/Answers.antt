@@ -1,7 +1,8 @@
 use Rattle.std.proofs.Common.{sym, subst}
-use Rattle.evidence_format.specs.Lines.{lines_of}
+use Rattle.line_texts.specs.Lines.{lines_of}
 use Rattle.evidence_format.specs.Bundles.{IsBadLineOfEither}
-use Rattle.evidence_format.proofs.Reading.{bundles, is_bad, not_both, bad_of_either}
+use Rattle.evidence_format.proofs.Reading.{bundles, bad_of_either}
+use Rattle.line_texts.proofs.Reading.{is_bad, not_both}
 use Rattle.evidence_format.proofs.unread.stopped.Goals as goal
 
 pub line_of-requires-clause-within : goal.line_of-requires-clause-within

@@ -1,9 +1,8 @@
 use Rattle.std.proofs.lemmas.Result.{err_from_is_err_and}
-use Rattle.evidence_format.specs.Lines.{lines_of}
-use Rattle.evidence_format.specs.Reading.{line_at}
+use Rattle.line_texts.specs.Lines.{lines_of}
+use Rattle.line_texts.specs.Reading.{line_at, many_at}
 use Rattle.evidence_format.specs.Forms.{step_of}
-use Rattle.evidence_format.specs.Readers.{many_at}
-use Rattle.evidence_format.proofs.Loops.{goes_on, ends, is_done}
+use Rattle.line_texts.proofs.Loops.{goes_on, ends, is_done}
 use Rattle.evidence_format.proofs.walks.steps_at.Goals as goal
 
 pub returns-in_err-step : goal.returns-in_err-step

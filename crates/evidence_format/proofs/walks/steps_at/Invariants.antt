@@ -1,9 +1,8 @@
 use Rattle.std.proofs.Common.{◌≡◌, ◌-◌}
-use Rattle.evidence_format.specs.Lines.{lines_of}
-use Rattle.evidence_format.specs.Reading.{line_at}
+use Rattle.line_texts.specs.Lines.{lines_of}
+use Rattle.line_texts.specs.Reading.{line_at, many_at}
 use Rattle.evidence_format.specs.Forms.{step_of}
-use Rattle.evidence_format.specs.Readers.{many_at}
-use Rattle.evidence_format.proofs.Loops.{with_prefix}
+use Rattle.line_texts.proofs.Loops.{with_prefix}
 use Rattle.evidence_format.proofs.walks.steps_at.Given as goal
 
 -- what was read and what is still read are all

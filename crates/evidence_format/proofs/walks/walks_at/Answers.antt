@@ -1,7 +1,8 @@
 use Rattle.std.proofs.lemmas.Result.{err_from_is_err_and}
-use Rattle.evidence_format.specs.Lines.{lines_of}
-use Rattle.evidence_format.specs.Readers.{many_at, walk_at}
-use Rattle.evidence_format.proofs.Loops.{goes_on, ends, is_done}
+use Rattle.line_texts.specs.Lines.{lines_of}
+use Rattle.line_texts.specs.Reading.{many_at}
+use Rattle.evidence_format.specs.Readers.{walk_at}
+use Rattle.line_texts.proofs.Loops.{goes_on, ends, is_done}
 use Rattle.evidence_format.proofs.walks.walks_at.Goals as goal
 
 pub returns-in_err-walk : goal.returns-in_err-walk

@@ -1,7 +1,8 @@
 use Rattle.std.proofs.Common.{◌≡◌, ◌-◌}
-use Rattle.evidence_format.specs.Lines.{lines_of}
-use Rattle.evidence_format.specs.Readers.{many_at, walk_at}
-use Rattle.evidence_format.proofs.Loops.{with_prefix}
+use Rattle.line_texts.specs.Lines.{lines_of}
+use Rattle.line_texts.specs.Reading.{many_at}
+use Rattle.evidence_format.specs.Readers.{walk_at}
+use Rattle.line_texts.proofs.Loops.{with_prefix}
 use Rattle.evidence_format.proofs.walks.walks_at.Given as goal
 
 -- what was read and what is still read are all

@@ -1,4 +1,4 @@
-use Rattle.std.proofs.Common.{◌∷◌, [], ◌∙◌}
+use Rattle.std.proofs.Common.{[], ◌∷◌, ◌∙◌}
 use Rattle.evidence_format.specs.Evidence.{IsWellFormed}
 use Rattle.evidence_format.specs.View.{plain}
 use Rattle.evidence_format.proofs.BundleLaws.{one_claim}

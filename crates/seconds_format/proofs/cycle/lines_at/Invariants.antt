@@ -1,8 +1,7 @@
 use Rattle.std.proofs.Common.{◌≡◌, ◌-◌, length}
-use Rattle.evidence_format.specs.Lines.{lines_of}
-use Rattle.evidence_format.specs.Reading.{line_at}
-use Rattle.evidence_format.specs.Readers.{many_at}
-use Rattle.evidence_format.proofs.Loops.{with_prefix}
+use Rattle.line_texts.specs.Lines.{lines_of}
+use Rattle.line_texts.specs.Reading.{line_at, many_at}
+use Rattle.line_texts.proofs.Loops.{with_prefix}
 use Rattle.seconds_format.specs.Forms.{cycle_line_of}
 use Rattle.seconds_format.proofs.cycle.lines_at.Given as goal
 

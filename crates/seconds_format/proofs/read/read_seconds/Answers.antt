@@ -1,6 +1,6 @@
 use Rattle.std.proofs.Common.{sym, subst}
-use Rattle.evidence_format.specs.Lines.{lines_of}
-use Rattle.evidence_format.proofs.Reading.{is_bad, is_found, is_read, not_both}
+use Rattle.line_texts.specs.Lines.{lines_of}
+use Rattle.line_texts.proofs.Reading.{is_bad, is_found, is_read, not_both}
 use Rattle.seconds_core.specs.View.{evidence_of}
 use Rattle.seconds_format.specs.Begun.{IsBadLine}
 use Rattle.seconds_format.proofs.Reading.{texts}

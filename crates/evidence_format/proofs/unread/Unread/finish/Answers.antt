@@ -1,6 +1,7 @@
-use Rattle.evidence_format.specs.Lines.{lines_of}
+use Rattle.line_texts.specs.Lines.{lines_of}
 use Rattle.evidence_format.proofs.OneByOne.{all_read, no_end}
-use Rattle.evidence_format.proofs.Reading.{bundles, is_found}
+use Rattle.evidence_format.proofs.Reading.{bundles}
+use Rattle.line_texts.proofs.Reading.{is_found}
 use Rattle.evidence_format.proofs.unread.Unread.finish.Goals as goal
 
 pub stopped-requires-clause-stop : goal.stopped-requires-clause-stop

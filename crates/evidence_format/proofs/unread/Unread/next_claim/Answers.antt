@@ -1,4 +1,4 @@
-use Rattle.evidence_format.specs.Lines.{lines_of}
+use Rattle.line_texts.specs.Lines.{lines_of}
 use Rattle.evidence_format.specs.View.{plain_body}
 use Rattle.evidence_format.proofs.OneByOne.{good_claim, none_follows, one_read}
 use Rattle.evidence_format.proofs.unread.Unread.next_claim.Goals as goal

@@ -1,4 +1,4 @@
-use Rattle.evidence_format.specs.Lines.{lines_of}
+use Rattle.line_texts.specs.Lines.{lines_of}
 use Rattle.evidence_format.proofs.OneByOne.{none_begun, none_read}
 use Rattle.evidence_format.proofs.unread.Unread.of_text.Goals as goal
 

@@ -1,0 +1,11 @@
+pub mod Numbers
+pub mod Digits
+pub mod Cutting
+pub mod WordLaws
+pub mod LineLaws
+pub mod Exact
+pub mod ReaderLaws
+pub mod TextLaws
+pub mod Loops
+pub mod Reading
+pub mod PartLaws

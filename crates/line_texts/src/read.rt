@@ -1,0 +1,31 @@
+//! Why no value was read, and at which line.
+ghost use Rattle.line_texts.specs.Lines.{is_lf};
+ghost use Rattle.net_core.specs.Limits.{max_evidence};
+ghost use Rattle.std.specs.List.{count_by};
+ghost use Rattle.std.specs.Prelude.{◌≡◌, ◌≤◌, ◌+◌, ◌-◌, length, take};
+
+/// Why no evidence was read.
+#[derive(Clone, Copy)]
+pub enum ReadEvidence {
+    /// The number, counted from 1, of the first line with which the lines so far begin no text of evidence, or of the
+    /// line that would come next where the text ends early. A line without LF is bad.
+    BadLine { line: u32 },
+    /// Out of memory.
+    Memory,
+}
+
+/// The number, counted from 1, of the line at which the rest of a text begins.
+pub fn line_of(text: &[u8], rest: &[u8]) -> u32
+    requires within { length rest.now ≤ length text.now }
+    requires limit { length text.now ≤ max_evidence }
+    ensures { result ≡ count_by is_lf (take (length text.now - length rest.now) text.now) + 1 }
+{
+    let read = &text[..text.len() - rest.len()];
+    let mut line = 1;
+    for b in read {
+        if *b == b'\n' {
+            line += 1;
+        }
+    }
+    line
+}
