@@ -17,6 +17,8 @@ use net_orders::{
 };
 use order_closure::Closed;
 use std::alloc::Global;
+use std::error::Error;
+use std::fmt;
 
 /// Why there is no closure.
 #[derive(Drop)]
@@ -26,6 +28,23 @@ pub enum CloseFault {
     /// Out of memory.
     Memory,
 }
+
+impl fmt::Debug for CloseFault {
+    fn fmt<W: fmt::Write>(&self, f: &mut fmt::Formatter<W>) -> fmt::Result {
+        write!(f, "{self}")
+    }
+}
+
+impl fmt::Display for CloseFault {
+    fn fmt<W: fmt::Write>(&self, f: &mut fmt::Formatter<W>) -> fmt::Result {
+        f.write_str(match self {
+            CloseFault::Clash(_) => "no timeline fits the net",
+            CloseFault::Memory => "out of memory",
+        })
+    }
+}
+
+impl Error for CloseFault {}
 
 impl From<Memory> for CloseFault {
     ghost from_gives = { λ _ e. e ≡ faults.Memory };

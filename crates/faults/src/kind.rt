@@ -4,10 +4,11 @@ ghost use Rattle.std.proofs.Common.{rules};
 ghost use Rattle.std.specs.Prelude.{◌≡◌};
 
 use named::Named;
+use std::fmt;
 
 /// A kind of fault of a document. Where one place has several, the one with the least number counts, which is the first
 /// in this order. `docs/DEFINITIONS.md` says exactly when each is there.
-#[derive(Clone, Copy)]
+#[derive(Clone, Copy, Debug, PartialEq, Eq)]
 pub enum FaultKind {
     /// The bytes are not UTF-8.
     NotUtf8,
@@ -110,5 +111,16 @@ impl Named for FaultKind {
 
     fn text(self) -> &'static [u8] {
         self.name()
+    }
+}
+
+/// Writes the kind of a fault and its place, or that memory ran out where there is none.
+pub fn write_fault<W: fmt::Write>(
+    f: &mut fmt::Formatter<W>,
+    fault: Option<(FaultKind, u32)>,
+) -> fmt::Result {
+    match fault {
+        Some((kind, place)) => write!(f, "{kind:?} at byte {place}"),
+        None => f.write_str("out of memory"),
     }
 }

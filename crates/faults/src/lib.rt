@@ -4,5 +4,5 @@
 mod kind;
 mod laws;
 
-pub use kind::FaultKind;
+pub use kind::{FaultKind, write_fault};
 pub use laws::kinds_are_numbered;

@@ -4,8 +4,11 @@ ghost use Rattle.net_core.specs.Limits.{max_evidence};
 ghost use Rattle.std.specs.List.{count_by};
 ghost use Rattle.std.specs.Prelude.{◌≡◌, ◌≤◌, ◌+◌, ◌-◌, length, take};
 
+use std::error::Error;
+use std::fmt;
+
 /// Why no evidence was read.
-#[derive(Clone, Copy)]
+#[derive(Clone, Copy, Debug, PartialEq, Eq)]
 pub enum ReadEvidence {
     /// The number, counted from 1, of the first line with which the lines so far begin no text of evidence, or of the
     /// line that would come next where the text ends early. A line without LF is bad.
@@ -13,6 +16,17 @@ pub enum ReadEvidence {
     /// Out of memory.
     Memory,
 }
+
+impl fmt::Display for ReadEvidence {
+    fn fmt<W: fmt::Write>(&self, f: &mut fmt::Formatter<W>) -> fmt::Result {
+        match self {
+            ReadEvidence::BadLine { line } => write!(f, "line {line} is bad"),
+            ReadEvidence::Memory => f.write_str("out of memory"),
+        }
+    }
+}
+
+impl Error for ReadEvidence {}
 
 /// The number, counted from 1, of the line at which the rest of a text begins.
 pub fn line_of(text: &[u8], rest: &[u8]) -> u32

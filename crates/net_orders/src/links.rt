@@ -10,6 +10,8 @@ ghost use Rattle.std.specs.Prelude.{IfErr, OnOk, length, ◌*◌, ◌+◌, ◌<�
 use crate::insert::insert;
 use net_core::{Atom, Atoms, Net, atoms_of};
 use order_closure::{Closed, WouldClash};
+use std::error::Error;
+use std::fmt;
 
 /// The order of the start and the end of an interval.
 pub fn span_order(interval: u32) -> Atom
@@ -24,10 +26,18 @@ pub fn span_order(interval: u32) -> Atom
 }
 
 /// The first link that clashes with those before it.
-#[derive(Clone, Copy)]
+#[derive(Clone, Copy, Debug, PartialEq, Eq)]
 pub struct FirstClash {
     pub link: u32,
 }
+
+impl fmt::Display for FirstClash {
+    fn fmt<W: fmt::Write>(&self, f: &mut fmt::Formatter<W>) -> fmt::Result {
+        write!(f, "link {} clashes with those before it", self.link)
+    }
+}
+
+impl Error for FirstClash {}
 
 /// Adds that each link holds.
 pub fn add_links(table: &mut Closed, net: &Net) -> Result<(), FirstClash>

@@ -11,11 +11,21 @@ use crate::planes::{MOST_WORDS, cell_at, clear, copied_row, reflect, row};
 use crate::rows::{join_row, raise};
 use net_core::{Atom, Memory};
 use std::alloc::Global;
+use std::error::Error;
+use std::fmt;
 use std::marker::Model;
 
 /// An atom that the table denies.
-#[derive(Clone, Copy)]
+#[derive(Clone, Copy, Debug, PartialEq, Eq)]
 pub struct WouldClash;
+
+impl fmt::Display for WouldClash {
+    fn fmt<W: fmt::Write>(&self, f: &mut fmt::Formatter<W>) -> fmt::Result {
+        f.write_str("the table denies the atom")
+    }
+}
+
+impl Error for WouldClash {}
 
 /// What is known of the order of each two of some points. It is closed: each point is with itself, and what follows from
 /// two cells stands in a third. It is kept as two planes of bits, whose rows have `width` words: in the one, bit j of row i

@@ -10,6 +10,8 @@ use crate::relaxation::Distances;
 use net_core::Memory;
 use seconds_core::{Cycle, Placing, Timed};
 use std::alloc::Global;
+use std::error::Error;
+use std::fmt;
 
 /// Why intervals are not placed.
 #[derive(Drop)]
@@ -19,6 +21,23 @@ pub enum PlaceFault {
     /// Out of memory.
     Memory,
 }
+
+impl fmt::Debug for PlaceFault {
+    fn fmt<W: fmt::Write>(&self, f: &mut fmt::Formatter<W>) -> fmt::Result {
+        write!(f, "{self}")
+    }
+}
+
+impl fmt::Display for PlaceFault {
+    fn fmt<W: fmt::Write>(&self, f: &mut fmt::Formatter<W>) -> fmt::Result {
+        f.write_str(match self {
+            PlaceFault::Negative(_) => "no placing meets all constraints",
+            PlaceFault::Memory => "out of memory",
+        })
+    }
+}
+
+impl Error for PlaceFault {}
 
 impl From<Memory> for PlaceFault {
     ghost from_gives = { λ _ e. e ≡ faults.Memory };

@@ -6,12 +6,14 @@ ghost use Rattle.tml_refs.specs.Rules.{HasReferenceFault};
 
 use crate::document::Document;
 use crate::resolver::Resolver;
-use faults::FaultKind;
+use faults::{FaultKind, write_fault};
 use std::alloc::Global;
+use std::error::Error;
+use std::fmt;
 use tml_types::Typed;
 
 /// The first tag that is at fault, by the place where it begins, and its first fault.
-#[derive(Clone, Copy)]
+#[derive(Clone, Copy, Debug, PartialEq, Eq)]
 pub enum RefFault {
     /// The identifier of the tag is that of a tag before it, of whatever kind.
     DuplicateId { place: u32 },
@@ -39,6 +41,14 @@ impl RefFault {
         }
     }
 }
+
+impl fmt::Display for RefFault {
+    fn fmt<W: fmt::Write>(&self, f: &mut fmt::Formatter<W>) -> fmt::Result {
+        write_fault(f, self.kind_and_place())
+    }
+}
+
+impl Error for RefFault {}
 
 /// Resolves the references of typed tags, which are taken one by one.
 ///

@@ -2,10 +2,12 @@
 ghost use Rattle.std.specs.Prelude.{◌≡◌};
 ghost use Rattle.tml_span.specs.Faults as faults;
 
-use faults::FaultKind;
+use faults::{FaultKind, write_fault};
+use std::error::Error;
+use std::fmt;
 
 /// The fault of a source.
-#[derive(Clone, Copy)]
+#[derive(Clone, Copy, Debug, PartialEq, Eq)]
 pub enum PlainCut {
     /// The source is not UTF-8: its longest valid prefix has `place` bytes.
     NotUtf8 { place: u32 },
@@ -28,8 +30,16 @@ impl PlainCut {
     }
 }
 
+impl fmt::Display for PlainCut {
+    fn fmt<W: fmt::Write>(&self, f: &mut fmt::Formatter<W>) -> fmt::Result {
+        write_fault(f, Some(self.kind_and_place()))
+    }
+}
+
+impl Error for PlainCut {}
+
 /// Why there is no list of all units of a source.
-#[derive(Clone, Copy)]
+#[derive(Clone, Copy, Debug, PartialEq, Eq)]
 pub enum Cut {
     /// The source is not UTF-8: its longest valid prefix has `place` bytes.
     NotUtf8 { place: u32 },
@@ -54,6 +64,14 @@ impl Cut {
         }
     }
 }
+
+impl fmt::Display for Cut {
+    fn fmt<W: fmt::Write>(&self, f: &mut fmt::Formatter<W>) -> fmt::Result {
+        write_fault(f, self.kind_and_place())
+    }
+}
+
+impl Error for Cut {}
 
 /// The fault of a source, where a list of its units is asked for.
 pub fn cut_of(fault: PlainCut) -> Cut

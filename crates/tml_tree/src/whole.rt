@@ -8,13 +8,15 @@ ghost use Rattle.tml_tree.specs.View.{tag_node};
 
 use crate::Tag;
 use crate::builder::Builder;
-use faults::FaultKind;
+use faults::{FaultKind, write_fault};
 use std::alloc::Global;
+use std::error::Error;
+use std::fmt;
 use tml_span::Unit;
 
 /// Why units make no tree. A place is the first byte of the unit at fault, which is the first that breaks a rule. Of
 /// several rules that it breaks the first in this order counts.
-#[derive(Clone, Copy)]
+#[derive(Clone, Copy, Debug, PartialEq, Eq)]
 pub enum TreeFault {
     /// A start or empty tag whose name is not known.
     UnknownTag { place: u32 },
@@ -47,6 +49,14 @@ impl TreeFault {
         }
     }
 }
+
+impl fmt::Display for TreeFault {
+    fn fmt<W: fmt::Write>(&self, f: &mut fmt::Formatter<W>) -> fmt::Result {
+        write_fault(f, self.kind_and_place())
+    }
+}
+
+impl Error for TreeFault {}
 
 /// The root of the document that the units make. The source of the units has this length.
 pub fn root<'s>(alloc: Global, length: u32, units: Vec<Unit<'s>>) -> Result<Tag<'s>, TreeFault>

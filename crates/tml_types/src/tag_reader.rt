@@ -13,13 +13,15 @@ use crate::TypeFault;
 use crate::attributes::Attributes;
 use crate::typed::TypedTag;
 use crate::typing::type_one;
-use faults::FaultKind;
+use faults::{FaultKind, write_fault};
 use std::alloc::Global;
+use std::error::Error;
+use std::fmt;
 use tml_span::{Cut, Cutter, PlainCut, Unit, cut_of};
 use tml_tree::{Nesting, TagName, TreeFault};
 
 /// Why a source has no typed tags.
-#[derive(Clone, Copy)]
+#[derive(Clone, Copy, Debug, PartialEq, Eq)]
 pub enum SourceFault {
     /// It is not cut into units whole.
     Cut(Cut),
@@ -41,6 +43,14 @@ impl SourceFault {
         }
     }
 }
+
+impl fmt::Display for SourceFault {
+    fn fmt<W: fmt::Write>(&self, f: &mut fmt::Formatter<W>) -> fmt::Result {
+        write_fault(f, self.kind_and_place())
+    }
+}
+
+impl Error for SourceFault {}
 
 /// A unit of a source, and the typed tag that it begins, if it begins one.
 #[derive(Drop)]

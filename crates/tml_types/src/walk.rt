@@ -9,8 +9,10 @@ ghost use Rattle.tml_types.specs.Whole.{HasTagFault, IsAtLeastPlace, OfTree, Typ
 use crate::attributes::Attributes;
 use crate::typed::TypedTag;
 use crate::typing::type_one;
-use faults::FaultKind;
+use faults::{FaultKind, write_fault};
 use std::alloc::Global;
+use std::error::Error;
+use std::fmt;
 use std::marker::Model;
 use tml_span::List;
 use tml_tree::{Node, Tag, TagTree};
@@ -58,7 +60,7 @@ impl<'s> Typed<'s> {
 }
 
 /// The first tag that is at fault, by the place where it begins, and its first fault.
-#[derive(Clone, Copy)]
+#[derive(Clone, Copy, Debug, PartialEq, Eq)]
 pub enum TypeFault {
     /// Two attributes of the tag have one name. Empty values count too.
     RepeatedAttribute { place: u32 },
@@ -90,6 +92,14 @@ impl TypeFault {
         }
     }
 }
+
+impl fmt::Display for TypeFault {
+    fn fmt<W: fmt::Write>(&self, f: &mut fmt::Formatter<W>) -> fmt::Result {
+        write_fault(f, self.kind_and_place())
+    }
+}
+
+impl Error for TypeFault {}
 
 /// Types the tags of a tree.
 ///
