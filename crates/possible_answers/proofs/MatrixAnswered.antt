@@ -1,5 +1,5 @@
 -- A net has one matrix.
-use Rattle.std.proofs.Common.{◌≡◌, ◌↔◌, ℕ, List, false, refl, sym, ◌∙◌, arith}
+use Rattle.std.proofs.Common.{◌≡◌, ◌↔◌, ℕ, ◌+◌, ◌*◌, List, false, refl, sym, ◌∙◌, arith}
 use Rattle.clash.specs.Closures.{IsClosureOf}
 use Rattle.clash.proofs.Answered.{closed_net}
 use Rattle.net_answers.specs.Nets.{ClashIsFree}
@@ -14,7 +14,7 @@ use Rattle.order_closure.specs.declared.cell.Cell.{Cell}
 use Rattle.possible_answers.specs.Matrix.{OfMatrix, RelTest, TellsNet, TellsTable, matrix_lines, matrix_rows}
 use Rattle.possible_answers.proofs.Lines.{matrices_agree}
 use Rattle.possible_answers.proofs.Tests.{can_of, can_of_told}
-use Rattle.tml_possible.specs.Possible.{CanBe}
+use Rattle.tml_possible.specs.Possible.{CanBe, StartFirst}
 use Rattle.tml_refs.specs.Documents.{PlainDocument}
 use Rattle.tml_run.specs.Answered.{AreAnswered}
 use Rattle.tml_run.specs.OneReply.{is_broken_off}
@@ -32,6 +32,10 @@ tells_net net n cell closed size same a b both r base =
 -- and what can hold by a table with these cells
 pub tells_table : (table : Table) (closed : IsClosed table) → TellsTable table (can_of table.points (cell_at table) closed)
 tells_table table closed a b la lb r base = can_of_told table.points (cell_at table) closed a r b la lb
+
+-- by the closure of a net each interval starts before it ends
+pub closure_starts : (net : PlainNet) (table : Table) → IsClosureOf net table → StartFirst table
+closure_starts net table closure i lt = (closure.strict (2 * i) (2 * i + 1) (omega (arith, lt, closure.size)) (omega (arith, lt, closure.size))).1 (λ t fits. fits.order i (omega (arith, lt, closure.size)))
 
 -- the text of the closure is what `matrix` prints
 pub shows_matrix : (contents : PlainDocument) (net : PlainNet) (table : Table) (text : List ℕ) → IsClosureOf net table → IsClosed table

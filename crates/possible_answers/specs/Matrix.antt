@@ -1,5 +1,5 @@
 -- The command `matrix`: which base relations each two intervals of a document can have.
-use Rattle.std.specs.Prelude.{◌≡◌, ℕ, ◌+◌, ◌-◌, ◌*◌, ◌<◌, Bool, List, ◌++◌, codes, map}
+use Rattle.std.specs.Prelude.{◌≡◌, ℕ, ◌+◌, ◌-◌, ◌*◌, ◌<◌, Bool, List, ◌++◌, codes}
 use Rattle.std.specs.List.{filter, flat_map, range_with_len}
 use Rattle.answers.specs.Documents.{document_rows}
 use Rattle.answers.specs.Lines.{name_at}

@@ -3,6 +3,8 @@ ghost use Rattle.answers.specs.Names.{AreNames};
 ghost use Rattle.possible_answers.specs.Matrix.{RelTest, TellsTable, lines_from, matrix_lines, words_of};
 ghost use Rattle.possible_answers.specs.SetTexts.{AreTexts};
 ghost use Rattle.std.specs.Prelude.{IfOk, List as ListOf, OnOk, codes, length, map, ◌*◌, ◌+◌, ◌++◌, ◌<◌, ◌≡◌, ◌≤◌};
+ghost use Rattle.tml_possible.specs.OrderSets.{AreOrderSets};
+ghost use Rattle.tml_possible.specs.Possible.{StartFirst};
 ghost use Rattle.tml_possible.specs.Sets.{has};
 ghost use Rattle.tml_refs.specs.Documents.{PlainInterval};
 
@@ -12,7 +14,7 @@ use net_answers::{OfNet, answer_of_net};
 use net_core::Net;
 use order_closure::{Closed, MAX_TABLE_POINTS};
 use std::alloc::{AllocError, Global};
-use tml_possible::{BaseSet, possible_set};
+use tml_possible::{BaseSet, OrderSets};
 use tml_refs::Document;
 use tml_run::Answer;
 
@@ -60,28 +62,34 @@ fn matrix_text(
     document: &Document<'_>,
     table: &Closed,
 ) -> Result<Vec<u8>, AllocError>
-    requires { table.now.points ≡ 2 * length document.now.intervals }
+    requires points { table.now.points ≡ 2 * length document.now.intervals }
+    requires starts { StartFirst table.now }
     ensures { IfOk result (λ text. (can : RelTest) → TellsTable table.now can → text.items ≡ matrix_lines document.now.intervals (length document.now.intervals) can 0) }
 {
     let names = names_of(alloc, document)?;
+    let sets = OrderSets::new();
     let mut texts = SetTexts::new(alloc)?;
     let mut text = Vec::new(alloc);
     for a in 0..document.intervals() {
-        push_from(&mut text, &mut texts, table, &names, a)?;
+        push_from(&mut text, &mut texts, &sets, table, &names, a)?;
     }
     Ok(text)
 }
 
 /// Appends the lines of an interval and each one after it, by the names of all.
+#[inline(never)]
 fn push_from(
     out: &mut Vec<u8>,
     texts: &mut SetTexts,
+    sets: &OrderSets,
     table: &Closed,
     names: &[&[u8]],
     a: u32,
 ) -> Result<(), AllocError>
     requires points { table.now.points ≡ 2 * length names.now }
+    requires starts { StartFirst table.now }
     requires a { a < length names.now }
+    requires sets { AreOrderSets sets.now }
     requires texts { AreTexts texts.old.bytes.items texts.old.places.items }
     ensures texts { OnOk result (AreTexts texts.new.bytes.items texts.new.places.items) }
     ensures lines { OnOk result ((intervals : ListOf PlainInterval) (can : RelTest) → AreNames intervals (map (λ name. name.now) names.now) → TellsTable table.now can
@@ -90,7 +98,7 @@ fn push_from(
     prove!(table.points() <= MAX_TABLE_POINTS);
     let name = names[a as usize];
     for b in a + 1..names.len() as u32 {
-        let set = possible_set(table, a, b);
+        let set = sets.possible_set(table, a, b);
         push_line(out, texts, name, names[b as usize], set)?;
     }
     Ok(())

@@ -8,3 +8,4 @@ pub mod Growing
 pub mod Least
 pub mod Deciding
 pub mod OneList
+mod EightOrders

@@ -2,3 +2,4 @@ pub mod Possible
 pub mod Sets
 pub mod Examples
 pub mod Trying
+pub mod OrderSets

@@ -1,5 +1,5 @@
 -- The base relations that two intervals can have, and timelines that show them (Allen 1983).
-use Rattle.std.specs.Prelude.{◌≡◌, ◌⊎◌, ◌↔◌, ℕ, Bool, true, List, [], ◌∷◌, map}
+use Rattle.std.specs.Prelude.{◌≡◌, ◌⊎◌, ◌↔◌, ℕ, ◌*◌, ◌+◌, ◌<◌, Bool, true, List, [], ◌∷◌, map}
 use Rattle.std.specs.List.{All, Contains, filter}
 use Rattle.net_core.specs.BaseRelations.{base_rels}
 use Rattle.net_core.specs.Fits.{Fits, RanksFit}
@@ -8,7 +8,8 @@ use Rattle.net_core.specs.Nets.{PlainNet, points}
 use Rattle.net_core.specs.Ranks.{timeline_of}
 use Rattle.net_core.specs.Relations.{Relates, Timeline}
 use Rattle.net_core.specs.declared.rels.Rel.{Rel}
-use Rattle.order_closure.specs.Tables.{Keeps, Table}
+use Rattle.order_closure.specs.Tables.{Keeps, Table, cell_at}
+use Rattle.order_closure.specs.declared.cell.Cell.TheVariants.{Strict}
 use Rattle.tml_possible.specs.declared.timelines.PossibleItem.{PossibleItem}
 
 -- the relation holds between intervals a and b in some timeline that has a property
@@ -22,6 +23,10 @@ CanBe net a r b = HoldsInSome (Fits net) a r b
 -- it can hold, by a table: some timeline that keeps the table has it
 abbrev pub CanHold : Table → ℕ → Rel → ℕ → Type 0
 CanHold table a r b = HoldsInSome (Keeps table) a r b
+
+-- each interval starts before it ends, by a table
+abbrev pub StartFirst : Table → Type 0
+StartFirst table = (i : ℕ) → 2 * i + 1 < table.points → cell_at table (2 * i) (2 * i + 1) ≡ Strict
 
 -- a test passes the base relations that have a property, and no other base relation
 abbrev pub Tells : (Rel → Bool) → (Rel → Type 0) → Type 0

@@ -59,7 +59,7 @@ fn starts_first(closed: &Closed, interval: u32) -> bool
 }
 
 /// The base relations, as bits, of which none of these orders is false.
-fn not_denied(given: u32) -> u16
+pub fn not_denied(given: u32) -> u16
     ensures { (k : ℕ) → (bit_at result k ≡ 1) ↔ ((k < 13) × (bit_and given (slice_index FALSE_ORDERS k) ≡ 0)) }
 {
     let mut bits = 0;

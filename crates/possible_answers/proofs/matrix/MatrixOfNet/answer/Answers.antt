@@ -1,11 +1,14 @@
 use Rattle.std.proofs.Common.{◌≡◌, ℕ, arith, subst}
 use Rattle.net_build.proofs.Intervals.{as_many}
 use Rattle.possible_answers.specs.Matrix.{RelTest, TellsTable, matrix_lines}
-use Rattle.possible_answers.proofs.MatrixAnswered.{shows_matrix}
+use Rattle.possible_answers.proofs.MatrixAnswered.{closure_starts, shows_matrix}
 use Rattle.possible_answers.proofs.matrix.MatrixOfNet.answer.Goals as goal
 
-pub matrix_text-requires : goal.matrix_text-requires
-matrix_text-requires c = omega (arith, c.requires.closure.size, as_many c.args.document.now c.args._net.now c.requires.built)
+pub matrix_text-requires-clause-points : goal.matrix_text-requires-clause-points
+matrix_text-requires-clause-points c = omega (arith, c.requires.closure.size, as_many c.args.document.now c.args._net.now c.requires.built)
+
+pub matrix_text-requires-clause-starts : goal.matrix_text-requires-clause-starts
+matrix_text-requires-clause-starts c = closure_starts c.args._net.now c.args.closure.now c.requires.closure
 
 pub returns : goal.returns
 returns c =
