@@ -33,7 +33,9 @@ impl ClosedWalk {
         ensures round { IfOk result (IsMarkedWalk net.now) }
         ensures walk { IfOk result (λ round. round.walk ≡ walk) }
     {
-        let mut over = vec![in alloc; false; net.links() as usize]?;
+        let Ok(mut over) = vec![in alloc; false; net.links() as usize] else {
+            return Err(Memory);
+        };
         mark_steps(&mut over, walk.as_slice());
         let orders = orders_of(alloc, net, walk.as_slice())?;
         Ok(ClosedWalk { walk, over, orders })
@@ -54,7 +56,9 @@ impl ClosedWalk {
         ensures some { IfOk result (λ found. IfSome found (IsSpare net.now (Kept self.now.over.items) but)) }
         ensures none { IfOk result (λ found. IfNone found (turns ≡ u32.MAX → IsSpared net.now (Kept self.now.over.items) but → ⊥)) }
     {
-        let mut ranks = vec![in alloc; 0u32; 2 * net.intervals() as usize]?;
+        let Ok(mut ranks) = vec![in alloc; 0u32; 2 * net.intervals() as usize] else {
+            return Err(Memory);
+        };
         if settle(self.orders.as_slice(), fixed, but, &mut ranks, turns) {
             Ok(Some(Ranks::from_vec(ranks)))
         } else {

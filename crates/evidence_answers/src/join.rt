@@ -80,5 +80,8 @@ fn joined(alloc: Global, first: Bodies<'_>, second: &[u8]) -> Result<Answer, All
         }
         Err(ReadEvidence::Memory) => return Err(AllocError),
     };
-    Ok(Answer::done(write_both(alloc, first, more)?.into_vec()))
+    match write_both(alloc, first, more) {
+        Ok(text) => Ok(Answer::done(text.into_vec())),
+        Err(Memory) => Err(AllocError),
+    }
 }

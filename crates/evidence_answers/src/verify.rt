@@ -44,7 +44,10 @@ pub fn verdict(alloc: Global, document: &Document<'_>, text: &[u8]) -> Result<An
     requires { length text.now ≤ max_evidence }
     ensures { IfOk result (λ answer. OfVerify document.now text.now (finding_status answer.finding) answer.text.items) }
 {
-    let net = net_of(alloc, document)?;
+    let net = match net_of(alloc, document) {
+        Ok(net) => net,
+        Err(Memory) => return Err(AllocError),
+    };
     match judged_claims(alloc, document, &net, text) {
         Ok(judged) => match judged.refused {
             None => Ok(Answer::done(judged.lines)),

@@ -29,7 +29,9 @@ pub fn least_timeline(alloc: Global, net: &Net) -> Result<Option<Ranks>, Memory>
     let fixed = fixed_orders(alloc, net)?;
     let orders = all_orders(alloc, net, &fixed)?;
     let sequence = sequence_of(alloc, points, &orders)?;
-    let mut ranks = vec![in alloc; 0u32; points as usize]?;
+    let Ok(mut ranks) = vec![in alloc; 0u32; points as usize] else {
+        return Err(Memory);
+    };
     if raise_in_turns(&mut ranks, &orders, &sequence) {
         Ok(Some(Ranks::from_vec(ranks)))
     } else {

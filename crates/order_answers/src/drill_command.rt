@@ -62,7 +62,9 @@ pub fn drill_summary(alloc: Global, n: u32) -> Result<Answer, AllocError>
     requires { IsDrill n }
     ensures { IfOk result (λ answer. OfDrill n (finding_status answer.finding) answer.text.items) }
 {
-    let doc = drill_text(alloc, n)?;
+    let Ok(doc) = drill_text(alloc, n) else {
+        return Err(AllocError);
+    };
     let document = match accept(alloc, doc.as_slice()) {
         Ok(document) => document,
         Err(None) => return Err(AllocError),
@@ -84,14 +86,21 @@ fn of_document(
     requires contents { document.now ≡ drill_contents n }
     ensures { IfOk result (λ answer. OfDrill n (finding_status answer.finding) answer.text.items) }
 {
-    let net = net_of(alloc, document)?;
+    let net = match net_of(alloc, document) {
+        Ok(net) => net,
+        Err(Memory) => return Err(AllocError),
+    };
     let table = match close(alloc, &net) {
         Ok(table) => table,
         Err(CloseFault::Clash(_)) => unreachable!(),
         Err(CloseFault::Memory) => return Err(AllocError),
     };
-    let ranks = least(alloc, &table)?;
-    let rows = rows(alloc, &table)?;
+    let Ok(ranks) = least(alloc, &table) else {
+        return Err(AllocError);
+    };
+    let Ok(rows) = rows(alloc, &table) else {
+        return Err(AllocError);
+    };
     let figures = Figures {
         drill: n,
         bytes,

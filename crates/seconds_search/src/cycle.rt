@@ -48,7 +48,9 @@ fn closed_trail(
     ensures { IfOk result (λ found. MatchOption found (IsTooLow distances.now.seconds from → ⊥) (λ trail. (p : ℕ) × IsClosed edges.now distances.now trail.items p)) }
 {
     let mut trail = Vec::new(alloc);
-    let mut places = vec![in alloc; None; distances.len()]?;
+    let Ok(mut places) = vec![in alloc; None; distances.len()] else {
+        return Err(Memory);
+    };
     let mut point = from;
     while let Some(number) = distances.predecessor(point) {
         if let Some(first) = places[point as usize] {
@@ -56,7 +58,9 @@ fn closed_trail(
             return Ok(Some(rest));
         }
         places[point as usize] = Some(trail.len());
-        trail.push(number)?;
+        if trail.push(number).is_err() {
+            return Err(Memory);
+        }
         point = from_of(edges, number);
     }
     Ok(None)

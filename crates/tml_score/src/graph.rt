@@ -26,7 +26,9 @@ impl Graph {
     {
         let points = 2 * net.intervals();
         let orders = orders_of(alloc, net)?;
-        let onward = Index::new(alloc, orders, End::From, points)?;
+        let Ok(onward) = Index::new(alloc, orders, End::From, points) else {
+            return Err(Memory);
+        };
         let back = by_point(alloc, onward.items(), End::To, points)?;
         Ok(Graph { onward, back })
     }

@@ -36,7 +36,9 @@ impl Reached {
         requires { room ≤ max_points }
         ensures { IfOk result (λ reached. reached ≡ record { points = []; room = room }) }
     {
-        let places = vec![in alloc; 0; room as usize]?;
+        let Ok(places) = vec![in alloc; 0; room as usize] else {
+            return Err(Memory);
+        };
         Ok(Reached {
             points: Vec::new(alloc),
             places,

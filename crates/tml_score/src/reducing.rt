@@ -59,7 +59,9 @@ fn marks(alloc: Global, net: &Net, table: &Closed, graph: &Graph) -> Result<Vec<
     requires graph { IsGraphOf net.now graph.now }
     ensures { IfOk result (λ keep. AreGoneOver net.now (length net.now.links) keep.items) }
 {
-    let mut keep = vec![in alloc; true; net.links() as usize]?;
+    let Ok(mut keep) = vec![in alloc; true; net.links() as usize] else {
+        return Err(Memory);
+    };
     let mut sides = Sides {
         onward: Reached::new(alloc, table.points())?,
         back: Reached::new(alloc, table.points())?,

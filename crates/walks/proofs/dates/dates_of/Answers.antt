@@ -3,7 +3,7 @@ use Rattle.walks.specs.Dates.{AreDates, number_at}
 use Rattle.walks.specs.declared.dates.Date.{Date}
 use Rattle.walks.proofs.DateLaws.{dates_none, dates_with, dates_without}
 use Rattle.walks.proofs.dates.dates_of.Goals as goal
-use Rattle.walks.proofs.dates.dates_of.Goals.{in-Some+else-is_err, in_default}
+use Rattle.walks.proofs.dates.dates_of.Goals.{in-Some+in_ok-push, in_default}
 
 pub loop-point-init : goal.loop-point-init
 loop-point-init c = record {
@@ -20,7 +20,7 @@ loop-point-preserved c =
     record {
       end = c.loop-point.invariant.end;
       so_far = elim c.match-number.branch [
-        | in-Some+else-is_err w ↦
+        | in-Some+in_ok-push w ↦
             let one : Date = record { number = w.in-Some.number; point = point } in
             let items : c.match-number.dates.items ≡ dates ++ one ∷ [] = search rules in
             subst (AreDates number (point + 1)) (sym items) (dates_with number point dates w.in-Some.number (sym c.number.ensures ∙ w.in-Some.is) so_far)
