@@ -23,6 +23,8 @@ from dataclasses import dataclass
 from pathlib import Path
 from typing import IO, NoReturn
 
+from tml_corpus.command_line.launch import MODULES
+
 LATER = ("pickle", "tml.library", "tml_corpus.asking.libraries")
 """What most runs of `tml-corpus` import only where they need it."""
 
@@ -86,10 +88,10 @@ def run_forked(
 
 def import_ahead(program: str, command: str = "") -> None:
     """Imports what a program does, and what its command needs, so that no later run of this process imports it again."""
-    for name in re.findall(r'^launch\("(.*)"\)$', Path(program).read_text(encoding="utf-8"), re.MULTILINE):
-        importlib.import_module(name)
+    for name in re.findall(r"^from tml_corpus\.command_line\.launch import (\w+)$", Path(program).read_text(encoding="utf-8"), re.MULTILINE):
+        importlib.import_module(MODULES[name])
         module = f"tml_corpus.commands.{command}"
-        if name == "tml_corpus.command_line.main" and command.isidentifier() and importlib.util.find_spec(module):
+        if name == "tml_corpus" and command.isidentifier() and importlib.util.find_spec(module):
             for needed in (module, *LATER):
                 importlib.import_module(needed)
 
