@@ -28,6 +28,9 @@ from tml_corpus.command_line.launch import MODULES
 LATER = ("pickle", "tml.library", "tml_corpus.asking.libraries")
 """What most runs of `tml-corpus` import only where they need it."""
 
+LAUNCHED = re.compile(r"^from tml_corpus\.command_line\.launch import (\w+)$", re.MULTILINE)
+"""The line of a launcher that says which program it starts."""
+
 Streams = tuple[IO[bytes], IO[bytes], IO[bytes]]
 """What standard input, standard output and standard error are."""
 
@@ -88,7 +91,7 @@ def run_forked(
 
 def import_ahead(program: str, command: str = "") -> None:
     """Imports what a program does, and what its command needs, so that no later run of this process imports it again."""
-    for name in re.findall(r"^from tml_corpus\.command_line\.launch import (\w+)$", Path(program).read_text(encoding="utf-8"), re.MULTILINE):
+    for name in LAUNCHED.findall(Path(program).read_text(encoding="utf-8")):
         importlib.import_module(MODULES[name])
         module = f"tml_corpus.commands.{command}"
         if name == "tml_corpus" and command.isidentifier() and importlib.util.find_spec(module):
