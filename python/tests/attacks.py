@@ -8,13 +8,12 @@ from collections.abc import Callable, Sequence
 from dataclasses import dataclass
 from typing import IO
 
-from corpus import TML, TOOLS, CorpusTest, document
+from corpus import CLASH, TML, TOOLS, CorpusTest, document
 from forked import run_forked
 
 Stream = int | IO[bytes] | None
 
 ENVIRONMENT = {**os.environ, "PYTHONIOENCODING": "utf-8", "PYTHONDONTWRITEBYTECODE": "1"}
-CLASH = '<TIMEX3 tid="a" type="SET"/><TLINK timeID="a" relatedToTime="a" relType="BEFORE"/>'
 
 COMMANDS = (
     "tml-corpus check --tml TML a.xml",

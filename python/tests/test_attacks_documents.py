@@ -5,17 +5,17 @@ import unittest
 from collections.abc import Callable
 
 from attacks import AttackTest
-from tml.statuses import DOCUMENT_LIMIT
+from tml.statuses import DOCUMENT_LIMIT, INTERVAL_LIMIT, LINK_LIMIT
 
-INSTANCES = b"".join(b'<MAKEINSTANCE eiid="i%d" eventID="e%d"/>' % (number, number % 30) for number in range(1024))
+INSTANCES = b"".join(b'<MAKEINSTANCE eiid="i%d" eventID="e%d"/>' % (number, number % 30) for number in range(INTERVAL_LIMIT))
 LINK = b'<TLINK eventInstanceID="i%d" relatedToEventInstance="i%d" relType="%s"/>'
-LINKS = b"".join(LINK % (number % 1024, number * 7 % 1024, b"SIMULTANEOUS") for number in range(4096))
-CIRCLE = b"".join(LINK % (number, (number + 1) % 1024, b"BEFORE") for number in range(1024))
+LINKS = b"".join(LINK % (number % INTERVAL_LIMIT, number * 7 % INTERVAL_LIMIT, b"SIMULTANEOUS") for number in range(LINK_LIMIT))
+CIRCLE = b"".join(LINK % (number, (number + 1) % INTERVAL_LIMIT, b"BEFORE") for number in range(INTERVAL_LIMIT))
 TOUCHING = (
     b'<TimeML><TIMEX3 tid="a" type="DATE" value="1998"/><TIMEX3 tid="b" type="DATE" value="1999"/><TLINK timeID="a" relatedToTime="b" '
     b'relType="BEFORE"/>'
 )
-FREE_DATES = b"".join(b'<TIMEX3 tid="t%d" type="DATE" value="XXXX-12-25"/>' % number for number in range(1024))
+FREE_DATES = b"".join(b'<TIMEX3 tid="t%d" type="DATE" value="XXXX-12-25"/>' % number for number in range(INTERVAL_LIMIT))
 NESTED = b"".join(b'<EVENT eid="e%d" class="STATE">' % number for number in range(30))
 
 

@@ -17,8 +17,8 @@ import stat
 import unittest
 from collections.abc import Callable
 
-from attacks import CLASH, COMMANDS, AttackTest
-from corpus import document
+from attacks import COMMANDS, AttackTest
+from corpus import CLASH, document
 
 
 def small_files(size: int) -> Callable[[], None]:

@@ -9,8 +9,8 @@ import signal
 import time
 import unittest
 
-from attacks import CLASH, COMMANDS, AttackTest
-from corpus import TML, document
+from attacks import COMMANDS, AttackTest
+from corpus import CLASH, TML, document
 from processes import is_running, until
 from tml.process import Process
 

@@ -17,12 +17,12 @@ from differential.programs import Programs
 from differential.tables import Row, Table
 from reference import Outcome
 from tml.finding import BUILT_LIBRARY
+from tml.statuses import TmlStatus
 
 ROWS = Path(TOP, "crates", "tml_rows")
 SECTION = re.compile(r"^(.*): (\d+) right(?:, (\d+) WRONG)?$", re.MULTILINE)
 ON_PURPOSE = "rows that are wrong on purpose: how a difference is shown"
 LEFT_OUT = ("a read that failed", "a write that failed")
-DONE, READ_FAULT, WRITE_FAULT = 0, 4, 5
 LINES_LEFT_OUT, NAMED_TWICE = 50, 10
 """How many lines of commands are left out at most, and how many rows name standard input twice."""
 ANOTHER_NAME = b"input"
@@ -37,9 +37,9 @@ def wanted_counts() -> dict[str, tuple[int, int]]:
 def failed(row: Row) -> str | None:
     """Which device of a row has failed, by what is wanted: only an answer that is done has another status where its text is cut off."""
     memory, wanted = row.case.memory or Memory(), row.wanted
-    if wanted.status == WRITE_FAULT or (wanted.status != DONE and len(wanted.text) >= memory.written_at_most()):
+    if wanted.status == TmlStatus.WRITE_FAULT or (wanted.status != TmlStatus.DONE and len(wanted.text) >= memory.written_at_most()):
         return "a write that failed"
-    return "a read that failed" if memory.failing_reads and wanted.status == READ_FAULT else None
+    return "a read that failed" if memory.failing_reads and wanted.status == TmlStatus.READ_FAULT else None
 
 
 def on_a_machine(case: Case) -> Case:
