@@ -8,7 +8,6 @@ import re
 import shutil
 import stat
 import subprocess
-import sys
 import tempfile
 import unittest
 from collections.abc import Callable, Iterable
@@ -17,7 +16,7 @@ from pathlib import Path
 from random import Random
 
 from corpus import TML, TOOLS, needs_matrix, needs_score, needs_seconds
-from differential import agreeing, reals
+from differential import agreeing, commands, reals  # noqa: F401
 from differential.cases import Case, Memory, Output, Real
 from differential.comparing import complaint
 from differential.datetimes import bounds
@@ -42,6 +41,7 @@ from differential.programs import Programs, rows_path
 from differential.reducing import reduced
 from differential.rows import Rows, answers_of, is_for_rows, row_of
 from differential.trees import tree_of
+from forked import run_forked
 from reference import Outcome, expected
 from tml.running import CannotRun
 from tml.statuses import FAULT_NAMES, TmlStatus
@@ -453,10 +453,10 @@ class Runs(unittest.TestCase):
 
     def differential(self, *words: str, tml: str = TML) -> tuple[int, str]:
         """Runs the tool over a program, and gives its status and what it printed. A library is asked where the words name one."""
-        environment = {**os.environ, "TML": tml, "TML_LIBRARY": "", "PYTHONDONTWRITEBYTECODE": "1"}
-        command = [sys.executable, DIFFERENTIAL, "--keep", str(self.folder / "kept"), *words]
-        done = subprocess.run(command, env=environment, capture_output=True, text=True, check=False, timeout=300)
-        return done.returncode, done.stdout + done.stderr
+        environment = {**os.environ, "TML": os.path.abspath(tml), "TML_LIBRARY": "", "PYTHONDONTWRITEBYTECODE": "1"}
+        words = ("--keep", str(self.folder / "kept"), *words)
+        ended = run_forked(DIFFERENTIAL, *words, folder=str(self.folder), environment=environment, patience=300)
+        return ended.status, (ended.out + ended.error).decode()
 
     def lying(self, body: str) -> str:
         """A program that answers as `tml` does, but for a lie."""
