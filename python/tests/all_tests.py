@@ -13,6 +13,7 @@ import sys
 from collections.abc import Iterator, Sequence
 from multiprocessing import get_context
 from multiprocessing.connection import Connection, wait
+from multiprocessing.process import BaseProcess
 from pathlib import Path
 
 from bytecode import compiled_once
@@ -20,8 +21,9 @@ from installing import installed
 from one_file import Ran, run
 
 LONGEST = (
-    "test_attacks", "test_differential", "test_library", "test_library_rows", "test_recipes", "test_serve", "test_small_nets",
-    "test_refused_memory", "test_timeline", "test_cluster", "test_report", "test_reference", "test_corpus_library", "test_matrix",
+    "test_attacks_documents", "test_library", "test_differential", "test_library_rows", "test_recipes", "test_serve", "test_small_nets",
+    "test_refused_memory", "test_attacks_output", "test_timeline", "test_cluster", "test_report", "test_attacks_programs", "test_reference",
+    "test_corpus_library", "test_matrix", "test_attacks_room",
 )  # fmt: skip
 """The files of tests that take longest."""
 
@@ -63,7 +65,7 @@ def run_all(names: Sequence[str]) -> int:
 def in_processes(names: Sequence[str]) -> Iterator[tuple[str, Ran]]:
     """Runs each of these files in a forked process, as many at once as there are processors, and gives what came of it as it ends."""
     fork, waiting = get_context("fork"), list(reversed(names))
-    running = {}
+    running: dict[Connection, tuple[str, BaseProcess]] = {}
     while waiting or running:
         while waiting and len(running) < len(os.sched_getaffinity(0)):
             name = waiting.pop()
