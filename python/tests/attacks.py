@@ -112,10 +112,10 @@ class AttackTest(CorpusTest):
         return Ended(int(status), printed, complained, float(seconds), int(kibibytes) / 1024)
 
     def called(self, command: str, *names: str, tml: str = TML) -> Ended:
-        """Runs a command of a table, on further names, where it shows nothing how its process begins, or what it takes."""
+        """Runs a command of a table, on further names, where it shows nothing how its process begins, or how long it takes."""
         name, *words = [os.path.abspath(tml) if word == "TML" else word for word in command.split(" ")]
         ended = run_forked(os.path.join(TOOLS, name), *words, *names, folder=self.folder)
-        return Ended(ended.status, ended.out.decode(), ended.error.decode())
+        return Ended(ended.status, ended.out.decode(), ended.error.decode(), mebibytes=ended.mebibytes)
 
     def taken(self, name: str) -> bytes:
         """The content of a file, which is taken away."""

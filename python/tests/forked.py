@@ -1,7 +1,7 @@
 """The programs of `tools/`, run in processes that are forked from this one: what they import is there already.
 
-Such a run does what a process of its own does, as `test_forked.py` compares. How a process begins, and what time and memory it takes, it
-does not show.
+Such a run does what a process of its own does, as `test_forked.py` compares. How a process begins, and what time it takes, it does not
+show.
 """
 
 from __future__ import annotations
@@ -9,6 +9,7 @@ from __future__ import annotations
 import gc
 import importlib.util
 import io
+import math
 import os
 import re
 import runpy
@@ -19,7 +20,7 @@ import sys
 import tempfile
 import traceback
 from collections.abc import Mapping, Sequence
-from dataclasses import dataclass
+from dataclasses import dataclass, field
 from pathlib import Path
 from typing import IO, NoReturn
 
@@ -37,11 +38,16 @@ Streams = tuple[IO[bytes], IO[bytes], IO[bytes]]
 
 @dataclass(frozen=True)
 class Ended:
-    """How a program ended: its status, or the signal with a minus sign, and what it printed."""
+    """How a program ended: its status, or the signal with a minus sign, what it printed, and how much memory it had at most.
+
+    The memory is that of the process from which it was forked and what came to it, or that of a program which it ran: a process of its own
+    takes less.
+    """
 
     status: int
     out: bytes
     error: bytes
+    mebibytes: float = field(default=math.nan, compare=False)
 
 
 class Forked:
@@ -55,13 +61,15 @@ class Forked:
             become(command, folder, streams, dict(environment))
         self.ending = os.pidfd_open(self.number)
         self.status: int | None = None
+        self.mebibytes = math.nan
 
     def wait(self, patience: float) -> int:
         """Waits for the end, and answers the status, or the signal with a minus sign."""
         if self.status is None:
             if not select.select([self.ending], [], [], patience)[0]:
                 raise subprocess.TimeoutExpired(self.command, patience)
-            self.status = os.waitstatus_to_exitcode(os.waitpid(self.number, 0)[1])
+            _, status, used = os.wait4(self.number, 0)
+            self.status, self.mebibytes = os.waitstatus_to_exitcode(status), used.ru_maxrss / 1024
             os.close(self.ending)
         return self.status
 
@@ -86,7 +94,7 @@ def run_forked(
             child.wait(patience)
         out.seek(0)
         error.seek(0)
-        return Ended(status, out.read(), error.read())
+        return Ended(status, out.read(), error.read(), child.mebibytes)
 
 
 def import_ahead(program: str, command: str = "") -> None:

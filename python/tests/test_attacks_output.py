@@ -66,7 +66,7 @@ class WhereItLies(AttackTest):
         """What the attacks are measured against: the real program, and all as it should be."""
         for command, status in zip(COMMANDS, (1, 1, 1, 1, 1, 0, 0, 1, 0, 1, 1, 0, 0, 1), strict=True):
             with self.subTest(command):
-                self.assertEqual(self.ended(command).status, status)
+                self.assertEqual(self.called(command).status, status)
         self.assertTrue(os.path.exists(os.path.join(TOP, "samples", "port.xml")))
 
 

@@ -27,7 +27,7 @@ class Programs(AttackTest):
             # Every command meets the first program, and the others meet some of them.
             for command in COMMANDS[number % 4 if number else 0 :: 4 if number else 1]:
                 with self.subTest(body=body, command=command):
-                    ended = self.ended(command, tml=fake)
+                    ended = self.called(command, tml=fake)
                     self.assertEqual(ended.status, 2, ended)
                     self.assertNotIn("Traceback", ended.error)
                     self.assertRegex(
