@@ -507,7 +507,7 @@ class Runs(unittest.TestCase):
     def test_joining_that_is_wrong_is_found(self) -> None:
         for lie in ('join ]; then exec "$T" join "$3" "$2"; fi', 'renew ]; then exec cat "$2"; fi'):
             program = self.lying(f'if [ "$1" = {lie}')
-            status, said = self.differential("--processes", "--evidence", "--count", "200", "--small", "0", "2", "1", tml=program)
+            status, said = self.differential("--processes", "--evidence", "--count", "100", "--small", "0", "2", "1", tml=program)
             self.assertEqual(status, 1, said)
             self.assertIn("difference (joining)", said)
 
@@ -521,7 +521,7 @@ class Runs(unittest.TestCase):
     def test_a_lie_about_what_is_possible_is_found(self) -> None:
         for lie in ("s/ BEGINS / /", "s/ OVERLAPS / BEGINS /"):
             program = self.lying(f'if [ "$1" = matrix ]; then "$T" "$@" > out; S=$?; sed "{lie}" out; exit $S; fi')
-            status, said = self.differential("--processes", "--count", "320", "--small", "0", "2", "1", tml=program)
+            status, said = self.differential("--processes", "--count", "100", "--small", "0", "2", "1", tml=program)
             self.assertEqual(status, 1, said)
             self.assertRegex(said, r"difference \((agreed|right)\)")
 
@@ -535,13 +535,14 @@ class Runs(unittest.TestCase):
 
     @needs_seconds
     def test_lies_about_placings_are_found(self) -> None:
-        for command, lie, subject in (
-            ("seconds", 's/^at \\(.*\\) .*/at \\1 9/', "placing"),
-            ("seconds", "s/^least /most /", "placing"),
-            ("confirm", "s/^seconds Length/seconds Bound/", "confirming"),
+        # By these seeds the first hundred cases have one in which it shows.
+        for command, lie, subject, seed in (
+            ("seconds", 's/^at \\(.*\\) .*/at \\1 9/', "placing", "1"),
+            ("seconds", "s/^least /most /", "placing", "2"),
+            ("confirm", "s/^seconds Length/seconds Bound/", "confirming", "1"),
         ):
             program = self.lying(f'if [ "$1" = {command} ]; then "$T" "$@" > out; S=$?; sed "{lie}" out; exit $S; fi')
-            status, said = self.differential("--processes", "--placings", "--count", "600", "--small", "0", "2", "1", tml=program)
+            status, said = self.differential("--processes", "--placings", "--count", "100", "--small", "0", "2", seed, tml=program)
             self.assertEqual(status, 1, said)
             self.assertIn(f"difference ({subject})", said)
 
