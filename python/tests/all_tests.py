@@ -76,12 +76,12 @@ def in_processes(names: Sequence[str]) -> Iterator[tuple[str, Ran]]:
             running[ours] = name, child
         for one in wait(list(running)):
             assert isinstance(one, Connection)
-            name, child = running.pop(one)
+            name, ending = running.pop(one)
             try:
                 ran = one.recv()
             except EOFError:
                 ran = Ran("the process has ended", 0, frozenset({name}), ())
-            child.join()
+            ending.join()
             yield name, ran
 
 
