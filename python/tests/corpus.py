@@ -33,6 +33,9 @@ EVENT = '<EVENT eid="e1" class="STATE">x</EVENT>'
 TOO_LONG = b" " * (DOCUMENT_LIMIT + 1)
 """A document with one byte more than `tml` takes."""
 
+CLASH = '<TIMEX3 tid="a" type="SET"/><TLINK timeID="a" relatedToTime="a" relType="BEFORE"/>'
+"""The shortest tags that clash."""
+
 INSTANCE = '<MAKEINSTANCE eiid="i1" eventID="e1"/>'
 
 

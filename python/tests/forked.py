@@ -1,7 +1,7 @@
 """The programs of `tools/`, run in processes that are forked from this one: what they import is there already.
 
-Such a run does what a process of its own does, as `test_forked.py` compares. How a process begins, and what time and memory it takes, it
-does not show.
+Such a run does what a process of its own does, as `test_forked.py` compares. How a process begins, and what time it takes, it does not
+show.
 """
 
 from __future__ import annotations
@@ -9,6 +9,7 @@ from __future__ import annotations
 import gc
 import importlib.util
 import io
+import math
 import os
 import re
 import runpy
@@ -19,12 +20,17 @@ import sys
 import tempfile
 import traceback
 from collections.abc import Mapping, Sequence
-from dataclasses import dataclass
+from dataclasses import dataclass, field
 from pathlib import Path
 from typing import IO, NoReturn
 
+from tml_corpus.command_line.launch import MODULES
+
 LATER = ("pickle", "tml.library", "tml_corpus.asking.libraries")
 """What most runs of `tml-corpus` import only where they need it."""
+
+LAUNCHED = re.compile(r"^from tml_corpus\.command_line\.launch import (\w+)$", re.MULTILINE)
+"""The line of a launcher that says which program it starts."""
 
 Streams = tuple[IO[bytes], IO[bytes], IO[bytes]]
 """What standard input, standard output and standard error are."""
@@ -32,11 +38,16 @@ Streams = tuple[IO[bytes], IO[bytes], IO[bytes]]
 
 @dataclass(frozen=True)
 class Ended:
-    """How a program ended: its status, or the signal with a minus sign, and what it printed."""
+    """How a program ended: its status, or the signal with a minus sign, what it printed, and how much memory it had at most.
+
+    The memory is that of the process from which it was forked and what came to it, or that of a program which it ran: a process of its own
+    takes less.
+    """
 
     status: int
     out: bytes
     error: bytes
+    mebibytes: float = field(default=math.nan, compare=False)
 
 
 class Forked:
@@ -50,13 +61,15 @@ class Forked:
             become(command, folder, streams, dict(environment))
         self.ending = os.pidfd_open(self.number)
         self.status: int | None = None
+        self.mebibytes = math.nan
 
     def wait(self, patience: float) -> int:
         """Waits for the end, and answers the status, or the signal with a minus sign."""
         if self.status is None:
             if not select.select([self.ending], [], [], patience)[0]:
                 raise subprocess.TimeoutExpired(self.command, patience)
-            self.status = os.waitstatus_to_exitcode(os.waitpid(self.number, 0)[1])
+            _, status, used = os.wait4(self.number, 0)
+            self.status, self.mebibytes = os.waitstatus_to_exitcode(status), used.ru_maxrss / 1024
             os.close(self.ending)
         return self.status
 
@@ -81,15 +94,15 @@ def run_forked(
             child.wait(patience)
         out.seek(0)
         error.seek(0)
-        return Ended(status, out.read(), error.read())
+        return Ended(status, out.read(), error.read(), child.mebibytes)
 
 
 def import_ahead(program: str, command: str = "") -> None:
     """Imports what a program does, and what its command needs, so that no later run of this process imports it again."""
-    for name in re.findall(r'^launch\("(.*)"\)$', Path(program).read_text(encoding="utf-8"), re.MULTILINE):
-        importlib.import_module(name)
+    for name in LAUNCHED.findall(Path(program).read_text(encoding="utf-8")):
+        importlib.import_module(MODULES[name])
         module = f"tml_corpus.commands.{command}"
-        if name == "tml_corpus.command_line.main" and command.isidentifier() and importlib.util.find_spec(module):
+        if name == "tml_corpus" and command.isidentifier() and importlib.util.find_spec(module):
             for needed in (module, *LATER):
                 importlib.import_module(needed)
 

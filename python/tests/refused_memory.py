@@ -27,10 +27,10 @@ from pathlib import Path
 from differential.cases import Case
 from differential.programs import STANDARD_ERROR, Programs, program_path
 from reference import Outcome
+from tml.statuses import INTERVAL_LIMIT, LINK_LIMIT, TmlStatus
 
 LIBRARY = Path(__file__).resolve().parent / "refused_memory.c"
 SAMPLES = Path(__file__).resolve().parent.parent.parent / "samples"
-NO_MEMORY = 6
 ALL = (1 << 64) - 1
 EVENTS = '<EVENT eid="e" class="STATE">x</EVENT>' + "".join(f'<MAKEINSTANCE eiid="{name}" eventID="e"/>' for name in "abc")
 DATES = (
@@ -41,6 +41,7 @@ AB, BC, CA, AC = (
     f'<TLINK eventInstanceID="{x}" relatedToEventInstance="{y}" relType="BEFORE"/>' for x, y in zip("abca", "bcac", strict=True)
 )
 UNITS = "<?xml version='1.0'?><!DOCTYPE TimeML><!-- a --><TimeML b='\"' a=\"&amp;\">x<P></P ><!-- b --></TimeML>\n"
+TO_ITSELF = b'<TLINK timeID="t" relatedToTime="t" relType="DURING"/>'
 FAULTY = {
     "NotUtf8": b"<TimeML>\xff</TimeML>",
     "BadReference": b"<TimeML>&</TimeML>",
@@ -57,8 +58,8 @@ FAULTY = {
     "BadDate": b'<TimeML><TIMEX3 tid="t" type="DATE" value="1999-02-29"/></TimeML>',
     "DuplicateId": b'<TimeML><SIGNAL sid="s"/><SIGNAL sid="s"/></TimeML>',
     "UnknownReference": b'<TimeML><EVENT eid="e" class="STATE"/><MAKEINSTANCE eiid="i" eventID="f"/></TimeML>',
-    "TooManyIntervals": b"<TimeML>" + b"".join(b'<TIMEX3 tid="t%d" type="SET"/>' % number for number in range(1025)) + b"</TimeML>",
-    "TooManyLinks": b'<TimeML><TIMEX3 tid="t" type="SET"/>%s</TimeML>' % (b'<TLINK timeID="t" relatedToTime="t" relType="DURING"/>' * 4097),
+    "TooManyIntervals": b"<TimeML>%s</TimeML>" % b"".join(b'<TIMEX3 tid="t%d" type="SET"/>' % one for one in range(INTERVAL_LIMIT + 1)),
+    "TooManyLinks": b'<TimeML><TIMEX3 tid="t" type="SET"/>%s</TimeML>' % (TO_ITSELF * (LINK_LIMIT + 1)),
 }
 """A small document of each fault."""
 
@@ -290,7 +291,7 @@ class Refusing:
             found.ended_at_start += 1
             return
         found.refused += not at_start
-        if outcome == Outcome(NO_MEMORY, b""):
+        if outcome == Outcome(TmlStatus.NO_MEMORY, b""):
             found.no_memory += not at_start
         elif outcome != wanted:
             alone = "alone" if refusal.number == 1 else "and all after it"

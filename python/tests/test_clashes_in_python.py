@@ -14,7 +14,7 @@ import tml
 import tml_corpus
 from corpus import TML, TOP
 from tml.results import Relation
-from tml.statuses import INVERSES, ORDERS
+from tml.statuses import INVERSES, LINK_LIMIT, ORDERS
 
 PORT, RATES = Path(TOP, "samples", "port.xml"), Path(TOP, "samples", "rates.xml")
 VALUES = ("1998", "1998-01", "1998-01-XX", "1998-01-08", "1998-01-09", "1998-01-08T18:30", "199", "1998-W02", "XXXX-12-25")
@@ -156,7 +156,8 @@ class ByConfidence(unittest.TestCase):
 
     def test_what_is_no_question(self) -> None:
         link = ("ei1", "BEFORE", "ei2")
-        rows: list[tuple[list[tuple[str, str, str]], list[float]]] = [([link], []), ([link], [float("nan")]), ([link] * 4097, [1.0] * 4097)]
+        many = LINK_LIMIT + 1
+        rows: list[tuple[list[tuple[str, str, str]], list[float]]] = [([link], []), ([link], [float("nan")]), ([link] * many, [1.0] * many)]
         for links, weights in rows:
             with self.assertRaises(ValueError):
                 tml.consistent(RATES, links, weights, by=self.by)

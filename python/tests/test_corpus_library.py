@@ -16,7 +16,7 @@ import zipfile
 from collections.abc import Mapping
 from pathlib import Path
 
-from corpus import EVENT, INSTANCE, SOURCES, TESTS, TML, TOOLS, TOO_LONG, TOP, CorpusTest, document, match_in
+from corpus import CLASH, EVENT, INSTANCE, SOURCES, TESTS, TML, TOOLS, TOO_LONG, TOP, CorpusTest, document, match_in
 from daemons import PYTHON, ClusterTest
 from forked import run_forked
 from installing import INSTALLED
@@ -29,7 +29,6 @@ LIBRARY = os.path.abspath(os.environ.get("TML_LIBRARY") or finding.BUILT_LIBRARY
 COMPANION = [sys.executable, os.path.join(TOOLS, "tml-corpus")]
 STAND_IN = os.path.join(TESTS, "library_stand_in.c")
 FAULTY = document("<EVENT/>")
-CLASH = '<TIMEX3 tid="a" type="SET"/><TLINK timeID="a" relatedToTime="a" relType="BEFORE"/>'
 TOUCHING = (
     '<TIMEX3 tid="a" type="DATE" value="1998-01-08">x</TIMEX3><TIMEX3 tid="b" type="DATE" value="1998-01-09">y</TIMEX3>'
     '<TLINK timeID="a" relatedToTime="b" relType="BEFORE"/>'

@@ -6,10 +6,10 @@ from itertools import product
 
 from corpus import TML, CorpusTest, document
 from ordinary import Item
+from tml.statuses import MOST_REMEMBERED
 from tml.tags.cutting import units_of_whole
 from tml.tags.source import Source
 from tml_corpus.asking.program import CannotRun, File, Program, Reply
-from tml_corpus.document import dates
 from tml_corpus.document.dates import dates_of
 
 VALUES = (
@@ -65,9 +65,9 @@ class Remembered(CorpusTest):
 
     def test_no_more_are_remembered_than_there_is_room_for(self) -> None:
         for left in (1, 0):
-            self.program.dates = {("DATE", "", f"x{number}"): ["free"] for number in range(dates.MOST_REMEMBERED - left)}
+            self.program.dates = {("DATE", "", f"x{number}"): ["free"] for number in range(MOST_REMEMBERED - left)}
             self.assertEqual(self.found(document('<TIMEX3 tid="a" type="DATE" value="1998-01"/>').encode())["a"][0], "exact")
-            self.assertEqual(len(self.program.dates), dates.MOST_REMEMBERED)
+            self.assertEqual(len(self.program.dates), MOST_REMEMBERED)
 
     def test_answers_that_do_not_belong_to_the_question_are_not_believed(self) -> None:
         text = document('<TIMEX3 tid="a" type="DATE" value="1998"/><TIMEX3 tid="b" type="DATE" value="1999"/>').encode()

@@ -10,7 +10,7 @@ from pathlib import Path
 from typing import Any
 
 import tml
-from corpus import TML, TOP
+from corpus import TML, TOO_LONG, TOP
 from tml.documents import decoded
 
 PORT, RATES = Path(TOP, "samples", "port.xml"), Path(TOP, "samples", "rates.xml")
@@ -74,7 +74,7 @@ class Model(unittest.TestCase):
 
     def test_what_is_not_accepted_is_an_answer(self) -> None:
         self.assertIsInstance(tml.read(b"<TimeML>", by=self.by), tml.Fault)
-        self.assertEqual(tml.read(b" " * (4_194_304 + 1), by=self.by), tml.TooLong("document"))
+        self.assertEqual(tml.read(TOO_LONG, by=self.by), tml.TooLong("document"))
 
     def test_questions_take_it(self) -> None:
         found = read(RATES)

@@ -5,10 +5,9 @@ import signal
 import subprocess
 import sys
 
-from corpus import TML, TOOLS, CorpusTest, document
+from corpus import CLASH, TML, TOOLS, CorpusTest, document
 from forked import Ended, run_forked
 
-CLASH = '<TIMEX3 tid="a" type="SET"/><TLINK timeID="a" relatedToTime="a" relType="BEFORE"/>'
 RUNS = (
     ("tml-corpus", ("check", "--tml", TML, "a.xml", "-", "\u202e\udcff.xml"), 2),
     ("tml-corpus", ("clashes", "--tml", TML, "--jobs", "2", "--quiet", "a.xml", "b.xml"), 1),

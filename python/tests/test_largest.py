@@ -11,8 +11,8 @@ import unittest
 from itertools import combinations
 
 from corpus import TML, CorpusTest, needs_matrix
+from tml.statuses import INTERVAL_LIMIT as INTERVALS, LINK_LIMIT as LINKS
 
-INTERVALS, LINKS = 1024, 4096
 TIMES = "".join(f'<TIMEX3 tid="t{number}" type="SET"/>' for number in range(INTERVALS))
 SECONDS = 60
 """How long a run may take. The program takes a second or less."""

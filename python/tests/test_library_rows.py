@@ -17,12 +17,12 @@ from differential.programs import Programs
 from differential.tables import Row, Table
 from reference import Outcome
 from tml.finding import BUILT_LIBRARY
+from tml.statuses import TmlStatus
 
 ROWS = Path(TOP, "crates", "tml_rows")
 SECTION = re.compile(r"^(.*): (\d+) right(?:, (\d+) WRONG)?$", re.MULTILINE)
 ON_PURPOSE = "rows that are wrong on purpose: how a difference is shown"
 LEFT_OUT = ("a read that failed", "a write that failed")
-DONE, READ_FAULT, WRITE_FAULT = 0, 4, 5
 LINES_LEFT_OUT, NAMED_TWICE = 50, 10
 """How many lines of commands are left out at most, and how many rows name standard input twice."""
 ANOTHER_NAME = b"input"
@@ -37,9 +37,9 @@ def wanted_counts() -> dict[str, tuple[int, int]]:
 def failed(row: Row) -> str | None:
     """Which device of a row has failed, by what is wanted: only an answer that is done has another status where its text is cut off."""
     memory, wanted = row.case.memory or Memory(), row.wanted
-    if wanted.status == WRITE_FAULT or (wanted.status != DONE and len(wanted.text) >= memory.written_at_most()):
+    if wanted.status == TmlStatus.WRITE_FAULT or (wanted.status != TmlStatus.DONE and len(wanted.text) >= memory.written_at_most()):
         return "a write that failed"
-    return "a read that failed" if memory.failing_reads and wanted.status == READ_FAULT else None
+    return "a read that failed" if memory.failing_reads and wanted.status == TmlStatus.READ_FAULT else None
 
 
 def on_a_machine(case: Case) -> Case:
@@ -80,53 +80,62 @@ class Tried:
             yield row, case, outcome
 
 
-class Whole(unittest.TestCase):
-    def all_are_there(self, tried: Tried) -> None:
+HAS_LIBRARY = unittest.skipUnless(
+    library_path(), f"no library {BUILT_LIBRARY}: docs/LIBRARY.md says how it is made, or name one by TML_LIBRARY="
+)
+
+
+class TableRows(unittest.TestCase):
+    """All rows, gone through once: by the library, and of each row by the program too, as far as these are there."""
+
+    tried: Tried
+    right: Counter[str]
+    wrong: list[str]
+    other: list[str]
+    """What the library answers otherwise than the table wants, and than the program."""
+
+    @classmethod
+    def setUpClass(cls) -> None:
+        cls.tried, cls.right, cls.wrong, cls.other = Tried(), Counter[str](), [], []
+        path = library_path()
+        if path is None:
+            for _ in cls.tried.rows(lambda _: Outcome(0, b"")):
+                pass
+            return
+        with Libraries(path) as libraries, Programs(Path(TML).absolute()) as programs:
+            for row, case, outcome in cls.tried.rows(libraries.outcome):
+                cls.compare(row, case, outcome)
+                if os.access(TML, os.X_OK) and (answered := programs.outcome(case)) != outcome:
+                    cls.other.append(f"line {row.line}, {case.words}: {outcome.status}, and the program {answered.status}, or another text")
+
+    @classmethod
+    def compare(cls, row: Row, case: Case, outcome: Outcome) -> None:
+        """Compares what the library answers with what the table wants."""
+        if row.is_right(outcome):
+            cls.right[row.section] += 1
+        elif row.section != ON_PURPOSE:
+            cls.wrong.append(f"line {row.line}, {case.words}: {outcome.status}, and not {row.wanted.status}, or another text")
+
+    def test_the_table_is_read_as_tml_rows_reads_it(self) -> None:
         """No row is missing but those whose devices fail, which are few lines of the table."""
         wanted = {section: sum(counts) for section, counts in wanted_counts().items()}
-        self.assertEqual({section: tried.answered[section] + tried.left_out[section] for section in wanted}, wanted)
-        self.assertEqual((tried.answered + tried.left_out).total(), sum(wanted.values()))
-        self.assertLessEqual(set(tried.reasons), set(LEFT_OUT), tried.reasons)
-        self.assertLessEqual(len(tried.lines_left_out), LINES_LEFT_OUT)
-        self.assertLessEqual(tried.named_twice, NAMED_TWICE)
-        self.assertGreater(tried.answered.total(), 3000)
+        self.assertEqual({section: self.tried.answered[section] + self.tried.left_out[section] for section in wanted}, wanted)
+        self.assertEqual((self.tried.answered + self.tried.left_out).total(), sum(wanted.values()))
+        self.assertLessEqual(set(self.tried.reasons), set(LEFT_OUT), self.tried.reasons)
+        self.assertLessEqual(len(self.tried.lines_left_out), LINES_LEFT_OUT)
+        self.assertLessEqual(self.tried.named_twice, NAMED_TWICE)
+        self.assertGreater(self.tried.answered.total(), 3000)
 
-
-class Reading(Whole):
-    def test_the_table_is_read_as_tml_rows_reads_it(self) -> None:
-        tried = Tried()
-        for _ in tried.rows(lambda _: Outcome(0, b"")):
-            pass
-        self.all_are_there(tried)
-
-
-@unittest.skipUnless(library_path(), f"no library {BUILT_LIBRARY}: docs/LIBRARY.md says how it is made, or name one by TML_LIBRARY=")
-class ByLibrary(Whole):
-    def setUp(self) -> None:
-        self.libraries = self.enterContext(Libraries(library_path() or ""))
-
+    @HAS_LIBRARY
     def test_the_library_answers_as_the_table_wants(self) -> None:
-        tried, right, wrong = Tried(), Counter[str](), []
-        for row, case, outcome in tried.rows(self.libraries.outcome):
-            if row.is_right(outcome):
-                right[row.section] += 1
-            elif row.section != ON_PURPOSE:
-                wrong.append(f"line {row.line}, {case.words}: {outcome.status}, and not {row.wanted.status}, or another text")
-        self.assertEqual(wrong, [])
+        self.assertEqual(self.wrong, [])
         counts = {section: count for section, (count, _) in wanted_counts().items()}
-        self.assertEqual({section: right[section] + tried.left_out[section] for section in counts}, counts)
-        self.all_are_there(tried)
+        self.assertEqual({section: self.right[section] + self.tried.left_out[section] for section in counts}, counts)
 
+    @HAS_LIBRARY
     @unittest.skipUnless(os.access(TML, os.X_OK), f"no program {TML}")
     def test_the_library_answers_as_the_program(self) -> None:
-        tried, wrong = Tried(), []
-        with Programs(Path(TML).absolute()) as programs:
-            for row, case, outcome in tried.rows(programs.outcome):
-                said = self.libraries.complaint(case, outcome)
-                if said is not None:
-                    wrong.append(f"line {row.line}, {case.words}: {said} The program answers {outcome.status}.")
-        self.assertEqual(wrong, [])
-        self.all_are_there(tried)
+        self.assertEqual(self.other, [])
 
 
 if __name__ == "__main__":

@@ -14,9 +14,10 @@ from reference import answers, evidence
 from reference.relations import ORDERS
 from tml.longest import LONGEST, Limits, longest
 from tml.process import Process
-from tml.statuses import BASE_RELATIONS, DOCUMENT_LIMIT, EVIDENCE_LIMIT, RELATIONS
+from tml.statuses import BASE_RELATIONS, DOCUMENT_LIMIT, EVIDENCE_LIMIT, INTERVAL_LIMIT, LINK_LIMIT, RELATIONS
 
 HEAD = '<TimeML><EVENT eid="e" class="STATE"/>'
+POINTS = 2 * INTERVAL_LIMIT
 NAMES = ("a", "b", "c", "d")
 
 
@@ -130,14 +131,14 @@ class Computed(unittest.TestCase):
 
     def timeline(self) -> bytes:
         """The lines of a timeline of as many intervals as there may be, of great ranks."""
-        return answers.lines(*evidence.timeline_lines((2047,) * 2048))
+        return answers.lines(*evidence.timeline_lines((POINTS - 1,) * POINTS))
 
     def test_relations(self) -> None:
         """Between simultaneous intervals all these hold."""
         held = [relation for relation in ORDERS if set(ORDERS[relation]) <= set(ORDERS[b"SIMULTANEOUS"])]
         self.assertEqual(set(RELATIONS) - set(BASE_RELATIONS), {relation.decode() for relation in held} - {"SIMULTANEOUS"})
         line = sum(len(answers.lines(b"%s %s %s" % (self.name, relation, self.name))) for relation in held)
-        self.assertEqual(line * len(list(combinations(range(1024), 2))), 293_314_560)
+        self.assertEqual(line * len(list(combinations(range(INTERVAL_LIMIT), 2))), 293_314_560)
         self.within("relations", 293_314_560, 0.99)
 
     def within(self, command: str, size: int, least: float) -> None:
@@ -146,26 +147,28 @@ class Computed(unittest.TestCase):
 
     def test_evidence(self) -> None:
         head = b"tml-evidence 2\nclaims 1\n"
-        clash = answers.lines(b"clash 4096", *(b"cite %d" % number for number in range(4096)), b"walk 4096", *[b"via 4095 0"] * 4096)
-        size = len(head) + len(clash) + 4096 * len(self.timeline()) + len(b"end\n")
+        cites = (b"cite %d" % number for number in range(LINK_LIMIT))
+        clash = answers.lines(b"clash %d" % LINK_LIMIT, *cites, b"walk %d" % LINK_LIMIT, *[b"via %d 0" % (LINK_LIMIT - 1)] * LINK_LIMIT)
+        size = len(head) + len(clash) + LINK_LIMIT * len(self.timeline()) + len(b"end\n")
         self.assertLessEqual(longest("solve"), answers.LONGEST_PRINTED)
         for command in ("solve", "ask", "possible", "reduce", "score", "matrix", "relations"):
             self.assertGreaterEqual(longest(command), size)
         self.within("solve", size, 0.99)
 
     def test_lines(self) -> None:
-        pairs = 1024 * 1023 // 2
+        pairs = INTERVAL_LIMIT * (INTERVAL_LIMIT - 1) // 2
         relations = b" ".join(relation.encode() for relation in BASE_RELATIONS)
         self.within("matrix", pairs * len(answers.lines(b"%s %s %s" % (self.name, self.name, relations))), 1)
-        links = [b"tlink %d %s OVERLAPPED_BY %s" % (number, self.name, self.name) for number in range(4096)]
-        intervals = [b"interval %d %s" % (number, self.name) for number in range(1024)]
-        self.within("check", len(answers.lines(b"accepted", b"tlinks 4096", b"instances 1024", *intervals, *links)), 0.99)
+        links = [b"tlink %d %s OVERLAPPED_BY %s" % (number, self.name, self.name) for number in range(LINK_LIMIT)]
+        intervals = [b"interval %d %s" % (number, self.name) for number in range(INTERVAL_LIMIT)]
+        counts = (b"tlinks %d" % LINK_LIMIT, b"instances %d" % INTERVAL_LIMIT)
+        self.within("check", len(answers.lines(b"accepted", *counts, *intervals, *links)), 0.99)
         self.within("canon", 6 * (DOCUMENT_LIMIT - 100), 0.99)
         self.within("verify", len(b"verified entails %s DURING %s\n" % (self.name, self.name)) * (EVIDENCE_LIMIT // 33 - 1), 0.6)
 
     @unittest.skipUnless(os.environ.get("TML_SLOW") and os.access(TML, os.X_OK), "takes a minute: TML_SLOW=1 has it tried, with a program")
     def test_the_longest_answer_is_believed(self) -> None:
-        names = [f"{'n' * 60}{number:04}" for number in range(1024)]
+        names = [f"{'n' * 60}{number:04}" for number in range(INTERVAL_LIMIT)]
         self.assertEqual(len(Process(TML).answer("relations", [same(names)])[1]), 293_314_560)
 
 

@@ -9,8 +9,9 @@ import xml.etree.ElementTree as ElementTree
 
 from corpus import COMPANION, TML, CorpusTest, document, needed, needs_matrix, text_at
 from test_timeline import XHTML, Parsed, event, link
+from tml.statuses import BASE_RELATIONS
 
-EVERY = "BEFORE AFTER INCLUDES IS_INCLUDED SIMULTANEOUS IBEFORE IAFTER BEGINS BEGUN_BY ENDS ENDED_BY OVERLAPS OVERLAPPED_BY"
+EVERY = " ".join(BASE_RELATIONS)
 
 
 @needs_matrix

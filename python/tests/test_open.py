@@ -19,6 +19,7 @@ from test_reference import random_net
 from test_timeline import event, link
 from tml.matrices import read_matrix
 from tml.running import run
+from tml.statuses import LINK_LIMIT
 from tml_corpus.asking.pool import Interruption
 from tml_corpus.asking.program import Program
 from tml_corpus.matrix.settling import Settling
@@ -158,7 +159,7 @@ class Refused(OpenTest):
                 self.assertRegex(line, f"^d\\.xml: not judged: {said}")
 
     def test_as_many_links_as_there_may_be(self) -> None:
-        self.write("d.xml", document(event(1) + event(2) + event(3) + 4096 * link(1, "DURING", 2)))
+        self.write("d.xml", document(event(1) + event(2) + event(3) + LINK_LIMIT * link(1, "DURING", 2)))
         self.assertEqual(self.run_it("open", "d.xml")[:2], (2, ["d.xml: not judged: the document has 4,096 links, and may have no more"]))
 
     def test_an_interruption(self) -> None:

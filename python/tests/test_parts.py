@@ -14,7 +14,6 @@ from typing import Any
 from unittest import mock
 
 from corpus import SOURCES, TOOLS, TOP, match_in, needed, text_at
-from installing import INSTALLED
 from tml import places, running
 from tml import statuses as tml_statuses
 from tml.places import Places, caret_lines
@@ -395,8 +394,8 @@ class Project(unittest.TestCase):
             module, function = place.split(":")
             script = os.path.join(TOOLS, name if name in ("tml-corpus", "tml-edit") else name.removeprefix("tml-"))
             with self.subTest(name), open(script, encoding="utf-8") as file:
-                self.assertIn(f"\nfrom {module} import {function}\n" if INSTALLED else f'\nlaunch("{module}")\n', file.read())
-                self.assertEqual(function, "main")
+                self.assertIn(f"\nfrom {module} import {function}\n", file.read())
+                self.assertEqual(function, os.path.basename(script).replace("-", "_"))
                 said = subprocess.run([sys.executable, script, "--version"], capture_output=True, text=True, check=True).stdout
                 self.assertEqual(said, f"{os.path.basename(script)} {project['version']}\n")
 

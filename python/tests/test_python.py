@@ -18,6 +18,7 @@ from corpus import SOURCES, TML, TOO_LONG, TOP, of_type, text_at
 from processes import interpreter, with_own_bytecode
 from tml import asking, finding
 from tml.running import CannotRun
+from tml.statuses import INTERVAL_LIMIT
 
 Question = Callable[[bytes, tml.Answerer], object]
 """A question about one document."""
@@ -166,7 +167,7 @@ class Questions(unittest.TestCase):
             with self.assertRaises(ValueError):
                 tml.ask(FITS, bad, "BEFORE", "a", by=self.by)
         drill: Callable[..., object] = tml.drill
-        for number in (0, 1025, "01"):
+        for number in (0, INTERVAL_LIMIT + 1, "01"):
             with self.assertRaises(ValueError):
                 drill(number, by=self.by)
 
@@ -241,8 +242,8 @@ class Questions(unittest.TestCase):
         self.assertEqual(found, [True] * 120)
 
     def test_long_texts(self) -> None:
-        many = document(*(f'<TIMEX3 tid="t{number}" type="SET"/>' for number in range(1024)))
-        self.assertEqual(len(of_type(tml.Matrix, tml.matrix(many, by=self.by)).cells), 1024 * 1023 // 2)
+        many = document(*(f'<TIMEX3 tid="t{number}" type="SET"/>' for number in range(INTERVAL_LIMIT)))
+        self.assertEqual(len(of_type(tml.Matrix, tml.matrix(many, by=self.by)).cells), INTERVAL_LIMIT * (INTERVAL_LIMIT - 1) // 2)
         self.assertEqual(len(of_type(list, tml.spans(many, by=self.by))), 1027)
 
     def test_a_document_with_other_links(self) -> None:
@@ -290,7 +291,7 @@ class ByLibrary(Questions):
         asking.default_answerer.cache_clear()
 
     def test_python_goes_on_while_it_works(self) -> None:
-        many = document(*(f'<TIMEX3 tid="t{number}" type="SET"/>' for number in range(1024)))
+        many = document(*(f'<TIMEX3 tid="t{number}" type="SET"/>' for number in range(INTERVAL_LIMIT)))
         counted, ended = [0], threading.Event()
 
         def count() -> None:

@@ -9,6 +9,7 @@ import unittest
 
 from corpus import EVENT, INSTANCE, TML, document
 from serving import Client, Json, ServeTest
+from tml.statuses import DOCUMENT_LIMIT
 
 FAULTY = document(EVENT + INSTANCE.replace("e1", "e2"))
 CAN_ASK = {"textDocument": {"uri": "file:///d.xml"}}
@@ -131,7 +132,7 @@ class Missing(ServeTest):
 
     def test_what_was_not_judged_is_a_warning_with_a_code(self) -> None:
         client = self.client()
-        [found] = self.opened(client, document("x" * 4_194_304))
+        [found] = self.opened(client, document("x" * DOCUMENT_LIMIT))
         self.assertEqual((found["severity"], found["code"], found["source"]), (2, "not-judged", "tml"))
         self.assertTrue(found["message"].startswith("not judged: "))
 

@@ -9,6 +9,7 @@ import unittest
 from corpus import EVENT, INSTANCE, TOP, CorpusTest, document
 from serving import Json, done, state_of
 
+from tml.statuses import INTERVAL_LIMIT
 from tml_corpus.check.fix import first_fault
 from tml_corpus.serve.actions import actions
 from tml_corpus.serve.document import OpenDocument
@@ -83,7 +84,7 @@ class Selection(CorpusTest):
         self.assertIn(b'eiid="ei3" eventID="e2"', done(state, event))
 
     def test_no_more_than_tml_takes(self) -> None:
-        instances = "".join(f'<MAKEINSTANCE eiid="j{number}" eventID="e1"/>' for number in range(1024))
+        instances = "".join(f'<MAKEINSTANCE eiid="j{number}" eventID="e1"/>' for number in range(INTERVAL_LIMIT))
         self.assertEqual(selected(state_of(document(EVENT + " word " + instances)), "word"), [])
 
 

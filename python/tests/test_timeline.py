@@ -11,6 +11,7 @@ import xml.etree.ElementTree as ElementTree
 from typing import Any
 
 from corpus import EVENT, INSTANCE, TML, TOP, CorpusTest, document, match_in, needed, needs_matrix, text_at
+from tml.statuses import INTERVAL_LIMIT
 
 Attributes = list[tuple[str, str | None]]
 SVG = "{http://www.w3.org/2000/svg}"
@@ -181,7 +182,7 @@ class Rows(TimelineTest):
             self.assertIn(words, said)
 
     def test_numbers_of_intervals(self) -> None:
-        for count in (0, 1, 2, 100, 1024):
+        for count in (0, 1, 2, 100, INTERVAL_LIMIT):
             with self.subTest(count):
                 events = "".join(event(number) for number in range(count))
                 picture = self.drawn(document(events + "".join(link(number, "AFTER", number - 1) for number in range(1, count))))

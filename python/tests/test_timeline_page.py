@@ -14,6 +14,7 @@ from typing import Any
 from browser import needs_browser
 from corpus import TOP, CorpusTest, document, needs_matrix
 from looking import contrasts, darkened, opened, resized
+from tml.statuses import INTERVAL_LIMIT
 from tml_corpus.timeline.lettering import measured
 
 
@@ -46,8 +47,8 @@ class PageTest(CorpusTest):
 @needs_browser
 class InABrowser(PageTest):
     def test_axis_and_names_stay_in_sight(self) -> None:
-        events = "".join(event(number) for number in range(1024))
-        page = self.made(document(events + "".join(link(number, "BEFORE", number + 1) for number in range(1023))))
+        events = "".join(event(number) for number in range(INTERVAL_LIMIT))
+        page = self.made(document(events + "".join(link(number, "BEFORE", number + 1) for number in range(INTERVAL_LIMIT - 1))))
         with opened() as browser:
             browser.open(page)
             browser.value("document.querySelector('main').scrollTo(5000, 12000)")

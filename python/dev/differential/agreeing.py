@@ -19,10 +19,9 @@ from differential.cases import Case
 from differential.nets import holding
 from differential.words import DOCUMENT, EVIDENCE, draw_possible
 from reference import Outcome
-from tml.statuses import BASE_RELATIONS, INVERSES
+from tml.statuses import BASE_RELATIONS, INVERSES, TmlStatus
 
 SUBJECT = "agreeing"
-DONE = 0
 PART = re.compile(rb"relation ([A-Z_]+)\n(timeline \d+\n(?:at \d+ \d+\n)*)")
 
 
@@ -56,7 +55,7 @@ def draw_agreeing(random: Random, document: bytes) -> Case:
 
 def further(case: Case, outcome: Outcome) -> list[Case]:
     """The questions whose answers are to agree with an answer to `possible`; none where it is not a list of base relations."""
-    found = Possible.read(outcome.text) if outcome.status == DONE else None
+    found = Possible.read(outcome.text) if outcome.status == TmlStatus.DONE else None
     if found is None:
         return []
     _, document, first, second = case.words
@@ -71,7 +70,7 @@ def further(case: Case, outcome: Outcome) -> list[Case]:
 def complaint(case: Case, outcome: Outcome, others: Sequence[tuple[Case, Outcome]]) -> str | None:
     """What is wrong with an answer to `possible` by those to the further questions."""
     found = Possible.read(outcome.text)
-    if found is None or any(other.status != DONE for _, other in others):
+    if found is None or any(other.status != TmlStatus.DONE for _, other in others):
         return f"`possible` and further commands end with {[outcome.status, *(other.status for _, other in others)]}."
     texts = {one.words[0]: other.text for one, other in others}
     if texts[b"verify"] != b"verified timeline\n" * len(found.timelines):

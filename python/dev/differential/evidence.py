@@ -10,7 +10,7 @@ from collections.abc import Callable, Sequence
 from random import Random
 
 from differential.chances import chance
-from tml.statuses import RELATIONS
+from tml.statuses import ORDERS, RELATIONS
 
 COUNTED = {b"timeline": (b"at",), b"walk": (b"via", b"span", b"calendar"), b"clash": (b"cite",)}
 NUMBERS = (
@@ -26,11 +26,6 @@ KEYWORDS = (
     b"claims", b"",
 )  # fmt: skip
 Lines = list[bytes]
-ORDERS = {
-    "SIMULTANEOUS": 4, "IDENTITY": 4, "BEFORE": 1, "AFTER": 1, "BEGINS": 3, "BEGUN_BY": 3, "ENDS": 3, "ENDED_BY": 3, "OVERLAPS": 3,
-    "OVERLAPPED_BY": 3,
-}  # fmt: skip
-"""How many orders relations have, where these are not two."""
 AT = re.compile(rb"at (\d{1,12}) (\d{1,12})")
 GREATEST = (1 << 32) - 1
 PARTS = 4
@@ -358,7 +353,7 @@ def draw_invented(random: Random, intervals: int) -> bytes:
         change_walk(random, block)
     walk = b"".join(line + b"\n" for line in block.lines())
     cites = sorted({random.randrange(5) for _ in range(random.randrange(4))})
-    lists = ORDERS.get(relation.decode(), 2)
+    lists = len(ORDERS[relation.decode()])
     forms = (
         timeline,
         b"counter %d %s %d\n" % (a, relation, b) + timeline,

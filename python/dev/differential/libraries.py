@@ -99,20 +99,20 @@ class Libraries(AbstractContextManager["Libraries"]):
         environment = {**os.environ, "PYTHONPATH": PACKAGES}
         with theirs:
             self.child = subprocess.Popen(command, stdin=theirs.fileno(), env=environment, start_new_session=True)
-        problem = self.received().decode()
+        problem = self.received(max(self.seconds, SECONDS)).decode()
         if problem:
             self.end()
             raise CannotRun(problem)
 
-    def received(self) -> bytes:
+    def received(self, seconds: float) -> bytes:
         """The next message of the process. One that ends, or that takes too long and so is ended, sends none."""
         try:
-            if self.connection.poll(self.seconds):
+            if self.connection.poll(seconds):
                 return self.connection.recv_bytes()
         except (EOFError, OSError):
             raise CannotRun(self.end()) from None
         self.end(kill=True)
-        raise CannotRun(f"The library took longer than {self.seconds:.0f} seconds.")
+        raise CannotRun(f"The library took longer than {seconds:.0f} seconds.")
 
     def end(self, kill: bool = False) -> str:
         """Ends the process, and says in a sentence how it ended."""
@@ -137,7 +137,7 @@ class Libraries(AbstractContextManager["Libraries"]):
             # One that has ended meanwhile has sent nothing either.
             for part in (question.words, question.first, question.second):
                 self.connection.send_bytes(part)
-        answered = self.received()
+        answered = self.received(self.seconds)
         return Outcome(answered[0], answered[1:])
 
     def complaint(self, case: Case, outcome: Outcome) -> str | None:

@@ -18,11 +18,10 @@ from differential.datetimes import bounds
 from differential.nets import INVERSE
 from differential.trees import DECODED, Node, tree_of
 from reference import Outcome
-from tml.statuses import BASE_RELATIONS, RELATIONS
+from tml.statuses import BASE_RELATIONS, RELATIONS, TmlStatus
 
 IS_THERE = importlib.util.find_spec("z3") is not None
 MOST_INTERVALS = 12
-CLASH = 2
 COMMANDS = (b"solve", b"ask", b"relations", b"possible", b"matrix", b"reduce")
 INVERSE_OF = {inverse: relation for relation, inverse in INVERSE.items() if inverse != relation}
 ENDS = ("eventInstanceID", "timeID"), ("relatedToEventInstance", "relatedToTime")
@@ -106,14 +105,14 @@ class Reals:
 
 def complaint(case: Case, outcome: Outcome) -> str | None:
     """What is wrong with a timeline, a clash, an answer to `ask` or lines of relations, by real numbers; nothing where z3 is missing."""
-    if not IS_THERE or outcome.status not in (0, CLASH) or not case.words or case.words[0] not in COMMANDS:
+    if not IS_THERE or outcome.status not in (TmlStatus.DONE, TmlStatus.CLASH) or not case.words or case.words[0] not in COMMANDS:
         return None
     document = case.files[case.words[1]]
     nodes = None if DECODED.search(document) else tree_of(document)
     if nodes is None or sum(name in ("MAKEINSTANCE", "TIMEX3") for what, name, _ in nodes if what == "start") > MOST_INTERVALS:
         return None
     reals = Reals(nodes)
-    if outcome.status == CLASH:
+    if outcome.status == TmlStatus.CLASH:
         return of_clash(reals, outcome.text)
     if not reals.can_be(reals.links):
         return "By real numbers nothing fits, and the answer is not a clash."

@@ -42,7 +42,7 @@ class Pending:
     """What was read of a row: the lines of its commands, and the text that is wanted."""
 
     commands: list[tuple[int, bytes]] = field(default_factory=list)
-    wanted: bytes = b""
+    wanted: bytearray = field(default_factory=bytearray)
 
 
 class Table:
@@ -56,7 +56,7 @@ class Table:
         self.settings: list[tuple[str, int]] = []
         self.row: Pending | None = None
         self.file: bytes | None = None
-        self.begun = b""
+        self.begun = bytearray()
 
     def keep(self, name: bytes, text: bytes) -> None:
         """Makes a file of a text. Those above the first section are there in all."""
@@ -108,8 +108,8 @@ class Table:
     def end_file(self) -> None:
         """The file that was begun is there."""
         if self.file is not None:
-            self.keep(self.file, self.begun)
-        self.file, self.begun = None, b""
+            self.keep(self.file, bytes(self.begun))
+        self.file, self.begun = None, bytearray()
 
     def begin(self, line: bytes) -> None:
         """Takes a line outside of files and rows."""
@@ -118,7 +118,7 @@ class Table:
             self.section, self.own = line[3:].decode(), {}
         elif line.startswith(b"file "):
             self.file, first, text = line[5:].partition(b"|")
-            self.begun = unescaped(line_of(text)) if first else b""
+            self.begun += unescaped(line_of(text)) if first else b""
         elif setting:
             self.settings.append((setting[1].decode(), int(setting[2])))
         elif line and not line.startswith(b"#"):
@@ -128,6 +128,7 @@ class Table:
         """The rows of the commands that end with a status. The next row has other devices."""
         assert self.row is not None and self.section is not None
         row, memory = self.row, memory_of(self.settings)
+        wanted = bytes(row.wanted)
         self.row, self.settings = None, []
         for number, command in row.commands:
             command, given, text = command.partition(b" <<< ")
@@ -136,7 +137,7 @@ class Table:
             files = {**self.common, **self.own, **({STANDARD_INPUT: unescaped(text)} if given else {})}
             case = Case(self.section, words, files, memory)
             case = Case(self.section, words, {name: files[name] for name in case.readings() if name in files}, memory)
-            yield Row(self.section, number, case, Outcome(status, row.wanted), name if redirected else None)
+            yield Row(self.section, number, case, Outcome(status, wanted), name if redirected else None)
 
 
 def to_status(lines: Iterator[tuple[int, bytes]]) -> Iterator[tuple[int, bytes]]:

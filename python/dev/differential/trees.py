@@ -12,6 +12,7 @@ from xml.parsers import expat
 from differential.cases import Case
 from differential.datetimes import bounds
 from reference import Outcome
+from tml.statuses import TmlStatus
 
 Node = tuple[str, str, tuple[tuple[str, str], ...]]
 """A part of a tree as it is met: what it is, its name or text, and its attributes by their names."""
@@ -81,7 +82,7 @@ def dates_of(nodes: Sequence[Node]) -> str:
 
 def complaint(case: Case, outcome: Outcome) -> str | None:
     """What is wrong with a canonical text, or with dates, of a document that expat reads."""
-    if outcome.status != 0 or case.words[:1] not in ((b"canon",), (b"dates",)):
+    if outcome.status != TmlStatus.DONE or case.words[:1] not in ((b"canon",), (b"dates",)):
         return None
     document = case.files[case.words[1]]
     if case.words[0] == b"dates" and DECODED.search(document):

@@ -29,9 +29,12 @@ from differential.programs import Programs
 from differential.rows import Rows, is_for_rows
 from differential.words import DOCUMENT
 from reference import Outcome
+from tml.statuses import TmlStatus
 
 CASES = 100
 WRITINGS = 20
+PRINTED = (TmlStatus.DONE, TmlStatus.CLASH)
+"""The statuses with which evidence, a placing or a cycle is printed."""
 OF_EVIDENCE = 80
 AGREEING = 12
 THROUGH_PROCESSES = 0.05
@@ -134,14 +137,14 @@ class Trial:
     def evidence(self, random: Random) -> None:
         """Tries a batch of evidence: lets the program write some, and damages it."""
         done = self.try_all([draw_writing(random) for _ in range(WRITINGS)], random)
-        written = [Written(case.files[DOCUMENT], outcome.text) for case, outcome in done if outcome.status in (0, 2) and outcome.text]
+        written = [Written(case.files[DOCUMENT], outcome.text) for case, outcome in done if outcome.status in PRINTED and outcome.text]
         if written:
             self.try_all([draw_of_evidence(random, written) for _ in range(OF_EVIDENCE)], random)
 
     def placings(self, random: Random) -> None:
         """Tries a batch of placings and cycles: lets the program write some, and damages them."""
         done = self.try_all([draw_placing(random) for _ in range(WRITINGS)], random)
-        written = [Written(case.files[DOCUMENT], outcome.text) for case, outcome in done if outcome.status in (0, 2) and outcome.text]
+        written = [Written(case.files[DOCUMENT], outcome.text) for case, outcome in done if outcome.status in PRINTED and outcome.text]
         if written:
             self.try_all([draw_confirming(random, written) for _ in range(OF_EVIDENCE)], random)
 

@@ -3,6 +3,7 @@
 from __future__ import annotations
 
 import functools
+import operator
 from collections.abc import Iterable, Iterator, Sequence
 from dataclasses import dataclass
 
@@ -99,9 +100,12 @@ def keeps_calendar(net: Net, ranks: Ranks) -> bool:
     """Whether all orders that the calendar gives are true of ranks: its numbers are gone through once, and no pairs are asked."""
     before = -1
     for uppers, lowers in net.calendar:
-        until = max((before, *(ranks[point] for point in uppers)))
-        if any(ranks[point] <= before or ranks[point] < until for point in lowers):
-            return False
+        until = before
+        for point in uppers:
+            until = max(until, ranks[point])
+        for point in lowers:
+            if ranks[point] <= before or ranks[point] < until:
+                return False
         before = until
     return True
 
@@ -110,7 +114,7 @@ def fits(net: Net, ranks: Ranks, links: Iterable[int]) -> bool:
     """*Fits*: whether ranks fit a net with a set of its links."""
     if len(ranks) != net.points():
         return False
-    start_first = all(ranks[2 * one] < ranks[2 * one + 1] for one in range(net.intervals()))
+    start_first = all(map(operator.lt, ranks[::2], ranks[1::2]))
     return start_first and keeps_calendar(net, ranks) and all(keeps_link(net, ranks, link) for link in links)
 
 

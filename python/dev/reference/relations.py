@@ -5,7 +5,7 @@ What a relation says is written down twice, as the page has it: where it holds o
 
 from __future__ import annotations
 
-from collections.abc import Mapping, Sequence
+from collections.abc import Callable, Mapping, Sequence
 from dataclasses import dataclass
 
 Interval = tuple[int, int]
@@ -75,16 +75,19 @@ def orders_of(left: int, relation: bytes, right: int) -> tuple[Order, ...]:
 def holds(left: Interval, relation: bytes, right: Interval) -> bool:
     """*Relations*: whether a relation holds of two intervals, by their starts and ends."""
     if relation in INVERSES:
-        return holds(right, INVERSES[relation], left)
-    (start, finish), (other_start, other_finish) = left, right
-    return {
-        b"BEFORE": finish < other_start,
-        b"IBEFORE": finish == other_start,
-        b"IS_INCLUDED": other_start < start and finish < other_finish,
-        b"DURING": other_start <= start and finish <= other_finish,
-        b"BEGINS": start == other_start and finish < other_finish,
-        b"ENDS": finish == other_finish and other_start < start,
-        b"SIMULTANEOUS": start == other_start and finish == other_finish,
-        b"IDENTITY": start == other_start and finish == other_finish,
-        b"OVERLAPS": start < other_start and other_start < finish and finish < other_finish,
-    }[relation]
+        return HOLDS[INVERSES[relation]](*right, *left)
+    return HOLDS[relation](*left, *right)
+
+
+HOLDS: Mapping[bytes, Callable[[int, int, int, int], bool]] = {
+    b"BEFORE": lambda start, finish, other_start, other_finish: finish < other_start,
+    b"IBEFORE": lambda start, finish, other_start, other_finish: finish == other_start,
+    b"IS_INCLUDED": lambda start, finish, other_start, other_finish: other_start < start and finish < other_finish,
+    b"DURING": lambda start, finish, other_start, other_finish: other_start <= start and finish <= other_finish,
+    b"BEGINS": lambda start, finish, other_start, other_finish: start == other_start and finish < other_finish,
+    b"ENDS": lambda start, finish, other_start, other_finish: finish == other_finish and other_start < start,
+    b"SIMULTANEOUS": lambda start, finish, other_start, other_finish: start == other_start and finish == other_finish,
+    b"IDENTITY": lambda start, finish, other_start, other_finish: start == other_start and finish == other_finish,
+    b"OVERLAPS": lambda start, finish, other_start, other_finish: start < other_start < finish < other_finish,
+}
+"""The table of *Relations*, without those that are another one the other way round: by the start and the end of each interval."""

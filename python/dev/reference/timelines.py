@@ -46,9 +46,13 @@ def all_timelines(intervals: int) -> tuple[Ranks, ...]:
 
 def fitting(net: Net, links: Iterable[int], further: Sequence[Order] = ()) -> list[Ranks]:
     """Those of all timelines of a small net that fit it with a set of links, and of which some further orders are true."""
-    chosen = list(links)
-    timelines = all_timelines(net.intervals())
-    return [ranks for ranks in timelines if all(order.is_true(ranks) for order in further) and fits(net, ranks, chosen)]
+    return [ranks for ranks in that_fit(net, tuple(links)) if all(order.is_true(ranks) for order in further)]
+
+
+@functools.lru_cache(maxsize=16)
+def that_fit(net: Net, links: tuple[int, ...]) -> tuple[Ranks, ...]:
+    """The same without further orders. The last ones are kept, since many further orders are asked of one net."""
+    return tuple(ranks for ranks in all_timelines(net.intervals()) if fits(net, ranks, links))
 
 
 def least_tried(net: Net, links: Iterable[int], further: Sequence[Order] = ()) -> Ranks | None:

@@ -32,13 +32,13 @@ class UnitKind(Enum):
 
 
 SPELLINGS: tuple[tuple[UnitKind, re.Pattern[bytes]], ...] = (
-    (UnitKind.DECLARATION, re.compile(rb"<\?xml" + SPACE + rb".*?\?>", re.DOTALL)),
-    (UnitKind.DOCTYPE, re.compile(rb"<!DOCTYPE" + SPACE + rb"[^\[<>]*>")),
-    (UnitKind.COMMENT, re.compile(rb"<!--.*?-->", re.DOTALL)),
     (UnitKind.TEXT, re.compile(rb"[^<]+")),
     (UnitKind.START, re.compile(rb"<(" + NAME + rb")" + ATTRIBUTES + SPACE + rb"*>")),
     (UnitKind.END, re.compile(rb"</(" + NAME + rb")" + SPACE + rb"*>")),
     (UnitKind.EMPTY, re.compile(rb"<(" + NAME + rb")" + ATTRIBUTES + SPACE + rb"*/>")),
+    (UnitKind.COMMENT, re.compile(rb"<!--.*?-->", re.DOTALL)),
+    (UnitKind.DECLARATION, re.compile(rb"<\?xml" + SPACE + rb".*?\?>", re.DOTALL)),
+    (UnitKind.DOCTYPE, re.compile(rb"<!DOCTYPE" + SPACE + rb"[^\[<>]*>")),
 )
 """The spelling of each kind but Bom. No two of them begin alike, and a body that is spelled by `.*?` ends as soon as it can."""
 

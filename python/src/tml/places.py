@@ -19,6 +19,7 @@ FARTHEST = 4 * SHOWN_WIDTH
 """How many bytes around a place have all that is shown of its line."""
 
 BLOCK = 4096
+"""What stands before each block of so many bytes is counted once."""
 
 
 class Place(NamedTuple):

@@ -12,6 +12,9 @@ DOCUMENT_LIMIT = 4_194_304
 MANY_BYTES = 256 * 1024
 """A document with more bytes than this is a long one, of which nothing is kept that can be looked for again."""
 
+MOST_REMEMBERED = 4096
+"""How many things of one kind are remembered that come again in other documents."""
+
 EVIDENCE_LIMIT = 67_108_864
 """How many bytes `tml` takes of evidence."""
 

@@ -6,24 +6,26 @@
         print(judgement.path, judgement.accepted())
 """
 
-from __future__ import annotations
-
-from importlib import import_module
-from typing import TYPE_CHECKING, Any
+TYPE_CHECKING = False
+"""As that of `typing`, which is not imported here: a command comes by this package before it can say that memory does not last."""
 
 if TYPE_CHECKING:
+    from typing import Any
+
     from .functions import *
 
     VERSION: str
     """The version of the companions, which is that of the package `tml`."""
 
 
-def __getattr__(name: str) -> Any:
+def __getattr__(name: str) -> "Any":
     """Loads the functions and the version of the package once they are asked for, so that a command can begin in little memory."""
     if name == "VERSION":
         from tml import __version__
 
         return __version__
+    from importlib import import_module
+
     if not name.startswith("_") and name in (functions := import_module(".functions", __name__)).__all__:
         return getattr(functions, name)
     raise AttributeError(f"module {__name__!r} has no attribute {name!r}")

@@ -14,7 +14,7 @@ from itertools import accumulate
 
 from ..places import BYTE_ORDER_MARK
 from ..running import CannotRun
-from ..statuses import TmlStatus
+from ..statuses import MOST_REMEMBERED, TmlStatus
 from .units import EMPTY, END, KINDS, START, TEXT, Attribute, Cutter, Units, read_units
 
 NAME = rb"[A-Za-z_:\x80-\xff][A-Za-z0-9_:.\x80-\xff-]*+"
@@ -28,8 +28,8 @@ BOM, COMMENT, DECLARATION, DOCTYPE = map(KINDS.index, ("bom", "comment", "declar
 
 MARKUP, SLASH = b"</"
 
-MOST_REMEMBERED, LONGEST_REMEMBERED = 4096, 64
-"""The kind and the name of so many beginnings of pieces are remembered, of at most so many bytes: they come again in all documents."""
+LONGEST_REMEMBERED = 64
+"""Of how many bytes the beginning of a piece is at most of which the kind and the name are remembered."""
 
 Shape = tuple[int, bytes]
 

@@ -8,7 +8,7 @@ from functools import cached_property
 from typing import Any, NamedTuple, Protocol, TypeVar
 
 from ..places import Places
-from ..statuses import MANY_BYTES
+from ..statuses import MANY_BYTES, MOST_REMEMBERED
 from .edits import Edit, Ways
 from .profile import IDENTIFIERS, LEFT, RIGHT, ROOT, TABLE, Kind
 from .units import END, START, TEXT, Attribute, Unit, Units
@@ -22,8 +22,8 @@ SINGLE, DOUBLE = "'", '"'
 VALUE = re.compile(r"""([^ \t\r\n=]++)[ \t\r\n]*+=[ \t\r\n]*+(?:"([^"]*+)"|'([^']*+)')""")
 """An attribute of a tag: its name, and its value between quotes of either kind."""
 
-MOST_REMEMBERED, LONGEST_REMEMBERED = 4096, 256
-"""How many tags are remembered as they are written, and of how many bytes at most: many of them come again in other documents."""
+LONGEST_REMEMBERED = 256
+"""Of how many bytes a tag is at most that is remembered as it is written."""
 
 MANNERS = {"EVENT": "e", "MAKEINSTANCE": "ei", "TIMEX3": "t", "SIGNAL": "s"}
 """How identifiers mostly begin."""

@@ -17,6 +17,7 @@ from tml.explaining.faults import Fault, read_fault
 from tml.explaining.markup import NAME, quotes_of_tag
 from tml.explaining.nesting import open_link
 from tml.places import Places
+from tml.statuses import DOCUMENT_LIMIT
 from tml.tags.edits import Edit, applied, blank, encoded
 from tml.tags.profile import IDENTIFIERS, TABLE, Kind, Row, is_identifier
 from tml.tags.source import Explanation, Source
@@ -47,7 +48,7 @@ CONSEQUENCES = {
 }
 """Of each fault those that may come from what is blanked out for it. An unknown reference does so only where its identifier is gone."""
 
-MOST_BYTES = 4 * 1024 * 1024
+MOST_BYTES = DOCUMENT_LIMIT
 """How many bytes of changed documents `tml` is asked about at most."""
 
 WORD = re.compile(rb"[A-Za-z0-9_.-]+")

@@ -8,6 +8,7 @@ from functools import partial
 
 from tml.explaining.faults import BAD_MARKUP, UNKNOWN_TAG, read_fault
 from tml.places import Place, Places
+from tml.statuses import DOCUMENT_LIMIT
 from tml.tags.source import cut as shortened
 from tml.tags.units import read_units
 
@@ -16,7 +17,7 @@ from ..asking.program import FAULT, Program, Reply
 from ..files.finding import Found, shown
 
 MOST_BLANKS = 100
-MOST_BYTES = 32 * 1024 * 1024
+MOST_BYTES = 8 * DOCUMENT_LIMIT
 """So much is asked about one document at most: about the longest ones eight times."""
 
 MOST_NAMES = 2000

@@ -10,6 +10,7 @@ from collections.abc import Collection, Mapping
 from functools import cached_property
 from operator import attrgetter
 
+from tml.statuses import DOCUMENT_LIMIT
 from tml.tags.edits import with_value
 from tml.tags.source import Source
 from tml.tags.units import Unit
@@ -23,7 +24,7 @@ START_OF_TAG = attrgetter("start")
 INTERVAL_TAGS = ("EVENT", "SIGNAL", "MAKEINSTANCE", "TIMEX3", "TLINK")
 
 QUESTIONS = 400
-BYTES = 64 * 1024 * 1024
+BYTES = 16 * DOCUMENT_LIMIT
 """So much is asked about one document at most: a bound that depends on the document alone, not on the time of day."""
 
 

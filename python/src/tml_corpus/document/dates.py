@@ -6,13 +6,13 @@ those times alone that it was not asked about before. In a corpus the same dates
 
 from __future__ import annotations
 
-from tml.statuses import MANY_BYTES
+from tml.statuses import MANY_BYTES, MOST_REMEMBERED
 from tml.tags.source import Source
 
 from ..asking.program import ACCEPTED, CannotRun, Program
 
-MOST_REMEMBERED, LONGEST_REMEMBERED = 4096, 64
-"""Answers on so many times are remembered, of which the value has at most so many characters."""
+LONGEST_REMEMBERED = 64
+"""How many characters the value of a time has at most on which the answer is remembered."""
 
 Time = tuple[str, str, str]
 """The type, the modifier and the value, as they are written; nothing where one is not there."""

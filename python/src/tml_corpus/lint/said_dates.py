@@ -7,6 +7,8 @@ from datetime import date
 from functools import lru_cache
 from typing import NamedTuple
 
+from tml.statuses import MOST_REMEMBERED
+
 from ..document.date_words import MONTHS
 
 WEEKDAYS = ("Monday", "Tuesday", "Wednesday", "Thursday", "Friday", "Saturday", "Sunday")
@@ -25,9 +27,6 @@ MONTH = word_of(MONTHS, "|Sept")
 YEAR = re.compile(r"(?<!\d)(?:1\d|20)\d\d(?!\d)")
 FULL_YEAR, DAY, WEEK_DAY = re.compile(r"(?:FY)?(\d{4})(?!\d)"), re.compile(r"(\d{4})-(\d\d)-(\d\d)(?!\d)"), re.compile(r"\d{4}-W\d\d-(\d)")
 YEAR_AND_MONTH = re.compile(r"\d{4}-(\d\d)(?!\d)")
-
-MOST_REMEMBERED = 4096
-"""Of so many words and values it is remembered whether they contradict each other: in a corpus the same come again and again."""
 
 MOST_DAYS = 31
 """How many days from its creation time a document mostly speaks of."""

@@ -11,7 +11,7 @@ from itertools import chain, islice
 from operator import itemgetter
 
 from tml.explaining.faults import BAD_MARKUP, Fault
-from tml.statuses import RELATIONS
+from tml.statuses import DOCUMENT_LIMIT, RELATIONS
 from tml.tags.edits import Edit
 from tml.tags.profile import LEFT, RIGHT
 from tml.tags.source import Explanation, Source
@@ -28,7 +28,7 @@ MOST_EDITS = 1000
 """How many edits go one by one; of more one edit is made."""
 
 MOST_OFFERED, LEAST_OFFERED = 64, 4
-MOST_BYTES = 64 * 1024 * 1024
+MOST_BYTES = 16 * DOCUMENT_LIMIT
 """How many edits are offered for the lines that are asked for; of a long document fewer, since `tml` is asked about each."""
 
 

@@ -10,6 +10,7 @@ import re
 from bisect import bisect_right
 from itertools import accumulate
 
+from tml.places import BLOCK
 from tml.tags.edits import Edit
 from .wire import Json, member
 
@@ -20,8 +21,6 @@ AFTER_FIRST = bytes(range(0x80, 0xC0))
 
 NO_PAIR = bytes(byte for byte in range(256) if not 0xF0 <= byte < 0xF8)
 """The bytes with which no character begins that takes two units."""
-
-BLOCK = 4096
 
 
 def units_in(text: bytes) -> int:
