@@ -4,62 +4,78 @@
 
 use std::hash::{BuildHasher, RandomState};
 
-/// A hash of a name: its words are folded into a seed that was drawn, one after another.
-#[inline]
-fn hash(seed: u64, name: &[u8]) -> u64 {
-    let fold = |state: u64, word: u64| {
-        let product = u128::from(state ^ word) * 0x9e37_79b9_7f4a_7c15;
-        product as u64 ^ (product >> 64) as u64
-    };
-    let words = name.chunks_exact(8);
-    let last = words.remainder().iter().fold(1, |word, &byte| word << 8 | u64::from(byte));
-    fold(words.fold(seed, |state, word| fold(state, u64::from_le_bytes(word.try_into().unwrap_or_default()))), last)
+use crate::source::{Source, Span};
+
+/// A name and what is known of it. A slot whose name has no length is free.
+#[derive(Clone, Copy, Default)]
+pub struct Entry {
+    pub name: Span,
+    /// The kinds of tags that have the name, as bits.
+    pub tags: u16,
+    /// The number of the interval that has it.
+    pub interval: u16,
 }
 
-/// A table with the numbers of names, each in a slot for its name. A slot holds one more than the number, or 0.
-pub struct Index {
-    slots: Vec<u32>,
+/// A table of names that are not empty, each in a slot for it.
+pub struct Table {
+    slots: Vec<Entry>,
     seed: u64,
 }
 
-impl Index {
-    pub fn of(count: usize) -> Index {
-        Index { slots: vec![0; (2 * count + 1).next_power_of_two()], seed: RandomState::new().hash_one(0) }
+impl Table {
+    /// A table with room for so many names.
+    pub fn of(count: usize) -> Table {
+        let slots = vec![Entry::default(); (count + count / 2 + 1).next_power_of_two()];
+        Table { slots, seed: RandomState::new().hash_one(0) }
     }
 
-    /// The table of some names, by their numbers in order.
-    pub fn of_all(names: &[&[u8]]) -> Index {
-        let mut index = Index::of(names.len());
-        for number in 0..names.len() {
-            index.insert(number, |other| names[other]);
+    /// A hash of a name: its words are folded into the seed, one after another.
+    #[inline(always)]
+    fn hash(&self, source: Source, name: Span) -> u64 {
+        let fold = |state: u64, word: u64| {
+            let product = u128::from(state ^ word) * 0x9e37_79b9_7f4a_7c15;
+            product as u64 ^ (product >> 64) as u64
+        };
+        let (mut state, mut rest) = (self.seed ^ u64::from(name.len), name);
+        while rest.len > 8 {
+            state = fold(state, source.word(rest.at as usize));
+            rest = Span { at: rest.at + 8, len: rest.len - 8 };
         }
-        index
+        fold(state, source.first_word(rest))
     }
 
-    /// The slot of the number whose name this is, or the empty slot for it.
-    #[inline]
-    fn slot<'a>(&self, name: &[u8], name_of: impl Fn(usize) -> &'a [u8]) -> usize {
+    /// The slot of a name of a source, or the free slot for it; the names of the table stand in another source, perhaps.
+    #[inline(always)]
+    fn slot(&self, source: Source, name: Span, is_name: impl Fn(Span) -> bool) -> usize {
         let mask = self.slots.len() - 1;
-        let mut slot = hash(self.seed, name) as usize & mask;
-        while self.slots[slot] != 0 && name_of(self.slots[slot] as usize - 1) != name {
+        let mut slot = self.hash(source, name) as usize & mask;
+        while self.slots[slot].name.len != 0 && !is_name(self.slots[slot].name) {
             slot = (slot + 1) & mask;
         }
         slot
     }
 
-    #[inline]
-    pub fn find<'a>(&self, name: &[u8], name_of: impl Fn(usize) -> &'a [u8]) -> Option<usize> {
-        (self.slots[self.slot(name, name_of)] as usize).checked_sub(1)
+    /// What is known of a name, to be read or changed; it is put into the table where it is not there yet.
+    #[inline(always)]
+    pub fn entry(&mut self, source: Source, name: Span) -> (&mut Entry, bool) {
+        let slot = self.slot(source, name, |other| source.is_same(name, other));
+        let entry = &mut self.slots[slot];
+        let is_new = entry.name.len == 0;
+        entry.name = name;
+        (entry, is_new)
     }
 
-    /// The number that has the name already; where there is none, this one takes it.
-    #[inline]
-    pub fn insert<'a>(&mut self, number: usize, name_of: impl Fn(usize) -> &'a [u8]) -> Option<usize> {
-        let slot = self.slot(name_of(number), name_of);
-        let before = (self.slots[slot] as usize).checked_sub(1);
-        if before.is_none() {
-            self.slots[slot] = number as u32 + 1;
-        }
-        before
+    /// What is known of a name.
+    #[inline(always)]
+    pub fn find(&self, source: Source, name: Span) -> Option<&Entry> {
+        let entry = &self.slots[self.slot(source, name, |other| source.is_same(name, other))];
+        (entry.name.len != 0).then_some(entry)
+    }
+
+    /// The interval of this source whose name is that of another one.
+    pub fn interval_of(&self, source: Source, other: Source, name: Span) -> Option<u16> {
+        let text = other.text(name);
+        let entry = &self.slots[self.slot(other, name, |own| source.text(own) == text)];
+        (entry.name.len != 0 && entry.interval != u16::MAX).then_some(entry.interval)
     }
 }
