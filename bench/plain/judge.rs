@@ -101,8 +101,17 @@ impl<'a> Judge<'a> {
     }
 
     /// Looks at the attributes of a tag: an empty value counts as absent. Notes what it is and names.
+    #[inline(never)]
+    fn look_at_tag(&mut self, kind: TagKind, place: usize, attributes: &[Attribute]) {
+        if self.typing_fault.is_none() {
+            if let Err(kind) = self.typed(kind, place, attributes) {
+                self.typing_fault = Some(Fault { place, kind });
+            }
+        }
+    }
+
     #[inline(always)]
-    fn look_at_tag(&mut self, kind: TagKind, place: usize, attributes: &[Attribute]) -> Result<(), Kind> {
+    fn typed(&mut self, kind: TagKind, place: usize, attributes: &[Attribute]) -> Result<(), Kind> {
         let profile = kind.profile();
         let mut values = Values { given: 0, spans: [Span::default(); MOST_FIELDS], choice: 0 };
         let (mut seen, mut carried, mut is_bad) = (0u32, 0, false);
@@ -194,18 +203,13 @@ impl<'a> Judge<'a> {
         let mut table = Table::of(self.identifiers.len());
         let (mut duplicate, mut intervals) = (None, 0);
         for Mention { place, name, tag } in &self.identifiers {
-            let (entry, is_new) = table.entry(self.source, *name);
-            if !is_new {
+            let is_interval = matches!(tag, TagKind::Instance | TagKind::Time);
+            if !table.insert(self.source, *name, tag.bit(), if is_interval { intervals } else { u16::MAX }) {
                 duplicate.get_or_insert(Fault { place: *place as usize, kind: Kind::DuplicateId });
             }
-            let is_interval = matches!(tag, TagKind::Instance | TagKind::Time);
-            entry.tags |= tag.bit();
-            entry.interval = if is_interval { intervals } else { u16::MAX };
             intervals = intervals.wrapping_add(u16::from(is_interval));
         }
-        let is_unknown = |mention: &&Mention| {
-            table.find(self.source, mention.name).is_none_or(|entry| entry.tags & mention.tag.bit() == 0)
-        };
+        let is_unknown = |mention: &&Mention| table.find(self.source, mention.name).tags & mention.tag.bit() == 0;
         let unknown = self.references.iter().find(is_unknown);
         let unknown = unknown.map(|mention| Fault { place: mention.place as usize, kind: Kind::UnknownReference });
         (table, [duplicate, unknown, self.limit_fault].into_iter().flatten().min())
@@ -224,7 +228,8 @@ impl<'a> Judge<'a> {
         }
     }
 
-    #[inline(always)]
+    #[cold]
+    #[inline(never)]
     fn misplaced(&mut self, place: usize, kind: Kind) {
         self.nesting_fault.get_or_insert(Fault { place, kind });
     }
@@ -258,12 +263,7 @@ impl Visitor for Judge<'_> {
         match self.nest(&tag) {
             Err(kind) => self.misplaced(tag.start, kind),
             Ok(kind) if attributes.is_empty() && kind >= TagKind::Root => {}
-            Ok(kind) if self.typing_fault.is_none() => {
-                if let Err(fault) = self.look_at_tag(kind, tag.start, attributes) {
-                    self.typing_fault = Some(Fault { place: tag.start, kind: fault });
-                }
-            }
-            Ok(_) => {}
+            Ok(kind) => self.look_at_tag(kind, tag.start, attributes),
         }
     }
 
@@ -279,10 +279,11 @@ impl Visitor for Judge<'_> {
 }
 
 /// Whether two attributes have one name.
+#[cold]
 fn repeats(source: Source, attributes: &[Attribute]) -> bool {
     if attributes.len() > 12 {
         let mut table = Table::of(attributes.len());
-        return attributes.iter().any(|attribute| !table.entry(source, attribute.name).1);
+        return attributes.iter().any(|attribute| !table.insert(source, attribute.name, 0, 0));
     }
     let is_repeated = |(index, attribute): (usize, &Attribute)| {
         attributes[..index].iter().any(|before| source.is_same(before.name, attribute.name))

@@ -77,7 +77,7 @@ pub struct Net {
 impl Net {
     pub fn of(document: &Judged) -> Net {
         let (source, judge) = (document.judge.source, &document.judge);
-        let number = |name| document.table.find(source, name).map_or(0, |entry| entry.interval);
+        let number = |name| document.table.find(source, name).interval;
         let link = |link: &crate::judge::Link| NetLink { left: number(link.left), relation: link.relation, right: number(link.right) };
         Net { intervals: judge.intervals.len(), links: judge.links.iter().map(link).collect() }
     }

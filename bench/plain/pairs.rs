@@ -6,7 +6,7 @@
 use crate::closure::{Half, Rows};
 use crate::judge::Judged;
 use crate::nets::{Components, Graph, Net, BASE, ORDERS};
-use crate::print::{push_all, Padded};
+use crate::print::{push_all, Padded, Pen};
 use crate::profile::RELATIONS;
 use crate::sets::{keys, text_of};
 use crate::solve::clash;
@@ -73,61 +73,103 @@ fn later(left: usize, word: usize, intervals: usize) -> u64 {
     if intervals >= 64 * (word + 1) { from } else { from & !(!0 << (intervals % 64)) }
 }
 
+/// A name of at most 64 bytes, with a relation and spaces or a line feed.
+type Part = Padded<96, 16>;
+/// Relations, each after a space, and a line feed.
+pub type Set = Padded<128, 32>;
+
+/// Room for the lines of 64 pairs, with a few relations for each.
+const ROOM: usize = 64 * 8 * 2 * size_of::<Part>();
+
 /// The relations that follow between two intervals, as a line for each of them.
 fn relations_of(document: &Judged, pairs: &Pairs) -> Vec<u8> {
     let (source, intervals) = (document.judge.source, &document.judge.intervals);
-    let rights: Vec<Padded<80>> = intervals.iter().map(|name| Padded::of(&[source.text(*name), b"\n"])).collect();
+    let rights: Vec<Part> = intervals.iter().map(|name| Padded::of(&[source.text(*name), b"\n"])).collect();
     let mut out = Vec::new();
     for (left, name) in intervals.iter().enumerate() {
-        let prefixes: [Padded<80>; 16] = std::array::from_fn(|one| Padded::of(&[source.text(*name), b" ", RELATIONS[one].text.as_bytes(), b" "]));
+        let lefts: [Part; 16] = std::array::from_fn(|one| Padded::of(&[source.text(*name), b" ", RELATIONS[one].text.as_bytes(), b" "]));
         let rows = pairs.rows(left);
         for word in left / 64..pairs.half {
             let known = rows.map(|row| row[word]);
-            let follows = PLACES.map(|[a, b, c, d]| known[a] & known[b] & known[c] & known[d]);
-            let mut open = follows.iter().fold(0, |all, bits| all | bits) & later(left, word, intervals.len());
-            while open != 0 {
-                let bit = open.trailing_zeros();
-                open &= open - 1;
-                let right = &rights[64 * word + bit as usize];
-                for (prefix, bits) in prefixes.iter().zip(follows) {
-                    if bits >> bit & 1 != 0 {
-                        prefix.push_to(&mut out);
-                        right.push_to(&mut out);
-                        // Two intervals of which one is before the other are in no other relation.
-                        if std::ptr::eq(prefix, &prefixes[0]) || std::ptr::eq(prefix, &prefixes[1]) {
-                            break;
-                        }
-                    }
-                }
-            }
+            let later = later(left, word, intervals.len());
+            let follows = PLACES.map(|[a, b, c, d]| known[a] & known[b] & known[c] & known[d] & later);
+            push_lines(&mut out, &lefts, follows, &rights[64 * word..]);
         }
     }
     out
 }
 
+/// A line for each relation that follows between an interval and some others, as bits of these.
+#[inline(always)]
+fn push_lines(out: &mut Vec<u8>, lefts: &[Part; 16], follows: [u64; 16], rights: &[Part]) {
+    let [before, after, others @ ..] = follows;
+    let others = others.iter().fold(0, |all, bits| all | bits);
+    let mut open = before | after | others;
+    let mut pen = Pen::new(out, ROOM);
+    while open != 0 {
+        let bit = open.trailing_zeros();
+        open &= open - 1;
+        let right = &rights[bit as usize];
+        // Two intervals of which one is before the other are in no other relation, and none are in more than eight.
+        if others >> bit & 1 == 0 {
+            // SAFETY: the pen has room for two texts for each of eight relations of 64 pairs.
+            unsafe {
+                pen.write(&lefts[usize::from(after >> bit & 1 != 0)]);
+                pen.write(right);
+            }
+            continue;
+        }
+        for (left, bits) in lefts.iter().zip(follows) {
+            if bits >> bit & 1 != 0 {
+                // SAFETY: as above.
+                unsafe {
+                    pen.write(left);
+                    pen.write(right);
+                }
+            }
+        }
+    }
+}
+
+/// The sets of relations that were met, by the orders that are known.
+struct Sets {
+    texts: Vec<Set>,
+    numbers: Vec<u16>,
+}
+
+impl Sets {
+    /// The text of a set, which is made where it is met first. The first text is none.
+    #[inline(always)]
+    fn text(&mut self, key: u16) -> &Set {
+        let number = &mut self.numbers[key as usize];
+        if *number == 0 {
+            *number = self.texts.len() as u16;
+            self.texts.push(text_of(key));
+        }
+        &self.texts[*number as usize]
+    }
+}
+
 /// The base relations that are possible between each two intervals, as a line for each two.
 fn matrix_of(document: &Judged, pairs: &Pairs) -> Vec<u8> {
     let (source, intervals) = (document.judge.source, &document.judge.intervals);
-    let names: Vec<Padded<64>> = intervals.iter().map(|name| Padded::of(&[source.text(*name)])).collect();
-    let (mut texts, mut numbers) = (Vec::<Padded<128>>::new(), vec![u16::MAX; 1 << ORDERS_OF_TWO]);
+    let rights: Vec<Part> = intervals.iter().map(|name| Padded::of(&[source.text(*name)])).collect();
+    let mut sets = Sets { texts: vec![Padded::of(&[])], numbers: vec![0; 1 << ORDERS_OF_TWO] };
     let mut out = Vec::new();
     for (left, name) in intervals.iter().enumerate() {
-        let first = Padded::<80>::of(&[source.text(*name), b" "]);
+        let first: Part = Padded::of(&[source.text(*name), b" "]);
         let rows = pairs.rows(left);
         for word in left / 64..pairs.half {
             let keys = keys(rows.map(|row| row[word]));
-            let mut open = later(left, word, intervals.len());
-            while open != 0 {
-                let bit = open.trailing_zeros() as usize;
-                open &= open - 1;
-                let number = &mut numbers[keys[bit] as usize];
-                if *number == u16::MAX {
-                    *number = texts.len() as u16;
-                    texts.push(text_of(keys[bit]));
+            let (begin, end) = ((left + 1).max(64 * word), intervals.len().min(64 * (word + 1)));
+            let mut pen = Pen::new(&mut out, ROOM);
+            for (right, key) in rights[begin.min(end)..end].iter().zip(&keys[begin - 64 * word..]) {
+                // SAFETY: the pen has room for more than these three texts for each of 64 pairs.
+                unsafe {
+                    pen.write(&first);
+                    pen.write(right);
+                    pen.write(sets.text(*key));
                 }
-                first.push_to(&mut out);
-                names[64 * word + bit].push_to(&mut out);
-                texts[*number as usize].push_to(&mut out);
             }
         }
     }

@@ -33,16 +33,17 @@ pub fn push_first(out: &mut Vec<u8>, bytes: &[u8], length: usize) {
     }
 }
 
-/// A short text that is appended as one block or some.
+/// A short text that is written as one chunk or some. Its room is whole chunks.
 #[derive(Clone, Copy)]
-pub struct Padded<const N: usize> {
+pub struct Padded<const N: usize, const CHUNK: usize> {
     bytes: [u8; N],
     length: usize,
 }
 
-impl<const N: usize> Padded<N> {
+impl<const N: usize, const CHUNK: usize> Padded<N, CHUNK> {
     /// Parts one after another, which fit.
-    pub fn of(parts: &[&[u8]]) -> Padded<N> {
+    pub fn of(parts: &[&[u8]]) -> Self {
+        const { assert!(N % CHUNK == 0) };
         let (mut bytes, mut length) = ([0; N], 0);
         for part in parts {
             bytes[length..length + part.len()].copy_from_slice(part);
@@ -50,10 +51,48 @@ impl<const N: usize> Padded<N> {
         }
         Padded { bytes, length }
     }
+}
 
+/// Writes texts after what is printed already, into room that was asked for once.
+pub struct Pen<'a> {
+    out: &'a mut Vec<u8>,
+    written: usize,
+}
+
+impl<'a> Pen<'a> {
+    /// A pen with room for so many bytes, with those that fill up the chunks.
+    pub fn new(out: &'a mut Vec<u8>, room: usize) -> Pen<'a> {
+        out.reserve(room);
+        Pen { written: out.len(), out }
+    }
+
+    /// Writes a text.
+    ///
+    /// # Safety
+    /// All texts so far, with room for all of this one, fit into the room of the pen.
     #[inline(always)]
-    pub fn push_to(&self, out: &mut Vec<u8>) {
-        push_first(out, &self.bytes, self.length);
+    pub unsafe fn write<const N: usize, const CHUNK: usize>(&mut self, text: &Padded<N, CHUNK>) {
+        debug_assert!(self.written + N <= self.out.capacity());
+        let (from, mut at) = (text.bytes.as_ptr(), 0);
+        // SAFETY: as it is said; and a text has whole chunks, of which no more are copied than begin before its end.
+        unsafe {
+            let to = self.out.as_mut_ptr().add(self.written);
+            loop {
+                to.add(at).cast::<[u8; CHUNK]>().write_unaligned(from.add(at).cast::<[u8; CHUNK]>().read_unaligned());
+                at += CHUNK;
+                if at >= text.length {
+                    break;
+                }
+            }
+        }
+        self.written += text.length;
+    }
+}
+
+impl Drop for Pen<'_> {
+    fn drop(&mut self) {
+        // SAFETY: so many bytes were there or are written.
+        unsafe { self.out.set_len(self.written) };
     }
 }
 

@@ -8,33 +8,11 @@ use crate::source::{Source, Span};
 pub enum Kind { Event, Instance, Time, Signal, TimeLink, AspectLink, SubordinationLink, Root, Wrapper }
 
 impl Kind {
-    /// The kind of a tag by its name, whose first eight bytes tell all known names apart.
+    /// The kind of a tag by its name, the first eight bytes of which are known.
     #[inline(always)]
     pub fn named(source: Source, name: Span, word: u64) -> Option<Kind> {
-        const fn first(name: &'static str) -> u64 {
-            Text::new(name).word
-        }
-        macro_rules! among {
-            ($($kind:ident: $($name:literal)*;)*) => {
-                match () {
-                    $($(_ if word == const { first($name) } => (Kind::$kind, $name.as_bytes()),)*)*
-                    _ => return None,
-                }
-            };
-        }
-        let (kind, text) = among! {
-            Event: "EVENT";
-            Instance: "MAKEINSTANCE";
-            Time: "TIMEX3";
-            Signal: "SIGNAL";
-            TimeLink: "TLINK";
-            AspectLink: "ALINK";
-            SubordinationLink: "SLINK";
-            Root: "TimeML";
-            Wrapper: "s" "S" "p" "P" "DOC" "DCT" "TEXT" "BODY" "DOCID" "DOCNO" "TITLE" "NUMEX" "ENAMEX" "HEADLINE" "EXTRAINFO"
-                "CONFIDENCE" "TIMEX3INTERVAL";
-        };
-        (name.len as usize == text.len() && (name.len <= 8 || source.text(name) == text)).then_some(kind)
+        let (text, kind) = &NAMES[slot(word)];
+        text.is(source, name, word).then_some(*kind)
     }
 
     /// Whether it holds neither tags nor text.
@@ -53,7 +31,37 @@ impl Kind {
     }
 }
 
+/// The place of a name in the table by its first eight bytes, which tell all known names apart: the factor was tried out.
+#[inline(always)]
+const fn slot(word: u64) -> usize {
+    (word.wrapping_mul(0x202cc8284c717095) >> 58) as usize
+}
+
+static NAMES: [(Text, Kind); 64] = {
+    let mut table = [const { (Text::new(""), Kind::Wrapper) }; 64];
+    let mut index = 0;
+    while index < KNOWN.len() {
+        let (name, kind) = KNOWN[index];
+        let text = Text::new(name);
+        let slot = slot(text.word);
+        assert!(table[slot].0.text.is_empty());
+        table[slot] = (text, kind);
+        index += 1;
+    }
+    table
+};
+
+const KNOWN: [(&str, Kind); 25] = [
+    ("EVENT", Kind::Event), ("MAKEINSTANCE", Kind::Instance), ("TIMEX3", Kind::Time), ("SIGNAL", Kind::Signal), ("TLINK", Kind::TimeLink),
+    ("ALINK", Kind::AspectLink), ("SLINK", Kind::SubordinationLink), ("TimeML", Kind::Root), ("s", Kind::Wrapper), ("S", Kind::Wrapper),
+    ("p", Kind::Wrapper), ("P", Kind::Wrapper), ("DOC", Kind::Wrapper), ("DCT", Kind::Wrapper), ("TEXT", Kind::Wrapper),
+    ("BODY", Kind::Wrapper), ("DOCID", Kind::Wrapper), ("DOCNO", Kind::Wrapper), ("TITLE", Kind::Wrapper), ("NUMEX", Kind::Wrapper),
+    ("ENAMEX", Kind::Wrapper), ("HEADLINE", Kind::Wrapper), ("EXTRAINFO", Kind::Wrapper), ("CONFIDENCE", Kind::Wrapper),
+    ("TIMEX3INTERVAL", Kind::Wrapper),
+];
+
 /// A word of the profile, with its first eight bytes.
+#[derive(Clone, Copy)]
 pub struct Text {
     pub word: u64,
     pub text: &'static str,

@@ -5,8 +5,7 @@
 use std::arch::x86_64::{__m128i, _mm_add_epi8, _mm_loadl_epi64, _mm_movemask_epi8, _mm_unpackhi_epi8, _mm_unpacklo_epi8};
 
 use crate::nets::BASE;
-use crate::pairs::ORDERS_OF_TWO;
-use crate::print::Padded;
+use crate::pairs::{Set, ORDERS_OF_TWO};
 use crate::profile::RELATIONS;
 
 /// Which of two points comes first, or that they are one; and sets of these.
@@ -72,7 +71,7 @@ fn interleaved_four(blocks: [__m128i; 4]) -> [__m128i; 4] {
 }
 
 /// The relations that are possible by what is known of two intervals, each after a space, and the end of the line.
-pub fn text_of(key: u16) -> Padded<128> {
+pub fn text_of(key: u16) -> Set {
     let bit = |place: usize| key >> place & 1 == 1;
     let allowed: [u8; 4] = std::array::from_fn(|pair| {
         let less = if bit(8 + pair) { 0 } else { LESS };
@@ -87,5 +86,5 @@ pub fn text_of(key: u16) -> Padded<128> {
         }
     }
     parts.push(b"\n");
-    Padded::of(&parts)
+    Set::of(&parts)
 }

@@ -24,6 +24,9 @@ impl Span {
     }
 }
 
+/// The bits of so many bytes of a word.
+static FIRST_BYTES: [u64; 9] = [0, 0xff, 0xffff, 0xff_ffff, 0xffff_ffff, 0xff_ffff_ffff, 0xffff_ffff_ffff, 0xff_ffff_ffff_ffff, !0];
+
 #[derive(Clone, Copy)]
 pub struct Source<'a> {
     padded: &'a [u8],
@@ -91,8 +94,7 @@ impl<'a> Source<'a> {
     /// The first eight bytes of a name that is not empty, with zeros after a shorter one.
     #[inline(always)]
     pub fn first_word(self, span: Span) -> u64 {
-        let word = self.word(span.at as usize);
-        if span.len >= 8 { word } else { word & !(!0 << (8 * span.len)) }
+        self.word(span.at as usize) & FIRST_BYTES[span.len.min(8) as usize]
     }
 
     /// Whether two spans have the same bytes.
@@ -137,7 +139,14 @@ impl<'a> Source<'a> {
 
     /// The place of the first quote of this kind, `<` or `&`.
     #[inline(always)]
-    pub fn value_end(self, mut at: usize, quote: u8) -> usize {
+    pub fn value_end(self, at: usize, quote: u8) -> usize {
+        let block = self.block(at);
+        let stops = bits(or(equals(block, quote), text_stops(block)));
+        if stops != 0 { at + stops.trailing_zeros() as usize } else { self.long_value_end(at + 16, quote) }
+    }
+
+    #[inline(never)]
+    fn long_value_end(self, mut at: usize, quote: u8) -> usize {
         loop {
             let block = self.block(at);
             let stops = bits(or(equals(block, quote), text_stops(block)));
@@ -150,33 +159,47 @@ impl<'a> Source<'a> {
 
     /// The place of the first byte that is not of a name.
     #[inline(always)]
-    pub fn name_end(self, mut at: usize) -> usize {
+    pub fn name_end(self, at: usize) -> usize {
+        let others = self.no_names(at);
+        if others != 0 { at + others.trailing_zeros() as usize } else { self.long_name_end(at + 16) }
+    }
+
+    #[inline(never)]
+    fn long_name_end(self, mut at: usize) -> usize {
         loop {
-            let block = self.block(at);
-            // The bytes from 128 on are of names, and their sign is the bit that is asked for.
-            let names = bits(or(or(block, common(block)), between(block, b'0', b':')));
-            if names != 0xffff {
-                return at + (!names).trailing_zeros() as usize;
+            let others = self.no_names(at);
+            if others != 0 {
+                return at + others.trailing_zeros() as usize;
             }
             at += 16;
         }
     }
 
+    /// Which of sixteen bytes are not of a name. Those from 128 on are, and their upper bit is the bit that is asked for.
+    #[inline(always)]
+    fn no_names(self, at: usize) -> u32 {
+        let block = self.block(at);
+        bits(or(or(block, common(block)), between(block, b'0', b':'))) ^ 0xffff
+    }
+
     /// Whether all bytes of a value may stand in an identifier.
     #[inline(always)]
     pub fn is_identifier(self, span: Span) -> bool {
-        let (mut at, end) = (span.at as usize, (span.at + span.len) as usize);
-        loop {
-            let block = self.block(at);
-            let others = !bits(or(common(block), between(block, b'0', b'9'))) & 0xffff;
-            if others != 0 {
-                return at + others.trailing_zeros() as usize >= end;
+        let mut rest = span;
+        while rest.len > 16 {
+            if self.no_identifiers(rest.at as usize) != 0 {
+                return false;
             }
-            at += 16;
-            if at >= end {
-                return true;
-            }
+            rest = Span { at: rest.at + 16, len: rest.len - 16 };
         }
+        self.no_identifiers(rest.at as usize) << (32 - rest.len) == 0
+    }
+
+    /// Which of sixteen bytes do not stand in identifiers.
+    #[inline(always)]
+    fn no_identifiers(self, at: usize) -> u32 {
+        let block = self.block(at);
+        bits(or(common(block), between(block, b'0', b'9'))) ^ 0xffff
     }
 
     /// The place of a byte, or none where it does not stand before the end.

@@ -21,6 +21,14 @@ pub struct Tag {
     pub is_plain: bool,
 }
 
+/// How a start tag or an empty tag ends.
+#[derive(Clone, Copy)]
+struct Close {
+    end: u32,
+    is_empty: bool,
+    is_plain: bool,
+}
+
 /// The name of an attribute and its value, without the quotes.
 #[derive(Clone, Copy)]
 pub struct Attribute {
@@ -68,8 +76,21 @@ struct Cutter<'a> {
 }
 
 impl Cutter<'_> {
+    /// The place of the first byte that is not white space: mostly this one, or the next one.
     #[inline(always)]
-    fn skip_space(&self, mut at: usize) -> usize {
+    fn skip_space(&self, at: usize) -> usize {
+        if self.source.byte(at) > b' ' {
+            at
+        } else if self.source.byte(at) == b' ' && self.source.byte(at + 1) > b' ' {
+            at + 1
+        } else {
+            self.skip_more_space(at)
+        }
+    }
+
+    #[cold]
+    #[inline(never)]
+    fn skip_more_space(&self, mut at: usize) -> usize {
         while is(self.source.byte(at), SPACE) {
             at += 1;
         }
@@ -114,9 +135,7 @@ impl Cutter<'_> {
             self.look_at_reference(end);
             end = self.source.text_end(end + 1);
         }
-        if self.bad_reference.is_none() {
-            visitor.unit(Unit::Text, start, end);
-        }
+        visitor.unit(Unit::Text, start, end);
         Some(end)
     }
 
@@ -125,15 +144,24 @@ impl Cutter<'_> {
     fn other(&self, start: usize, visitor: &mut impl Visitor) -> Option<usize> {
         let (unit, end) = if self.source.word(start) as u32 == u32::from_le_bytes(*b"<!--") {
             (Unit::Comment, self.marked(start + 4, b"-->")?)
-        } else if self.opens(start, b"<?xml") {
-            (Unit::Declaration, self.marked(start + 6, b"?>")?)
-        } else if self.opens(start, b"<!DOCTYPE") {
-            (Unit::Doctype, self.doctype_end(start + 10)?)
         } else {
-            return None;
+            self.prolog(start)?
         };
         visitor.unit(unit, start, end);
         Some(end)
+    }
+
+    /// A declaration or a doctype.
+    #[cold]
+    #[inline(never)]
+    fn prolog(&self, start: usize) -> Option<(Unit, usize)> {
+        if self.opens(start, b"<?xml") {
+            Some((Unit::Declaration, self.marked(start + 6, b"?>")?))
+        } else if self.opens(start, b"<!DOCTYPE") {
+            Some((Unit::Doctype, self.doctype_end(start + 10)?))
+        } else {
+            None
+        }
     }
 
     /// Whether a word and a white space stand at a place.
@@ -175,30 +203,42 @@ impl Cutter<'_> {
     #[inline(always)]
     fn start_tag(&mut self, start: usize, visitor: &mut impl Visitor) -> Option<usize> {
         let name_end = self.skip_name(start + 1)?;
-        let (name, mut is_plain, mut at) = (Span::new(start + 1, name_end), true, name_end);
         self.attributes.clear();
+        let close = match self.source.byte(name_end) {
+            b'>' => Close { end: name_end as u32 + 1, is_empty: false, is_plain: true },
+            b'/' if self.source.byte(name_end + 1) == b'>' => Close { end: name_end as u32 + 2, is_empty: true, is_plain: true },
+            _ => self.attributes(name_end)?,
+        };
+        let Close { end, is_empty, is_plain } = close;
+        visitor.start_tag(Tag { start, end: end as usize, name: Span::new(start + 1, name_end), is_empty, is_plain }, &self.attributes);
+        Some(end as usize)
+    }
+
+    /// The attributes of a tag from the end of its name on.
+    #[inline(never)]
+    fn attributes(&mut self, mut at: usize) -> Option<Close> {
+        let mut is_plain = true;
         loop {
             let next = self.skip_space(at);
             let byte = self.source.byte(next);
             let is_empty = byte == b'/' && self.source.byte(next + 1) == b'>';
             if byte == b'>' || is_empty {
-                let end = next + 1 + usize::from(is_empty);
-                if self.bad_reference.is_none() {
-                    visitor.start_tag(Tag { start, end, name, is_empty, is_plain: is_plain && at == next }, &self.attributes);
-                }
-                return Some(end);
+                return Some(Close { end: next as u32 + 1 + u32::from(is_empty), is_empty, is_plain: is_plain && at == next });
             }
             if next == at {
                 return None;
             }
             is_plain &= next == at + 1 && self.source.byte(at) == b' ';
-            at = self.attribute(next, &mut is_plain)?;
+            let (attribute, is_spelled_plainly) = self.attribute(next)?;
+            is_plain &= is_spelled_plainly;
+            at = (attribute.value.at + attribute.value.len) as usize + 1;
+            self.attributes.push(attribute);
         }
     }
 
-    /// The end of the attribute that begins here, which is noted.
+    /// The attribute that begins here, and whether it has double quotes and no white space.
     #[inline(always)]
-    fn attribute(&mut self, start: usize, is_plain: &mut bool) -> Option<usize> {
+    fn attribute(&mut self, start: usize) -> Option<(Attribute, bool)> {
         let name_end = self.skip_name(start)?;
         let equals = self.skip_space(name_end);
         if self.source.byte(equals) != b'=' {
@@ -209,8 +249,18 @@ impl Cutter<'_> {
         if quote != b'"' && quote != b'\'' {
             return None;
         }
-        *is_plain &= quote == b'"' && opening == name_end + 1;
-        let mut at = self.source.value_end(opening + 1, quote);
+        let mut end = self.source.value_end(opening + 1, quote);
+        if self.source.byte(end) != quote {
+            end = self.value_with_references(end, quote)?;
+        }
+        let is_plain = quote == b'"' && opening == name_end + 1;
+        Some((Attribute { name: Span::new(start, name_end), value: Span::new(opening + 1, end) }, is_plain))
+    }
+
+    /// The end of a value from a `<` or an `&` in it on.
+    #[cold]
+    #[inline(never)]
+    fn value_with_references(&mut self, mut at: usize, quote: u8) -> Option<usize> {
         while self.source.byte(at) != quote {
             if self.source.byte(at) == b'<' {
                 return None;
@@ -218,8 +268,7 @@ impl Cutter<'_> {
             self.look_at_reference(at);
             at = self.source.value_end(at + 1, quote);
         }
-        self.attributes.push(Attribute { name: Span::new(start, name_end), value: Span::new(opening + 1, at) });
-        Some(at + 1)
+        Some(at)
     }
 }
 
