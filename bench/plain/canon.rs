@@ -24,7 +24,7 @@ impl Canon<'_> {
     /// Copies what was kept up to a place, and keeps what begins at another one.
     #[inline(always)]
     fn copy(&mut self, end: usize, kept: usize) {
-        self.out.extend_from_slice(self.judge.source.slice(self.kept, end));
+        self.out.extend_from_slice(&self.judge.source.document()[self.kept..end]);
         self.kept = kept;
     }
 
@@ -90,6 +90,9 @@ fn sort(attributes: &mut [(u64, Attribute)], less: impl Fn(&(u64, Attribute), &(
 impl Visitor for Canon<'_> {
     #[inline(always)]
     fn unit(&mut self, unit: Unit, start: usize, end: usize) {
+        if self.judge.nests_wrongly() {
+            return;
+        }
         self.judge.unit(unit, start, end);
         if self.judge.is_inside() {
             self.opened = None;
@@ -100,6 +103,9 @@ impl Visitor for Canon<'_> {
 
     #[inline(always)]
     fn start_tag(&mut self, tag: Tag, attributes: &[Attribute]) {
+        if self.judge.nests_wrongly() {
+            return;
+        }
         let is_sorted = self.sort(attributes);
         let closing = tag.end - if tag.is_empty { 2 } else { 1 };
         if !is_sorted || !tag.is_plain {
@@ -112,6 +118,9 @@ impl Visitor for Canon<'_> {
 
     #[inline(always)]
     fn end_tag(&mut self, tag: Tag) {
+        if self.judge.nests_wrongly() {
+            return;
+        }
         if let Some(closing) = self.opened.take() {
             self.copy(closing, tag.end);
             self.out.extend_from_slice(b"/>");

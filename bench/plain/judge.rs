@@ -78,6 +78,11 @@ impl<'a> Judge<'a> {
         !self.open.is_empty()
     }
 
+    #[inline(always)]
+    pub fn nests_wrongly(&self) -> bool {
+        self.nesting_fault.is_some()
+    }
+
     /// The kind of a start tag or an empty tag, which may stand here; a start tag is opened.
     #[inline(always)]
     fn nest(&mut self, tag: &Tag) -> Result<TagKind, Kind> {
@@ -257,7 +262,7 @@ impl Visitor for Judge<'_> {
 
     #[inline(always)]
     fn start_tag(&mut self, tag: Tag, attributes: &[Attribute]) {
-        if self.nesting_fault.is_some() {
+        if self.nests_wrongly() {
             return;
         }
         match self.nest(&tag) {

@@ -240,11 +240,8 @@ impl Cutter<'_> {
     #[inline(always)]
     fn attribute(&mut self, start: usize) -> Option<(Attribute, bool)> {
         let name_end = self.skip_name(start)?;
-        let equals = self.skip_space(name_end);
-        if self.source.byte(equals) != b'=' {
-            return None;
-        }
-        let opening = self.skip_space(equals + 1);
+        let opening = if self.source.byte(name_end) == b'=' { name_end + 1 } else { self.skip_equals(name_end)? };
+        let opening = self.skip_space(opening);
         let quote = self.source.byte(opening);
         if quote != b'"' && quote != b'\'' {
             return None;
@@ -255,6 +252,13 @@ impl Cutter<'_> {
         }
         let is_plain = quote == b'"' && opening == name_end + 1;
         Some((Attribute { name: Span::new(start, name_end), value: Span::new(opening + 1, end) }, is_plain))
+    }
+
+    /// The place after white space and an equals sign.
+    #[cold]
+    fn skip_equals(&self, at: usize) -> Option<usize> {
+        let equals = self.skip_space(at);
+        (self.source.byte(equals) == b'=').then_some(equals + 1)
     }
 
     /// The end of a value from a `<` or an `&` in it on.
