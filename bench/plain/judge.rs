@@ -4,7 +4,7 @@
 #![cfg_attr(rustfmt, rustfmt_skip)]
 
 use crate::names::Table;
-use crate::profile::{Kind as TagKind, Profile, Rule, MOST_FIELDS};
+use crate::profile::{Kind as TagKind, Rule, MOST_FIELDS};
 use crate::source::{Source, Span};
 use crate::units::{cut, is, Attribute, Tag, Unit, Visitor, SPACE};
 use crate::values::date;
@@ -139,7 +139,7 @@ impl<'a> Judge<'a> {
         if carried > 1 && repeats(self.source, attributes) {
             return Err(Kind::RepeatedAttribute);
         }
-        self.look_at_values(kind, place, profile, &values, is_bad)
+        self.look_at_values(kind, place, &values, is_bad)
     }
 
     /// Whether a value is as its rule says. Notes identifiers and references, and the number of a relation.
@@ -164,7 +164,8 @@ impl<'a> Judge<'a> {
     }
 
     #[inline(always)]
-    fn look_at_values(&mut self, kind: TagKind, place: usize, profile: &Profile, values: &Values, is_bad: bool) -> Result<(), Kind> {
+    fn look_at_values(&mut self, kind: TagKind, place: usize, values: &Values, is_bad: bool) -> Result<(), Kind> {
+        let profile = kind.profile();
         if values.given & profile.required != profile.required || profile.pairs.iter().any(|pair| values.given & pair == 0) {
             return Err(Kind::MissingAttribute);
         }
@@ -275,7 +276,9 @@ impl Visitor for Judge<'_> {
     #[inline(always)]
     fn end_tag(&mut self, tag: Tag) {
         let word = self.source.first_word(tag.name);
-        let is_innermost = |open: &Open| open.word == word && (tag.name.len <= 8 && open.name.len == tag.name.len || self.source.is_same(open.name, tag.name));
+        let is_innermost = |open: &Open| {
+            open.word == word && open.name.len == tag.name.len && (tag.name.len <= 8 || self.source.is_same(open.name, tag.name))
+        };
         match self.open.last() {
             Some(open) if is_innermost(open) => self.open.truncate(self.open.len() - 1),
             _ => self.misplaced(tag.start, Kind::Unbalanced),

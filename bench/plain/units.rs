@@ -3,6 +3,7 @@
 
 #![cfg_attr(rustfmt, rustfmt_skip)]
 
+use crate::profile::Text;
 use crate::source::{Source, Span};
 use crate::{Fault, Kind};
 
@@ -105,8 +106,7 @@ impl Cutter<'_> {
 
     #[inline(always)]
     fn look_at_reference(&mut self, at: usize) {
-        let length = reference(self.source, at);
-        if length.is_none() && self.bad_reference.is_none() {
+        if self.bad_reference.is_none() && !is_reference(self.source, at) {
             self.bad_reference = Some(at);
         }
     }
@@ -210,8 +210,9 @@ impl Cutter<'_> {
             _ => self.attributes(name_end)?,
         };
         let Close { end, is_empty, is_plain } = close;
-        visitor.start_tag(Tag { start, end: end as usize, name: Span::new(start + 1, name_end), is_empty, is_plain }, &self.attributes);
-        Some(end as usize)
+        let (end, name) = (end as usize, Span::new(start + 1, name_end));
+        visitor.start_tag(Tag { start, end, name, is_empty, is_plain }, &self.attributes);
+        Some(end)
     }
 
     /// The attributes of a tag from the end of its name on.
@@ -276,30 +277,22 @@ impl Cutter<'_> {
     }
 }
 
-/// The length of the reference that begins at an `&`, if one does.
+/// Whether a reference begins at an `&`: one of five words, or a number.
 #[inline(always)]
-fn reference(source: Source, at: usize) -> Option<usize> {
+fn is_reference(source: Source, at: usize) -> bool {
     let word = source.word(at);
-    let begins = |text: &[u8], masked: u64| word & masked == text.iter().rev().fold(0, |word, byte| word << 8 | u64::from(*byte));
-    if begins(b"&lt;", 0xffff_ffff) || begins(b"&gt;", 0xffff_ffff) {
-        Some(4)
-    } else if begins(b"&amp;", 0xff_ffff_ffff) {
-        Some(5)
-    } else if begins(b"&quot;", 0xffff_ffff_ffff) || begins(b"&apos;", 0xffff_ffff_ffff) {
-        Some(6)
-    } else {
-        number_reference(source, at)
-    }
+    let begins = |text: &'static str| word & (!0 >> (64 - 8 * text.len())) == Text::new(text).word;
+    begins("&lt;") || begins("&gt;") || begins("&amp;") || begins("&quot;") || begins("&apos;") || is_number(source, at)
 }
 
-fn number_reference(source: Source, at: usize) -> Option<usize> {
-    let number = source.document()[at..].strip_prefix(b"&#")?;
-    let (digits, opening, most, is_digit): (_, _, _, fn(&u8) -> bool) = match number.strip_prefix(b"x") {
-        Some(digits) => (digits, 3, 6, u8::is_ascii_hexdigit),
-        None => (number, 2, 7, u8::is_ascii_digit),
+fn is_number(source: Source, at: usize) -> bool {
+    let Some(number) = source.document()[at..].strip_prefix(b"&#") else { return false };
+    let (digits, most, is_digit): (_, _, fn(&u8) -> bool) = match number.strip_prefix(b"x") {
+        Some(digits) => (digits, 6, u8::is_ascii_hexdigit),
+        None => (number, 7, u8::is_ascii_digit),
     };
     let count = digits.iter().take(most).take_while(|byte| is_digit(byte)).count();
-    (count > 0 && digits.get(count) == Some(&b';')).then_some(opening + count + 1)
+    count > 0 && digits.get(count) == Some(&b';')
 }
 
 /// Cuts a document into units and shows each one to the visitor, up to a fault of the bytes or the markup.
