@@ -15,7 +15,6 @@ from __future__ import annotations
 import argparse
 import itertools
 import re
-import shutil
 import string
 import subprocess
 import sys
@@ -23,6 +22,7 @@ import tempfile
 from collections.abc import Callable
 from pathlib import Path
 
+from by_hand import built
 from canon import many_attributes
 from measure import (
     MIB,
@@ -39,10 +39,10 @@ from measure import (
     peak_memory,
     shown,
 )
+from reduce import chain_shuffled, many_of_many, written
 from solve import chain_in_order, clash_at_the_last, random_links
 
 HERE = Path(__file__).resolve().parent
-SOURCE = HERE / "plain" / "plain.rs"
 SIZE = 4 * MIB
 INSTANCES, DATES, LINKS = 400, 100, 4000
 ATTRIBUTES = 400_000
@@ -100,15 +100,11 @@ def corpus_text() -> bytes:
 
 def chain_in_no_order() -> bytes:
     """A chain of intervals, the names and links of which stand in no order."""
-    from reduce import chain_shuffled, written  # reduce.py builds the plain program with this file
-
     return written(chain_shuffled()[0], 30)
 
 
 def links_in_no_order() -> bytes:
     """As many links as a document may have, between intervals whose names stand in no order."""
-    from reduce import many_of_many, written
-
     return written(many_of_many()[0], 30)
 
 
@@ -142,16 +138,6 @@ ROWS: dict[str, dict[str, Maker]] = {
     "reduce": NETS,
     "seconds": NETS | CLASHES,
 }
-
-
-def built(folder: Path) -> str:
-    """The plain program, built."""
-    compiler = shutil.which("rustc")
-    if compiler is None:
-        sys.exit(f"rustc is not in the PATH, so {SOURCE} cannot be built")
-    program = str(folder / "plain")
-    subprocess.run([compiler, "--edition", "2021", "-O", "-C", "codegen-units=1", "-o", program, str(SOURCE)], check=True)
-    return program
 
 
 def instructions(words: list[str]) -> float:

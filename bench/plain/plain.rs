@@ -1,7 +1,7 @@
 //! Commands of `tml` written by hand: ordinary Rust that cares for speed, without proofs, to measure what these cost. It
 //! prints the same bytes and ends with the same status, but for which clash, cycle and placing it prints. The rules are those
 //! of docs/DEFINITIONS.md. What comes after `check` it says only of documents whose times have no dates and no lengths.
-//! bench/beside.py and others of its folder build and run it.
+//! bench/by_hand.py builds it for bench/beside.py and others.
 
 #![cfg_attr(rustfmt, rustfmt_skip)]
 
