@@ -1,59 +1,69 @@
 #!/usr/bin/env python3
-"""Measures `tml` beside bench/plain/plain.rs, which does the same for `check`, `spans` and `canon` and is written by hand.
+"""Counts the instructions of `tml` beside those of bench/plain/plain.rs, which says the same and is written by hand.
 
-Builds the plain program, makes documents of four MiB, and runs the programs on each of them in turns. All have to print
-the same bytes and end with the same status. Prints, for each document and command, the least processor time of some runs
-of each program (that of the user and of the system), the ratio of `tml` to the plain program, and the peak memory of each
-for each byte of the document. The columns of memory stay empty where GNU time (Debian's time) is missing: what a parent
-is told of its child counts its own memory as well. Needs rustc in the PATH. Build `tml` first, as README.md says.
+Builds the plain program, makes documents, and runs both programs over each of them. Both have to print the same bytes and end
+with the same status; where the answer is free, `tml verify` or `tml confirm` has to accept what the plain program printed. Prints
+a table in Markdown: the millions of instructions of both programs by callgrind (Debian's valgrind) and their ratio, and the
+peak memory of both in MiB and its ratio, which stay empty where GNU time (Debian's time) is missing. Needs rustc in the PATH.
+Build `tml` first, as README.md says.
 
-usage: bench/beside.py --tml TML [--old OLD_TML] [--runs RUNS] [COMMAND ...]
+usage: bench/beside.py [--tml TML] [--plain PLAIN] [COMMAND ...]
 """
 
+from __future__ import annotations
+
 import argparse
-import os
-import shutil
+import itertools
+import re
+import string
 import subprocess
 import sys
 import tempfile
 from collections.abc import Callable
 from pathlib import Path
 
+from by_hand import built
 from canon import many_attributes
 from measure import (
     MIB,
     NULL,
+    PREFIX,
+    SUFFIX,
     annotated_text,
-    comments_and_references,
     deepest_nesting,
-    deepest_of_long_names,
     events,
     events_in_no_order,
     filled,
     numbered,
-    one_tag,
     one_text,
     peak_memory,
-    shortest_tags,
     shown,
-    signals_and_links,
-    times,
 )
+from reduce import chain_shuffled, many_of_many, written
+from solve import chain_in_order, clash_at_the_last, random_links
 
+HERE = Path(__file__).resolve().parent
 SIZE = 4 * MIB
-SOURCE = Path(__file__).resolve().parent / "plain" / "plain.rs"
-COMMANDS = ("check", "spans", "canon")
 INSTANCES, DATES, LINKS = 400, 100, 4000
+ATTRIBUTES = 400_000
+CLASH = 2
 
 
-def empty_tags(size: int) -> bytes:
+def shortest_tags() -> bytes:
     """The shortest empty tags."""
-    return filled(b"<s/>", size)
+    return filled(b"<P/>", SIZE)
 
 
-def signals(size: int) -> bytes:
-    """SIGNALs, each with an identifier of its own."""
-    return numbered(b"", lambda number: b'<SIGNAL sid="s%d"/>' % number, size)
+def comments() -> bytes:
+    """Comments, each with a reference after it."""
+    return filled(b"<!--x-->&lt;", SIZE)
+
+
+def one_tag() -> bytes:
+    """A tag of very many attributes, whose names stand in no order."""
+    names = ["".join(letters) for letters in itertools.islice(itertools.product(string.ascii_letters, repeat=4), ATTRIBUTES)]
+    parts = (f' {names[number * 7919 % ATTRIBUTES]}=""' for number in range(ATTRIBUTES))
+    return PREFIX[:-1] + "".join(parts).encode() + b">" + SUFFIX
 
 
 def sentence(number: int) -> bytes:
@@ -81,101 +91,118 @@ def links() -> bytes:
     return b"".join(parts)
 
 
-def corpus_text(size: int) -> bytes:
+def corpus_text() -> bytes:
     """Annotated text with dates and signals, and after it as many instances and links as a document may have, nearly."""
     declaration, after = b'<?xml version="1.0" ?>\n', links()
-    document = numbered(b"\n", sentence, size - len(declaration) - len(after))
+    document = numbered(b"\n", sentence, SIZE - len(declaration) - len(after))
     return declaration + document.removesuffix(b"</TimeML>") + after + b"</TimeML>"
 
 
-MAKERS: list[Callable[[int], bytes]] = [
-    one_text,
-    shortest_tags,
-    empty_tags,
-    one_tag,
-    events,
-    events_in_no_order,
-    times,
-    signals,
-    signals_and_links,
-    deepest_nesting,
-    deepest_of_long_names,
-    comments_and_references,
-    annotated_text,
-    corpus_text,
-    many_attributes,
-]
+def chain_in_no_order() -> bytes:
+    """A chain of intervals, the names and links of which stand in no order."""
+    return written(chain_shuffled()[0], 30)
 
 
-def built(folder: Path) -> str:
-    """The plain program, built."""
-    compiler = shutil.which("rustc")
-    if compiler is None:
-        sys.exit(f"rustc is not in the PATH, so {SOURCE} cannot be built")
-    program = str(folder / "plain")
-    subprocess.run([compiler, "--edition", "2021", "-O", "-C", "target-cpu=x86-64-v2", "-o", program, str(SOURCE)], check=True)
-    return program
+def links_in_no_order() -> bytes:
+    """As many links as a document may have, between intervals whose names stand in no order."""
+    return written(many_of_many()[0], 30)
 
 
-def processor_time(words: list[str]) -> float:
-    """The processor time of one run in milliseconds."""
-    child = subprocess.Popen(words, stdin=NULL, stdout=NULL)
-    _, status, usage = os.wait4(child.pid, 0)
-    child.returncode = os.waitstatus_to_exitcode(status)
-    return (usage.ru_utime + usage.ru_stime) * 1e3
+Maker = Callable[[], bytes]
+TEXTS: dict[str, Maker] = {
+    "`<P/>`": shortest_tags,
+    "comments and references": comments,
+    "EVENTs": lambda: events(SIZE),
+    "EVENTs in no order": lambda: events_in_no_order(SIZE),
+    "annotated text": lambda: annotated_text(SIZE),
+    "text with all kinds of tags": corpus_text,
+    "one text": lambda: one_text(SIZE),
+    "one tag, 400,000 attributes": one_tag,
+    "attributes in no order": lambda: many_attributes(SIZE),
+    "deepest nesting": lambda: deepest_nesting(SIZE),
+}
+NETS: dict[str, Maker] = {
+    "a chain": chain_in_order,
+    "a chain in no order": chain_in_no_order,
+    "4,096 links": random_links,
+    "4,096 links in no order": links_in_no_order,
+}
+CLASHES: dict[str, Maker] = {"a clash": clash_at_the_last}
+ROWS: dict[str, dict[str, Maker]] = {
+    "spans": {name: TEXTS[name] for name in ("`<P/>`", "annotated text", "text with all kinds of tags")},
+    "check": TEXTS,
+    "canon": {name: TEXTS[name] for name in ("annotated text", "text with all kinds of tags", "attributes in no order", "`<P/>`")},
+    "solve": NETS | CLASHES,
+    "relations": NETS,
+    "matrix": NETS,
+    "reduce": NETS,
+    "seconds": NETS | CLASHES,
+}
 
 
-def printed(words: list[str]) -> tuple[bytes, int]:
-    """What a run prints, and its status."""
+def instructions(words: list[str]) -> float:
+    """The millions of instructions of a run."""
+    callgrind = ["valgrind", "--tool=callgrind", "--callgrind-out-file=/dev/null"]
+    told = subprocess.run(callgrind + words, stdin=NULL, stdout=NULL, stderr=subprocess.PIPE, text=True, check=False).stderr
+    collected = re.search(r"Collected : (\d+)", told)
+    if collected is None:
+        sys.exit(f"{' '.join(words)}: callgrind counted nothing: {told}")
+    return int(collected[1]) / 1e6
+
+
+def printed(words: list[str]) -> tuple[int, bytes]:
+    """The status of a run, and what it prints."""
     run = subprocess.run(words, stdin=NULL, stdout=subprocess.PIPE, check=False)
-    return run.stdout, run.returncode
+    return run.returncode, run.stdout
 
 
-def row(programs: dict[str, str], command: str, path: str, runs: int) -> str | None:
-    """The columns of a document and a command, or nothing where the programs do not print the same."""
-    words = {name: [program, command, path] for name, program in programs.items()}
-    if len({printed(line) for line in words.values()}) > 1:
-        return None
-    least = dict.fromkeys(words, float("inf"))
-    for _ in range(runs):
-        for name, line in words.items():
-            least[name] = min(least[name], processor_time(line))
-    memory = {name: peak_memory(line) for name, line in words.items()}
-    size = Path(path).stat().st_size
-    columns = [f"{time:9.2f}" for time in least.values()] + [f"{least['tml'] / least['plain']:6.2f}"]
-    columns += [f"{shown(None if told is None else told * 1024 / size, '.1f'):>11}" for told in memory.values()]
-    return " ".join(columns)
+def say_the_same(tml: str, plain: str, command: str, path: Path) -> bool:
+    """Whether both programs print the same, or one answer of those that are free."""
+    (status, text), (other, by_hand) = (printed([program, command, str(path)]) for program in (tml, plain))
+    if status != other or (text != by_hand and command != "seconds" and status != CLASH):
+        return False
+    evidence = path.with_suffix(".evidence")
+    evidence.write_bytes(by_hand)
+    judge = "confirm" if command == "seconds" else "verify"
+    return text == by_hand or printed([tml, judge, str(path), str(evidence)])[0] == 0
+
+
+def row(tml: str, plain: str, command: str, path: Path) -> str:
+    """The columns of a command over a document."""
+    if not say_the_same(tml, plain, command, path):
+        sys.exit(f"{command} {path.name}: the two programs do not say the same")
+    counts = [instructions([program, command, str(path)]) for program in (tml, plain)]
+    kib = [peak_memory([program, command, str(path)]) for program in (tml, plain)]
+    memory = [None if size is None else size / 1024 for size in kib]
+    of_memory = memory[0] / memory[1] if memory[0] and memory[1] else None
+    columns = [f"{count:.1f}" for count in counts] + [f"{counts[0] / counts[1]:.2f}"]
+    return " | ".join(columns + [shown(size, ".1f") for size in memory] + [shown(of_memory, ".2f")])
 
 
 def arguments() -> argparse.Namespace:
     """The words of the command line."""
-    parser = argparse.ArgumentParser(description="Measures tml beside a program that is written by hand.")
-    parser.add_argument("--tml", required=True, help="the program to measure")
-    parser.add_argument("--old", help="another one beside it")
-    parser.add_argument("--runs", type=int, default=9, help="how often each program is run (9)")
-    parser.add_argument("commands", nargs="*", metavar="COMMAND", help="check, spans or canon (all of them)")
+    parser = argparse.ArgumentParser(description="Counts the instructions of tml beside those of a program that is written by hand.")
+    parser.add_argument("--tml", default=str(HERE.parent / "crates" / "tml" / "out" / "tml"), help="the program to measure")
+    parser.add_argument("--plain", help="the program by hand, where it is built already")
+    parser.add_argument("commands", nargs="*", metavar="COMMAND", help=f"{', '.join(ROWS)} (all of them)")
     chosen = parser.parse_args()
-    if unknown := set(chosen.commands) - set(COMMANDS):
+    if unknown := set(chosen.commands) - set(ROWS):
         parser.error(f"no such command: {' '.join(sorted(unknown))}")
     return chosen
 
 
 def main() -> None:
-    """Measures and prints the table."""
+    """Counts and prints the table."""
     chosen = arguments()
     with tempfile.TemporaryDirectory() as folder:
-        programs = ({"old": chosen.old} if chosen.old else {}) | {"tml": chosen.tml, "plain": built(Path(folder))}
-        times_of = " ".join(f"{name + ' ms':>9}" for name in programs)
-        memory_of = " ".join(f"{name + ' B/byte':>11}" for name in programs)
-        print(f"{'document':24} {'command':7} {times_of} {'ratio':>6} {memory_of}")
+        plain = chosen.plain or built(Path(folder))
+        print("| command | document | `tml`, millions | by hand | ratio | `tml`, MiB | by hand | ratio |")
+        print("|---|---|--:|--:|--:|--:|--:|--:|")
         path = Path(folder) / "document"
-        for make in MAKERS:
-            path.write_bytes(make(SIZE))
-            for command in chosen.commands or COMMANDS:
-                columns = row(programs, command, str(path), chosen.runs)
-                if columns is None:
-                    sys.exit(f"{make.__name__} {command}: {', '.join(programs)} do not print the same")
-                print(f"{make.__name__:24} {command:7} {columns}", flush=True)
+        for command in chosen.commands or ROWS:
+            for name, make in ROWS[command].items():
+                path.write_bytes(make())
+                print(f"| `{command}` | {name} | {row(chosen.tml, plain, command, path)} |", flush=True)
 
 
 if __name__ == "__main__":

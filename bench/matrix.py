@@ -18,7 +18,7 @@ import sys
 import tempfile
 from pathlib import Path
 
-from beside import built
+from by_hand import built
 from measure import least, shown
 from solve import INSTANCES, all_simultaneous, chain_in_order, chain_shuffled, document, random_links
 

@@ -19,7 +19,7 @@ import tempfile
 from collections.abc import Callable, Sequence
 from pathlib import Path
 
-from beside import built
+from by_hand import built
 from matrix import printed
 from measure import LIMIT, least, shown
 from solve import document

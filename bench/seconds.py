@@ -19,7 +19,7 @@ import tempfile
 from collections.abc import Callable, Sequence
 from pathlib import Path
 
-from beside import built
+from by_hand import built
 from measure import least, shown
 from reduce import (
     Links, all_simultaneous, chain, chain_in_order, chain_in_reverse, chain_shuffled, layers_of_32, many_of_many, milliseconds,

@@ -1,46 +1,70 @@
-//! The command `canon`: the canonical text, written while the document is judged, and kept if it is accepted.
+//! The command `canon`: the canonical text is printed as the document is read, and dropped where there is a fault. What is
+//! canonical already is copied in long stretches.
 
 #![cfg_attr(rustfmt, rustfmt_skip)]
 
 use crate::judge::Judge;
 use crate::print::push_all;
-use crate::units::{cut, Attribute, Piece, Unit, Visitor};
+use crate::source::{Source, Span};
+use crate::units::{cut, Attribute, Tag, Unit, Visitor};
 use crate::Fault;
 
 /// The canonical text so far, beside the judgement that says whether there is one.
 struct Canon<'a> {
     judge: Judge<'a>,
     out: Vec<u8>,
-    is_tag_open: bool,
+    /// From here on the document is not yet copied.
+    kept: usize,
+    /// The `>` of the last start tag, where nothing came after it.
+    opened: Option<usize>,
     sorted: Vec<(u64, Attribute)>,
 }
 
-/// The first eight bytes of a name as a number, which are in the order of the names where they differ.
-fn first_word(name: &[u8]) -> u64 {
-    let mut word = [0; 8];
-    word.iter_mut().zip(name).for_each(|(to, from)| *to = *from);
-    u64::from_be_bytes(word)
-}
-
 impl Canon<'_> {
-    /// Ends the start tag before an item inside it.
-    fn end_tag_before(&mut self) {
-        if std::mem::take(&mut self.is_tag_open) {
-            self.out.push(b'>');
-        }
+    /// Copies what was kept up to a place, and keeps what begins at another one.
+    #[inline(always)]
+    fn copy(&mut self, end: usize, kept: usize) {
+        self.out.extend_from_slice(&self.judge.source.document()[self.kept..end]);
+        self.kept = kept;
     }
 
-    fn start_tag(&mut self, name: &[u8], attributes: &[Attribute]) {
-        let document = self.judge.document;
-        push_all(&mut self.out, &[b"<", name]);
-        self.sorted.clear();
-        self.sorted.extend(attributes.iter().map(|attribute| (first_word(attribute.name(document)), *attribute)));
-        self.sorted.sort_unstable_by(|(word, one), (other_word, other)| {
-            word.cmp(other_word).then_with(|| one.name(document).cmp(other.name(document)))
-        });
+    /// The first bytes of a name in the order of the names, where they differ.
+    #[inline(always)]
+    fn key(&self, attribute: &Attribute) -> u64 {
+        self.judge.source.first_word(attribute.name).swap_bytes()
+    }
+
+    /// The attributes in the order of their names; whether they were in it.
+    #[inline(always)]
+    fn sort(&mut self, attributes: &[Attribute]) -> bool {
+        let source = self.judge.source;
+        let mut sorted = std::mem::take(&mut self.sorted);
+        sorted.clear();
+        sorted.extend(attributes.iter().map(|attribute| (self.key(attribute), *attribute)));
+        let less = |(key, one): &(u64, Attribute), (other_key, other): &(u64, Attribute)| {
+            key < other_key || key == other_key && source.text(one.name) < source.text(other.name)
+        };
+        let is_sorted = sorted.windows(2).all(|two| less(&two[0], &two[1]));
+        if !is_sorted {
+            sort(&mut sorted, less);
+        }
+        self.sorted = sorted;
+        is_sorted
+    }
+
+    /// Writes a start tag without its end.
+    #[inline(always)]
+    fn write_tag(&mut self, name: Span) {
+        let source = self.judge.source;
+        push_all(&mut self.out, &[b"<", source.text(name)]);
         for (_, attribute) in &self.sorted {
-            push_all(&mut self.out, &[b" ", attribute.name(document), b"=\""]);
-            for (index, part) in attribute.value(document).split(|&byte| byte == b'"').enumerate() {
+            let (start, end) = (attribute.name.at as usize, (attribute.value.at + attribute.value.len) as usize);
+            if source.byte(end) == b'"' && start + (attribute.name.len as usize) + 2 == attribute.value.at as usize {
+                push_all(&mut self.out, &[b" ", source.slice(start, end + 1)]);
+                continue;
+            }
+            push_all(&mut self.out, &[b" ", source.text(attribute.name), b"=\""]);
+            for (index, part) in source.text(attribute.value).split(|&byte| byte == b'"').enumerate() {
                 push_all(&mut self.out, &[if index > 0 { b"&quot;" } else { b"" }, part]);
             }
             self.out.push(b'"');
@@ -48,36 +72,71 @@ impl Canon<'_> {
     }
 }
 
-impl<'a> Visitor<'a> for Canon<'a> {
-    #[inline]
-    fn visit(&mut self, piece: Piece<'a>, attributes: &[Attribute]) {
-        let source = &self.judge.document[piece.start..piece.end];
-        let is_inside = !self.judge.open.is_empty();
-        match piece.unit {
-            Unit::Start | Unit::Empty => {
-                self.end_tag_before();
-                self.start_tag(piece.name, attributes);
-                match piece.unit {
-                    Unit::Start => self.is_tag_open = true,
-                    _ => self.out.extend_from_slice(b"/>"),
-                }
-            }
-            Unit::End if std::mem::take(&mut self.is_tag_open) => self.out.extend_from_slice(b"/>"),
-            Unit::End => push_all(&mut self.out, &[b"</", piece.name, b">"]),
-            Unit::Text | Unit::Comment if is_inside => {
-                self.end_tag_before();
-                self.out.extend_from_slice(source);
-            }
-            _ => {}
+/// Sorts a few by insertion, and many otherwise.
+#[inline(always)]
+fn sort(attributes: &mut [(u64, Attribute)], less: impl Fn(&(u64, Attribute), &(u64, Attribute)) -> bool) {
+    if attributes.len() > 16 {
+        return attributes.sort_by(|one, other| less(other, one).cmp(&less(one, other)));
+    }
+    for next in 1..attributes.len() {
+        let mut at = next;
+        while at > 0 && less(&attributes[at], &attributes[at - 1]) {
+            attributes.swap(at, at - 1);
+            at -= 1;
         }
-        self.judge.visit(piece, attributes);
     }
 }
 
-pub fn canon(document: &[u8]) -> Result<Vec<u8>, Fault> {
-    let out = Vec::with_capacity(document.len());
-    let mut canon = Canon { judge: Judge::new(document), out, is_tag_open: false, sorted: Vec::new() };
-    cut(document, &mut canon)?;
+impl Visitor for Canon<'_> {
+    #[inline(always)]
+    fn unit(&mut self, unit: Unit, start: usize, end: usize) {
+        if self.judge.nests_wrongly() {
+            return;
+        }
+        self.judge.unit(unit, start, end);
+        if self.judge.is_inside() {
+            self.opened = None;
+        } else {
+            self.copy(start, end);
+        }
+    }
+
+    #[inline(always)]
+    fn start_tag(&mut self, tag: Tag, attributes: &[Attribute]) {
+        if self.judge.nests_wrongly() {
+            return;
+        }
+        let is_sorted = self.sort(attributes);
+        let closing = tag.end - if tag.is_empty { 2 } else { 1 };
+        if !is_sorted || !tag.is_plain {
+            self.copy(tag.start, closing);
+            self.write_tag(tag.name);
+        }
+        self.opened = (!tag.is_empty).then_some(closing);
+        self.judge.start_tag(tag, attributes);
+    }
+
+    #[inline(always)]
+    fn end_tag(&mut self, tag: Tag) {
+        if self.judge.nests_wrongly() {
+            return;
+        }
+        if let Some(closing) = self.opened.take() {
+            self.copy(closing, tag.end);
+            self.out.extend_from_slice(b"/>");
+        } else if !tag.is_plain {
+            self.copy((tag.name.at + tag.name.len) as usize, tag.end - 1);
+        }
+        self.judge.end_tag(tag);
+    }
+}
+
+pub fn canon(source: Source) -> Result<Vec<u8>, Fault> {
+    let out = Vec::with_capacity(source.len() + 1);
+    let mut canon = Canon { judge: Judge::new(source), out, kept: 0, opened: None, sorted: Vec::new() };
+    cut(source, &mut canon)?;
+    canon.judge.judged()?;
+    canon.copy(source.len(), source.len());
     canon.out.push(b'\n');
-    canon.judge.fault().map_or(Ok(canon.out), Err)
+    Ok(canon.out)
 }

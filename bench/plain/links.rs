@@ -1,103 +1,85 @@
-//! The commands `reduce DOC` and `score DOC KEY`, of documents whose times have no dates: a link is left out where walks
-//! over the other links and the spans give its orders. Of documents that no timeline fits nothing is said here.
+//! The commands `reduce` and `score`, of documents whose times have no dates: a link is left out where the others give its
+//! orders.
 
 #![cfg_attr(rustfmt, rustfmt_skip)]
 
-use crate::judge::Judge;
-use crate::names::Index;
-use crate::orders::{numbered, orders_of, push_relation, Closure, Components, Link, Order};
-use crate::print::{push_all, push_number};
+use crate::check::push_link;
+use crate::closure::Closure;
+use crate::judge::Judged;
+use crate::nets::{Components, Graph, Net, NetLink, Order, SPAN};
+use crate::print::push_number;
+use crate::solve::clash;
+use crate::{Answer, CLASH};
 
-/// Where an order leads, and the link that gives it; of a span that is one past the last link.
-#[derive(Clone, Copy)]
-struct Step {
-    to: usize,
-    link: usize,
-    strict: bool,
-}
-
-/// The links of a document, and all steps from each point, one point after another.
-struct Walks<'a> {
-    links: Vec<Link<'a>>,
-    begins: Vec<usize>,
-    steps: Vec<Step>,
-    ranks: Vec<usize>,
-}
-
-impl<'a> Walks<'a> {
-    /// Those of a document; none where no timeline fits.
-    fn new(document: &Judge<'a>) -> Option<Walks<'a>> {
-        let (links, points) = (numbered(&document.intervals, &document.links), 2 * document.intervals.len());
-        let ranks = Components::new(points, &orders_of(document.intervals.len(), &links))?.least();
-        let mut given: Vec<(usize, Step)> = Vec::new();
-        for interval in 0..document.intervals.len() {
-            given.push((2 * interval, Step { to: 2 * interval + 1, link: links.len(), strict: true }));
-        }
-        for (number, link) in links.iter().enumerate() {
-            let step = |order: Order| (order.first, Step { to: order.second, link: number, strict: order.strict });
-            given.extend(link.orders().into_iter().map(step));
-        }
-        let mut begins = vec![0; points + 1];
-        given.iter().for_each(|(first, _)| begins[first + 1] += 1);
-        for point in 0..points {
-            begins[point + 1] += begins[point];
-        }
-        let (mut next, mut steps) = (begins.clone(), vec![Step { to: 0, link: 0, strict: false }; given.len()]);
-        for (first, step) in given {
-            steps[next[first]] = step;
-            next[first] += 1;
-        }
-        Some(Walks { links, begins, steps, ranks })
-    }
-
-    /// The numbers of the links that do not follow from the others that are kept.
-    fn kept(&self) -> Vec<usize> {
-        let mut search = Search {
-            walks: self, left_out: vec![false; self.links.len() + 1], seen: vec![0; 2 * self.ranks.len()], round: 0, queue: Vec::new(),
-        };
-        for (number, link) in self.links.iter().enumerate() {
-            search.left_out[number] = true;
-            search.left_out[number] = link.orders().into_iter().all(|order| search.leads(order));
-        }
-        (0..self.links.len()).filter(|&number| !search.left_out[number]).collect()
-    }
-}
-
-/// A search in breadth that is begun again for each order. A point is marked with the round in which a walk, and a strict
-/// one, led to it.
-struct Search<'w, 'a> {
-    walks: &'w Walks<'a>,
+/// A net and what follows from it, with the links that are left out so far. What follows without these is the same.
+struct Reduction<'a> {
+    net: &'a Net,
+    graph: &'a Graph,
+    closure: &'a Closure,
     left_out: Vec<bool>,
-    seen: Vec<u32>,
-    round: u32,
-    queue: Vec<(usize, bool)>,
+    /// Of each point the last search within a component that met it.
+    met: Vec<u32>,
+    searches: u32,
+    queue: Vec<u16>,
 }
 
-impl Search<'_, '_> {
-    /// Whether a walk gives an order without the links that are left out. Walks never lead to lesser ranks.
-    fn leads(&mut self, order: Order) -> bool {
-        if order.first == order.second {
-            return !order.strict;
+impl Reduction<'_> {
+    /// The numbers of the links that do not follow from the others that are kept.
+    fn kept(mut self) -> Vec<u16> {
+        let links = self.net.links.len() as u16;
+        for link in 0..links {
+            self.left_out[link as usize] = true;
+            self.left_out[link as usize] = self.net.links[link as usize].orders(link).all(|order| self.follows(order));
         }
-        self.round += 1;
+        (0..links).filter(|&link| !self.left_out[link as usize]).collect()
+    }
+
+    #[inline(always)]
+    fn component(&self, point: u16) -> usize {
+        self.closure.components.of[point as usize] as usize
+    }
+
+    #[inline(always)]
+    fn is_kept(&self, order: &Order) -> bool {
+        order.link == SPAN || !self.left_out[order.link as usize]
+    }
+
+    /// Whether an order follows without the links that are left out.
+    fn follows(&mut self, order: Order) -> bool {
+        let component = self.component(order.first);
+        if component == self.component(order.second) {
+            return self.leads_within(order.first, order.second);
+        }
+        let (graph, closure) = (self.graph, self.closure);
+        closure.components.members(component).iter().flat_map(|&point| graph.from(point)).any(|step| self.begins(component, order, step))
+    }
+
+    /// Whether a walk that gives an order, and leaves the component where this begins, can begin with a step. What follows
+    /// from there on does so without the link itself, since no walk comes back to its beginning.
+    #[inline(always)]
+    fn begins(&self, component: usize, order: Order, step: &Order) -> bool {
+        let next = self.component(step.second);
+        let strict = order.strict && !step.strict;
+        next != component && self.is_kept(step) && self.closure.after.has(next, order.second, strict)
+    }
+
+    /// Whether a walk within a component leads from one point of it to another.
+    fn leads_within(&mut self, first: u16, second: u16) -> bool {
+        self.searches += 1;
         self.queue.clear();
-        self.queue.push((order.first, false));
-        let most = self.walks.ranks[order.second];
+        self.queue.push(first);
+        self.met[first as usize] = self.searches;
+        let (graph, component) = (self.graph, self.component(first));
         let mut next = 0;
-        while let Some(&(point, strict)) = self.queue.get(next) {
+        while let Some(&point) = self.queue.get(next) {
+            if point == second {
+                return true;
+            }
             next += 1;
-            for step in &self.walks.steps[self.walks.begins[point]..self.walks.begins[point + 1]] {
-                let strict = strict | step.strict;
-                if self.left_out[step.link] || self.walks.ranks[step.to] > most || self.seen[2 * step.to + 1] == self.round {
-                    continue;
-                }
-                if step.to == order.second && (strict || !order.strict) {
-                    return true;
-                }
-                let seen = &mut self.seen[2 * step.to + usize::from(strict)];
-                if *seen != self.round {
-                    *seen = self.round;
-                    self.queue.push((step.to, strict));
+            for step in graph.from(point) {
+                if self.met[step.second as usize] != self.searches && self.component(step.second) == component && self.is_kept(step) {
+                    self.met[step.second as usize] = self.searches;
+                    self.queue.push(step.second);
                 }
             }
         }
@@ -105,42 +87,54 @@ impl Search<'_, '_> {
     }
 }
 
-/// The links that are kept; none where no timeline fits.
-pub fn reduce(document: &Judge) -> Option<Vec<u8>> {
-    let kept = Walks::new(document)?.kept();
+/// What follows from a net, and which links are kept; or a strict order inside a component.
+fn reduced(net: &Net, graph: &Graph) -> Result<(Closure, Vec<u16>), Order> {
+    let closure = Closure::of(Components::of(graph)?, graph);
+    let reduction = Reduction {
+        net, graph, closure: &closure, left_out: vec![false; net.links.len()], met: vec![0; net.points()], searches: 0, queue: Vec::new(),
+    };
+    let kept = reduction.kept();
+    Ok((closure, kept))
+}
+
+pub fn reduce(document: &Judged) -> Answer {
+    let net = Net::of(document);
+    let graph = Graph::of(&net);
+    let kept = match reduced(&net, &graph) {
+        Ok((_, kept)) => kept,
+        Err(strict) => return clash(&net, &graph, strict),
+    };
     let mut out = b"reduced ".to_vec();
-    push_number(&mut out, kept.len());
-    out.extend_from_slice(b" of ");
-    push_number(&mut out, document.links.len());
-    out.push(b'\n');
+    push_number(&mut out, kept.len(), b' ');
+    out.extend_from_slice(b"of ");
+    push_number(&mut out, net.links.len(), b'\n');
     for number in kept {
-        let [first, relation, second] = document.links[number];
-        out.extend_from_slice(b"tlink ");
-        push_number(&mut out, number);
-        push_all(&mut out, &[b" ", first, b" ", relation, b" ", second, b"\n"]);
+        push_link(&mut out, document.judge.source, number as usize, &document.judge.links[number as usize]);
     }
-    Some(out)
+    (0, out)
 }
 
 /// How many of the links of one document that are kept follow in another one, and how many there are.
-fn matched(document: &Judge, other: &Judge) -> Option<(usize, usize)> {
-    let kept = Walks::new(document)?.kept();
-    let links = numbered(&other.intervals, &other.links);
-    let closure = Closure::of(Components::new(2 * other.intervals.len(), &orders_of(other.intervals.len(), &links))?);
-    let name_of = |number: usize| other.intervals[number];
-    let index = Index::of_all(&other.intervals);
-    let follows = |number: &&usize| {
-        let [first, relation, second] = document.links[**number];
-        let (Some(left), Some(right)) = (index.find(first, name_of), index.find(second, name_of)) else { return false };
-        let mut orders = Vec::new();
-        push_relation(&mut orders, left, relation, right);
-        orders.into_iter().all(|order| closure.says(order))
+fn matched(document: &Judged, kept: &[u16], other: &Judged, closure: &Closure) -> String {
+    let source = document.judge.source;
+    let follows = |number: &&u16| {
+        let link = &document.judge.links[**number as usize];
+        let number_of = |name| other.table.interval_of(other.judge.source, source, name);
+        let (Some(left), Some(right)) = (number_of(link.left), number_of(link.right)) else { return false };
+        NetLink { left, relation: link.relation, right }.orders(SPAN).all(|order| closure.says(order))
     };
-    Some((kept.iter().filter(follows).count(), kept.len()))
+    format!("{} of {}", kept.iter().filter(follows).count(), kept.len())
 }
 
-/// The scores of a document and a key; none where no timeline fits one of them.
-pub fn score(document: &Judge, key: &Judge) -> Option<Vec<u8>> {
-    let ((matched_links, links), (found, key_links)) = (matched(document, key)?, matched(key, document)?);
-    Some(format!("precision {matched_links} of {links}\nrecall {found} of {key_links}\n").into_bytes())
+/// The scores of a document and a key.
+pub fn score(document: &Judged, key: &Judged) -> Answer {
+    let nets = [Net::of(document), Net::of(key)];
+    let graphs = nets.each_ref().map(Graph::of);
+    let (closure, kept) = match reduced(&nets[0], &graphs[0]) {
+        Ok(found) => found,
+        Err(strict) => return clash(&nets[0], &graphs[0], strict),
+    };
+    let Ok((of_key, kept_of_key)) = reduced(&nets[1], &graphs[1]) else { return (CLASH, b"key clash\n".to_vec()) };
+    let (precision, recall) = (matched(document, &kept, key, &of_key), matched(key, &kept_of_key, document, &closure));
+    (0, format!("precision {precision}\nrecall {recall}\n").into_bytes())
 }

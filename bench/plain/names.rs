@@ -4,62 +4,83 @@
 
 use std::hash::{BuildHasher, RandomState};
 
-/// A hash of a name: its words are folded into a seed that was drawn, one after another.
-#[inline]
-fn hash(seed: u64, name: &[u8]) -> u64 {
-    let fold = |state: u64, word: u64| {
-        let product = u128::from(state ^ word) * 0x9e37_79b9_7f4a_7c15;
-        product as u64 ^ (product >> 64) as u64
-    };
-    let words = name.chunks_exact(8);
-    let last = words.remainder().iter().fold(1, |word, &byte| word << 8 | u64::from(byte));
-    fold(words.fold(seed, |state, word| fold(state, u64::from_le_bytes(word.try_into().unwrap_or_default()))), last)
+use crate::source::{Source, Span};
+
+/// What is known of a name.
+#[derive(Clone, Copy, Default)]
+pub struct Known {
+    /// The kinds of tags that have it, as bits.
+    pub tags: u16,
+    /// The number of the interval that has it; one that is too great where none does.
+    pub interval: u16,
 }
 
-/// A table with the numbers of names, each in a slot for its name. A slot holds one more than the number, or 0.
-pub struct Index {
-    slots: Vec<u32>,
+/// A table of names that are not empty, each in a slot for it. A slot with an empty name is free.
+pub struct Table {
+    names: Vec<u64>,
+    known: Vec<u32>,
     seed: u64,
 }
 
-impl Index {
-    pub fn of(count: usize) -> Index {
-        Index { slots: vec![0; (2 * count + 1).next_power_of_two()], seed: RandomState::new().hash_one(0) }
+#[inline(always)]
+fn unpacked(slot: u64) -> Span {
+    Span { at: slot as u32, len: (slot >> 32) as u32 }
+}
+
+impl Table {
+    /// A table with room for so many names.
+    pub fn of(count: usize) -> Table {
+        let slots = (count + count / 2 + 1).next_power_of_two();
+        Table { names: vec![0; slots], known: vec![0; slots], seed: RandomState::new().hash_one(0) }
     }
 
-    /// The table of some names, by their numbers in order.
-    pub fn of_all(names: &[&[u8]]) -> Index {
-        let mut index = Index::of(names.len());
-        for number in 0..names.len() {
-            index.insert(number, |other| names[other]);
+    /// A hash of a name: its words are folded into the seed, one after another.
+    #[inline(always)]
+    fn hash(&self, source: Source, name: Span) -> u64 {
+        let fold = |state: u64, word: u64| {
+            let product = u128::from(state ^ word) * 0x9e37_79b9_7f4a_7c15;
+            product as u64 ^ (product >> 64) as u64
+        };
+        let (mut state, mut rest) = (self.seed ^ u64::from(name.len), name);
+        while rest.len > 8 {
+            state = fold(state, source.word(rest.at as usize));
+            rest = Span { at: rest.at + 8, len: rest.len - 8 };
         }
-        index
+        fold(state, source.first_word(rest))
     }
 
-    /// The slot of the number whose name this is, or the empty slot for it.
-    #[inline]
-    fn slot<'a>(&self, name: &[u8], name_of: impl Fn(usize) -> &'a [u8]) -> usize {
-        let mask = self.slots.len() - 1;
-        let mut slot = hash(self.seed, name) as usize & mask;
-        while self.slots[slot] != 0 && name_of(self.slots[slot] as usize - 1) != name {
+    /// The slot of a name of a source, or the free slot for it; the names of the table stand in another source, perhaps.
+    #[inline(always)]
+    fn slot(&self, source: Source, name: Span, is_name: impl Fn(Span) -> bool) -> usize {
+        let mask = self.names.len() - 1;
+        let mut slot = self.hash(source, name) as usize & mask;
+        while self.names[slot] != 0 && !is_name(unpacked(self.names[slot])) {
             slot = (slot + 1) & mask;
         }
         slot
     }
 
-    #[inline]
-    pub fn find<'a>(&self, name: &[u8], name_of: impl Fn(usize) -> &'a [u8]) -> Option<usize> {
-        (self.slots[self.slot(name, name_of)] as usize).checked_sub(1)
+    /// Puts a name into the table, with a kind of tag, and an interval; whether it was not there.
+    #[inline(always)]
+    pub fn insert(&mut self, source: Source, name: Span, tag: u16, interval: u16) -> bool {
+        let slot = self.slot(source, name, |other| source.is_same(name, other));
+        let is_new = self.names[slot] == 0;
+        self.names[slot] = u64::from(name.len) << 32 | u64::from(name.at);
+        self.known[slot] |= u32::from(tag) | u32::from(interval) << 16;
+        is_new
     }
 
-    /// The number that has the name already; where there is none, this one takes it.
-    #[inline]
-    pub fn insert<'a>(&mut self, number: usize, name_of: impl Fn(usize) -> &'a [u8]) -> Option<usize> {
-        let slot = self.slot(name_of(number), name_of);
-        let before = (self.slots[slot] as usize).checked_sub(1);
-        if before.is_none() {
-            self.slots[slot] = number as u32 + 1;
-        }
-        before
+    /// What is known of a name; nothing where it is not there.
+    #[inline(always)]
+    pub fn find(&self, source: Source, name: Span) -> Known {
+        let known = self.known[self.slot(source, name, |other| source.is_same(name, other))];
+        Known { tags: known as u16, interval: (known >> 16) as u16 }
+    }
+
+    /// The interval of this source whose name is that of another one.
+    pub fn interval_of(&self, source: Source, other: Source, name: Span) -> Option<u16> {
+        let text = other.text(name);
+        let slot = self.slot(other, name, |own| source.text(own) == text);
+        Some((self.known[slot] >> 16) as u16).filter(|interval| self.names[slot] != 0 && *interval != u16::MAX)
     }
 }

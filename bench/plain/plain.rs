@@ -1,22 +1,24 @@
-//! The commands `check DOC`, `spans DOC` and `canon DOC` of `tml`, written by hand: ordinary Rust that cares for speed,
-//! without proofs, to measure what these cost; and `matrix DOC`, `possible DOC X Y`, `reduce DOC`, `score DOC KEY` and
-//! `seconds DOC` of documents without dates and clashes. It prints the same bytes and ends with the same status, but for
-//! which placing `seconds` prints. The rules are those of
-//! docs/DEFINITIONS.md. bench/beside.py, bench/matrix.py, bench/reduce.py and bench/seconds.py build and run it.
-//!
-//! rustc compiles the modules apart, so what runs for each unit or each name is marked `#[inline]`: without that the
-//! program is slower.
+//! Commands of `tml` written by hand: ordinary Rust that cares for speed, without proofs, to measure what these cost. It
+//! prints the same bytes and ends with the same status, but for which clash, cycle and placing it prints. The rules are those
+//! of docs/DEFINITIONS.md. What comes after `check` it says only of documents whose times have no dates and no lengths.
+//! bench/by_hand.py builds it for bench/beside.py and others.
 
 #![cfg_attr(rustfmt, rustfmt_skip)]
 
 mod canon;
+mod check;
+mod closure;
 mod judge;
 mod links;
 mod names;
-mod orders;
+mod nets;
+mod pairs;
 mod print;
 mod profile;
 mod seconds;
+mod sets;
+mod solve;
+mod source;
 mod spans;
 mod units;
 mod values;
@@ -25,6 +27,9 @@ use std::ffi::{OsStr, OsString};
 use std::fs::File;
 use std::io::{self, Read, Write};
 use std::process::ExitCode;
+
+use judge::{judged, Judged};
+use source::{Source, PADDING};
 
 const MOST_BYTES: usize = 4_194_304;
 
@@ -44,7 +49,13 @@ struct Fault {
     kind: Kind,
 }
 
-/// At most one byte more than a document may have.
+/// A status and a text.
+type Answer = (u8, Vec<u8>);
+
+const CLASH: u8 = 2;
+const NOT_DONE: u8 = 100;
+
+/// At most one byte more than a document may have, with room for the padding.
 fn read(name: &OsStr) -> io::Result<Vec<u8>> {
     let most = MOST_BYTES as u64 + 1;
     let mut bytes = Vec::new();
@@ -52,39 +63,72 @@ fn read(name: &OsStr) -> io::Result<Vec<u8>> {
         io::stdin().lock().take(most).read_to_end(&mut bytes)?;
     } else {
         let file = File::open(name)?;
-        bytes.reserve_exact(file.metadata()?.len().min(most) as usize);
+        bytes.reserve_exact(file.metadata()?.len().min(most) as usize + PADDING);
         file.take(most).read_to_end(&mut bytes)?;
     }
     Ok(bytes)
 }
 
-const USAGE: &[u8] = b"usage:\nplain spans DOC\nplain check DOC\nplain canon DOC\nplain matrix DOC\nplain possible DOC X Y\n\
-    plain reduce DOC\nplain score DOC KEY\nplain seconds DOC\n";
-const PERHAPS_NOT_DONE: [&str; 5] = ["matrix", "possible", "reduce", "score", "seconds"];
+const USAGE: &[u8] = b"usage:\nplain spans DOC\nplain check DOC\nplain canon DOC\nplain solve DOC\nplain relations DOC\nplain matrix DOC\n\
+    plain possible DOC X Y\nplain reduce DOC\nplain score DOC KEY\nplain seconds DOC\n";
+
+/// What is said of a net, where the document has one without times that are dates or have lengths.
+fn of_net(source: Source, says: impl FnOnce(&Judged) -> Answer) -> Result<Answer, Fault> {
+    let document = judged(source)?;
+    Ok(if document.judge.has_times { (NOT_DONE, b"not done\n".to_vec()) } else { says(&document) })
+}
+
+/// The relations that are possible between two intervals, where both names are those of intervals.
+fn possible(document: &Judged, first: &OsStr, second: &OsStr) -> Answer {
+    let (source, intervals) = (document.judge.source, &document.judge.intervals);
+    let number_of = |name: &OsStr| intervals.iter().position(|one| source.text(*one) == name.as_encoded_bytes());
+    match (number_of(first), number_of(second)) {
+        (Some(left), Some(right)) => pairs::possible(document, left as u16, right as u16),
+        _ => (NOT_DONE, b"not done\n".to_vec()),
+    }
+}
+
+fn score(document: &Judged, key: &OsStr) -> Answer {
+    let mut bytes = read(key).unwrap_or_default();
+    match judged(Source::new(&mut bytes)) {
+        Ok(key) if !key.judge.has_times => links::score(document, &key),
+        _ => (NOT_DONE, b"not done\n".to_vec()),
+    }
+}
+
+/// The answer to the words over a document.
+fn answer_over(words: &[&OsStr], source: Source) -> Option<Result<Answer, Fault>> {
+    let (command, rest) = (words[0].to_str()?, &words[2..]);
+    Some(match (command, rest) {
+        ("check", []) => check::check(source).map(|text| (0, text)),
+        ("spans", []) => spans::spans(source).map(|text| (0, text)),
+        ("canon", []) => canon::canon(source).map(|text| (0, text)),
+        ("solve", []) => of_net(source, solve::solve),
+        ("relations", []) => of_net(source, pairs::relations),
+        ("matrix", []) => of_net(source, pairs::matrix),
+        ("reduce", []) => of_net(source, links::reduce),
+        ("seconds", []) => of_net(source, seconds::seconds),
+        ("score", [key]) => of_net(source, |document| score(document, key)),
+        ("possible", [first, second]) => of_net(source, |document| possible(document, first, second)),
+        _ => return None,
+    })
+}
 
 /// The status and the text of a run.
-fn answer(words: &[OsString]) -> (u8, Vec<u8>) {
-    let usage = (3, USAGE.to_vec());
+fn answer(words: &[OsString]) -> Answer {
     let words: Vec<&OsStr> = words.iter().map(OsString::as_os_str).collect();
-    let (command, name): (&dyn Fn(&[u8]) -> Result<Vec<u8>, Fault>, &OsStr) = match words[..] {
-        [word, name] if word == "check" => (&judge::check, name),
-        [word, name] if word == "spans" => (&spans::spans, name),
-        [word, name] if word == "canon" => (&canon::canon, name),
-        [word, name] if word == "matrix" => (&judge::matrix, name),
-        [word, name] if word == "reduce" => (&judge::reduce, name),
-        [word, name] if word == "seconds" => (&judge::seconds, name),
-        [word, name, key] if word == "score" => (&move |document: &[u8]| judge::score(document, &read(key).unwrap_or_default()), name),
-        [word, name, first, second] if word == "possible" => (&move |document: &[u8]| judge::possible(document, first, second), name),
-        _ => return usage,
-    };
-    match read(name) {
-        Err(_) => (4, b"read fault\n".to_vec()),
-        Ok(document) if document.len() > MOST_BYTES => (9, b"too long DOC\n".to_vec()),
-        Ok(document) => match command(&document) {
-            Ok(text) if text.is_empty() && PERHAPS_NOT_DONE.iter().any(|word| words[0] == *word) => (100, b"not done\n".to_vec()),
-            Ok(text) => (0, text),
-            Err(Fault { place, kind }) => (1, format!("fault {} {kind:?} {place}\n", kind as u8).into_bytes()),
-        },
+    let usage = (3, USAGE.to_vec());
+    if words.len() < 2 {
+        return usage;
+    }
+    let Ok(mut document) = read(words[1]) else { return (4, b"read fault\n".to_vec()) };
+    if document.len() > MOST_BYTES {
+        return (9, b"too long DOC\n".to_vec());
+    }
+    match answer_over(&words, Source::new(&mut document)) {
+        None => usage,
+        Some(Ok(answer)) => answer,
+        Some(Err(Fault { place, kind })) => (1, format!("fault {} {kind:?} {place}\n", kind as u8).into_bytes()),
     }
 }
 
