@@ -62,8 +62,8 @@ pub fn name_len(bytes: &[u8]) -> usize
     bytes.iter().take_while(|b| is_name_byte(**b)).count()
 }
 
-/// How many bytes are looked at one by one before `memchr` is called, which takes as long as they do.
-const NEAR: usize = 8;
+/// How many bytes are looked at one by one before a call of `memchr`, which takes longer than they do.
+const NEAR: usize = 4;
 
 /// The index of the first such byte among a few bytes.
 #[inline(always)]
@@ -89,12 +89,12 @@ pub fn index_of(b: u8, bytes: &[u8]) -> Option<usize>
     }
 }
 
-/// A text is searched for the `<` that ends it.
+/// A text is mostly long, so it is searched for the `<` that ends it.
 pub fn text_len(bytes: &[u8]) -> usize
     ensures within { result ≤ length bytes.now }
     ensures len { result ≡ prefix_len kinds.is_text_byte bytes.now }
 {
-    match index_of(b'<', bytes) {
+    match memchr::memchr(b'<', bytes) {
         Some(len) => len,
         None => bytes.len(),
     }

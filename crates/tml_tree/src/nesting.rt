@@ -199,6 +199,7 @@ impl Nesting {
     }
 
     /// The tag of this name, or the first fault of a start or empty tag of this name at a place.
+    #[inline(always)]
     fn tag(&self, place: u32, name: &[u8]) -> Result<TagName, TreeFault>
         ensures { MayBegin self.now place name.now result }
     {

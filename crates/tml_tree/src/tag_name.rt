@@ -101,13 +101,25 @@ impl TagName {
         }
     }
 
-    /// The tag of this name, or none where it is the name of no tag.
-    pub fn of(name: &[u8]) -> Option<TagName>
+    /// The tag of this name, by the first byte of the name.
+    fn by_first(name: &[u8]) -> Option<TagName>
         ensures { result ≡ named_of names.text_of names.all_tags name.now }
     {
         match name {
             [] => None,
             [first, ..] => named_in(TagName::beginning_with(*first), name),
+        }
+    }
+
+    /// The tag of this name, or none where it is the name of no tag. The most frequent ones are known at once.
+    #[inline(always)]
+    pub fn of(name: &[u8]) -> Option<TagName>
+        ensures { result ≡ named_of names.text_of names.all_tags name.now }
+    {
+        match name {
+            [b's'] => Some(TagName::LowerS),
+            [b'E', b'V', b'E', b'N', b'T'] => Some(TagName::Event),
+            _ => TagName::by_first(name),
         }
     }
 }
