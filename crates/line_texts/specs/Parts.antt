@@ -1,5 +1,5 @@
 -- Lines that are begun, by their parts. A part can be begun, and it can be whole.
-use Rattle.std.specs.Prelude.{[], ◌∷◌, ◌≡◌, ℕ, ◌+◌, ◌<◌, ◌⊎◌, List, ◌++◌, length}
+use Rattle.std.specs.Prelude.{[], ◌∷◌, ◌≡◌, ℕ, ◌<◌, ◌⊎◌, List, ◌++◌, length}
 use Rattle.std.specs.List.{All, flat_map}
 use Rattle.line_texts.specs.Lines.{Lines, last_line}
 
