@@ -4,7 +4,7 @@ use Rattle.std.specs.List.{concat}
 use Rattle.evidence_format.specs.Bundles.{bundle_lines}
 use Rattle.evidence_format.specs.Evidence.{PlainEvidence}
 use Rattle.evidence_format.proofs.Claims.{has_text}
-use Rattle.evidence_format.proofs.EveryText.{bundle_or_bad_line}
+use Rattle.evidence_format.proofs.Reading.{bundle_or_bad_line}
 use Rattle.net_core.specs.Limits.{max_evidence}
 use Rattle.tml_run.specs.Answered.{AreAnswered, NeverFree}
 use Rattle.tml_run.proofs.Answering.{IsAnswered}

@@ -8,7 +8,7 @@ use Rattle.evidence_check.specs.Bundles.{IsFirstRefused}
 use Rattle.evidence_check.proofs.Bundles.{all_true, one_bundle_verdict}
 use Rattle.evidence_format.specs.Evidence.{PlainEvidence}
 use Rattle.evidence_format.proofs.Claims.{well_formed_claims}
-use Rattle.evidence_format.proofs.EveryText.{bundle_or_bad_line}
+use Rattle.evidence_format.proofs.Reading.{bundle_or_bad_line}
 use Rattle.net_build.specs.Built.{IsNetOf}
 use Rattle.net_build.proofs.EveryNet.{every_net}
 use Rattle.net_build.proofs.OneNet.{one_net}

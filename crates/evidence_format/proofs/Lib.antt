@@ -6,7 +6,6 @@ pub mod BodyLaws
 pub mod BundleLaws
 pub mod LineLaws
 pub mod Reading
-pub mod EveryText
 pub mod Claims
 pub mod Writing
 pub mod BodyTexts

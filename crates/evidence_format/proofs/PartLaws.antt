@@ -2,7 +2,7 @@
 use Rattle.std.proofs.Common.{◌≡◌, ℕ, ◌+◌, ◌-◌, ◌≤◌, ◌↔◌, inl, inr, List, [], ◌∷◌, ◌++◌, length, map, sym, refl, ap, subst, ◌∙◌, length-append, arith}
 use Rattle.std.specs.Prelude.{codes}
 use Rattle.std.specs.List.{All, flat_map}
-use Rattle.std.proofs.lemmas.List.{append-nil, map-append}
+use Rattle.std.proofs.lemmas.List.{map-append}
 use Rattle.std.proofs.lemmas.List.Elements.{All-nil, All-from_recursion, recursion_from_All}
 use Rattle.net_core.specs.Atoms.{atom_count}
 use Rattle.net_core.specs.declared.step.Step.{Step}
@@ -10,7 +10,7 @@ use Rattle.net_core.specs.declared.step.Step.TheVariants.{Span}
 use Rattle.evidence_format.specs.declared.head.Head.{Head}
 use Rattle.line_texts.specs.Lines.{Lines}
 use Rattle.line_texts.specs.Grammar.{Begins}
-use Rattle.evidence_format.specs.Evidence.{PlainEvidence, timeline, entails, counter, clash, AreRanks, HasNumbers, AreSteps, AreCites, IsWellFormed, at_line, timeline_lines, step_line, walk_lines, cite_line, body_lines, text_lines, first_line}
+use Rattle.evidence_format.specs.Evidence.{PlainEvidence, timeline, entails, counter, clash, AreRanks, HasNumbers, AreSteps, AreCites, IsWellFormed, at_line, timeline_lines, step_line, walk_lines, cite_line, body_lines, first_line}
 use Rattle.line_texts.specs.Numbers.{IsNumber, IsPair, one_number, relation_line}
 use Rattle.evidence_format.specs.Parts.{IsBegunTimeline, IsBegunWalk, AreBegunWalks, AreBegunTimelines, AreBegunCites, IsBegunClash, IsBegunBody, IsBegunByParts}
 use Rattle.line_texts.specs.Parts.{MayBegin}
@@ -21,7 +21,7 @@ use Rattle.evidence_format.proofs.BodyLaws.{exact_walk, HasSpares, HasWalkAndSpa
 use Rattle.evidence_format.proofs.Rising.{Rise, rise_from_cites, rise_from_places, increasing, leaving, cites_from_rise, rise_prefix, rise_on}
 use Rattle.evidence_format.proofs.CiteLaws.{HasCites}
 use Rattle.evidence_format.proofs.FormLaws.{head_line}
-use Rattle.line_texts.proofs.PartLaws.{prefix_map, prefix_cons, counted_prefix, many_prefix, between_prefix, count_begins, may_begin, many_begin, between_begins}
+use Rattle.line_texts.proofs.PartLaws.{prefix_map, prefix_cons, counted_prefix, many_prefix, count_begins, may_begin, many_begin, text_begins, text_prefix}
 
 -- ---- the first lines of a whole text are begun by their parts
 
@@ -77,22 +77,6 @@ body_prefix (clash cites walk spares) xs ys h e =
     elim (prefix_cons xs ys (one_number (codes "clash ") (length cites)) (map cite_line cites ++ (walk_lines walk ++ flat_map timeline_lines spares)) e) [
       | inl none ↦ inl none
       | inr m ↦ inr (inr (inr (inr (length cites, m.0, h.0.2, clash_prefix cites walk spares m.0 ys h m.2, m.1))))
-    ]
-
--- after the first line, a body that may begin
-opened : (ls more : Lines) → ls ≡ first_line ∷ more → MayBegin IsBegunBody more → IsBegunByParts ls
-opened ls more first (inl none) = inr (inl (first ∙ ap (λ (x : Lines). first_line ∷ x) none))
-opened ls more first (inr begun) = inr (inr (inl (more, begun, first)))
-
--- lines that begin a text are begun by their parts
-begun_by_parts : (ls : Lines) → IsBegun ls → IsBegunByParts ls
-begun_by_parts ls h =
-    elim (between_prefix first_line (body_lines h.0) ls h.1 h.2.1) [
-      | inl none ↦ inl none
-      | inr k ↦ elim k [
-        | inl m ↦ opened ls m.0 m.2 (body_prefix h.0 m.0 m.1 h.2.0 m.3)
-        | inr all ↦ inr (inr (inr (h.0, h.2.0, all)))
-      ]
     ]
 
 -- ---- lines that are begun by their parts go on to a whole text
@@ -161,13 +145,6 @@ body_begins ls (inr (inr (inr h))) =
     let whole = ap (λ (x : Lines). x ++ c.1) h.4 ∙ ap (λ (x : Lines). one_number (codes "clash ") h.0 ∷ x) r.2 ∙ ap (λ (k : Head). head_line k ∷ rest_lines c.0) (sym r.1) ∙ sym (body_is c.0) in
     (c.0, c.1, (r.0, whole))
 
--- lines that are begun by their parts begin a text
-parts_begin : (ls : Lines) → IsBegunByParts ls → IsBegun ls
-parts_begin ls (inl none) = (timeline [], text_lines (timeline []), (no_intervals, ap (λ (x : Lines). x ++ text_lines (timeline [])) none))
-parts_begin ls (inr (inl first)) = between_begins first_line IsWellFormed body_lines ls [] first (timeline [], timeline_lines [], (no_intervals, refl))
-parts_begin ls (inr (inr (inl t))) = between_begins first_line IsWellFormed body_lines ls t.0 t.2 (body_begins t.0 t.1)
-parts_begin ls (inr (inr (inr w))) = (w.0, [], (w.1, append-nil ls ∙ w.2))
-
 -- both definitions of begun lines are one
 pub same_begun : (ls : Lines) → IsBegunByParts ls ↔ IsBegun ls
-same_begun ls = (parts_begin ls, begun_by_parts ls)
+same_begun ls = (text_begins IsWellFormed first_line body_lines IsBegunBody (timeline []) no_intervals body_begins ls, text_prefix IsWellFormed first_line body_lines IsBegunBody body_prefix ls)

@@ -1,21 +1,19 @@
 -- What is read of whole texts.
-use Rattle.std.proofs.Common.{◌≡◌, inl, inr, ℕ, List, [], ◌∷◌, refl, sym, ap, subst}
-use Rattle.std.specs.List.{concat, AllByRecursion}
+use Rattle.std.proofs.Common.{◌≡◌, inl, inr, ℕ, List, [], ◌∷◌, refl, ap}
+use Rattle.std.specs.List.{concat}
 use Rattle.line_texts.specs.Lines.{Lines}
 use Rattle.line_texts.specs.Reading.{Read, ◌>>=◌, line_at}
 use Rattle.line_texts.specs.Grammar.{Begins}
 use Rattle.evidence_format.specs.Evidence.{PlainEvidence, IsText, text_lines, IsWellFormed, body_lines, first_line}
-use Rattle.evidence_format.specs.Begun.{HasLines, IsBadLine}
-use Rattle.line_texts.specs.Begun.{IsBadLineBy}
-use Rattle.evidence_format.specs.Bundles.{IsTextOfEither, IsBegunByEither, IsBadLineOfEither, bundle_lines}
+use Rattle.evidence_format.specs.Begun.{HasLines, IsBegun}
+use Rattle.evidence_format.specs.Bundles.{BundleOrBadLine, IsTextOfEither, IsBegunByEither, IsBadLineOfEither, bundle_lines}
 use Rattle.evidence_format.specs.Readers.{evidence_at, bundle_at, body_at}
 use Rattle.line_texts.proofs.Exact.{Exact, all_of}
 use Rattle.evidence_format.proofs.BundleLaws.{HasEither, claims_at, exact_claims, bundle_is}
-use Rattle.line_texts.proofs.LineLaws.{IsLine}
 use Rattle.evidence_format.proofs.LineLaws.{text_is, either_is}
 use Rattle.line_texts.specs.Words.{same_of}
 use Rattle.evidence_format.proofs.BodyLaws.{exact_body}
-use Rattle.line_texts.proofs.Reading.{Texts, one_of_texts, one_line, same_bad}
+use Rattle.line_texts.proofs.Reading.{Texts, one_line, own_texts, text_or_bad_line}
 use Rattle.line_texts.proofs.TextLaws.{closed, ends_after, exact_between}
 
 -- ---- version 1
@@ -34,22 +32,8 @@ exact_text : Exact HasLines text_at
 exact_text = exact_between first_line IsWellFormed body_lines body_at exact_body
 
 -- evidence and its texts
-pub texts : Texts IsText HasLines text_at evidence_at
-texts = record {
-  exact = exact_text;
-  reads = evidence_is;
-  whole = λ e ls h. subst (AllByRecursion IsLine) (sym h.1) (text_is e h.0);
-  to = λ e ls h. (h.0, ap concat h.1);
-  from = λ e text h. (text_lines e, (h.0, refl), h.1);
-}
-
--- a text has one bad line at most
-pub one_bad : (text : List ℕ) (m n : ℕ) → IsBadLine text m → IsBadLine text n → m ≡ n
-one_bad text m n h k = one_line HasLines text m n h k
-
--- a text is that of one value at most
-pub one_value : (d e : PlainEvidence) (text : List ℕ) → IsText d text → IsText e text → d ≡ e
-one_value d e text h k = one_of_texts texts d e text h k
+pub texts : Texts IsText IsBegun HasLines text_at evidence_at
+texts = own_texts IsWellFormed text_lines text_at evidence_at exact_text evidence_is text_is
 
 -- ---- either version
 
@@ -63,10 +47,6 @@ pub from_text : (es : List PlainEvidence) (text : List ℕ) → IsTextOfEither e
 from_text es text (inl h) = (bundle_lines es, inl (h.0, refl), h.1)
 from_text es text (inr h) = (text_lines h.0, inr (h.0, h.1, (h.2.0, refl)), h.2.1)
 
--- claims and their texts
-pub bundles : Texts IsTextOfEither HasEither claims_at bundle_at
-bundles = record { exact = exact_claims; reads = bundle_is; whole = either_is; to = to_text; from = from_text }
-
 -- lines that begin those of one of the versions are begun by one
 to_begun : (ls : Lines) → Begins HasEither ls → IsBegunByEither ls
 to_begun ls (es, more, inl h) = inr (es, more, h)
@@ -77,10 +57,14 @@ from_begun : (ls : Lines) → IsBegunByEither ls → Begins HasEither ls
 from_begun ls (inl h) = (h.0 ∷ [], h.1, inr (h.0, refl, h.2))
 from_begun ls (inr h) = (h.0, h.1, inl h.2)
 
--- the bad line of the lines of either version is that of either version
-pub bad_of_either : (text : List ℕ) (line : ℕ) → IsBadLineBy (Begins HasEither) text line → IsBadLineOfEither text line
-bad_of_either text line h = same_bad (Begins HasEither) IsBegunByEither to_begun from_begun text line h
+-- claims and their texts
+pub bundles : Texts IsTextOfEither IsBegunByEither HasEither claims_at bundle_at
+bundles = record { exact = exact_claims; reads = bundle_is; whole = either_is; to = to_text; from = from_text; begun = to_begun; begins = from_begun }
+
+-- every text is that of some claims, or has a bad line
+pub bundle_or_bad_line : (text : List ℕ) → BundleOrBadLine text
+bundle_or_bad_line text = text_or_bad_line bundles text
 
 -- a text has one bad line of either version at most
 pub one_bad_of_either : (text : List ℕ) (m n : ℕ) → IsBadLineOfEither text m → IsBadLineOfEither text n → m ≡ n
-one_bad_of_either text m n h k = one_line HasEither text m n (same_bad IsBegunByEither (Begins HasEither) from_begun to_begun text m h) (same_bad IsBegunByEither (Begins HasEither) from_begun to_begun text n k)
+one_bad_of_either text m n h k = one_line bundles text m n h k

@@ -1,11 +1,11 @@
 -- Several claims as plain values, their one text of version 2, and the bad line of either version.
-use Rattle.std.specs.Prelude.{◌≡◌, ◌⊎◌, ◌↔◌, ℕ, ◌<◌, List, [], ◌∷◌, ◌++◌, length, map, codes, ⊤, Result, Ok, Err}
+use Rattle.std.specs.Prelude.{◌≡◌, ◌⊎◌, ◌↔◌, ℕ, ◌<◌, List, [], ◌∷◌, ◌++◌, length, map, codes, Result}
 use Rattle.std.specs.List.{All, concat, flat_map}
 use Rattle.line_texts.specs.Lines.{Lines, last_line}
 use Rattle.line_texts.specs.Grammar.{Begins}
 use Rattle.evidence_format.specs.Evidence.{PlainEvidence, IsWellFormed, IsText, body_lines}
 use Rattle.line_texts.specs.Numbers.{IsNumber, one_number}
-use Rattle.line_texts.specs.Begun.{IsBadLineBy}
+use Rattle.line_texts.specs.Begun.{IsBadLineBy, ReadsBy, RefusesTextBy, TellsBadLineBy, TextOrBadLineBy}
 use Rattle.evidence_format.specs.Begun.{IsBegun}
 use Rattle.line_texts.specs.Parts.{AreBegunParts}
 use Rattle.evidence_format.specs.Parts.{IsBegunBody}
@@ -13,7 +13,6 @@ use Rattle.evidence_format.specs.View.{plain}
 use Rattle.evidence_format.specs.declared.bodies.Bodies.{Bodies}
 use Rattle.evidence_format.specs.declared.evidence.Evidence.{Evidence}
 use Rattle.line_texts.specs.declared.read.ReadEvidence.{ReadEvidence}
-use Rattle.line_texts.specs.declared.read.ReadEvidence.TheVariants.{BadLine, Memory}
 
 -- ---- texts
 
@@ -72,23 +71,19 @@ IsBadLineOfEither text line = IsBadLineBy IsBegunByEither text line
 
 -- these claims were read, unless out of memory
 abbrev pub ReadsBundle : List PlainEvidence → Result (List Evidence) ReadEvidence → Type 0
-ReadsBundle es (Ok bundle) = map plain bundle ≡ es
-ReadsBundle es (Err Memory) = ⊤
-ReadsBundle es (Err (BadLine line)) = ⊥
+ReadsBundle es read = ReadsBy (λ bundle. map plain bundle) es read
 
 -- the bad line of either version is reported, unless out of memory
 abbrev pub TellsBadLineOfEither : List ℕ → ReadEvidence → Type 0
-TellsBadLineOfEither text Memory = ⊤
-TellsBadLineOfEither text (BadLine line) = IsBadLineOfEither text line
+TellsBadLineOfEither text refused = TellsBadLineBy IsBegunByEither text refused
 
 -- a text is that of no claims, and its bad line is reported, unless out of memory
 abbrev pub RefusesText : List ℕ → ReadEvidence → Type 0
-RefusesText text Memory = ⊤
-RefusesText text (BadLine line) = ((es : List PlainEvidence) → IsTextOfEither es text → ⊥) × IsBadLineOfEither text line
+RefusesText text refused = RefusesTextBy IsTextOfEither IsBegunByEither text refused
 
 -- a text is that of some claims, or is that of none and has a bad line of either version
 abbrev pub BundleOrBadLine : List ℕ → Type 0
-BundleOrBadLine text = ((es : List PlainEvidence) × IsTextOfEither es text) ⊎ (((es : List PlainEvidence) → IsTextOfEither es text → ⊥) × (line : ℕ) × IsBadLineOfEither text line)
+BundleOrBadLine text = TextOrBadLineBy IsTextOfEither IsBegunByEither text
 
 -- ---- lines that are begun, by their parts
 

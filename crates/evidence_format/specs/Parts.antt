@@ -1,15 +1,15 @@
 -- Lines that are begun, by the parts of evidence. A part can be begun, and it can be whole.
-use Rattle.std.specs.Prelude.{◌≡◌, ℕ, ◌+◌, ◌-◌, ◌<◌, ◌≤◌, ◌⊎◌, ◌↔◌, List, [], ◌∷◌, ◌++◌, length, map, slice_index, codes}
+use Rattle.std.specs.Prelude.{◌≡◌, ℕ, ◌+◌, ◌-◌, ◌<◌, ◌≤◌, ◌⊎◌, ◌↔◌, List, ◌∷◌, ◌++◌, length, map, slice_index, codes}
 use Rattle.std.specs.List.{All}
 use Rattle.std.specs.List.Sorted.{IsStrictlyIncreasing}
 use Rattle.net_core.specs.Atoms.{atom_count}
 use Rattle.net_core.specs.declared.rels.Rel.{Rel}
 use Rattle.net_core.specs.declared.step.Step.{Step}
 use Rattle.line_texts.specs.Lines.{Lines}
-use Rattle.evidence_format.specs.Evidence.{PlainEvidence, AreRanks, AreSteps, AreCites, HasNumbers, IsWellFormed, at_line, timeline_lines, step_line, walk_lines, cite_line, first_line, text_lines}
+use Rattle.evidence_format.specs.Evidence.{AreRanks, AreSteps, AreCites, HasNumbers, IsWellFormed, at_line, timeline_lines, step_line, walk_lines, cite_line, body_lines, first_line}
 use Rattle.line_texts.specs.Numbers.{IsNumber, IsPair, one_number, relation_line}
 use Rattle.evidence_format.specs.Begun.{IsBegun}
-use Rattle.line_texts.specs.Parts.{MayBegin, AreBegunParts}
+use Rattle.line_texts.specs.Parts.{MayBegin, AreBegunParts, IsBegunText}
 
 -- a timeline of some number of intervals, with the ranks of no more
 abbrev pub IsBegunTimeline : Lines → Type 0
@@ -64,11 +64,7 @@ IsBegunBody ls =
 
 -- no line; the first line alone; a begun body after it; or the lines of a whole text
 abbrev pub IsBegunByParts : Lines → Type 0
-IsBegunByParts ls =
-    (ls ≡ [])
-    ⊎ (ls ≡ first_line ∷ [])
-    ⊎ ((rest : Lines) × IsBegunBody rest × (ls ≡ first_line ∷ rest))
-    ⊎ ((e : PlainEvidence) × IsWellFormed e × (ls ≡ text_lines e))
+IsBegunByParts ls = IsBegunText IsWellFormed first_line body_lines IsBegunBody ls
 
 -- the law: both say the same
 abbrev pub SameBegun : Type 0

@@ -13,7 +13,7 @@ use crate::head::{Head, head_at};
 use crate::timeline::{ranks_at, timeline_at, timelines_at};
 use crate::walks::{walk_at, walks_at};
 use crate::{Body, Evidence};
-use line_texts::{ReadEvidence, Stop, end_at, line_of, same_at};
+use line_texts::{ReadEvidence, Stop, end_at, refusal, same_at};
 use std::alloc::Global;
 
 /// The evidence whose text this is. It takes time in the length of the text, and memory in the length of what was read.
@@ -29,10 +29,7 @@ pub fn read_evidence(alloc: Global, text: &[u8]) -> Result<Evidence, ReadEvidenc
 {
     match evidence_at(alloc, text) {
         Ok(evidence) => Ok(evidence),
-        Err(Stop::BadLine(rest)) => Err(ReadEvidence::BadLine {
-            line: line_of(text, rest),
-        }),
-        Err(Stop::Memory) => Err(ReadEvidence::Memory),
+        Err(stop) => Err(refusal(text, stop)),
     }
 }
 

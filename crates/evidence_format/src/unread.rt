@@ -12,7 +12,7 @@ ghost use Rattle.std.specs.Prelude.{◌≡◌, ◌<◌, ◌≤◌, ◌-◌, ◌+
 use crate::Body;
 use crate::read::body_at;
 use crate::versions::opening_at;
-use line_texts::{ReadEvidence, Stop, end_at, line_of};
+use line_texts::{ReadEvidence, Stop, end_at, refusal};
 use std::alloc::Global;
 
 /// The claims of a text that are still to be read.
@@ -94,10 +94,5 @@ pub fn stopped(text: &[u8], stop: Stop<'_>) -> ReadEvidence
     requires stop { StopsAt stop (readers.bundle_at (lines_of text.now)) }
     ensures { RefusesText text.now result }
 {
-    match stop {
-        Stop::BadLine(rest) => ReadEvidence::BadLine {
-            line: line_of(text, rest),
-        },
-        Stop::Memory => ReadEvidence::Memory,
-    }
+    refusal(text, stop)
 }

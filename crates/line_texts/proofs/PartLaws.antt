@@ -8,7 +8,7 @@ use Rattle.named.proofs.Lists.{each_parts}
 use Rattle.line_texts.specs.Lines.{Lines, last_line}
 use Rattle.line_texts.specs.Grammar.{Begins}
 use Rattle.line_texts.specs.Numbers.{IsNumber, one_number}
-use Rattle.line_texts.specs.Parts.{MayBegin, AreBegunParts}
+use Rattle.line_texts.specs.Parts.{MayBegin, AreBegunParts, IsBegunText}
 use Rattle.line_texts.proofs.Exact.{parted}
 use Rattle.line_texts.proofs.ReaderLaws.{Has, AreCounted, AreMany}
 
@@ -88,7 +88,7 @@ closed_prefix xs ys ls e =
     ]
 
 -- the first lines of a text: none, the first line and the first ones of its body, or all
-pub between_prefix : (first : List ℕ) (body xs ys : Lines) → xs ++ ys ≡ first ∷ (body ++ last_line ∷ [])
+between_prefix : (first : List ℕ) (body xs ys : Lines) → xs ++ ys ≡ first ∷ (body ++ last_line ∷ [])
     → (xs ≡ []) ⊎ ((ls : Lines) × (more : Lines) × (xs ≡ first ∷ ls) × (ls ++ more ≡ body)) ⊎ (xs ≡ first ∷ (body ++ last_line ∷ []))
 between_prefix first body xs ys e =
     elim (prefix_cons xs ys first (body ++ last_line ∷ []) e) [
@@ -140,6 +140,34 @@ many_begin IsWhole lines IsBegunPart some fits part n ls h =
     ]
 
 -- after the first line, a body that goes on to a whole one goes on to a text
-pub between_begins : {A : Type 0} (first : List ℕ) (Fits : A → Type 0) (body : A → Lines) (ls rest : Lines) → ls ≡ first ∷ rest → Begins (Has Fits body) rest → Begins (Has Fits (λ a. first ∷ (body a ++ last_line ∷ []))) ls
+between_begins : {A : Type 0} (first : List ℕ) (Fits : A → Type 0) (body : A → Lines) (ls rest : Lines) → ls ≡ first ∷ rest → Begins (Has Fits body) rest → Begins (Has Fits (λ a. first ∷ (body a ++ last_line ∷ []))) ls
 between_begins first Fits body ls rest e h =
     (h.0, h.1 ++ last_line ∷ [], (h.2.0, ap (λ (x : Lines). x ++ (h.1 ++ last_line ∷ [])) e ∙ ap (λ (x : Lines). first ∷ x) (sym (append_assoc rest h.1 (last_line ∷ [])) ∙ ap (λ (x : Lines). x ++ last_line ∷ []) h.2.1)))
+
+-- ---- a text between a first line and the last one
+
+module _ {A : Type 0} (Fits : A → Type 0) (first : List ℕ) (body : A → Lines) (IsBegunBody : Lines → Type 0) where
+  -- after the first line, a body that may begin
+  opened : (ls more : Lines) → ls ≡ first ∷ more → MayBegin IsBegunBody more → IsBegunText Fits first body IsBegunBody ls
+  opened ls more start (inl none) = inr (inl (start ∙ ap (λ (x : Lines). first ∷ x) none))
+  opened ls more start (inr begun) = inr (inr (inl (more, begun, start)))
+
+  -- lines that begin a text are begun by its parts, where those that begin a body are
+  pub text_prefix : ((a : A) (xs ys : Lines) → Fits a → xs ++ ys ≡ body a → MayBegin IsBegunBody xs)
+      → (ls : Lines) → Begins (Has Fits (λ a. first ∷ (body a ++ last_line ∷ []))) ls → IsBegunText Fits first body IsBegunBody ls
+  text_prefix each ls h =
+      elim (between_prefix first (body h.0) ls h.1 h.2.1) [
+        | inl none ↦ inl none
+        | inr k ↦ elim k [
+          | inl m ↦ opened ls m.0 m.2 (each h.0 m.0 m.1 h.2.0 m.3)
+          | inr all ↦ inr (inr (inr (h.0, h.2.0, all)))
+        ]
+      ]
+
+  -- and lines that are begun by its parts begin a text, where a begun body goes on to a whole one
+  pub text_begins : (some : A) → Fits some → ((ls : Lines) → IsBegunBody ls → Begins (Has Fits body) ls)
+      → (ls : Lines) → IsBegunText Fits first body IsBegunBody ls → Begins (Has Fits (λ a. first ∷ (body a ++ last_line ∷ []))) ls
+  text_begins some fits on ls (inl none) = (some, first ∷ (body some ++ last_line ∷ []), (fits, ap (λ (x : Lines). x ++ (first ∷ (body some ++ last_line ∷ []))) none))
+  text_begins some fits on ls (inr (inl start)) = between_begins first Fits body ls [] start (some, body some, (fits, refl))
+  text_begins some fits on ls (inr (inr (inl t))) = between_begins first Fits body ls t.0 t.2 (on t.0 t.1)
+  text_begins some fits on ls (inr (inr (inr w))) = (w.0, [], (w.1, append-nil ls ∙ w.2))

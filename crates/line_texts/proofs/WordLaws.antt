@@ -18,7 +18,6 @@ use Rattle.line_texts.specs.Words.{◌>>=◌, is_not, number, long_to, number_to
 use Rattle.line_texts.specs.Numbers.{IsNumber, IsPair, one_number, two_numbers, relation_line}
 use Rattle.line_texts.proofs.Numbers.{some_bind, number_found, number_again}
 use Rattle.std.specs.Option.{option_or}
-use Rattle.net_core.specs.declared.step.Step.TheVariants as step
 
 -- ---- up to a byte
 

@@ -1,9 +1,12 @@
 -- Serves the code: what it answers, beside what reading lines gives.
 use Rattle.std.specs.Borrow.{Bor}
-use Rattle.std.specs.Prelude.{◌≡◌, ⊤, ℕ, List, Result, Ok, Err}
+use Rattle.std.specs.List.{count_by}
+use Rattle.std.specs.Prelude.{◌≡◌, ◌≤◌, ◌-◌, ◌+◌, ⊤, ℕ, List, length, take, Result, Ok, Err}
+use Rattle.line_texts.specs.declared.read.ReadEvidence.{ReadEvidence}
+use Rattle.line_texts.specs.declared.read.ReadEvidence.TheVariants as refused
 use Rattle.line_texts.specs.declared.stop.Stop.{Stop}
 use Rattle.line_texts.specs.declared.stop.Stop.TheVariants.{BadLine, Memory}
-use Rattle.line_texts.specs.Lines.{Lines, lines_of}
+use Rattle.line_texts.specs.Lines.{Lines, is_lf, lines_of}
 use Rattle.line_texts.specs.Reading.{Read}
 
 abbrev pub StopsAt : {Y : Type 0} → Stop → Result Y Lines → Type 0
@@ -19,3 +22,13 @@ GivesOrStops view (Err e) read = StopsAt e read
 abbrev pub Passes : {A : Type 0} → Result (Bor (List ℕ)) Stop → Read (List A) → Type 0
 Passes {A} (Ok rest) read = (vs : List A) × (read ≡ Ok (vs, lines_of rest.now))
 Passes (Err e) read = StopsAt e read
+
+-- the rest at which reading stops is no longer than the text
+abbrev pub IsWithin : List ℕ → Stop → Type 0
+IsWithin text Memory = ⊤
+IsWithin text (BadLine rest) = length rest.now ≤ length text
+
+-- why no value is read where reading stops: the line at which the rest begins is bad
+abbrev pub refusal_of : List ℕ → Stop → ReadEvidence
+refusal_of text Memory = refused.Memory
+refusal_of text (BadLine rest) = refused.BadLine (count_by is_lf (take (length text - length rest.now) text) + 1)

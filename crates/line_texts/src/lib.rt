@@ -8,7 +8,7 @@ mod words;
 mod write;
 
 pub use lines::{end_at, next_line, one_at, same_at};
-pub use read::{ReadEvidence, line_of};
+pub use read::{ReadEvidence, refusal};
 pub use stop::Stop;
 pub use words::{after, is_same, long_to, one_of, relation_of, two_of, two_to};
 pub use write::{push_one, push_relation, push_two};

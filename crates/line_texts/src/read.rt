@@ -1,9 +1,11 @@
 //! Why no value was read, and at which line.
+ghost use Rattle.line_texts.specs.Given.{IsWithin, refusal_of};
 ghost use Rattle.line_texts.specs.Lines.{is_lf};
 ghost use Rattle.net_core.specs.Limits.{max_evidence};
 ghost use Rattle.std.specs.List.{count_by};
 ghost use Rattle.std.specs.Prelude.{◌≡◌, ◌≤◌, ◌+◌, ◌-◌, length, take};
 
+use crate::Stop;
 use std::error::Error;
 use std::fmt;
 
@@ -28,8 +30,22 @@ impl fmt::Display for ReadEvidence {
 
 impl Error for ReadEvidence {}
 
+/// Why no value was read of a text, where reading stops.
+pub fn refusal(text: &[u8], stop: Stop<'_>) -> ReadEvidence
+    requires within { IsWithin text.now stop }
+    requires limit { length text.now ≤ max_evidence }
+    ensures { result ≡ refusal_of text.now stop.entry }
+{
+    match stop {
+        Stop::BadLine(rest) => ReadEvidence::BadLine {
+            line: line_of(text, rest),
+        },
+        Stop::Memory => ReadEvidence::Memory,
+    }
+}
+
 /// The number, counted from 1, of the line at which the rest of a text begins.
-pub fn line_of(text: &[u8], rest: &[u8]) -> u32
+fn line_of(text: &[u8], rest: &[u8]) -> u32
     requires within { length rest.now ≤ length text.now }
     requires limit { length text.now ≤ max_evidence }
     ensures { result ≡ count_by is_lf (take (length text.now - length rest.now) text.now) + 1 }

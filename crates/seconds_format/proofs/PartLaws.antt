@@ -1,19 +1,18 @@
 -- Lines are begun by their parts exactly where they begin a text.
-use Rattle.std.proofs.Common.{◌≡◌, ◌↔◌, inl, inr, ℤ, pos, List, [], ◌∷◌, ◌++◌, refl, sym, ap, ◌∙◌, arith}
+use Rattle.std.proofs.Common.{◌≡◌, ◌↔◌, inl, inr, ℤ, pos, List, [], ◌++◌, sym, ap, ◌∙◌, arith}
 use Rattle.std.specs.Prelude.{codes}
-use Rattle.std.proofs.lemmas.List.{append-nil}
 use Rattle.std.proofs.lemmas.List.Elements.{All-from_recursion, All-nil, recursion_from_All}
 use Rattle.line_texts.specs.Grammar.{Begins}
 use Rattle.line_texts.specs.Lines.{Lines}
 use Rattle.line_texts.specs.Parts.{MayBegin}
-use Rattle.line_texts.proofs.PartLaws.{between_begins, between_prefix, count_begins, counted_lines, counted_prefix}
+use Rattle.line_texts.proofs.PartLaws.{count_begins, counted_lines, counted_prefix, text_begins, text_prefix}
 use Rattle.line_texts.proofs.ReaderLaws.{AreCounted, Has}
 use Rattle.seconds_core.specs.Evidence.{ArePairs, PlainEvidence, Placed, Cycle}
 use Rattle.seconds_core.specs.declared.line.Line.TheVariants.{Span}
 use Rattle.seconds_format.specs.Begun.{IsBegun}
 use Rattle.seconds_format.specs.Parts.{IsBegunBody, IsBegunByParts}
 use Rattle.seconds_format.specs.Readers.{seconds_of}
-use Rattle.seconds_format.specs.Texts.{HasNumbers, IsPair, IsWellFormed, at_line, body_lines, cycle_line, first_line, pairs_of, text_lines}
+use Rattle.seconds_format.specs.Texts.{HasNumbers, IsPair, IsWellFormed, at_line, body_lines, cycle_line, first_line, pairs_of}
 use Rattle.seconds_format.proofs.PairLaws.{long_again, pairs_again, pairs_length, pairs_long, seconds_length}
 
 -- the pairs of seconds that are well formed are counted by a number
@@ -31,22 +30,6 @@ body_prefix : (e : PlainEvidence) (xs ys : Lines) → IsWellFormed e → xs ++ y
 body_prefix (Placed seconds) xs ys h e = elim (counted_prefix (codes "placing ") at_line IsPair (pairs_of seconds) xs ys (counted_pairs seconds h) e) [ inl none ↦ inl none | inr begun ↦ inr (inl begun) ]
 body_prefix (Cycle lines) xs ys h e = elim (counted_prefix (codes "cycle ") cycle_line HasNumbers lines xs ys h e) [ inl none ↦ inl none | inr begun ↦ inr (inr begun) ]
 
--- after the first line, a body that may begin
-opened : (ls more : Lines) → ls ≡ first_line ∷ more → MayBegin IsBegunBody more → IsBegunByParts ls
-opened ls more first (inl none) = inr (inl (first ∙ ap (λ (x : Lines). first_line ∷ x) none))
-opened ls more first (inr begun) = inr (inr (inl (more, begun, first)))
-
--- lines that begin a text are begun by their parts
-begun_by_parts : (ls : Lines) → IsBegun ls → IsBegunByParts ls
-begun_by_parts ls h =
-    elim (between_prefix first_line (body_lines h.0) ls h.1 h.2.1) [
-      | inl none ↦ inl none
-      | inr k ↦ elim k [
-        | inl m ↦ opened ls m.0 m.2 (body_prefix h.0 m.0 m.1 h.2.0 m.3)
-        | inr all ↦ inr (inr (inr (h.0, h.2.0, all)))
-      ]
-    ]
-
 -- a begun body goes on to a whole one
 body_begins : (ls : Lines) → IsBegunBody ls → Begins (Has IsWellFormed body_lines) ls
 body_begins ls (inl h) =
@@ -60,13 +43,6 @@ body_begins ls (inr h) =
 no_lines : IsWellFormed (Cycle [])
 no_lines = (All-nil HasNumbers, omega arith)
 
--- lines that are begun by their parts begin a text
-parts_begin : (ls : Lines) → IsBegunByParts ls → IsBegun ls
-parts_begin ls (inl none) = (Cycle [], text_lines (Cycle []), (no_lines, ap (λ (x : Lines). x ++ text_lines (Cycle [])) none))
-parts_begin ls (inr (inl first)) = between_begins first_line IsWellFormed body_lines ls [] first (Cycle [], body_lines (Cycle []), (no_lines, refl))
-parts_begin ls (inr (inr (inl t))) = between_begins first_line IsWellFormed body_lines ls t.0 t.2 (body_begins t.0 t.1)
-parts_begin ls (inr (inr (inr w))) = (w.0, [], (w.1, append-nil ls ∙ w.2))
-
 -- both definitions of begun lines are one
 pub same_begun : (ls : Lines) → IsBegunByParts ls ↔ IsBegun ls
-same_begun ls = (parts_begin ls, begun_by_parts ls)
+same_begun ls = (text_begins IsWellFormed first_line body_lines IsBegunBody (Cycle []) no_lines body_begins ls, text_prefix IsWellFormed first_line body_lines IsBegunBody body_prefix ls)

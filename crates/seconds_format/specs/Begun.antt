@@ -1,10 +1,9 @@
 -- The bad line of a text.
-use Rattle.std.specs.Prelude.{◌≡◌, ◌⊎◌, ℕ, List, ⊤, Result, Ok, Err}
-use Rattle.line_texts.specs.Begun.{IsBadLineBy}
+use Rattle.std.specs.Prelude.{◌≡◌, ℕ, List, Result}
+use Rattle.line_texts.specs.Begun.{IsBadLineBy, ReadsBy, TellsBadLineBy, TextOrBadLineBy}
 use Rattle.line_texts.specs.Grammar.{Begins}
 use Rattle.line_texts.specs.Lines.{Lines}
 use Rattle.line_texts.specs.declared.read.ReadEvidence.{ReadEvidence}
-use Rattle.line_texts.specs.declared.read.ReadEvidence.TheVariants.{BadLine, Memory}
 use Rattle.seconds_core.specs.Evidence.{PlainEvidence}
 use Rattle.seconds_core.specs.View.{evidence_of}
 use Rattle.seconds_core.specs.declared.evidence.SecondsEvidence.{SecondsEvidence}
@@ -23,15 +22,12 @@ IsBadLine text line = IsBadLineBy IsBegun text line
 
 -- this evidence was read, unless out of memory
 abbrev pub ReadsSeconds : PlainEvidence → Result SecondsEvidence ReadEvidence → Type 0
-ReadsSeconds e (Ok evidence) = evidence_of evidence ≡ e
-ReadsSeconds e (Err Memory) = ⊤
-ReadsSeconds e (Err (BadLine line)) = ⊥
+ReadsSeconds e read = ReadsBy evidence_of e read
 
 -- the bad line is reported, unless out of memory
 abbrev pub TellsBadLine : List ℕ → ReadEvidence → Type 0
-TellsBadLine text Memory = ⊤
-TellsBadLine text (BadLine line) = IsBadLine text line
+TellsBadLine text refused = TellsBadLineBy IsBegun text refused
 
 -- a text is that of some evidence, or is that of none and has a bad line
 abbrev pub TextOrBadLine : List ℕ → Type 0
-TextOrBadLine text = ((e : PlainEvidence) × IsText e text) ⊎ (((e : PlainEvidence) → IsText e text → ⊥) × (line : ℕ) × IsBadLine text line)
+TextOrBadLine text = TextOrBadLineBy IsText IsBegun text

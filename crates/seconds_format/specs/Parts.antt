@@ -1,12 +1,12 @@
 -- Lines that are begun, by the parts of a text.
-use Rattle.std.specs.Prelude.{◌≡◌, ◌↔◌, ◌⊎◌, ℕ, ◌≤◌, ℤ, List, [], ◌∷◌, length, map, codes}
+use Rattle.std.specs.Prelude.{◌≡◌, ◌↔◌, ◌⊎◌, ℕ, ◌≤◌, ℤ, List, ◌∷◌, length, map, codes}
 use Rattle.std.specs.List.{All}
 use Rattle.line_texts.specs.Numbers.{IsNumber, one_number}
 use Rattle.line_texts.specs.Lines.{Lines}
-use Rattle.seconds_core.specs.Evidence.{PlainEvidence}
+use Rattle.line_texts.specs.Parts.{IsBegunText}
 use Rattle.seconds_core.specs.declared.line.Line.{Line}
 use Rattle.seconds_format.specs.Begun.{IsBegun}
-use Rattle.seconds_format.specs.Texts.{HasNumbers, IsPair, IsWellFormed, at_line, cycle_line, first_line, text_lines}
+use Rattle.seconds_format.specs.Texts.{HasNumbers, IsPair, IsWellFormed, at_line, body_lines, cycle_line, first_line}
 
 -- a placing of some number of intervals, with the seconds of no more
 abbrev pub IsBegunPlacing : Lines → Type 0
@@ -22,11 +22,7 @@ IsBegunBody ls = IsBegunPlacing ls ⊎ IsBegunCycle ls
 
 -- no line; the first line alone; a begun body after it; or the lines of a whole text
 abbrev pub IsBegunByParts : Lines → Type 0
-IsBegunByParts ls =
-    (ls ≡ [])
-    ⊎ (ls ≡ first_line ∷ [])
-    ⊎ ((rest : Lines) × IsBegunBody rest × (ls ≡ first_line ∷ rest))
-    ⊎ ((e : PlainEvidence) × IsWellFormed e × (ls ≡ text_lines e))
+IsBegunByParts ls = IsBegunText IsWellFormed first_line body_lines IsBegunBody ls
 
 -- the law: both say the same
 abbrev pub SameBegun : Type 0

@@ -12,7 +12,7 @@ ghost use Rattle.std.specs.Prelude.{IfErr, IfOk, length, ◌≤◌};
 use crate::cycle::cycle_at;
 use crate::head::{Head, head_at};
 use crate::placing::placing_at;
-use line_texts::{ReadEvidence, Stop, end_at, line_of, same_at};
+use line_texts::{ReadEvidence, Stop, end_at, refusal, same_at};
 use seconds_core::SecondsEvidence;
 use std::alloc::Global;
 
@@ -31,10 +31,7 @@ pub fn read_seconds(alloc: Global, text: &[u8]) -> Result<SecondsEvidence, ReadE
 {
     match seconds_at(alloc, text) {
         Ok(evidence) => Ok(evidence),
-        Err(Stop::BadLine(rest)) => Err(ReadEvidence::BadLine {
-            line: line_of(text, rest),
-        }),
-        Err(Stop::Memory) => Err(ReadEvidence::Memory),
+        Err(stop) => Err(refusal(text, stop)),
     }
 }
 

@@ -1,12 +1,9 @@
-use Rattle.std.proofs.Common.{List, ℕ, Err, map, subst}
+use Rattle.std.proofs.Common.{map, subst}
 use Rattle.std.proofs.lemmas.List.{length-map}
-use Rattle.line_texts.specs.declared.read.ReadEvidence.{ReadEvidence}
-use Rattle.line_texts.specs.declared.read.ReadEvidence.TheVariants as read_evidence
-use Rattle.evidence_format.specs.Evidence.{PlainEvidence}
-use Rattle.evidence_format.specs.Bundles.{IsCount, IsTextOfEither, ReadsBundle, RefusesText, TellsBadLineOfEither}
+use Rattle.evidence_format.specs.Bundles.{IsCount}
 use Rattle.evidence_format.specs.View.{plain}
 use Rattle.evidence_format.proofs.Reading.{bundles}
-use Rattle.line_texts.proofs.Reading.{one_of_texts}
+use Rattle.line_texts.proofs.Reading.{none_reads, one_of_texts, tells}
 use Rattle.evidence_format.proofs.Claims.{count_of, few_claims, well_formed_claims}
 use Rattle.evidence_format.proofs.bundle.read_bundle.Goals as goal
 
@@ -29,18 +26,8 @@ returns-in-Ok-clause-few c =
 pub returns-in-Ok-clause-good : goal.returns-in-Ok-clause-good
 returns-in-Ok-clause-good c = rw c.from_vec.ensures (well_formed_claims (map plain c.in-Ok.claims.items) c.args.text.now c.in-Ok.ensures.ok)
 
--- no claims have a text that is refused
-none_reads : (text : List ℕ) (refused : ReadEvidence) (es : List PlainEvidence) → RefusesText text refused → IsTextOfEither es text → ReadsBundle es (Err refused)
-none_reads text read_evidence.Memory es h has = tt
-none_reads text (read_evidence.BadLine line) es h has = absurd (h.0 es has)
-
--- and it has the bad line
-tells : (text : List ℕ) (refused : ReadEvidence) → RefusesText text refused → TellsBadLineOfEither text refused
-tells text read_evidence.Memory h = tt
-tells text (read_evidence.BadLine line) h = h.1
-
 pub returns-in-Err-clause-only : goal.returns-in-Err-clause-only
-returns-in-Err-clause-only c = λ es has. none_reads c.args.text.now c.in-Err.refused es c.in-Err.ensures.err has
+returns-in-Err-clause-only c = λ es has. none_reads bundles (λ claims. map plain claims) c.args.text.now c.in-Err.refused es c.in-Err.ensures.err has
 
 pub returns-in-Err-clause-err : goal.returns-in-Err-clause-err
-returns-in-Err-clause-err c = tells c.args.text.now c.in-Err.refused c.in-Err.ensures.err
+returns-in-Err-clause-err c = tells bundles c.args.text.now c.in-Err.refused c.in-Err.ensures.err

@@ -1,4 +1,4 @@
-use Rattle.evidence_format.proofs.EveryText as law
+use Rattle.evidence_format.proofs.Reading as law
 use Rattle.evidence_format.proofs.laws.bundle_or_bad_line.Goals as goal
 
 pub returns : goal.returns

@@ -7,4 +7,4 @@ pub returns-clause-texts : goal.returns-clause-texts
 returns-clause-texts c = λ es a b h k. h.1 ∙ sym k.1
 
 pub returns-clause-values : goal.returns-clause-values
-returns-clause-values c = λ ds es text h k. one_of_texts bundles ds es text h k
+returns-clause-values c = one_of_texts bundles
