@@ -22,7 +22,7 @@ class Listed(unittest.TestCase):
 
     def test_a_call_is_public_where_its_library_hands_it_out_and_it_can_be_out_of_memory(self) -> None:
         calls = {(call.crate, call.shown) for call in memory_calls.public_calls(memory_calls.read_all())}
-        self.assertLessEqual({("order_closure", "Closed::new"), ("tml_accept", "accept"), ("tml_run", "deliver")}, calls)
+        self.assertLessEqual({("order_closure", "Closed::new"), ("tml_accept", "accept"), ("runs", "deliver")}, calls)
         # Within its crate alone; without an error; and of an error of another kind.
         self.assertFalse({("order_closure", "clear"), ("evidence_check", "verify_all"), ("order_closure", "Closed::add")} & calls)
 

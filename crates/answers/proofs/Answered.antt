@@ -5,15 +5,15 @@ use Rattle.tml_accept.specs.Acceptance.{Says}
 use Rattle.tml_accept.proofs.Judged.{every_document}
 use Rattle.tml_accept.proofs.Phases.{accepted_or_fault, one_document}
 use Rattle.tml_refs.specs.Documents.{PlainDocument}
-use Rattle.tml_run.specs.declared.status.Status.{Status}
-use Rattle.tml_run.specs.declared.status.Status.TheVariants.{DocFault}
-use Rattle.tml_run.specs.Answered.{AreAnswered, NeverFree}
-use Rattle.tml_run.specs.OneFile.{of_its_bytes}
-use Rattle.tml_run.proofs.Answering.{IsAnswered, IsDecisive}
-use Rattle.tml_run.proofs.OneFile.{answered, freer}
-use Rattle.tml_run.specs.OneReply.{is_broken_off}
-use Rattle.tml_run.specs.Rows.{File}
-use Rattle.tml_run.proofs.TwoFiles.{both_answered, both_answered_once, refused_first}
+use Rattle.runs.specs.declared.status.Status.{Status}
+use Rattle.runs.specs.declared.status.Status.TheVariants.{DocFault}
+use Rattle.runs.specs.Answered.{AreAnswered, NeverFree}
+use Rattle.runs.specs.OneFile.{of_its_bytes}
+use Rattle.runs.proofs.Answering.{IsAnswered, IsDecisive}
+use Rattle.runs.proofs.OneFile.{answered, freer}
+use Rattle.runs.specs.OneReply.{is_broken_off}
+use Rattle.runs.specs.Rows.{File}
+use Rattle.runs.proofs.TwoFiles.{both_answered, both_answered_once, refused_first}
 use Rattle.answers.specs.Documents.{Contents, doc_file, document_rows, of_contents, of_its_contents}
 use Rattle.answers.proofs.Answering.{ContentsAreAnswered, IsAnsweredByDocument}
 use Rattle.answers.specs.Judged.{Judgements, JudgesFirst, documents, judged_rows, of_judged}

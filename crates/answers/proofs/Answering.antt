@@ -3,9 +3,9 @@ use Rattle.std.specs.Prelude.{◌≡◌, false, ℕ, List}
 use Rattle.net_core.specs.Limits.{max_document}
 use Rattle.tml_accept.specs.Acceptance.{Says}
 use Rattle.tml_refs.specs.Documents.{PlainDocument}
-use Rattle.tml_run.proofs.Answering.{IsAnsweredAfter}
-use Rattle.tml_run.specs.declared.status.Status.{Status}
-use Rattle.tml_run.specs.OneReply.{is_broken_off}
+use Rattle.runs.proofs.Answering.{IsAnsweredAfter}
+use Rattle.runs.specs.declared.status.Status.{Status}
+use Rattle.runs.specs.OneReply.{is_broken_off}
 use Rattle.answers.specs.Documents.{Contents}
 use Rattle.answers.specs.Judged.{Judgements, documents}
 

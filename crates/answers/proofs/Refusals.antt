@@ -3,7 +3,7 @@ use Rattle.std.proofs.Common.{◌≡◌, ℕ, List, sym, ◌∙◌}
 use Rattle.faults.specs.declared.kind.FaultKind.{FaultKind}
 use Rattle.tml_accept.specs.Acceptance.{FirstFault}
 use Rattle.tml_accept.proofs.Phases.{One, one_fault}
-use Rattle.tml_run.specs.declared.status.Status.{Status}
+use Rattle.runs.specs.declared.status.Status.{Status}
 use Rattle.answers.specs.Documents.{IsDocumentRefused}
 use Rattle.answers.specs.Lines.{HasFaultLine, fault_line}
 

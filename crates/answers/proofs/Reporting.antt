@@ -1,9 +1,9 @@
 -- Answers that report a word.
 use Rattle.std.proofs.Common.{◌≡◌, ℕ, List, Option, Some, None, IsNone, Result, Ok, Err, IfOk, refl, sym, subst, rules}
-use Rattle.tml_run.specs.View.{finding_status}
-use Rattle.tml_run.specs.declared.answer.Answer.{Answer}
-use Rattle.tml_run.specs.declared.answer.Finding.{Finding}
-use Rattle.tml_run.specs.declared.status.Status.{Status}
+use Rattle.runs.specs.View.{finding_status}
+use Rattle.runs.specs.declared.answer.Answer.{Answer}
+use Rattle.runs.specs.declared.answer.Finding.{Finding}
+use Rattle.runs.specs.declared.status.Status.{Status}
 
 -- there is nothing
 pub is_none : {A : Type 0} (o : Option A) → ((x : A) → o ≡ Some x → ⊥) → IsNone o

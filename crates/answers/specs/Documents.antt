@@ -3,10 +3,10 @@ use Rattle.std.specs.Prelude.{◌≡◌, ◌⊎◌, ℕ, List, codes}
 use Rattle.net_core.specs.Limits.{max_document}
 use Rattle.tml_accept.specs.Acceptance.{FirstFault, Says}
 use Rattle.tml_refs.specs.Documents.{PlainDocument}
-use Rattle.tml_run.specs.declared.status.Status.{Status}
-use Rattle.tml_run.specs.declared.status.Status.TheVariants.{DocFault}
-use Rattle.tml_run.specs.OneFile.{Answers, of_one_file}
-use Rattle.tml_run.specs.Rows.{File, Rows}
+use Rattle.runs.specs.declared.status.Status.{Status}
+use Rattle.runs.specs.declared.status.Status.TheVariants.{DocFault}
+use Rattle.runs.specs.OneFile.{Answers, of_one_file}
+use Rattle.runs.specs.Rows.{File, Rows}
 use Rattle.answers.specs.Lines.{HasFaultLine}
 
 -- the file of a name that is read as a document

@@ -5,11 +5,11 @@ use Rattle.net_core.specs.Limits.{max_document}
 use Rattle.tml_accept.specs.Acceptance.{FirstFault, Says}
 use Rattle.tml_io.specs.Files.{Files, held}
 use Rattle.tml_refs.specs.Documents.{PlainDocument}
-use Rattle.tml_run.specs.Answered.{Freedom}
-use Rattle.tml_run.specs.OneFile.{Answers}
-use Rattle.tml_run.specs.Rows.{File, Rows}
-use Rattle.tml_run.specs.TwoFiles.{IsRefusedFirst, Judging, of_both, of_two_files}
-use Rattle.tml_run.specs.declared.status.Status.{Status}
+use Rattle.runs.specs.Answered.{Freedom}
+use Rattle.runs.specs.OneFile.{Answers}
+use Rattle.runs.specs.Rows.{File, Rows}
+use Rattle.runs.specs.TwoFiles.{IsRefusedFirst, Judging, of_both, of_two_files}
+use Rattle.runs.specs.declared.status.Status.{Status}
 use Rattle.answers.specs.Documents.{IsDocumentRefused, doc_file}
 
 -- the answers to the contents of another file, by what the document says

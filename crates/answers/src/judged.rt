@@ -4,24 +4,24 @@ ghost use Rattle.net_core.specs.Limits.{max_document};
 ghost use Rattle.std.specs.Prelude.{◌≡◌, ◌≢◌, ◌+◌, ◌≤◌, length, IfErr, IfOk};
 ghost use Rattle.tml_accept.specs.Acceptance.{Says};
 ghost use Rattle.tml_io.specs.Faults.{CallsFollow, HasRisen, RisesAtMost};
-ghost use Rattle.tml_run.specs.Replied.{IsReplyTo};
-ghost use Rattle.tml_run.specs.Roles.{IsRole, file_of};
-ghost use Rattle.tml_run.specs.TwoFiles.{CannotJudge};
-ghost use Rattle.tml_run.specs.View.{finding_status, status_of, text_of};
+ghost use Rattle.runs.specs.Replied.{IsReplyTo};
+ghost use Rattle.runs.specs.Roles.{IsRole, file_of};
+ghost use Rattle.runs.specs.TwoFiles.{CannotJudge};
+ghost use Rattle.runs.specs.View.{finding_status, status_of, text_of};
 
 use crate::refusing::refusal;
 use crate::role::DOC;
+use runs::{Answer, Reply, Role, Status, read};
 use std::alloc::{AllocError, Global};
 use tml_accept::accept;
 use tml_io::Inputs;
 use tml_refs::Document;
-use tml_run::{Answer, Reply, Role, Status, read};
 
 /// What is asked of an accepted document and of another file.
-pub trait OfJudged {
+pub trait JudgedQuery {
     ghost use Rattle.std.specs.Prelude.{List, ℕ};
     ghost use Rattle.tml_refs.specs.Documents.{PlainDocument};
-    ghost use Rattle.tml_run.specs.declared.status.Status.{Status};
+    ghost use Rattle.runs.specs.declared.status.Status.{Status};
 
     /// The answers to the contents of the other file, by what the document says.
     ghost says: { Self → PlainDocument → List ℕ → Status → List ℕ → Type 0 };
@@ -62,7 +62,7 @@ fn document_of(alloc: Global, doc: &[u8]) -> Result<Document<'_>, Reply>
 
 /// The reply to what is asked of a document and of another file, by their names. The other file is read only where the
 /// document has no fault.
-pub fn reply_of_judged<A: OfJudged, I: Inputs>(
+pub fn reply_of_judged<A: JudgedQuery, I: Inputs>(
     alloc: Global,
     asked: &A,
     name: &str,

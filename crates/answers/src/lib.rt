@@ -9,9 +9,9 @@ mod one_document;
 mod refusing;
 mod role;
 
-pub use judged::{OfJudged, reply_of_judged};
+pub use judged::{JudgedQuery, reply_of_judged};
 pub use lines::{push_fault, push_link, push_number, push_numbered, push_prefix, push_related};
 pub use names::{names_of, unknown_name};
-pub use one_document::{OfDocument, reply_of_document};
+pub use one_document::{DocumentQuery, reply_of_document};
 pub use refusing::refusal;
 pub use role::DOC;

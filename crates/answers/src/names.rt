@@ -2,9 +2,9 @@
 ghost use Rattle.answers.specs.Names.{AreNames};
 ghost use Rattle.std.specs.Prelude.{IfOk, map, ◌≡◌};
 
+use runs::{Answer, Finding};
 use std::alloc::{AllocError, Global};
 use tml_refs::Document;
-use tml_run::{Answer, Finding};
 
 /// The answer that a word names nothing: this line.
 ///

@@ -3,22 +3,22 @@ ghost use Rattle.answers.specs.Documents.{document_rows, of_contents};
 ghost use Rattle.net_core.specs.Limits.{max_document};
 ghost use Rattle.std.specs.Prelude.{◌≡◌, ◌≢◌, ◌+◌, ◌≤◌, length, IfOk};
 ghost use Rattle.tml_io.specs.Faults.{CallsFollow, HasRisen, RisesAtMost};
-ghost use Rattle.tml_run.specs.Replied.{IsReplyTo};
-ghost use Rattle.tml_run.specs.View.{finding_status, status_of, text_of};
+ghost use Rattle.runs.specs.Replied.{IsReplyTo};
+ghost use Rattle.runs.specs.View.{finding_status, status_of, text_of};
 
 use crate::refusing::refusal;
 use crate::role::DOC;
+use runs::{Answer, Reply, Status, read};
 use std::alloc::{AllocError, Global};
 use tml_accept::accept;
 use tml_io::Inputs;
 use tml_refs::Document;
-use tml_run::{Answer, Reply, Status, read};
 
 /// What is asked of an accepted document.
-pub trait OfDocument {
+pub trait DocumentQuery {
     ghost use Rattle.std.specs.Prelude.{List, ℕ};
     ghost use Rattle.tml_refs.specs.Documents.{PlainDocument};
-    ghost use Rattle.tml_run.specs.declared.status.Status.{Status};
+    ghost use Rattle.runs.specs.declared.status.Status.{Status};
 
     /// The answers to what a document says.
     ghost says: { Self → PlainDocument → Status → List ℕ → Type 0 };
@@ -33,7 +33,7 @@ pub trait OfDocument {
 }
 
 /// The reply to what is asked of the document of a name.
-pub fn reply_of_document<A: OfDocument, I: Inputs>(
+pub fn reply_of_document<A: DocumentQuery, I: Inputs>(
     alloc: Global,
     asked: &A,
     name: &str,
@@ -57,7 +57,7 @@ pub fn reply_of_document<A: OfDocument, I: Inputs>(
 }
 
 /// The answer to a document with these bytes.
-fn answer_to<A: OfDocument>(alloc: Global, asked: &A, doc: &[u8]) -> Result<Answer, AllocError>
+fn answer_to<A: DocumentQuery>(alloc: Global, asked: &A, doc: &[u8]) -> Result<Answer, AllocError>
     requires { length doc.now ≤ max_document }
     ensures { IfOk result (λ answer. of_contents (A.says asked.now) doc.now (finding_status answer.finding) answer.text.items) }
 {

@@ -3,9 +3,9 @@ ghost use Rattle.answers.specs.Lines.{HasFaultLine};
 ghost use Rattle.std.specs.Prelude.{◌≡◌, IfOk, Some};
 
 use crate::lines::push_fault;
+use runs::{Answer, Finding};
 use std::alloc::{AllocError, Global};
 use tml_accept::Fault;
-use tml_run::{Answer, Finding};
 
 /// The answer to a document with this fault: its line.
 ///

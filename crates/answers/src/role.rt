@@ -1,6 +1,6 @@
 //! The document as a file that is read.
 use net_core::MAX_DOCUMENT;
-use tml_run::Role;
+use runs::Role;
 
 /// A document.
 pub const DOC: Role = Role {

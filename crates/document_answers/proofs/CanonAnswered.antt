@@ -7,11 +7,11 @@ use Rattle.tml_accept.specs.Acceptance.{Accepted, IsAccepted}
 use Rattle.tml_accept.proofs.Judged.{every_document}
 use Rattle.tml_accept.proofs.Phases.{accepted_or_fault, one_acceptance}
 use Rattle.tml_canon.specs.Canonical.{canonical_text}
-use Rattle.tml_run.specs.Answered.{AreAnswered, NeverFree}
-use Rattle.tml_run.specs.OneReply.{is_broken_off}
-use Rattle.tml_run.specs.declared.status.Status.{Status}
-use Rattle.tml_run.specs.declared.status.Status.TheVariants.{Done, DocFault}
-use Rattle.tml_run.proofs.OneFile.{answered_once}
+use Rattle.runs.specs.Answered.{AreAnswered, NeverFree}
+use Rattle.runs.specs.OneReply.{is_broken_off}
+use Rattle.runs.specs.declared.status.Status.{Status}
+use Rattle.runs.specs.declared.status.Status.TheVariants.{Done, DocFault}
+use Rattle.runs.proofs.OneFile.{answered_once}
 use Rattle.tml_tree.specs.Plain.{PlainNode}
 use Rattle.tml_tree.specs.Whole.{IsTreeOf}
 use Rattle.tml_tree.proofs.Paths.{one_tree_of_source}

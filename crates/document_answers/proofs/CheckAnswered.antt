@@ -2,10 +2,10 @@
 use Rattle.std.proofs.Common.{◌≡◌, ℕ, List, false, refl, sym, ◌∙◌}
 use Rattle.answers.proofs.Answered.{document_answered}
 use Rattle.tml_refs.specs.Documents.{PlainDocument}
-use Rattle.tml_run.specs.Answered.{AreAnswered, NeverFree}
-use Rattle.tml_run.specs.OneReply.{is_broken_off}
-use Rattle.tml_run.specs.declared.status.Status.{Status}
-use Rattle.tml_run.specs.declared.status.Status.TheVariants.{Done}
+use Rattle.runs.specs.Answered.{AreAnswered, NeverFree}
+use Rattle.runs.specs.OneReply.{is_broken_off}
+use Rattle.runs.specs.declared.status.Status.{Status}
+use Rattle.runs.specs.declared.status.Status.TheVariants.{Done}
 use Rattle.document_answers.specs.Check.{OfCheck, accepted, check_rows}
 
 one_status : (contents : PlainDocument) (status other : Status) (text line : List ℕ) → OfCheck contents status text → OfCheck contents other line → status ≡ other

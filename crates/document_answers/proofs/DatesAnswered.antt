@@ -13,10 +13,10 @@ use Rattle.timex_dates.specs.Seconds.{IsCivilSecond}
 use Rattle.timex_dates.proofs.EveryText.{every_text}
 use Rattle.tml_accept.specs.Acceptance.{Says}
 use Rattle.tml_refs.specs.Documents.{PlainDocument, PlainInterval, instance, time}
-use Rattle.tml_run.specs.Answered.{AreAnswered, NeverFree}
-use Rattle.tml_run.specs.OneReply.{is_broken_off}
-use Rattle.tml_run.specs.declared.status.Status.{Status}
-use Rattle.tml_run.specs.declared.status.Status.TheVariants.{Done}
+use Rattle.runs.specs.Answered.{AreAnswered, NeverFree}
+use Rattle.runs.specs.OneReply.{is_broken_off}
+use Rattle.runs.specs.declared.status.Status.{Status}
+use Rattle.runs.specs.declared.status.Status.TheVariants.{Done}
 use Rattle.document_answers.specs.Dates.{BoundsText, DateLine, DateLines, EndsText, OfDates, dates_rows, numbers}
 use Rattle.document_answers.proofs.OneDateLines.{one_date_lines}
 

@@ -4,11 +4,11 @@ use Rattle.answers.specs.Documents.{doc_file}
 use Rattle.answers.specs.Lines.{fault_line}
 use Rattle.answers.proofs.Refusals.{one_fault_line}
 use Rattle.tml_accept.proofs.Phases.{One}
-use Rattle.tml_run.specs.Answered.{AreAnswered, NeverFree}
-use Rattle.tml_run.specs.OneReply.{is_broken_off}
-use Rattle.tml_run.specs.declared.status.Status.{Status}
-use Rattle.tml_run.specs.declared.status.Status.TheVariants.{Done, DocFault}
-use Rattle.tml_run.proofs.OneFile.{answered_once}
+use Rattle.runs.specs.Answered.{AreAnswered, NeverFree}
+use Rattle.runs.specs.OneReply.{is_broken_off}
+use Rattle.runs.specs.declared.status.Status.{Status}
+use Rattle.runs.specs.declared.status.Status.TheVariants.{Done, DocFault}
+use Rattle.runs.proofs.OneFile.{answered_once}
 use Rattle.tml_span.specs.Cutting.{Cuts}
 use Rattle.tml_span.specs.Faults.{CutFault}
 use Rattle.tml_span.specs.Whole.{Cutting, IsWhole}

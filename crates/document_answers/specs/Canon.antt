@@ -4,9 +4,9 @@ use Rattle.answers.specs.Documents.{IsDocumentRefused, doc_file}
 use Rattle.tml_accept.specs.Acceptance.{IsAccepted}
 use Rattle.tml_canon.specs.Canonical.{canonical_text}
 use Rattle.tml_refs.specs.Documents.{PlainDocument}
-use Rattle.tml_run.specs.OneFile.{Answers, of_one_file}
-use Rattle.tml_run.specs.Rows.{Rows}
-use Rattle.tml_run.specs.declared.status.Status.TheVariants.{Done}
+use Rattle.runs.specs.OneFile.{Answers, of_one_file}
+use Rattle.runs.specs.Rows.{Rows}
+use Rattle.runs.specs.declared.status.Status.TheVariants.{Done}
 use Rattle.tml_tree.specs.Plain.{PlainNode}
 
 -- the document is accepted, and the text is that of its tree

@@ -5,8 +5,8 @@ use Rattle.answers.specs.Lines.{line_prefix, link_line, numbered}
 use Rattle.tml_refs.specs.Documents.{PlainDocument, PlainInterval, interval_name}
 use Rattle.tml_refs.specs.declared.document.Counts.{Counts}
 use Rattle.tml_refs.specs.declared.document.DocLink.{DocLink}
-use Rattle.tml_run.specs.Rows.{Rows}
-use Rattle.tml_run.specs.declared.status.Status.TheVariants.{Done}
+use Rattle.runs.specs.Rows.{Rows}
+use Rattle.runs.specs.declared.status.Status.TheVariants.{Done}
 
 -- how many tags of each kind a document has
 abbrev pub count_lines : Counts → List ℕ

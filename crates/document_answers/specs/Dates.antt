@@ -5,8 +5,8 @@ use Rattle.net_core.specs.declared.bounds.Bounds.{Bounds}
 use Rattle.net_core.specs.declared.bounds.Bounds.TheVariants.{Exact, Within, Free}
 use Rattle.net_build.specs.Built.{IntervalBounds}
 use Rattle.answers.specs.Documents.{Contents, document_rows}
-use Rattle.tml_run.specs.Rows.{Rows}
-use Rattle.tml_run.specs.declared.status.Status.TheVariants.{Done}
+use Rattle.runs.specs.Rows.{Rows}
+use Rattle.runs.specs.declared.status.Status.TheVariants.{Done}
 pub use Rattle.timex_dates.specs.Printed.{IsCivilText}
 use Rattle.tml_refs.specs.Documents.{PlainInterval, instance, time}
 

@@ -3,9 +3,9 @@ use Rattle.std.specs.Prelude.{◌≡◌, ℕ, List, ◌++◌, codes, decimal}
 use Rattle.std.specs.List.{flat_map}
 use Rattle.answers.specs.Documents.{doc_file}
 use Rattle.answers.specs.Lines.{HasFaultLine}
-use Rattle.tml_run.specs.OneFile.{Answers, of_one_file}
-use Rattle.tml_run.specs.Rows.{Rows}
-use Rattle.tml_run.specs.declared.status.Status.TheVariants.{Done, DocFault}
+use Rattle.runs.specs.OneFile.{Answers, of_one_file}
+use Rattle.runs.specs.Rows.{Rows}
+use Rattle.runs.specs.declared.status.Status.TheVariants.{Done, DocFault}
 use Rattle.tml_span.specs.Faults.{CutFault}
 use Rattle.tml_span.specs.Units.{Attribute, Kind, PlainUnit, bom, comment, declaration, doctype, empty_tag, end_tag, start_tag, text}
 use Rattle.tml_span.specs.Whole.{IsWhole}

@@ -1,14 +1,14 @@
 //! The command `canon`: the canonical text of a document.
 use answers::refusal;
+use runs::{Answer, FileQuery};
 use std::alloc::{AllocError, Global};
 use tml_canon::canonical_text;
-use tml_run::{Answer, OfFile};
 
 /// The command `canon`.
 #[derive(Clone, Copy)]
 pub struct Canon;
 
-impl OfFile for Canon {
+impl FileQuery for Canon {
     ghost use Rattle.document_answers.specs.Canon.{OfCanon};
     ghost use Rattle.net_core.specs.Limits.{max_document};
 

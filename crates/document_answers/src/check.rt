@@ -3,16 +3,16 @@ ghost use Rattle.document_answers.specs.Check as texts;
 ghost use Rattle.std.specs.Prelude.{◌≡◌, ◌<◌, ◌++◌, length, IfOk, OnOk};
 ghost use Rattle.tml_refs.specs.View.{plain_interval};
 
-use answers::{OfDocument, push_link, push_numbered, push_prefix};
+use answers::{DocumentQuery, push_link, push_numbered, push_prefix};
+use runs::Answer;
 use std::alloc::{AllocError, Global};
 use tml_refs::{Counts, Document, Interval};
-use tml_run::Answer;
 
 /// The command `check`.
 #[derive(Clone, Copy)]
 pub struct Check;
 
-impl OfDocument for Check {
+impl DocumentQuery for Check {
     ghost use Rattle.document_answers.specs.Check.{OfCheck};
 
     ghost says = { λ _. OfCheck };

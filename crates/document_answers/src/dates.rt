@@ -6,19 +6,19 @@ ghost use Rattle.timex_dates.specs.Answers.{IsCivil};
 ghost use Rattle.timex_dates.specs.Seconds.{IsCivilSecond};
 ghost use Rattle.tml_refs.specs.View.{plain_interval};
 
-use answers::OfDocument;
+use answers::DocumentQuery;
 use itoa::Buffer;
 use net_core::Bounds;
+use runs::Answer;
 use std::alloc::{AllocError, Global};
 use timex_dates::{bounds_of, civil_text};
 use tml_refs::{Document, Interval};
-use tml_run::Answer;
 
 /// The command `dates`.
 #[derive(Clone, Copy)]
 pub struct Dates;
 
-impl OfDocument for Dates {
+impl DocumentQuery for Dates {
     ghost use Rattle.document_answers.specs.Dates.{OfDates};
 
     ghost says = { λ _. OfDates };

@@ -8,15 +8,15 @@ ghost use Rattle.tml_span.specs.View.{attribute_of, unit_of};
 
 use answers::refusal;
 use itoa::write_digits;
+use runs::{Answer, FileQuery};
 use std::alloc::{AllocError, Global};
-use tml_run::{Answer, OfFile};
 use tml_span::{Attr, Cut, Cutter, Span, Unit, cut_of};
 
 /// The command `spans`.
 #[derive(Clone, Copy)]
 pub struct Spans;
 
-impl OfFile for Spans {
+impl FileQuery for Spans {
     ghost use Rattle.document_answers.specs.Spans.{OfSpans};
     ghost use Rattle.net_core.specs.Limits.{max_document};
 

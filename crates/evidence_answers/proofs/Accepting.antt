@@ -6,12 +6,12 @@ use Rattle.net_core.specs.Limits.{max_document, max_evidence}
 use Rattle.tml_accept.specs.Acceptance.{Says}
 use Rattle.tml_io.specs.Files.{Files, held}
 use Rattle.tml_refs.specs.Documents.{PlainDocument}
-use Rattle.tml_run.specs.OneReply.{HasOneNext}
-use Rattle.tml_run.specs.Reading.{total}
-use Rattle.tml_run.specs.Replies.{Replies}
-use Rattle.tml_run.specs.Rows.{File}
-use Rattle.tml_run.specs.declared.status.Status.TheVariants.{Done}
-use Rattle.tml_run.proofs.OneReply.{one_reply}
+use Rattle.runs.specs.OneReply.{HasOneNext}
+use Rattle.runs.specs.Reading.{total}
+use Rattle.runs.specs.Replies.{Replies}
+use Rattle.runs.specs.Rows.{File}
+use Rattle.runs.specs.declared.status.Status.TheVariants.{Done}
+use Rattle.runs.proofs.OneReply.{one_reply}
 use Rattle.evidence_answers.specs.Accepting.{AcceptsText}
 
 -- Done is an answer to the text that the other file of an accepted document holds, so it is the one reply to a command that judges the document first

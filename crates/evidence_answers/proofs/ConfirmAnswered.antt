@@ -17,10 +17,10 @@ use Rattle.seconds_format.specs.Texts.{IsText}
 use Rattle.seconds_format.proofs.Reading.{every_text, one_bad, one_value}
 use Rattle.tml_accept.specs.Acceptance.{Says}
 use Rattle.tml_refs.specs.Documents.{PlainDocument}
-use Rattle.tml_run.specs.Answered.{AreAnswered, NeverFree}
-use Rattle.tml_run.specs.OneReply.{is_broken_off}
-use Rattle.tml_run.specs.declared.status.Status.{Status}
-use Rattle.tml_run.specs.declared.status.Status.TheVariants.{Done, EvidenceFault}
+use Rattle.runs.specs.Answered.{AreAnswered, NeverFree}
+use Rattle.runs.specs.OneReply.{is_broken_off}
+use Rattle.runs.specs.declared.status.Status.{Status}
+use Rattle.runs.specs.declared.status.Status.TheVariants.{Done, EvidenceFault}
 use Rattle.evidence_answers.specs.ConfirmTexts.{claim_line, refusal_line}
 use Rattle.evidence_answers.specs.Confirmed.{OfConfirm, OfText, ReportsBadLine, ReportsClaim, ReportsRefusal, confirm_rows, seconds_file}
 

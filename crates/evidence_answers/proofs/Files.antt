@@ -1,12 +1,12 @@
 -- Evidence has one value, or one bad line.
 use Rattle.std.proofs.Common.{◌≡◌, ℕ, List, Result, Ok, Err, sym, ap, subst, ◌∙◌}
 use Rattle.std.specs.Prelude.{IfOk}
-use Rattle.tml_run.specs.OneFile.{Answers}
-use Rattle.tml_run.specs.View.{finding_status}
-use Rattle.tml_run.specs.declared.answer.Answer.{Answer}
-use Rattle.tml_run.specs.declared.answer.Finding.{Finding as FindingOf}
-use Rattle.tml_run.specs.declared.answer.Finding.TheVariants as Finding
-use Rattle.tml_run.specs.declared.status.Status.TheVariants as Status
+use Rattle.runs.specs.OneFile.{Answers}
+use Rattle.runs.specs.View.{finding_status}
+use Rattle.runs.specs.declared.answer.Answer.{Answer}
+use Rattle.runs.specs.declared.answer.Finding.{Finding as FindingOf}
+use Rattle.runs.specs.declared.answer.Finding.TheVariants as Finding
+use Rattle.runs.specs.declared.status.Status.TheVariants as Status
 use Rattle.evidence_format.specs.Bundles.{IsBadLineOfEither, IsTextOfEither}
 use Rattle.evidence_format.specs.Evidence.{PlainEvidence}
 use Rattle.evidence_format.proofs.Reading.{bundles, one_bad_of_either}

@@ -6,12 +6,12 @@ use Rattle.evidence_format.specs.Evidence.{PlainEvidence}
 use Rattle.evidence_format.proofs.Claims.{both_have_text}
 use Rattle.evidence_format.proofs.Reading.{bundle_or_bad_line}
 use Rattle.net_core.specs.Limits.{max_evidence}
-use Rattle.tml_run.specs.Answered.{AreAnswered, NeverFree}
-use Rattle.tml_run.specs.OneReply.{is_broken_off}
-use Rattle.tml_run.proofs.Answering.{IsAnsweredAfter, IsDecisive}
-use Rattle.tml_run.specs.declared.status.Status.{Status}
-use Rattle.tml_run.specs.declared.status.Status.TheVariants.{Done, EvidenceFault}
-use Rattle.tml_run.proofs.TwoFiles.{both_answered_once}
+use Rattle.runs.specs.Answered.{AreAnswered, NeverFree}
+use Rattle.runs.specs.OneReply.{is_broken_off}
+use Rattle.runs.proofs.Answering.{IsAnsweredAfter, IsDecisive}
+use Rattle.runs.specs.declared.status.Status.{Status}
+use Rattle.runs.specs.declared.status.Status.TheVariants.{Done, EvidenceFault}
+use Rattle.runs.proofs.TwoFiles.{both_answered_once}
 use Rattle.answers.specs.Lines.{numbered}
 use Rattle.evidence_answers.specs.Files.{evidence_file, second_file}
 use Rattle.evidence_answers.specs.Join.{OfSecond, evidence, join_rows}

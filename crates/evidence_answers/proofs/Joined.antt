@@ -4,10 +4,10 @@ use Rattle.std.specs.Prelude.{IfOk}
 use Rattle.evidence_format.specs.Bundles.{IsBadLineOfEither, IsTextOfEither}
 use Rattle.evidence_format.specs.Evidence.{PlainEvidence}
 use Rattle.answers.specs.Lines.{numbered}
-use Rattle.tml_run.specs.TwoFiles.{CannotJudge}
-use Rattle.tml_run.specs.View.{finding_status, reply_of, status_of, text_of}
-use Rattle.tml_run.specs.declared.answer.Answer.{Answer}
-use Rattle.tml_run.specs.declared.answer.Finding.TheVariants as Finding
+use Rattle.runs.specs.TwoFiles.{CannotJudge}
+use Rattle.runs.specs.View.{finding_status, reply_of, status_of, text_of}
+use Rattle.runs.specs.declared.answer.Answer.{Answer}
+use Rattle.runs.specs.declared.answer.Finding.TheVariants as Finding
 use Rattle.evidence_answers.specs.Join.{evidence}
 
 -- a malformed first file cannot be judged

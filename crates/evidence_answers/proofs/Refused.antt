@@ -8,10 +8,10 @@ use Rattle.evidence_format.specs.Evidence.{PlainEvidence}
 use Rattle.net_build.specs.Built.{IsNetOf}
 use Rattle.net_core.specs.Nets.{PlainNet}
 use Rattle.tml_refs.specs.Documents.{PlainDocument}
-use Rattle.tml_run.specs.View.{finding_status}
-use Rattle.tml_run.specs.declared.answer.Answer.{Answer}
-use Rattle.tml_run.specs.declared.answer.Finding.{Finding as FindingOf}
-use Rattle.tml_run.specs.declared.answer.Finding.TheVariants as Finding
+use Rattle.runs.specs.View.{finding_status}
+use Rattle.runs.specs.declared.answer.Answer.{Answer}
+use Rattle.runs.specs.declared.answer.Finding.{Finding as FindingOf}
+use Rattle.runs.specs.declared.answer.Finding.TheVariants as Finding
 use Rattle.evidence_answers.specs.Texts.{refusal_line}
 use Rattle.evidence_answers.specs.Verify.{OfVerify}
 

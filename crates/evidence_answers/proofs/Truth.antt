@@ -14,12 +14,12 @@ use Rattle.seconds_format.specs.Texts.{IsText}
 use Rattle.tml_accept.specs.Acceptance.{Says}
 use Rattle.tml_io.specs.Files.{Files, held}
 use Rattle.tml_refs.specs.Documents.{PlainDocument}
-use Rattle.tml_run.specs.Replies.{Replies}
-use Rattle.tml_run.specs.declared.status.Status.TheVariants.{Done}
-use Rattle.tml_run.specs.Reading.{Reading}
-use Rattle.tml_run.specs.Rows.{File}
-use Rattle.tml_run.specs.TwoFiles.{after_first}
-use Rattle.tml_run.proofs.OneReply.{EndsWhole, ends_whole}
+use Rattle.runs.specs.Replies.{Replies}
+use Rattle.runs.specs.declared.status.Status.TheVariants.{Done}
+use Rattle.runs.specs.Reading.{Reading}
+use Rattle.runs.specs.Rows.{File}
+use Rattle.runs.specs.TwoFiles.{after_first}
+use Rattle.runs.proofs.OneReply.{EndsWhole, ends_whole}
 use Rattle.evidence_answers.specs.ConfirmTexts.{claim_line}
 use Rattle.evidence_answers.specs.Confirmed.{OfConfirm, ReportsClaim, confirm_rows}
 use Rattle.evidence_answers.specs.Truth.{CycleIsTrue, HoldsPlacing, HoldsTimed, PlacingIsTrue}

@@ -2,11 +2,11 @@
 use Rattle.std.specs.Prelude.{◌≡◌, ◌≤◌, false, ℕ, List, length, Some}
 use Rattle.net_core.specs.Limits.{max_evidence}
 use Rattle.tml_io.specs.Files.{Files}
-use Rattle.tml_run.specs.OneReply.{is_broken_off}
-use Rattle.tml_run.specs.Replies.{Replies}
-use Rattle.tml_run.specs.Rows.{Rows}
-use Rattle.tml_run.specs.declared.status.Status.{Status}
-use Rattle.tml_run.specs.declared.status.Status.TheVariants.{Done}
+use Rattle.runs.specs.OneReply.{is_broken_off}
+use Rattle.runs.specs.Replies.{Replies}
+use Rattle.runs.specs.Rows.{Rows}
+use Rattle.runs.specs.declared.status.Status.{Status}
+use Rattle.runs.specs.declared.status.Status.TheVariants.{Done}
 
 -- a text is short enough to be read as evidence, Done is a reply to the command that reads it, and every other one is broken off
 pub record AcceptsText (files : Files) (rows : Rows) (text : List ℕ) : Type 0 where

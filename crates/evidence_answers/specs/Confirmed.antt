@@ -11,9 +11,9 @@ use Rattle.seconds_core.specs.Evidence.{PlainEvidence}
 use Rattle.seconds_core.specs.Timed.{PlainTimed}
 use Rattle.seconds_format.specs.Begun.{IsBadLine}
 use Rattle.seconds_format.specs.Texts.{IsText}
-use Rattle.tml_run.specs.Rows.{File, Rows}
-use Rattle.tml_run.specs.declared.status.Status.{Status}
-use Rattle.tml_run.specs.declared.status.Status.TheVariants.{Done, EvidenceFault}
+use Rattle.runs.specs.Rows.{File, Rows}
+use Rattle.runs.specs.declared.status.Status.{Status}
+use Rattle.runs.specs.declared.status.Status.TheVariants.{Done, EvidenceFault}
 use Rattle.evidence_answers.specs.ConfirmTexts.{claim_line, refusal_line}
 
 -- the file of a name that is read as a placing or a cycle

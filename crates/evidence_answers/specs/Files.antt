@@ -3,7 +3,7 @@ use Rattle.std.specs.Prelude.{◌≡◌, ℕ, List, codes}
 use Rattle.evidence_format.specs.Bundles.{IsBadLineOfEither, IsTextOfEither}
 use Rattle.evidence_format.specs.Evidence.{PlainEvidence}
 use Rattle.net_core.specs.Limits.{max_evidence}
-use Rattle.tml_run.specs.Rows.{File}
+use Rattle.runs.specs.Rows.{File}
 use Rattle.answers.specs.Lines.{numbered}
 
 -- the file of a name that is read as evidence

@@ -2,10 +2,10 @@
 use Rattle.std.specs.Prelude.{◌≡◌, ℕ, List, ◌++◌, codes}
 use Rattle.evidence_format.specs.Bundles.{IsBundleText, IsTextOfEither}
 use Rattle.evidence_format.specs.Evidence.{PlainEvidence}
-use Rattle.tml_run.specs.OneFile.{Answers}
-use Rattle.tml_run.specs.Rows.{Rows}
-use Rattle.tml_run.specs.TwoFiles.{Judging, of_two_files}
-use Rattle.tml_run.specs.declared.status.Status.TheVariants.{Done, EvidenceFault}
+use Rattle.runs.specs.OneFile.{Answers}
+use Rattle.runs.specs.Rows.{Rows}
+use Rattle.runs.specs.TwoFiles.{Judging, of_two_files}
+use Rattle.runs.specs.declared.status.Status.TheVariants.{Done, EvidenceFault}
 use Rattle.evidence_answers.specs.Files.{ReportsEvidenceLine, ReportsLine, evidence_file, second_file}
 
 -- malformed evidence is refused by its bad line

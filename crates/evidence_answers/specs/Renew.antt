@@ -2,9 +2,9 @@
 use Rattle.std.specs.Prelude.{ℕ, List}
 use Rattle.evidence_format.specs.Bundles.{IsBundleText, IsTextOfEither}
 use Rattle.evidence_format.specs.Evidence.{PlainEvidence}
-use Rattle.tml_run.specs.OneFile.{Answers, of_one_file}
-use Rattle.tml_run.specs.Rows.{Rows}
-use Rattle.tml_run.specs.declared.status.Status.TheVariants.{Done, EvidenceFault}
+use Rattle.runs.specs.OneFile.{Answers, of_one_file}
+use Rattle.runs.specs.Rows.{Rows}
+use Rattle.runs.specs.declared.status.Status.TheVariants.{Done, EvidenceFault}
 use Rattle.evidence_answers.specs.Files.{ReportsEvidenceLine, evidence_file}
 
 -- the bytes are the text of some claims, in either version, and the text is theirs in version 2

@@ -8,8 +8,8 @@ use Rattle.seconds_format.specs.Texts.{IsText}
 use Rattle.tml_accept.specs.Acceptance.{Says}
 use Rattle.tml_io.specs.Files.{Files, held}
 use Rattle.tml_refs.specs.Documents.{PlainDocument}
-use Rattle.tml_run.specs.Replies.{Replies}
-use Rattle.tml_run.specs.declared.status.Status.TheVariants.{Done}
+use Rattle.runs.specs.Replies.{Replies}
+use Rattle.runs.specs.declared.status.Status.TheVariants.{Done}
 use Rattle.evidence_answers.specs.Confirmed.{confirm_rows}
 
 -- a file holds an accepted document, and this is its net with the limits of its intervals

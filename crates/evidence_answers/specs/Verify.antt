@@ -10,9 +10,9 @@ use Rattle.evidence_format.specs.Evidence.{PlainEvidence}
 use Rattle.net_build.specs.Built.{IsNetOf}
 use Rattle.net_core.specs.Nets.{PlainNet}
 use Rattle.tml_refs.specs.Documents.{PlainDocument}
-use Rattle.tml_run.specs.Rows.{Rows}
-use Rattle.tml_run.specs.declared.status.Status.{Status}
-use Rattle.tml_run.specs.declared.status.Status.TheVariants.{Done, EvidenceFault}
+use Rattle.runs.specs.Rows.{Rows}
+use Rattle.runs.specs.declared.status.Status.{Status}
+use Rattle.runs.specs.declared.status.Status.TheVariants.{Done, EvidenceFault}
 use Rattle.evidence_answers.specs.Files.{ReportsEvidenceLine, evidence_file}
 use Rattle.evidence_answers.specs.Texts.{claim_lines, refusal_line}
 

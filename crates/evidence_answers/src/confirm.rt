@@ -4,22 +4,22 @@ ghost use Rattle.seconds_core.specs.View.{evidence_of};
 ghost use Rattle.std.specs.Prelude.{IfOk, OnOk, ◌++◌, ◌≡◌};
 
 use crate::malformed::malformed_answer;
-use answers::{OfJudged, push_numbered};
+use answers::{JudgedQuery, push_numbered};
 use evidence_format::ReadEvidence;
 use net_core::Memory;
+use runs::{Answer, Finding};
 use seconds_build::timed_of;
 use seconds_check::{SecondsReason, confirm};
 use seconds_core::SecondsEvidence;
 use seconds_format::read_seconds;
 use std::alloc::{AllocError, Global};
 use tml_refs::Document;
-use tml_run::{Answer, Finding};
 
 /// The command `confirm`.
 #[derive(Clone, Copy)]
 pub struct Confirm;
 
-impl OfJudged for Confirm {
+impl JudgedQuery for Confirm {
     ghost use Rattle.evidence_answers.specs.Confirmed.{OfConfirm};
     ghost use Rattle.net_core.specs.Limits.{max_evidence};
 

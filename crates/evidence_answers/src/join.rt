@@ -5,17 +5,17 @@ ghost use Rattle.evidence_format.specs.Evidence.{PlainEvidence};
 ghost use Rattle.net_core.specs.Limits.{max_evidence};
 ghost use Rattle.std.specs.Prelude.{◌≡◌, ◌≢◌, ◌+◌, ◌≤◌, length, IfErr, IfOk, List as ListOf};
 ghost use Rattle.tml_io.specs.Faults.{CallsFollow, HasRisen, RisesAtMost};
-ghost use Rattle.tml_run.specs.Replied.{IsReplyTo};
-ghost use Rattle.tml_run.specs.TwoFiles.{CannotJudge};
-ghost use Rattle.tml_run.specs.View.{finding_status, status_of, text_of};
+ghost use Rattle.runs.specs.Replied.{IsReplyTo};
+ghost use Rattle.runs.specs.TwoFiles.{CannotJudge};
+ghost use Rattle.runs.specs.View.{finding_status, status_of, text_of};
 
 use crate::malformed::malformed_answer;
 use crate::role::{EVIDENCE, SECOND};
 use evidence_format::{Bodies, ReadEvidence, read_bodies, write_both};
 use net_core::Memory;
+use runs::{Answer, Reply, Status, read};
 use std::alloc::{AllocError, Global};
 use tml_io::Inputs;
-use tml_run::{Answer, Reply, Status, read};
 
 /// The reply to `join`: the text of version 2 of the claims of one file of evidence and, after them, those of another
 /// one. The second file is read only where the first one is evidence.

@@ -3,8 +3,8 @@ ghost use Rattle.answers.specs.Lines.{numbered};
 ghost use Rattle.std.specs.Prelude.{◌≡◌, IfOk};
 
 use answers::push_numbered;
+use runs::{Answer, Finding};
 use std::alloc::{AllocError, Global};
-use tml_run::{Answer, Finding};
 
 /// The answer to malformed evidence: its bad line, after words that say of which file it is.
 pub fn malformed_answer(alloc: Global, words: &[u8], line: u32) -> Result<Answer, AllocError>

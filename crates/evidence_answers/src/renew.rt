@@ -6,14 +6,14 @@ ghost use Rattle.std.specs.Prelude.{◌≡◌, IfOk, List as ListOf};
 use crate::malformed::malformed_answer;
 use evidence_format::{Bodies, ReadEvidence, read_bodies, write_bodies};
 use net_core::Memory;
+use runs::{Answer, FileQuery, Finding};
 use std::alloc::{AllocError, Global};
-use tml_run::{Answer, Finding, OfFile};
 
 /// The command `renew`.
 #[derive(Clone, Copy)]
 pub struct Renew;
 
-impl OfFile for Renew {
+impl FileQuery for Renew {
     ghost use Rattle.evidence_answers.specs.Renew.{OfRenew};
     ghost use Rattle.net_core.specs.Limits.{max_evidence};
 

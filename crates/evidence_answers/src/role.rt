@@ -1,6 +1,6 @@
 //! Evidence, placings and cycles as files that are read.
 use net_core::MAX_EVIDENCE;
-use tml_run::Role;
+use runs::Role;
 
 /// Evidence of what is true of a document, or the first of two such files.
 pub const EVIDENCE: Role = Role {

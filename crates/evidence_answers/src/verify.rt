@@ -3,24 +3,24 @@ ghost use Rattle.evidence_answers.specs.Texts as texts;
 ghost use Rattle.evidence_answers.specs.Verify.{OfVerify};
 ghost use Rattle.net_core.specs.Limits.{max_evidence};
 ghost use Rattle.std.specs.Prelude.{◌≡◌, ◌≤◌, ◌++◌, length, IfOk, OnOk};
-ghost use Rattle.tml_run.specs.View.{finding_status};
+ghost use Rattle.runs.specs.View.{finding_status};
 
 use crate::judged::judged_claims;
 use crate::malformed::malformed_answer;
-use answers::{OfJudged, push_numbered, push_prefix};
+use answers::{JudgedQuery, push_numbered, push_prefix};
 use evidence_check::{Reason, RefusedClaim};
 use evidence_format::ReadEvidence;
 use net_build::net_of;
 use net_core::Memory;
+use runs::{Answer, Finding};
 use std::alloc::{AllocError, Global};
 use tml_refs::Document;
-use tml_run::{Answer, Finding};
 
 /// The command `verify`.
 #[derive(Clone, Copy)]
 pub struct Verify;
 
-impl OfJudged for Verify {
+impl JudgedQuery for Verify {
     ghost use Rattle.evidence_answers.specs.Verify.{OfVerify};
     ghost use Rattle.net_core.specs.Limits.{max_evidence};
 

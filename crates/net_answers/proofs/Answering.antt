@@ -4,8 +4,8 @@ use Rattle.net_build.specs.Built.{IsNetOf}
 use Rattle.net_core.specs.Entailment.{HasTimeline}
 use Rattle.net_core.specs.Nets.{IsNet, PlainNet}
 use Rattle.tml_refs.specs.Documents.{PlainDocument}
-use Rattle.tml_run.specs.declared.status.Status.{Status}
-use Rattle.tml_run.specs.OneReply.{is_broken_off}
+use Rattle.runs.specs.declared.status.Status.{Status}
+use Rattle.runs.specs.OneReply.{is_broken_off}
 use Rattle.net_answers.specs.Nets.{NetAnswers}
 
 -- A net that some timeline fits has an answer, with one status, which is none that is broken off; and with one text, where that is not free.

@@ -23,12 +23,12 @@ use Rattle.net_core.proofs.StepLaws.{fits_fewer}
 use Rattle.tml_accept.specs.Acceptance.{Says}
 use Rattle.tml_accept.proofs.Phases.{one_document}
 use Rattle.tml_refs.specs.Documents.{IsNamed, PlainDocument}
-use Rattle.tml_run.specs.Answered.{AreAnswered}
-use Rattle.tml_run.specs.OneFile.{of_its_bytes}
-use Rattle.tml_run.specs.OneReply.{is_broken_off}
-use Rattle.tml_run.proofs.OneFile.{answered, freer}
-use Rattle.tml_run.specs.declared.status.Status.{Status}
-use Rattle.tml_run.specs.declared.status.Status.TheVariants.{Clash}
+use Rattle.runs.specs.Answered.{AreAnswered}
+use Rattle.runs.specs.OneFile.{of_its_bytes}
+use Rattle.runs.specs.OneReply.{is_broken_off}
+use Rattle.runs.proofs.OneFile.{answered, freer}
+use Rattle.runs.specs.declared.status.Status.{Status}
+use Rattle.runs.specs.declared.status.Status.TheVariants.{Clash}
 use Rattle.net_answers.specs.Nets.{ClashIsFree, HasNet, NetAnswers, of_fitting, of_its_net, of_net}
 use Rattle.net_answers.proofs.Answering.{NetsAreAnswered}
 use Rattle.net_answers.specs.Showing.{ShowsClash}

@@ -8,8 +8,8 @@ use crate::printing::evidence_text;
 use clash::Clash;
 use evidence_format::Evidence;
 use net_core::{MAX_INTERVALS, Net};
+use runs::{Answer, Finding};
 use std::alloc::{AllocError, Global};
-use tml_run::{Answer, Finding};
 
 /// The answer that no timeline fits a net: a minimal clash.
 pub fn clash_answer(alloc: Global, net: &Net, clash: Clash) -> Result<Answer, AllocError>

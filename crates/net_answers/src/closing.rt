@@ -4,23 +4,23 @@ ghost use Rattle.net_answers.specs.Nets.{of_fitting, of_net};
 ghost use Rattle.net_build.specs.Built.{IsNetOf};
 ghost use Rattle.net_core.specs.Entailment.{HasTimeline};
 ghost use Rattle.std.specs.Prelude.{IfOk};
-ghost use Rattle.tml_run.specs.View.{finding_status};
+ghost use Rattle.runs.specs.View.{finding_status};
 
 use crate::clashing::clash_answer;
 use clash::{CloseFault, close};
 use net_build::net_of;
 use net_core::{Memory, Net};
 use order_closure::Closed;
+use runs::Answer;
 use std::alloc::{AllocError, Global};
 use tml_refs::Document;
-use tml_run::Answer;
 
 /// What is asked of a document that some timeline fits.
-pub trait OfNet {
+pub trait NetQuery {
     ghost use Rattle.net_core.specs.Nets.{PlainNet};
     ghost use Rattle.std.specs.Prelude.{List, ℕ};
     ghost use Rattle.tml_refs.specs.Documents.{PlainDocument};
-    ghost use Rattle.tml_run.specs.declared.status.Status.{Status};
+    ghost use Rattle.runs.specs.declared.status.Status.{Status};
 
     /// Whether what is asked can be asked of a document.
     ghost is_of: { Self → PlainDocument → Type 0 };
@@ -52,7 +52,7 @@ pub trait OfNet {
 /// # Errors
 ///
 /// Out of memory.
-pub fn answer_of_net<A: OfNet>(
+pub fn answer_of_net<A: NetQuery>(
     alloc: Global,
     asked: &A,
     document: &Document<'_>,
@@ -69,7 +69,7 @@ pub fn answer_of_net<A: OfNet>(
 /// # Errors
 ///
 /// Out of memory.
-pub fn answer_by_closure<A: OfNet>(
+pub fn answer_by_closure<A: NetQuery>(
     alloc: Global,
     asked: &A,
     document: &Document<'_>,

@@ -6,5 +6,5 @@ mod closing;
 mod printing;
 
 pub use clashing::clash_answer;
-pub use closing::{OfNet, answer_by_closure, answer_of_net};
+pub use closing::{NetQuery, answer_by_closure, answer_of_net};
 pub use printing::evidence_text;

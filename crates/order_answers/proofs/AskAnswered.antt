@@ -18,11 +18,11 @@ use Rattle.net_core.specs.declared.rels.Rel.{Rel}
 use Rattle.net_core.proofs.RelLaws.{rels_apart}
 use Rattle.tml_accept.specs.Acceptance.{Says}
 use Rattle.tml_refs.specs.Documents.{IsNamed, PlainDocument}
-use Rattle.tml_run.specs.Answered.{AreAnswered}
-use Rattle.tml_run.specs.OneReply.{is_broken_off}
-use Rattle.tml_run.proofs.OneFile.{answered}
-use Rattle.tml_run.specs.declared.status.Status.{Status}
-use Rattle.tml_run.specs.declared.status.Status.TheVariants.{Clash, Done, UnknownName}
+use Rattle.runs.specs.Answered.{AreAnswered}
+use Rattle.runs.specs.OneReply.{is_broken_off}
+use Rattle.runs.proofs.OneFile.{answered}
+use Rattle.runs.specs.declared.status.Status.{Status}
+use Rattle.runs.specs.declared.status.Status.TheVariants.{Clash, Done, UnknownName}
 use Rattle.order_answers.specs.Ask.{AskIsFree, IsFreeAsk, IsRelation, Name, OfAsk, OfRelation, ReportsUnknown, ask_rows, of_numbers}
 use Rattle.order_answers.proofs.Fitting.{some_answer}
 use Rattle.order_answers.proofs.OneCounterexample.{one_counterexample}

@@ -25,11 +25,11 @@ use Rattle.tml_accept.specs.Acceptance.{FirstFault, Says}
 use Rattle.order_answers.specs.Drill.{AreFigures, IsGreatest, IsSummary, figure_lines}
 use Rattle.net_core.specs.Least.{AreLeastRanks}
 use Rattle.evidence_answers.specs.Verify.{OfEvidence, OfVerify}
-use Rattle.tml_run.specs.View.{finding_status}
-use Rattle.tml_run.specs.declared.answer.Finding.{Finding}
-use Rattle.tml_run.specs.declared.answer.Finding.TheVariants as findings
-use Rattle.tml_run.specs.declared.status.Status.{Status}
-use Rattle.tml_run.specs.declared.status.Status.TheVariants.{Done}
+use Rattle.runs.specs.View.{finding_status}
+use Rattle.runs.specs.declared.answer.Finding.{Finding}
+use Rattle.runs.specs.declared.answer.Finding.TheVariants as findings
+use Rattle.runs.specs.declared.status.Status.{Status}
+use Rattle.runs.specs.declared.status.Status.TheVariants.{Done}
 use Rattle.order_answers.specs.declared.drill_command.Figures.{Figures}
 use Rattle.order_answers.proofs.RelationsAnswered.{one_list_of}
 use Rattle.net_answers.proofs.Nets.{one_net_of}

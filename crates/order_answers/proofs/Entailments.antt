@@ -16,7 +16,7 @@ use Rattle.derive_rel.specs.declared.all_rows.Row.{Row}
 use Rattle.net_core.specs.Entailment.{Follows}
 use Rattle.tml_refs.specs.Documents.{PlainDocument}
 use Rattle.order_answers.specs.Relations.{AreRelations, ClosuresEntailWhatFollows, FollowsBetween, OfRelations, row_line}
-use Rattle.tml_run.specs.declared.status.Status.TheVariants.{Done}
+use Rattle.runs.specs.declared.status.Status.TheVariants.{Done}
 use Rattle.clash.proofs.Entailing.{gives_what_follows}
 
 module _ (net : PlainNet) (table : Table) (closure : IsClosureOf net table) where

@@ -29,7 +29,7 @@ use Rattle.evidence_check.specs.Refusals.{Proves, atom_at}
 use Rattle.evidence_format.specs.Evidence.{AreRanks, PlainEvidence, counter, entails, timeline}
 use Rattle.evidence_format.proofs.Claims.{claim_text, has_claim_text}
 use Rattle.evidence_format.proofs.SmallRanks.{small_ranks}
-use Rattle.tml_run.specs.declared.status.Status.TheVariants.{Done}
+use Rattle.runs.specs.declared.status.Status.TheVariants.{Done}
 use Rattle.order_answers.specs.Ask.{AreWalks, OfRelation, ShowsCounterexample, ShowsProof}
 use Rattle.order_answers.specs.Solve.{ShowsTimeline}
 use Rattle.order_answers.specs.Relations.{AreRelations, FollowsBetween}

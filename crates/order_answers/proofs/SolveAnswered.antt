@@ -5,10 +5,10 @@ use Rattle.net_answers.proofs.Answering.{NetsAreAnswered}
 use Rattle.net_answers.proofs.Nets.{net_rows_answered}
 use Rattle.net_core.specs.Nets.{PlainNet}
 use Rattle.tml_refs.specs.Documents.{PlainDocument}
-use Rattle.tml_run.specs.Answered.{AreAnswered}
-use Rattle.tml_run.specs.OneReply.{is_broken_off}
-use Rattle.tml_run.specs.declared.status.Status.{Status}
-use Rattle.tml_run.specs.declared.status.Status.TheVariants.{Done}
+use Rattle.runs.specs.Answered.{AreAnswered}
+use Rattle.runs.specs.OneReply.{is_broken_off}
+use Rattle.runs.specs.declared.status.Status.{Status}
+use Rattle.runs.specs.declared.status.Status.TheVariants.{Done}
 use Rattle.order_answers.specs.Solve.{OfSolve, solve_rows}
 use Rattle.order_answers.proofs.Fitting.{some_timeline}
 use Rattle.order_answers.proofs.Timelines.{one_timeline}

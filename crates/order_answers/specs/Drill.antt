@@ -9,9 +9,9 @@ use Rattle.drill.specs.Texts.{drill_document}
 use Rattle.named.specs.Texts.{named_of}
 use Rattle.net_answers.specs.Nets.{HasNet}
 use Rattle.net_core.specs.Nets.{PlainNet}
-use Rattle.tml_run.specs.Rows.{Rows, answers}
-use Rattle.tml_run.specs.declared.status.Status.{Status}
-use Rattle.tml_run.specs.declared.status.Status.TheVariants.{Done}
+use Rattle.runs.specs.Rows.{Rows, answers}
+use Rattle.runs.specs.declared.status.Status.{Status}
+use Rattle.runs.specs.declared.status.Status.TheVariants.{Done}
 use Rattle.order_answers.specs.Relations.{AreRelations}
 use Rattle.net_core.specs.Least.{AreLeastRanks}
 use Rattle.order_answers.specs.declared.drill_command.Figures.{Figures}

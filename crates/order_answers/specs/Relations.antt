@@ -12,8 +12,8 @@ use Rattle.net_core.specs.Nets.{PlainNet, intervals}
 use Rattle.net_core.specs.declared.rels.Rel.{Rel}
 use Rattle.order_closure.specs.Tables.{Table}
 use Rattle.tml_refs.specs.Documents.{PlainDocument}
-use Rattle.tml_run.specs.Rows.{Rows}
-use Rattle.tml_run.specs.declared.status.Status.TheVariants.{Done}
+use Rattle.runs.specs.Rows.{Rows}
+use Rattle.runs.specs.declared.status.Status.TheVariants.{Done}
 
 -- a relation holds between an interval and one after it in every timeline that fits
 abbrev pub FollowsBetween : PlainNet → Row → Type 0

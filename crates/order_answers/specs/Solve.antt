@@ -10,8 +10,8 @@ use Rattle.net_core.specs.Nets.{PlainNet}
 use Rattle.net_core.specs.Ranks.{pairs_of, timeline_of}
 use Rattle.order_closure.specs.Tables.{Keeps, Table}
 use Rattle.net_core.specs.Least.{AreLeastRanks, IsLeast}
-use Rattle.tml_run.specs.Rows.{Rows}
-use Rattle.tml_run.specs.declared.status.Status.TheVariants.{Done}
+use Rattle.runs.specs.Rows.{Rows}
+use Rattle.runs.specs.declared.status.Status.TheVariants.{Done}
 
 -- the text is that of the least timeline that fits the net
 abbrev pub ShowsTimeline : PlainNet → List ℕ → Type 0

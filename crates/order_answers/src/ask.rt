@@ -2,13 +2,13 @@
 mod deciding;
 mod proving;
 
-use answers::{OfDocument, unknown_name};
+use answers::{DocumentQuery, unknown_name};
 use deciding::Numbers;
 use net_answers::answer_of_net;
 use net_core::rel_of;
+use runs::Answer;
 use std::alloc::{AllocError, Global};
 use tml_refs::Document;
-use tml_run::Answer;
 
 /// The command `ask`, with the words for an interval, a relation and another interval.
 #[derive(Clone, Copy)]
@@ -18,7 +18,7 @@ pub struct Ask<'w> {
     pub y: &'w [u8],
 }
 
-impl OfDocument for Ask<'_> {
+impl DocumentQuery for Ask<'_> {
     ghost use Rattle.order_answers.specs.Ask.{OfAsk};
 
     ghost says = { λ asked. OfAsk asked.x.now asked.rel.now asked.y.now };

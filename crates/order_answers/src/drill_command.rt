@@ -8,7 +8,7 @@ ghost use Rattle.net_core.specs.Nets.{PlainNet};
 ghost use Rattle.order_answers.specs.Drill.{IsGreatest, OfDrill, drill_number, figure_lines};
 ghost use Rattle.std.specs.Prelude.{◌++◌, ◌<◌, ◌≡◌, ◌≤◌, IfOk, IfSome, OnOk, codes, length, slice_index, ℕ};
 ghost use Rattle.tml_accept.specs.Acceptance.{Says};
-ghost use Rattle.tml_run.specs.View.{finding_status};
+ghost use Rattle.runs.specs.View.{finding_status};
 
 use crate::solve::timeline_text;
 use answers::push_numbered;
@@ -19,11 +19,11 @@ use evidence_answers::verdict;
 use itoa::Buffer;
 use net_build::net_of;
 use net_core::{MAX_INTERVALS, Memory, Ranks};
+use runs::{Answer, Finding};
 use std::alloc::{AllocError, Global};
 use timeline::least;
 use tml_accept::accept;
 use tml_refs::Document;
-use tml_run::{Answer, Finding};
 
 /// The number of a drill, from 1 to MAX_INTERVALS in decimal, without sign or leading zero.
 pub fn drill_number(word: &str) -> Option<u32>

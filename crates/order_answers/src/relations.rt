@@ -7,20 +7,20 @@ ghost use Rattle.std.specs.List.{flat_map};
 ghost use Rattle.std.specs.Prelude.{◌*◌, ◌++◌, ◌≡◌, ◌<◌, IfOk, List as ListOf, OnOk, length, map};
 ghost use Rattle.tml_refs.specs.Documents.{PlainDocument};
 
-use answers::{OfDocument, names_of, push_related};
+use answers::{DocumentQuery, names_of, push_related};
 use derive_rel::{Row, rows};
-use net_answers::{OfNet, answer_of_net};
+use net_answers::{NetQuery, answer_of_net};
 use net_core::Net;
 use order_closure::Closed;
+use runs::Answer;
 use std::alloc::{AllocError, Global};
 use tml_refs::Document;
-use tml_run::Answer;
 
 /// The command `relations`.
 #[derive(Clone, Copy)]
 pub struct Relations;
 
-impl OfDocument for Relations {
+impl DocumentQuery for Relations {
     ghost use Rattle.net_answers.specs.Nets.{of_net};
     ghost use Rattle.order_answers.specs.Relations.{OfRelations};
 
@@ -32,7 +32,7 @@ impl OfDocument for Relations {
     }
 }
 
-impl OfNet for Relations {
+impl NetQuery for Relations {
     ghost use Rattle.order_answers.specs.Relations.{OfRelations};
     ghost use Rattle.std.specs.Prelude.{⊤};
 

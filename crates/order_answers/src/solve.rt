@@ -6,23 +6,23 @@ ghost use Rattle.net_core.specs.Ranks.{pairs_of};
 ghost use Rattle.order_answers.specs.Solve.{IsLeastText, ShowsTimeline};
 ghost use Rattle.std.specs.Prelude.{◌≡◌, ◌<◌, ◌≤◌, ◌%◌, length, slice_index, IfOk, IfSome, ℕ};
 
-use answers::OfDocument;
+use answers::DocumentQuery;
 use evidence_format::Evidence;
-use net_answers::{OfNet, answer_by_closure, evidence_text};
+use net_answers::{NetQuery, answer_by_closure, evidence_text};
 use net_build::net_of;
 use net_core::{MAX_INTERVALS, Memory, Net, Ranks};
 use net_orders::least_timeline;
 use order_closure::Closed;
+use runs::Answer;
 use std::alloc::{AllocError, Global};
 use timeline::least;
 use tml_refs::Document;
-use tml_run::Answer;
 
 /// The command `solve`.
 #[derive(Clone, Copy)]
 pub struct Solve;
 
-impl OfDocument for Solve {
+impl DocumentQuery for Solve {
     ghost use Rattle.net_answers.specs.Nets.{of_net};
     ghost use Rattle.order_answers.specs.Solve.{OfSolve};
 
@@ -38,7 +38,7 @@ impl OfDocument for Solve {
     }
 }
 
-impl OfNet for Solve {
+impl NetQuery for Solve {
     ghost use Rattle.order_answers.specs.Solve.{OfSolve};
     ghost use Rattle.std.specs.Prelude.{⊤};
 

@@ -16,10 +16,10 @@ use Rattle.possible_answers.proofs.Lines.{matrices_agree}
 use Rattle.possible_answers.proofs.Tests.{can_of, can_of_told}
 use Rattle.tml_possible.specs.Possible.{CanBe, StartFirst}
 use Rattle.tml_refs.specs.Documents.{PlainDocument}
-use Rattle.tml_run.specs.Answered.{AreAnswered}
-use Rattle.tml_run.specs.OneReply.{is_broken_off}
-use Rattle.tml_run.specs.declared.status.Status.{Status}
-use Rattle.tml_run.specs.declared.status.Status.TheVariants.{Done}
+use Rattle.runs.specs.Answered.{AreAnswered}
+use Rattle.runs.specs.OneReply.{is_broken_off}
+use Rattle.runs.specs.declared.status.Status.{Status}
+use Rattle.runs.specs.declared.status.Status.TheVariants.{Done}
 
 -- a test by closed cells which the timelines that fit a net keep tells what can be
 pub tells_net : (net : PlainNet) (n : ℕ) (cell : ℕ → ℕ → Cell) (closed : AreClosed n cell) → n ≡ points net → ((t : Timeline) → AreCellsKept n cell t ↔ Fits net t) → TellsNet net (can_of n cell closed)

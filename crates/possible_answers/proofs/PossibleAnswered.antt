@@ -22,12 +22,12 @@ use Rattle.tml_possible.specs.Possible.{AreShown}
 use Rattle.tml_possible.proofs.Deciding.{every_item}
 use Rattle.tml_possible.proofs.OneList.{one_item_list, shown_by}
 use Rattle.tml_refs.specs.Documents.{IsNamed, PlainDocument}
-use Rattle.tml_run.specs.Answered.{AreAnswered}
-use Rattle.tml_run.specs.OneFile.{of_its_bytes}
-use Rattle.tml_run.specs.OneReply.{is_broken_off}
-use Rattle.tml_run.proofs.OneFile.{answered, freer}
-use Rattle.tml_run.specs.declared.status.Status.{Status}
-use Rattle.tml_run.specs.declared.status.Status.TheVariants.{Clash, Done, UnknownName}
+use Rattle.runs.specs.Answered.{AreAnswered}
+use Rattle.runs.specs.OneFile.{of_its_bytes}
+use Rattle.runs.specs.OneReply.{is_broken_off}
+use Rattle.runs.proofs.OneFile.{answered, freer}
+use Rattle.runs.specs.declared.status.Status.{Status}
+use Rattle.runs.specs.declared.status.Status.TheVariants.{Clash, Done, UnknownName}
 
 -- the items of the closure are those of the net
 pub shows_items : (contents : PlainDocument) (net : PlainNet) (table : Table) (a b : ℕ) (text : List ℕ) → IsClosureOf net table → IsItemsText table a b text → of_intervals a b contents net Done text

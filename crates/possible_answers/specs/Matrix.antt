@@ -12,8 +12,8 @@ use Rattle.net_core.specs.declared.rels.Rel.{Rel}
 use Rattle.order_closure.specs.Tables.{Table}
 use Rattle.tml_possible.specs.Possible.{CanBe, CanHold, Tells}
 use Rattle.tml_refs.specs.Documents.{PlainInterval}
-use Rattle.tml_run.specs.Rows.{Rows}
-use Rattle.tml_run.specs.declared.status.Status.TheVariants.{Done}
+use Rattle.runs.specs.Rows.{Rows}
+use Rattle.runs.specs.declared.status.Status.TheVariants.{Done}
 
 -- a test of a relation between two intervals, by their numbers
 abbrev pub RelTest : Type 0

@@ -14,8 +14,8 @@ use Rattle.order_closure.specs.Tables.{Keeps, Table}
 use Rattle.tml_possible.specs.Possible.{AreShown}
 use Rattle.tml_possible.specs.declared.timelines.PossibleItem.{PossibleItem}
 use Rattle.tml_refs.specs.Documents.{IsNamed, PlainDocument}
-use Rattle.tml_run.specs.Rows.{Rows}
-use Rattle.tml_run.specs.declared.status.Status.TheVariants.{Done, UnknownName}
+use Rattle.runs.specs.Rows.{Rows}
+use Rattle.runs.specs.declared.status.Status.TheVariants.{Done, UnknownName}
 
 -- the lines of an item: its relation, and its timeline as evidence has it
 abbrev pub item_lines : PossibleItem → List ℕ

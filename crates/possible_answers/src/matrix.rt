@@ -9,20 +9,20 @@ ghost use Rattle.tml_possible.specs.Sets.{has};
 ghost use Rattle.tml_refs.specs.Documents.{PlainInterval};
 
 use crate::set_texts::SetTexts;
-use answers::{OfDocument, names_of};
-use net_answers::{OfNet, answer_of_net};
+use answers::{DocumentQuery, names_of};
+use net_answers::{NetQuery, answer_of_net};
 use net_core::Net;
 use order_closure::{Closed, MAX_TABLE_POINTS};
+use runs::Answer;
 use std::alloc::{AllocError, Global};
 use tml_possible::{BaseSet, OrderSets};
 use tml_refs::Document;
-use tml_run::Answer;
 
 /// The command `matrix`.
 #[derive(Clone, Copy)]
 pub struct Matrix;
 
-impl OfDocument for Matrix {
+impl DocumentQuery for Matrix {
     ghost use Rattle.net_answers.specs.Nets.{of_net};
     ghost use Rattle.possible_answers.specs.Matrix.{OfMatrix};
 
@@ -34,7 +34,7 @@ impl OfDocument for Matrix {
     }
 }
 
-impl OfNet for Matrix {
+impl NetQuery for Matrix {
     ghost use Rattle.possible_answers.specs.Matrix.{OfMatrix};
     ghost use Rattle.std.specs.Prelude.{⊤};
 

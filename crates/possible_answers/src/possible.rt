@@ -4,15 +4,15 @@ ghost use Rattle.net_core.specs.Ranks.{pairs_of};
 ghost use Rattle.possible_answers.specs.Possible.{IsItemsText, item_lines};
 ghost use Rattle.std.specs.Prelude.{IfOk, OnOk, length, ◌%◌, ◌*◌, ◌++◌, ◌<◌, ◌≡◌};
 
-use answers::{OfDocument, push_numbered, unknown_name};
+use answers::{DocumentQuery, push_numbered, unknown_name};
 use evidence_format::push_timeline;
-use net_answers::{OfNet, answer_of_net};
+use net_answers::{NetQuery, answer_of_net};
 use net_core::{Memory, Net};
 use order_closure::{Closed, MAX_TABLE_POINTS};
+use runs::Answer;
 use std::alloc::{AllocError, Global};
 use tml_possible::{PossibleItem, possible};
 use tml_refs::Document;
-use tml_run::Answer;
 
 /// The command `possible`, with the words for two intervals.
 #[derive(Clone, Copy)]
@@ -21,7 +21,7 @@ pub struct Possible<'w> {
     pub y: &'w [u8],
 }
 
-impl OfDocument for Possible<'_> {
+impl DocumentQuery for Possible<'_> {
     ghost use Rattle.possible_answers.specs.Possible.{OfPossible};
 
     ghost says = { λ asked. OfPossible asked.x.now asked.y.now };
@@ -46,7 +46,7 @@ struct Intervals {
     b: u32,
 }
 
-impl OfNet for Intervals {
+impl NetQuery for Intervals {
     ghost use Rattle.answers.specs.Names.{AreOf};
     ghost use Rattle.possible_answers.specs.Possible.{of_intervals};
 

@@ -16,10 +16,10 @@ use Rattle.tml_accept.specs.Acceptance.{FirstFault, Says}
 use Rattle.tml_accept.proofs.Judged.{every_document}
 use Rattle.tml_accept.proofs.Phases.{accepted_or_fault, one_document, one_fault}
 use Rattle.tml_refs.specs.Documents.{PlainDocument}
-use Rattle.tml_run.specs.Answered.{AreAnswered}
-use Rattle.tml_run.specs.OneReply.{is_broken_off}
-use Rattle.tml_run.specs.declared.status.Status.{Status}
-use Rattle.tml_run.specs.declared.status.Status.TheVariants.{Clash, DocFault, Done}
+use Rattle.runs.specs.Answered.{AreAnswered}
+use Rattle.runs.specs.OneReply.{is_broken_off}
+use Rattle.runs.specs.declared.status.Status.{Status}
+use Rattle.runs.specs.declared.status.Status.TheVariants.{Clash, DocFault, Done}
 use Rattle.tml_score.specs.Scores.{Annotation, IsSound}
 use Rattle.tml_score.proofs.Counted.{every_score, one_score}
 use Rattle.score_answers.specs.Score.{HasKeyLine, IsFreeScore, OfAnnotations, OfKey, OfScore, ScoreIsFree, key_clash, key_file, score_rows, scores_text}

@@ -5,8 +5,8 @@ use Rattle.answers.specs.Documents.{document_rows}
 use Rattle.answers.specs.Lines.{link_line}
 use Rattle.net_answers.specs.Nets.{NetAnswers, of_net}
 use Rattle.tml_refs.specs.Documents.{PlainDocument}
-use Rattle.tml_run.specs.Rows.{Rows}
-use Rattle.tml_run.specs.declared.status.Status.TheVariants.{Done}
+use Rattle.runs.specs.Rows.{Rows}
+use Rattle.runs.specs.declared.status.Status.TheVariants.{Done}
 use Rattle.tml_score.specs.Reduced.{IsReduced}
 use Rattle.score_answers.specs.Counts.{of_line}
 

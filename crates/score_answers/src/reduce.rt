@@ -4,20 +4,20 @@ ghost use Rattle.std.specs.List.{All};
 ghost use Rattle.std.specs.Prelude.{◌≡◌, ◌<◌, length, IfOk};
 
 use crate::counts::push_of;
-use answers::{OfDocument, push_link};
-use net_answers::{OfNet, answer_of_net};
+use answers::{DocumentQuery, push_link};
+use net_answers::{NetQuery, answer_of_net};
 use net_core::Net;
 use order_closure::Closed;
+use runs::Answer;
 use std::alloc::{AllocError, Global};
 use tml_refs::Document;
-use tml_run::Answer;
 use tml_score::reduced_by;
 
 /// The command `reduce`.
 #[derive(Clone, Copy)]
 pub struct Reduce;
 
-impl OfDocument for Reduce {
+impl DocumentQuery for Reduce {
     ghost use Rattle.net_answers.specs.Nets.{of_net};
     ghost use Rattle.score_answers.specs.Reduce.{OfReduce};
 
@@ -29,7 +29,7 @@ impl OfDocument for Reduce {
     }
 }
 
-impl OfNet for Reduce {
+impl NetQuery for Reduce {
     ghost use Rattle.score_answers.specs.Reduce.{OfReduce};
     ghost use Rattle.std.specs.Prelude.{⊤};
 

@@ -1,6 +1,6 @@
 //! A key as a file that is read.
 use net_core::MAX_DOCUMENT;
-use tml_run::Role;
+use runs::Role;
 
 /// A key: a document that another one is scored against.
 pub const KEY: Role = Role {

@@ -3,23 +3,23 @@ ghost use Rattle.score_answers.specs.Score.{HasKeyLine, scores_text as text_of_s
 ghost use Rattle.std.specs.Prelude.{◌≡◌, codes, IfOk, Some};
 
 use crate::counts::push_of;
-use answers::{OfJudged, refusal};
+use answers::{JudgedQuery, refusal};
 use clash::{CloseFault, close};
-use net_answers::{OfNet, answer_of_net};
+use net_answers::{NetQuery, answer_of_net};
 use net_build::net_of;
 use net_core::{Memory, Net};
 use order_closure::Closed;
+use runs::{Answer, Finding};
 use std::alloc::{AllocError, Global};
 use tml_accept::{Fault, accept};
 use tml_refs::Document;
-use tml_run::{Answer, Finding};
 use tml_score::{Scores, score};
 
 /// The command `score`.
 #[derive(Clone, Copy)]
 pub struct Score;
 
-impl OfJudged for Score {
+impl JudgedQuery for Score {
     ghost use Rattle.net_core.specs.Limits.{max_document};
     ghost use Rattle.score_answers.specs.Score.{OfScore};
 
@@ -48,7 +48,7 @@ struct Against<'k, 's> {
     key: &'k Document<'s>,
 }
 
-impl OfNet for Against<'_, '_> {
+impl NetQuery for Against<'_, '_> {
     ghost use Rattle.score_answers.specs.Score.{OfKey};
     ghost use Rattle.std.specs.Prelude.{⊤};
 

@@ -8,12 +8,12 @@ use Rattle.seconds_build.proofs.EveryTime.{every_timed}
 use Rattle.seconds_build.proofs.Nets.{one_timed}
 use Rattle.seconds_core.specs.Timed.{PlainTimed}
 use Rattle.tml_refs.specs.Documents.{PlainDocument}
-use Rattle.tml_run.specs.Answered.{AreAnswered}
-use Rattle.tml_run.specs.OneFile.{of_its_bytes}
-use Rattle.tml_run.specs.OneReply.{is_broken_off}
-use Rattle.tml_run.specs.declared.status.Status.{Status}
-use Rattle.tml_run.specs.declared.status.Status.TheVariants.{Clash, Done}
-use Rattle.tml_run.proofs.OneFile.{answered, freer}
+use Rattle.runs.specs.Answered.{AreAnswered}
+use Rattle.runs.specs.OneFile.{of_its_bytes}
+use Rattle.runs.specs.OneReply.{is_broken_off}
+use Rattle.runs.specs.declared.status.Status.{Status}
+use Rattle.runs.specs.declared.status.Status.TheVariants.{Clash, Done}
+use Rattle.runs.proofs.OneFile.{answered, freer}
 use Rattle.seconds_answers.specs.Placed.{OfSeconds, OfTimed, SecondsAreFree, seconds_rows}
 use Rattle.seconds_answers.proofs.Whole.{timed_answered}
 

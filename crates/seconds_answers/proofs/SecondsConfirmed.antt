@@ -13,10 +13,10 @@ use Rattle.seconds_core.specs.Timed.{PlainTimed}
 use Rattle.tml_accept.specs.Acceptance.{Says}
 use Rattle.tml_io.specs.Files.{Files, held}
 use Rattle.tml_refs.specs.Documents.{PlainDocument}
-use Rattle.tml_run.specs.Replies.{Replies}
-use Rattle.tml_run.specs.declared.status.Status.{Status}
-use Rattle.tml_run.specs.declared.status.Status.TheVariants.{Clash, Done}
-use Rattle.tml_run.proofs.OneFile.{answered_or_long}
+use Rattle.runs.specs.Replies.{Replies}
+use Rattle.runs.specs.declared.status.Status.{Status}
+use Rattle.runs.specs.declared.status.Status.TheVariants.{Clash, Done}
+use Rattle.runs.proofs.OneFile.{answered_or_long}
 use Rattle.seconds_answers.specs.Laws.{PrintsSeconds, SecondsAreConfirmed}
 use Rattle.seconds_answers.specs.Placed.{OfSeconds, OfTimed, seconds_rows}
 use Rattle.seconds_answers.proofs.Sizes.{printed_size}

@@ -15,8 +15,8 @@ use Rattle.seconds_core.specs.declared.line.Line.{Line}
 use Rattle.seconds_core.specs.declared.line.Line.TheVariants.{Span, Via, Lower, Upper, Least, Most}
 use Rattle.seconds_format.specs.Texts.{HasNumbers, IsLong, IsPair, IsText, at_line, body_lines, cycle_line, first_line, pairs_of, text_lines}
 use Rattle.seconds_format.proofs.PairLaws.{long_again, pairs_length}
-use Rattle.tml_run.specs.declared.status.Status.{Status}
-use Rattle.tml_run.specs.declared.status.Status.TheVariants.{Clash, Done}
+use Rattle.runs.specs.declared.status.Status.{Status}
+use Rattle.runs.specs.declared.status.Status.TheVariants.{Clash, Done}
 use Rattle.seconds_answers.specs.Placed.{OfTimed}
 
 -- ---- lines

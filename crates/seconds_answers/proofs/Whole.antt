@@ -23,8 +23,8 @@ use Rattle.seconds_core.specs.declared.line.Constraint.{Constraint}
 use Rattle.seconds_core.specs.declared.line.Line.{Line}
 use Rattle.seconds_core.specs.declared.line.Line.TheVariants.{Span, Via, Lower, Upper, Least, Most}
 use Rattle.seconds_format.specs.Texts.{HasNumbers, IsLong, text_lines}
-use Rattle.tml_run.specs.declared.status.Status.{Status}
-use Rattle.tml_run.specs.declared.status.Status.TheVariants.{Clash, Done}
+use Rattle.runs.specs.declared.status.Status.{Status}
+use Rattle.runs.specs.declared.status.Status.TheVariants.{Clash, Done}
 use Rattle.seconds_search.proofs.EveryNet.{every_net_is_decided}
 use Rattle.seconds_search.specs.Decided.{IsFar, IsShortCycle}
 use Rattle.seconds_answers.specs.Placed.{OfTimed, ShowsCycle, ShowsPlacing}

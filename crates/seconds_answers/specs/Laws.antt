@@ -3,9 +3,9 @@ use Rattle.std.specs.Prelude.{◌≡◌, ℕ, List, Some, ⊤}
 use Rattle.evidence_answers.specs.Accepting.{AcceptsText}
 use Rattle.evidence_answers.specs.Confirmed.{confirm_rows}
 use Rattle.tml_io.specs.Files.{Files, held}
-use Rattle.tml_run.specs.Replies.{Replies}
-use Rattle.tml_run.specs.declared.status.Status.{Status}
-use Rattle.tml_run.specs.declared.status.Status.TheVariants.{Clash, Done}
+use Rattle.runs.specs.Replies.{Replies}
+use Rattle.runs.specs.declared.status.Status.{Status}
+use Rattle.runs.specs.declared.status.Status.TheVariants.{Clash, Done}
 use Rattle.seconds_answers.specs.Placed.{seconds_rows}
 
 -- a placing is printed, or a cycle

@@ -7,10 +7,10 @@ use Rattle.seconds_core.specs.Placed.{HasPlacing, IsPlaced}
 use Rattle.seconds_core.specs.Timed.{PlainTimed}
 use Rattle.seconds_core.specs.declared.line.Line.{Line}
 use Rattle.seconds_format.specs.Texts.{IsText}
-use Rattle.tml_run.specs.Answered.{Freedom}
-use Rattle.tml_run.specs.Rows.{Rows}
-use Rattle.tml_run.specs.declared.status.Status.{Status}
-use Rattle.tml_run.specs.declared.status.Status.TheVariants.{Clash, Done}
+use Rattle.runs.specs.Answered.{Freedom}
+use Rattle.runs.specs.Rows.{Rows}
+use Rattle.runs.specs.declared.status.Status.{Status}
+use Rattle.runs.specs.declared.status.Status.TheVariants.{Clash, Done}
 use Rattle.seconds_search.specs.Decided.{IsShortCycle}
 
 -- the text is that of a placing

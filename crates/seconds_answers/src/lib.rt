@@ -2,7 +2,7 @@
 #![tactic(auto)]
 
 mod laws;
-mod placed;
+mod seconds;
 
 pub use laws::seconds_are_confirmed;
-pub use placed::Seconds;
+pub use seconds::Seconds;

@@ -1,8 +1,8 @@
 //! `tml`: answers questions about TimeML documents.
 #![tactic(auto)]
 
+use runs::run_program;
 use std::process::ExitCode;
-use tml_run::run_program;
 use tml_tool::run;
 
 fn main(rt: HostRuntime) -> ExitCode {

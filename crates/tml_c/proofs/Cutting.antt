@@ -10,7 +10,7 @@ use Rattle.std.proofs.lemmas.List.Splits.{slice_split_first, slice_split_none}
 use Rattle.std.proofs.lemmas.List.Sums.{fails_before_first}
 use Rattle.tml_c.specs.Words.{between_zeros, is_ended}
 use Rattle.tml_c.proofs.Ending.{ended_have_words}
-use Rattle.tml_run.specs.Words.{texts_of}
+use Rattle.runs.specs.Words.{texts_of}
 
 -- where the first zero byte stands
 abbrev pub first_zero : List ℕ → ℕ

@@ -3,13 +3,13 @@ use Rattle.std.proofs.Common.{◌≡◌, ◌≢◌, ◌↔◌, ℕ, List, [], Op
 use Rattle.tml_c.specs.Answers.{IsReply}
 use Rattle.tml_io.specs.Faults.{HasRisen}
 use Rattle.tml_io.specs.Files.{Files}
-use Rattle.tml_run.specs.Outcome.{Outcome, Written, before_writing}
-use Rattle.tml_run.specs.Reading.{AllThere}
-use Rattle.tml_run.specs.Replies.{Replies}
-use Rattle.tml_run.specs.declared.status.Status.{Status}
-use Rattle.tml_run.specs.declared.status.Status.TheVariants.{Done, NoMemory, ReadFault, Usage, WriteFault}
-use Rattle.tml_run.specs.Words.{usage_rows}
-use Rattle.tml_run.proofs.HowItEnds.{answered}
+use Rattle.runs.specs.Outcome.{Outcome, Written, before_writing}
+use Rattle.runs.specs.Reading.{AllThere}
+use Rattle.runs.specs.Replies.{Replies}
+use Rattle.runs.specs.declared.status.Status.{Status}
+use Rattle.runs.specs.declared.status.Status.TheVariants.{Done, NoMemory, ReadFault, Usage, WriteFault}
+use Rattle.runs.specs.Words.{usage_rows}
+use Rattle.runs.proofs.HowItEnds.{answered}
 use Rattle.tml_tool.specs.Commands.{form_of, rows_of, usage as usage_text}
 use Rattle.tml_tool.specs.declared.commands.Form.{Form}
 

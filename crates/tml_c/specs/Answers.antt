@@ -3,11 +3,11 @@ use Rattle.std.specs.Prelude.{◌≡◌, ◌≢◌, ◌↔◌, ◌⊎◌, ℕ, L
 use Rattle.tml_c.specs.Given.{two_files}
 use Rattle.tml_c.specs.Words.{AreTakenFor, HaveWords}
 use Rattle.tml_io.specs.Files.{Files}
-use Rattle.tml_run.specs.Reading.{AllThere}
-use Rattle.tml_run.specs.Replies.{Replies}
-use Rattle.tml_run.specs.Status.{number_of}
-use Rattle.tml_run.specs.declared.status.Status.{Status}
-use Rattle.tml_run.specs.declared.status.Status.TheVariants.{NoMemory, ReadFault, Usage, WriteFault}
+use Rattle.runs.specs.Reading.{AllThere}
+use Rattle.runs.specs.Replies.{Replies}
+use Rattle.runs.specs.Status.{number_of}
+use Rattle.runs.specs.declared.status.Status.{Status}
+use Rattle.runs.specs.declared.status.Status.TheVariants.{NoMemory, ReadFault, Usage, WriteFault}
 use Rattle.tml_tool.specs.Commands.{form_of, rows_of}
 
 -- The reply to some words over known files. It is the usage text exactly where the words have no form. No write fails, and no read of a file that is there.

@@ -2,8 +2,8 @@
 use Rattle.std.specs.Prelude.{List, ℕ}
 use Rattle.tml_c.specs.declared.answer.CallAnswer.{CallAnswer}
 use Rattle.tml_c.specs.declared.answer.CallAnswer.TheVariants as answers
-use Rattle.tml_run.specs.declared.status.Status.{Status}
-use Rattle.tml_run.specs.declared.status.Status.TheVariants.{Usage}
+use Rattle.runs.specs.declared.status.Status.{Status}
+use Rattle.runs.specs.declared.status.Status.TheVariants.{Usage}
 use Rattle.tml_tool.specs.Commands.{usage}
 
 -- its status and its text

@@ -3,7 +3,7 @@ ghost use Rattle.std.specs.Prelude.{◌≡◌, []};
 ghost use Rattle.tml_c.specs.Answers.{Answers, IsReply};
 ghost use Rattle.tml_c.specs.Given.{two_files};
 ghost use Rattle.tml_c.specs.View.{status_of, text_of};
-ghost use Rattle.tml_run.specs.Words.{texts_of};
+ghost use Rattle.runs.specs.Words.{texts_of};
 
 use crate::inputs::TwoFiles;
 use crate::sink::Growing;

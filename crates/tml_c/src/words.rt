@@ -2,7 +2,7 @@
 ghost use Rattle.std.specs.Prelude.{◌≡◌, ◌++◌, [], ◌∷◌, true, IfErr, IfOk, MatchOption};
 ghost use Rattle.tml_c.specs.Words as spec;
 ghost use Rattle.tml_c.specs.Words.{AreWords, HaveNoWords, HaveWords, between_zeros};
-ghost use Rattle.tml_run.specs.Words.{texts_of};
+ghost use Rattle.runs.specs.Words.{texts_of};
 
 use std::alloc::{AllocError, Global};
 use std::str;

@@ -2,7 +2,7 @@
 ghost use Rattle.std.specs.Prelude.{◌≡◌, ◌↔◌, IsTrue, IfOk};
 ghost use Rattle.tml_io.specs.InMemory.{entries};
 ghost use Rattle.tml_rows.specs.Answers.{Answers};
-ghost use Rattle.tml_run.specs.Status.{number_of};
+ghost use Rattle.runs.specs.Status.{number_of};
 
 use crate::devices::Devices;
 use std::alloc::{AllocError, Global};

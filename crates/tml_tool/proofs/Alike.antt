@@ -20,11 +20,11 @@ use Rattle.tml_canon.proofs.Saying.{canonical_says_the_same}
 use Rattle.tml_canon.proofs.Alike.{canonical_is_itself}
 use Rattle.tml_io.specs.Files.{Files}
 use Rattle.tml_refs.specs.Documents.{PlainDocument}
-use Rattle.tml_run.specs.OneReply.{is_broken_off}
-use Rattle.tml_run.specs.Reading.{total}
-use Rattle.tml_run.specs.Replies.{Replies}
-use Rattle.tml_run.specs.declared.status.Status.{Status}
-use Rattle.tml_run.proofs.OneFile.{replied, replies}
+use Rattle.runs.specs.OneReply.{is_broken_off}
+use Rattle.runs.specs.Reading.{total}
+use Rattle.runs.specs.Replies.{Replies}
+use Rattle.runs.specs.declared.status.Status.{Status}
+use Rattle.runs.proofs.OneFile.{replied, replies}
 use Rattle.tml_tree.specs.Plain.{PlainNode}
 use Rattle.tml_tool.specs.Alike.{CanonicalIsAlike, HasReply, HoldsDocument, is_of_contents}
 use Rattle.tml_tool.specs.declared.commands.Form.{Form}

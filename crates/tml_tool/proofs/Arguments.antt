@@ -1,7 +1,7 @@
 -- The arguments of a form, as many as it has, one by one.
 use Rattle.std.proofs.Common.{◌≡◌, ℕ, List, [], ◌∷◌, length, refl, ap, ◌∙◌, String, Global, string_bytes, arith}
 use Rattle.std.proofs.lemmas.List.{length-map}
-use Rattle.tml_run.specs.Words.{texts_of}
+use Rattle.runs.specs.Words.{texts_of}
 use Rattle.tml_tool.specs.Commands.{arguments_of}
 use Rattle.tml_tool.specs.Forms.{argument}
 use Rattle.tml_tool.specs.declared.commands.Form.{Form}

@@ -6,11 +6,11 @@ use Rattle.std.proofs.lemmas.Bool.Decides.{eqb_tells}
 use Rattle.std.proofs.lemmas.List.{length-map}
 use Rattle.named.specs.Texts.{named_of}
 use Rattle.tml_io.specs.Files.{Files}
-use Rattle.tml_run.specs.declared.status.Status.{Status}
-use Rattle.tml_run.specs.declared.status.Status.TheVariants.{Usage}
-use Rattle.tml_run.specs.Replied.{IsReplyTo}
-use Rattle.tml_run.specs.Words.{texts_of}
-use Rattle.tml_run.proofs.Usage.{usage_replied as replied_usage}
+use Rattle.runs.specs.declared.status.Status.{Status}
+use Rattle.runs.specs.declared.status.Status.TheVariants.{Usage}
+use Rattle.runs.specs.Replied.{IsReplyTo}
+use Rattle.runs.specs.Words.{texts_of}
+use Rattle.runs.proofs.Usage.{usage_replied as replied_usage}
 use Rattle.tml_tool.specs.declared.commands.Form.{Form}
 use Rattle.tml_tool.specs.declared.commands.Form.TheVariants.{Spans}
 use Rattle.tml_tool.specs.Commands.{all_forms, arguments_of, form_of, rows_of, taken, takes, usage, word_of}

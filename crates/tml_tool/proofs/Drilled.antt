@@ -4,11 +4,11 @@ use Rattle.std.specs.Prelude.{IfOk, is_some}
 use Rattle.std.proofs.lemmas.Result.{IfOk-weaker}
 use Rattle.order_answers.specs.Drill.{OfDrill, drill_number}
 use Rattle.tml_io.specs.Files.{Files}
-use Rattle.tml_run.specs.Replied.{IsReplyTo}
-use Rattle.tml_run.specs.Rows.{answers}
-use Rattle.tml_run.specs.View.{finding_status, reply_of, status_of, text_of}
-use Rattle.tml_run.specs.declared.answer.Answer.{Answer}
-use Rattle.tml_run.proofs.HowItEnds.{answered_or_not}
+use Rattle.runs.specs.Replied.{IsReplyTo}
+use Rattle.runs.specs.Rows.{answers}
+use Rattle.runs.specs.View.{finding_status, reply_of, status_of, text_of}
+use Rattle.runs.specs.declared.answer.Answer.{Answer}
+use Rattle.runs.proofs.HowItEnds.{answered_or_not}
 use Rattle.tml_tool.specs.declared.commands.Form.TheVariants.{Drill}
 use Rattle.tml_tool.specs.Commands.{rows_of, rows_with, taken}
 use Rattle.tml_tool.proofs.Asked.{along, by_no_test, by_test}

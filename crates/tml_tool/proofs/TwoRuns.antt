@@ -26,16 +26,16 @@ use Rattle.score_answers.specs.Score.{OfKey, OfScore, key_clash, key_file, score
 use Rattle.tml_accept.specs.Acceptance.{Says}
 use Rattle.tml_io.specs.Files.{Files, held}
 use Rattle.tml_refs.specs.Documents.{PlainDocument}
-use Rattle.tml_run.specs.OneReply.{is_broken_off}
-use Rattle.tml_run.specs.Replies.{Replies}
-use Rattle.tml_run.specs.declared.status.Status.{Status}
-use Rattle.tml_run.specs.declared.status.Status.TheVariants.{Done, Clash, DocFault, TooLong, Usage}
-use Rattle.tml_run.specs.Words.{usage_rows}
-use Rattle.tml_run.proofs.HowItEnds.{answered}
-use Rattle.tml_run.proofs.OneFile.{answered_or_long}
-use Rattle.tml_run.proofs.OneReply.{one_reply}
-use Rattle.tml_run.proofs.TwoFiles.{judged_or_long}
-use Rattle.tml_run.proofs.Usage.{usage_answered}
+use Rattle.runs.specs.OneReply.{is_broken_off}
+use Rattle.runs.specs.Replies.{Replies}
+use Rattle.runs.specs.declared.status.Status.{Status}
+use Rattle.runs.specs.declared.status.Status.TheVariants.{Done, Clash, DocFault, TooLong, Usage}
+use Rattle.runs.specs.Words.{usage_rows}
+use Rattle.runs.proofs.HowItEnds.{answered}
+use Rattle.runs.proofs.OneFile.{answered_or_long}
+use Rattle.runs.proofs.OneReply.{one_reply}
+use Rattle.runs.proofs.TwoFiles.{judged_or_long}
+use Rattle.runs.proofs.Usage.{usage_answered}
 use Rattle.tml_tool.specs.Commands.{rows_with, usage}
 use Rattle.tml_tool.specs.TwoRuns.{EvidenceIsVerified, PrintsEvidence}
 use Rattle.tml_tool.specs.declared.commands.Form.{Form}

@@ -4,9 +4,9 @@ use Rattle.evidence_answers.specs.Accepting.{AcceptsText}
 use Rattle.evidence_answers.specs.Verify.{verify_rows}
 use Rattle.score_answers.specs.Score.{key_clash}
 use Rattle.tml_io.specs.Files.{Files, held}
-use Rattle.tml_run.specs.Replies.{Replies}
-use Rattle.tml_run.specs.declared.status.Status.{Status}
-use Rattle.tml_run.specs.declared.status.Status.TheVariants.{Done, Clash}
+use Rattle.runs.specs.Replies.{Replies}
+use Rattle.runs.specs.declared.status.Status.{Status}
+use Rattle.runs.specs.declared.status.Status.TheVariants.{Done, Clash}
 use Rattle.tml_tool.specs.Commands.{rows_with}
 use Rattle.tml_tool.specs.declared.commands.Form.{Form}
 use Rattle.tml_tool.specs.declared.commands.Form.TheVariants.{Solve, Ask, Relations, Possible, Matrix, Reduce, Score}

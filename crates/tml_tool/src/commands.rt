@@ -3,9 +3,9 @@
 ghost use Rattle.std.proofs.Common.{rules};
 ghost use Rattle.std.specs.Prelude.{◌≡◌, ◌≤◌, ◌<◌, ◌↔◌, ◌*◌, length, None};
 ghost use Rattle.tml_io.specs.Faults.{CallsFollow, HasRisen, RisesAtMost};
-ghost use Rattle.tml_run.specs.Replied.{IsReplyTo};
-ghost use Rattle.tml_run.specs.View.{status_of, text_of};
-ghost use Rattle.tml_run.specs.Words.{texts_of};
+ghost use Rattle.runs.specs.Replied.{IsReplyTo};
+ghost use Rattle.runs.specs.View.{status_of, text_of};
+ghost use Rattle.runs.specs.Words.{texts_of};
 ghost use Rattle.tml_tool.specs.Commands.{arguments_of, most_calls, most_files, rows_of, taken, usage};
 ghost use Rattle.tml_tool.specs.Forms.{argument};
 
@@ -15,11 +15,11 @@ use evidence_answers::{Confirm, EVIDENCE, Renew, SECONDS, Verify, reply_of_join}
 use named::Named;
 use order_answers::{Ask, Relations, Solve, drill_number, drill_summary};
 use possible_answers::{Matrix, Possible};
+use runs::{Reply, Status, reply_of_file};
 use score_answers::{KEY, Reduce, Score};
 use seconds_answers::Seconds;
 use std::alloc::Global;
 use tml_io::Inputs;
-use tml_run::{Reply, Status, reply_of_file};
 
 /// A form of words.
 #[derive(Clone, Copy)]

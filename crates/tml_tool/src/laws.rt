@@ -1,13 +1,13 @@
 //! Laws of commands: public functions that do nothing, each with the law as its contract.
 ghost use Rattle.std.specs.Prelude.{List, ℕ};
-ghost use Rattle.tml_run.specs.EveryReply.{HasExactlyOneReply, HasNext};
-ghost use Rattle.tml_run.specs.Missing.{MissingBreaksOff, ReadFaultHasFile};
-ghost use Rattle.tml_run.specs.OneReply.{HasOneNext, HasOneReply, HasOneText};
+ghost use Rattle.runs.specs.EveryReply.{HasExactlyOneReply, HasNext};
+ghost use Rattle.runs.specs.Missing.{MissingBreaksOff, ReadFaultHasFile};
+ghost use Rattle.runs.specs.OneReply.{HasOneNext, HasOneReply, HasOneText};
 ghost use Rattle.tml_tool.specs.Alike.{CanonicalIsAlike};
 ghost use Rattle.tml_tool.specs.Commands.{form_of, is_free, rows_of};
 ghost use Rattle.tml_tool.specs.TwoRuns.{EvidenceIsVerified};
 
-use tml_run::Status;
+use runs::Status;
 
 /// After what a command has read one thing comes next: one file is read, or one status is answered.
 pub fn one_status()

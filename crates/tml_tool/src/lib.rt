@@ -11,5 +11,5 @@ pub use laws::{
     canonical_is_alike, every_question_is_answered, evidence_is_verified, missing_files_are_faults,
     one_reply, one_status, one_text,
 };
-pub use tml_run::Status;
+pub use runs::Status;
 pub use top::run;

@@ -2,20 +2,20 @@
 ghost use Rattle.std.specs.Prelude.{true, ◌≡◌, ◌≤◌, ◌↔◌, ◌*◌, None};
 ghost use Rattle.tml_io.specs.Faults.{CallsFollow, HasRisen, RisesAtMost};
 ghost use Rattle.tml_io.specs.Room.{FaultsOnlyWhenFull};
-ghost use Rattle.tml_run.specs.Outcome.{Outcome};
-ghost use Rattle.tml_run.specs.Reading.{AllThere, NoneReached};
-ghost use Rattle.tml_run.specs.Replied.{IsReplyTo};
-ghost use Rattle.tml_run.specs.View.{status_of, text_of};
-ghost use Rattle.tml_run.specs.Words.{texts_of};
+ghost use Rattle.runs.specs.Outcome.{Outcome};
+ghost use Rattle.runs.specs.Reading.{AllThere, NoneReached};
+ghost use Rattle.runs.specs.Replied.{IsReplyTo};
+ghost use Rattle.runs.specs.View.{status_of, text_of};
+ghost use Rattle.runs.specs.Words.{texts_of};
 ghost use Rattle.tml_tool.specs.Commands.{form_of, most_calls, most_files, rows_of_words};
 
 use crate::commands::{Form, reply_with, usage_text};
 use answers::DOC;
 use document_answers::Spans;
 use named::named_by;
+use runs::{Reply, Status, deliver, reply_of_file};
 use std::alloc::Global;
 use tml_io::{Inputs, Sink};
-use tml_run::{Reply, Status, deliver, reply_of_file};
 
 /// The reply to some words. With no words it is that to `spans` of standard input.
 fn reply_to<I: Inputs>(alloc: Global, words: &[String], inputs: &mut I) -> Reply

@@ -11,10 +11,10 @@ use Rattle.evidence_answers.proofs.VerifyAnswered.{verify_judged}
 use Rattle.net_core.specs.Limits.{max_document, max_evidence}
 use Rattle.tml_accept.specs.Acceptance.{Says}
 use Rattle.tml_refs.specs.Documents.{PlainDocument}
-use Rattle.tml_run.specs.Answered.{AreAnswered, NeverFree}
-use Rattle.tml_run.specs.OneReply.{is_broken_off}
-use Rattle.tml_run.specs.declared.status.Status.{Status}
-use Rattle.tml_run.proofs.Usage.{usage_answered}
+use Rattle.runs.specs.Answered.{AreAnswered, NeverFree}
+use Rattle.runs.specs.OneReply.{is_broken_off}
+use Rattle.runs.specs.declared.status.Status.{Status}
+use Rattle.runs.proofs.Usage.{usage_answered}
 use Rattle.tml_verify.specs.Either.{OfEither, is_seconds}
 use Rattle.tml_verify.specs.Words.{asked_of, rows_of, usage}
 

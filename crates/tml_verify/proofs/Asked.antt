@@ -1,9 +1,9 @@
 -- What some words ask.
 use Rattle.std.proofs.Common.{◌≡◌, ◌≢◌, ℕ, Bool, List, [], ◌∷◌, get_or, length, refl, sym, subst, Option, None, Some, String, Global, string_bytes, arith}
 use Rattle.tml_io.specs.Files.{Files}
-use Rattle.tml_run.specs.Replied.{IsReplyTo}
-use Rattle.tml_run.specs.Words.{texts_of}
-use Rattle.tml_run.specs.declared.status.Status.{Status}
+use Rattle.runs.specs.Replied.{IsReplyTo}
+use Rattle.runs.specs.Words.{texts_of}
+use Rattle.runs.specs.declared.status.Status.{Status}
 use Rattle.tml_verify.specs.Words.{asked_of, rows_of}
 
 -- two words are the names of a document and another file

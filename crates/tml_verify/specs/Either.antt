@@ -6,7 +6,7 @@ use Rattle.evidence_answers.specs.Confirmed.{OfConfirm}
 use Rattle.evidence_answers.specs.Files.{evidence_file}
 use Rattle.evidence_answers.specs.Verify.{OfVerify}
 use Rattle.seconds_format.specs.Texts.{first_line}
-use Rattle.tml_run.specs.Rows.{Rows}
+use Rattle.runs.specs.Rows.{Rows}
 
 -- it is seconds where its bytes begin with the first line of seconds
 abbrev pub is_seconds : List ℕ → Bool

@@ -3,8 +3,8 @@ use Rattle.std.specs.Prelude.{ℕ, List, [], ◌∷◌, ◌++◌, codes, String,
 use Rattle.std.specs.declared.alloc.Global.{Global}
 use Rattle.std.specs.declared.option.Option.{Option}
 use Rattle.net_core.specs.Limits.{max_document, max_evidence}
-use Rattle.tml_run.specs.Rows.{Rows}
-use Rattle.tml_run.specs.Words.{calls_for, texts_of, usage_rows}
+use Rattle.runs.specs.Rows.{Rows}
+use Rattle.runs.specs.Words.{calls_for, texts_of, usage_rows}
 use Rattle.tml_verify.specs.Either.{either_rows}
 
 abbrev pub usage : List ℕ

@@ -1,16 +1,16 @@
 //! What is asked of a document and a file that is evidence of it, or seconds.
-use answers::OfJudged;
+use answers::JudgedQuery;
 use evidence_answers::{Confirm, Verify};
+use runs::Answer;
 use std::alloc::{AllocError, Global};
 use tml_refs::Document;
-use tml_run::Answer;
 
 /// What evidence or seconds show of a document: what `confirm` answers where the file begins with the first line of
 /// seconds, and else what `verify` answers.
 #[derive(Clone, Copy)]
 pub struct EvidenceOrSeconds;
 
-impl OfJudged for EvidenceOrSeconds {
+impl JudgedQuery for EvidenceOrSeconds {
     ghost use Rattle.net_core.specs.Limits.{max_evidence};
     ghost use Rattle.tml_verify.specs.Either.{OfEither};
 

@@ -1,13 +1,13 @@
 //! Laws of the words: functions that do nothing, each with the law as its contract.
 ghost use Rattle.answers.specs.Judged.{JudgesFirst};
 ghost use Rattle.std.specs.Prelude.{List, ℕ};
-ghost use Rattle.tml_run.specs.EveryReply.{HasExactlyOneReply, HasNext};
-ghost use Rattle.tml_run.specs.Missing.{MissingBreaksOff, ReadFaultHasFile};
-ghost use Rattle.tml_run.specs.OneReply.{HasOneNext, HasOneReply, HasOneText};
+ghost use Rattle.runs.specs.EveryReply.{HasExactlyOneReply, HasNext};
+ghost use Rattle.runs.specs.Missing.{MissingBreaksOff, ReadFaultHasFile};
+ghost use Rattle.runs.specs.OneReply.{HasOneNext, HasOneReply, HasOneText};
 ghost use Rattle.tml_verify.specs.Either.{either_rows};
 ghost use Rattle.tml_verify.specs.Words.{asked_of, rows_of};
 
-use tml_run::Status;
+use runs::Status;
 
 /// After what was read one thing comes next: one file is read, or one status is answered.
 pub fn one_status()

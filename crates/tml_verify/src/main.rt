@@ -6,8 +6,8 @@ mod either;
 mod laws;
 mod top;
 
+use runs::run_program;
 use std::process::ExitCode;
-use tml_run::run_program;
 use top::run;
 
 fn main(rt: HostRuntime) -> ExitCode {

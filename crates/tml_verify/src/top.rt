@@ -2,19 +2,19 @@
 ghost use Rattle.std.specs.Prelude.{true, ◌≡◌, ◌≤◌, ◌↔◌, None};
 ghost use Rattle.tml_io.specs.Faults.{CallsFollow, HasRisen, RisesAtMost};
 ghost use Rattle.tml_io.specs.Room.{FaultsOnlyWhenFull};
-ghost use Rattle.tml_run.specs.Outcome.{Outcome};
-ghost use Rattle.tml_run.specs.Reading.{AllThere, NoneReached};
-ghost use Rattle.tml_run.specs.Replied.{IsReplyTo};
-ghost use Rattle.tml_run.specs.View.{status_of, text_of};
-ghost use Rattle.tml_run.specs.Words.{texts_of};
+ghost use Rattle.runs.specs.Outcome.{Outcome};
+ghost use Rattle.runs.specs.Reading.{AllThere, NoneReached};
+ghost use Rattle.runs.specs.Replied.{IsReplyTo};
+ghost use Rattle.runs.specs.View.{status_of, text_of};
+ghost use Rattle.runs.specs.Words.{texts_of};
 ghost use Rattle.tml_verify.specs.Words.{asked_of, most_calls, rows_of_words, usage};
 
 use crate::either::EvidenceOrSeconds;
 use answers::reply_of_judged;
 use evidence_answers::EVIDENCE;
+use runs::{Reply, Status, deliver};
 use std::alloc::Global;
 use tml_io::{Inputs, Sink};
-use tml_run::{Reply, Status, deliver};
 
 /// The usage text: a line for each kind of file.
 fn usage_text() -> &'static [u8]

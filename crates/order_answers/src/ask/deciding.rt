@@ -10,13 +10,13 @@ ghost use Rattle.std.specs.Prelude.{◌%◌, ◌<◌, ◌≡◌, ◌≤◌, IfOk
 
 use crate::ask::proving::proof_text;
 use evidence_format::Evidence;
-use net_answers::{OfNet, evidence_text};
+use net_answers::{NetQuery, evidence_text};
 use net_core::{Atom, Atoms, MAX_INTERVALS, Net, Rel, atoms_of};
 use order_closure::Closed;
+use runs::{Answer, Status};
 use std::alloc::{AllocError, Global};
 use timeline::counter;
 use tml_refs::Document;
-use tml_run::{Answer, Status};
 
 /// A relation between two intervals by their numbers.
 #[derive(Clone, Copy)]
@@ -26,7 +26,7 @@ pub struct Numbers {
     pub b: u32,
 }
 
-impl OfNet for Numbers {
+impl NetQuery for Numbers {
     ghost use Rattle.answers.specs.Names.{AreOf};
     ghost use Rattle.order_answers.specs.Ask.{of_numbers};
 

@@ -1,5 +1,5 @@
 use Rattle.std.proofs.Common.{rules, ap, ◌∙◌}
-use Rattle.tml_run.specs.Status.{number_of}
+use Rattle.runs.specs.Status.{number_of}
 use Rattle.tml_c.specs.Answers.{laid_over}
 use Rattle.tml_c.specs.View.{status_of, text_of}
 use Rattle.tml_c.proofs.tml_answer.Goals as goal

@@ -4,17 +4,17 @@ use Rattle.std.proofs.lemmas.Result.{IfOk-weaker}
 use Rattle.tml_io.specs.Files.{Files, IsThere}
 use Rattle.tml_accept.specs.Acceptance.{Accepted}
 use Rattle.answers.specs.Judged.{documents, judged_rows}
-use Rattle.tml_run.specs.Roles.{file_of}
-use Rattle.tml_run.specs.Rows.{Rows}
-use Rattle.tml_run.specs.View.{finding_status}
-use Rattle.tml_run.proofs.HowItEnds.{answered_or_not, counted_on, stopped}
-use Rattle.tml_run.proofs.TwoFiles.{refused_or_not}
-use Rattle.tml_run.specs.TwoFiles.{after_first}
+use Rattle.runs.specs.Roles.{file_of}
+use Rattle.runs.specs.Rows.{Rows}
+use Rattle.runs.specs.View.{finding_status}
+use Rattle.runs.proofs.HowItEnds.{answered_or_not, counted_on, stopped}
+use Rattle.runs.proofs.TwoFiles.{refused_or_not}
+use Rattle.runs.specs.TwoFiles.{after_first}
 use Rattle.answers.proofs.judged.reply_of_judged.Goals as goal
 
 pub returns-in-Err-clause-reply : goal.returns-in-Err-clause-reply
 returns-in-Err-clause-reply g c =
-    let rows : Rows = judged_rows c.args.name.now (file_of c.args.role c.args.other.now) (g.A.OfJudged.says c.args.asked.now) in
+    let rows : Rows = judged_rows c.args.name.now (file_of c.args.role c.args.other.now) (g.A.JudgedQuery.says c.args.asked.now) in
     let read = c.in-Err.ensures.gives in
     record {
       replies = (read.0, stopped _ rows [] (doc_file c.args.name.now) _ _ read.0 read.0 tt refl read.1 (omega arith), read.2);
@@ -24,7 +24,7 @@ returns-in-Err-clause-reply g c =
 
 pub returns-in-Err-document_of-clause-reply : goal.returns-in-Err-document_of-clause-reply
 returns-in-Err-document_of-clause-reply g c =
-    let rows : Rows = judged_rows c.args.name.now (file_of c.args.role c.args.other.now) (g.A.OfJudged.says c.args.asked.now) in
+    let rows : Rows = judged_rows c.args.name.now (file_of c.args.role c.args.other.now) (g.A.JudgedQuery.says c.args.asked.now) in
     let read = c.in-Ok.ensures.gives in
     let refusal = rw c.as_slice.ensures at c.in-Err-document_of.ensures.err in
     record {
@@ -35,12 +35,12 @@ returns-in-Err-document_of-clause-reply g c =
 
 pub returns-in-Ok-read-clause-reply : goal.returns-in-Ok-read-clause-reply
 returns-in-Ok-read-clause-reply g c =
-    let rows : Rows = judged_rows c.args.name.now (file_of c.args.role c.args.other.now) (g.A.OfJudged.says c.args.asked.now) in
+    let rows : Rows = judged_rows c.args.name.now (file_of c.args.role c.args.other.now) (g.A.JudgedQuery.says c.args.asked.now) in
     let first = c.in-Ok.ensures.gives in
     let second = rw c.in-Ok.ensures.files at c.in-Ok-read.ensures.gives in
     let contents = rw c.as_slice.ensures at c.in-Ok-document_of.ensures.ok in
     let verdict = rw c.as_slice-in-Ok-read.ensures at c.answer.ensures in
-    let answer = IfOk-weaker c.answer.result _ (λ answer. after_first documents (g.A.OfJudged.says c.args.asked.now) c.in-Ok.doc c.in-Ok-read.text (finding_status answer.finding) answer.text.items) (λ answer says. (_, contents, says)) verdict in
+    let answer = IfOk-weaker c.answer.result _ (λ answer. after_first documents (g.A.JudgedQuery.says c.args.asked.now) c.in-Ok.doc c.in-Ok-read.text (finding_status answer.finding) answer.text.items) (λ answer says. (_, contents, says)) verdict in
     let replies = answered_or_not _ rows (_ ∷ _ ∷ []) c.answer.result (first.0 + second.0)
     (doc_file c.args.name.now, refl, first.1.0, (file_of c.args.role c.args.other.now, ((_, contents), refl), second.1.0, tt))
     answer (omega (arith, first.1.1, second.1.1)) in
@@ -55,7 +55,7 @@ returns-in-Ok-read-clause-reply g c =
 
 pub returns-clause-reply : goal.returns-clause-reply
 returns-clause-reply g c =
-    let rows : Rows = judged_rows c.args.name.now (file_of c.args.role c.args.other.now) (g.A.OfJudged.says c.args.asked.now) in
+    let rows : Rows = judged_rows c.args.name.now (file_of c.args.role c.args.other.now) (g.A.JudgedQuery.says c.args.asked.now) in
     let first = c.in-Ok.ensures.gives in
     let second = rw c.in-Ok.ensures.files at c.in-Err-read.ensures.gives in
     let contents = rw c.as_slice.ensures at c.in-Ok-document_of.ensures.ok in

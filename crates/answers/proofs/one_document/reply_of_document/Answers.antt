@@ -1,13 +1,13 @@
 use Rattle.std.proofs.Common.{[], ◌∷◌, refl, arith}
 use Rattle.answers.specs.Documents.{doc_file, document_rows}
-use Rattle.tml_run.specs.Rows.{Rows}
-use Rattle.tml_run.proofs.HowItEnds.{answered_or_not, stopped}
+use Rattle.runs.specs.Rows.{Rows}
+use Rattle.runs.proofs.HowItEnds.{answered_or_not, stopped}
 use Rattle.answers.proofs.one_document.reply_of_document.Goals as goal
 
 pub returns-in-Ok-clause-reply : goal.returns-in-Ok-clause-reply
 returns-in-Ok-clause-reply g c =
     let file = doc_file c.args.name.now in
-    let rows : Rows = document_rows (g.A.OfDocument.says c.args.asked.now) c.args.name.now in
+    let rows : Rows = document_rows (g.A.DocumentQuery.says c.args.asked.now) c.args.name.now in
     let read = c.in-Ok.ensures.gives in
     let answer = rw c.as_slice.ensures at c.answer_to.ensures in
     let replies = answered_or_not _ rows (_ ∷ []) c.answer_to.result read.0 (file, refl, read.1.0, tt) answer (omega (arith, read.1.1)) in
@@ -20,7 +20,7 @@ returns-in-Ok-clause-reply g c =
 pub returns-in-Err-clause-reply : goal.returns-in-Err-clause-reply
 returns-in-Err-clause-reply g c =
     let file = doc_file c.args.name.now in
-    let rows : Rows = document_rows (g.A.OfDocument.says c.args.asked.now) c.args.name.now in
+    let rows : Rows = document_rows (g.A.DocumentQuery.says c.args.asked.now) c.args.name.now in
     let read = c.in-Err.ensures.gives in
     record {
       replies = (read.0, stopped _ rows [] file _ _ read.0 read.0 tt refl read.1 (omega arith), read.2);

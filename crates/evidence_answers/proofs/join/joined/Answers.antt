@@ -2,7 +2,7 @@ use Rattle.std.proofs.Common.{List, codes, arith}
 use Rattle.evidence_format.specs.Bundles.{AreBodies, AreClaims}
 use Rattle.evidence_format.specs.Evidence.{PlainEvidence}
 use Rattle.evidence_format.proofs.Claims.{are_claims, both_are_claims}
-use Rattle.tml_run.specs.OneFile.{Answers}
+use Rattle.runs.specs.OneFile.{Answers}
 use Rattle.evidence_answers.specs.Join.{OfSecond}
 use Rattle.evidence_answers.proofs.Files.{malformed}
 use Rattle.evidence_answers.proofs.join.joined.Goals as goal

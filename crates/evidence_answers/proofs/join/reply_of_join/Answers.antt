@@ -2,11 +2,11 @@ use Rattle.std.proofs.Common.{[], ◌∷◌, ◌+◌, ◌∙◌, sym, subst, ref
 use Rattle.std.proofs.lemmas.Result.{IfOk-weaker}
 use Rattle.evidence_format.proofs.Claims.{are_claims}
 use Rattle.tml_io.specs.Files.{IsThere, Files}
-use Rattle.tml_run.specs.Rows.{Rows}
-use Rattle.tml_run.specs.TwoFiles.{IsPassed, after_first}
-use Rattle.tml_run.specs.View.{finding_status}
-use Rattle.tml_run.proofs.HowItEnds.{answered_or_not, counted_on, stopped}
-use Rattle.tml_run.proofs.TwoFiles.{refused_or_not}
+use Rattle.runs.specs.Rows.{Rows}
+use Rattle.runs.specs.TwoFiles.{IsPassed, after_first}
+use Rattle.runs.specs.View.{finding_status}
+use Rattle.runs.proofs.HowItEnds.{answered_or_not, counted_on, stopped}
+use Rattle.runs.proofs.TwoFiles.{refused_or_not}
 use Rattle.evidence_answers.specs.Files.{evidence_file, second_file}
 use Rattle.evidence_answers.specs.Join.{OfSecond, evidence, join_rows}
 use Rattle.evidence_answers.proofs.join.reply_of_join.Goals as goal

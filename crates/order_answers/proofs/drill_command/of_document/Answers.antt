@@ -7,7 +7,7 @@ use Rattle.net_core.specs.Nets.{points}
 use Rattle.net_core.specs.Ranks.{timeline_of}
 use Rattle.tml_refs.specs.Documents.{PlainDocument}
 use Rattle.order_answers.specs.Drill.{AreFigures, IsGreatest, OfDrill}
-use Rattle.tml_run.specs.declared.answer.Finding.TheVariants as findings
+use Rattle.runs.specs.declared.answer.Finding.TheVariants as findings
 use Rattle.order_answers.proofs.Drills.{as_many_points}
 use Rattle.order_answers.proofs.Entailments.{rows_follow}
 use Rattle.answers.proofs.Reporting.{reported}

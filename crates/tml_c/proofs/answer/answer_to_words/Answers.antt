@@ -1,7 +1,7 @@
 use Rattle.std.proofs.Common.{refl}
 use Rattle.std.specs.Prelude.{Some}
 use Rattle.tml_c.specs.Given.{two_files}
-use Rattle.tml_run.specs.Words.{texts_of}
+use Rattle.runs.specs.Words.{texts_of}
 use Rattle.tml_c.proofs.Whole.{no_memory_is_reply, reply_of_run}
 use Rattle.tml_c.proofs.answer.answer_to_words.Goals as goal
 

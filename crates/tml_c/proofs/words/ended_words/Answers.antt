@@ -1,5 +1,5 @@
 use Rattle.std.proofs.Common.{rules, arith, ◌∙◌}
-use Rattle.tml_run.specs.Words.{texts_of}
+use Rattle.runs.specs.Words.{texts_of}
 use Rattle.tml_c.proofs.Cutting.{all_words, next_word}
 use Rattle.tml_c.proofs.words.ended_words.Goals as goal
 

@@ -2,7 +2,7 @@ use denote.Shadow.{shadow}
 use denote.Text.{Utf8}
 use Rattle.std.proofs.Common.{◌≡◌, ◌++◌, length}
 use Rattle.tml_c.specs.Words.{between_zeros}
-use Rattle.tml_run.specs.Words.{texts_of}
+use Rattle.runs.specs.Words.{texts_of}
 use Rattle.tml_c.proofs.words.ended_words.Given as goal
 
 -- the words so far come first, and then the parts of what is left

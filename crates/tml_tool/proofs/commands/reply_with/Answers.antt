@@ -1,6 +1,6 @@
 use Rattle.std.proofs.Common.{refl, sym, ap, ◌∙◌}
 use Rattle.order_answers.specs.Drill.{drill_number}
-use Rattle.tml_run.specs.Words.{texts_of}
+use Rattle.runs.specs.Words.{texts_of}
 use Rattle.tml_tool.specs.Forms.{argument}
 use Rattle.tml_tool.specs.declared.commands.Form.TheVariants as form
 use Rattle.tml_tool.proofs.Arguments.{one, two, three, four}

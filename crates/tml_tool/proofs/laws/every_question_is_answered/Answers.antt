@@ -1,4 +1,4 @@
-use Rattle.tml_run.proofs.EveryReply.{exactly_one_reply}
+use Rattle.runs.proofs.EveryReply.{exactly_one_reply}
 use Rattle.tml_tool.proofs.Tables.{words_answered}
 use Rattle.tml_tool.specs.Commands.{form_of, is_free, rows_of}
 use Rattle.tml_tool.proofs.laws.every_question_is_answered.Goals as goal

@@ -1,4 +1,4 @@
-use Rattle.tml_run.proofs.Missing.{missing_breaks_off, read_fault_has_file}
+use Rattle.runs.proofs.Missing.{missing_breaks_off, read_fault_has_file}
 use Rattle.tml_tool.proofs.Tables.{words_answered}
 use Rattle.tml_tool.specs.Commands.{form_of, is_free, rows_of}
 use Rattle.tml_tool.proofs.laws.missing_files_are_faults.Goals as goal

@@ -1,4 +1,4 @@
-use Rattle.tml_run.proofs.OneReply as runs
+use Rattle.runs.proofs.OneReply as runs
 use Rattle.tml_tool.proofs.Tables.{words_answered}
 use Rattle.tml_tool.specs.Commands.{form_of, rows_of}
 use Rattle.tml_tool.proofs.laws.one_reply.Goals as goal

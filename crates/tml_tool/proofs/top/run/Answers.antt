@@ -1,5 +1,5 @@
-use Rattle.tml_run.specs.View.{text_of}
-use Rattle.tml_run.proofs.HowItEnds.{ends_as_usage}
+use Rattle.runs.specs.View.{text_of}
+use Rattle.runs.proofs.HowItEnds.{ends_as_usage}
 use Rattle.tml_tool.proofs.top.run.Goals as goal
 
 pub returns-clause-outcome : goal.returns-clause-outcome

@@ -1,5 +1,5 @@
-use Rattle.tml_run.specs.Answered.{NeverFree}
-use Rattle.tml_run.proofs.EveryReply.{exactly_one_reply}
+use Rattle.runs.specs.Answered.{NeverFree}
+use Rattle.runs.proofs.EveryReply.{exactly_one_reply}
 use Rattle.tml_verify.specs.Words.{asked_of, rows_of}
 use Rattle.tml_verify.proofs.Answered.{words_answered}
 use Rattle.tml_verify.proofs.laws.every_question_is_answered.Goals as goal

@@ -1,5 +1,5 @@
-use Rattle.tml_run.specs.Answered.{NeverFree}
-use Rattle.tml_run.proofs.Missing.{missing_breaks_off, read_fault_has_file}
+use Rattle.runs.specs.Answered.{NeverFree}
+use Rattle.runs.proofs.Missing.{missing_breaks_off, read_fault_has_file}
 use Rattle.tml_verify.specs.Words.{asked_of, rows_of}
 use Rattle.tml_verify.proofs.Answered.{words_answered}
 use Rattle.tml_verify.proofs.laws.missing_files_are_faults.Goals as goal

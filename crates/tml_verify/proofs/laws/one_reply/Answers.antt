@@ -1,4 +1,4 @@
-use Rattle.tml_run.proofs.OneReply as runs
+use Rattle.runs.proofs.OneReply as runs
 use Rattle.tml_verify.specs.Words.{asked_of, rows_of}
 use Rattle.tml_verify.proofs.Answered.{words_answered}
 use Rattle.tml_verify.proofs.laws.one_reply.Goals as goal

@@ -1,5 +1,5 @@
 use Rattle.std.proofs.Common.{refl, arith}
-use Rattle.tml_run.proofs.Usage.{usage_replied}
+use Rattle.runs.proofs.Usage.{usage_replied}
 use Rattle.tml_verify.specs.Words.{usage}
 use Rattle.tml_verify.proofs.Asked.{along, no_form, two_words}
 use Rattle.tml_verify.proofs.top.reply_to.Goals as goal

@@ -8,7 +8,7 @@ use Rattle.net_core.proofs.AtomLaws.{atoms_in_range}
 use Rattle.order_answers.specs.Ask.{IsFirstNotGiven, OfRelation}
 use Rattle.order_answers.proofs.Counterexamples.{all_hold, first_open, shows_counterexample}
 use Rattle.order_closure.specs.Tables.{AreInRange}
-use Rattle.tml_run.specs.declared.status.Status.TheVariants.{Done}
+use Rattle.runs.specs.declared.status.Status.TheVariants.{Done}
 use Rattle.order_answers.proofs.ask.deciding.decide.Goals as goal
 
 -- where the table gives all orders of the relation, all always hold

@@ -1,0 +1,46 @@
+-- Words that have no form have one answer, and no file is read for it.
+use Rattle.std.proofs.Common.{◌≡◌, ◌<◌, ℕ, Bool, false, List, [], ◌∷◌, length, refl, sym, ◌∙◌, Option, arith}
+use Rattle.tml_io.specs.Files.{Files}
+use Rattle.runs.specs.Answered.{AreAnswered, NeverFree}
+use Rattle.runs.specs.EveryReply.{HasNext}
+use Rattle.runs.specs.OneReply.{Agree, HasOneText, is_broken_off}
+use Rattle.runs.specs.Replied.{IsReplyTo}
+use Rattle.runs.specs.Rows.{File, Next, answers, reads}
+use Rattle.runs.specs.Words.{usage_rows}
+use Rattle.runs.specs.declared.status.Status.{Status}
+use Rattle.runs.specs.declared.status.Status.TheVariants.{Usage}
+use Rattle.runs.proofs.HowItEnds.{answered}
+
+module _ (usage : List ℕ) where
+  agree : (contents : List (List ℕ)) (next other : Next) → usage_rows usage contents next → usage_rows usage contents other → Agree next other
+  agree [] (answers Usage text) (answers Usage line) h k = refl
+  agree [] (answers Usage text) other h k = absurd k
+  agree contents next other h k = absurd h
+
+  every_next : HasNext (usage_rows usage)
+  every_next [] reading = (answers Usage usage, refl)
+  every_next (bytes ∷ rest) reading = absurd reading.1
+
+  few : (contents : List (List ℕ)) (file : File) → usage_rows usage contents (reads file) → length contents < 0
+  few [] file row = absurd row
+  few (bytes ∷ rest) file row = absurd row
+
+  whole : (contents : List (List ℕ)) (status : Status) (text : List ℕ) → usage_rows usage contents (answers status text) → is_broken_off status ≡ false
+  whole [] Usage text row = refl
+  whole contents status text row = absurd row
+
+  one_text : (contents : List (List ℕ)) (status : Status) → (NeverFree contents status → ⊥) → HasOneText (usage_rows usage) contents status
+  one_text [] Usage determined text line h k = h ∙ sym k
+  one_text contents status determined text line h k = absurd h
+
+  pub usage_answered : AreAnswered (usage_rows usage) NeverFree
+  usage_answered = record { one_next = agree; next = every_next; most = 0; few = few; whole = whole; one_text = one_text }
+
+  -- the usage text is the reply
+  pub usage_replied : (known : Option Files) (sound : Bool) (given faults : ℕ) (same : Type 0) (text : List ℕ) → text ≡ usage → same
+      → IsReplyTo (usage_rows usage) known sound given given faults faults same Usage text
+  usage_replied known sound given faults same text is unchanged = record {
+    replies = (0, answered known (usage_rows usage) [] Usage text 0 tt is (omega arith), omega arith);
+    no_fault = λ sound there. refl;
+    untouched = λ none. unchanged;
+  }

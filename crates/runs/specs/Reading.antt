@@ -1,0 +1,31 @@
+-- The files that are read, one after another.
+use Rattle.std.specs.Prelude.{ℕ, ◌+◌, ◌≤◌, List, [], ◌∷◌, length, ⊤}
+use Rattle.std.specs.declared.option.Option.{Option}
+use Rattle.tml_io.specs.Files.{Files, HasContents, IsThere}
+use Rattle.runs.specs.Rows.{File, Rows, reads, once_read}
+
+-- the file has these contents, as far as the files are known, and they are within its limit
+abbrev pub ReadsWhole : Option Files → File → List ℕ → Type 0
+ReadsWhole known file bytes = HasContents known file.name bytes × (length bytes ≤ file.limit)
+
+-- these are the contents of the first files that are read, in the order of reading
+abbrev pub Reading : Option Files → Rows → List (List ℕ) → Type 0
+Reading known rows [] = ⊤
+Reading known rows (bytes ∷ rest) = (file : File) × rows [] (reads file) × ReadsWhole known file bytes × Reading known (once_read bytes rows) rest
+
+-- it may come to reading this file
+abbrev pub Reached : Option Files → Rows → File → Type 0
+Reached known rows file = (contents : List (List ℕ)) × Reading known rows contents × rows contents (reads file)
+
+-- it comes to reading no file
+abbrev pub NoneReached : Option Files → Rows → Type 0
+NoneReached known rows = (file : File) → Reached known rows file → ⊥
+
+-- each file that it may come to reading is there
+abbrev pub AllThere : Option Files → Rows → Type 0
+AllThere known rows = (file : File) → Reached known rows file → IsThere known file.name
+
+-- how many bytes some contents have
+abbrev pub total : List (List ℕ) → ℕ
+total [] = 0
+total (bytes ∷ rest) = length bytes + total rest

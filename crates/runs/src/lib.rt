@@ -1,0 +1,19 @@
+//! A run of a program as a table: files are read one after another, and one reply is made of their contents and
+//! written. Nothing here knows what commands, documents or limits there are.
+#![tactic(auto)]
+
+mod answer;
+mod one_file;
+mod program;
+mod reading;
+mod reply;
+mod role;
+mod status;
+
+pub use answer::{Answer, Finding};
+pub use one_file::{FileQuery, reply_of_file};
+pub use program::run_program;
+pub use reading::read;
+pub use reply::{Reply, deliver};
+pub use role::Role;
+pub use status::Status;
