@@ -48,9 +48,9 @@ pub fn push_related(out: &mut Vec<u8>, a: &[u8], rel: Rel, b: &[u8]) -> Result<(
     ensures { OnOk result (out.new.items ≡ out.old.items ++ texts.related a.now rel b.now) }
 {
     out.extend_from_slice(a)?;
-    out.extend_from_slice(b" ")?;
+    out.push(b' ')?;
     out.extend_from_slice(rel.text())?;
-    out.extend_from_slice(b" ")?;
+    out.push(b' ')?;
     out.extend_from_slice(b)
 }
 
