@@ -3,7 +3,8 @@
 
 A body that always answers 'out of memory' is proved like any other. What excludes it is a test, a row of `tml_rows`, or a
 question of another program whose output is compared. This script reads the sources: which functions are public, what they
-return, and which functions they call. It goes by names, so it finds what can make a call.
+return, and which functions they call. It goes by names, so it finds what can make a call. `tml_answer` of `tml_c`, which
+returns a number, and `run` of the program `tml_verify` stand below the table, by hand.
 
 usage: python/tests/memory_calls.py            prints the table of memory_calls.md
        python/tests/memory_calls.py --write    writes it there
@@ -35,6 +36,7 @@ COMMENT = re.compile(r"^\s*//.*$", re.MULTILINE)
 ENUM = re.compile(r"^pub enum (\w+)[^{;]*\{(.*?)^\}", re.MULTILINE | re.DOTALL)
 VARIANT = re.compile(r"^    (\w+)(.*?),$", re.MULTILINE | re.DOTALL)
 TRAIT = re.compile(r"^(?:pub )?trait .*?^\}", re.MULTILINE | re.DOTALL)
+EMPTY_BLOCK = re.compile(r"^impl.*\{\}$", re.MULTILINE)
 ERROR = re.compile(r"Result<.*[,\s](\w+)(?:<.*>)?,?\s*>|(\w+)", re.DOTALL)
 BLOCK = re.compile(r"^impl(?:<.*?>)? (?:([\w:]+)(?:<.*?>)? for )?(\w+)", re.MULTILINE)
 FUNCTION = re.compile(
@@ -90,8 +92,10 @@ class File:
 
 
 def read_file(crate: str, path: Path) -> File:
-    """A file with its functions. Traits are left out: what they declare has no body."""
-    text = TRAIT.sub("", COMMENT.sub("", path.read_text(encoding="utf-8")))
+    """A file with its functions. Traits are left out, since what they declare has no body, and so are empty blocks."""
+    text = path.read_text(encoding="utf-8")
+    for left_out in (COMMENT, TRAIT, EMPTY_BLOCK):
+        text = left_out.sub("", text)
     file = File(crate, path, text)
     blocks = [(found.start(), text.find("\n}\n", found.start()), found[1], found[2]) for found in BLOCK.finditer(text)]
     for found in FUNCTION.finditer(text):
