@@ -9,7 +9,7 @@ use Rattle.std.proofs.Math.ListN.{get_or-map}
 use Rattle.std.proofs.Math.Seq.{get_or-append_seam}
 use Rattle.net_core.specs.Nets.{PlainNet}
 use Rattle.net_core.proofs.FirstLaws.{one_first, first_or_none}
-use Rattle.line_texts.specs.Numbers.{IsPair}
+use Rattle.evidence_format.specs.Numbers.{IsPair}
 use Rattle.evidence_format.specs.Evidence.{IsWellFormed, PlainEvidence, timeline}
 use Rattle.evidence_format.specs.View.{plain}
 use Rattle.evidence_format.specs.declared.evidence.Evidence.{Evidence}

@@ -9,7 +9,7 @@ use Rattle.net_core.specs.Nets.{PlainNet}
 use Rattle.net_core.specs.Ranks.{AreEven, pairs_of, ranks_of}
 use Rattle.net_core.proofs.RankLaws.{ranks_again}
 use Rattle.evidence_format.specs.Evidence.{AreRanks}
-use Rattle.line_texts.specs.Numbers.{IsNumber}
+use Rattle.evidence_format.specs.Numbers.{IsNumber}
 use Rattle.evidence_check.specs.declared.refusal.Reason.{Reason}
 use Rattle.evidence_check.specs.Refusals.{IsMisfit, IsSpareAt, IsSpareRefused, cite_at, ranks_at}
 use Rattle.evidence_check.proofs.Verdicts.{no_misfit}

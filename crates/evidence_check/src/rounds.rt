@@ -1,7 +1,7 @@
 //! Whether a walk is closed and goes over exactly the cited links.
 ghost use Rattle.evidence_check.specs.Asked.{AreRisingLinks};
 ghost use Rattle.evidence_check.specs.Refusals.{IsNoRound};
-ghost use Rattle.line_texts.specs.Numbers.{IsNumber};
+ghost use Rattle.evidence_format.specs.Numbers.{IsNumber};
 ghost use Rattle.net_core.specs.Clashes.{Agrees, IsClosedOver};
 ghost use Rattle.net_core.specs.Firsts.{IsFirst};
 ghost use Rattle.net_core.specs.Steps.{Uses};

@@ -2,7 +2,7 @@
 ghost use Rattle.evidence_check.specs.Asked.{AreRisingLinks, CanBeAsked, chosen};
 ghost use Rattle.evidence_check.specs.Demands.{AreDemands};
 ghost use Rattle.evidence_check.specs.Refusals.{FirstBrokenLink, FirstBrokenPair, IsMisfit};
-ghost use Rattle.line_texts.specs.Numbers.{IsNumber};
+ghost use Rattle.evidence_format.specs.Numbers.{IsNumber};
 ghost use Rattle.net_core.specs.Clashes.{Others};
 ghost use Rattle.net_core.specs.Fits.{EveryLink, RanksFitWith};
 ghost use Rattle.net_core.specs.Nets.{points};

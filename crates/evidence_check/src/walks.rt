@@ -3,7 +3,7 @@ ghost use Rattle.evidence_check.specs.Following.{LeadsTo, StopsAt};
 ghost use Rattle.evidence_check.specs.Refusals.{IsNoProof, IsWalkRefused};
 ghost use Rattle.evidence_check.specs.Supported.{IsProof, ProveAll};
 ghost use Rattle.evidence_format.specs.Evidence.{AreSteps};
-ghost use Rattle.line_texts.specs.Numbers.{IsNumber};
+ghost use Rattle.evidence_format.specs.Numbers.{IsNumber};
 ghost use Rattle.net_core.specs.Atoms.{atoms_in};
 ghost use Rattle.net_core.specs.Fits.{EveryLink};
 ghost use Rattle.net_core.specs.Steps.{GoesBy, atom_of};

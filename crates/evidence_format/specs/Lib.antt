@@ -9,3 +9,4 @@ pub mod OneByOne
 pub mod Written
 pub mod Timelines
 pub mod View
+pub use Rattle.line_texts.specs.Numbers

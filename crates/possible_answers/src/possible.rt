@@ -1,5 +1,5 @@
 //! The command `possible`: which base relations two intervals of a document can have.
-ghost use Rattle.line_texts.specs.Numbers.{IsNumber};
+ghost use Rattle.evidence_format.specs.Numbers.{IsNumber};
 ghost use Rattle.net_core.specs.Ranks.{pairs_of};
 ghost use Rattle.possible_answers.specs.Possible.{IsItemsText, item_lines};
 ghost use Rattle.std.specs.Prelude.{IfOk, OnOk, length, ◌%◌, ◌*◌, ◌++◌, ◌<◌, ◌≡◌};
