@@ -1,5 +1,6 @@
 -- A closed table that is kept by the timelines that fit a net.
 use Rattle.std.proofs.Common.{◌≡◌, ◌↔◌, ℕ, ◌<◌, ◌≤◌, Bool, true, false, List, arith}
+use Rattle.std.specs.List.{Contains}
 use Rattle.net_core.specs.Entailment.{Always, HasNoTimeline}
 use Rattle.net_core.specs.Fits.{EveryLink, Fits, FitsWith}
 use Rattle.net_core.specs.Nets.{PlainNet, points}
@@ -12,7 +13,8 @@ use Rattle.order_closure.specs.Tables.{IsClosed, Keeps, SatisfiesAll, Table, cel
 use Rattle.order_closure.proofs.Central.{always_stands, order_says, weak_is}
 use Rattle.order_closure.proofs.Ranking.{counts_kept, strict_from, strict_says}
 use Rattle.clash.specs.Closures.{IsClosureOf, NoLink}
-use Rattle.clash.specs.Minimal.{IsFirstClash, UpTo}
+use Rattle.clash.specs.Minimal.{IsFirstClash, IsProvedClash, UpTo}
+use Rattle.clash.specs.declared.minimal.Clash.{Clash}
 use Rattle.net_orders.specs.Orders.{AreFixed}
 use Rattle.net_orders.specs.Steps.{Adds, IsFirstExcluded, KeepsLinks}
 
@@ -87,3 +89,7 @@ module _ (net : PlainNet) (table : Table) (fitting : (t : Timeline) → Keeps ta
 -- where a link clashes with those before it no timeline fits
 pub none_fits : (net : PlainNet) (k : ℕ) → IsFirstClash net k → HasNoTimeline net
 none_fits net k first t fits = first.clashes t (fits_fewer net EveryLink (UpTo k) t (λ j lt up_to. tt) fits)
+
+-- and so where a clash is proved
+pub proved_excludes : (net : PlainNet) (clash : Clash) → IsProvedClash net clash → HasNoTimeline net
+proved_excludes net clash proved t fits = proved.minimal.clashes t (fits_fewer net EveryLink (Contains clash.cites) t (λ j lt cited. tt) fits)

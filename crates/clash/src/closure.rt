@@ -10,7 +10,7 @@ ghost use Rattle.order_closure.specs.Tables.{AreInRange, SatisfiesAll};
 ghost use Rattle.std.specs.List.{All};
 ghost use Rattle.std.specs.Prelude.{IfErr, IfOk, IfSome, length, ◌<◌, ◌≤◌, ◌≡◌};
 
-use crate::minimal::{Clash, clash_up_to};
+use crate::minimal::{Clash, clash_soon, clash_up_to};
 use net_core::{Atom, Memory, Net};
 use net_orders::{
     add_in_sequence, add_links, add_orders, all_orders, fixed_orders, has_strict_cycle, sequence_of,
@@ -87,18 +87,24 @@ fn table_of(alloc: Global, net: &Net) -> Result<Closed, CloseFault>
     by_links(alloc, net, &fixed)
 }
 
-/// The same, with all orders added in a sequence in which few rows change. None comes mostly where no timeline fits.
-fn in_sequence(alloc: Global, net: &Net, fixed: &[Atom]) -> Result<Option<Closed>, Memory>
+/// The same, with all orders added in a sequence in which few rows change, or a clash that is found soon. None comes seldom,
+/// and says nothing.
+fn in_sequence(alloc: Global, net: &Net, fixed: &[Atom]) -> Result<Option<Closed>, CloseFault>
     requires { AreFixed net.now fixed.now }
-    ensures { IfOk result (λ found. IfSome found (IsTableOf (points net.now) (Fits net.now))) }
+    ensures ok { IfOk result (λ found. IfSome found (IsTableOf (points net.now) (Fits net.now))) }
+    ensures err { IfErr result (ReportsClash net.now) }
 {
     let points = 2 * net.intervals();
     let orders = all_orders(alloc, net, fixed)?;
     let sequence = sequence_of(alloc, points, &orders)?;
     if has_strict_cycle(alloc, points, &orders, &sequence)? {
-        return Ok(None);
+        let Some(clash) = clash_soon(alloc, net, fixed, &orders, &sequence)? else {
+            return Ok(None);
+        };
+        return Err(CloseFault::Clash(clash));
     }
-    closure_of(alloc, points, &orders, &sequence)
+    let table = closure_of(alloc, points, &orders, &sequence)?;
+    Ok(table)
 }
 
 /// The table of what is true of every timeline that satisfies some orders, added in a sequence. None comes where they deny

@@ -4,11 +4,14 @@ ghost use Rattle.net_orders.specs.Orders.{AreFixed};
 ghost use Rattle.net_core.specs.Walks.{Kept};
 ghost use Rattle.std.specs.List.{Contains};
 ghost use Rattle.std.specs.List.Sorted.{IsStrictlyIncreasing};
-ghost use Rattle.std.specs.Prelude.{IfOk, length, ℕ, ◌<◌, ◌≡◌, ◌↔◌};
+ghost use Rattle.net_core.specs.Nets.{points};
+ghost use Rattle.order_closure.specs.Tables.{AreInRange};
+ghost use Rattle.std.specs.Prelude.{IfOk, IfSome, length, ℕ, ◌<◌, ◌≡◌, ◌↔◌};
 
-use crate::closed_walk::{ClosedWalk, round_over, thin};
+use crate::closed_walk::{ClosedWalk, TURNS, round_over, thin};
 use crate::spares::{spares_of, spares_soon};
 use net_core::{Atom, List, Memory, Net, Ranks, Walk};
+use net_orders::first_unsettled;
 use std::alloc::Global;
 
 /// Links that cannot all be true with the spans and the calendar, and of which any one can be left out so that the others
@@ -24,6 +27,37 @@ pub struct Clash {
     pub spares: List<Ranks>,
 }
 
+/// A clash of some links up to the one with which ranks no longer settle soon. None comes seldom where links clash.
+///
+/// # Errors
+///
+/// Out of memory.
+pub fn clash_soon(
+    alloc: Global,
+    net: &Net,
+    fixed: &[Atom],
+    orders: &[Atom],
+    sequence: &[usize],
+) -> Result<Option<Clash>, Memory>
+    requires fixed { AreFixed net.now fixed.now }
+    requires in_range { AreInRange (points net.now) orders.now }
+    ensures { IfOk result (λ found. IfSome found (IsProvedClash net.now)) }
+{
+    let Some(link) = first_unsettled(alloc, net, fixed.len(), orders, sequence)? else {
+        return Ok(None);
+    };
+    let keep = up_to(alloc, net, link)?;
+    let Some(walk) = round_over(alloc, net, &keep, link)? else {
+        return Ok(None);
+    };
+    let round = ClosedWalk::new(alloc, net, walk)?;
+    let Some(_) = round.spare(alloc, net, fixed, link, TURNS)? else {
+        return Ok(None);
+    };
+    let clash = clash_of(alloc, net, fixed, round, link)?;
+    Ok(Some(clash))
+}
+
 /// The clash of some links up to this one, the first that clashes with those before it.
 ///
 /// # Errors
@@ -35,6 +69,23 @@ pub fn clash_up_to(alloc: Global, net: &Net, fixed: &[Atom], link: u32) -> Resul
     ensures { IfOk result (IsProvedClash net.now) }
 {
     let first = first_round(alloc, net, link)?;
+    clash_of(alloc, net, fixed, first, link)
+}
+
+/// The clash of the links that a walk goes over, of which one is needed, or of some of them.
+fn clash_of(
+    alloc: Global,
+    net: &Net,
+    fixed: &[Atom],
+    first: ClosedWalk,
+    needed: u32,
+) -> Result<Clash, Memory>
+    requires fixed { AreFixed net.now fixed.now }
+    requires round { IsMarkedWalk net.now first }
+    requires needed { needed < length net.now.links }
+    requires spared { IsSpared net.now (Kept first.over.items) needed }
+    ensures { IfOk result (IsProvedClash net.now) }
+{
     let cites = marked(alloc, net, &first.over)?;
     if let Some(spares) = spares_soon(alloc, net, fixed, &first, cites.as_slice())? {
         return Ok(Clash {
@@ -43,7 +94,7 @@ pub fn clash_up_to(alloc: Global, net: &Net, fixed: &[Atom], link: u32) -> Resul
             spares,
         });
     }
-    thinned_clash(alloc, net, fixed, first, link)
+    thinned_clash(alloc, net, fixed, first, needed)
 }
 
 /// The clash of some of the links that a walk goes over, of which one is needed.

@@ -4,7 +4,6 @@ ghost use Rattle.net_core.specs.Atoms.{IsInRange, Satisfies};
 ghost use Rattle.net_core.specs.Least.{AreLeastRanks};
 ghost use Rattle.net_core.specs.Ranks.{timeline_of};
 ghost use Rattle.order_closure.specs.Tables.{AreInRange, SatisfiesAll};
-ghost use Rattle.std.specs.List.{All};
 ghost use Rattle.std.specs.Prelude.{IfOk, IfSome, IsTrue, length, ◌<◌, ◌↔◌};
 
 use crate::orders::{all_orders, fixed_orders};
@@ -32,22 +31,21 @@ pub fn least_timeline(alloc: Global, net: &Net) -> Result<Option<Ranks>, Memory>
     let Ok(mut ranks) = vec![in alloc; 0u32; points as usize] else {
         return Err(Memory);
     };
-    if raise_in_turns(&mut ranks, &orders, &sequence) {
+    if raise_in_turns(&mut ranks, &orders, &sequence, TURNS) {
         Ok(Some(Ranks::from_vec(ranks)))
     } else {
         Ok(None)
     }
 }
 
-/// Raises ranks until all orders hold, in at most `TURNS` turns. Whether they do.
-fn raise_in_turns(ranks: &mut [u32], orders: &[Atom], sequence: &[usize]) -> bool
+/// Raises ranks until all orders hold, in at most this number of turns. Whether they do.
+pub fn raise_in_turns(ranks: &mut [u32], orders: &[Atom], sequence: &[usize], turns: u32) -> bool
     requires in_range { AreInRange (length ranks.old) orders.now }
-    requires sequence { All (λ k. k < length orders.now) sequence.now }
     requires within { AreWithin ranks.old }
     ensures rises { Rises (SatisfiesAll orders.now) ranks.old ranks.new }
     ensures fits { IsTrue result → SatisfiesAll orders.now (timeline_of ranks.new) }
 {
-    'turns: for _ in 0..TURNS {
+    'turns: for _ in 0..turns {
         raise_in_sequence(ranks, orders, sequence);
         if all_hold(ranks, orders) {
             return true;
@@ -60,14 +58,24 @@ fn raise_in_turns(ranks: &mut [u32], orders: &[Atom], sequence: &[usize]) -> boo
 /// that leave it.
 fn raise_in_sequence(ranks: &mut [u32], orders: &[Atom], sequence: &[usize])
     requires in_range { AreInRange (length ranks.old) orders.now }
-    requires sequence { All (λ k. k < length orders.now) sequence.now }
     requires within { AreWithin ranks.old }
     ensures { Rises (SatisfiesAll orders.now) ranks.old ranks.new }
 {
     let mut rest = sequence;
     while let [before @ .., number] = rest {
-        raise(ranks, orders[*number]);
+        raise_by(ranks, orders, *number);
         rest = before;
+    }
+}
+
+/// Raises ranks by the order of this number, if there is one.
+fn raise_by(ranks: &mut [u32], orders: &[Atom], number: usize)
+    requires in_range { AreInRange (length ranks.old) orders.now }
+    requires within { AreWithin ranks.old }
+    ensures { Rises (SatisfiesAll orders.now) ranks.old ranks.new }
+{
+    if let Some(order) = orders.get(number) {
+        raise(ranks, *order);
     }
 }
 

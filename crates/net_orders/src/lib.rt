@@ -11,6 +11,7 @@ mod raising;
 mod rings;
 mod sequence;
 mod settling;
+mod unsettled;
 
 pub use insert::{add_in_sequence, add_orders};
 pub use least::least_timeline;
@@ -19,3 +20,4 @@ pub use orders::{Order, all_orders, fixed_orders, orders_of};
 pub use rings::has_strict_cycle;
 pub use sequence::sequence_of;
 pub use settling::settle;
+pub use unsettled::first_unsettled;

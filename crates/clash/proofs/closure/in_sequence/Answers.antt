@@ -1,26 +1,30 @@
 use Rattle.std.proofs.Common.{◌↔◌, ◌*◌, ◌∙◌, ◌≡◌, ℕ, List, Option, ap, sym, subst}
 use Rattle.std.specs.Option.{IfSome}
 use Rattle.std.proofs.lemmas.Option.{IfSome_then}
-use Rattle.std.proofs.lemmas.Result.{IfOk-weaker}
 use Rattle.net_core.specs.Fits.{Fits}
 use Rattle.net_core.specs.Nets.{points}
 use Rattle.net_core.specs.Relations.{Timeline}
 use Rattle.net_core.specs.declared.atom.Atom.{Atom}
 use Rattle.order_closure.specs.Tables.{SatisfiesAll, Table}
-use Rattle.order_closure.specs.declared.table.Closed.{Closed}
 use Rattle.clash.specs.Closures.{IsTableOf}
+use Rattle.clash.specs.Minimal.{IsProvedClash}
+use Rattle.clash.specs.declared.minimal.Clash.{Clash}
+use Rattle.clash.proofs.Exact.{proved_excludes}
 use Rattle.clash.proofs.closure.in_sequence.Goals as goal
 
-pub returns : goal.returns
-returns c =
+pub returns-then-branch-clause-err : goal.returns-then-branch-clause-err
+returns-then-branch-clause-err c =
+    let net = c.args.net.now in
+    let proved = subst (λ (o : Option Clash). IfSome o (IsProvedClash net)) c.in-Some.is c.in_ok-clash.ensures in
+    (proved_excludes net c.in-Some.clash proved, proved)
+
+pub returns-clause-ok : goal.returns-clause-ok
+returns-clause-ok c =
     let net = c.args.net.now in
     let size : 2 * c.intervals-points.result ≡ points net = ap (λ (n : ℕ). 2 * n) c.intervals-points.ensures.count in
     let said : (t : Timeline) → SatisfiesAll c.deref-4.result.now t ↔ Fits net t =
     subst (λ (orders : List Atom). (t : Timeline) → SatisfiesAll orders t ↔ Fits net t) (sym c.deref-4.ensures.value) c.in_ok-orders.ensures.exact in
-    IfOk-weaker c.closure_of.result
-    (λ (found : Option Closed). IfSome found (IsTableOf (2 * c.intervals-points.result) (SatisfiesAll c.deref-4.result.now)))
-    (λ (found : Option Closed). IfSome found (IsTableOf (points net) (Fits net)))
-    (λ (found : Option Closed) some. IfSome_then found some (λ (table : Table) (is : IsTableOf (2 * c.intervals-points.result) (SatisfiesAll c.deref-4.result.now) table). record {
+    IfSome_then c.in_ok-table.table c.in_ok-table.ensures (λ (table : Table) (is : IsTableOf (2 * c.intervals-points.result) (SatisfiesAll c.deref-4.result.now) table). record {
       size = is.size ∙ size;
       keeps = λ t. (λ kept. (said t).0 ((is.keeps t).0 kept), λ fits. (is.keeps t).1 ((said t).1 fits));
-    })) c.closure_of.ensures
+    })

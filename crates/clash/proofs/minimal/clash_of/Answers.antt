@@ -6,15 +6,15 @@ use Rattle.net_core.specs.Walks.{Kept}
 use Rattle.net_core.specs.declared.ranks.Ranks.{Ranks}
 use Rattle.clash.proofs.Proved.{proved_clash}
 use Rattle.clash.proofs.Spared.{spares_needed}
-use Rattle.clash.proofs.minimal.clash_up_to.Goals as goal
+use Rattle.clash.proofs.minimal.clash_of.Goals as goal
 
 pub returns-in-Some : goal.returns-in-Some
 returns-in-Some c =
     let net = c.args.net.now in
-    let round = c.in_ok-first.first in
+    let round = c.args.first in
     let over = round.over.items in
     let cites = c.in_ok-cites.cites in
     let exact = subst (λ (marks : List Bool). (k : ℕ) → Contains cites k ↔ Kept marks k) c.deref.ensures.value c.in_ok-cites.ensures.exact in
     let spares = subst (λ (xs : List ℕ). AreSpares net (Kept over) xs c.in-Some.spares) c.as_slice.ensures
     (subst (λ (o : Option (List Ranks)). IfSome o (AreSpares net (Kept over) c.as_slice.result.now)) c.in-Some.is c.in_ok-spares.ensures) in
-    proved_clash net cites round c.in_ok-first.ensures.round exact (λ k kept. spares_needed net (Kept over) cites c.in-Some.spares spares k ((exact k).1 kept)) c.in-Some.spares c.in_ok-cites.ensures.rising spares
+    proved_clash net cites round c.requires.round exact (λ k kept. spares_needed net (Kept over) cites c.in-Some.spares spares k ((exact k).1 kept)) c.in-Some.spares c.in_ok-cites.ensures.rising spares

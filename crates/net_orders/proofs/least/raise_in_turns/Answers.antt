@@ -14,7 +14,6 @@ so_far c =
 pub raise_in_sequence-requires : goal.raise_in_sequence-requires
 raise_in_sequence-requires c = record {
   in_range = subst (λ (n : ℕ). AreInRange n c.args.orders.now) (sym c.turns.invariant.size) c.requires.in_range;
-  sequence = c.requires.sequence;
   within = c.turns.invariant.within c.requires.within;
 }
 
