@@ -1,4 +1,5 @@
 pub mod Ask
 pub mod Drill
 pub mod Relations
+pub mod LineStarts
 pub mod Solve

@@ -2,15 +2,16 @@
 ghost use Rattle.answers.specs.Names.{AreNames};
 ghost use Rattle.derive_rel.specs.Entailed.{AreRows};
 ghost use Rattle.derive_rel.specs.declared.all_rows.Row.{Row as RowOf};
+ghost use Rattle.order_answers.specs.LineStarts.{IsStart, line_start};
 ghost use Rattle.order_answers.specs.Relations.{row_line};
 ghost use Rattle.std.specs.List.{flat_map};
-ghost use Rattle.std.specs.Prelude.{◌*◌, ◌++◌, ◌≡◌, ◌<◌, IfOk, List as ListOf, OnOk, length, map};
+ghost use Rattle.std.specs.Prelude.{◌*◌, ◌++◌, ◌≡◌, ◌<◌, ◌↔◌, [], IfOk, IsTrue, List as ListOf, OnOk, length, map, slice_index_or};
 ghost use Rattle.tml_refs.specs.Documents.{PlainDocument};
 
-use answers::{DocumentQuery, names_of, push_related};
+use answers::{DocumentQuery, names_of};
 use derive_rel::{Row, rows};
 use net_answers::{NetQuery, answer_of_net};
-use net_core::Net;
+use net_core::{Net, Rel};
 use order_closure::Closed;
 use runs::Answer;
 use std::alloc::{AllocError, Global};
@@ -65,21 +66,81 @@ fn relations_text(
     let Ok(rows) = rows(alloc, table) else {
         return Err(AllocError);
     };
+    let mut start = LineStart::new(alloc);
     let mut text = Vec::new(alloc);
     for row in rows.as_slice() {
-        push_row(&mut text, &names, row)?;
+        push_row(&mut text, &mut start, &names, row)?;
     }
     Ok(text)
 }
 
 /// Appends the line of a relation, by the names of all intervals.
-fn push_row(out: &mut Vec<u8>, names: &[&[u8]], row: &Row) -> Result<(), AllocError>
+fn push_row(
+    out: &mut Vec<u8>,
+    start: &mut LineStart,
+    names: &[&[u8]],
+    row: &Row,
+) -> Result<(), AllocError>
     requires a { row.now.a < length names.now }
     requires b { row.now.b < length names.now }
-    ensures { OnOk result ((contents : PlainDocument) → AreNames contents.intervals (map (λ name. name.now) names.now)
+    requires start { IsStart (map (λ name. name.now) names.now) start.old }
+    ensures start { OnOk result (IsStart (map (λ name. name.now) names.now) start.new) }
+    ensures line { OnOk result ((contents : PlainDocument) → AreNames contents.intervals (map (λ name. name.now) names.now)
         → out.new.items ≡ out.old.items ++ row_line contents row.now) }
 {
-    push_related(out, names[row.a as usize], row.rel, names[row.b as usize])?;
-    out.extend_from_slice(b"\n")?;
+    start.begin(names, row)?;
+    out.extend_from_slice(&start.text)?;
+    out.extend_from_slice(names[row.b as usize])?;
+    out.push(b'\n')?;
     Ok(())
+}
+
+/// What the line of a row begins with, up to the name of its second interval: rows that follow each other mostly have the
+/// same.
+#[derive(Drop)]
+struct LineStart {
+    /// The first interval and the relation of the row, where there was one.
+    of: Option<(u32, Rel)>,
+    text: Vec<u8>,
+}
+
+impl LineStart {
+    /// Before the first row.
+    fn new(alloc: Global) -> LineStart
+        ensures { result.of ≡ None }
+    {
+        LineStart {
+            of: None,
+            text: Vec::new(alloc),
+        }
+    }
+
+    /// Makes it that of a row, by the names of all intervals.
+    fn begin(&mut self, names: &[&[u8]], row: &Row) -> Result<(), AllocError>
+        requires a { row.now.a < length names.now }
+        requires start { IsStart (map (λ name. name.now) names.now) self.old }
+        ensures start { OnOk result (IsStart (map (λ name. name.now) names.now) self.new) }
+        ensures text { OnOk result (self.new.text.items ≡ line_start (slice_index_or (map (λ name. name.now) names.now) row.now.a []) row.now.rel) }
+    {
+        if self.is_of(row) {
+            return Ok(());
+        }
+        self.of = Some((row.a, row.rel));
+        self.text.clear();
+        self.text.extend_from_slice(names[row.a as usize])?;
+        self.text.push(b' ')?;
+        self.text.extend_from_slice(row.rel.text())?;
+        self.text.push(b' ')?;
+        Ok(())
+    }
+
+    /// Whether it is that of a row.
+    fn is_of(&self, row: &Row) -> bool
+        ensures { IsTrue result ↔ (self.now.of ≡ Some (row.now.a, row.now.rel)) }
+    {
+        match self.of {
+            Some((a, rel)) => a == row.a && rel == row.rel,
+            None => false,
+        }
+    }
 }

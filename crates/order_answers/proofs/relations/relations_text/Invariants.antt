@@ -2,13 +2,15 @@ use Rattle.std.proofs.Common.{◌≡◌, ◌++◌, ◌*◌, ℕ, Bor, List, drop
 use Rattle.std.specs.List.{flat_map}
 use Rattle.answers.specs.Names.{AreNames}
 use Rattle.derive_rel.specs.Entailed.{AreRows}
+use Rattle.order_answers.specs.LineStarts.{IsStart}
 use Rattle.order_answers.specs.Relations.{row_line}
 use Rattle.order_answers.proofs.relations.relations_text.Given as goal
 
--- the names of all intervals, the lines so far, and those of what is left
+-- the names of all intervals, what lines begin with, the lines so far, and those of what is left
 abbrev pub invariant-loop-row : goal.invariant-loop-row
 invariant-loop-row l = record {
   names : AreNames l.document.intervals (map (λ (name : Bor (List ℕ)). name.now) l.names.items);
+  start : IsStart (map (λ (name : Bor (List ℕ)). name.now) l.names.items) l.start;
   are : AreRows l.table l.row-items;
   lines : l.text.items ++ flat_map (row_line l.document) (drop l.row-index l.row-items) ≡ flat_map (row_line l.document) l.row-items;
 }
