@@ -111,15 +111,30 @@ impl TagName {
         }
     }
 
+    /// The tag of this name. Frequent ones are known by their whole names.
+    fn by_name(name: &[u8]) -> Option<TagName>
+        ensures { result ≡ named_of names.text_of names.all_tags name.now }
+    {
+        match name {
+            b"P" => Some(TagName::UpperP),
+            b"TLINK" => Some(TagName::Tlink),
+            b"SLINK" => Some(TagName::Slink),
+            b"TIMEX3" => Some(TagName::Timex3),
+            b"SIGNAL" => Some(TagName::Signal),
+            b"MAKEINSTANCE" => Some(TagName::MakeInstance),
+            _ => TagName::by_first(name),
+        }
+    }
+
     /// The tag of this name, or none where it is the name of no tag. The most frequent ones are known at once.
     #[inline(always)]
     pub fn of(name: &[u8]) -> Option<TagName>
         ensures { result ≡ named_of names.text_of names.all_tags name.now }
     {
         match name {
-            [b's'] => Some(TagName::LowerS),
-            [b'E', b'V', b'E', b'N', b'T'] => Some(TagName::Event),
-            _ => TagName::by_first(name),
+            b"s" => Some(TagName::LowerS),
+            b"EVENT" => Some(TagName::Event),
+            _ => TagName::by_name(name),
         }
     }
 }
